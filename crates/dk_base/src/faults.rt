@@ -1,0 +1,24 @@
+// Why a block is not taken.
+use crate::Why;
+use thiserror::Error;
+
+/// Why a block is not taken: a line of it is refused, or memory could not be had.
+#[derive(Clone, Copy, Debug, PartialEq, Eq, Error)]
+pub enum BlockFault {
+    #[error("line {line}: {why}")]
+    Refused { line: u64, why: Why },
+    #[error("out of memory")]
+    NoMemory,
+}
+
+/// Why a session goes no further: a line of a file is refused, the file could not be read, or memory could not be had.
+/// Files are numbered from 0.
+#[derive(Clone, Copy, Debug, PartialEq, Eq, Error)]
+pub enum Fault {
+    #[error("file {file}, line {line}: {why}")]
+    Refused { file: u32, line: u64, why: Why },
+    #[error("file {file} could not be read")]
+    Read { file: u32 },
+    #[error("out of memory")]
+    NoMemory,
+}

@@ -1,0 +1,67 @@
+// Lists of items.
+ghost use Rattle.std.specs.Prelude.{◌≡◌, [], ◌∷◌, ◌++◌, IfOk, OnOk, OnErr};
+
+use crate::NoMemory;
+use std::alloc::Global;
+use std::marker::Model;
+
+/// A list of items, which contracts see as a list.
+#[derive(Drop)]
+pub struct List<T> {
+    kept: Vec<T>,
+}
+
+impl<T> Model for List<T> {
+    ghost use Rattle.std.specs.Prelude.{List};
+
+    ghost Value = { List T };
+
+    ghost view = { λ l. l.kept.items };
+}
+
+impl<T> List<T> {
+    /// The empty list. It takes no memory.
+    pub fn new(alloc: Global) -> List<T>
+        ensures { result ≡ [] }
+    {
+        List {
+            kept: Vec::new(alloc),
+        }
+    }
+
+    /// These items.
+    pub fn from_slice(alloc: Global, items: &[T]) -> Result<List<T>, NoMemory>
+    where
+        T: Copy,
+        ensures { IfOk result (λ list. list ≡ items.now) }
+    {
+        Ok(List {
+            kept: Vec::from_slice(alloc, items)?,
+        })
+    }
+
+    /// The item goes last. A refused push drops it, and leaves the list as it was.
+    pub fn push(&mut self, item: T) -> Result<(), NoMemory>
+    where
+        T: Drop,
+        ensures ok { OnOk result (self.new ≡ self.old ++ item ∷ []) }
+        ensures err { OnErr result (self.new ≡ self.old) }
+    {
+        self.kept.push(item)?;
+        Ok(())
+    }
+
+    /// The items.
+    pub fn as_slice(&self) -> &[T]
+        ensures { result.now ≡ self.now }
+    {
+        self.kept.as_slice()
+    }
+
+    /// The items, with the memory that they lie in.
+    pub fn into_vec(self) -> Vec<T>
+        ensures { result.items ≡ self }
+    {
+        self.kept
+    }
+}

@@ -1,0 +1,72 @@
+// Lists of bytes.
+ghost use Rattle.std.specs.Prelude.{◌≡◌, [], ◌∷◌, ◌++◌, IfOk, OnOk, OnErr};
+
+use crate::NoMemory;
+use std::alloc::Global;
+use std::marker::Model;
+
+/// Bytes, which contracts see as a list.
+#[derive(Drop)]
+pub struct Text {
+    kept: Vec<u8>,
+}
+
+impl Model for Text {
+    ghost use Rattle.std.specs.Prelude.{ℕ, List};
+
+    ghost Value = { List ℕ };
+
+    ghost view = { λ t. t.kept.items };
+}
+
+impl Text {
+    /// No bytes. It takes no memory.
+    pub fn new(alloc: Global) -> Text
+        ensures { result ≡ [] }
+    {
+        Text {
+            kept: Vec::new(alloc),
+        }
+    }
+
+    /// These bytes.
+    pub fn from_slice(alloc: Global, items: &[u8]) -> Result<Text, NoMemory>
+        ensures { IfOk result (λ text. text ≡ items.now) }
+    {
+        Ok(Text {
+            kept: Vec::from_slice(alloc, items)?,
+        })
+    }
+
+    /// The byte goes last. A refused push leaves the text as it was.
+    pub fn push(&mut self, item: u8) -> Result<(), NoMemory>
+        ensures ok { OnOk result (self.new ≡ self.old ++ item ∷ []) }
+        ensures err { OnErr result (self.new ≡ self.old) }
+    {
+        self.kept.push(item)?;
+        Ok(())
+    }
+
+    /// These bytes go last. A refused call leaves the text as it was.
+    pub fn append(&mut self, items: &[u8]) -> Result<(), NoMemory>
+        ensures ok { OnOk result (self.new ≡ self.old ++ items.now) }
+        ensures err { OnErr result (self.new ≡ self.old) }
+    {
+        self.kept.extend_from_slice(items)?;
+        Ok(())
+    }
+
+    /// The bytes.
+    pub fn as_slice(&self) -> &[u8]
+        ensures { result.now ≡ self.now }
+    {
+        self.kept.as_slice()
+    }
+
+    /// The bytes, with the memory that they lie in.
+    pub fn into_vec(self) -> Vec<u8>
+        ensures { result.items ≡ self }
+    {
+        self.kept
+    }
+}

@@ -1,0 +1,132 @@
+// Reading files.
+ghost use Rattle.std.specs.Prelude.{◌≡◌, ◌≢◌, ◌≤◌, ◌<◌, ◌⊎◌, length, string_bytes, ◌∷◌, [], List, ℕ, map, take, Some, None, IfOk, OnOk, OnErr, IfSome, IsErrOf, true, false, is_ok};
+ghost use Rattle.dk_io.specs.Outside.{Absent, Rose, Starts};
+ghost use Rattle.dk_lines.specs.Reading.{left_of};
+ghost use Rattle.dk_core.specs.History.{History};
+ghost use Rattle.dk_core.specs.Standing.{StandsFor, over_of};
+ghost use Rattle.dk_cli.specs.WholeFile.{FileGives, NamedGives};
+ghost use Rattle.dk_cli.specs.AllFiles.{FilesGive, IsPlaced, IsCaused, placed};
+ghost use Rattle.dk_cli.specs.Outcome.{name_at as nth_name};
+
+use dk_base::{Fault, Why};
+use dk_core::Session;
+use dk_io::{Failed, Inputs};
+use dk_lines::{Limits, Lines};
+use std::alloc::Global;
+
+/// Why a file is not read to its end.
+#[derive(Clone, Copy, Debug, PartialEq, Eq)]
+pub(crate) enum Trouble {
+    Refused { line: u64, why: Why },
+    Read,
+    NoMemory,
+}
+
+/// Why the files are not read to their ends, and at which.
+#[derive(Clone, Copy, Debug, PartialEq, Eq)]
+pub(crate) enum FilesTrouble {
+    Refused { place: usize, line: u64, why: Why },
+    Read { place: usize },
+    NoMemory,
+}
+
+// Reads the started file to its end.
+fn read_started<I: Inputs>(
+    session: Session,
+    inputs: &mut I,
+    lines: &mut Lines,
+) -> Result<Session, Fault>
+    requires started { lines.old.is_started ≡ true }
+    requires begins { over_of session ≡ false }
+    ensures gives { (h : History) → StandsFor session h → IfSome (left_of lines.old (I.rest inputs.old))
+        (λ xs. FileGives h lines.old xs result lines.new (left_of lines.new (I.rest inputs.new))) }
+    ensures over { IfOk result (λ s. over_of s ≡ false) }
+    ensures limits { lines.new.limits ≡ lines.old.limits }
+    ensures emptied { (file : ℕ) → IsErrOf result (Fault.Read file) → lines.new.ahead ≡ [] }
+    ensures files { I.file inputs.new ≡ I.file inputs.old }
+    ensures later { I.faults inputs.old ≤ I.faults inputs.new }
+    ensures cause { (file : ℕ) → IsErrOf result (Fault.Read file) → Rose (I.faults inputs.old) (I.faults inputs.new) }
+{
+    let mut session = session;
+    'steps: loop {
+        match session.block(inputs, lines) {
+            Ok((next, true)) => session = next,
+            Ok((next, false)) => return Ok(next.end_file()),
+            Err(fault) => return Err(fault),
+        }
+    }
+}
+
+// Reads a file from its start to its end.
+fn read_file<I: Inputs>(
+    session: Session,
+    name: &str,
+    inputs: &mut I,
+    lines: &mut Lines,
+) -> Result<Session, Trouble>
+    requires { over_of session ≡ false }
+    ensures gives { NamedGives session (I.file inputs.old name.now) (I.rest inputs.old) lines.old result lines.new (I.rest inputs.new) }
+    ensures over { IfOk result (λ s. over_of s ≡ false) }
+    ensures there { OnOk result (I.file inputs.old name.now ≢ Absent) }
+    ensures limits { lines.new.limits ≡ lines.old.limits }
+    ensures files { I.file inputs.new ≡ I.file inputs.old }
+    ensures later { I.faults inputs.old ≤ I.faults inputs.new }
+    ensures cause { IsErrOf result Trouble.Read → (I.file inputs.old name.now ≡ Absent) ⊎ Rose (I.faults inputs.old) (I.faults inputs.new) }
+{
+    match lines.start(inputs, name) {
+        Err(Failed) => Err(Trouble::Read),
+        Ok(()) => match read_started(session, inputs, lines) {
+            Ok(next) => Ok(next),
+            Err(Fault::Refused { file: _, line, why }) => Err(Trouble::Refused { line, why }),
+            Err(Fault::Read { file: _ }) => Err(Trouble::Read),
+            Err(Fault::NoMemory) => Err(Trouble::NoMemory),
+        },
+    }
+}
+
+/// The name at a place.
+pub(crate) fn name_at(names: &[String], place: usize) -> &str
+    requires { place < length names.now }
+    ensures { result.now ≡ nth_name (map string_bytes names.now) place }
+{
+    names[place].as_str()
+}
+
+fn at_place(place: usize, trouble: Trouble) -> FilesTrouble
+    ensures { result ≡ placed place trouble }
+{
+    match trouble {
+        Trouble::Refused { line, why } => FilesTrouble::Refused { place, line, why },
+        Trouble::Read => FilesTrouble::Read { place },
+        Trouble::NoMemory => FilesTrouble::NoMemory,
+    }
+}
+
+/// Reads the files one after another.
+pub(crate) fn read_files<I: Inputs>(
+    alloc: Global,
+    names: &[String],
+    inputs: &mut I,
+) -> Result<Session, FilesTrouble>
+    ensures gives { FilesGive (I.file inputs.old) (map string_bytes names.now) (I.rest inputs.old) result (I.rest inputs.new) }
+    ensures place { IsPlaced (length names.now) result }
+    ensures cause { IsCaused (I.file inputs.old) (map string_bytes names.now) (Rose (I.faults inputs.old) (I.faults inputs.new)) result }
+    ensures files { I.file inputs.new ≡ I.file inputs.old }
+    ensures later { I.faults inputs.old ≤ I.faults inputs.new }
+{
+    let mut lines = match Lines::new(alloc, Limits::STANDARD) {
+        Ok(lines) => lines,
+        Err(_) => return Err(FilesTrouble::NoMemory),
+    };
+    let mut session = match Session::new(alloc) {
+        Ok(session) => session,
+        Err(_) => return Err(FilesTrouble::NoMemory),
+    };
+    for place in 0..names.len() {
+        match read_file(session, name_at(names, place), inputs, &mut lines) {
+            Ok(next) => session = next,
+            Err(trouble) => return Err(at_place(place, trouble)),
+        }
+    }
+    Ok(session)
+}

@@ -1,0 +1,446 @@
+-- Steps of a session.
+use Rattle.std.proofs.Common.{◌≡◌, ◌≤◌, ◌<◌, ◌⊎◌, ◌+◌, ◌-◌, ℕ, zero, suc, List, [], ◌∷◌, ◌++◌, length, inl, inr, Bool, true, false, cond, Option, Some, None, Result, Ok, Err, if◌then◌else◌, IfSome, IsErrOf, not, refl, sym, ◌∙◌, ap, subst, arith, length-append, append_assoc}
+use Rattle.std.proofs.lemmas.List.{append-nil}
+use Rattle.dk_base.specs.Reading.{Line, LineFault, Reads, ◌>>=◌}
+use Rattle.std.specs.Result.{IsOk}
+use Rattle.dk_lines.specs.Left.{Left, End, Over, Broken, LongLine, TooLong, Ends, Next, lines_left, OneLine}
+use Rattle.dk_lines.specs.Reading.{Reading, room_of}
+use Rattle.dk_lines.specs.Reading.{Gives}
+use Rattle.dk_lines.specs.declared.lines.Limits.{Limits}
+use Rattle.dk_lines.specs.declared.lines.LineFault as fault
+use Rattle.dk_lines.specs.declared.lines.LineFault.TheVariants as line
+use Rattle.dk_lines.proofs.Lined.{one_line, at_break, at_read, at_long, at_many, at_end}
+use Rattle.dk_core.specs.Steps.{unread, Grown, EndCounts, TurnCounts, BlockGives, BlockCounts, Answers, LineShape, EndShape}
+use Rattle.dk_core.specs.Blocks.{Groups, Group, Last, onto_group, is_blank_line, taken, grouped}
+use Rattle.dk_core.specs.History.{History, Taken, effect_of, ended}
+use Rattle.dk_core.specs.Reading.{after_last, after_all, after_next, stop_or, Stepped}
+use Rattle.dk_core.specs.Standing.{Stands, resumed, held}
+use Rattle.dk_core.specs.Steps.{Moves, Steps, Stops, groups_left, LineGives, EndGives, BlankGives, WordsGive, TurnGives}
+use Rattle.dk_base.specs.declared.why.Why.{Why}
+use Rattle.dk_base.specs.declared.why.Why.TheVariants.{LongLine as WhyLong, TooLong as WhyMany}
+use Rattle.dk_core.specs.declared.session.Turn.{Turn}
+use Rattle.dk_core.specs.declared.session.Turn.TheVariants.{Goes, Ends as Stands_end}
+use Rattle.dk_core.specs.declared.session.Stop.{Stop}
+use Rattle.dk_core.specs.declared.session.Stop.TheVariants.{Refused, Read, NoMemory}
+use Rattle.dk_core.specs.declared.block.Block.{Block}
+use Rattle.dk_core.specs.declared.kept.Kept.{Kept}
+use Rattle.dk_core.specs.declared.session.Session.{Session}
+
+-- ---- what is known of reading blocks
+
+-- a block that is being read holds no fault
+pub no_fault_yet : (h : History) (b : Block) → IsOk (resumed h b [] None)
+unfolding resumed ended
+no_fault_yet h b = refl
+
+-- no lines are no block
+pub no_lines : (h : History) (close : Option ℕ) → effect_of h [] close ≡ Ok (record { history = h; counts = false })
+unfolding effect_of ended
+no_lines h None = refl
+no_lines h (Some line) = refl
+
+-- ---- the first line of a group
+
+pub next_onto : (read : Reads Taken) (l : Line) (gs : Groups) → after_next read (onto_group l gs) ≡ after_next (λ ls close. read (l ∷ ls) close) gs
+next_onto read l (Group ls close rest) = refl
+next_onto read l (Last ls (Over n)) = refl
+next_onto read l (Last ls Broken) = refl
+next_onto read l (Last ls (LongLine n)) = refl
+next_onto read l (Last ls (TooLong n)) = refl
+
+pub all_onto : (read : Reads Taken) (l : Line) (gs : Groups) → after_all read (onto_group l gs) ≡ after_all (λ ls close. read (l ∷ ls) close) gs
+all_onto read l (Group ls close rest) = refl
+all_onto read l (Last ls (Over n)) = refl
+all_onto read l (Last ls Broken) = refl
+all_onto read l (Last ls (LongLine n)) = refl
+all_onto read l (Last ls (TooLong n)) = refl
+
+abbrev then_fault : ℕ → Why → Result Taken LineFault → Result Taken LineFault
+then_fault n why r = r >>= λ _. Err (record { line = n; why = why })
+
+-- two that read the same
+pub next_same : (read more : Reads Taken) (gs : Groups) → ((ls : List Line) (close : Option ℕ) → read ls close ≡ more ls close) → after_next read gs ≡ after_next more gs
+next_same read more (Group ls close rest) e = ap (λ (r : Result Taken LineFault). r >>= λ t. stop_or t rest (after_next (effect_of t.history) rest)) (e ls (Some close))
+next_same read more (Last ls end) e = ap (λ (r : Result Taken LineFault). r >>= λ t. Ok (record { found = t.counts; history = t.history; left = Last [] end })) (last_same end) where
+  last_same : (end : End) → after_last read ls end ≡ after_last more ls end
+  last_same (Over n) = e ls (Some n)
+  last_same Broken = e ls None
+  last_same (LongLine n) = ap (λ (r : Result Taken LineFault). then_fault n WhyLong r) (e ls None)
+  last_same (TooLong n) = ap (λ (r : Result Taken LineFault). then_fault n WhyMany r) (e ls None)
+
+pub all_same : (read more : Reads Taken) (gs : Groups) → ((ls : List Line) (close : Option ℕ) → read ls close ≡ more ls close) → after_all read gs ≡ after_all more gs
+all_same read more (Group ls close rest) e = ap (λ (r : Result Taken LineFault). r >>= λ t. after_all (effect_of t.history) rest) (e ls (Some close))
+all_same read more (Last ls end) e = ap (λ (r : Result Taken LineFault). r >>= λ t. Ok t.history) (last_same end) where
+  last_same : (end : End) → after_last read ls end ≡ after_last more ls end
+  last_same (Over n) = e ls (Some n)
+  last_same Broken = e ls None
+  last_same (LongLine n) = ap (λ (r : Result Taken LineFault). then_fault n WhyLong r) (e ls None)
+  last_same (TooLong n) = ap (λ (r : Result Taken LineFault). then_fault n WhyMany r) (e ls None)
+
+-- ---- one line
+
+grouped_blank : (line : Line) (rest : Left) → is_blank_line line ≡ true → grouped (Next line rest) ≡ Group [] line.number (grouped rest)
+grouped_blank line rest e = ap (λ (b : Bool). if b then Group [] line.number (grouped rest) else onto_group (taken line) (grouped rest)) e
+
+grouped_words : (line : Line) (rest : Left) → is_blank_line line ≡ false → grouped (Next line rest) ≡ onto_group (taken line) (grouped rest)
+grouped_words line rest e = ap (λ (b : Bool). if b then Group [] line.number (grouped rest) else onto_group (taken line) (grouped rest)) e
+
+abbrev next_from : Groups → Result Taken LineFault → Result Stepped LineFault
+next_from rest r = r >>= λ t. stop_or t rest (after_next (effect_of t.history) rest)
+
+abbrev all_from : Groups → Result Taken LineFault → Result History LineFault
+all_from rest r = r >>= λ t. after_all (effect_of t.history) rest
+
+pub blank_line : (read : Reads Taken) (line : Line) (result : Result Turn Stop) → is_blank_line line ≡ true → BlankGives read line.number result → LineGives read line result
+blank_line read line (Ok (Goes kept block)) blank (h, stands, closes, begins) = (
+  h,
+  stands,
+  λ rest. (
+    ap (after_next read) (grouped_blank line rest blank) ∙ ap (next_from (grouped rest)) closes ∙ sym (next_same (resumed h block) (effect_of h) (grouped rest) begins),
+    ap (after_all read) (grouped_blank line rest blank) ∙ ap (all_from (grouped rest)) closes ∙ sym (all_same (resumed h block) (effect_of h) (grouped rest) begins),
+  ),
+)
+blank_line read line (Ok (Stands_end end)) blank (h, stands, over, found, closes) = (
+  h,
+  stands,
+  over,
+  λ rest. (
+    ap (after_next read) (grouped_blank line rest blank) ∙ ap (next_from (grouped rest)) closes ∙ ap (λ (b : Bool). Ok (record { found = b; history = h; left = grouped rest })) (sym found),
+    ap (after_all read) (grouped_blank line rest blank) ∙ ap (all_from (grouped rest)) closes,
+  ),
+)
+blank_line read line (Err (Refused n why)) blank closes = λ rest. ap (after_next read) (grouped_blank line rest blank) ∙ ap (next_from (grouped rest)) closes
+blank_line read line (Err Read) blank gives = absurd gives
+blank_line read line (Err NoMemory) blank gives = tt
+
+pub words_line : (read : Reads Taken) (line : Line) (result : Result Turn Stop) → is_blank_line line ≡ false → WordsGive read (taken line) result → LineGives read line result
+words_line read line (Ok (Goes kept block)) words (h, stands, goes) = (
+  h,
+  stands,
+  λ rest. (
+    ap (after_next read) (grouped_words line rest words) ∙ next_onto read (taken line) (grouped rest) ∙ next_same (λ ls close. read (taken line ∷ ls) close) (resumed h block) (grouped rest) goes,
+    ap (after_all read) (grouped_words line rest words) ∙ all_onto read (taken line) (grouped rest) ∙ all_same (λ ls close. read (taken line ∷ ls) close) (resumed h block) (grouped rest) goes,
+  ),
+)
+words_line read line (Ok (Stands_end end)) words gives = absurd gives
+words_line read line (Err (Refused n why)) words gives = λ rest. ap (after_next read) (grouped_words line rest words) ∙ next_onto read (taken line) (grouped rest)
+    ∙ next_same (λ ls close. read (taken line ∷ ls) close) (λ ls close. Err (record { line = n; why = why })) (grouped rest) gives ∙ refused (grouped rest) where
+      refused : (gs : Groups) → after_next (λ ls close. Err (record { line = n; why = why })) gs ≡ Err (record { line = n; why = why })
+      refused (Group ls close rest) = refl
+      refused (Last ls (Over m)) = refl
+      refused (Last ls Broken) = refl
+      refused (Last ls (LongLine m)) = refl
+      refused (Last ls (TooLong m)) = refl
+words_line read line (Err Read) words gives = absurd gives
+words_line read line (Err NoMemory) words gives = tt
+
+-- ---- one line of the bytes that are left
+
+-- the groups that a broken line leaves have no fault
+fine_broken : (h : History) (b : Block) → IsOk (after_all (resumed h b) (grouped (Ends Broken)))
+fine_broken h b = go (resumed h b [] None) (no_fault_yet h b) where
+  go : (r : Result Taken LineFault) → IsOk r → IsOk (r >>= λ t. Ok t.history)
+  go (Ok t) f = refl
+  go (Err e) f = f
+
+pub turn_line : (h : History) (b : Block) (old new : Reading) (xs ys : List ℕ) (line : Line) (result : Result Turn Stop) (left : Option (List ℕ))
+    → left ≡ Some ys → OneLine old xs line new ys → LineGives (resumed h b) line result → TurnGives (resumed h b) old xs result new left
+turn_line h b old new xs ys line (Ok (Goes kept block)) left is one (h', stands, gives) = (
+  h',
+  stands,
+  (
+    ys,
+    is,
+    record {
+      front = one.front;
+      split = one.split;
+      room = one.room;
+      same = ap (λ (l : Left). after_next (resumed h b) (grouped l)) one.ended ∙ (gives (lines_left new true ys)).0;
+      cut = λ d rest e fine. elim (one.cut d rest e) [
+        | inl s ↦ subst (λ (l : Left). IsOk (after_all (resumed h b) (grouped l))) (sym s) (subst IsOk (sym (gives (lines_left new false d)).1) fine)
+        | inr s ↦ subst (λ (l : Left). IsOk (after_all (resumed h b) (grouped l))) (sym s.1) (fine_broken h b)
+      ];
+    },
+  ),
+)
+turn_line h b old new xs ys line (Ok (Stands_end end)) left is one (h', stands, over, gives) = (
+  h',
+  stands,
+  (
+    ys,
+    is,
+    record {
+      front = one.front;
+      split = one.split;
+      room = one.room;
+      nothing = λ first last. absurd (cc (last, over));
+      takes = ap (λ (l : Left). after_next (resumed h b) (grouped l)) one.ended ∙ (gives (lines_left new true ys)).0
+          ∙ ap (λ (o : Bool). Ok (record { found = end.found; history = h'; left = groups_left o new true ys })) (sym over);
+      cut = λ d rest e fine. elim (one.cut d rest e) [
+        | inl s ↦ subst (λ (l : Left). IsOk (after_all (resumed h b) (grouped l))) (sym s)
+            (subst IsOk (sym (gives (lines_left new false d)).1) (subst (λ (o : Bool). IsOk (after_all (effect_of h') (groups_left o new false d))) over fine))
+        | inr s ↦ subst (λ (l : Left). IsOk (after_all (resumed h b) (grouped l))) (sym s.1) (fine_broken h b)
+      ];
+    },
+  ),
+)
+turn_line h b old new xs ys line (Err (Refused n why)) left is one gives = ap (λ (l : Left). after_next (resumed h b) (grouped l)) one.ended ∙ gives (lines_left new true ys)
+turn_line h b old new xs ys line (Err Read) left is one gives = absurd gives
+turn_line h b old new xs ys line (Err NoMemory) left is one gives = tt
+
+nothing_left : (d rest : List ℕ) → [] ≡ d ++ rest → d ≡ []
+nothing_left [] rest e = refl
+nothing_left (b ∷ bs) rest e = absurd (cc (e))
+
+pub turn_end : (h : History) (b : Block) (old new : Reading) (xs : List ℕ) (result : Result Turn Stop) (left : Option (List ℕ))
+    → left ≡ Some [] → xs ≡ [] → lines_left old true xs ≡ Ends (Over (old.number + 1)) → new.number ≡ old.number → room_of new ≡ room_of old
+    → EndGives (resumed h b) (old.number + 1) result → TurnGives (resumed h b) old xs result new left
+turn_end h b old new xs (Ok (Goes kept block)) left is none over number room gives = absurd gives
+turn_end h b old new xs (Ok (Stands_end end)) left is none over number room (h', stands, ends, gives) = (
+  h',
+  stands,
+  (
+    [],
+    is,
+    record {
+      front = [];
+      split = none;
+      room = room ∙ omega arith;
+      nothing = λ first last. refl;
+      takes = ap (λ (l : Left). after_next (resumed h b) (grouped l)) over ∙ gives
+          ∙ ap (λ (n : ℕ). Ok (record { found = end.found; history = h'; left = Last [] (Over (n + 1)) })) (sym number)
+          ∙ ap (λ (o : Bool). Ok (record { found = end.found; history = h'; left = groups_left o new true [] })) (sym ends);
+      cut = λ d rest e fine. subst (λ (l : List ℕ). IsOk (after_all (resumed h b) (grouped (lines_left old false l)))) (sym (nothing_left d rest e))
+          (subst (λ (l : Left). IsOk (after_all (resumed h b) (grouped l))) (sym (at_break old)) (fine_broken h b));
+    },
+  ),
+)
+turn_end h b old new xs (Err (Refused n why)) left is none over number room gives = ap (λ (l : Left). after_next (resumed h b) (grouped l)) over ∙ gives
+turn_end h b old new xs (Err Read) left is none over number room gives = absurd gives
+turn_end h b old new xs (Err NoMemory) left is none over number room gives = tt
+
+-- the fault of a line that is too long, behind a block that holds none
+faulty : (h : History) (b : Block) (n : ℕ) (why : Why) → then_fault n why (resumed h b [] None) ≡ Err (record { line = n; why = why })
+faulty h b n why = go (resumed h b [] None) (no_fault_yet h b) where
+  go : (r : Result Taken LineFault) → IsOk r → then_fault n why r ≡ Err (record { line = n; why = why })
+  go (Ok t) f = refl
+  go (Err e) f = cc
+
+pub turn_fault : (h : History) (b : Block) (old new : Reading) (xs : List ℕ) (left : Option (List ℕ)) (fault : fault.LineFault)
+    → Gives old (Some xs) (Err fault) new left → TurnGives (resumed h b) old xs (Err (unread fault)) new left
+turn_fault h b old new xs left line.Read gives = let r = at_read old new xs left gives in record {
+  front = r.0;
+  rest = r.1.0;
+  split = r.1.2;
+  left_is = r.1.1;
+  fine = subst (λ (l : Left). IsOk (after_all (resumed h b) (grouped l))) (sym r.1.3) (fine_broken h b);
+}
+turn_fault h b old new xs left (line.LongLine n) gives =
+    ap (λ (l : Left). after_next (resumed h b) (grouped l)) (at_long old new true xs n left gives)
+    ∙ ap (λ (r : Result Taken LineFault). r >>= λ t. Ok (record { found = t.counts; history = t.history; left = Last [] (LongLine n) })) (faulty h b n WhyLong)
+turn_fault h b old new xs left (line.TooLong n) gives =
+    ap (λ (l : Left). after_next (resumed h b) (grouped l)) (at_many old new true xs n left gives)
+    ∙ ap (λ (r : Result Taken LineFault). r >>= λ t. Ok (record { found = t.counts; history = t.history; left = Last [] (TooLong n) })) (faulty h b n WhyMany)
+turn_fault h b old new xs left line.NoMemory gives = tt
+
+-- ---- what one call of `next` tells
+
+pub told_line : (h : History) (b : Block) (old new : Reading) (o left : Option (List ℕ)) (line : ℕ × List ℕ) (result : Result Turn Stop)
+    → Gives old o (Ok (Some line)) new left → LineGives (resumed h b) (record { number = line.0; bytes = line.1 }) result → IfSome o (λ xs. TurnGives (resumed h b) old xs result new left)
+told_line h b old new None left line result gives does = tt
+told_line h b old new (Some xs) left line result gives does =
+    let one = one_line old new xs line left gives in
+    turn_line h b old new xs one.0 (record { number = line.0; bytes = line.1 }) result left one.1 one.2 does
+
+pub told_end : (h : History) (b : Block) (old new : Reading) (o left : Option (List ℕ)) (result : Result Turn Stop)
+    → Gives old o (Ok None) new left → EndGives (resumed h b) (old.number + 1) result → IfSome o (λ xs. TurnGives (resumed h b) old xs result new left)
+told_end h b old new None left result gives does = tt
+told_end h b old new (Some xs) left result gives does =
+    let over = at_end old new xs left gives in
+    let room : room_of new ≡ room_of old = ap (λ (l : Limits). l.total - new.total) gives.limits_stay ∙ ap (λ (t : ℕ). old.limits.total - t) gives.counts.1 in
+    turn_end h b old new xs result left over.0 over.1 over.2 gives.counts.2 room does
+
+pub told_fault : (h : History) (b : Block) (old new : Reading) (o left : Option (List ℕ)) (fault : fault.LineFault)
+    → Gives old o (Err fault) new left → IfSome o (λ xs. TurnGives (resumed h b) old xs (Err (unread fault)) new left)
+told_fault h b old new None left fault gives = tt
+told_fault h b old new (Some xs) left fault gives = turn_fault h b old new xs left fault gives
+
+-- ---- counts
+
+grown_false : (over : Bool) (r new : Reading) → over ≡ false → r.total < new.total → new.total ≤ r.limits.total → Grown over r new
+grown_false over r new e a b = subst (λ (o : Bool). Grown o r new) (sym e) (a, b)
+
+grown_true : (over : Bool) (r new : Reading) → over ≡ true → r.total ≤ new.total → Grown over r new
+grown_true over r new e a = subst (λ (o : Bool). Grown o r new) (sym e) a
+
+pub counts_line : (old new : Reading) (o left : Option (List ℕ)) (line : ℕ × List ℕ) (result : Result Turn Stop)
+    → Gives old o (Ok (Some line)) new left → LineShape result → TurnCounts old result new
+counts_line old new o left line (Ok (Goes kept block)) gives shape = (gives.limits_stay, gives.counts.2, gives.counts.4, gives.counts.5)
+counts_line old new o left line (Ok (Stands_end end)) gives shape = (gives.limits_stay, (gives.counts.2 ∙ ap not (sym shape.0), grown_false end.is_over old new shape.0 gives.counts.4 gives.counts.5, λ none. absurd (cc (none, shape.1))))
+counts_line old new o left line (Err e) gives shape = gives.limits_stay
+
+pub counts_end : (old new : Reading) (o left : Option (List ℕ)) (result : Result Turn Stop)
+    → Gives old o (Ok None) new left → EndShape result → TurnCounts old result new
+counts_end old new o left (Ok (Goes kept block)) gives shape = absurd shape
+counts_end old new o left (Ok (Stands_end end)) gives shape = (gives.limits_stay, (gives.counts.0 ∙ ap not (sym shape), grown_true end.is_over old new shape (omega (arith, gives.counts.1)), λ none. shape))
+counts_end old new o left (Err e) gives shape = gives.limits_stay
+
+pub never_read_line : (result : Result Turn Stop) → LineShape result → IsErrOf result Read → ⊥
+never_read_line (Ok (Goes kept block)) shape e = cc (e)
+never_read_line (Ok (Stands_end end)) shape e = cc (e)
+never_read_line (Err (Refused line why)) shape e = cc (e)
+never_read_line (Err Read) shape e = shape
+never_read_line (Err NoMemory) shape e = cc (e)
+
+pub never_read_end : (result : Result Turn Stop) → EndShape result → IsErrOf result Read → ⊥
+never_read_end (Ok (Goes kept block)) shape e = cc (e)
+never_read_end (Ok (Stands_end end)) shape e = cc (e)
+never_read_end (Err (Refused line why)) shape e = cc (e)
+never_read_end (Err Read) shape e = shape
+never_read_end (Err NoMemory) shape e = cc (e)
+
+-- ---- line after line
+
+abbrev pub Goes_to : Reads Taken → Reading → List ℕ → Kept → Block → Reading → Option (List ℕ) → Type 0
+Goes_to read r xs kept block new left = TurnGives read r xs (Ok (Goes kept block)) new left
+
+-- no line was read yet
+pub begun : (h : History) (kept : Kept) (block : Block) (r : Reading) (o : Option (List ℕ)) → Stands kept h
+    → ((ls : List Line) (close : Option ℕ) → resumed h block ls close ≡ effect_of h ls close) → IfSome o (λ xs. Goes_to (effect_of h) r xs kept block r o)
+begun h kept block r None stands begins = tt
+begun h kept block r (Some xs) stands begins = (
+  h,
+  stands,
+  (
+    xs,
+    refl,
+    record {
+      front = [];
+      split = refl;
+      room = omega arith;
+      same = sym (next_same (resumed h block) (effect_of h) (groups_left false r true xs) begins);
+      cut = λ d rest e fine. subst IsOk (all_same (resumed h block) (effect_of h) (groups_left false r false d) begins) fine;
+    },
+  ),
+)
+
+pub split_on : (xs front ys more zs : List ℕ) → xs ≡ front ++ ys → ys ≡ more ++ zs → xs ≡ (front ++ more) ++ zs
+split_on xs front ys more zs e f = e ∙ ap (λ (l : List ℕ). front ++ l) f ∙ sym (append_assoc front more zs)
+
+pub room_on : (a b c : ℕ) (front more : List ℕ) → b ≡ a - length front → c ≡ b - length more → c ≡ a - length (front ++ more)
+room_on a b c front more e f = omega (arith, e, f, length-append front more)
+
+moves_on : (read mid read' : Reads Taken) (r new last : Reading) (xs ys zs : List ℕ) → Moves read r xs mid new ys → Moves mid new ys read' last zs → Moves read r xs read' last zs
+moves_on read mid read' r new last xs ys zs a b = record {
+  front = a.front ++ b.front;
+  split = split_on xs a.front ys b.front zs a.split b.split;
+  room = room_on (room_of r) (room_of new) (room_of last) a.front b.front a.room b.room;
+  same = a.same ∙ b.same;
+  cut = λ d rest e fine. subst (λ (l : List ℕ). IsOk (after_all read (groups_left false r false l))) (sym (append_assoc a.front b.front d))
+      (a.cut (b.front ++ d) rest (split_on ys b.front zs d rest b.split e) (b.cut d rest e fine));
+}
+
+steps_on : (read mid : Reads Taken) (r new last : Reading) (xs ys zs : List ℕ) (found over : Bool) (h : History) → Moves read r xs mid new ys → Steps mid false new ys found h over last zs → Steps read false r xs found h over last zs
+steps_on read mid r new last xs ys zs found over h a b = record {
+  front = a.front ++ b.front;
+  split = split_on xs a.front ys b.front zs a.split b.split;
+  room = room_on (room_of r) (room_of new) (room_of last) a.front b.front a.room b.room;
+  nothing = λ first. b.nothing (λ e. absurd (cc (e)));
+  takes = a.same ∙ b.takes;
+  cut = λ d rest e fine. subst (λ (l : List ℕ). IsOk (after_all read (groups_left false r false l))) (sym (append_assoc a.front b.front d))
+      (a.cut (b.front ++ d) rest (split_on ys b.front zs d rest b.split e) (b.cut d rest e fine));
+}
+
+stops_on : (read mid : Reads Taken) (r new : Reading) (xs ys : List ℕ) (left : Option (List ℕ)) → Moves read r xs mid new ys → Stops mid false new ys left → Stops read false r xs left
+stops_on read mid r new xs ys left a b = record {
+  front = a.front ++ b.front;
+  rest = b.rest;
+  split = split_on xs a.front ys b.front b.rest a.split b.split;
+  left_is = b.left_is;
+  fine = subst (λ (l : List ℕ). IsOk (after_all read (groups_left false r false l))) refl (a.cut b.front b.rest b.split b.fine);
+}
+
+pub turn_on : (read : Reads Taken) (r new last : Reading) (xs : List ℕ) (kept : Kept) (block : Block) (mid left : Option (List ℕ)) (result : Result Turn Stop)
+    → Goes_to read r xs kept block new mid
+    → ((h : History) → Stands kept h → IfSome mid (λ ys. TurnGives (resumed h block) new ys result last left))
+    → TurnGives read r xs result last left
+turn_on read r new last xs kept block mid left result (h, stands, (ys, is, moves)) turn = go result (subst (λ (o : Option (List ℕ)). IfSome o (λ ys. TurnGives (resumed h block) new ys result last left)) is (turn h stands)) where
+  go : (result : Result Turn Stop) → TurnGives (resumed h block) new ys result last left → TurnGives read r xs result last left
+  go (Ok (Goes k b)) (h', s, (zs, e, m)) = (h', s, (zs, e, moves_on read (resumed h block) (resumed h' b) r new last xs ys zs moves m))
+  go (Ok (Stands_end end)) (h', s, (zs, e, m)) = (h', s, (zs, e, steps_on read (resumed h block) r new last xs ys zs end.found end.is_over h' moves m))
+  go (Err (Refused line why)) gives = moves.same ∙ gives
+  go (Err Read) gives = stops_on read (resumed h block) r new xs ys left moves gives
+  go (Err NoMemory) gives = tt
+
+pub told_on : (read : Reads Taken) (r new last : Reading) (o mid left : Option (List ℕ)) (kept : Kept) (block : Block) (result : Result Turn Stop)
+    → IfSome o (λ xs. Goes_to read r xs kept block new mid)
+    → ((h : History) → Stands kept h → IfSome mid (λ ys. TurnGives (resumed h block) new ys result last left))
+    → IfSome o (λ xs. TurnGives read r xs result last left)
+told_on read r new last None mid left kept block result goes turn = tt
+told_on read r new last (Some xs) mid left kept block result goes turn = turn_on read r new last xs kept block mid left result goes turn
+
+pub told_stop : (read : Reads Taken) (r last : Reading) (o left : Option (List ℕ)) (stop : Stop) → IfSome o (λ xs. TurnGives read r xs (Err stop) last left) → IfSome o (λ xs. BlockGives read false r xs (Err stop) last left)
+told_stop read r last None left stop gives = tt
+told_stop read r last (Some xs) left (Refused line why) gives = gives
+told_stop read r last (Some xs) left Read gives = gives
+told_stop read r last (Some xs) left NoMemory gives = gives
+
+-- at the file's end nothing is read
+pub still_over : (s : Session) (h : History) (r : Reading) (o : Option (List ℕ)) → s.is_over ≡ true → Stands s.kept h → IfSome o (λ xs. Answers s h r xs (Ok (s, false)) r o)
+still_over s h r None over stands = tt
+still_over s h r (Some xs) over stands = (
+  h,
+  stands,
+  (
+    xs,
+    refl,
+    record {
+      front = [];
+      split = refl;
+      room = omega arith;
+      nothing = λ first last. first last;
+      takes = subst (λ (o : Bool). after_next (effect_of h) (groups_left o r true xs) ≡ Ok (record { found = false; history = h; left = groups_left o r true xs })) (sym over)
+          (ap (λ (t : Result Taken LineFault). t >>= λ t. Ok (record { found = t.counts; history = t.history; left = Last [] (Over (r.number + 1)) })) (no_lines h (Some (r.number + 1))));
+      cut = λ d rest e fine. fine;
+    },
+  ),
+)
+
+-- ---- block after block
+
+abbrev then_all : Groups → Result Taken LineFault → Result History LineFault
+then_all rest r = r >>= λ t. after_all (effect_of t.history) rest
+
+never : (n : ℕ) (why : Why) (r : Result Taken LineFault) (t : Taken) → then_fault n why r ≡ Ok t → ⊥
+never n why (Ok u) t e = cc (e)
+never n why (Err f) t e = cc (e)
+
+-- what a step through the groups says of all of them
+abbrev pub Follows : Reads Taken → Groups → Result Stepped LineFault → Type 0
+Follows read gs (Ok step) = (after_all read gs ≡ after_all (effect_of step.history) step.left) × (step.found ≡ false → after_all read gs ≡ Ok step.history)
+Follows read gs (Err e) = after_all read gs ≡ Err e
+
+pub follows : (read : Reads Taken) (gs : Groups) → Follows read gs (after_next read gs)
+follows read (Group ls close rest) = go (read ls (Some close)) (λ h. follows (effect_of h) rest) refl where
+  counted : (t : Taken) (c : Bool) → t.counts ≡ c → read ls (Some close) ≡ Ok t → Follows (effect_of t.history) rest (after_next (effect_of t.history) rest)
+      → Follows read (Group ls close rest) (if c then Ok (record { found = true; history = t.history; left = rest }) else after_next (effect_of t.history) rest)
+  counted t true e is more = (ap (then_all rest) is, λ f. absurd (cc (f)))
+  counted t false e is more = on (after_next (effect_of t.history) rest) more where
+    on : (r : Result Stepped LineFault) → Follows (effect_of t.history) rest r → Follows read (Group ls close rest) r
+    on (Ok step) f = (ap (then_all rest) is ∙ f.0, λ n. ap (then_all rest) is ∙ f.1 n)
+    on (Err e) f = ap (then_all rest) is ∙ f
+
+  go : (r : Result Taken LineFault) → ((h : History) → Follows (effect_of h) rest (after_next (effect_of h) rest)) → read ls (Some close) ≡ r
+      → Follows read (Group ls close rest) (r >>= λ t. stop_or t rest (after_next (effect_of t.history) rest))
+  go (Err e) more is = ap (then_all rest) is
+  go (Ok t) more is = counted t t.counts refl is (more t.history)
+follows read (Last ls end) = go (after_last read ls end) refl where
+  empty : (h : History) (end : End) → (t : Taken) → after_last read ls end ≡ Ok t → after_all (effect_of h) (Last [] end) ≡ Ok h
+  empty h (Over n) t e = ap (λ (r : Result Taken LineFault). r >>= λ t. Ok t.history) (no_lines h (Some n))
+  empty h Broken t e = ap (λ (r : Result Taken LineFault). r >>= λ t. Ok t.history) (no_lines h None)
+  empty h (LongLine n) t e = absurd (never n WhyLong (read ls None) t e)
+  empty h (TooLong n) t e = absurd (never n WhyMany (read ls None) t e)
+
+  go : (r : Result Taken LineFault) → after_last read ls end ≡ r → Follows read (Last ls end) (r >>= λ t. Ok (record { found = t.counts; history = t.history; left = Last [] end }))
+  go (Err e) is = ap (λ (r : Result Taken LineFault). r >>= λ t. Ok t.history) is
+  go (Ok t) is = let all = ap (λ (r : Result Taken LineFault). r >>= λ t. Ok t.history) is in (all ∙ sym (empty t.history end t is), λ n. all)

@@ -1,0 +1,178 @@
+-- Steps of a session through the bytes that are left.
+use Rattle.std.specs.Prelude.{◌≡◌, ◌≤◌, ◌<◌, ◌⊎◌, not, min, if◌then◌else◌, ◌+◌, ◌-◌, ◌^◌, ℕ, Bool, true, false, List, [], ◌∷◌, ◌++◌, length, ⊤, Option, Some, None, IfSome, Result, Ok, Err}
+use Rattle.dk_base.specs.Reading.{Line, Reads}
+use Rattle.std.specs.Result.{IsOk}
+use Rattle.dk_lines.specs.Left.{Left, Next, Over, lines_left}
+use Rattle.dk_lines.specs.Reading.{Reading, room_of}
+use Rattle.dk_base.specs.declared.why.Why.TheVariants.{LongLine as WhyLong, TooLong as WhyMany}
+use Rattle.dk_core.specs.declared.kept.Refusal.{Refusal}
+use Rattle.dk_core.specs.declared.kept.Refusal.TheVariants as r
+use Rattle.dk_lines.specs.declared.lines.LineFault.{LineFault}
+use Rattle.dk_lines.specs.declared.lines.LineFault.TheVariants as f
+use Rattle.dk_core.specs.Blocks.{Groups, Last, grouped}
+use Rattle.dk_core.specs.History.{Taken, History, effect_of}
+use Rattle.dk_core.specs.Reading.{Stepped, after_all, after_next}
+use Rattle.dk_core.specs.Standing.{Stands, resumed}
+use Rattle.dk_core.specs.declared.kept.Kept.{Kept}
+use Rattle.dk_core.specs.declared.session.Turn.{Turn}
+use Rattle.dk_core.specs.declared.session.Turn.TheVariants.{Goes, Ends}
+use Rattle.dk_core.specs.declared.session.Ending.{Ending}
+use Rattle.dk_core.specs.declared.session.Session.{Session}
+use Rattle.dk_base.specs.declared.faults.Fault.{Fault}
+use Rattle.dk_base.specs.declared.faults.Fault.TheVariants as x
+use Rattle.dk_core.specs.declared.session.Stop.{Stop}
+use Rattle.dk_core.specs.declared.session.Stop.TheVariants.{Refused, Read, NoMemory}
+
+-- The groups that are left: none where the session has come to the file's end.
+abbrev pub groups_left : Bool → Reading → Bool → List ℕ → Groups
+groups_left true r is_ended xs = Last [] (Over (r.number + 1))
+groups_left false r is_ended xs = grouped (lines_left r is_ended xs)
+
+-- Within a block: what `read` says of what was left is what `read'` says of what is left now.
+pub record Moves (read : Reads Taken) (r : Reading) (xs : List ℕ) (read' : Reads Taken) (r' : Reading) (ys : List ℕ) : Type 0 where
+  pub front : List ℕ
+  pub split : xs ≡ front ++ ys
+  pub room : room_of r' ≡ room_of r - length front
+  pub same : after_next read (groups_left false r true xs) ≡ after_next read' (groups_left false r' true ys)
+  pub cut : (d rest : List ℕ) → ys ≡ d ++ rest → IsOk (after_all read' (groups_left false r' false d)) → IsOk (after_all read (groups_left false r false (front ++ d)))
+
+-- The next block, or the file's end, was read, and the history is h now.
+pub record Steps (read : Reads Taken) (over : Bool) (r : Reading) (xs : List ℕ) (found : Bool) (h : History) (over' : Bool) (r' : Reading) (ys : List ℕ) : Type 0 where
+  pub front : List ℕ
+  pub split : xs ≡ front ++ ys
+  pub room : room_of r' ≡ room_of r - length front
+  -- nothing is left at the file's end
+  pub nothing : (over ≡ true → xs ≡ []) → over' ≡ true → ys ≡ []
+  pub takes : after_next read (groups_left over r true xs) ≡ Ok (record { found = found; history = h; left = groups_left over' r' true ys })
+  pub cut : (d rest : List ℕ) → ys ≡ d ++ rest → IsOk (after_all (effect_of h) (groups_left over' r' false d)) → IsOk (after_all read (groups_left over r false (front ++ d)))
+
+-- Reading failed, and what was delivered holds no fault.
+pub record Stops (read : Reads Taken) (over : Bool) (r : Reading) (xs : List ℕ) (left' : Option (List ℕ)) : Type 0 where
+  pub front : List ℕ
+  pub rest : List ℕ
+  pub split : xs ≡ front ++ rest
+  pub left_is : left' ≡ Some rest
+  pub fine : IsOk (after_all read (groups_left over r false front))
+
+-- what one line does to a block
+abbrev pub TurnGives : Reads Taken → Reading → List ℕ → Result Turn Stop → Reading → Option (List ℕ) → Type 0
+TurnGives read r xs (Ok (Goes kept block)) r' left' = (h : History) × Stands kept h × ((ys : List ℕ) × (left' ≡ Some ys) × Moves read r xs (resumed h block) r' ys)
+TurnGives read r xs (Ok (Ends end)) r' left' = (h : History) × Stands end.kept h × ((ys : List ℕ) × (left' ≡ Some ys) × Steps read false r xs end.found h end.is_over r' ys)
+TurnGives read r xs (Err (Refused line why)) r' left' = after_next read (groups_left false r true xs) ≡ Err (record { line = line; why = why })
+TurnGives read r xs (Err Read) r' left' = Stops read false r xs left'
+TurnGives read r xs (Err NoMemory) r' left' = ⊤
+
+-- what a line does to a block, whatever follows it
+abbrev pub LineGives : Reads Taken → Line → Result Turn Stop → Type 0
+LineGives read line (Ok (Goes kept block)) = (h : History) × Stands kept h × ((rest : Left) →
+    (after_next read (grouped (Next line rest)) ≡ after_next (resumed h block) (grouped rest)) × (after_all read (grouped (Next line rest)) ≡ after_all (resumed h block) (grouped rest)))
+LineGives read line (Ok (Ends end)) = (h : History) × Stands end.kept h × (end.is_over ≡ false) × ((rest : Left) →
+    (after_next read (grouped (Next line rest)) ≡ Ok (record { found = end.found; history = h; left = grouped rest })) × (after_all read (grouped (Next line rest)) ≡ after_all (effect_of h) (grouped rest)))
+LineGives read line (Err (Refused number why)) = (rest : Left) → after_next read (grouped (Next line rest)) ≡ Err (record { line = number; why = why })
+LineGives read line (Err Read) = ⊥
+LineGives read line (Err NoMemory) = ⊤
+
+-- what the file's end does to a block
+abbrev pub EndGives : Reads Taken → ℕ → Result Turn Stop → Type 0
+EndGives read number (Ok (Goes kept block)) = ⊥
+EndGives read number (Ok (Ends end)) = (h : History) × Stands end.kept h × (end.is_over ≡ true)
+    × (after_next read (Last [] (Over number)) ≡ Ok (record { found = end.found; history = h; left = Last [] (Over number) }))
+EndGives read number (Err (Refused line why)) = after_next read (Last [] (Over number)) ≡ Err (record { line = line; why = why })
+EndGives read number (Err Read) = ⊥
+EndGives read number (Err NoMemory) = ⊤
+
+-- In front of the file's end a line was read. Where there was no block, the file is at its end.
+abbrev pub Grown : Bool → Reading → Reading → Type 0
+Grown true r r' = r.total ≤ r'.total
+Grown false r r' = (r.total < r'.total) × (r'.total ≤ r.limits.total)
+
+abbrev pub EndCounts : Reading → Ending → Reading → Type 0
+EndCounts r end r' = (r'.is_started ≡ not end.is_over) × Grown end.is_over r r' × (end.found ≡ false → end.is_over ≡ true)
+
+-- lines and totals, whatever is told
+abbrev pub TurnCounts : Reading → Result Turn Stop → Reading → Type 0
+TurnCounts r (Ok (Goes kept block)) r' = (r'.limits ≡ r.limits) × (r'.is_started ≡ true) × (r.total < r'.total) × (r'.total ≤ r.limits.total)
+TurnCounts r (Ok (Ends end)) r' = (r'.limits ≡ r.limits) × EndCounts r end r'
+TurnCounts r (Err e) r' = r'.limits ≡ r.limits
+
+-- what a blank line of this number does to a block, whatever follows it
+abbrev pub BlankGives : Reads Taken → ℕ → Result Turn Stop → Type 0
+BlankGives read number (Ok (Goes kept block)) = (h : History) × Stands kept h × (read [] (Some number) ≡ Ok (record { history = h; counts = false }))
+    × ((ls : List Line) (close : Option ℕ) → resumed h block ls close ≡ effect_of h ls close)
+BlankGives read number (Ok (Ends end)) = (h : History) × Stands end.kept h × (end.is_over ≡ false) × (end.found ≡ true) × (read [] (Some number) ≡ Ok (record { history = h; counts = true }))
+BlankGives read number (Err (Refused line why)) = read [] (Some number) ≡ Err (record { line = line; why = why })
+BlankGives read number (Err Read) = ⊥
+BlankGives read number (Err NoMemory) = ⊤
+
+-- what a line that isn't blank does
+abbrev pub WordsGive : Reads Taken → Line → Result Turn Stop → Type 0
+WordsGive read line (Ok (Goes kept block)) = (h : History) × Stands kept h × ((ls : List Line) (close : Option ℕ) → read (line ∷ ls) close ≡ resumed h block ls close)
+WordsGive read line (Ok (Ends end)) = ⊥
+WordsGive read line (Err (Refused number why)) = (ls : List Line) (close : Option ℕ) → read (line ∷ ls) close ≡ Err (record { line = number; why = why })
+WordsGive read line (Err Read) = ⊥
+WordsGive read line (Err NoMemory) = ⊤
+
+abbrev pub stopped : Refusal → Stop
+stopped (r.Refused line why) = Refused line why
+stopped r.NoMemory = NoMemory
+
+abbrev pub unread : LineFault → Stop
+unread f.Read = Read
+unread (f.LongLine line) = Refused line WhyLong
+unread (f.TooLong line) = Refused line WhyMany
+unread f.NoMemory = NoMemory
+
+-- the forms that an answer has, whatever is told
+abbrev pub LineShape : Result Turn Stop → Type 0
+LineShape (Ok (Goes kept block)) = ⊤
+LineShape (Ok (Ends end)) = (end.is_over ≡ false) × (end.found ≡ true)
+LineShape (Err (Refused line why)) = ⊤
+LineShape (Err Read) = ⊥
+LineShape (Err NoMemory) = ⊤
+
+abbrev pub EndShape : Result Turn Stop → Type 0
+EndShape (Ok (Goes kept block)) = ⊥
+EndShape (Ok (Ends end)) = end.is_over ≡ true
+EndShape (Err (Refused line why)) = ⊤
+EndShape (Err Read) = ⊥
+EndShape (Err NoMemory) = ⊤
+
+-- what reading up to the end of a block comes to
+abbrev pub BlockGives : Reads Taken → Bool → Reading → List ℕ → Result Ending Stop → Reading → Option (List ℕ) → Type 0
+BlockGives read over r xs (Ok end) r' left' = (h : History) × Stands end.kept h × ((ys : List ℕ) × (left' ≡ Some ys) × Steps read over r xs end.found h end.is_over r' ys)
+BlockGives read over r xs (Err (Refused line why)) r' left' = after_next read (groups_left over r true xs) ≡ Err (record { line = line; why = why })
+BlockGives read over r xs (Err Read) r' left' = Stops read over r xs left'
+BlockGives read over r xs (Err NoMemory) r' left' = ⊤
+
+abbrev pub BlockCounts : Reading → Result Ending Stop → Reading → Type 0
+BlockCounts r (Ok end) r' = (r'.limits ≡ r.limits) × EndCounts r end r'
+BlockCounts r (Err e) r' = r'.limits ≡ r.limits
+
+-- what a fault of `block` says, where the bytes xs are left: it is that of the next block, or reading failed
+abbrev pub FaultAnswers : Reads Taken → Bool → Reading → List ℕ → Fault → Option (List ℕ) → Type 0
+FaultAnswers read over r xs (x.Refused file line why) left' = after_next read (groups_left over r true xs) ≡ Err (record { line = line; why = why })
+FaultAnswers read over r xs (x.Read file) left' = Stops read over r xs left'
+FaultAnswers read over r xs x.NoMemory left' = ⊤
+
+-- what `block` answers: the session after the next block, and whether there was one
+abbrev pub Answers : Session → History → Reading → List ℕ → Result (Session × Bool) Fault → Reading → Option (List ℕ) → Type 0
+Answers s h r xs (Ok a) r' left' = (h' : History) × Stands a.0.kept h' × ((ys : List ℕ) × (left' ≡ Some ys) × Steps (effect_of h) s.is_over r xs a.1 h' a.0.is_over r' ys)
+Answers s h r xs (Err fault) r' left' = FaultAnswers (effect_of h) s.is_over r xs fault left'
+
+-- a fault has this file number
+abbrev pub IsInFile : ℕ → Fault → Type 0
+IsInFile n (x.Refused file line why) = file ≡ n
+IsInFile n (x.Read file) = file ≡ n
+IsInFile n x.NoMemory = ⊤
+
+-- numbers of lines, bytes, blocks and files, whatever is told
+abbrev pub Counts : Session → Reading → Result (Session × Bool) Fault → Reading → Type 0
+Counts s r (Ok a) r' = (r'.limits ≡ r.limits) × (r'.is_started ≡ not a.0.is_over) × (a.0.file ≡ s.file)
+    × (a.0.blocks ≡ (if a.1 then min (s.blocks + 1) (2 ^ 64 - 1) else s.blocks)) × (a.1 ≡ false → a.0.is_over ≡ true)
+    × (a.1 ≡ true → s.is_over ≡ false) × (a.1 ≡ true → Grown a.0.is_over r r')
+Counts s r (Err fault) r' = (r'.limits ≡ r.limits) × IsInFile s.file fault
+
+abbrev pub named : ℕ → Stop → Fault
+named file (Refused line why) = x.Refused file line why
+named file Read = x.Read file
+named file NoMemory = x.NoMemory
