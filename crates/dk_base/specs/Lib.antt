@@ -1,2 +1,9 @@
 pub mod Refusals
 pub mod Reading
+pub mod Pieces
+pub mod Words
+pub mod Names
+pub mod Numbers
+pub mod Items
+pub mod Sequences
+pub mod Values

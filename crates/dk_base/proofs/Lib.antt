@@ -1,0 +1,5 @@
+pub mod Splits
+pub mod Spellings
+pub mod Numerals
+pub mod Gathering
+pub mod Samenesses

@@ -1,0 +1,45 @@
+-- Values, and the texts that write them.
+use Rattle.std.specs.Prelude.{ℕ, List, map, Option, Some, None}
+use Rattle.std.specs.Borrow.{Bor}
+use Rattle.dk_base.specs.Items.{bool_item, hash_item, int_item, str_item}
+use Rattle.dk_base.specs.Sequences.{sequence}
+use Rattle.dk_base.specs.declared.items.Item.{Item}
+use Rattle.dk_base.specs.declared.items.Item.TheVariants as item
+use Rattle.dk_base.specs.declared.kinds.Kind.{Kind}
+use Rattle.dk_base.specs.declared.kinds.Kind.TheVariants as kind
+use Rattle.dk_base.specs.declared.values.View.{View}
+use Rattle.dk_base.specs.declared.values.View.TheVariants as view
+use Rattle.dk_base.specs.declared.values.Value.{Value}
+use Rattle.dk_base.specs.declared.values.Value.TheVariants as value
+
+-- the value that a view shows
+abbrev pub value_of : View → Value
+value_of view.Missing = value.Missing
+value_of (view.Bool b) = value.Bool b
+value_of (view.Int z) = value.Int z
+value_of (view.Hash n) = value.Hash n
+value_of (view.Str s) = value.Str s.now
+value_of (view.BoolSeq s) = value.BoolSeq s.now
+value_of (view.IntSeq s) = value.IntSeq s.now
+value_of (view.HashSeq s) = value.HashSeq s.now
+value_of (view.StrSeq s) = value.StrSeq (map (λ (t : Bor (List ℕ)). t.now) s.now)
+
+abbrev pub values_of : List View → List Value
+values_of views = map value_of views
+
+-- no value, the missing one, or what `make` makes of the item
+abbrev pub valued : {A : Type 0} → (A → Value) → Item A → Option Value
+valued make item.Bad = None
+valued make item.Missing = Some value.Missing
+valued make (item.Present x) = Some (make x)
+
+-- the value that a text of this kind writes, or none
+abbrev pub value_of_text : Kind → List ℕ → Option Value
+value_of_text kind.Bool text = valued (λ b. value.Bool b) (bool_item text)
+value_of_text kind.Int text = valued (λ z. value.Int z) (int_item text)
+value_of_text kind.Hash text = valued (λ n. value.Hash n) (hash_item text)
+value_of_text kind.Str text = valued (λ s. value.Str s) (str_item text)
+value_of_text kind.BoolSeq text = valued (λ bs. value.BoolSeq bs) (sequence bool_item text)
+value_of_text kind.IntSeq text = valued (λ zs. value.IntSeq zs) (sequence int_item text)
+value_of_text kind.HashSeq text = valued (λ ns. value.HashSeq ns) (sequence hash_item text)
+value_of_text kind.StrSeq text = valued (λ ss. value.StrSeq ss) (sequence str_item text)
