@@ -1,7 +1,7 @@
 -- The items of a sequence, one by one.
-use Rattle.std.proofs.Common.{◌≡◌, ◌∷◌, ◌++◌, ◌||◌, [], Bool, true, false, List, filter_map, if◌then◌else◌}
+use Rattle.std.proofs.Common.{◌++◌, ◌||◌, Bool, List, filter_map, if◌then◌else◌}
 use Rattle.std.specs.List.{list_any}
-use Rattle.dk_base.specs.Sequences.{all_of, is_bad, is_missing, present}
+use Rattle.dk_base.specs.Sequences.{is_bad, is_missing, present}
 use Rattle.dk_base.specs.declared.items.Item.{Item}
 use Rattle.dk_base.specs.declared.items.Item.TheVariants.{Bad, Missing, Present}
 

@@ -1,5 +1,5 @@
 -- Equality of lists, pair by pair.
-use Rattle.std.proofs.Common.{◌≡◌, ◌∷◌, [], ℕ, Bool, List, Bor, map, refl, ap, Decides}
+use Rattle.std.proofs.Common.{◌≡◌, ◌∷◌, [], ℕ, List, Bor, map, refl, ap, Decides}
 use Rattle.std.specs.Prelude.{nat_eq, ◌&&◌}
 use Rattle.std.specs.Cmp.Lexicographic.{bytes_decides, pointwise, pointwise_decides}
 use Rattle.std.proofs.lemmas.Bool.Decides.{Decides-at}
@@ -15,4 +15,4 @@ behind_references (x ∷ xs) (y ∷ ys) = ap (λ b. pointwise nat_eq x.now y.now
 pub texts_decided : (xs ys : List (Bor (List ℕ))) → Decides (pointwise (λ x y. pointwise nat_eq x.now y.now) xs ys) (map (λ t. t.now) xs ≡ map (λ t. t.now) ys)
 texts_decided xs ys =
     Decides-at _ (pointwise (pointwise nat_eq) (map (λ t. t.now) xs) (map (λ t. t.now) ys)) (behind_references xs ys)
-        (pointwise_decides bytes_decides (map (λ t. t.now) xs) (map (λ t. t.now) ys))
+    (pointwise_decides bytes_decides (map (λ t. t.now) xs) (map (λ t. t.now) ys))

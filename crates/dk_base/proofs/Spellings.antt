@@ -1,5 +1,5 @@
 -- Names and their spelling, byte by byte.
-use Rattle.std.proofs.Common.{◌≡◌, ◌≢◌, ◌↔◌, ◌<◌, ◌+◌, ◌∷◌, ◌++◌, [], ℕ, Bool, true, false, List, All, IsTrue, refl, sym, ap, ap₂, ◌∙◌, if◌then◌else◌, cond, drop, get_or, length, arith}
+use Rattle.std.proofs.Common.{◌≡◌, ◌≢◌, ◌↔◌, ◌<◌, ◌+◌, ◌∷◌, ◌++◌, [], ℕ, Bool, true, false, List, All, IsTrue, refl, sym, ap, ◌∙◌, if◌then◌else◌, drop, get_or, length, arith}
 use Rattle.std.proofs.lemmas.Bool.{eqb-true, eqb-false, cond_both}
 use Rattle.std.proofs.lemmas.List.{drop_more}
 use Rattle.std.proofs.lemmas.List.Elements.{All-nil, All-cons, All-append}
@@ -35,10 +35,10 @@ no_blank_first : (b : ℕ) → All NoBlank (escaped_byte b)
 no_blank_first b =
     let one : (c : ℕ) → (c ≡ 32 → ⊥) → All NoBlank (c ∷ []) = λ c h. All-cons NoBlank c [] h (All-nil NoBlank) in
     cond_both (b == 32) (92 ∷ 95 ∷ []) (if b == 92 then 92 ∷ 92 ∷ [] else b ∷ []) (All NoBlank)
-        (λ e. All-cons NoBlank 92 (95 ∷ []) (λ f. absurd (omega arith)) (one 95 (λ f. absurd (omega arith))))
-        (λ e. cond_both (b == 92) (92 ∷ 92 ∷ []) (b ∷ []) (All NoBlank)
-            (λ f. All-cons NoBlank 92 (92 ∷ []) (λ g. absurd (omega arith)) (one 92 (λ g. absurd (omega arith))))
-            (λ f. one b (eqb-false b 32 e)))
+    (λ e. All-cons NoBlank 92 (95 ∷ []) (λ f. absurd (omega arith)) (one 95 (λ f. absurd (omega arith))))
+    (λ e. cond_both (b == 92) (92 ∷ 92 ∷ []) (b ∷ []) (All NoBlank)
+    (λ f. All-cons NoBlank 92 (92 ∷ []) (λ g. absurd (omega arith)) (one 92 (λ g. absurd (omega arith))))
+    (λ f. one b (eqb-false b 32 e)))
 
 -- a spelling has no blank
 pub no_blank_in_escaped : (name : List ℕ) → All (λ b. b ≢ 32) (escaped name)

@@ -55,7 +55,7 @@ longer cut p text i lt h so_far =
     ∙ so_far
 
 -- the pieces, where the first part is not empty
-kept : (first : List ℕ) (others : List (List ℕ)) → 0 < length first → nonempty (first ∷ others) ≡ first ∷ nonempty others
+pub kept : (first : List ℕ) (others : List (List ℕ)) → 0 < length first → nonempty (first ∷ others) ≡ first ∷ nonempty others
 kept [] others positive = absurd (omega arith)
 kept (b ∷ bs) others positive = refl
 

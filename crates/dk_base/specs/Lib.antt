@@ -7,3 +7,7 @@ pub mod Numbers
 pub mod Items
 pub mod Sequences
 pub mod Values
+pub mod Spelling
+pub mod Comparability
+pub mod Shapes
+pub mod Tuples

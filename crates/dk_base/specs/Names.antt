@@ -1,5 +1,5 @@
 -- Names and their spelling.
-use Rattle.std.specs.Prelude.{◌&&◌, ℕ, List, [], ◌∷◌, ◌++◌, ◌==◌, if◌then◌else◌}
+use Rattle.std.specs.Prelude.{◌&&◌, ℕ, List, [], ◌∷◌, ◌==◌, if◌then◌else◌}
 use Rattle.std.specs.List.{flat_map}
 
 -- the name that a spelling means: a backslash (92) and `_` (95) stand for a blank (32), two backslashes for one; any other backslash stays

@@ -1,5 +1,5 @@
 -- Values, and the texts that write them.
-use Rattle.std.specs.Prelude.{ℕ, List, map, Option, Some, None}
+use Rattle.std.specs.Prelude.{◌≡◌, ℕ, List, map, Option, Some, None, IfSome}
 use Rattle.std.specs.Borrow.{Bor}
 use Rattle.dk_base.specs.Items.{bool_item, hash_item, int_item, str_item}
 use Rattle.dk_base.specs.Sequences.{sequence}
@@ -26,6 +26,22 @@ value_of (view.StrSeq s) = value.StrSeq (map (λ (t : Bor (List ℕ)). t.now) s.
 
 abbrev pub values_of : List View → List Value
 values_of views = map value_of views
+
+-- the kind of a value; the missing one has none
+abbrev pub kind_of : Value → Option Kind
+kind_of value.Missing = None
+kind_of (value.Bool b) = Some kind.Bool
+kind_of (value.Int z) = Some kind.Int
+kind_of (value.Hash n) = Some kind.Hash
+kind_of (value.Str s) = Some kind.Str
+kind_of (value.BoolSeq bs) = Some kind.BoolSeq
+kind_of (value.IntSeq zs) = Some kind.IntSeq
+kind_of (value.HashSeq ns) = Some kind.HashSeq
+kind_of (value.StrSeq ss) = Some kind.StrSeq
+
+-- a value of the kind; the missing one is of every kind
+abbrev pub IsOfKind : Kind → Value → Type 0
+IsOfKind k v = IfSome (kind_of v) (λ own. own ≡ k)
 
 -- no value, the missing one, or what `make` makes of the item
 abbrev pub valued : {A : Type 0} → (A → Value) → Item A → Option Value

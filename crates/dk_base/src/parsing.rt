@@ -1,6 +1,7 @@
 // The value that a text writes.
 ghost use Rattle.std.specs.Prelude.{◌≡◌, IfOk, Some, None};
-ghost use Rattle.dk_base.specs.Values.{value_of, value_of_text};
+ghost use Rattle.dk_base.specs.Spelling.{IsWritten};
+ghost use Rattle.dk_base.specs.Values.{IsOfKind, value_of, value_of_text};
 
 use crate::items::{Item, bool_item, hash_item, int_item};
 use crate::sequences::{sequence, text_sequence, text_value};
@@ -29,14 +30,7 @@ impl From<NoMemory> for ValueFault {
     }
 }
 
-/// The value that the text writes as one of this kind; its strings and sequences lie in the arena.
-///
-/// `nonsensical`, `uninit` and `missing` are the missing value of every kind, and so is a number outside its type.
-/// A truth value is `true`, `1`, `false` or `0`; a whole number is decimal digits with an optional minus, `true` or `false`;
-/// a hash code is `null`, decimal digits with an optional minus, or `0x` and hexadecimal digits; a string is what `is_text` takes.
-/// A sequence stands between `[` and `]`, with one or more blanks between its items, or is `null`, which is missing.
-/// An item that is no value makes the whole none; else a missing item makes the whole missing.
-pub fn parse_value<'a>(arena: &'a Arena, kind: Kind, text: &[u8]) -> Result<View<'a>, ValueFault>
+fn value_in<'a>(arena: &'a Arena, kind: Kind, text: &[u8]) -> Result<View<'a>, ValueFault>
     ensures value { IfOk result (λ view. value_of_text kind text.now ≡ Some (value_of view)) }
     ensures bad { result ≡ Err ValueFault.Bad → value_of_text kind text.now ≡ None }
 {
@@ -82,4 +76,20 @@ pub fn parse_value<'a>(arena: &'a Arena, kind: Kind, text: &[u8]) -> Result<View
             Item::Present(value) => Ok(View::StrSeq(value)),
         },
     }
+}
+
+/// The value that the text writes as one of this kind; its strings and sequences lie in the arena.
+///
+/// `nonsensical`, `uninit` and `missing` are the missing value of every kind, and so is a number outside its type.
+/// A truth value is `true`, `1`, `false` or `0`; a whole number is decimal digits with an optional minus, `true` or `false`;
+/// a hash code is `null`, decimal digits with an optional minus, or `0x` and hexadecimal digits; a string is what `is_text` takes.
+/// A sequence stands between `[` and `]`, with one or more blanks between its items, or is `null`, which is missing.
+/// An item that is no value makes the whole none; else a missing item makes the whole missing.
+pub fn parse_value<'a>(arena: &'a Arena, kind: Kind, text: &[u8]) -> Result<View<'a>, ValueFault>
+    ensures value { IfOk result (λ view. value_of_text kind text.now ≡ Some (value_of view)) }
+    ensures bad { result ≡ Err ValueFault.Bad → value_of_text kind text.now ≡ None }
+    ensures of_kind { IfOk result (λ view. IsOfKind kind (value_of view)) }
+    ensures written { IfOk result (λ view. IsWritten (value_of view)) }
+{
+    value_in(arena, kind, text)
 }

@@ -109,7 +109,10 @@ fn inside(text: &[u8]) -> Option<&[u8]>
 
 /// The sequence of items without text that the text writes, in the arena.
 #[tactic(auto, unfolding(crate::specs::Sequences::sequence))]
-pub(crate) fn sequence<'a, T: Element>(arena: &'a Arena, text: &[u8]) -> Result<Item<&'a [T]>, NoMemory>
+pub(crate) fn sequence<'a, T: Element>(
+    arena: &'a Arena,
+    text: &[u8],
+) -> Result<Item<&'a [T]>, NoMemory>
     ensures { IfOk result (λ found. item_map (λ s. s.now) found ≡ sequence T.item_of text.now) }
 {
     if is_missing_word(text) || is_word(text, b"null") {
@@ -123,7 +126,10 @@ pub(crate) fn sequence<'a, T: Element>(arena: &'a Arena, text: &[u8]) -> Result<
 
 /// The sequence of strings that the text writes. They are parts of one copy of it in the arena.
 #[tactic(auto, unfolding(crate::specs::Sequences::sequence))]
-pub(crate) fn text_sequence<'a>(arena: &'a Arena, text: &[u8]) -> Result<Item<&'a [&'a [u8]]>, NoMemory>
+pub(crate) fn text_sequence<'a>(
+    arena: &'a Arena,
+    text: &[u8],
+) -> Result<Item<&'a [&'a [u8]]>, NoMemory>
     ensures { IfOk result (λ found. item_map (λ s. map (λ t. t.now) s.now) found ≡ sequence str_item text.now) }
 {
     if is_missing_word(text) || is_word(text, b"null") {

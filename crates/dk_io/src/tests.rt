@@ -2,8 +2,8 @@
 ghost use Rattle.std.specs.Prelude.{◌<◌};
 
 use crate::{
-    AllFault, Failed, FileInputs, HostSinks, Inputs, MemoryInputs, MemorySinks, Sinks, SteadyInputs,
-    SteadySinks, Stream, read_all, write_all,
+    AllFault, Failed, FileInputs, HostSinks, Inputs, MemoryInputs, MemorySinks, Sinks,
+    SteadyInputs, SteadySinks, Stream, read_all, write_all,
 };
 use dk_base::{List, NoMemory, Text};
 use std::alloc::Global;
@@ -92,7 +92,10 @@ fn sinks_in_memory(rt: HostRuntime) -> Result<(), Fail> {
         assert!(rt; !bytes.as_bytes().is_empty());
         assert_eq!(rt; sinks.write(stream, bytes.as_bytes()), want);
     }
-    assert_eq!(rt; write_all(&mut sinks, Stream::State, b"012345".as_slice()), Err(Failed));
+    assert_eq!(rt;
+        write_all(&mut sinks, Stream::State, b"012345".as_slice()),
+        Err(Failed)
+    );
     for (stream, bytes) in [
         (Stream::Report, "abcde"),
         (Stream::Messages, "xy"),
@@ -101,7 +104,10 @@ fn sinks_in_memory(rt: HostRuntime) -> Result<(), Fail> {
         assert_eq!(rt; sinks.written(stream), bytes.as_bytes());
     }
     let mut steady = SteadySinks::new();
-    assert_eq!(rt; write_all(&mut steady, Stream::Report, b"abc".as_slice()), Ok(()));
+    assert_eq!(rt;
+        write_all(&mut steady, Stream::Report, b"abc".as_slice()),
+        Ok(())
+    );
     assert_eq!(rt; steady.count(), 3);
     Ok(())
 }

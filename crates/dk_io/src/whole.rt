@@ -72,7 +72,8 @@ fn buffer(alloc: Global, size: usize) -> Result<Vec<u8>, AllocError>
     vec![in alloc; 0; size]
 }
 
-/// All that is left of the started file, where it is at most as long as the limit.
+/// All that is left of the started file, where it is at most as long as the limit, and then nothing is left of it; else `TooLong`.
+/// `Read` comes where reading failed before a byte came that is one too many.
 pub fn read_all<I: Inputs>(alloc: Global, inputs: &mut I, limit: u64) -> Result<Text, AllFault>
     ensures files { I.file inputs.new ≡ I.file inputs.old }
     ensures ok { IfOk result (λ text. IfSome (I.rest inputs.old) (λ bytes. text ≡ bytes)) }

@@ -8,7 +8,7 @@ use Rattle.dk_lines.specs.declared.gather.Found.{Found}
 use Rattle.dk_lines.specs.declared.gather.Found.TheVariants.{End as Nothing, Line as Whole, Long, Many}
 use Rattle.dk_lines.specs.Cutting.{line_len, line_bytes, line_used, behind_line, judged, next_of, IsOpen}
 use Rattle.dk_lines.proofs.Cut.{len_lf, len_other, len_le, len_open, len_found}
-use Rattle.dk_lines.specs.Left.{Left, Over, Broken, LongLine, TooLong, Ends, Next, Piece, onto_first, pieces, size_of, lined_by, lined, lines_left, without_cr}
+use Rattle.dk_lines.specs.Left.{Left, Over, Broken, LongLine, TooLong, Ends, Next, Piece, onto_first, pieces, size_of, lined_by, lined, lines_left, without_cr, OneLine}
 use Rattle.dk_lines.specs.Reading.{Reading, room_of}
 use Rattle.dk_lines.specs.Answers.{Counts, Gives, IsNext}
 use Rattle.dk_lines.specs.Gathering.{GivesFirst}
@@ -214,28 +214,30 @@ moved r new e used ys limits number room =
     ∙ ap (λ (n : ℕ). lined r.limits.line (room_of new) n e ys) (sym number)
     ∙ ap (λ (l : Limits). lined l.line (room_of new) new.number e ys) (sym limits)
 
+one_from : (r new : Reading) (xs : List ℕ) (line : Line) → Plain r.limits.line (room_of r) r.number xs → new.limits ≡ r.limits → new.number ≡ r.number + 1 → new.total ≡ r.total + line_used xs
+    → record { number = r.number + 1; bytes = without_cr (line_bytes xs) } ≡ line → OneLine r xs line new (behind_line xs)
+one_from r new xs line p limits number total here =
+    let room : room_of new ≡ room_of r - line_used xs = ap (λ (l : Limits). l.total - new.total) limits ∙ omega (arith, total) in
+    record {
+      front = p.front;
+      split = p.split;
+      total = total ∙ ap (λ (k : ℕ). r.total + k) (sym p.size);
+      room = room ∙ ap (λ (k : ℕ). room_of r - k) (sym p.size);
+      ended = p.ended ∙ ap (λ (l : Line). Next l (lined r.limits.line (room_of r - line_used xs) (r.number + 1) true (behind_line xs))) here
+          ∙ ap (λ (l : Left). Next line l) (moved r new true (line_used xs) (behind_line xs) limits number room);
+      cut = λ d rest e. elim (p.cut d rest e) [
+        | inl s ↦ inl (s ∙ ap (λ (l : Line). Next l (lined r.limits.line (room_of r - line_used xs) (r.number + 1) false d)) here
+            ∙ ap (λ (l : Left). Next line l) (moved r new false (line_used xs) d limits number room))
+        | inr s ↦ inr s
+      ];
+    }
+
 one_line : (r new : Reading) (xs : List ℕ) (line : Line) (left : Option (List ℕ)) → new.limits ≡ r.limits → Counts r (Ok (Some line)) new → GivesFirst r xs (Ok (Some line)) new left → Gives r xs (Ok (Some line)) new left
-one_line r new xs line left limits counts answers =
-    let some = has_bytes r.limits.line (room_of r) (line_used xs) xs answers.0 in
-    let p = plain r.limits.line (room_of r) r.number xs (line_used xs) some (judged_of r.limits.line (room_of r) xs (Whole (line_used xs)) some answers.0) in
-    let room : room_of new ≡ room_of r - line_used xs = ap (λ (l : Limits). l.total - new.total) limits ∙ omega (arith, answers.3) in
-    let here : record { number = r.number + 1; bytes = without_cr (line_bytes xs) } ≡ line = ap (λ (n : ℕ). record { number = n; bytes = without_cr (line_bytes xs) }) (sym counts.0) ∙ ap (λ (bs : List ℕ). record line { bytes = bs }) (sym answers.1) in (
-      behind_line xs,
-      answers.2,
-      record {
-        front = p.front;
-        split = p.split;
-        total = answers.3 ∙ ap (λ (k : ℕ). r.total + k) (sym p.size);
-        room = room ∙ ap (λ (k : ℕ). room_of r - k) (sym p.size);
-        ended = p.ended ∙ ap (λ (l : Line). Next l (lined r.limits.line (room_of r - line_used xs) (r.number + 1) true (behind_line xs))) here
-            ∙ ap (λ (l : Left). Next line l) (moved r new true (line_used xs) (behind_line xs) limits counts.1 room);
-        cut = λ d rest e. elim (p.cut d rest e) [
-          | inl s ↦ inl (s ∙ ap (λ (l : Line). Next l (lined r.limits.line (room_of r - line_used xs) (r.number + 1) false d)) here
-              ∙ ap (λ (l : Left). Next line l) (moved r new false (line_used xs) d limits counts.1 room))
-          | inr s ↦ inr s
-        ];
-      },
-    )
+one_line r new xs line left limits counts first =
+    let some = has_bytes r.limits.line (room_of r) (line_used xs) xs first.0 in
+    let p = plain r.limits.line (room_of r) r.number xs (line_used xs) some (judged_of r.limits.line (room_of r) xs (Whole (line_used xs)) some first.0) in
+    let here : record { number = r.number + 1; bytes = without_cr (line_bytes xs) } ≡ line = ap (λ (n : ℕ). record { number = n; bytes = without_cr (line_bytes xs) }) (sym counts.0) ∙ ap (λ (bs : List ℕ). record line { bytes = bs }) (sym first.1) in
+    (behind_line xs, first.2, one_from r new xs line p limits counts.1 first.3 here)
 
 -- nothing is left of an ended file
 pub at_end : (r : Reading) → lines_left r true [] ≡ Ends (Over (r.number + 1))
@@ -247,6 +249,7 @@ pub at_break : (r : Reading) → lines_left r false [] ≡ Ends Broken
 unfolding lined
 at_break r = refl
 
+-- the first piece of bytes that are not at their end
 at_fault : (limit room n : ℕ) (e : Bool) (xs : List ℕ) → 0 < length xs → (p : Piece) × ((ps : List Piece) × FirstIs xs p ps)
 at_fault limit room n e xs h = elim (cases_lt (line_len xs) (length xs)) [
   | inl l ↦ (record { bytes = line_bytes xs; has_lf = true }, (pieces (behind_line xs), first_lf xs l))

@@ -1,6 +1,5 @@
 -- Small files, line by line.
 use Rattle.std.proofs.Common.{◌≡◌, ℕ, List, [], codes, true, false, refl}
-use Rattle.dk_base.specs.Reading.{Line}
 use Rattle.dk_lines.specs.Left.{Left, Ends, Next, Over, Broken, LongLine, TooLong, lined}
 
 -- a line in front of what follows

@@ -1,11 +1,10 @@
 -- The lines of a file that keeps the limits.
-use Rattle.std.proofs.Common.{◌≡◌, ◌≤◌, ◌<◌, ◌+◌, ◌-◌, ℕ, suc, List, [], ◌∷◌, length, map, All, sum_by, inl, inr, Bool, true, false, nat_lt, nat_le, ◌&&◌, ◌||◌, if◌then◌else◌, refl, sym, ◌∙◌, ap, arith}
+use Rattle.std.proofs.Common.{◌≡◌, ◌≤◌, ◌+◌, ◌-◌, ℕ, suc, List, [], ◌∷◌, length, map, All, sum_by, inl, inr, Bool, true, false, ◌||◌, if◌then◌else◌, refl, ◌∙◌, ap, arith}
 use Rattle.std.proofs.lemmas.Bool.{cases_eq}
 use Rattle.std.proofs.lemmas.Bool.Decides.{nat_tests}
 use Rattle.std.proofs.lemmas.List.Elements.{All-head, All-tail}
 use Rattle.std.proofs.lemmas.List.Sums.{sum_by-cons}
-use Rattle.dk_base.specs.Reading.{Line}
-use Rattle.dk_lines.specs.Left.{Left, Ends, Next, Piece, onto_first, pieces, size_of, without_cr, lines_of, numbered, is_long, is_over, lined_by, lined}
+use Rattle.dk_lines.specs.Left.{Left, Next, Piece, onto_first, pieces, size_of, without_cr, lines_of, numbered, is_long, is_over, lined_by, lined}
 use Rattle.dk_lines.proofs.Lined.{pieces_lf, pieces_other}
 
 size_onto : (b : ℕ) (ps : List Piece) → sum_by size_of (onto_first b ps) ≡ suc (sum_by size_of ps)
@@ -38,7 +37,7 @@ kept limit room n [] all sum = refl
 kept limit room n (p ∷ ps) all sum =
     third (is_long limit room p) (is_over room p) p.has_lf _ _ _ _ (not_long limit room p (All-head (λ p. length p.bytes ≤ limit) p ps all)) (not_over room p (omega (arith, sum_by-cons size_of p ps)))
     ∙ ap (λ (l : Left). Next (record { number = n + 1; bytes = without_cr p.bytes }) l)
-      (kept limit (room - size_of p) (n + 1) ps (All-tail (λ p. length p.bytes ≤ limit) p ps all) (omega (arith, sum_by-cons size_of p ps)))
+    (kept limit (room - size_of p) (n + 1) ps (All-tail (λ p. length p.bytes ≤ limit) p ps all) (omega (arith, sum_by-cons size_of p ps)))
 
 -- An ended file whose lines and bytes keep the limits has its lines, numbered one after another, and nothing else.
 pub whole_file : (limit room n : ℕ) (bytes : List ℕ) → All (λ p. length p.bytes ≤ limit) (pieces bytes) → length bytes ≤ room

@@ -1,4 +1,4 @@
-use Rattle.std.proofs.Common.{◌≡◌, ◌∙◌, ◌++◌, append-nil, sym, ap}
+use Rattle.std.proofs.Common.{◌∙◌, ◌++◌, append-nil, sym, ap}
 use Rattle.dk_base.proofs.names.unescape.Goals as goal
 
 pub returns : goal.returns

@@ -1,4 +1,4 @@
-use Rattle.std.proofs.Common.{◌≡◌, ◌∙◌, ◌<◌, get_or, arith}
+use Rattle.std.proofs.Common.{◌∙◌, ◌<◌, get_or, arith}
 use Rattle.std.specs.Char.{digit_value}
 use Rattle.dk_base.proofs.Numerals.{one_digit_more, others_decide}
 use Rattle.dk_base.proofs.numbers.numeral.Goals as goal

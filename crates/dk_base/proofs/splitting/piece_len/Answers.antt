@@ -1,6 +1,5 @@
-use Rattle.std.proofs.Common.{◌≡◌, ◌<◌, ◌∙◌, [], ◌∷◌, take, drop, length, arith, sym, ap, true, List, ℕ, get_or}
-use Rattle.std.proofs.lemmas.List.{take_all, drop_all}
-use Rattle.dk_base.specs.Pieces.{outside, cuts, parts, pieces}
+use Rattle.std.proofs.Common.{◌≡◌, ◌<◌, true, get_or}
+use Rattle.dk_base.specs.Pieces.{cuts}
 use Rattle.dk_base.proofs.Splits.{ends_at_cut, ends_at_end, not_at_once}
 use Rattle.dk_base.proofs.splitting.piece_len.Goals as goal
 

@@ -1,11 +1,11 @@
-use Rattle.std.proofs.Common.{rules, ap, subst, sym, ◌∙◌, ◌≡◌, ◌≤◌, List, ℕ, Bool, true, false, Option, Some, None, IfSome, Result, Ok, Err, refl}
+use Rattle.std.proofs.Common.{rules, subst, ◌≡◌, Bool, true, false, IfSome, Result, Ok, refl}
 use Rattle.dk_lines.specs.Reading.{left_of}
 use Rattle.dk_core.specs.History.{History}
 use Rattle.dk_core.specs.Standing.{StandsFor, over_of}
 use Rattle.dk_core.specs.Steps.{Answers}
 use Rattle.dk_core.specs.declared.session.Session.{Session}
 use Rattle.dk_base.specs.declared.faults.Fault.{Fault}
-use Rattle.dk_cli.proofs.Filing.{file_begun, file_on, file_end, file_fault}
+use Rattle.dk_cli.proofs.Filing.{file_on, file_end, file_fault}
 use Rattle.dk_cli.proofs.reading.read_started.Goals as goal
 
 pub steps-preserved : goal.steps-preserved
@@ -28,7 +28,4 @@ returns-in-Ok-default-false-clause-gives g c h stands =
     file_end h c.args.lines.now c.steps.lines c.block.new.lines _ _ _ c.steps.session c.in-Ok-default-false.next c.end_file.result false (c.steps.invariant.goes h stands) answers refl over c.end_file.ensures.stands
 
 pub returns-in-Err-clause-gives : goal.returns-in-Err-clause-gives
-returns-in-Err-clause-gives g c h stands =
-    let is : c.block.result ≡ Err c.in-Err.fault = search rules in
-    let answers = λ (h : History) (stands : StandsFor c.steps.session h). subst (λ (a : Result (Session × Bool) Fault). IfSome (left_of c.steps.lines (g.I.Inputs.rest c.steps.inputs)) (λ ys. Answers c.steps.session h c.steps.lines ys a c.block.new.lines (left_of c.block.new.lines (g.I.Inputs.rest c.block.new.inputs)))) is (c.block.ensures.gives h stands) in
-    file_fault h c.args.lines.now c.steps.lines c.block.new.lines _ _ _ c.steps.session c.in-Err.fault (c.steps.invariant.goes h stands) answers
+returns-in-Err-clause-gives g c h stands = file_fault h c.args.lines.now c.steps.lines c.block.new.lines _ _ _ c.steps.session c.in-Err.fault (c.steps.invariant.goes h stands) c.in-Err.ensures.gives
