@@ -141,10 +141,14 @@ impl Kept {
         }
     }
 
-    /// With the block, which ends, and whether it is one.
+    /// With the block, which the line of this number ends, and whether it is one. No block that is read so far asks for the number.
     #[tactic(auto, unfolding(crate::specs::Standing::resumed))]
-    pub(crate) fn close<'a>(self, block: Block<'a>) -> Result<(Kept, bool), BlockFault>
-        ensures { (h : History) → Stands self h → (close : ℕ) → Closes result (resumed h block.entry [] (Some close)) }
+    pub(crate) fn close<'a>(
+        self,
+        block: Block<'a>,
+        _number: u64,
+    ) -> Result<(Kept, bool), BlockFault>
+        ensures { (h : History) → Stands self h → Closes result (resumed h block.entry [] (Some _number)) }
     {
         let Block { arena: _, state } = block;
         self.closed(state)

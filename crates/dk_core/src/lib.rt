@@ -9,5 +9,7 @@ mod record;
 mod report;
 mod session;
 mod summary;
+#[cfg(test)]
+mod tests;
 
 pub use session::Session;

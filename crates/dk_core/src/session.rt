@@ -80,7 +80,7 @@ fn at_blank<'a>(kept: Kept, block: Block<'a>, number: u64) -> Result<Turn<'a>, S
     ensures gives { (h : History) → Stands kept h → BlankGives (resumed h block.entry) number result }
 {
     let arena = block.arena;
-    match kept.close(block) {
+    match kept.close(block, number) {
         Ok((kept, true)) => Ok(Turn::Ends(Ending {
             kept,
             is_over: false,
@@ -99,7 +99,7 @@ fn at_end<'a>(kept: Kept, block: Block<'a>, number: u64) -> Result<Turn<'a>, Sto
     ensures shape { EndShape result }
     ensures gives { (h : History) → Stands kept h → EndGives (resumed h block.entry) number result }
 {
-    match kept.close(block) {
+    match kept.close(block, number) {
         Ok((kept, found)) => Ok(Turn::Ends(Ending {
             kept,
             is_over: true,
