@@ -1,26 +1,25 @@
 -- Reading a file block by block.
 use Rattle.std.proofs.Common.{◌≡◌, ◌≤◌, ◌<◌, ◌⊎◌, ◌+◌, ◌-◌, ℕ, zero, suc, List, [], ◌∷◌, ◌++◌, length, inl, inr, Bool, true, false, Option, Some, None, IfSome, Result, Ok, Err, refl, sym, ◌∙◌, ap, subst, arith, length-append, append_assoc}
 use Rattle.std.proofs.lemmas.List.{append-nil}
-use Rattle.dk_lines.specs.Reading.{Reading, room_of}
+use Rattle.std.specs.Io.KnownBytes.{prepend_known}
+use Rattle.std.specs.Result.{IsOk}
+use Rattle.dk_base.specs.Reading.{LineFault}
+use Rattle.dk_base.specs.declared.faults.Fault.{Fault}
+use Rattle.dk_base.specs.declared.faults.Fault.TheVariants.{Refused, Read, NoMemory}
+use Rattle.dk_io.specs.Outside.{Held, Holds, Starts}
+use Rattle.dk_io.proofs.Reading.{front_nil}
+use Rattle.dk_lines.specs.Reading.{Reading, room_of, left_of}
 use Rattle.dk_core.specs.Blocks.{Groups}
 use Rattle.dk_core.specs.History.{History, effect_of, file_ended}
 use Rattle.dk_core.specs.Reading.{after_all, after_next, Stepped}
 use Rattle.dk_core.specs.Standing.{StandsFor, over_of}
-use Rattle.dk_core.specs.Steps.{groups_left, Steps, Stops, Answers}
+use Rattle.dk_core.specs.Steps.{groups_left, Steps, Stops, Answers, FaultAnswers}
 use Rattle.dk_core.specs.declared.session.Session.{Session}
-use Rattle.dk_base.specs.declared.faults.Fault.{Fault}
-use Rattle.dk_base.specs.declared.faults.Fault.TheVariants.{Refused, Read, NoMemory}
 use Rattle.dk_core.proofs.Stepping.{Follows, follows, split_on, room_on}
-use Rattle.std.specs.Io.KnownBytes.{prepend_known}
-use Rattle.dk_base.specs.Reading.{LineFault}
-use Rattle.std.specs.Result.{IsOk}
-use Rattle.dk_lines.specs.Reading.{left_of}
-use Rattle.dk_io.specs.Outside.{Held, Holds, Starts}
-use Rattle.dk_io.proofs.Reading.{front_nil}
+use Rattle.dk_cli.specs.WholeFile.{Within, GoesOn, ComesToEnd, FaultGives, IsBroken, TroubleGives, fresh}
 use Rattle.dk_cli.specs.declared.reading.Trouble.TheVariants as t
-use Rattle.dk_cli.specs.WholeFile.{Within, FileGoes, FileGives, HeldGives, fresh}
 
-pub file_begun : (h : History) (s : Session) (r : Reading) (o : Option (List ℕ)) → StandsFor s h → over_of s ≡ false → IfSome o (λ xs. FileGoes h r xs s r o)
+pub file_begun : (h : History) (s : Session) (r : Reading) (o : Option (List ℕ)) → StandsFor s h → over_of s ≡ false → IfSome o (λ xs. GoesOn h r xs s r o)
 file_begun h s r None stands begins = tt
 file_begun h s r (Some xs) stands begins = (
   h,
@@ -58,17 +57,17 @@ within_end h h1 h2 r new last xs ys zs over over2 found none a b =
     a.same ∙ (subst (Follows (effect_of h1) (groups_left over new true ys)) b.takes (follows (effect_of h1) (groups_left over new true ys))).1 none
 
 pub file_on : (h : History) (r new last : Reading) (o mid left : Option (List ℕ)) (s next : Session) (found : Bool)
-    → IfSome o (λ xs. FileGoes h r xs s new mid) → ((h : History) → StandsFor s h → IfSome mid (λ ys. Answers s h new ys (Ok (next, found)) last left))
-    → IfSome o (λ xs. FileGoes h r xs next last left)
+    → IfSome o (λ xs. GoesOn h r xs s new mid) → ((h : History) → StandsFor s h → IfSome mid (λ ys. Answers s h new ys (Ok (next, found)) last left))
+    → IfSome o (λ xs. GoesOn h r xs next last left)
 file_on h r new last None mid left s next found goes answers = tt
 file_on h r new last (Some xs) mid left s next found (h1, stands, (ys, is, w)) answers =
     let a : Answers s h1 new ys (Ok (next, found)) last left = subst (λ (o : Option (List ℕ)). IfSome o (λ ys. Answers s h1 new ys (Ok (next, found)) last left)) is (answers h1 stands) in
     (a.0, a.1, (a.2.0, a.2.1, within_on h h1 a.0 r new last xs ys a.2.0 (over_of s) (over_of next) found w a.2.2))
 
 pub file_end : (h : History) (r new last : Reading) (o mid left : Option (List ℕ)) (s next done : Session) (found : Bool)
-    → IfSome o (λ xs. FileGoes h r xs s new mid) → ((h : History) → StandsFor s h → IfSome mid (λ ys. Answers s h new ys (Ok (next, found)) last left))
+    → IfSome o (λ xs. GoesOn h r xs s new mid) → ((h : History) → StandsFor s h → IfSome mid (λ ys. Answers s h new ys (Ok (next, found)) last left))
     → found ≡ false → over_of next ≡ true → ((h : History) → StandsFor next h → StandsFor done (file_ended h))
-    → IfSome o (λ xs. FileGives h r xs (Ok done) last left)
+    → IfSome o (λ xs. ComesToEnd h r xs done last left)
 file_end h r new last None mid left s next done found goes answers none over ends = tt
 file_end h r new last (Some xs) mid left s next done found (h1, stands, (ys, is, w)) answers none over ends =
     let a : Answers s h1 new ys (Ok (next, found)) last left = subst (λ (o : Option (List ℕ)). IfSome o (λ ys. Answers s h1 new ys (Ok (next, found)) last left)) is (answers h1 stands) in
@@ -81,25 +80,27 @@ file_end h r new last (Some xs) mid left s next done found (h1, stands, (ys, is,
       within_end h h1 a.0 r new last xs ys a.2.0 (over_of s) (over_of next) found none w a.2.2,
     )
 
+-- a fault of the next block is the file's
 pub file_fault : (h : History) (r new last : Reading) (o mid left : Option (List ℕ)) (s : Session) (fault : Fault)
-    → IfSome o (λ xs. FileGoes h r xs s new mid) → ((h : History) → StandsFor s h → IfSome mid (λ ys. Answers s h new ys (Err fault) last left))
-    → IfSome o (λ xs. FileGives h r xs (Err fault) last left)
+    → IfSome o (λ xs. GoesOn h r xs s new mid) → ((h : History) → StandsFor s h → IfSome mid (λ ys. FaultAnswers (effect_of h) (over_of s) new ys fault left))
+    → IfSome o (λ xs. FaultGives h r xs fault left)
 file_fault h r new last None mid left s fault goes answers = tt
-file_fault h r new last (Some xs) mid left s fault (h1, stands, (ys, is, w)) answers = go fault (subst (λ (o : Option (List ℕ)). IfSome o (λ ys. Answers s h1 new ys (Err fault) last left)) is (answers h1 stands)) where
-  go : (fault : Fault) → Answers s h1 new ys (Err fault) last left → FileGives h r xs (Err fault) last left
-  go (Refused file line why) a = w.same ∙ subst (Follows (effect_of h1) (groups_left (over_of s) new true ys)) a.1 (follows (effect_of h1) (groups_left (over_of s) new true ys))
-  go Read a = (w.front ++ a.front, (a.rest, a.left_is, split_on xs w.front ys a.front a.rest w.split a.split, w.cut a.front a.rest a.split a.fine))
+file_fault h r new last (Some xs) mid left s fault (h1, stands, (ys, is, w)) answers =
+    go fault (subst (λ (o : Option (List ℕ)). IfSome o (λ ys. FaultAnswers (effect_of h1) (over_of s) new ys fault left)) is (answers h1 stands)) where
+  go : (fault : Fault) → FaultAnswers (effect_of h1) (over_of s) new ys fault left → FaultGives h r xs fault left
+  go (Refused file line why) a = w.same ∙ subst (Follows (effect_of h1) (groups_left (over_of s) new true ys)) a (follows (effect_of h1) (groups_left (over_of s) new true ys))
+  go (Read file) a = (w.front ++ a.front, (a.rest, a.left_is, split_on xs w.front ys a.front a.rest w.split a.split, w.cut a.front a.rest a.split a.fine))
   go NoMemory a = tt
 
 -- what holds where the started file's bytes are told
 pub told_read : (h : History) (r mid last : Reading) (held : Held) (xs : List ℕ) (before rest after : Option (List ℕ))
     → mid ≡ fresh r → Starts held rest → held ≡ Holds xs → last.ahead ≡ []
-    → IfSome (left_of mid rest) (λ xs. FileGives h mid xs (Err Read) last (left_of last after))
-    → HeldGives h r xs before (Err t.Read) last after
+    → IfSome (left_of mid rest) (λ xs. IsBroken h mid xs (left_of last after))
+    → TroubleGives h r xs before t.Read after
 told_read h r mid last held xs before rest after is starts holds none gives =
     let told : rest ≡ Some xs = subst (λ (h : Held). Starts h rest) holds starts in
-    let f : FileGives h (fresh r) xs (Err Read) last (left_of last after) =
-    subst (λ (o : Option (List ℕ)). IfSome (left_of (fresh r) o) (λ xs. FileGives h (fresh r) xs (Err Read) last (left_of last after))) told
-    (subst (λ (m : Reading). IfSome (left_of m rest) (λ xs. FileGives h m xs (Err Read) last (left_of last after))) is gives) in
+    let f : IsBroken h (fresh r) xs (left_of last after) =
+    subst (λ (o : Option (List ℕ)). IfSome (left_of (fresh r) o) (λ xs. IsBroken h (fresh r) xs (left_of last after))) told
+    (subst (λ (m : Reading). IfSome (left_of m rest) (λ xs. IsBroken h m xs (left_of last after))) is gives) in
     let now : after ≡ Some f.1.0 = sym (front_nil after) ∙ ap (λ (a : List ℕ). prepend_known a after) (sym none) ∙ f.1.1 in
     inr (f.0, (f.1.0, now, f.1.2, f.1.3))

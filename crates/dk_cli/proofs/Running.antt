@@ -1,30 +1,32 @@
 -- Reading file after file.
-use Rattle.std.proofs.Common.{◌≡◌, ◌≢◌, ◌≤◌, ◌<◌, ◌⊎◌, ◌+◌, ◌-◌, ℕ, zero, suc, List, [], ◌∷◌, ◌++◌, map, take, length, get_or, inl, inr, Bool, true, false, Option, Some, None, IfSome, Result, Ok, Err, refl, sym, ◌∙◌, ap, subst, arith, length-append, append_assoc}
-use Rattle.std.proofs.lemmas.List.{append-nil, take_all}
+use Rattle.std.proofs.Common.{All, ◌≡◌, ◌≢◌, ◌≤◌, ◌<◌, ◌⊎◌, ◌+◌, ◌-◌, ℕ, zero, suc, List, [], ◌∷◌, ◌++◌, map, take, length, get_or, inl, inr, Bool, true, false, Option, Some, None, IfSome, Result, Ok, Err, refl, sym, ◌∙◌, ap, subst, arith, length-append, append_assoc}
+use Rattle.std.proofs.lemmas.List.{append-nil, take_all, take-take, length-take}
 use Rattle.std.proofs.lemmas.Bool.{cases_lt}
-use Rattle.dk_base.specs.Reading.{LineFault, ◌>>=◌}
 use Rattle.std.specs.Result.{IsOk}
-use Rattle.dk_lines.proofs.Lined.{at_break}
-use Rattle.dk_lines.specs.Left.{Left}
-use Rattle.dk_core.specs.History.{Taken}
-use Rattle.dk_core.proofs.Stepping.{no_lines}
+use Rattle.dk_base.specs.Reading.{LineFault, ◌>>=◌}
 use Rattle.dk_io.specs.Outside.{Held, Absent, Holds}
-use Rattle.dk_lines.specs.declared.lines.Limits.{Limits}
-use Rattle.dk_lines.specs.Left.{lined}
+use Rattle.dk_lines.proofs.Lined.{at_break}
+use Rattle.dk_lines.specs.Left.{Left, lined}
 use Rattle.dk_lines.specs.Reading.{Reading, room_of}
+use Rattle.dk_lines.specs.declared.lines.Limits.{Limits}
+use Rattle.dk_core.proofs.Stepping.{no_lines}
 use Rattle.dk_core.specs.Blocks.{grouped}
-use Rattle.dk_core.specs.History.{History, effect_of, file_ended, no_history}
+use Rattle.dk_core.specs.History.{History, Taken, effect_of, file_ended, no_history}
 use Rattle.dk_core.specs.Reading.{after_all}
 use Rattle.dk_core.specs.Standing.{StandsFor}
 use Rattle.dk_core.specs.Steps.{groups_left}
 use Rattle.dk_core.specs.declared.session.Session.{Session}
-use Rattle.dk_cli.specs.Files.{File, whole, cut_off}
-use Rattle.dk_cli.specs.Outcome.{FileFault, at_file, file_ending, run_ending, ending_of, fault_in, first_fault, name_at}
-use Rattle.dk_cli.specs.Clauses.{AreHeld, NotStarted, Delivered}
-use Rattle.dk_cli.specs.WholeFile.{HeldGives, NamedGives, fresh}
-use Rattle.dk_cli.specs.AllFiles.{RunsOn, FilesGive, placed}
+use Rattle.dk_cli.specs.Files.{File, whole, cut_off, AreHeld}
+use Rattle.dk_cli.specs.Words.{name_at}
+use Rattle.dk_cli.specs.Ending.{FileFault, line_limit, total_limit, then_files, after_file, after_files, history_after, fault_in, first_fault}
+use Rattle.dk_cli.specs.Statuses.{rest_behind, IsDelivered, AreClean}
+use Rattle.dk_cli.specs.WholeFile.{FileGives, TroubleGives as OneGives, fresh}
+use Rattle.dk_cli.specs.AllFiles.{RunsOn, RunsOnHeld, FilesGive, TroubleGives, placed}
 use Rattle.dk_cli.specs.declared.reading.Trouble.{Trouble}
 use Rattle.dk_cli.specs.declared.reading.Trouble.TheVariants as t
+
+abbrev standard : Limits
+standard = record { line = line_limit; total = total_limit }
 
 pub name_there : {X : Type 0} (f : X → List ℕ) (ws : List X) (k : ℕ) (w : X) → k < length ws → w ≡ get_or ws k w → name_at (map f ws) k ≡ f w
 name_there f [] k w h e = absurd (omega arith)
@@ -42,11 +44,14 @@ record OneMore (file : List ℕ → Held) (names contents : List (List ℕ)) (k 
 
 one_more_suc : (file : List ℕ → Held) (names contents : List (List ℕ)) (k : ℕ) → k < length names → AreHeld file (take (suc k) names) contents → OneMore file names contents k
 one_more_suc file [] contents k h held = absurd (omega arith)
-one_more_suc file (n ∷ ns) [] k h held = absurd held
-one_more_suc file (n ∷ ns) (c ∷ []) zero h held = record { front = []; bytes = c; split = refl; held = tt; there = held.0 }
-one_more_suc file (n ∷ ns) (c ∷ d ∷ cs) zero h held = absurd held.1
-one_more_suc file (n ∷ ns) (c ∷ cs) (suc k) h held = let m = one_more_suc file ns cs k (omega arith) held.1 in
-    record { front = c ∷ m.front; bytes = m.bytes; split = ap (λ (l : List (List ℕ)). c ∷ l) m.split; held = (held.0, m.held); there = m.there }
+one_more_suc file (n ∷ ns) [] k h held = absurd (cc (held))
+one_more_suc file (n ∷ ns) (c ∷ []) zero h held = record { front = []; bytes = c; split = refl; held = refl; there = cc (held) }
+one_more_suc file (n ∷ ns) (c ∷ d ∷ cs) zero h held = absurd (cc (held))
+one_more_suc file (n ∷ ns) (c ∷ cs) (suc k) h held =
+    let m = one_more_suc file ns cs k (omega arith) (cc (held)) in
+    let first : file n ≡ Holds c = cc (held) in
+    let e : AreHeld file (take k ns) m.front = m.held in
+    record { front = c ∷ m.front; bytes = m.bytes; split = ap (λ (l : List (List ℕ)). c ∷ l) m.split; held = cc (first, e); there = m.there }
 
 one_more : (file : List ℕ → Held) (names contents : List (List ℕ)) (k : ℕ) → k < length names → AreHeld file (take (k + 1) names) contents → OneMore file names contents k
 one_more file names contents k h held =
@@ -58,86 +63,103 @@ files_of [] x fs = refl
 files_of (c ∷ cs) x fs = ap (λ (l : List File). whole c ∷ l) (files_of cs x fs)
 
 -- the groups of a started file are those of its bytes
-started_file : (r : Reading) (h : History) (is_ended : Bool) (xs : List ℕ) → r.limits ≡ record { line = 16777216; total = 1099511627776 }
-    → file_ending 16777216 (room_of r) h (record { bytes = xs; is_ended = is_ended }) ≡ after_all (effect_of h) (groups_left false (fresh r) is_ended xs)
+started_file : (r : Reading) (h : History) (is_ended : Bool) (xs : List ℕ) → r.limits ≡ standard
+    → after_file (room_of r) h (record { bytes = xs; is_ended = is_ended }) ≡ after_all (effect_of h) (groups_left false (fresh r) is_ended xs)
 started_file r h is_ended xs limits = ap (λ (l : Limits). after_all (effect_of h) (grouped (lined l.line (room_of r) 0 is_ended xs))) (sym limits)
 
-not_started : (k : ℕ) (before after : Option (List ℕ)) → after ≡ Some [] → NotStarted (k + 1) before after
-not_started k before after e = let next : suc k ≡ k + 1 = omega arith in subst (λ (n : ℕ). NotStarted n before after) next e
+next_rest : (k : ℕ) (before after : Option (List ℕ)) → after ≡ Some [] → after ≡ rest_behind (k + 1) before
+next_rest k before after e = let next : suc k ≡ k + 1 = omega arith in subst (λ (n : ℕ). after ≡ rest_behind n before) next e
 
 -- no file was read yet
-pub runs_none : (file : List ℕ → Held) (names : List (List ℕ)) (before : Option (List ℕ)) (s : Session) (r : Reading) → StandsFor s no_history → room_of r ≡ 1099511627776
-    → RunsOn file names 0 before s r before
-unfolding ending_of
-runs_none file names before s r stands room [] held = (no_history, stands, refl, λ fs. ap (λ (m : ℕ). run_ending 16777216 m no_history 0 fs) (sym room))
-runs_none file names before s r stands room (c ∷ cs) held = absurd held
+pub runs_none : (file : List ℕ → Held) (names : List (List ℕ)) (before : Option (List ℕ)) (s : Session) (r : Reading) → StandsFor s no_history → room_of r ≡ total_limit
+    → RunsOnHeld file names 0 before s r before
+unfolding history_after
+runs_none file names before s r stands room [] held = record { history = no_history; stands = stands; rest = refl; goes = λ fs. ap (λ (m : ℕ). after_files m no_history 0 fs) (sym room) }
+runs_none file names before s r stands room (c ∷ cs) held = absurd (cc (held))
 
 -- one file more was read
 pub runs_on : (file : List ℕ → Held) (names : List (List ℕ)) (k : ℕ) (before mid after : Option (List ℕ)) (s next : Session) (r last : Reading) (name : List ℕ)
-    → k < length names → name ≡ name_at names k → r.limits ≡ record { line = 16777216; total = 1099511627776 }
-    → RunsOn file names k before s r mid → NamedGives s (file name) mid r (Ok next) last after → RunsOn file names (k + 1) before next last after
+    → k < length names → name ≡ name_at names k → r.limits ≡ standard
+    → RunsOnHeld file names k before s r mid → FileGives s (file name) mid r (Ok next) last after → RunsOnHeld file names (k + 1) before next last after
 runs_on file names k before mid after s next r last name h is limits runs gives contents held =
     let m = one_more file names contents k h held in
-    let (h1, stands, waits, goes) = runs m.front m.held in
-    let (h2, stands2, rest, room, all) = gives h1 stands m.bytes (ap file is ∙ m.there) in (
-      file_ended h2,
-      stands2,
-      not_started k before after rest,
-      λ fs.
-          ap (λ (cs : List (List ℕ)). ending_of (map whole cs ++ fs)) m.split ∙ ap ending_of (files_of m.front m.bytes fs) ∙ goes (whole m.bytes ∷ fs)
-          ∙ ap (λ (e : Result History LineFault). at_file k e (λ n. run_ending 16777216 (room_of r - length m.bytes) (file_ended n) (k + 1) fs)) (started_file r h1 true m.bytes limits ∙ all)
-          ∙ ap (λ (n : ℕ). run_ending 16777216 n (file_ended h2) (k + 1) fs) (sym room),
-    )
+    let on = runs m.front m.held in
+    let (h2, stands2, rest, room, all) = gives on.history on.stands m.bytes (ap file is ∙ m.there) in record {
+      history = file_ended h2;
+      stands = stands2;
+      rest = next_rest k before after rest;
+      goes = λ fs.
+          ap (λ (cs : List (List ℕ)). history_after (map whole cs ++ fs)) m.split ∙ ap history_after (files_of m.front m.bytes fs) ∙ on.goes (whole m.bytes ∷ fs)
+          ∙ ap (λ (e : Result History LineFault). then_files k e (λ n. after_files (room_of r - length m.bytes) (file_ended n) (k + 1) fs)) (started_file r on.history true m.bytes limits ∙ all)
+          ∙ ap (λ (n : ℕ). after_files n (file_ended h2) (k + 1) fs) (sym room);
+    }
 
--- no file more: what the run over these files comes to
-alone : (file : List ℕ → Held) (names : List (List ℕ)) (k : ℕ) (before after : Option (List ℕ)) (s : Session) (r : Reading) → RunsOn file names k before s r after
-    → (contents : List (List ℕ)) → AreHeld file (take k names) contents → (h : History) × StandsFor s h × (ending_of (map whole contents) ≡ Ok h)
+-- what the run over these files alone comes to
+alone : (file : List ℕ → Held) (names : List (List ℕ)) (k : ℕ) (before after : Option (List ℕ)) (s : Session) (r : Reading) → RunsOnHeld file names k before s r after
+    → (contents : List (List ℕ)) → AreHeld file (take k names) contents
+    → (h : History) × StandsFor s h × (history_after (map whole contents) ≡ Ok h) × (after ≡ rest_behind k before)
 alone file names k before after s r runs contents held =
-    let (h, stands, waits, goes) = runs contents held in
-    (h, stands, ap ending_of (sym (append-nil (map whole contents))) ∙ goes [])
+    let on = runs contents held in
+    (on.history, on.stands, ap history_after (sym (append-nil (map whole contents))) ∙ on.goes [], on.rest)
 
-pub runs_end : (file : List ℕ → Held) (names : List (List ℕ)) (k : ℕ) (before after : Option (List ℕ)) (s : Session) (r : Reading) → length names ≤ k
-    → RunsOn file names k before s r after → FilesGive file names before (Ok s) after
-runs_end file names k before after s r h runs contents held = alone file names k before after s r runs contents (subst (λ (l : List (List ℕ)). AreHeld file l contents) (sym (take_all k names h)) held)
+pub runs_end : (file : List ℕ → Held) (names : List (List ℕ)) (k : ℕ) (before after : Option (List ℕ)) (s : Session) (r : Reading) → k ≡ length names
+    → RunsOnHeld file names k before s r after → FilesGive file names before (Ok s) after
+runs_end file names k before after s r h runs contents held =
+    subst (λ (n : ℕ). (h : History) × StandsFor s h × (history_after (map whole contents) ≡ Ok h) × (after ≡ rest_behind n before)) h
+    (alone file names k before after s r runs contents (subst (λ (l : List (List ℕ)). AreHeld file l contents) (sym (take_all k names (omega arith))) held))
 
-no_fault_at : (place : ℕ) (e : Result History LineFault) (more : History → History) → IsOk e → fault_in (at_file place e (λ n. Ok (more n))) ≡ None
+pub clean_none : (file : List ℕ → Held) (names : List (List ℕ)) → AreClean file (take 0 names)
+unfolding history_after
+clean_none file names zero [] held = refl
+clean_none file names (suc n) [] held = refl
+clean_none file names zero (c ∷ cs) held = absurd (cc (held))
+clean_none file names (suc n) (c ∷ cs) held = absurd (cc (held))
+
+-- one file more was read, and it holds no fault
+pub clean_on : (file : List ℕ → Held) (names : List (List ℕ)) (k : ℕ) (before after : Option (List ℕ)) (s : Session) (r : Reading)
+    → AreClean file (take k names) → RunsOnHeld file names (k + 1) before s r after → AreClean file (take (k + 1) names)
+clean_on file names k before after s r clean runs n contents held = elim (cases_lt k n) [
+  | inl more ↦ let all : take n (take (k + 1) names) ≡ take (k + 1) names = take_all n (take (k + 1) names) (omega (arith, length-take (k + 1) names)) in
+        ap fault_in (alone file names (k + 1) before after s r runs contents (subst (λ (l : List (List ℕ)). AreHeld file l contents) all held)).2
+  | inr less ↦ let short : take n (take (k + 1) names) ≡ take n (take k names) = take-take n (k + 1) names (omega arith) ∙ sym (take-take n k names less) in
+        clean n contents (subst (λ (l : List (List ℕ)). AreHeld file l contents) short held)
+]
+
+no_fault_at : (place : ℕ) (e : Result History LineFault) (more : History → History) → IsOk e → fault_in (then_files place e (λ n. Ok (more n))) ≡ None
 no_fault_at place (Ok h) more f = refl
-no_fault_at place (Err e) more f = absurd f
+no_fault_at place (Err e) more f = cc (f)
 
 fine_nothing : (r : Reading) (h : History) → IsOk (after_all (effect_of h) (groups_left false (fresh r) false []))
 fine_nothing r h = subst (λ (l : Left). IsOk (after_all (effect_of h) (grouped l))) (sym (at_break (fresh r)))
-    (subst (λ (e : Result Taken LineFault). IsOk (e >>= λ t. Ok t.history)) (sym (no_lines h None)) tt)
+    (subst (λ (e : Result Taken LineFault). IsOk (e >>= λ t. Ok t.history)) (sym (no_lines h None)) refl)
 
 -- a file that was cut off without a fault, behind the others
-clean_cut : (file : List ℕ → Held) (names : List (List ℕ)) (k : ℕ) (before mid : Option (List ℕ)) (s : Session) (r : Reading) (h : History) (contents : List (List ℕ)) (bytes : List ℕ)
-    → r.limits ≡ record { line = 16777216; total = 1099511627776 }
-    → ((fs : List File) → ending_of (map whole contents ++ fs) ≡ run_ending 16777216 (room_of r) h k fs)
+clean_cut : (r : Reading) (h : History) (k : ℕ) (contents : List (List ℕ)) (bytes : List ℕ) → r.limits ≡ standard
+    → ((fs : List File) → history_after (map whole contents ++ fs) ≡ after_files (room_of r) h k fs)
     → IsOk (after_all (effect_of h) (groups_left false (fresh r) false bytes))
     → first_fault (map whole contents ++ cut_off bytes ∷ []) ≡ None
-clean_cut file names k before mid s r h contents bytes limits goes fine =
-    ap fault_in (goes (cut_off bytes ∷ [])) ∙ no_fault_at k (file_ending 16777216 (room_of r) h (cut_off bytes)) file_ended
+clean_cut r h k contents bytes limits goes fine =
+    ap fault_in (goes (cut_off bytes ∷ [])) ∙ no_fault_at k (after_file (room_of r) h (cut_off bytes)) file_ended
     (subst IsOk (sym (started_file r h false bytes limits)) fine)
 
-pub runs_trouble : (file : List ℕ → Held) (names : List (List ℕ)) (k : ℕ) (before mid after : Option (List ℕ)) (s : Session) (r last : Reading) (name : List ℕ) (trouble : Trouble)
-    → k < length names → name ≡ name_at names k → r.limits ≡ record { line = 16777216; total = 1099511627776 }
-    → RunsOn file names k before s r mid → NamedGives s (file name) mid r (Err trouble) last after → FilesGive file names before (Err (placed k trouble)) after
-runs_trouble file names k before mid after s r last name (t.Refused line why) h is limits runs gives = λ contents held.
+pub runs_trouble : (file : List ℕ → Held) (names : List (List ℕ)) (k : ℕ) (before mid after : Option (List ℕ)) (s : Session) (r : Reading) (name : List ℕ) (trouble : Trouble)
+    → k < length names → name ≡ name_at names k → r.limits ≡ standard → RunsOnHeld file names k before s r mid
+    → ((h : History) → StandsFor s h → (xs : List ℕ) → file name ≡ Holds xs → OneGives h r xs mid trouble after)
+    → TroubleGives file names before (placed k trouble) after
+runs_trouble file names k before mid after s r name (t.Refused line why) h is limits runs gives = λ contents held.
     let m = one_more file names contents k h held in
-    let (h1, stands, waits, goes) = runs m.front m.held in
-    ap (λ (cs : List (List ℕ)). first_fault (map whole cs)) m.split
-    ∙ ap first_fault (sym (append-nil (map whole (m.front ++ m.bytes ∷ []))) ∙ files_of m.front m.bytes [])
-    ∙ ap fault_in (goes (whole m.bytes ∷ []))
-    ∙ ap (λ (e : Result History LineFault). fault_in (at_file k e (λ n. Ok (file_ended n)))) (started_file r h1 true m.bytes limits ∙ gives h1 stands m.bytes (ap file is ∙ m.there))
-runs_trouble file names k before mid after s r last name t.Read h is limits runs gives = (clean, λ contents held. ap fault_in (alone file names k before mid s r runs contents held).2) where
-  clean : (contents : List (List ℕ)) (xs : List ℕ) → AreHeld file (take k names) contents → file (name_at names k) ≡ Holds xs →
-      (bytes : List ℕ) × Delivered k xs before after bytes × (first_fault (map whole contents ++ cut_off bytes ∷ []) ≡ None)
-  clean contents xs held holds =
-      let (h1, stands, waits, goes) = runs contents held in
-      elim (gives h1 stands xs (ap file is ∙ holds)) [
-        | inl e ↦ ([], inl (refl, subst (λ (o : Option (List ℕ)). NotStarted k before o) (sym e) waits), clean_cut file names k before mid s r h1 contents [] limits goes (fine_nothing r h1))
-        | inr (front, (rest, now, split, fine)) ↦ (front, inr (rest, now, split), clean_cut file names k before mid s r h1 contents front limits goes fine)
-      ]
-runs_trouble file names k before mid after s r last name t.NoMemory h is limits runs gives = tt
+    let on = runs m.front m.held in
+    ap (λ (cs : List (List ℕ)). history_after (map whole cs)) m.split
+    ∙ ap history_after (sym (append-nil (map whole (m.front ++ m.bytes ∷ []))) ∙ files_of m.front m.bytes [])
+    ∙ on.goes (whole m.bytes ∷ [])
+    ∙ ap (λ (e : Result History LineFault). then_files k e (λ n. Ok (file_ended n))) (started_file r on.history true m.bytes limits ∙ gives on.history on.stands m.bytes (ap file is ∙ m.there))
+runs_trouble file names k before mid after s r name t.Read h is limits runs gives = λ contents xs held holds.
+    let on = runs contents held in
+    elim (gives on.history on.stands xs (ap file is ∙ holds)) [
+      | inl e ↦ ([], inl (refl, e ∙ on.rest), clean_cut r on.history k contents [] limits on.goes (fine_nothing r on.history))
+      | inr (front, (rest, now, split, fine)) ↦ (front, inr (rest, now, split), clean_cut r on.history k contents front limits on.goes fine)
+    ]
+runs_trouble file names k before mid after s r name t.NoMemory h is limits runs gives = tt
 
 pub there_more : (file : List ℕ → Held) (names : List (List ℕ)) (k : ℕ) (name : List ℕ) → name ≡ name_at names k → ((j : ℕ) → j < k → file (name_at names j) ≢ Absent) → file name ≢ Absent
     → (j : ℕ) → j < k + 1 → file (name_at names j) ≢ Absent
@@ -145,3 +167,11 @@ there_more file names k name is below here j h = elim (cases_lt j k) [
   | inl l ↦ below j l
   | inr g ↦ let same : k ≡ j = omega (arith, g, h) in subst (λ (i : ℕ). file (name_at names i) ≢ Absent) same (subst (λ (n : List ℕ). file n ≢ Absent) is here)
 ]
+
+-- no file of the names is absent
+pub all_there : (file : List ℕ → Held) (names : List (List ℕ)) → ((k : ℕ) → k < length names → file (name_at names k) ≢ Absent) → All (λ n. file n ≢ Absent) names
+all_there file names there = λ k d h. subst (λ (n : List ℕ). file n ≢ Absent) (at names k d h) (there k h) where
+  at : (names : List (List ℕ)) (k : ℕ) (d : List ℕ) → k < length names → name_at names k ≡ get_or names k d
+  at [] k d h = absurd (omega arith)
+  at (n ∷ ns) zero d h = refl
+  at (n ∷ ns) (suc k) d h = at ns k d (omega arith)

@@ -1,75 +1,94 @@
 -- What each end of a run says.
-use Rattle.std.proofs.Common.{◌≡◌, ◌≢◌, ◌≤◌, ◌<◌, ◌⊎◌, ◌+◌, inl, inr, ℕ, zero, suc, List, [], ◌∷◌, ◌++◌, map, take, length, get_or, Option, Some, None, IfSome, Result, Ok, Err, Bool, true, false, ◌==◌, All, refl, sym, ◌∙◌, ap, subst, arith}
-use Rattle.dk_io.specs.Outside.{Held, Absent, Holds, Starts}
-use Rattle.dk_io.specs.Streams.{Texts, added, AddsFront}
-use Rattle.dk_io.specs.declared.outside.Stream.{Stream}
-use Rattle.dk_io.specs.declared.outside.Stream.TheVariants.{Report, Messages, State}
+use Rattle.std.proofs.Common.{◌≡◌, ◌≢◌, ◌≤◌, ◌<◌, ◌⊎◌, ◌+◌, inl, inr, ℕ, zero, suc, List, [], ◌∷◌, ◌++◌, map, take, length, get_or, Option, Some, None, Result, Ok, Err, All, refl, sym, ◌∙◌, ap, subst, arith}
+use Rattle.std.proofs.lemmas.Option.{unwrap_or-slice_get}
+use Rattle.dk_base.specs.declared.why.Why.{Why}
+use Rattle.dk_io.specs.Outside.{Held, Absent, Rose}
+use Rattle.dk_io.specs.Streams.{Texts}
+use Rattle.dk_io.specs.declared.outside.Stream.TheVariants.{Report, Messages}
+use Rattle.dk_core.specs.History.{History}
+use Rattle.dk_core.specs.declared.session.Session.{Session}
+use Rattle.dk_cli.specs.Files.{whole, AreHeld}
+use Rattle.dk_cli.specs.Words.{name_at}
+use Rattle.dk_cli.specs.Ending.{FileFault, history_after, fault_in}
+use Rattle.dk_cli.specs.Messages.{fault_line}
+use Rattle.dk_cli.specs.Output.{Output, only_on, output_at, unread_output, usage_output, followed, FollowedByFront}
+use Rattle.dk_cli.specs.Statuses.{Outside, AreClean, ComesTo, IsCutShort, Says}
+use Rattle.dk_cli.specs.Telling.{Tells, TellsReport}
+use Rattle.dk_cli.specs.AllFiles.{FilesGive, TroubleGives, IsCaused}
+use Rattle.dk_cli.specs.declared.reading.FilesTrouble.TheVariants as t
 use Rattle.dk_cli.specs.declared.status.Status.{Status}
 use Rattle.dk_cli.specs.declared.status.Status.TheVariants.{Done, Refused, Usage, Read, Write, NoMemory}
-use Rattle.dk_cli.specs.Files.{File, whole, cut_off}
-use Rattle.dk_cli.specs.Outcome.{FileFault, first_fault, cannot_read, fault_text, usage_text}
-use Rattle.dk_cli.specs.Telling.{Tells, Ends}
-use Rattle.dk_cli.specs.Clauses.{names_of, AreHeld, Says, IsDue, Delivered}
-use Rattle.dk_base.specs.declared.why.Why.{Why}
-use Rattle.dk_core.specs.History.{History, report_of}
-use Rattle.dk_core.specs.Standing.{StandsFor}
-use Rattle.dk_core.specs.declared.session.Session.{Session}
-use Rattle.dk_cli.specs.declared.reading.FilesTrouble.TheVariants as f
-use Rattle.dk_cli.specs.Outcome.{ending_of, fault_in, report_in, fault_line, name_at}
-use Rattle.dk_cli.specs.AllFiles.{FilesGive, IsCaused}
-use Rattle.dk_cli.specs.Telling.{TellsReport}
 
-pub ends_says : (file : List ℕ → Held) (command : Option (List (List ℕ))) (before after : Option (List ℕ)) (rose bad : Type 0) (old new : Texts) (stream : Stream) (text : List ℕ) (status result : Status)
-    → IsDue file command rose stream text → (new ≡ added old stream text → Says status file command before after rose bad old new)
-    → Ends old stream text status bad result new → Says result file command before after rose bad old new
-ends_says file command before after rose bad old new stream text status result due says (inl (e, n)) = subst (λ (s : Status). Says s file command before after rose bad old new) (sym e) (out command) where
-  out : (c : Option (List (List ℕ))) → Says NoMemory file c before after rose bad old new
-  out None = inl n
-  out (Some names) = inl n
-ends_says file command before after rose bad old new stream text status result due says (inr (inl (e, n))) = subst (λ (s : Status). Says s file command before after rose bad old new) (sym e) (says n)
-ends_says file command before after rose bad old new stream text status result due says (inr (inr (e, b, f))) = subst (λ (s : Status). Says s file command before after rose bad old new) (sym e) (out command due) where
-  out : (c : Option (List (List ℕ))) → IsDue file c rose stream text → Says Write file c before after rose bad old new
-  out None d = (b, inr (stream, text, d, f))
-  out (Some names) d = (b, inr (stream, text, d, f))
+-- a run that comes to an end and told its output says so
+comes_to_says : (status : Status) (names : Option (List (List ℕ))) (before after : Outside) (output : Output)
+    → ComesTo status names before after output → after.written ≡ followed before.written output → Says status names before after
+comes_to_says Done names before after output comes e = (output, comes, e)
+comes_to_says Refused names before after output comes e = (output, comes, e)
+comes_to_says Usage names before after output comes e = (output, comes, e)
+comes_to_says Read names before after output comes e = (output, comes, e)
+comes_to_says Write (Some names) before after output comes e = absurd comes
+comes_to_says Write None before after output comes e = absurd comes
+comes_to_says NoMemory (Some names) before after output comes e = absurd comes
+comes_to_says NoMemory None before after output comes e = absurd comes
 
-pub names_some : {X : Type 0} (f : X → List ℕ) (ws : List X) → 0 < length ws → names_of (map f ws) ≡ Some (map f ws)
-names_some f [] h = absurd (omega arith)
-names_some f (w ∷ ws) h = refl
+pub tells_says : (status : Status) (names : Option (List (List ℕ))) (before after : Outside) (output : Output) (result : Status)
+    → ComesTo status names before after output
+    → Tells status output before.written after.written (Rose before.write_faults after.write_faults) result
+    → Says result names before after
+tells_says status names before after output result comes (inl (is, e)) = subst (λ (s : Status). Says s names before after) (sym is) (comes_to_says status names before after output comes e)
+tells_says status names before after output result comes (inr (inl (is, rose, front))) = subst (λ (s : Status). Says s names before after) (sym is) (rose, inr (status, output, comes, front))
+tells_says status names before after output result comes (inr (inr (is, e))) = subst (λ (s : Status). Says s names before after) (sym is) (inl e)
 
-name_is : (names : List (List ℕ)) (k : ℕ) (d : List ℕ) → k < length names → name_at names k ≡ get_or names k d
-name_is [] k d h = absurd (omega arith)
-name_is (n ∷ ns) zero d h = refl
-name_is (n ∷ ns) (suc k) d h = name_is ns k d (omega arith)
-
-all_there : (file : List ℕ → Held) (names : List (List ℕ)) → ((k : ℕ) → k < length names → file (name_at names k) ≢ Absent) → All (λ n. file n ≢ Absent) names
-all_there file names there = λ k d h. subst (λ (n : List ℕ). file n ≢ Absent) (name_is names k d h) (there k h)
-
--- the report was due, and what was written of it
-pub report_says : (file : List ℕ → Held) (names : List (List ℕ)) (before after : Option (List ℕ)) (rose bad : Type 0) (old new : Texts) (s : Session) (result : Status)
-    → FilesGive file names before (Ok s) after → IsCaused file names rose (Ok s) → TellsReport s old bad result new → Says result file (Some names) before after rose bad old new
-report_says file names before after rose bad old new s result gives there (inl (e, n)) = subst (λ (s : Status). Says s file (Some names) before after rose bad old new) (sym e) (inl n)
-report_says file names before after rose bad old new s result gives there (inr (text, is, tells)) =
-    let due : IsDue file (Some names) rose Report text = λ contents held.
-    let (h, stands, e) = gives contents held in (ap fault_in e, is h stands ∙ ap report_in (sym e)) in
-    ends_says file (Some names) before after rose bad old new Report text Done result due
-    (λ n. record { none_absent = all_there file names there; output = λ contents held. ((due contents held).0, n ∙ ap (λ (t : List ℕ). added old Report t) (due contents held).1) })
-    (inr tells)
+-- the report was due
+pub report_says : (names : List (List ℕ)) (before after : Outside) (session : Session) (result : Status)
+    → FilesGive before.file names before.rest (Ok session) after.rest → AreClean before.file names
+    → All (λ name. before.file name ≢ Absent) names
+    → TellsReport session before.written after.written (Rose before.write_faults after.write_faults) result
+    → Says result (Some names) before after
+report_says names before after session result gives clean there (inl (is, e)) = subst (λ (s : Status). Says s (Some names) before after) (sym is) (inl e)
+report_says names before after session result gives clean there (inr (text, is, tells)) =
+    tells_says Done (Some names) before after (only_on Report text) result
+    (record {
+      none_absent = there;
+      no_message = refl;
+      clean = clean;
+      all_read = λ contents held. (gives contents held).3;
+      defined = λ contents held. let (h, stands, e, rest) = gives contents held in ap (λ (t : List ℕ). only_on Report t) (is h stands) ∙ ap (output_at names) (sym e);
+    })
+    tells
 
 -- the message of a refused file was due
-pub refused_says : (file : List ℕ → Held) (names : List (List ℕ)) (before after : Option (List ℕ)) (rose bad : Type 0) (old new : Texts) (place line : ℕ) (why : Why) (name : List ℕ) (result : Status)
-    → name ≡ name_at names place → FilesGive file names before (Err (f.Refused place line why)) after → Ends old Messages (fault_line name line why) Refused bad result new
-    → Says result file (Some names) before after rose bad old new
-refused_says file names before after rose bad old new place line why name result is gives ends =
-    let fault : FileFault = record { file = place; line = line; why = why } in
-    ends_says file (Some names) before after rose bad old new Messages (fault_text names fault) Refused result (inl (fault, refl, gives))
-    (λ n. record { fault = fault; message = n; first = gives })
-    (subst (λ (n : List ℕ). Ends old Messages (fault_line n line why) Refused bad result new) is ends)
+pub refused_says : (names : List (List ℕ)) (before after : Outside) (place line : ℕ) (why : Why) (name : List ℕ) (result : Status)
+    → name ≡ name_at names place → place < length names → TroubleGives before.file names before.rest (t.Refused place line why) after.rest → AreClean before.file (take place names)
+    → Tells Refused (only_on Messages (fault_line name line why)) before.written after.written (Rose before.write_faults after.write_faults) result
+    → Says result (Some names) before after
+refused_says names before after place line why name result is there gives clean tells =
+    let line_is : fault_line name line why ≡ fault_line (name_at names place) line why = ap (λ (n : List ℕ). fault_line n line why) is in
+    tells_says Refused (Some names) before after (only_on Messages (fault_line name line why)) result
+    (record {
+      fault = record { file = place; line = line; why = why };
+      named = there;
+      message = line_is;
+      clean_before = clean;
+      first = λ contents held. ap fault_in (gives contents held);
+      defined = λ contents held. ap (λ (t : List ℕ). only_on Messages t) line_is ∙ ap (output_at names) (sym (gives contents held));
+    })
+    tells
 
 -- the message of a file that can't be read was due
-pub unread_says : (file : List ℕ → Held) (names : List (List ℕ)) (before after : Option (List ℕ)) (rose bad : Type 0) (old new : Texts) (place : ℕ) (name : List ℕ) (result : Status)
-    → name ≡ name_at names place → place < length names → FilesGive file names before (Err (f.Read place)) after → IsCaused file names rose (Err (f.Read place))
-    → Ends old Messages (cannot_read name) Read bad result new → Says result file (Some names) before after rose bad old new
-unread_says file names before after rose bad old new place name result is there gives cause ends =
-    ends_says file (Some names) before after rose bad old new Messages (cannot_read (name_at names place)) Read result (inr (place, there, refl, cause))
-    (λ n. record { place = place; place_is = there; message = n; cause = cause; clean = gives.0; clean_before = gives.1 })
-    (subst (λ (n : List ℕ). Ends old Messages (cannot_read n) Read bad result new) is ends)
+pub unread_says : (names : List (List ℕ)) (before after : Outside) (place : ℕ) (name : List ℕ) (result : Status)
+    → name ≡ name_at names place → place < length names → TroubleGives before.file names before.rest (t.Read place) after.rest → AreClean before.file (take place names)
+    → IsCaused before.file names (Rose before.read_faults after.read_faults) (t.Read place)
+    → Tells Read (unread_output name) before.written after.written (Rose before.write_faults after.write_faults) result
+    → Says result (Some names) before after
+unread_says names before after place name result is there gives clean cause tells =
+    tells_says Read (Some names) before after (unread_output name) result
+    (record { place = place; named = there; cause = cause; defined = ap unread_output is; clean_before = clean; clean = gives })
+    tells
+
+-- the usage line was due
+pub usage_says : (names : Option (List (List ℕ))) (before after : Outside) (result : Status) → None ≡ names
+    → Tells Usage usage_output before.written after.written (Rose before.write_faults after.write_faults) result
+    → Says result names before after
+usage_says None before after result none tells = tells_says Usage None before after usage_output result refl tells
+usage_says (Some names) before after result none tells = absurd (cc (none))

@@ -1,12 +1,13 @@
-// Reading files.
-ghost use Rattle.std.specs.Prelude.{◌≡◌, ◌≢◌, ◌≤◌, ◌<◌, ◌⊎◌, length, string_bytes, ◌∷◌, [], List, ℕ, map, take, Some, None, IfOk, OnOk, OnErr, IfSome, IsErrOf, true, false, is_ok};
+// Reading the files of a run, one after another.
+ghost use Rattle.std.specs.Prelude.{All, ◌≡◌, ◌≢◌, ◌≤◌, ◌<◌, ◌⊎◌, length, string_bytes, ◌∷◌, [], List, ℕ, map, take, Some, None, IfOk, IfErr, OnOk, OnErr, IfSome, IsErrOf, true, false, is_ok};
 ghost use Rattle.dk_io.specs.Outside.{Absent, Rose, Starts};
 ghost use Rattle.dk_lines.specs.Reading.{left_of};
 ghost use Rattle.dk_core.specs.History.{History};
 ghost use Rattle.dk_core.specs.Standing.{StandsFor, over_of};
-ghost use Rattle.dk_cli.specs.WholeFile.{FileGives, NamedGives};
-ghost use Rattle.dk_cli.specs.AllFiles.{FilesGive, IsPlaced, IsCaused, placed};
-ghost use Rattle.dk_cli.specs.Outcome.{name_at as nth_name};
+ghost use Rattle.dk_cli.specs.WholeFile.{StartedGives, FileGives};
+ghost use Rattle.dk_cli.specs.Statuses.{AreClean};
+ghost use Rattle.dk_cli.specs.AllFiles.{FilesGive, IsCleanBefore, IsPlaced, IsCaused, placed};
+ghost use Rattle.dk_cli.specs.Words.{name_at as nth_name};
 
 use dk_base::{Fault, Why};
 use dk_core::Session;
@@ -38,9 +39,9 @@ fn read_started<I: Inputs>(
 ) -> Result<Session, Fault>
     requires started { lines.old.is_started ≡ true }
     requires begins { over_of session ≡ false }
-    ensures gives { (h : History) → StandsFor session h → IfSome (left_of lines.old (I.rest inputs.old))
-        (λ xs. FileGives h lines.old xs result lines.new (left_of lines.new (I.rest inputs.new))) }
-    ensures over { IfOk result (λ s. over_of s ≡ false) }
+    ensures gives { (history : History) → StandsFor session history → IfSome (left_of lines.old (I.rest inputs.old))
+        (λ xs. StartedGives history lines.old xs result lines.new (left_of lines.new (I.rest inputs.new))) }
+    ensures over { IfOk result (λ next. over_of next ≡ false) }
     ensures limits { lines.new.limits ≡ lines.old.limits }
     ensures emptied { (file : ℕ) → IsErrOf result (Fault.Read file) → lines.new.ahead ≡ [] }
     ensures files { I.file inputs.new ≡ I.file inputs.old }
@@ -65,8 +66,8 @@ fn read_file<I: Inputs>(
     lines: &mut Lines,
 ) -> Result<Session, Trouble>
     requires { over_of session ≡ false }
-    ensures gives { NamedGives session (I.file inputs.old name.now) (I.rest inputs.old) lines.old result lines.new (I.rest inputs.new) }
-    ensures over { IfOk result (λ s. over_of s ≡ false) }
+    ensures gives { FileGives session (I.file inputs.old name.now) (I.rest inputs.old) lines.old result lines.new (I.rest inputs.new) }
+    ensures over { IfOk result (λ next. over_of next ≡ false) }
     ensures there { OnOk result (I.file inputs.old name.now ≢ Absent) }
     ensures limits { lines.new.limits ≡ lines.old.limits }
     ensures files { I.file inputs.new ≡ I.file inputs.old }
@@ -102,15 +103,18 @@ fn at_place(place: usize, trouble: Trouble) -> FilesTrouble
     }
 }
 
-/// Reads the files one after another.
+/// Reads the files of these names, one after another.
 pub(crate) fn read_files<I: Inputs>(
     alloc: Global,
     names: &[String],
     inputs: &mut I,
 ) -> Result<Session, FilesTrouble>
     ensures gives { FilesGive (I.file inputs.old) (map string_bytes names.now) (I.rest inputs.old) result (I.rest inputs.new) }
-    ensures place { IsPlaced (length names.now) result }
-    ensures cause { IsCaused (I.file inputs.old) (map string_bytes names.now) (Rose (I.faults inputs.old) (I.faults inputs.new)) result }
+    ensures there { OnOk result (All (λ name. I.file inputs.old name ≢ Absent) (map string_bytes names.now)) }
+    ensures clean { IfOk result (λ _. AreClean (I.file inputs.old) (map string_bytes names.now)) }
+    ensures clean_before { IfErr result (λ trouble. IsCleanBefore (I.file inputs.old) (map string_bytes names.now) trouble) }
+    ensures place { IfErr result (λ trouble. IsPlaced (length names.now) trouble) }
+    ensures cause { IfErr result (λ trouble. IsCaused (I.file inputs.old) (map string_bytes names.now) (Rose (I.faults inputs.old) (I.faults inputs.new)) trouble) }
     ensures files { I.file inputs.new ≡ I.file inputs.old }
     ensures later { I.faults inputs.old ≤ I.faults inputs.new }
 {

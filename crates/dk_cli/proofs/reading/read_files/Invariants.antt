@@ -1,8 +1,9 @@
-use Rattle.std.proofs.Common.{◌≡◌, ◌≢◌, ◌≤◌, ◌<◌, ℕ, false, map, string_bytes}
+use Rattle.std.proofs.Common.{◌≡◌, ◌≢◌, ◌≤◌, ◌<◌, ℕ, false, map, take, string_bytes}
 use Rattle.dk_io.specs.Outside.{Absent}
 use Rattle.dk_core.specs.Standing.{over_of}
-use Rattle.dk_cli.specs.Outcome.{name_at}
-use Rattle.dk_cli.specs.AllFiles.{RunsOn}
+use Rattle.dk_cli.specs.Words.{name_at}
+use Rattle.dk_cli.specs.Statuses.{AreClean}
+use Rattle.dk_cli.specs.AllFiles.{RunsOnHeld}
 use Rattle.dk_cli.proofs.reading.read_files.Given as goal
 
 abbrev pub invariant-loop-place : goal.invariant-loop-place
@@ -12,5 +13,6 @@ invariant-loop-place g l = record {
   files : g.I.Inputs.file l.inputs ≡ g.I.Inputs.file l.fn.inputs;
   later : g.I.Inputs.faults l.fn.inputs ≤ g.I.Inputs.faults l.inputs;
   there : (k : ℕ) → k < l.place → g.I.Inputs.file l.fn.inputs (name_at (map string_bytes l.names) k) ≢ Absent;
-  runs : RunsOn (g.I.Inputs.file l.fn.inputs) (map string_bytes l.names) l.place (g.I.Inputs.rest l.fn.inputs) l.session l.lines (g.I.Inputs.rest l.inputs);
+  clean : AreClean (g.I.Inputs.file l.fn.inputs) (take l.place (map string_bytes l.names));
+  runs : RunsOnHeld (g.I.Inputs.file l.fn.inputs) (map string_bytes l.names) l.place (g.I.Inputs.rest l.fn.inputs) l.session l.lines (g.I.Inputs.rest l.inputs);
 }

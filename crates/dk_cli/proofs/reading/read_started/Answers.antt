@@ -28,7 +28,4 @@ returns-in-Ok-default-false-clause-gives g c h stands =
     file_end h c.args.lines.now c.steps.lines c.block.new.lines _ _ _ c.steps.session c.in-Ok-default-false.next c.end_file.result false (c.steps.invariant.goes h stands) answers refl over c.end_file.ensures.stands
 
 pub returns-in-Err-clause-gives : goal.returns-in-Err-clause-gives
-returns-in-Err-clause-gives g c h stands =
-    let is : c.block.result ≡ Err c.in-Err.fault = search rules in
-    let answers = λ (h : History) (stands : StandsFor c.steps.session h). subst (λ (a : Result (Session × Bool) Fault). IfSome (left_of c.steps.lines (g.I.Inputs.rest c.steps.inputs)) (λ ys. Answers c.steps.session h c.steps.lines ys a c.block.new.lines (left_of c.block.new.lines (g.I.Inputs.rest c.block.new.inputs)))) is (c.block.ensures.gives h stands) in
-    file_fault h c.args.lines.now c.steps.lines c.block.new.lines _ _ _ c.steps.session c.in-Err.fault (c.steps.invariant.goes h stands) answers
+returns-in-Err-clause-gives g c h stands = file_fault h c.args.lines.now c.steps.lines c.block.new.lines _ _ _ c.steps.session c.in-Err.fault (c.steps.invariant.goes h stands) c.in-Err.ensures.gives

@@ -2,7 +2,7 @@ use Rattle.std.proofs.Common.{◌≡◌, ◌≤◌, ◌-◌, ◌+◌, ◌*◌, n
 use Rattle.dk_lines.specs.Reading.{left_of}
 use Rattle.dk_core.specs.History.{History}
 use Rattle.dk_core.specs.Standing.{StandsFor, over_of}
-use Rattle.dk_cli.specs.WholeFile.{FileGoes}
+use Rattle.dk_cli.specs.WholeFile.{GoesOn}
 use Rattle.dk_cli.proofs.reading.read_started.Given as goal
 
 abbrev pub invariant-steps : goal.invariant-steps
@@ -12,7 +12,7 @@ invariant-steps g l = record {
   files : g.I.Inputs.file l.inputs ≡ g.I.Inputs.file l.fn.inputs;
   later : g.I.Inputs.faults l.fn.inputs ≤ g.I.Inputs.faults l.inputs;
   goes : (h : History) → StandsFor l.fn.session h → IfSome (left_of l.fn.lines (g.I.Inputs.rest l.fn.inputs))
-      (λ xs. FileGoes h l.fn.lines xs l.session l.lines (left_of l.lines (g.I.Inputs.rest l.inputs)));
+      (λ xs. GoesOn h l.fn.lines xs l.session l.lines (left_of l.lines (g.I.Inputs.rest l.inputs)));
 }
 
 abbrev pub decreases-steps : goal.decreases-steps

@@ -1,18 +1,21 @@
-// The texts of messages.
+// The messages of the command.
 ghost use Rattle.std.specs.Prelude.{◌≡◌, ◌∷◌, [], IfOk, string_bytes};
-ghost use Rattle.dk_cli.specs.Outcome.{cannot_read, fault_line, usage_text};
+ghost use Rattle.dk_cli.specs.Messages.{fault_line, unread_line};
 
 use dk_base::Why;
 use std::alloc::{AllocError, Global};
 
-pub(crate) const USAGE: &str = "usage: daikon FILE..\n";
+/// The words are refused.
+pub(crate) const USAGE_LINE: &str = "usage: daikon FILE\n";
 
-pub(crate) fn cannot_read(alloc: Global, name: &str) -> Result<String, AllocError>
-    ensures { IfOk result (λ text. string_bytes text ≡ cannot_read name.now) }
+/// A file can't be read.
+pub(crate) fn unread_line(alloc: Global, name: &str) -> Result<String, AllocError>
+    ensures { IfOk result (λ text. string_bytes text ≡ unread_line name.now) }
 {
     format!(in alloc; "daikon: cannot read {name}\n")
 }
 
+/// A line of a file is refused.
 pub(crate) fn fault_line(
     alloc: Global,
     name: &str,
