@@ -1,15 +1,15 @@
 -- A run over files that are held comes to its end.
-use Rattle.std.proofs.Common.{◌≡◌, ◌≢◌, ◌≤◌, ◌<◌, ◌⊎◌, ◌+◌, ◌-◌, inl, inr, ℕ, zero, suc, List, [], ◌∷◌, ◌++◌, map, take, length, Option, Some, None, IfSome, Result, Ok, Err, refl, sym, ◌∙◌, ap, subst, arith}
+use Rattle.std.proofs.Common.{◌≡◌, ◌≤◌, ◌<◌, ◌⊎◌, ◌+◌, ◌-◌, inl, inr, ℕ, zero, suc, List, [], ◌∷◌, map, take, length, Option, Some, None, IfSome, Result, Ok, Err, refl, sym, ◌∙◌, ap, subst, arith}
 use Rattle.std.proofs.lemmas.Bool.{cases_lt}
 use Rattle.std.proofs.lemmas.List.{take_all, take-take, take-map, length-take}
 use Rattle.dk_base.specs.Reading.{LineFault}
 use Rattle.dk_io.specs.Outside.{Held, Absent, Holds, Rose}
 use Rattle.dk_core.specs.History.{History, no_history, file_ended}
-use Rattle.dk_cli.specs.Files.{File, whole, cut_off, AreHeld}
+use Rattle.dk_cli.specs.Files.{File, whole, AreHeld}
 use Rattle.dk_cli.specs.Words.{name_at}
 use Rattle.dk_cli.specs.Ending.{FileFault, total_limit, then_files, after_file, after_files, history_after, fault_in, first_fault}
 use Rattle.dk_cli.specs.Output.{Output, output_at, output_of, followed}
-use Rattle.dk_cli.specs.Statuses.{Outside, Says, IsCalm, AreClean, GivesOutput, IsComplete, IsRefused}
+use Rattle.dk_cli.specs.Statuses.{Outside, Says, IsCalm, AreClean, IsComplete, IsRefused}
 use Rattle.dk_cli.specs.declared.status.Status.{Status}
 use Rattle.dk_cli.specs.declared.status.Status.TheVariants.{Done, Refused, Usage, Read, Write, NoMemory}
 
@@ -109,7 +109,8 @@ complete_of names before after Read (output, comes, e) calm = record {
 complete_of names before after Write (rose, cut) calm = absurd (calm.write rose)
 complete_of names before after NoMemory cut calm = record { done = λ contents held none. inr refl; refused = λ n contents fault held first. inr refl }
 
-pub complete_says : (names : Option (List (List ℕ))) (before after : Outside) (result : Status) → Says result names before after
-    → IfSome names (λ names. IsCalm before after → IsComplete names before after result)
-complete_says None before after result says = tt
-complete_says (Some names) before after result says = complete_of names before after result says
+pub complete_says : (words : Option (List (List ℕ))) (names : List (List ℕ)) (before after : Outside) (result : Status) → Some names ≡ words → Says result (Some names) before after
+    → IfSome words (λ names. IsCalm before after → IsComplete names before after result)
+complete_says None names before after result is says = tt
+complete_says (Some all) names before after result is says = let same : names ≡ all = cc in
+    subst (λ (l : List (List ℕ)). IsCalm before after → IsComplete l before after result) same (complete_of names before after result says)

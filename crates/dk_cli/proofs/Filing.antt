@@ -1,19 +1,17 @@
 -- Reading a file block by block.
-use Rattle.std.proofs.Common.{◌≡◌, ◌≤◌, ◌<◌, ◌⊎◌, ◌+◌, ◌-◌, ℕ, zero, suc, List, [], ◌∷◌, ◌++◌, length, inl, inr, Bool, true, false, Option, Some, None, IfSome, Result, Ok, Err, refl, sym, ◌∙◌, ap, subst, arith, length-append, append_assoc}
+use Rattle.std.proofs.Common.{◌≡◌, ◌-◌, ℕ, List, [], ◌++◌, length, inr, Bool, true, false, Option, Some, None, IfSome, Ok, refl, sym, ◌∙◌, ap, subst, arith, append_assoc}
 use Rattle.std.proofs.lemmas.List.{append-nil}
 use Rattle.std.specs.Io.KnownBytes.{prepend_known}
 use Rattle.std.specs.Result.{IsOk}
-use Rattle.dk_base.specs.Reading.{LineFault}
 use Rattle.dk_base.specs.declared.faults.Fault.{Fault}
 use Rattle.dk_base.specs.declared.faults.Fault.TheVariants.{Refused, Read, NoMemory}
 use Rattle.dk_io.specs.Outside.{Held, Holds, Starts}
 use Rattle.dk_io.proofs.Reading.{front_nil}
 use Rattle.dk_lines.specs.Reading.{Reading, room_of, left_of}
-use Rattle.dk_core.specs.Blocks.{Groups}
 use Rattle.dk_core.specs.History.{History, effect_of, file_ended}
-use Rattle.dk_core.specs.Reading.{after_all, after_next, Stepped}
+use Rattle.dk_core.specs.Reading.{after_all}
 use Rattle.dk_core.specs.Standing.{StandsFor, over_of}
-use Rattle.dk_core.specs.Steps.{groups_left, Steps, Stops, Answers, FaultAnswers}
+use Rattle.dk_core.specs.Steps.{groups_left, Steps, Answers, FaultAnswers}
 use Rattle.dk_core.specs.declared.session.Session.{Session}
 use Rattle.dk_core.proofs.Stepping.{Follows, follows, split_on, room_on}
 use Rattle.dk_cli.specs.WholeFile.{Within, GoesOn, ComesToEnd, FaultGives, IsBroken, TroubleGives, fresh}
@@ -87,10 +85,10 @@ pub file_fault : (h : History) (r new last : Reading) (o mid left : Option (List
 file_fault h r new last None mid left s fault goes answers = tt
 file_fault h r new last (Some xs) mid left s fault (h1, stands, (ys, is, w)) answers =
     go fault (subst (λ (o : Option (List ℕ)). IfSome o (λ ys. FaultAnswers (effect_of h1) (over_of s) new ys fault left)) is (answers h1 stands)) where
-  go : (fault : Fault) → FaultAnswers (effect_of h1) (over_of s) new ys fault left → FaultGives h r xs fault left
-  go (Refused file line why) a = w.same ∙ subst (Follows (effect_of h1) (groups_left (over_of s) new true ys)) a (follows (effect_of h1) (groups_left (over_of s) new true ys))
-  go (Read file) a = (w.front ++ a.front, (a.rest, a.left_is, split_on xs w.front ys a.front a.rest w.split a.split, w.cut a.front a.rest a.split a.fine))
-  go NoMemory a = tt
+      go : (fault : Fault) → FaultAnswers (effect_of h1) (over_of s) new ys fault left → FaultGives h r xs fault left
+      go (Refused file line why) a = w.same ∙ subst (Follows (effect_of h1) (groups_left (over_of s) new true ys)) a (follows (effect_of h1) (groups_left (over_of s) new true ys))
+      go (Read file) a = (w.front ++ a.front, (a.rest, a.left_is, split_on xs w.front ys a.front a.rest w.split a.split, w.cut a.front a.rest a.split a.fine))
+      go NoMemory a = tt
 
 -- what holds where the started file's bytes are told
 pub told_read : (h : History) (r mid last : Reading) (held : Held) (xs : List ℕ) (before rest after : Option (List ℕ))

@@ -1,5 +1,5 @@
 -- Reading file after file.
-use Rattle.std.proofs.Common.{All, ◌≡◌, ◌≢◌, ◌≤◌, ◌<◌, ◌⊎◌, ◌+◌, ◌-◌, ℕ, zero, suc, List, [], ◌∷◌, ◌++◌, map, take, length, get_or, inl, inr, Bool, true, false, Option, Some, None, IfSome, Result, Ok, Err, refl, sym, ◌∙◌, ap, subst, arith, length-append, append_assoc}
+use Rattle.std.proofs.Common.{All, ◌≡◌, ◌≢◌, ◌<◌, ◌+◌, ◌-◌, ℕ, zero, suc, List, [], ◌∷◌, ◌++◌, map, take, length, get_or, inl, inr, Bool, true, false, Option, Some, None, Result, Ok, Err, refl, sym, ◌∙◌, ap, subst, arith}
 use Rattle.std.proofs.lemmas.List.{append-nil, take_all, take-take, length-take}
 use Rattle.std.proofs.lemmas.Bool.{cases_lt}
 use Rattle.std.specs.Result.{IsOk}
@@ -18,10 +18,10 @@ use Rattle.dk_core.specs.Steps.{groups_left}
 use Rattle.dk_core.specs.declared.session.Session.{Session}
 use Rattle.dk_cli.specs.Files.{File, whole, cut_off, AreHeld}
 use Rattle.dk_cli.specs.Words.{name_at}
-use Rattle.dk_cli.specs.Ending.{FileFault, line_limit, total_limit, then_files, after_file, after_files, history_after, fault_in, first_fault}
-use Rattle.dk_cli.specs.Statuses.{rest_behind, IsDelivered, AreClean}
+use Rattle.dk_cli.specs.Ending.{line_limit, total_limit, then_files, after_file, after_files, history_after, fault_in, first_fault}
+use Rattle.dk_cli.specs.Statuses.{rest_behind, AreClean}
 use Rattle.dk_cli.specs.WholeFile.{FileGives, TroubleGives as OneGives, fresh}
-use Rattle.dk_cli.specs.AllFiles.{RunsOn, RunsOnHeld, FilesGive, TroubleGives, placed}
+use Rattle.dk_cli.specs.AllFiles.{RunsOnHeld, FilesGive, TroubleGives, placed}
 use Rattle.dk_cli.specs.declared.reading.Trouble.{Trouble}
 use Rattle.dk_cli.specs.declared.reading.Trouble.TheVariants as t
 
@@ -42,16 +42,17 @@ record OneMore (file : List ℕ → Held) (names contents : List (List ℕ)) (k 
   held : AreHeld file (take k names) front
   there : file (name_at names k) ≡ Holds bytes
 
+first_and_more : (file : List ℕ → Held) (n c : List ℕ) (ns cs : List (List ℕ)) (k : ℕ) → file n ≡ Holds c → OneMore file ns cs k → OneMore file (n ∷ ns) (c ∷ cs) (suc k)
+first_and_more file n c ns cs k first m = let more = m.held in
+    record { front = c ∷ m.front; bytes = m.bytes; split = ap (λ (l : List (List ℕ)). c ∷ l) m.split; held = cc (first, more); there = m.there }
+
 one_more_suc : (file : List ℕ → Held) (names contents : List (List ℕ)) (k : ℕ) → k < length names → AreHeld file (take (suc k) names) contents → OneMore file names contents k
 one_more_suc file [] contents k h held = absurd (omega arith)
 one_more_suc file (n ∷ ns) [] k h held = absurd (cc (held))
 one_more_suc file (n ∷ ns) (c ∷ []) zero h held = record { front = []; bytes = c; split = refl; held = refl; there = cc (held) }
 one_more_suc file (n ∷ ns) (c ∷ d ∷ cs) zero h held = absurd (cc (held))
 one_more_suc file (n ∷ ns) (c ∷ cs) (suc k) h held =
-    let m = one_more_suc file ns cs k (omega arith) (cc (held)) in
-    let first : file n ≡ Holds c = cc (held) in
-    let e : AreHeld file (take k ns) m.front = m.held in
-    record { front = c ∷ m.front; bytes = m.bytes; split = ap (λ (l : List (List ℕ)). c ∷ l) m.split; held = cc (first, e); there = m.there }
+    first_and_more file n c ns cs k (cc (held)) (one_more_suc file ns cs k (omega arith) (cc (held)))
 
 one_more : (file : List ℕ → Held) (names contents : List (List ℕ)) (k : ℕ) → k < length names → AreHeld file (take (k + 1) names) contents → OneMore file names contents k
 one_more file names contents k h held =
@@ -120,9 +121,9 @@ pub clean_on : (file : List ℕ → Held) (names : List (List ℕ)) (k : ℕ) (b
     → AreClean file (take k names) → RunsOnHeld file names (k + 1) before s r after → AreClean file (take (k + 1) names)
 clean_on file names k before after s r clean runs n contents held = elim (cases_lt k n) [
   | inl more ↦ let all : take n (take (k + 1) names) ≡ take (k + 1) names = take_all n (take (k + 1) names) (omega (arith, length-take (k + 1) names)) in
-        ap fault_in (alone file names (k + 1) before after s r runs contents (subst (λ (l : List (List ℕ)). AreHeld file l contents) all held)).2
+      ap fault_in (alone file names (k + 1) before after s r runs contents (subst (λ (l : List (List ℕ)). AreHeld file l contents) all held)).2
   | inr less ↦ let short : take n (take (k + 1) names) ≡ take n (take k names) = take-take n (k + 1) names (omega arith) ∙ sym (take-take n k names less) in
-        clean n contents (subst (λ (l : List (List ℕ)). AreHeld file l contents) short held)
+      clean n contents (subst (λ (l : List (List ℕ)). AreHeld file l contents) short held)
 ]
 
 no_fault_at : (place : ℕ) (e : Result History LineFault) (more : History → History) → IsOk e → fault_in (then_files place e (λ n. Ok (more n))) ≡ None

@@ -1,18 +1,14 @@
 -- What each end of a run says.
-use Rattle.std.proofs.Common.{◌≡◌, ◌≢◌, ◌≤◌, ◌<◌, ◌⊎◌, ◌+◌, inl, inr, ℕ, zero, suc, List, [], ◌∷◌, ◌++◌, map, take, length, get_or, Option, Some, None, Result, Ok, Err, All, refl, sym, ◌∙◌, ap, subst, arith}
-use Rattle.std.proofs.lemmas.Option.{unwrap_or-slice_get}
+use Rattle.std.proofs.Common.{◌≡◌, ◌≢◌, ◌<◌, inl, inr, ℕ, List, take, length, Option, Some, None, Ok, All, refl, sym, ◌∙◌, ap, subst}
 use Rattle.dk_base.specs.declared.why.Why.{Why}
-use Rattle.dk_io.specs.Outside.{Held, Absent, Rose}
-use Rattle.dk_io.specs.Streams.{Texts}
+use Rattle.dk_io.specs.Outside.{Absent, Rose}
 use Rattle.dk_io.specs.declared.outside.Stream.TheVariants.{Report, Messages}
-use Rattle.dk_core.specs.History.{History}
 use Rattle.dk_core.specs.declared.session.Session.{Session}
-use Rattle.dk_cli.specs.Files.{whole, AreHeld}
 use Rattle.dk_cli.specs.Words.{name_at}
-use Rattle.dk_cli.specs.Ending.{FileFault, history_after, fault_in}
+use Rattle.dk_cli.specs.Ending.{fault_in}
 use Rattle.dk_cli.specs.Messages.{fault_line}
-use Rattle.dk_cli.specs.Output.{Output, only_on, output_at, unread_output, usage_output, followed, FollowedByFront}
-use Rattle.dk_cli.specs.Statuses.{Outside, AreClean, ComesTo, IsCutShort, Says}
+use Rattle.dk_cli.specs.Output.{Output, only_on, output_at, unread_output, usage_output, followed}
+use Rattle.dk_cli.specs.Statuses.{Outside, AreClean, ComesTo, Says}
 use Rattle.dk_cli.specs.Telling.{Tells, TellsReport}
 use Rattle.dk_cli.specs.AllFiles.{FilesGive, TroubleGives, IsCaused}
 use Rattle.dk_cli.specs.declared.reading.FilesTrouble.TheVariants as t

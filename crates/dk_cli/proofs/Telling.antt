@@ -1,12 +1,12 @@
 -- Writing an output.
-use Rattle.std.proofs.Common.{◌≡◌, ◌≤◌, ℕ, List, [], ◌++◌, length, take, min, Option, Some, None, refl, sym, ◌∙◌, ap, subst, arith}
+use Rattle.std.proofs.Common.{◌≡◌, ◌≤◌, ℕ, List, [], length, take, Option, Some, None, refl, ◌∙◌, ap, arith}
 use Rattle.std.proofs.lemmas.List.{append-nil, length-take}
 use Rattle.std.specs.Io.{StartsWith}
 use Rattle.std.specs.Io.KnownBytes.{append_known}
 use Rattle.dk_io.specs.Streams.{Texts, added, AddsFront}
 use Rattle.dk_io.specs.declared.outside.Stream.{Stream}
 use Rattle.dk_io.specs.declared.outside.Stream.TheVariants.{Report, Messages, State}
-use Rattle.dk_cli.specs.Output.{Output, only_on, followed, FollowedByFront}
+use Rattle.dk_cli.specs.Output.{only_on, followed, FollowedByFront}
 
 known_nothing : (known : Option (List ℕ)) → append_known known [] ≡ known
 known_nothing None = refl

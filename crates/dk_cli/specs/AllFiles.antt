@@ -1,5 +1,5 @@
 -- What reading all files of a run comes to.
-use Rattle.std.specs.Prelude.{◌≡◌, ◌≢◌, ◌<◌, ◌⊎◌, ◌+◌, ℕ, List, [], ◌∷◌, ◌++◌, map, take, length, ⊤, Option, Some, None, Result, Ok, Err}
+use Rattle.std.specs.Prelude.{◌≡◌, ◌<◌, ◌⊎◌, ◌+◌, ℕ, List, [], ◌∷◌, ◌++◌, map, take, length, ⊤, Option, None, Result, Ok, Err}
 use Rattle.dk_io.specs.Outside.{Held, Absent, Holds}
 use Rattle.dk_lines.specs.Reading.{Reading, room_of}
 use Rattle.dk_core.specs.History.{History}
@@ -7,7 +7,7 @@ use Rattle.dk_core.specs.Standing.{StandsFor}
 use Rattle.dk_core.specs.declared.session.Session.{Session}
 use Rattle.dk_cli.specs.Files.{File, whole, cut_off, AreHeld}
 use Rattle.dk_cli.specs.Words.{name_at}
-use Rattle.dk_cli.specs.Ending.{FileFault, after_files, history_after, first_fault}
+use Rattle.dk_cli.specs.Ending.{after_files, history_after, first_fault}
 use Rattle.dk_cli.specs.Statuses.{rest_behind, IsDelivered, AreClean}
 use Rattle.dk_cli.specs.declared.reading.Trouble.{Trouble}
 use Rattle.dk_cli.specs.declared.reading.Trouble.TheVariants as t

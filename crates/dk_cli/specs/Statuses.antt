@@ -10,6 +10,15 @@ use Rattle.dk_cli.specs.Output.{Output, output_of, unread_output, usage_output, 
 use Rattle.dk_cli.specs.declared.status.Status.{Status}
 use Rattle.dk_cli.specs.declared.status.Status.TheVariants.{Done, Refused, Usage, Read, Write, NoMemory}
 
+-- the number of a status, as the program ends with it
+abbrev pub code_of : Status → ℕ
+code_of Done = 0
+code_of Refused = 1
+code_of Usage = 2
+code_of Read = 3
+code_of Write = 4
+code_of NoMemory = 5
+
 -- What the inputs and the sinks of a run tell at one moment.
 pub record Outside : Type 0 where
   pub file : List ℕ → Held

@@ -1,5 +1,5 @@
 -- What reading one file comes to.
-use Rattle.std.specs.Prelude.{◌≡◌, ◌⊎◌, ◌-◌, ℕ, Bool, true, false, List, [], ◌++◌, length, ⊤, Option, Some, None, Result, Ok, Err}
+use Rattle.std.specs.Prelude.{◌≡◌, ◌⊎◌, ◌-◌, ℕ, Bool, true, false, List, [], ◌++◌, length, ⊤, Option, Some, Result, Ok, Err}
 use Rattle.std.specs.Result.{IsOk}
 use Rattle.dk_base.specs.Reading.{LineFault}
 use Rattle.dk_base.specs.declared.faults.Fault.{Fault}

@@ -31,7 +31,12 @@ fn tell<S: Sinks>(sinks: &mut S, stream: Stream, text: &[u8], status: Status) ->
 pub(crate) fn tell_usage<S: Sinks>(sinks: &mut S) -> Status
     ensures { Tells Status.Usage usage_output (S.written sinks.old) (S.written sinks.new) (Rose (S.faults sinks.old) (S.faults sinks.new)) result }
 {
-    tell(sinks, Stream::Messages, USAGE_LINE.as_bytes(), Status::Usage)
+    tell(
+        sinks,
+        Stream::Messages,
+        USAGE_LINE.as_bytes(),
+        Status::Usage,
+    )
 }
 
 // Tells that a file can't be read.
@@ -64,43 +69,47 @@ fn tell_report<S: Sinks>(session: &Session, sinks: &mut S) -> Status
     }
 }
 
-/// Does what the words of the command say.
+/// Does what the words of the command say: reads the files that they name, one after another, and writes the report,
+/// or a message. Words that the command does not accept are answered by the usage line.
 pub fn run<I: Inputs, S: Sinks>(
     alloc: Global,
     words: &[String],
     inputs: &mut I,
     sinks: &mut S,
 ) -> Status
-    ensures says {
-        let before : Outside = record { file = I.file inputs.old; rest = I.rest inputs.old; read_faults = I.faults inputs.old; written = S.written sinks.old; write_faults = S.faults sinks.old } in
-        let after : Outside = record { file = I.file inputs.new; rest = I.rest inputs.new; read_faults = I.faults inputs.new; written = S.written sinks.new; write_faults = S.faults sinks.new } in
-        Says result (names_of (map string_bytes words.now)) before after
-    }
+    ensures says { let before : Outside = record {
+      file = I.file inputs.old;
+      rest = I.rest inputs.old;
+      read_faults = I.faults inputs.old;
+      written = S.written sinks.old;
+      write_faults = S.faults sinks.old;
+    } in
+        let after : Outside = record {
+          file = I.file inputs.new;
+          rest = I.rest inputs.new;
+          read_faults = I.faults inputs.new;
+          written = S.written sinks.new;
+          write_faults = S.faults sinks.new;
+        } in
+        Says result (names_of (map string_bytes words.now)) before after }
     // Where the words are refused nothing is read.
     ensures unread { names_of (map string_bytes words.now) ≡ None → inputs.new ≡ inputs.old }
-    ensures complete {
-        let before : Outside = record { file = I.file inputs.old; rest = I.rest inputs.old; read_faults = I.faults inputs.old; written = S.written sinks.old; write_faults = S.faults sinks.old } in
-        let after : Outside = record { file = I.file inputs.new; rest = I.rest inputs.new; read_faults = I.faults inputs.new; written = S.written sinks.new; write_faults = S.faults sinks.new } in
-        IfSome (names_of (map string_bytes words.now)) (λ names. IsCalm before after → IsComplete names before after result)
-    }
-    ensures files { I.file inputs.new ≡ I.file inputs.old }
-{
-    run_words(alloc, words, inputs, sinks)
-}
-
-// Does what the words of the command say.
-fn run_words<I: Inputs, S: Sinks>(
-    alloc: Global,
-    words: &[String],
-    inputs: &mut I,
-    sinks: &mut S,
-) -> Status
-    ensures says {
-        let before : Outside = record { file = I.file inputs.old; rest = I.rest inputs.old; read_faults = I.faults inputs.old; written = S.written sinks.old; write_faults = S.faults sinks.old } in
-        let after : Outside = record { file = I.file inputs.new; rest = I.rest inputs.new; read_faults = I.faults inputs.new; written = S.written sinks.new; write_faults = S.faults sinks.new } in
-        Says result (names_of (map string_bytes words.now)) before after
-    }
-    ensures unread { names_of (map string_bytes words.now) ≡ None → inputs.new ≡ inputs.old }
+    // Where the files are held and no fault of the outside rises, the run comes to its end.
+    ensures complete { let before : Outside = record {
+      file = I.file inputs.old;
+      rest = I.rest inputs.old;
+      read_faults = I.faults inputs.old;
+      written = S.written sinks.old;
+      write_faults = S.faults sinks.old;
+    } in
+        let after : Outside = record {
+          file = I.file inputs.new;
+          rest = I.rest inputs.new;
+          read_faults = I.faults inputs.new;
+          written = S.written sinks.new;
+          write_faults = S.faults sinks.new;
+        } in
+        IfSome (names_of (map string_bytes words.now)) (λ names. IsCalm before after → IsComplete names before after result) }
     ensures files { I.file inputs.new ≡ I.file inputs.old }
 {
     match file_names(words) {
@@ -116,11 +125,21 @@ fn run_files<I: Inputs, S: Sinks>(
     inputs: &mut I,
     sinks: &mut S,
 ) -> Status
-    ensures says {
-        let before : Outside = record { file = I.file inputs.old; rest = I.rest inputs.old; read_faults = I.faults inputs.old; written = S.written sinks.old; write_faults = S.faults sinks.old } in
-        let after : Outside = record { file = I.file inputs.new; rest = I.rest inputs.new; read_faults = I.faults inputs.new; written = S.written sinks.new; write_faults = S.faults sinks.new } in
-        Says result (Some (map string_bytes names.now)) before after
-    }
+    ensures says { let before : Outside = record {
+      file = I.file inputs.old;
+      rest = I.rest inputs.old;
+      read_faults = I.faults inputs.old;
+      written = S.written sinks.old;
+      write_faults = S.faults sinks.old;
+    } in
+        let after : Outside = record {
+          file = I.file inputs.new;
+          rest = I.rest inputs.new;
+          read_faults = I.faults inputs.new;
+          written = S.written sinks.new;
+          write_faults = S.faults sinks.new;
+        } in
+        Says result (Some (map string_bytes names.now)) before after }
     ensures files { I.file inputs.new ≡ I.file inputs.old }
 {
     match read_files(alloc, names, inputs) {

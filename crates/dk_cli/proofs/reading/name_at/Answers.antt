@@ -1,4 +1,4 @@
-use Rattle.std.proofs.Common.{rules, sym, ◌∙◌, string_bytes}
+use Rattle.std.proofs.Common.{sym, ◌∙◌, string_bytes}
 use Rattle.dk_cli.proofs.Running.{name_there}
 use Rattle.dk_cli.proofs.reading.name_at.Goals as goal
 

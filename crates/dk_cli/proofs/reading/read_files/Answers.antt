@@ -1,4 +1,4 @@
-use Rattle.std.proofs.Common.{rules, arith, ap, subst, sym, ◌≡◌, ◌<◌, ℕ, List, map, length, string_bytes, Result, Ok, Err}
+use Rattle.std.proofs.Common.{rules, arith, ap, subst, sym, ℕ, List, map, string_bytes, Ok, Err}
 use Rattle.std.proofs.lemmas.List.{length-map, take_all}
 use Rattle.dk_io.specs.Outside.{Held}
 use Rattle.dk_lines.specs.Reading.{room_of}
@@ -25,9 +25,9 @@ loop-place-preserved g c =
     let names : List (List ℕ) = map string_bytes c.args.names.now in
     let there = rw c.loop-place.invariant.files at c.in-Ok-read_file.ensures.there in
     let gives = subst (λ (f : List ℕ → Held). FileGives c.loop-place.session (f c.name_at.result.now) (g.I.Inputs.rest c.loop-place.inputs) c.loop-place.lines (Ok c.in-Ok-read_file.next) c.read_file.new.lines (g.I.Inputs.rest c.read_file.new.inputs))
-        c.loop-place.invariant.files c.in-Ok-read_file.ensures.gives in
+    c.loop-place.invariant.files c.in-Ok-read_file.ensures.gives in
     let runs = runs_on (g.I.Inputs.file c.args.inputs.now) names c.loop-place.place _ _ _ c.loop-place.session c.in-Ok-read_file.next c.loop-place.lines c.read_file.new.lines c.name_at.result.now
-        (omega (arith, length-map c.args.names.now string_bytes)) c.name_at.ensures c.loop-place.invariant.limits c.loop-place.invariant.runs gives in
+    (omega (arith, length-map c.args.names.now string_bytes)) c.name_at.ensures c.loop-place.invariant.limits c.loop-place.invariant.runs gives in
     record {
       begins = search rules;
       limits = search rules;
@@ -42,7 +42,7 @@ pub returns-in-Err-read_file-clause-gives : goal.returns-in-Err-read_file-clause
 returns-in-Err-read_file-clause-gives g c =
     let names : List (List ℕ) = map string_bytes c.args.names.now in
     let gives = subst (λ (f : List ℕ → Held). FileGives c.loop-place.session (f c.name_at.result.now) (g.I.Inputs.rest c.loop-place.inputs) c.loop-place.lines (Err c.in-Err-read_file.trouble) c.read_file.new.lines (g.I.Inputs.rest c.read_file.new.inputs))
-        c.loop-place.invariant.files c.in-Err-read_file.ensures.gives in
+    c.loop-place.invariant.files c.in-Err-read_file.ensures.gives in
     subst (λ (t : FilesTrouble). TroubleGives (g.I.Inputs.file c.args.inputs.now) names (g.I.Inputs.rest c.args.inputs.now) t (g.I.Inputs.rest c.read_file.new.inputs)) (sym c.at_place.ensures)
     (runs_trouble (g.I.Inputs.file c.args.inputs.now) names c.loop-place.place _ _ _ c.loop-place.session c.loop-place.lines c.name_at.result.now c.in-Err-read_file.trouble
     (omega (arith, length-map c.args.names.now string_bytes)) c.name_at.ensures c.loop-place.invariant.limits c.loop-place.invariant.runs gives)

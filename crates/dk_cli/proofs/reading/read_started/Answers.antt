@@ -1,11 +1,11 @@
-use Rattle.std.proofs.Common.{rules, ap, subst, sym, ◌∙◌, ◌≡◌, ◌≤◌, List, ℕ, Bool, true, false, Option, Some, None, IfSome, Result, Ok, Err, refl}
+use Rattle.std.proofs.Common.{rules, subst, ◌≡◌, Bool, true, false, IfSome, Result, Ok, refl}
 use Rattle.dk_lines.specs.Reading.{left_of}
 use Rattle.dk_core.specs.History.{History}
 use Rattle.dk_core.specs.Standing.{StandsFor, over_of}
 use Rattle.dk_core.specs.Steps.{Answers}
 use Rattle.dk_core.specs.declared.session.Session.{Session}
 use Rattle.dk_base.specs.declared.faults.Fault.{Fault}
-use Rattle.dk_cli.proofs.Filing.{file_begun, file_on, file_end, file_fault}
+use Rattle.dk_cli.proofs.Filing.{file_on, file_end, file_fault}
 use Rattle.dk_cli.proofs.reading.read_started.Goals as goal
 
 pub steps-preserved : goal.steps-preserved

@@ -1,0 +1,28 @@
+//! The command `daikon`: it reads a file of declarations and records, and reports what holds of the variables of its points.
+#![tactic(auto)]
+
+mod messages;
+mod reading;
+mod status;
+#[cfg(test)]
+mod tests;
+mod top;
+mod words;
+
+use dk_io::{FileInputs, HostSinks};
+use status::Status;
+use std::io::ErrorKind;
+use std::process::ExitCode;
+use top::{run, tell_usage};
+use words::words_of;
+
+fn main(rt: HostRuntime) -> ExitCode {
+    let mut inputs = FileInputs::new(&rt);
+    let mut sinks = HostSinks::new(&rt, rt.stdout(), rt.stderr());
+    let status = match words_of(&rt) {
+        Ok(words) => run(rt.alloc(), words.as_slice(), &mut inputs, &mut sinks),
+        Err(error) if error.kind() == ErrorKind::InvalidData => tell_usage(&mut sinks),
+        Err(_) => Status::NoMemory,
+    };
+    ExitCode::from(status.code())
+}
