@@ -20,8 +20,8 @@ use Rattle.dk_cli.specs.Files.{File, whole, cut_off, AreHeld}
 use Rattle.dk_cli.specs.Words.{name_at}
 use Rattle.dk_cli.specs.Ending.{line_limit, total_limit, then_files, after_file, after_files, history_after, fault_in, first_fault}
 use Rattle.dk_cli.specs.Statuses.{rest_behind, AreClean}
-use Rattle.dk_cli.specs.WholeFile.{FileGives, TroubleGives as OneGives, fresh}
-use Rattle.dk_cli.specs.AllFiles.{RunsOnHeld, FilesGive, TroubleGives, placed}
+use Rattle.dk_cli.specs.WholeFile.{FileGives, TroubleGives, fresh}
+use Rattle.dk_cli.specs.AllFiles.{RunsOnHeld, FilesGive, FilesTroubleGives, placed}
 use Rattle.dk_cli.specs.declared.reading.Trouble.{Trouble}
 use Rattle.dk_cli.specs.declared.reading.Trouble.TheVariants as t
 
@@ -145,8 +145,8 @@ clean_cut r h k contents bytes limits goes fine =
 
 pub runs_trouble : (file : List ℕ → Held) (names : List (List ℕ)) (k : ℕ) (before mid after : Option (List ℕ)) (s : Session) (r : Reading) (name : List ℕ) (trouble : Trouble)
     → k < length names → name ≡ name_at names k → r.limits ≡ standard → RunsOnHeld file names k before s r mid
-    → ((h : History) → StandsFor s h → (xs : List ℕ) → file name ≡ Holds xs → OneGives h r xs mid trouble after)
-    → TroubleGives file names before (placed k trouble) after
+    → ((h : History) → StandsFor s h → (xs : List ℕ) → file name ≡ Holds xs → TroubleGives h r xs mid trouble after)
+    → FilesTroubleGives file names before (placed k trouble) after
 runs_trouble file names k before mid after s r name (t.Refused line why) h is limits runs gives = λ contents held.
     let m = one_more file names contents k h held in
     let on = runs m.front m.held in

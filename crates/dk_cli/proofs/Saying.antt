@@ -10,7 +10,7 @@ use Rattle.dk_cli.specs.Messages.{fault_line}
 use Rattle.dk_cli.specs.Output.{Output, only_on, output_at, unread_output, usage_output, followed}
 use Rattle.dk_cli.specs.Statuses.{Outside, AreClean, ComesTo, Says}
 use Rattle.dk_cli.specs.Telling.{Tells, TellsReport}
-use Rattle.dk_cli.specs.AllFiles.{FilesGive, TroubleGives, IsCaused}
+use Rattle.dk_cli.specs.AllFiles.{FilesGive, FilesTroubleGives, IsCaused}
 use Rattle.dk_cli.specs.declared.reading.FilesTrouble.TheVariants as t
 use Rattle.dk_cli.specs.declared.status.Status.{Status}
 use Rattle.dk_cli.specs.declared.status.Status.TheVariants.{Done, Refused, Usage, Read, Write, NoMemory}
@@ -55,7 +55,7 @@ report_says names before after session result gives clean there (inr (text, is, 
 
 -- the message of a refused file was due
 pub refused_says : (names : List (List ℕ)) (before after : Outside) (place line : ℕ) (why : Why) (name : List ℕ) (result : Status)
-    → name ≡ name_at names place → place < length names → TroubleGives before.file names before.rest (t.Refused place line why) after.rest → AreClean before.file (take place names)
+    → name ≡ name_at names place → place < length names → FilesTroubleGives before.file names before.rest (t.Refused place line why) after.rest → AreClean before.file (take place names)
     → Tells Refused (only_on Messages (fault_line name line why)) before.written after.written (Rose before.write_faults after.write_faults) result
     → Says result (Some names) before after
 refused_says names before after place line why name result is there gives clean tells =
@@ -73,7 +73,7 @@ refused_says names before after place line why name result is there gives clean 
 
 -- the message of a file that can't be read was due
 pub unread_says : (names : List (List ℕ)) (before after : Outside) (place : ℕ) (name : List ℕ) (result : Status)
-    → name ≡ name_at names place → place < length names → TroubleGives before.file names before.rest (t.Read place) after.rest → AreClean before.file (take place names)
+    → name ≡ name_at names place → place < length names → FilesTroubleGives before.file names before.rest (t.Read place) after.rest → AreClean before.file (take place names)
     → IsCaused before.file names (Rose before.read_faults after.read_faults) (t.Read place)
     → Tells Read (unread_output name) before.written after.written (Rose before.write_faults after.write_faults) result
     → Says result (Some names) before after

@@ -27,19 +27,19 @@ RunsOnHeld file names place before session lines after =
     (contents : List (List ℕ)) → AreHeld file (take place names) contents → RunsOn names place before session lines after contents
 
 -- what a trouble with the files says
-abbrev pub TroubleGives : (List ℕ → Held) → List (List ℕ) → Option (List ℕ) → FilesTrouble → Option (List ℕ) → Type 0
-TroubleGives file names before (Refused place line why) after = (contents : List (List ℕ)) → AreHeld file (take (place + 1) names) contents →
+abbrev pub FilesTroubleGives : (List ℕ → Held) → List (List ℕ) → Option (List ℕ) → FilesTrouble → Option (List ℕ) → Type 0
+FilesTroubleGives file names before (Refused place line why) after = (contents : List (List ℕ)) → AreHeld file (take (place + 1) names) contents →
     history_after (map whole contents) ≡ Err (record { file = place; line = line; why = why })
-TroubleGives file names before (Read place) after =
+FilesTroubleGives file names before (Read place) after =
     (contents : List (List ℕ)) (xs : List ℕ) → AreHeld file (take place names) contents → file (name_at names place) ≡ Holds xs →
     (bytes : List ℕ) × IsDelivered place xs before after bytes × (first_fault (map whole contents ++ cut_off bytes ∷ []) ≡ None)
-TroubleGives file names before NoMemory after = ⊤
+FilesTroubleGives file names before NoMemory after = ⊤
 
 -- what reading the files comes to
 abbrev pub FilesGive : (List ℕ → Held) → List (List ℕ) → Option (List ℕ) → Result Session FilesTrouble → Option (List ℕ) → Type 0
 FilesGive file names before (Ok session) after = (contents : List (List ℕ)) → AreHeld file names contents →
     (history : History) × StandsFor session history × (history_after (map whole contents) ≡ Ok history) × (after ≡ rest_behind (length names) before)
-FilesGive file names before (Err trouble) after = TroubleGives file names before trouble after
+FilesGive file names before (Err trouble) after = FilesTroubleGives file names before trouble after
 
 -- the files that were read hold no fault
 abbrev pub IsCleanBefore : (List ℕ → Held) → List (List ℕ) → FilesTrouble → Type 0

@@ -4,7 +4,7 @@ use Rattle.dk_io.specs.Outside.{Held}
 use Rattle.dk_lines.specs.Reading.{room_of}
 use Rattle.dk_cli.specs.WholeFile.{FileGives}
 use Rattle.dk_cli.specs.Statuses.{AreClean}
-use Rattle.dk_cli.specs.AllFiles.{TroubleGives}
+use Rattle.dk_cli.specs.AllFiles.{FilesTroubleGives}
 use Rattle.dk_cli.specs.declared.reading.FilesTrouble.{FilesTrouble}
 use Rattle.dk_cli.proofs.Running.{runs_none, runs_on, runs_end, runs_trouble, there_more, clean_none, clean_on, all_there}
 use Rattle.dk_cli.proofs.reading.read_files.Goals as goal
@@ -43,7 +43,7 @@ returns-in-Err-read_file-clause-gives g c =
     let names : List (List ℕ) = map string_bytes c.args.names.now in
     let gives = subst (λ (f : List ℕ → Held). FileGives c.loop-place.session (f c.name_at.result.now) (g.I.Inputs.rest c.loop-place.inputs) c.loop-place.lines (Err c.in-Err-read_file.trouble) c.read_file.new.lines (g.I.Inputs.rest c.read_file.new.inputs))
     c.loop-place.invariant.files c.in-Err-read_file.ensures.gives in
-    subst (λ (t : FilesTrouble). TroubleGives (g.I.Inputs.file c.args.inputs.now) names (g.I.Inputs.rest c.args.inputs.now) t (g.I.Inputs.rest c.read_file.new.inputs)) (sym c.at_place.ensures)
+    subst (λ (t : FilesTrouble). FilesTroubleGives (g.I.Inputs.file c.args.inputs.now) names (g.I.Inputs.rest c.args.inputs.now) t (g.I.Inputs.rest c.read_file.new.inputs)) (sym c.at_place.ensures)
     (runs_trouble (g.I.Inputs.file c.args.inputs.now) names c.loop-place.place _ _ _ c.loop-place.session c.loop-place.lines c.name_at.result.now c.in-Err-read_file.trouble
     (omega (arith, length-map c.args.names.now string_bytes)) c.name_at.ensures c.loop-place.invariant.limits c.loop-place.invariant.runs gives)
 
