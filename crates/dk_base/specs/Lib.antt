@@ -1,2 +1,13 @@
 pub mod Refusals
 pub mod Reading
+pub mod Pieces
+pub mod Words
+pub mod Names
+pub mod Numbers
+pub mod Items
+pub mod Sequences
+pub mod Values
+pub mod Spelling
+pub mod Comparability
+pub mod Shapes
+pub mod Tuples

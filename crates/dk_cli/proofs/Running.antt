@@ -9,7 +9,7 @@ use Rattle.dk_lines.proofs.Lined.{at_break}
 use Rattle.dk_lines.specs.Left.{Left, lined}
 use Rattle.dk_lines.specs.Reading.{Reading, room_of}
 use Rattle.dk_lines.specs.declared.lines.Limits.{Limits}
-use Rattle.dk_core.proofs.Stepping.{no_lines}
+use Rattle.dk_core.proofs.Laws.{no_lines}
 use Rattle.dk_core.specs.Blocks.{grouped}
 use Rattle.dk_core.specs.History.{History, Taken, effect_of, file_ended, no_history}
 use Rattle.dk_core.specs.Reading.{after_all}

@@ -5,7 +5,8 @@ use Rattle.std.specs.Io.KnownBytes.{append_known}
 use Rattle.dk_io.specs.Streams.{Texts}
 use Rattle.dk_io.specs.declared.outside.Stream.{Stream}
 use Rattle.dk_io.specs.declared.outside.Stream.TheVariants.{Report, Messages, State}
-use Rattle.dk_core.specs.History.{History, report_of}
+use Rattle.dk_core.specs.History.{History}
+use Rattle.dk_core.specs.Sections.{report_of}
 use Rattle.dk_cli.specs.Files.{File}
 use Rattle.dk_cli.specs.Words.{name_at}
 use Rattle.dk_cli.specs.Ending.{FileFault, history_after}

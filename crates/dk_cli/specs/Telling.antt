@@ -2,7 +2,8 @@
 use Rattle.std.specs.Prelude.{◌≡◌, ◌⊎◌, ℕ, List}
 use Rattle.dk_io.specs.Streams.{Texts}
 use Rattle.dk_io.specs.declared.outside.Stream.TheVariants.{Report}
-use Rattle.dk_core.specs.History.{History, report_of}
+use Rattle.dk_core.specs.History.{History}
+use Rattle.dk_core.specs.Sections.{report_of}
 use Rattle.dk_core.specs.Standing.{StandsFor}
 use Rattle.dk_core.specs.declared.session.Session.{Session}
 use Rattle.dk_cli.specs.Output.{Output, only_on, followed, FollowedByFront}

@@ -5,16 +5,20 @@ use Rattle.dk_base.specs.Reading.{Line, LineFault, Reads, ◌>>=◌}
 use Rattle.std.specs.Result.{IsOk}
 use Rattle.dk_lines.specs.Left.{Left, End, Over, Broken, LongLine, TooLong, Ends, Next, lines_left, OneLine}
 use Rattle.dk_lines.specs.Reading.{Reading, room_of}
-use Rattle.dk_lines.specs.Reading.{Gives}
+use Rattle.dk_lines.specs.Answers.{IsNext, Gives}
 use Rattle.dk_lines.specs.declared.lines.Limits.{Limits}
 use Rattle.dk_lines.specs.declared.lines.LineFault as fault
 use Rattle.dk_lines.specs.declared.lines.LineFault.TheVariants as line
-use Rattle.dk_lines.proofs.Lined.{one_line, at_break, at_read, at_long, at_many, at_end}
+use Rattle.dk_lines.proofs.Lined.{at_break, at_end}
 use Rattle.dk_core.specs.Steps.{unread, Grown, EndCounts, TurnCounts, BlockGives, BlockCounts, Answers, LineShape, EndShape}
+use Rattle.std.specs.Prelude.{◌==◌}
+use Rattle.dk_base.specs.Pieces.{is_empty}
+use Rattle.std.proofs.Math.Dec.{eqb-suc-zero}
 use Rattle.dk_core.specs.Blocks.{Groups, Group, Last, onto_group, is_blank_line, taken, grouped}
-use Rattle.dk_core.specs.History.{History, Taken, effect_of, ended}
+use Rattle.dk_core.specs.History.{History, Taken, effect_of}
 use Rattle.dk_core.specs.Reading.{after_last, after_all, after_next, stop_or, Stepped}
-use Rattle.dk_core.specs.Standing.{Stands, resumed, held}
+use Rattle.dk_core.specs.Standing.{Stands, resumed}
+use Rattle.dk_core.proofs.Laws.{no_fault_yet, no_lines}
 use Rattle.dk_core.specs.Steps.{Moves, Steps, Stops, groups_left, LineGives, EndGives, BlankGives, WordsGive, TurnGives}
 use Rattle.dk_base.specs.declared.why.Why.{Why}
 use Rattle.dk_base.specs.declared.why.Why.TheVariants.{LongLine as WhyLong, TooLong as WhyMany}
@@ -27,17 +31,6 @@ use Rattle.dk_core.specs.declared.kept.Kept.{Kept}
 use Rattle.dk_core.specs.declared.session.Session.{Session}
 
 -- ---- what is known of reading blocks
-
--- a block that is being read holds no fault
-pub no_fault_yet : (h : History) (b : Block) → IsOk (resumed h b [] None)
-unfolding resumed ended
-no_fault_yet h b = refl
-
--- no lines are no block
-pub no_lines : (h : History) (close : Option ℕ) → effect_of h [] close ≡ Ok (record { history = h; counts = false })
-unfolding effect_of ended
-no_lines h None = refl
-no_lines h (Some line) = refl
 
 -- ---- the first line of a group
 
@@ -227,43 +220,41 @@ faulty h b n why = go (resumed h b [] None) (no_fault_yet h b) where
   go (Err e) f = cc
 
 pub turn_fault : (h : History) (b : Block) (old new : Reading) (xs : List ℕ) (left : Option (List ℕ)) (fault : fault.LineFault)
-    → Gives old (Some xs) (Err fault) new left → TurnGives (resumed h b) old xs (Err (unread fault)) new left
-turn_fault h b old new xs left line.Read gives = let r = at_read old new xs left gives in record {
-  front = r.0;
-  rest = r.1.0;
-  split = r.1.2;
-  left_is = r.1.1;
-  fine = subst (λ (l : Left). IsOk (after_all (resumed h b) (grouped l))) (sym r.1.3) (fine_broken h b);
+    → Gives old xs (Err fault) new left → TurnGives (resumed h b) old xs (Err (unread fault)) new left
+turn_fault h b old new xs left line.Read gives = record {
+  front = gives.0;
+  rest = gives.1.0;
+  split = gives.1.1;
+  left_is = gives.1.2;
+  fine = subst (λ (l : Left). IsOk (after_all (resumed h b) (grouped l))) (sym gives.1.3) (fine_broken h b);
 }
 turn_fault h b old new xs left (line.LongLine n) gives =
-    ap (λ (l : Left). after_next (resumed h b) (grouped l)) (at_long old new true xs n left gives)
+    ap (λ (l : Left). after_next (resumed h b) (grouped l)) (gives true)
     ∙ ap (λ (r : Result Taken LineFault). r >>= λ t. Ok (record { found = t.counts; history = t.history; left = Last [] (LongLine n) })) (faulty h b n WhyLong)
 turn_fault h b old new xs left (line.TooLong n) gives =
-    ap (λ (l : Left). after_next (resumed h b) (grouped l)) (at_many old new true xs n left gives)
+    ap (λ (l : Left). after_next (resumed h b) (grouped l)) (gives true)
     ∙ ap (λ (r : Result Taken LineFault). r >>= λ t. Ok (record { found = t.counts; history = t.history; left = Last [] (TooLong n) })) (faulty h b n WhyMany)
 turn_fault h b old new xs left line.NoMemory gives = tt
 
 -- ---- what one call of `next` tells
 
-pub told_line : (h : History) (b : Block) (old new : Reading) (o left : Option (List ℕ)) (line : ℕ × List ℕ) (result : Result Turn Stop)
-    → Gives old o (Ok (Some line)) new left → LineGives (resumed h b) (record { number = line.0; bytes = line.1 }) result → IfSome o (λ xs. TurnGives (resumed h b) old xs result new left)
-told_line h b old new None left line result gives does = tt
-told_line h b old new (Some xs) left line result gives does =
-    let one = one_line old new xs line left gives in
-    turn_line h b old new xs one.0 (record { number = line.0; bytes = line.1 }) result left one.1 one.2 does
+pub told_line : (h : History) (b : Block) (old new : Reading) (o left : Option (List ℕ)) (line : Line) (result : Result Turn Stop)
+    → IsNext old o (Ok (Some line)) new left → LineGives (resumed h b) line result → IfSome o (λ xs. TurnGives (resumed h b) old xs result new left)
+told_line h b old new None left line result next does = tt
+told_line h b old new (Some xs) left line result next does =
+    turn_line h b old new xs next.gives.0 line result left next.gives.1 next.gives.2 does
 
 pub told_end : (h : History) (b : Block) (old new : Reading) (o left : Option (List ℕ)) (result : Result Turn Stop)
-    → Gives old o (Ok None) new left → EndGives (resumed h b) (old.number + 1) result → IfSome o (λ xs. TurnGives (resumed h b) old xs result new left)
-told_end h b old new None left result gives does = tt
-told_end h b old new (Some xs) left result gives does =
-    let over = at_end old new xs left gives in
-    let room : room_of new ≡ room_of old = ap (λ (l : Limits). l.total - new.total) gives.limits_stay ∙ ap (λ (t : ℕ). old.limits.total - t) gives.counts.1 in
-    turn_end h b old new xs result left over.0 over.1 over.2 gives.counts.2 room does
+    → IsNext old o (Ok None) new left → EndGives (resumed h b) (old.number + 1) result → IfSome o (λ xs. TurnGives (resumed h b) old xs result new left)
+told_end h b old new None left result next does = tt
+told_end h b old new (Some xs) left result next does =
+    let room : room_of new ≡ room_of old = ap (λ (l : Limits). l.total - new.total) next.limits_stay ∙ ap (λ (t : ℕ). old.limits.total - t) next.counts.1 in
+    turn_end h b old new xs result left next.gives.1 next.gives.0 (ap (lines_left old true) next.gives.0 ∙ at_end old) next.counts.2 room does
 
 pub told_fault : (h : History) (b : Block) (old new : Reading) (o left : Option (List ℕ)) (fault : fault.LineFault)
-    → Gives old o (Err fault) new left → IfSome o (λ xs. TurnGives (resumed h b) old xs (Err (unread fault)) new left)
-told_fault h b old new None left fault gives = tt
-told_fault h b old new (Some xs) left fault gives = turn_fault h b old new xs left fault gives
+    → IsNext old o (Err fault) new left → IfSome o (λ xs. TurnGives (resumed h b) old xs (Err (unread fault)) new left)
+told_fault h b old new None left fault next = tt
+told_fault h b old new (Some xs) left fault next = turn_fault h b old new xs left fault next.gives
 
 -- ---- counts
 
@@ -273,14 +264,14 @@ grown_false over r new e a b = subst (λ (o : Bool). Grown o r new) (sym e) (a, 
 grown_true : (over : Bool) (r new : Reading) → over ≡ true → r.total ≤ new.total → Grown over r new
 grown_true over r new e a = subst (λ (o : Bool). Grown o r new) (sym e) a
 
-pub counts_line : (old new : Reading) (o left : Option (List ℕ)) (line : ℕ × List ℕ) (result : Result Turn Stop)
-    → Gives old o (Ok (Some line)) new left → LineShape result → TurnCounts old result new
+pub counts_line : (old new : Reading) (o left : Option (List ℕ)) (line : Line) (result : Result Turn Stop)
+    → IsNext old o (Ok (Some line)) new left → LineShape result → TurnCounts old result new
 counts_line old new o left line (Ok (Goes kept block)) gives shape = (gives.limits_stay, gives.counts.2, gives.counts.4, gives.counts.5)
 counts_line old new o left line (Ok (Stands_end end)) gives shape = (gives.limits_stay, (gives.counts.2 ∙ ap not (sym shape.0), grown_false end.is_over old new shape.0 gives.counts.4 gives.counts.5, λ none. absurd (cc (none, shape.1))))
 counts_line old new o left line (Err e) gives shape = gives.limits_stay
 
 pub counts_end : (old new : Reading) (o left : Option (List ℕ)) (result : Result Turn Stop)
-    → Gives old o (Ok None) new left → EndShape result → TurnCounts old result new
+    → IsNext old o (Ok None) new left → EndShape result → TurnCounts old result new
 counts_end old new o left (Ok (Goes kept block)) gives shape = absurd shape
 counts_end old new o left (Ok (Stands_end end)) gives shape = (gives.limits_stay, (gives.counts.0 ∙ ap not (sym shape), grown_true end.is_over old new shape (omega (arith, gives.counts.1)), λ none. shape))
 counts_end old new o left (Err e) gives shape = gives.limits_stay
@@ -444,3 +435,7 @@ follows read (Last ls end) = go (after_last read ls end) refl where
   go : (r : Result Taken LineFault) → after_last read ls end ≡ r → Follows read (Last ls end) (r >>= λ t. Ok (record { found = t.counts; history = t.history; left = Last [] end }))
   go (Err e) is = ap (λ (r : Result Taken LineFault). r >>= λ t. Ok t.history) is
   go (Ok t) is = let all = ap (λ (r : Result Taken LineFault). r >>= λ t. Ok t.history) is in (all ∙ sym (empty t.history end t is), λ n. all)
+
+pub empty_len : (bytes : List ℕ) → (length bytes == 0) ≡ is_empty bytes
+empty_len [] = refl
+empty_len (b ∷ bs) = eqb-suc-zero (length bs)

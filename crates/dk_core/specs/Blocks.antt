@@ -2,7 +2,8 @@
 use Rattle.std.specs.Prelude.{◌≡◌, ℕ, Bool, List, [], ◌∷◌, if◌then◌else◌}
 use Rattle.dk_base.specs.Reading.{Line}
 use Rattle.dk_lines.specs.Left.{End, Left, Ends, Next}
-use Rattle.dk_core.specs.Words.{trimmed, is_empty}
+use Rattle.dk_base.specs.Words.{trimmed}
+use Rattle.dk_base.specs.Pieces.{is_empty}
 
 -- Lines that the blank line of this number ends, and what follows it; the last lines, and what ends them.
 pub data Groups : Type 0 where

@@ -1,8 +1,11 @@
-pub mod Words
 pub mod Blocks
-pub mod Format
+pub mod Declarations
+pub mod Records
 pub mod History
+pub mod Sections
+pub mod Summaries
+pub mod Reported
 pub mod Reading
+pub mod Blocked
 pub mod Standing
 pub mod Steps
-pub mod Sections

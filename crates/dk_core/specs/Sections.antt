@@ -1,41 +1,54 @@
--- The text of a point.
-use Rattle.std.specs.Prelude.{◌+◌, ℕ, zero, suc, ℤ, Bool, List, [], ◌∷◌, ◌++◌, length, codes, if◌then◌else◌, Option, Some, None, replicate}
-use Rattle.std.specs.Ordering.{int_cmp, is_lt}
+-- The report: for each point with samples its heading, then its instances that hold, by row and then by variables.
+use Rattle.std.specs.Prelude.{◌-◌, ◌^◌, ℕ, ℤ, pos, List, [], ◌∷◌, ◌++◌, length, codes, min, map, fold, flat_map, slice_index_or, Option, Some, None, replicate}
+use Rattle.std.specs.Int.{int_min, int_max}
 use Rattle.std.specs.Fmt.{decimal, signed_decimal}
-use Rattle.dk_core.specs.Words.{is_empty}
-use Rattle.dk_core.specs.Format.{Point}
+use Rattle.std.specs.List.{enumerate_from}
+use Rattle.dk_core.specs.History.{History, Point}
+use Rattle.dk_core.specs.declared.report.Row.{Row}
+use Rattle.dk_core.specs.declared.report.Row.TheVariants.{LowerBound, UpperBound}
 
-abbrev pub int_lt : ℤ → ℤ → Bool
-int_lt x y = is_lt (int_cmp x y)
-
+-- the values of the variable at a place in all samples
 abbrev pub column : ℕ → List (List ℤ) → List ℤ
-column i [] = []
-column i (s ∷ ss) = at i s (column i ss) where
-  at : ℕ → List ℤ → List ℤ → List ℤ
-  at i [] rest = rest
-  at zero (x ∷ xs) rest = x ∷ rest
-  at (suc i) (x ∷ xs) rest = at i xs rest
+column place samples = map (λ sample. slice_index_or sample place (pos 0)) samples
 
--- the value that comes first by this order
-abbrev pub extreme : (ℤ → ℤ → Bool) → List ℤ → Option ℤ
-extreme before [] = None
-extreme before (x ∷ xs) = Some (better x (extreme before xs)) where
-  better : ℤ → Option ℤ → ℤ
-  better x None = x
-  better x (Some y) = if before y x then y else x
+-- the state of a row over the values of its variable: the bound; of no values there is none
+abbrev pub fit : Row → List ℤ → Option ℤ
+fit row [] = None
+fit LowerBound (x ∷ xs) = Some (fold int_min x xs)
+fit UpperBound (x ∷ xs) = Some (fold int_max x xs)
 
-abbrev pub with_count : List ℕ → ℕ → List ℕ
-with_count text n = text ++ codes "  [" ++ decimal n ++ codes "]\n"
+-- the number of samples, up to 64 bits
+abbrev pub count_of : List (List ℤ) → ℕ
+count_of samples = min (length samples) (2 ^ 64 - 1)
 
-abbrev pub bound_line : List ℕ → List ℕ → ℕ → Option ℤ → List ℕ
-bound_line name sign n None = []
-bound_line name sign n (Some x) = with_count (name ++ sign ++ signed_decimal x) n
+-- a text with its count
+abbrev pub counted : List ℕ → ℕ → List ℕ
+counted text count = text ++ codes "  [" ++ decimal count ++ codes "]\n"
 
-abbrev pub bound_lines : (ℤ → ℤ → Bool) → List ℕ → List (List ℤ) → ℕ → List (List ℕ) → List ℕ
-bound_lines before sign samples i [] = []
-bound_lines before sign samples i (v ∷ vs) = bound_line v sign (length samples) (extreme before (column i samples)) ++ bound_lines before sign samples (i + 1) vs
+abbrev pub sign_of : Row → List ℕ
+sign_of LowerBound = codes " >= "
+sign_of UpperBound = codes " <= "
 
+-- the line of an instance, if it holds
+abbrev pub instance_line : Row → List ℕ → ℕ → Option ℤ → List ℕ
+instance_line row name count None = []
+instance_line row name count (Some bound) = counted (name ++ sign_of row ++ signed_decimal bound) count
+
+-- the lines of a row's instances, one for each variable
+abbrev pub row_lines : Point → Row → List ℕ
+row_lines p row = flat_map (λ v. instance_line row v.1 (count_of p.samples) (fit row (column v.0 p.samples))) (enumerate_from 0 p.vars)
+
+abbrev pub heading : Point → List ℕ
+heading p = replicate 75 61 ++ codes "\n" ++ counted p.name (count_of p.samples)
+
+abbrev pub section_by : Point → List (List ℤ) → List ℕ
+section_by p [] = []
+section_by p (s ∷ ss) = heading p ++ row_lines p LowerBound ++ row_lines p UpperBound
+
+-- the section of a point; one without samples has none
 abbrev pub section_of : Point → List ℕ
-section_of p = if is_empty p.samples then [] else
-    replicate 75 61 ++ 10 ∷ with_count p.name (length p.samples)
-    ++ bound_lines int_lt (codes " >= ") p.samples 0 p.vars ++ bound_lines (λ x y. int_lt y x) (codes " <= ") p.samples 0 p.vars
+section_of p = section_by p p.samples
+
+-- the report of a history
+unfoldable pub report_of : History → List ℕ
+report_of h = flat_map section_of h

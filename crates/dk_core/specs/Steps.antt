@@ -5,8 +5,8 @@ use Rattle.std.specs.Result.{IsOk}
 use Rattle.dk_lines.specs.Left.{Left, Next, Over, lines_left}
 use Rattle.dk_lines.specs.Reading.{Reading, room_of}
 use Rattle.dk_base.specs.declared.why.Why.TheVariants.{LongLine as WhyLong, TooLong as WhyMany}
-use Rattle.dk_core.specs.declared.kept.Refusal.{Refusal}
-use Rattle.dk_core.specs.declared.kept.Refusal.TheVariants as r
+use Rattle.dk_base.specs.declared.faults.BlockFault.{BlockFault}
+use Rattle.dk_base.specs.declared.faults.BlockFault.TheVariants as r
 use Rattle.dk_lines.specs.declared.lines.LineFault.{LineFault}
 use Rattle.dk_lines.specs.declared.lines.LineFault.TheVariants as f
 use Rattle.dk_core.specs.Blocks.{Groups, Last, grouped}
@@ -112,7 +112,7 @@ WordsGive read line (Err (Refused number why)) = (ls : List Line) (close : Optio
 WordsGive read line (Err Read) = ⊥
 WordsGive read line (Err NoMemory) = ⊤
 
-abbrev pub stopped : Refusal → Stop
+abbrev pub stopped : BlockFault → Stop
 stopped (r.Refused line why) = Refused line why
 stopped r.NoMemory = NoMemory
 

@@ -1,10 +1,13 @@
-//! The session behind a run.
+//! The session behind a run: it reads blocks one after another, and reports what held in their samples.
 #![tactic(auto)]
 
 mod block;
+mod declaration;
 mod kept;
+mod names;
+mod record;
+mod report;
 mod session;
-mod words;
+mod summary;
 
 pub use session::Session;
-

@@ -2,16 +2,15 @@
 ghost use Rattle.std.specs.Prelude.{◌≡◌, ◌≤◌, ◌<◌, ◌+◌, ◌-◌, ◌^◌, min, not, ◌∷◌, [], List, ℕ, Option, Some, None, IfOk, IfSome, IsErrOf, true, false, if◌then◌else◌};
 ghost use Rattle.dk_io.specs.Outside.{Rose};
 ghost use Rattle.dk_lines.specs.Reading.{left_of};
-ghost use Rattle.dk_core.specs.History.{History, effect_of, no_history, file_ended, report_of};
+ghost use Rattle.dk_core.specs.History.{History, effect_of, no_history, file_ended};
+ghost use Rattle.dk_core.specs.Sections.{report_of};
 ghost use Rattle.dk_core.specs.Standing.{Stands, resumed};
 ghost use Rattle.dk_core.specs.Steps.{TurnGives, LineGives, EndGives, BlankGives, WordsGive, TurnCounts, Answers, Counts, named, BlockGives, BlockCounts, LineShape, EndShape, stopped, unread};
 
-
 use crate::block::Block;
-use crate::kept::{Kept, Refusal};
-use crate::words::trimmed;
+use crate::kept::Kept;
 use bumpalo::Bump;
-use dk_base::{Fault, NoMemory, Text, Why};
+use dk_base::{BlockFault, Fault, NoMemory, Text, Why, trimmed};
 use dk_io::Inputs;
 use dk_lines::{LineFault, Lines};
 use std::alloc::Global;
@@ -49,12 +48,12 @@ pub(crate) enum Turn<'a> {
     Ends(Ending),
 }
 
-fn stop_of(refusal: Refusal) -> Stop
-    ensures { result ≡ stopped refusal }
+fn stop_of(fault: BlockFault) -> Stop
+    ensures { result ≡ stopped fault }
 {
-    match refusal {
-        Refusal::Refused { line, why } => Stop::Refused { line, why },
-        Refusal::NoMemory => Stop::NoMemory,
+    match fault {
+        BlockFault::Refused { line, why } => Stop::Refused { line, why },
+        BlockFault::NoMemory => Stop::NoMemory,
     }
 }
 
@@ -81,7 +80,7 @@ fn at_blank<'a>(kept: Kept, block: Block<'a>, number: u64) -> Result<Turn<'a>, S
     ensures gives { (h : History) → Stands kept h → BlankGives (resumed h block.entry) number result }
 {
     let arena = block.arena;
-    match kept.close(block, number) {
+    match kept.close(block) {
         Ok((kept, true)) => Ok(Turn::Ends(Ending {
             kept,
             is_over: false,
@@ -91,7 +90,7 @@ fn at_blank<'a>(kept: Kept, block: Block<'a>, number: u64) -> Result<Turn<'a>, S
             let block = kept.begin(arena);
             Ok(Turn::Goes(kept, block))
         }
-        Err(refusal) => Err(stop_of(refusal)),
+        Err(fault) => Err(stop_of(fault)),
     }
 }
 
@@ -100,13 +99,13 @@ fn at_end<'a>(kept: Kept, block: Block<'a>, number: u64) -> Result<Turn<'a>, Sto
     ensures shape { EndShape result }
     ensures gives { (h : History) → Stands kept h → EndGives (resumed h block.entry) number result }
 {
-    match kept.close(block, number) {
+    match kept.close(block) {
         Ok((kept, found)) => Ok(Turn::Ends(Ending {
             kept,
             is_over: true,
             found,
         })),
-        Err(refusal) => Err(stop_of(refusal)),
+        Err(fault) => Err(stop_of(fault)),
     }
 }
 
@@ -117,7 +116,7 @@ fn at_words<'a>(kept: Kept, block: Block<'a>, number: u64, bytes: &[u8]) -> Resu
 {
     match kept.line(block, number, bytes) {
         Ok(block) => Ok(Turn::Goes(kept, block)),
-        Err(refusal) => Err(stop_of(refusal)),
+        Err(fault) => Err(stop_of(fault)),
     }
 }
 
@@ -204,7 +203,7 @@ impl Session {
     pub fn new(alloc: Global) -> Result<Session, NoMemory>
         ensures { IfOk result (λ s. Stands s.kept no_history × (s.blocks ≡ 0) × (s.file ≡ 0) × (s.is_over ≡ false)) }
     {
-        let kept = Kept::new(alloc)?;
+        let kept = Kept::new(alloc);
         Ok(Session {
             alloc,
             kept,

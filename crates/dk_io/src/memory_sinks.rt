@@ -1,68 +1,65 @@
 // Sinks in memory, some of whose calls fail, and whose room is limited.
-ghost use Rattle.std.specs.Prelude.{◌≡◌, ◌≤◌, ◌<◌, ◌+◌, ◌-◌, ◌⊎◌, ◌↔◌, ◌++◌, List, ℕ, [], length, take, min, Some, IsTrue, IfOk, OnOk, OnErr, IsErr, vec_len, vec_capacity, nat_eq};
-ghost use Rattle.std.specs.List.{list_any};
+ghost use Rattle.std.specs.Prelude.{◌≡◌, ◌≤◌, ◌<◌, ◌-◌, ◌↔◌, ◌++◌, [], length, take, min, nat_le, IsTrue, IfOk, OnErr, IsErr, vec_len, vec_capacity, true, false};
 ghost use Rattle.dk_io.specs.Outside.{Rose, HasCause};
-ghost use Rattle.dk_io.specs.Streams.{Texts, added};
-ghost use Rattle.dk_io.specs.MemoryInputs.{one_more};
-ghost use Rattle.dk_io.specs.MemorySinks.{Kept, kept_of, texts_of, next_is_listed};
+ghost use Rattle.dk_io.specs.Streams.{added};
+ghost use Rattle.dk_io.specs.Calls.{uncalled, counted};
+ghost use Rattle.dk_io.specs.InMemory.{kept_of, longer, texts_of, write_fails};
 
+use crate::listed_calls::ListedCalls;
 use crate::{Failed, Sinks, Stream};
 use dk_base::{List, NoMemory};
 use std::alloc::Global;
 use std::marker::Model;
 
-/// Streams in memory. The calls with the listed numbers fail, counted from 1, and those that find no room.
+/// Streams in memory. The calls with the listed numbers fail, counted from 1, and those to a stream whose room is used up;
+/// each other write takes as many bytes as the piece and the room allow.
 #[derive(Drop)]
 pub struct MemorySinks {
     report: Vec<u8>,
     messages: Vec<u8>,
     state: Vec<u8>,
-    failing: List<u64>,
     piece: usize,
     room: usize,
-    calls: u64,
-    faults: u64,
+    calls: ListedCalls,
 }
 
 impl Model for MemorySinks {
-    ghost use Rattle.std.specs.Prelude.{◌≤◌, ◌<◌, length, vec_capacity};
-    ghost use Rattle.dk_io.specs.MemorySinks.{Kept};
+    ghost use Rattle.std.specs.Prelude.{◌≤◌, ◌<◌, vec_capacity};
+    ghost use Rattle.dk_io.specs.InMemory.{Kept};
 
     ghost Value = { Kept };
 
-    ghost view = { λ m. record { report = m.report.items; messages = m.messages.items; state = m.state.items; failing = m.failing; piece = m.piece; room = m.room; calls = m.calls; faults = m.faults } };
+    ghost view = { λ m. record { report = m.report.items; messages = m.messages.items; state = m.state.items; piece = m.piece; room = m.room; calls = m.calls } };
 
     ghost invariant = { λ m. (0 < m.piece) × (m.room ≤ vec_capacity m.report) × (m.room ≤ vec_capacity m.messages) × (m.room ≤ vec_capacity m.state) };
-}
-
-// Whether a number is on the list.
-fn is_listed(failing: &[u64], number: u64) -> bool
-    ensures { result ≡ list_any (λ k. nat_eq k number) failing.now }
-{
-    failing.iter().any(|k| *k == number)
 }
 
 // Adds as many of the bytes as the piece and the room allow.
 fn add_part(kept: &mut Vec<u8>, room: usize, piece: usize, bytes: &[u8]) -> usize
     requires { room ≤ vec_capacity kept.old }
-    ensures count { result ≡ min piece (min (length bytes.now) (room - vec_len kept.old)) }
+    ensures count { result ≡ min piece (min (length bytes.now) (room - length kept.old.items)) }
     ensures bound { result ≤ length bytes.now }
     ensures bytes { kept.new.items ≡ kept.old.items ++ take result bytes.now }
     ensures room { room ≤ vec_capacity kept.new }
 {
     let left = room.saturating_sub(kept.len());
-    let n = piece.min(bytes.len().min(left));
-    if n > 0 {
-        kept.extend_from_slice(&bytes[..n]).unwrap();
+    let count = piece.min(bytes.len().min(left));
+    if count > 0 {
+        kept.extend_from_slice(&bytes[..count]).unwrap();
     }
-    n
+    count
 }
 
 impl MemorySinks {
-    /// Nothing is written, and no call was made. It takes the room for each stream at once.
-    pub fn new(alloc: Global, failing: List<u64>, piece: usize, room: usize) -> Result<MemorySinks, NoMemory>
+    /// Nothing is written, and no call was made. It takes the room for each stream at once, so no write takes memory.
+    pub fn new(
+        alloc: Global,
+        failing: List<u64>,
+        piece: usize,
+        room: usize,
+    ) -> Result<MemorySinks, NoMemory>
         requires { 0 < piece }
-        ensures { IfOk result (λ sinks. sinks ≡ record { report = []; messages = []; state = []; failing = failing; piece = piece; room = room; calls = 0; faults = 0 }) }
+        ensures { IfOk result (λ sinks. sinks ≡ record { report = []; messages = []; state = []; piece = piece; room = room; calls = uncalled failing }) }
     {
         let report = Vec::with_capacity(alloc, room)?;
         let messages = Vec::with_capacity(alloc, room)?;
@@ -71,11 +68,9 @@ impl MemorySinks {
             report,
             messages,
             state,
-            failing,
             piece,
             room,
-            calls: 0,
-            faults: 0,
+            calls: ListedCalls::new(failing),
         })
     }
 
@@ -89,12 +84,24 @@ impl MemorySinks {
             Stream::State => self.state.as_slice(),
         }
     }
+
+    // Counts a write to a stream, and says whether it fails.
+    fn count(&mut self, stream: Stream) -> bool
+        ensures fails { result ≡ write_fails self.old stream }
+        ensures counted { self.new ≡ record self.old { calls = counted result self.old.calls } }
+        ensures later { self.old.calls.faults ≤ self.new.calls.faults }
+        ensures rose { IsTrue result → Rose self.old.calls.faults self.new.calls.faults }
+    {
+        let fails = self.calls.next_fails() || self.room <= self.written(stream).len();
+        self.calls.count(fails);
+        fails
+    }
 }
 
 impl Sinks for MemorySinks {
     ghost written = { texts_of };
 
-    ghost faults = { λ m. m.faults };
+    ghost faults = { λ m. m.calls.faults };
 
     fn write(&mut self, stream: Stream, bytes: &[u8]) -> Result<usize, Failed>
         requires { 0 < length bytes.now }
@@ -102,28 +109,22 @@ impl Sinks for MemorySinks {
         ensures bound { IfOk result (λ n. n ≤ length bytes.now) }
         ensures bytes { IfOk result (λ n. texts_of self.new ≡ added (texts_of self.old) stream (take n bytes.now)) }
         ensures err { OnErr result (texts_of self.new ≡ texts_of self.old) }
-        ensures cause { HasCause self.old.faults self.new.faults result }
-        ensures calls { self.new.calls ≡ one_more self.old.calls }
-        ensures counted { OnErr result (self.new.faults ≡ one_more self.old.faults) }
-        ensures not_counted { OnOk result (self.new.faults ≡ self.old.faults) }
-        ensures fails { IsErr result → IsTrue (next_is_listed self.old) ⊎ (self.old.room ≤ length (kept_of self.old stream)) }
-        ensures listed { IsTrue (next_is_listed self.old) → IsErr result }
+        ensures cause { HasCause self.old.calls.faults self.new.calls.faults result }
+
+        // The call fails exactly where it is listed or the stream's room is used up, and the count of faults rises exactly there.
+        ensures fails { IsErr result ↔ IsTrue (write_fails self.old stream) }
+        ensures counted { self.new.calls ≡ counted (write_fails self.old stream) self.old.calls }
         ensures moved { IfOk result (λ n. n ≡ min self.old.piece (min (length bytes.now) (self.old.room - length (kept_of self.old stream)))) }
+        ensures stays { IfOk result (λ n. self.new ≡ record (longer self.old stream (take n bytes.now)) { calls = self.new.calls }) }
+        ensures nothing { OnErr result (self.new ≡ record self.old { calls = self.new.calls }) }
     {
-        self.calls = self.calls.saturating_add(1);
-        if is_listed(self.failing.as_slice(), self.calls) {
-            self.faults = self.faults.saturating_add(1);
+        if self.count(stream) {
             return Err(Failed);
         }
-        let n = match stream {
+        Ok(match stream {
             Stream::Report => add_part(&mut self.report, self.room, self.piece, bytes),
             Stream::Messages => add_part(&mut self.messages, self.room, self.piece, bytes),
             Stream::State => add_part(&mut self.state, self.room, self.piece, bytes),
-        };
-        if n == 0 {
-            self.faults = self.faults.saturating_add(1);
-            return Err(Failed);
-        }
-        Ok(n)
+        })
     }
 }

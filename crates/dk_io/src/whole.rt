@@ -1,13 +1,17 @@
 // Writing all of a text, and reading all that is left.
-ghost use Rattle.std.specs.Prelude.{◌≡◌, ◌≤◌, ◌<◌, ◌^◌, ◌-◌, ◌+◌, ◌↔◌, length, IfOk, OnOk, OnErr, IsErrOf, IfSome, Some};
-ghost use Rattle.std.specs.Io.KnownBytes.{prepend_known, IsAtEnd};
-ghost use Rattle.dk_io.specs.Outside.{Rose, HasCause};
+ghost use Rattle.std.specs.Prelude.{◌≡◌, ◌≤◌, ◌<◌, length, IfOk, OnOk, OnErr, IsErrOf, IfSome};
+ghost use Rattle.std.specs.Io.KnownBytes.{IsAtEnd};
+ghost use Rattle.dk_io.specs.Outside.{Rose, HasCause, DeliversUpTo};
 ghost use Rattle.dk_io.specs.Streams.{added, AddsFront};
-ghost use Rattle.dk_io.specs.declared.whole.AllFault.TheVariants.{NoMemory as OutOfMemory};
+ghost use Rattle.dk_io.specs.declared.whole.AllFault.TheVariants.{NoMemory as OutOfMemory, Read as Unread};
 
 use crate::{Failed, Inputs, Sinks, Stream};
 use dk_base::{NoMemory, Text};
-use std::alloc::Global;
+use std::alloc::{AllocError, Global};
+use thiserror::Error;
+
+/// How many bytes a read asks for.
+const PIECE: usize = 65_536;
 
 /// Adds all the bytes to the stream. A failed call has added a front of them.
 pub fn write_all<S: Sinks>(sinks: &mut S, stream: Stream, bytes: &[u8]) -> Result<(), Failed>
@@ -16,18 +20,24 @@ pub fn write_all<S: Sinks>(sinks: &mut S, stream: Stream, bytes: &[u8]) -> Resul
     ensures cause { HasCause (S.faults sinks.old) (S.faults sinks.new) result }
 {
     let mut left = bytes;
-    while !left.is_empty() {
-        let n = sinks.write(stream, left)?;
-        left = &left[n..];
+    'writing: while !left.is_empty() {
+        let count = sinks.write(stream, left)?;
+        left = &left[count..];
     }
     Ok(())
 }
 
 /// Why not all that is left could be read.
-#[derive(Clone, Copy, Debug, PartialEq, Eq)]
+#[derive(Clone, Copy, Debug, PartialEq, Eq, Error)]
 pub enum AllFault {
+    /// Reading failed.
+    #[error("the file could not be read")]
     Read,
+    /// More bytes are left than the limit.
+    #[error("the file is too long")]
     TooLong,
+    /// Memory could not be had.
+    #[error("out of memory")]
     NoMemory,
 }
 
@@ -39,39 +49,54 @@ impl From<NoMemory> for AllFault {
     }
 }
 
+impl From<AllocError> for AllFault {
+    ghost from_gives = { λ _ e. e ≡ OutOfMemory };
+
+    fn from(_: AllocError) -> Self {
+        AllFault::NoMemory
+    }
+}
+
 impl From<Failed> for AllFault {
-    ghost use Rattle.std.specs.Prelude.{◌≡◌};
-    ghost use Rattle.dk_io.specs.declared.whole.AllFault.TheVariants.{Read};
-    ghost from_gives = { λ _ e. e ≡ Read };
+    ghost from_gives = { λ _ e. e ≡ Unread };
 
     fn from(_: Failed) -> Self {
         AllFault::Read
     }
 }
 
-/// All that is left of the started file, where it is at most as long as the limit.
+// A buffer of this size.
+fn buffer(alloc: Global, size: usize) -> Result<Vec<u8>, AllocError>
+    ensures { IfOk result (λ buf. length buf.items ≡ size) }
+{
+    vec![in alloc; 0; size]
+}
+
+/// All that is left of the started file, where it is at most as long as the limit, and then nothing is left of it; else `TooLong`.
+/// `Read` comes where reading failed before a byte came that is one too many.
 pub fn read_all<I: Inputs>(alloc: Global, inputs: &mut I, limit: u64) -> Result<Text, AllFault>
     ensures files { I.file inputs.new ≡ I.file inputs.old }
     ensures ok { IfOk result (λ text. IfSome (I.rest inputs.old) (λ bytes. text ≡ bytes)) }
     ensures fits { IfOk result (λ text. length text ≤ limit) }
+    ensures end { OnOk result (IsAtEnd (I.rest inputs.new)) }
     ensures too_long { IsErrOf result AllFault.TooLong → IfSome (I.rest inputs.old) (λ bytes. limit < length bytes) }
-    // What was delivered is not longer than the limit.
-    ensures read { IsErrOf result AllFault.Read → IfSome (I.rest inputs.old) (λ bytes. IfSome (I.rest inputs.new) (λ rest. length bytes - length rest ≤ limit)) }
+    // No delivered byte is one too many.
+    ensures read { IsErrOf result AllFault.Read → DeliversUpTo limit (I.rest inputs.old) (I.rest inputs.new) }
     ensures later { I.faults inputs.old ≤ I.faults inputs.new }
     ensures cause { IsErrOf result AllFault.Read → Rose (I.faults inputs.old) (I.faults inputs.new) }
 {
     let mut text = Text::new(alloc);
-    let mut buf = [0u8; 4096];
+    let mut buf = buffer(alloc, PIECE)?;
     let mut total = 0u64;
-    loop {
-        let n = inputs.read(&mut buf)?;
-        if n == 0 {
+    'reading: loop {
+        let count = inputs.read(&mut buf)?;
+        if count == 0 {
             return Ok(text);
         }
-        if n as u64 > limit - total {
+        if count as u64 > limit - total {
             return Err(AllFault::TooLong);
         }
-        total += n as u64;
-        text.append(&buf[..n])?;
+        total += count as u64;
+        text.append(&buf[..count])?;
     }
 }

@@ -1,23 +1,25 @@
 -- What is left of a file, line by line.
-use Rattle.std.proofs.Common.{◌≡◌, ◌≤◌, ◌<◌, ◌⊎◌, ◌+◌, ◌-◌, ℕ, zero, suc, List, [], ◌∷◌, ◌++◌, min, length, take, drop, inl, inr, Bool, true, false, cond, Option, Some, None, Result, Ok, Err, nat_lt, nat_le, ◌&&◌, ◌||◌, if◌then◌else◌, refl, sym, ◌∙◌, ap, subst, arith, length-append, append_assoc, length-drop, take-append-drop}
+use Rattle.std.proofs.Common.{◌≡◌, ◌≤◌, ◌<◌, ◌⊎◌, ◌+◌, ◌-◌, ℕ, suc, List, [], ◌∷◌, ◌++◌, length, take, drop, inl, inr, Bool, true, false, Option, Some, None, Result, Ok, Err, IfSome, nat_lt, nat_le, ◌&&◌, ◌||◌, if◌then◌else◌, refl, sym, ◌∙◌, ap, subst, arith, length-append, append_assoc, take-append-drop}
 use Rattle.std.proofs.lemmas.Bool.{cases_eq, cases_lt}
 use Rattle.std.proofs.lemmas.Bool.Decides.{nat_tests}
-use Rattle.std.proofs.lemmas.List.{append-nil, take_all, drop_all, take-append-le, drop-append-le, length-take-le, drop_at}
-use Rattle.std.proofs.Math.Seq.{drop-append-add, take-append-add}
+use Rattle.std.proofs.lemmas.List.{append-nil, take_all, drop_all, take-append-le, length-take-le, drop_at}
 use Rattle.dk_base.specs.Reading.{Line}
 use Rattle.dk_lines.specs.declared.gather.Found.{Found}
 use Rattle.dk_lines.specs.declared.gather.Found.TheVariants.{End as Nothing, Line as Whole, Long, Many}
 use Rattle.dk_lines.specs.Cutting.{line_len, line_bytes, line_used, behind_line, judged, next_of, IsOpen}
 use Rattle.dk_lines.proofs.Cut.{len_lf, len_other, len_le, len_open, len_found}
-use Rattle.dk_lines.specs.Left.{End, Left, Over, Broken, LongLine, TooLong, Ends, Next, Piece, onto_first, pieces, size_of, lined_by, lined, lines_left, OneLine}
-use Rattle.dk_lines.specs.Reading.{Reading, room_of, without_cr, Numbered, Gives}
+use Rattle.dk_lines.specs.Left.{Left, Over, Broken, LongLine, TooLong, Ends, Next, Piece, onto_first, pieces, size_of, lined_by, lined, lines_left, without_cr, OneLine}
+use Rattle.dk_lines.specs.Reading.{Reading, room_of}
+use Rattle.dk_lines.specs.Answers.{Counts, Gives, IsNext}
+use Rattle.dk_lines.specs.Gathering.{GivesFirst}
 use Rattle.dk_lines.specs.declared.lines.Limits.{Limits}
-use Rattle.dk_lines.specs.declared.lines.LineFault.TheVariants.{Read, LongLine as Longer, TooLong as Fuller, NoMemory}
+use Rattle.dk_lines.specs.declared.lines.LineFault.{LineFault}
+use Rattle.dk_lines.specs.declared.lines.LineFault.TheVariants as fault
 
-pieces_lf : (b : ℕ) (bs : List ℕ) → b ≡ 10 → pieces (b ∷ bs) ≡ record { bytes = []; has_lf = true } ∷ pieces bs
+pub pieces_lf : (b : ℕ) (bs : List ℕ) → b ≡ 10 → pieces (b ∷ bs) ≡ record { bytes = []; has_lf = true } ∷ pieces bs
 pieces_lf b bs e = grind (arith, nat_tests)
 
-pieces_other : (b : ℕ) (bs : List ℕ) → (b ≡ 10 → ⊥) → pieces (b ∷ bs) ≡ onto_first b (pieces bs)
+pub pieces_other : (b : ℕ) (bs : List ℕ) → (b ≡ 10 → ⊥) → pieces (b ∷ bs) ≡ onto_first b (pieces bs)
 pieces_other b bs e = grind (arith, nat_tests)
 
 -- the piece of so many bytes, and what follows it
@@ -212,39 +214,42 @@ moved r new e used ys limits number room =
     ∙ ap (λ (n : ℕ). lined r.limits.line (room_of new) n e ys) (sym number)
     ∙ ap (λ (l : Limits). lined l.line (room_of new) new.number e ys) (sym limits)
 
-pub one_line : (r new : Reading) (xs : List ℕ) (line : Numbered) (left : Option (List ℕ)) → Gives r (Some xs) (Ok (Some line)) new left
-    → (ys : List ℕ) × (left ≡ Some ys) × OneLine r xs (record { number = line.0; bytes = line.1 }) new ys
-one_line r new xs line left gives =
-    let some = has_bytes r.limits.line (room_of r) (line_used xs) xs gives.answers.0 in
-    let p = plain r.limits.line (room_of r) r.number xs (line_used xs) some (judged_of r.limits.line (room_of r) xs (Whole (line_used xs)) some gives.answers.0) in
-    let room : room_of new ≡ room_of r - line_used xs = ap (λ (l : Limits). l.total - new.total) gives.limits_stay ∙ omega (arith, gives.answers.3) in
-    let there : Line = record { number = line.0; bytes = line.1 } in
-    let here : record { number = r.number + 1; bytes = without_cr (line_bytes xs) } ≡ there = ap (λ (n : ℕ). record { number = n; bytes = without_cr (line_bytes xs) }) (sym gives.counts.0) ∙ ap (λ (bs : List ℕ). record { number = line.0; bytes = bs }) (sym gives.answers.1) in (
-      behind_line xs,
-      gives.answers.2,
-      record {
-        front = p.front;
-        split = p.split;
-        room = room ∙ ap (λ (k : ℕ). room_of r - k) (sym p.size);
-        ended = p.ended ∙ ap (λ (l : Line). Next l (lined r.limits.line (room_of r - line_used xs) (r.number + 1) true (behind_line xs))) here
-            ∙ ap (λ (l : Left). Next there l) (moved r new true (line_used xs) (behind_line xs) gives.limits_stay gives.counts.1 room);
-        cut = λ d rest e. elim (p.cut d rest e) [
-          | inl s ↦ inl (s ∙ ap (λ (l : Line). Next l (lined r.limits.line (room_of r - line_used xs) (r.number + 1) false d)) here
-              ∙ ap (λ (l : Left). Next there l) (moved r new false (line_used xs) d gives.limits_stay gives.counts.1 room))
-          | inr s ↦ inr s
-        ];
-      },
-    )
+one_from : (r new : Reading) (xs : List ℕ) (line : Line) → Plain r.limits.line (room_of r) r.number xs → new.limits ≡ r.limits → new.number ≡ r.number + 1 → new.total ≡ r.total + line_used xs
+    → record { number = r.number + 1; bytes = without_cr (line_bytes xs) } ≡ line → OneLine r xs line new (behind_line xs)
+one_from r new xs line p limits number total here =
+    let room : room_of new ≡ room_of r - line_used xs = ap (λ (l : Limits). l.total - new.total) limits ∙ omega (arith, total) in
+    record {
+      front = p.front;
+      split = p.split;
+      total = total ∙ ap (λ (k : ℕ). r.total + k) (sym p.size);
+      room = room ∙ ap (λ (k : ℕ). room_of r - k) (sym p.size);
+      ended = p.ended ∙ ap (λ (l : Line). Next l (lined r.limits.line (room_of r - line_used xs) (r.number + 1) true (behind_line xs))) here
+          ∙ ap (λ (l : Left). Next line l) (moved r new true (line_used xs) (behind_line xs) limits number room);
+      cut = λ d rest e. elim (p.cut d rest e) [
+        | inl s ↦ inl (s ∙ ap (λ (l : Line). Next l (lined r.limits.line (room_of r - line_used xs) (r.number + 1) false d)) here
+            ∙ ap (λ (l : Left). Next line l) (moved r new false (line_used xs) d limits number room))
+        | inr s ↦ inr s
+      ];
+    }
 
-pub at_end : (r new : Reading) (xs : List ℕ) (left : Option (List ℕ)) → Gives r (Some xs) (Ok None) new left → (left ≡ Some []) × (xs ≡ []) × (lines_left r true xs ≡ Ends (Over (r.number + 1)))
+one_line : (r new : Reading) (xs : List ℕ) (line : Line) (left : Option (List ℕ)) → new.limits ≡ r.limits → Counts r (Ok (Some line)) new → GivesFirst r xs (Ok (Some line)) new left → Gives r xs (Ok (Some line)) new left
+one_line r new xs line left limits counts first =
+    let some = has_bytes r.limits.line (room_of r) (line_used xs) xs first.0 in
+    let p = plain r.limits.line (room_of r) r.number xs (line_used xs) some (judged_of r.limits.line (room_of r) xs (Whole (line_used xs)) some first.0) in
+    let here : record { number = r.number + 1; bytes = without_cr (line_bytes xs) } ≡ line = ap (λ (n : ℕ). record { number = n; bytes = without_cr (line_bytes xs) }) (sym counts.0) ∙ ap (λ (bs : List ℕ). record line { bytes = bs }) (sym first.1) in
+    (behind_line xs, first.2, one_from r new xs line p limits counts.1 first.3 here)
+
+-- nothing is left of an ended file
+pub at_end : (r : Reading) → lines_left r true [] ≡ Ends (Over (r.number + 1))
 unfolding lined
-at_end r new xs left gives = (gives.answers.1, gives.answers.0, ap (lines_left r true) gives.answers.0)
+at_end r = refl
 
 -- no line has begun
 pub at_break : (r : Reading) → lines_left r false [] ≡ Ends Broken
 unfolding lined
 at_break r = refl
 
+-- the first piece of bytes that are not at their end
 at_fault : (limit room n : ℕ) (e : Bool) (xs : List ℕ) → 0 < length xs → (p : Piece) × ((ps : List Piece) × FirstIs xs p ps)
 at_fault limit room n e xs h = elim (cases_lt (line_len xs) (length xs)) [
   | inl l ↦ (record { bytes = line_bytes xs; has_lf = true }, (pieces (behind_line xs), first_lf xs l))
@@ -255,19 +260,17 @@ has_some : (limit room : ℕ) (xs : List ℕ) (f : Found) → next_of limit room
 has_some limit room [] f e n = absurd (n (sym e))
 has_some limit room (b ∷ bs) f e n = omega arith
 
-pub at_long : (r new : Reading) (e : Bool) (xs : List ℕ) (n : ℕ) (left : Option (List ℕ)) → Gives r (Some xs) (Err (Longer n)) new left → lines_left r e xs ≡ Ends (LongLine n)
-at_long r new e xs n left gives =
-    let some = has_some r.limits.line (room_of r) xs Long gives.answers (λ s. cc (s)) in
+at_long : (r : Reading) (e : Bool) (xs : List ℕ) → next_of r.limits.line (room_of r) xs ≡ Long → lines_left r e xs ≡ Ends (LongLine (r.number + 1))
+at_long r e xs is =
+    let some = has_some r.limits.line (room_of r) xs Long is (λ s. cc (s)) in
     let f = at_fault r.limits.line (room_of r) r.number e xs some in
-    lined_long r.limits.line (room_of r) r.number e xs f.0 f.1.0 f.1.1 (judged_of r.limits.line (room_of r) xs Long some gives.answers)
-    ∙ ap (λ (k : ℕ). Ends (LongLine k)) (sym gives.counts.0)
+    lined_long r.limits.line (room_of r) r.number e xs f.0 f.1.0 f.1.1 (judged_of r.limits.line (room_of r) xs Long some is)
 
-pub at_many : (r new : Reading) (e : Bool) (xs : List ℕ) (n : ℕ) (left : Option (List ℕ)) → Gives r (Some xs) (Err (Fuller n)) new left → lines_left r e xs ≡ Ends (TooLong n)
-at_many r new e xs n left gives =
-    let some = has_some r.limits.line (room_of r) xs Many gives.answers (λ s. cc (s)) in
+at_many : (r : Reading) (e : Bool) (xs : List ℕ) → next_of r.limits.line (room_of r) xs ≡ Many → lines_left r e xs ≡ Ends (TooLong (r.number + 1))
+at_many r e xs is =
+    let some = has_some r.limits.line (room_of r) xs Many is (λ s. cc (s)) in
     let f = at_fault r.limits.line (room_of r) r.number e xs some in
-    lined_many r.limits.line (room_of r) r.number e xs f.0 f.1.0 f.1.1 (judged_of r.limits.line (room_of r) xs Many some gives.answers)
-    ∙ ap (λ (k : ℕ). Ends (TooLong k)) (sym gives.counts.0)
+    lined_many r.limits.line (room_of r) r.number e xs f.0 f.1.0 f.1.1 (judged_of r.limits.line (room_of r) xs Many some is)
 
 -- bytes within the limits, which no LF ends
 pub open_breaks : (r : Reading) (bytes : List ℕ) → IsOpen r.limits.line (room_of r) bytes → lines_left r false bytes ≡ Ends Broken
@@ -280,6 +283,17 @@ open_breaks r (b ∷ bs) h =
       fits : (limit room k used : ℕ) → k ≤ limit → used ≤ room → judged limit room k used ≡ Whole used
       fits limit room k used a c = grind (arith, nat_tests)
 
-pub at_read : (r new : Reading) (xs : List ℕ) (left : Option (List ℕ)) → Gives r (Some xs) (Err Read) new left
-    → (bytes : List ℕ) × ((rest : List ℕ) × (left ≡ Some rest) × (xs ≡ bytes ++ rest) × (lines_left r false bytes ≡ Ends Broken))
-at_read r new xs left gives = (gives.answers.0, (gives.answers.1, gives.answers.2, gives.answers.3, open_breaks r gives.answers.0 gives.answers.4))
+-- what an answer by the first line says of all lines that are left
+told : (r new : Reading) (xs : List ℕ) (answer : Result (Option Line) LineFault) (left : Option (List ℕ)) → new.limits ≡ r.limits → Counts r answer new → GivesFirst r xs answer new left → Gives r xs answer new left
+told r new xs (Ok (Some line)) left limits counts answers = one_line r new xs line left limits counts answers
+told r new xs (Ok None) left limits counts answers = answers
+told r new xs (Err fault.Read) left limits counts answers = (answers.0, (answers.1, answers.3, answers.2, open_breaks r answers.0 answers.4, answers.5))
+told r new xs (Err (fault.LongLine n)) left limits counts answers = λ e. at_long r e xs answers ∙ ap (λ (k : ℕ). Ends (LongLine k)) (sym counts.0)
+told r new xs (Err (fault.TooLong n)) left limits counts answers = λ e. at_many r e xs answers ∙ ap (λ (k : ℕ). Ends (TooLong k)) (sym counts.0)
+told r new xs (Err fault.NoMemory) left limits counts answers = tt
+
+pub is_next : {r new : Reading} {before after : Option (List ℕ)} {answer : Result (Option Line) LineFault} → new.limits ≡ r.limits → Counts r answer new → IfSome before (λ xs. GivesFirst r xs answer new after) → IsNext r before answer new after
+is_next {r} {new} {before} {after} {answer} limits counts answers = record { limits_stay = limits; counts = counts; gives = go before answers } where
+  go : (o : Option (List ℕ)) → IfSome o (λ xs. GivesFirst r xs answer new after) → IfSome o (λ xs. Gives r xs answer new after)
+  go None none = tt
+  go (Some xs) some = told r new xs answer after limits counts some

@@ -1,8 +1,7 @@
 // Lines, one after another.
-ghost use Rattle.std.specs.Prelude.{◌≡◌, ◌≤◌, ◌<◌, ◌+◌, ◌-◌, ◌^◌, ◌⊎◌, List, ℕ, Bool, [], true, false, length, IfOk, OnOk, OnErr, IsErrOf, is_ok, Ok, Some};
-ghost use Rattle.std.specs.Io.KnownBytes.{prepend_known, IsAtEnd};
+ghost use Rattle.std.specs.Prelude.{◌≡◌, ◌≤◌, ◌<◌, ◌+◌, ◌-◌, ◌^◌, ◌⊎◌, [], true, false, length, OnOk, OnErr, IfOk, IsErrOf, is_ok};
 ghost use Rattle.dk_io.specs.Outside.{Absent, Rose, Starts};
-ghost use Rattle.dk_lines.specs.Reading.{without_cr};
+ghost use Rattle.dk_lines.specs.Left.{without_cr};
 
 use crate::ahead::Ahead;
 use crate::gather::{Found, Stopped, gather};
@@ -10,8 +9,12 @@ use dk_base::NoMemory;
 use dk_io::{Failed, Inputs};
 use std::alloc::Global;
 use std::marker::Model;
+use thiserror::Error;
 
-/// How many bytes a line may have before its LF, and how many all lines together.
+/// How many bytes are read at a time.
+const PIECE: usize = 65_536;
+
+/// How many bytes a line may have in front of its LF, and how many all lines may have together, each with its LF.
 #[derive(Clone, Copy, Debug, PartialEq, Eq)]
 pub struct Limits {
     pub line: u64,
@@ -19,14 +22,14 @@ pub struct Limits {
 }
 
 impl Limits {
-    /// The limits of the program.
+    /// The limits of the program: 2^24 and 2^40.
     pub const STANDARD: Limits = Limits {
         line: 16_777_216,
         total: 1_099_511_627_776,
     };
 }
 
-/// A line by its number in its file, without its LF and one CR before it.
+/// A line, without its LF and one CR in front of it. Lines are numbered from 1 in each file.
 #[derive(Clone, Copy, Debug)]
 pub struct Line<'a> {
     pub number: u64,
@@ -34,15 +37,24 @@ pub struct Line<'a> {
 }
 
 /// Why there is no next line.
-#[derive(Clone, Copy, Debug, PartialEq, Eq)]
+#[derive(Clone, Copy, Debug, PartialEq, Eq, Error)]
 pub enum LineFault {
+    /// Reading failed.
+    #[error("the file could not be read")]
     Read,
+    /// This line has more bytes in front of its LF than a line may have.
+    #[error("line {line} is too long")]
     LongLine { line: u64 },
+    /// All lines together have more bytes than they may have, and the first that is too many is in this line.
+    #[error("the files are too long at line {line}")]
     TooLong { line: u64 },
+    /// Memory could not be had.
+    #[error("out of memory")]
     NoMemory,
 }
 
-/// Reads the lines of one file after another.
+/// Reads the lines of one file after another. A file is cut at LF; bytes behind the last LF are a line, if there are any.
+/// The bytes of all files count towards the limit of all lines.
 #[derive(Drop)]
 pub struct Lines {
     limits: Limits,
@@ -56,18 +68,21 @@ pub struct Lines {
 impl Model for Lines {
     ghost use Rattle.std.specs.Prelude.{◌≤◌, ◌<◌, ◌+◌, ◌-◌, ◌^◌};
     ghost use Rattle.dk_lines.specs.Reading.{Reading};
+    ghost use Rattle.dk_lines.specs.Gathering.{last_line};
 
     ghost Value = { Reading };
 
-    ghost view = { λ l. record { limits = l.limits; is_started = l.is_started; number = l.number; total = l.total; ahead = l.ahead; line = l.line.items } };
+    ghost view = { λ l. record { limits = l.limits; is_started = l.is_started; number = l.number; total = l.total; ahead = l.ahead.bytes; line = last_line l.line.items l.ahead.line } };
 
     ghost invariant = { λ l. (l.limits.total < 2 ^ 64 - 1) × (l.total ≤ l.limits.total + 1) × (l.number ≤ l.total) × (l.number ≤ l.limits.total) };
 }
 
 impl Lines {
-    ghost use Rattle.dk_lines.specs.Reading.{Reading, Gives, left_of, answered, heard};
     ghost use Rattle.std.specs.Borrow.{sem};
     ghost use Rattle.std.specs.Io.BufRead.{Rests};
+    ghost use Rattle.dk_lines.specs.Reading.{left_of};
+    ghost use Rattle.dk_lines.specs.Answers.{heard, IsNext};
+    ghost use Rattle.dk_lines.specs.Gathering.{answered};
     ghost use Rattle.dk_lines.specs.contracts.lines.Lines.{the_row};
 
     /// No file is started.
@@ -80,12 +95,13 @@ impl Lines {
             is_started: false,
             number: 0,
             total: 0,
-            ahead: Ahead::new(alloc)?,
+            ahead: Ahead::new(alloc, PIECE)?,
             line: Vec::new(alloc),
         })
     }
 
-    /// Starts a file. Bytes that are held of an earlier one are given up. After a failed call no file is started.
+    /// Starts a file: the next line is its line 1. What was read ahead of an earlier one is given up, and the total goes on.
+    /// After a failed call no file is started.
     pub fn start<I: Inputs>(&mut self, inputs: &mut I, name: &str) -> Result<(), Failed>
         ensures lines { self.new ≡ record self.old { is_started = is_ok result; number = 0; ahead = []; line = [] } }
         ensures files { I.file inputs.new ≡ I.file inputs.old }
@@ -104,9 +120,13 @@ impl Lines {
     }
 
     /// The next line, or None at the file's end. After None or a fault no file is started.
+    ///
+    /// A fault of a limit comes at the first byte that is too many. At one byte the limit of the line stands before that of all lines.
+    /// A line that was read to its end is answered in place of a failed read behind it.
     pub fn next<I: Inputs>(&mut self, inputs: &mut I) -> Result<Option<Line<'_>>, LineFault>
         requires { self.old.is_started ≡ true }
-        ensures* gives { sem 𝓛 (Rests the_row self.entry (λ new. Gives self.old (left_of self.old (I.rest inputs.old)) (heard result) new (left_of new (I.rest inputs.new)))) }
+        ensures* next { sem 𝓛 (Rests the_row self.entry (λ new.
+            IsNext self.old (left_of self.old (I.rest inputs.old)) (heard result) new (left_of new (I.rest inputs.new)))) }
         ensures files { I.file inputs.new ≡ I.file inputs.old }
         ensures later { I.faults inputs.old ≤ I.faults inputs.new }
         ensures cause { IsErrOf result LineFault.Read → Rose (I.faults inputs.old) (I.faults inputs.new) }
@@ -124,28 +144,33 @@ impl Lines {
         self.is_started
     }
 
-    /// The number of the line that comes next.
+    /// The number that the next line would have.
     pub fn next_number(&self) -> u64
         ensures { result ≡ self.now.number + 1 }
     {
         self.number + 1
     }
 
-    /// The line that was read last.
+    // The line that was read last.
     fn current(&self) -> Line<'_>
         ensures number { result.number ≡ self.now.number }
-        ensures bytes { result.bytes.now ≡ self.now.line }
+        ensures bytes { result.bytes.now ≡ without_cr self.now.line }
     {
+        let line = if self.line.is_empty() {
+            self.ahead.line()
+        } else {
+            self.line.as_slice()
+        };
         Line {
             number: self.number,
-            bytes: self.line.as_slice(),
+            bytes: drop_cr(line),
         }
     }
 
-    /// Goes to the next line, where there is one.
+    // Goes to the next line, where there is one.
     fn advance<I: Inputs>(&mut self, inputs: &mut I) -> Result<bool, LineFault>
         requires { self.old.is_started ≡ true }
-        ensures gives { Gives self.old (left_of self.old (I.rest inputs.old)) (answered self.new result) self.new (left_of self.new (I.rest inputs.new)) }
+        ensures next { IsNext self.old (left_of self.old (I.rest inputs.old)) (answered self.new result) self.new (left_of self.new (I.rest inputs.new)) }
         ensures files { I.file inputs.new ≡ I.file inputs.old }
         ensures later { I.faults inputs.old ≤ I.faults inputs.new }
         ensures cause { IsErrOf result LineFault.Read → Rose (I.faults inputs.old) (I.faults inputs.new) }
@@ -159,7 +184,6 @@ impl Lines {
                 self.is_started = true;
                 self.number += 1;
                 self.total += used;
-                drop_cr(&mut self.line);
                 Ok(true)
             }
             Ok(Found::End) => Ok(false),
@@ -188,11 +212,11 @@ impl Lines {
 }
 
 // Leaves one CR at the end out.
-fn drop_cr(line: &mut Vec<u8>)
-    ensures { line.new.items ≡ without_cr line.old.items }
+fn drop_cr(line: &[u8]) -> &[u8]
+    ensures { result.now ≡ without_cr line.now }
 {
-    let len = line.len();
-    if len > 0 && line[len - 1] == b'\r' {
-        line.truncate(len - 1);
+    match line {
+        [front @ .., b'\r'] => front,
+        _ => line,
     }
 }

@@ -1,0 +1,9 @@
+pub mod Splits
+pub mod Spellings
+pub mod Numerals
+pub mod Gathering
+pub mod Samenesses
+pub mod Joining
+pub mod ReadBack
+pub mod Written
+pub mod Examples

@@ -1,0 +1,112 @@
+-- The pieces of a text, byte by byte.
+use Rattle.std.proofs.Common.{◌≡◌, ◌<◌, ◌≤◌, ◌+◌, ◌∙◌, ◌++◌, ◌∷◌, [], ℕ, Bool, true, false, zero, suc, List, refl, ap, append-nil, append_assoc, sym, drop, take, length, get_or, arith, subst}
+use Rattle.std.proofs.lemmas.List.{take_more, drop_more, take_all, drop_all, length-take}
+use Rattle.dk_base.specs.Pieces.{outside, place_after, cuts, parts, nonempty, pieces, BeginsPiece}
+use Rattle.dk_base.specs.declared.splitting.Cut.{Cut}
+use Rattle.dk_base.specs.declared.splitting.Cut.TheVariants.{AtBlanksAndTabs, AtBlanksOutsideQuotes}
+use Rattle.dk_base.specs.declared.splitting.Place.{Place}
+
+-- bytes in front of the first part
+abbrev pub behind : List ℕ → List ℕ × List (List ℕ) → List ℕ × List (List ℕ)
+behind front found = (front ++ found.0, found.1)
+
+-- what cuts in quotes cuts outside of them
+cuts_outside : (cut : Cut) (p : Place) (b : ℕ) → cuts cut p b ≡ true → cuts cut outside b ≡ true
+cuts_outside AtBlanksAndTabs p b h = h
+cuts_outside AtBlanksOutsideQuotes p b h = go p.quoted b h
+  where
+    go : (quoted : Bool) (b : ℕ) → cuts AtBlanksOutsideQuotes (record { quoted = quoted; escaped = false }) b ≡ true → cuts AtBlanksOutsideQuotes outside b ≡ true
+    go true b h = cc
+    go false b h = h
+
+-- a cut in front leaves the pieces as they are
+pub pieces_behind_cut : (cut : Cut) (b : ℕ) (bs : List ℕ) → cuts cut outside b ≡ true → pieces cut (b ∷ bs) ≡ pieces cut bs
+unfolding pieces
+pieces_behind_cut cut b bs h = rw h refl
+
+-- where the next byte cuts, it may be left out
+pub pieces_one_on : (cut : Cut) (text : List ℕ) (i : ℕ) → i < length text → cuts cut outside (get_or text i 0) ≡ true
+    → pieces cut (drop (i + 1) text) ≡ pieces cut (drop i text)
+pieces_one_on cut text i lt h =
+    sym (ap (pieces cut) (drop_more text i 0 lt) ∙ pieces_behind_cut cut (get_or text i 0) (drop (i + 1) text) h)
+
+pub no_pieces : (cut : Cut) → pieces cut [] ≡ []
+unfolding pieces
+no_pieces cut = refl
+
+-- where the next byte does not cut, a piece begins
+pub begins_at : (cut : Cut) (text : List ℕ) (i : ℕ) → i < length text → cuts cut outside (get_or text i 0) ≡ false → BeginsPiece cut (drop i text)
+begins_at cut text i lt h = let P : List ℕ → Type 0 = BeginsPiece cut in subst P (sym (drop_more text i 0 lt)) h
+
+-- a byte that does not cut goes to the first part
+stays : (cut : Cut) (p : Place) (front : List ℕ) (b : ℕ) (bs : List ℕ) → cuts cut p b ≡ false
+    → behind (front ++ b ∷ []) (parts cut (place_after cut p b) bs) ≡ behind front (parts cut p (b ∷ bs))
+stays cut p front b bs h =
+    rw h (ap (λ (first : List ℕ). (first, (parts cut (place_after cut p b) bs).1)) (append_assoc front (b ∷ []) _))
+
+-- one byte more of the first part
+pub longer : (cut : Cut) (p : Place) (text : List ℕ) (i : ℕ) → i < length text → cuts cut p (get_or text i 0) ≡ false
+    → behind (take i text) (parts cut p (drop i text)) ≡ parts cut outside text
+    → behind (take (i + 1) text) (parts cut (place_after cut p (get_or text i 0)) (drop (i + 1) text)) ≡ parts cut outside text
+longer cut p text i lt h so_far =
+    ap (λ front. behind front (parts cut (place_after cut p (get_or text i 0)) (drop (i + 1) text))) (take_more text i 0 lt)
+    ∙ stays cut p (take i text) (get_or text i 0) (drop (i + 1) text) h
+    ∙ ap (λ bs. behind (take i text) (parts cut p bs)) (sym (drop_more text i 0 lt))
+    ∙ so_far
+
+-- the pieces, where the first part is not empty
+pub kept : (first : List ℕ) (others : List (List ℕ)) → 0 < length first → nonempty (first ∷ others) ≡ first ∷ nonempty others
+kept [] others positive = absurd (omega arith)
+kept (b ∷ bs) others positive = refl
+
+cut_at : (cut : Cut) (p : Place) (text front : List ℕ) (b : ℕ) (bs : List ℕ) → 0 < length front → cuts cut p b ≡ true
+    → behind front (parts cut p (b ∷ bs)) ≡ parts cut outside text
+    → pieces cut text ≡ front ∷ pieces cut (b ∷ bs)
+unfolding pieces
+cut_at cut p text front b bs positive h so_far =
+    let whole : front ++ [] ≡ front = append-nil front in
+    let same : (front, (parts cut outside bs).0 ∷ (parts cut outside bs).1) ≡ parts cut outside text = rw (h, whole) at so_far in
+    ap (λ (found : List ℕ × List (List ℕ)). nonempty (found.0 ∷ found.1)) (sym same)
+    ∙ kept front ((parts cut outside bs).0 ∷ (parts cut outside bs).1) positive
+    ∙ ap (λ (ps : List (List ℕ)). front ∷ ps) (sym (pieces_behind_cut cut b bs (cuts_outside cut p b h)))
+
+-- the first piece ends at a cut
+pub ends_at_cut : (cut : Cut) (p : Place) (text : List ℕ) (i : ℕ) → i < length text → 0 < i → cuts cut p (get_or text i 0) ≡ true
+    → behind (take i text) (parts cut p (drop i text)) ≡ parts cut outside text
+    → pieces cut text ≡ take i text ∷ pieces cut (drop i text)
+ends_at_cut cut p text i lt positive h so_far =
+    let here : drop i text ≡ get_or text i 0 ∷ drop (i + 1) text = drop_more text i 0 lt in
+    let some : 0 < length (take i text) = omega (arith, length-take i text) in
+    cut_at cut p text (take i text) (get_or text i 0) (drop (i + 1) text) some h (ap (λ bs. behind (take i text) (parts cut p bs)) (sym here) ∙ so_far)
+    ∙ ap (λ bs. take i text ∷ pieces cut bs) (sym here)
+
+begun_not_empty : (cut : Cut) (text : List ℕ) → BeginsPiece cut text → 0 < length text
+begun_not_empty cut [] begins = absurd begins
+begun_not_empty cut (b ∷ bs) begins = omega arith
+
+all_one_piece : (cut : Cut) (text : List ℕ) → 0 < length text → (text ++ [], []) ≡ parts cut outside text → pieces cut text ≡ text ∷ []
+unfolding pieces
+all_one_piece cut text positive so_far =
+    let same : (text, []) ≡ parts cut outside text = rw (append-nil text) at so_far in
+    ap (λ (found : List ℕ × List (List ℕ)). nonempty (found.0 ∷ found.1)) (sym same) ∙ kept text [] positive
+
+-- the first piece is all that is left
+pub ends_at_end : (cut : Cut) (p : Place) (text : List ℕ) (i : ℕ) → BeginsPiece cut text → length text ≤ i
+    → behind (take i text) (parts cut p (drop i text)) ≡ parts cut outside text
+    → pieces cut text ≡ take (length text) text ∷ pieces cut (drop (length text) text)
+ends_at_end cut p text i begins over so_far =
+    let nothing : drop i text ≡ [] = drop_all i text over in
+    let all : take i text ≡ text = take_all i text over in
+    let same : (text ++ [], []) ≡ parts cut outside text = ap (λ t. behind t (parts cut p [])) (sym all) ∙ ap (λ t. behind (take i text) (parts cut p t)) (sym nothing) ∙ so_far in
+    let whole : take (length text) text ≡ text = take_all (length text) text (omega arith) in
+    let left : drop (length text) text ≡ [] = drop_all (length text) text (omega arith) in
+    all_one_piece cut text (begun_not_empty cut text begins) same
+    ∙ ap (λ t. t ∷ []) (sym whole)
+    ∙ ap (λ ps. take (length text) text ∷ ps) (sym (ap (pieces cut) left ∙ no_pieces cut))
+
+-- the first byte does not cut
+pub not_at_once : (cut : Cut) (p : Place) (text : List ℕ) (i : ℕ) → BeginsPiece cut text → (i ≡ 0 → p ≡ outside) → cuts cut p (get_or text i 0) ≡ true → 0 < i
+not_at_once cut p [] i begins first h = absurd begins
+not_at_once cut p (b ∷ bs) zero begins first h =
+    let at_outside : cuts cut outside b ≡ true = rw (first refl) at h in cc
+not_at_once cut p (b ∷ bs) (suc i) begins first h = omega arith

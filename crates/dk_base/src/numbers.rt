@@ -1,0 +1,116 @@
+// Whole numbers as text.
+ghost use Rattle.std.specs.Prelude.{◌≡◌, ◌+◌, ◌*◌, ◌≤◌, option_and_then, option_map, Some};
+ghost use Rattle.std.specs.Char.{digit_value as value_of_digit};
+ghost use Rattle.dk_base.specs.Items.{held, held_in_u64};
+ghost use Rattle.dk_base.specs.Numbers.{fits_i64, in_u64, integer_of, natural_of, numeral_of, signed, whole_of};
+
+use crate::items::Item;
+
+/// The value of a digit, or 36.
+fn digit_value(byte: u8) -> u8
+    ensures { result ≡ value_of_digit byte }
+{
+    match byte {
+        b'0'..=b'9' => byte - b'0',
+        b'A'..=b'Z' => byte - b'A' + 10,
+        b'a'..=b'z' => byte - b'a' + 10,
+        _ => 36,
+    }
+}
+
+fn with_digit(radix: u8, total: Option<u64>, digit: u8) -> Option<u64>
+    ensures { result ≡ option_and_then (λ n. in_u64 (n * radix + digit)) total }
+{
+    match total {
+        None => None,
+        Some(n) => match n.checked_mul(u64::from(radix)) {
+            None => None,
+            Some(scaled) => scaled.checked_add(u64::from(digit)),
+        },
+    }
+}
+
+/// The number that the digits write: missing where 64 bits do not hold it, and bad where the text has other bytes or none.
+pub(crate) fn numeral(radix: u8, text: &[u8]) -> Item<u64>
+    requires { 1 ≤ radix }
+    ensures { result ≡ held_in_u64 (numeral_of radix text.now) }
+{
+    if text.is_empty() {
+        return Item::Bad;
+    }
+    let mut total = Some(0);
+    for byte in text {
+        let digit = digit_value(*byte);
+        if digit >= radix {
+            return Item::Bad;
+        }
+        total = with_digit(radix, total, digit);
+    }
+    match total {
+        None => Item::Missing,
+        Some(n) => Item::Present(n),
+    }
+}
+
+fn number_of_sign(is_negative: bool, size: u64) -> Item<i64>
+    ensures { result ≡ held fits_i64 (Some (signed is_negative size)) }
+{
+    const LIMIT: u64 = 1 << 63;
+    if is_negative {
+        if size <= LIMIT {
+            Item::Present((-(size as i128)) as i64)
+        } else {
+            Item::Missing
+        }
+    } else if size < LIMIT {
+        Item::Present(size as i64)
+    } else {
+        Item::Missing
+    }
+}
+
+fn signed_numeral(is_negative: bool, text: &[u8]) -> Item<i64>
+    ensures { result ≡ held fits_i64 (option_map (signed is_negative) (numeral_of 10 text.now)) }
+{
+    match numeral(10, text) {
+        Item::Bad => Item::Bad,
+        Item::Missing => Item::Missing,
+        Item::Present(size) => number_of_sign(is_negative, size),
+    }
+}
+
+/// The number that decimal digits with an optional minus write: missing where 64 bits do not hold it, and bad where the text is none.
+#[tactic(auto, unfolding(crate::specs::Numbers::whole_of))]
+pub(crate) fn whole(text: &[u8]) -> Item<i64>
+    ensures { result ≡ held fits_i64 (whole_of text.now) }
+{
+    match text {
+        [] => Item::Bad,
+        [b'-', digits @ ..] => signed_numeral(true, digits),
+        [_, ..] => signed_numeral(false, text),
+    }
+}
+
+/// The number of 64 bits that decimal digits with an optional minus write, or none where the text is no such number.
+#[tactic(auto, unfolding(crate::specs::Numbers::integer_of))]
+pub fn parse_integer(text: &[u8]) -> Option<i64>
+    ensures { result ≡ integer_of text.now }
+{
+    match whole(text) {
+        Item::Present(number) => Some(number),
+        Item::Bad => None,
+        Item::Missing => None,
+    }
+}
+
+/// The number of 64 bits that decimal digits write, or none where the text is no such number.
+#[tactic(auto, unfolding(crate::specs::Numbers::natural_of))]
+pub fn parse_natural(text: &[u8]) -> Option<u64>
+    ensures { result ≡ natural_of text.now }
+{
+    match numeral(10, text) {
+        Item::Present(number) => Some(number),
+        Item::Bad => None,
+        Item::Missing => None,
+    }
+}

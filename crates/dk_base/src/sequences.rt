@@ -1,0 +1,159 @@
+// What a text is as a sequence.
+ghost use Rattle.std.specs.Prelude.{◌≡◌, ℕ, List, IfOk, map, option_map};
+ghost use Rattle.dk_base.specs.Items.{bool_item, hash_item, int_item, item_map, str_item};
+ghost use Rattle.dk_base.specs.Pieces.{pieces};
+ghost use Rattle.dk_base.specs.Sequences.{all_of, inside, sequence};
+ghost use Rattle.dk_base.specs.declared.items.Item.{Item};
+ghost use Rattle.dk_base.specs.declared.splitting.Cut.TheVariants.{AtBlanksOutsideQuotes};
+
+use crate::items::{Item, bool_item, hash_item, int_item, is_missing_word, is_text, is_word};
+use crate::splitting::{Cut, next_piece};
+use crate::{Arena, NoMemory};
+use bumpalo::collections::into_bump_slice;
+
+/// An item that holds no text.
+pub(crate) trait Element: Copy {
+    ghost item_of: { List ℕ → Item Self };
+
+    fn read(text: &[u8]) -> Item<Self>
+        ensures { result ≡ item_of text.now };
+}
+
+impl Element for bool {
+    ghost item_of = { bool_item };
+
+    fn read(text: &[u8]) -> Item<bool> {
+        bool_item(text)
+    }
+}
+
+impl Element for i64 {
+    ghost item_of = { int_item };
+
+    fn read(text: &[u8]) -> Item<i64> {
+        int_item(text)
+    }
+}
+
+impl Element for u64 {
+    ghost item_of = { hash_item };
+
+    fn read(text: &[u8]) -> Item<u64> {
+        hash_item(text)
+    }
+}
+
+/// The items that the pieces of the text write, in the arena.
+fn read_items<'a, T: Element>(arena: &'a Arena, text: &[u8]) -> Result<Item<&'a [T]>, NoMemory>
+    ensures { IfOk result (λ found. item_map (λ s. s.now) found ≡ all_of (map T.item_of (pieces AtBlanksOutsideQuotes text.now))) }
+{
+    let mut items = Vec::new(arena);
+    let mut is_missing = false;
+    let mut left = text;
+    'items: while let Some((piece, rest)) = next_piece(Cut::AtBlanksOutsideQuotes, left) {
+        match T::read(piece) {
+            Item::Bad => return Ok(Item::Bad),
+            Item::Missing => is_missing = true,
+            Item::Present(item) => items.push(item)?,
+        }
+        left = rest;
+    }
+    if is_missing {
+        return Ok(Item::Missing);
+    }
+    Ok(Item::Present(into_bump_slice(items)))
+}
+
+#[tactic(auto, unfolding(crate::specs::Items::str_item))]
+fn str_item(text: &[u8]) -> Item<&[u8]>
+    ensures { item_map (λ s. s.now) result ≡ str_item text.entry.now }
+{
+    if is_missing_word(text) {
+        Item::Missing
+    } else if is_text(text) {
+        Item::Present(text)
+    } else {
+        Item::Bad
+    }
+}
+
+/// The strings that the pieces of the text write; they are parts of it.
+fn read_texts<'a>(arena: &'a Arena, text: &'a [u8]) -> Result<Item<&'a [&'a [u8]]>, NoMemory>
+    ensures { IfOk result (λ found. item_map (λ s. map (λ t. t.now) s.now) found ≡ all_of (map str_item (pieces AtBlanksOutsideQuotes text.entry.now))) }
+{
+    let mut items: Vec<&'a [u8], &'a Arena> = Vec::new(arena);
+    let mut is_missing = false;
+    let mut left = text;
+    'items: while let Some((piece, rest)) = next_piece(Cut::AtBlanksOutsideQuotes, left) {
+        match str_item(piece) {
+            Item::Bad => return Ok(Item::Bad),
+            Item::Missing => is_missing = true,
+            Item::Present(item) => items.push(item)?,
+        }
+        left = rest;
+    }
+    if is_missing {
+        return Ok(Item::Missing);
+    }
+    Ok(Item::Present(into_bump_slice(items)))
+}
+
+fn inside(text: &[u8]) -> Option<&[u8]>
+    ensures { option_map (λ s. s.now) result ≡ inside text.now }
+{
+    match text {
+        [b'[', inner @ .., b']'] => Some(inner),
+        _ => None,
+    }
+}
+
+/// The sequence of items without text that the text writes, in the arena.
+#[tactic(auto, unfolding(crate::specs::Sequences::sequence))]
+pub(crate) fn sequence<'a, T: Element>(
+    arena: &'a Arena,
+    text: &[u8],
+) -> Result<Item<&'a [T]>, NoMemory>
+    ensures { IfOk result (λ found. item_map (λ s. s.now) found ≡ sequence T.item_of text.now) }
+{
+    if is_missing_word(text) || is_word(text, b"null") {
+        return Ok(Item::Missing);
+    }
+    match inside(text) {
+        None => Ok(Item::Bad),
+        Some(inner) => read_items(arena, inner),
+    }
+}
+
+/// The sequence of strings that the text writes. They are parts of one copy of it in the arena.
+#[tactic(auto, unfolding(crate::specs::Sequences::sequence))]
+pub(crate) fn text_sequence<'a>(
+    arena: &'a Arena,
+    text: &[u8],
+) -> Result<Item<&'a [&'a [u8]]>, NoMemory>
+    ensures { IfOk result (λ found. item_map (λ s. map (λ t. t.now) s.now) found ≡ sequence str_item text.now) }
+{
+    if is_missing_word(text) || is_word(text, b"null") {
+        return Ok(Item::Missing);
+    }
+    match inside(text) {
+        None => Ok(Item::Bad),
+        Some(inner) => {
+            let copy: &'a [u8] = arena.try_alloc_slice_copy(inner)?;
+            read_texts(arena, copy)
+        }
+    }
+}
+
+/// The string that the text writes, as a copy in the arena.
+pub(crate) fn text_value<'a>(arena: &'a Arena, text: &[u8]) -> Result<Item<&'a [u8]>, NoMemory>
+    ensures { IfOk result (λ found. item_map (λ s. s.now) found ≡ str_item text.now) }
+{
+    match str_item(text) {
+        Item::Bad => Ok(Item::Bad),
+        Item::Missing => Ok(Item::Missing),
+        Item::Present(text) => {
+            let copy: &'a [u8] = arena.try_alloc_slice_copy(text)?;
+            Ok(Item::Present(copy))
+        }
+    }
+}

@@ -1,0 +1,13 @@
+use Rattle.std.proofs.Common.{◌≡◌, ◌∙◌, sym, ap, bytes_eq, map, rules}
+use Rattle.dk_core.proofs.Places.{insert_key-new}
+use Rattle.dk_core.proofs.names.Names.push.Goals.{in-Ok, in-Err}
+use Rattle.dk_core.proofs.names.Names.push.Goals as goal
+
+pub returns-clause-ok : goal.returns-clause-ok
+returns-clause-ok c =
+    let none = rw (← c.self.view_is) at c.requires in
+    elim c.match-insert.branch [
+      | in-Ok w ↦ rw (w.result-is, ← c.self.view_is) (ap (map (λ k. k.items)) w.in-Ok.ensures.keys
+          ∙ insert_key-new (λ k. k.items) c.self.inside.set.keys c.in_ok-key.key c.args.name.now c.in_ok-key.ensures.items none)
+      | in-Err w ↦ rw w.result-is tt
+    ]
