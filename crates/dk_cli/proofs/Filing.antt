@@ -1,8 +1,9 @@
 -- Reading a file block by block.
-use Rattle.std.proofs.Common.{◌≡◌, ◌-◌, ℕ, List, [], ◌++◌, length, inr, Bool, true, false, Option, Some, None, IfSome, Ok, refl, sym, ◌∙◌, ap, subst, arith, append_assoc}
+use Rattle.std.proofs.Common.{◌≡◌, ◌-◌, ℕ, List, [], ◌∷◌, ◌++◌, length, inr, Bool, true, false, Option, Some, None, IfSome, Ok, refl, sym, ◌∙◌, ap, subst, arith, append_assoc}
 use Rattle.std.proofs.lemmas.List.{append-nil}
 use Rattle.std.specs.Io.KnownBytes.{prepend_known}
 use Rattle.std.specs.Result.{IsOk}
+use Rattle.dk_base.specs.Reading.{LineFault}
 use Rattle.dk_base.specs.declared.faults.Fault.{Fault}
 use Rattle.dk_base.specs.declared.faults.Fault.TheVariants.{Refused, Read, NoMemory}
 use Rattle.dk_io.specs.Outside.{Held, Holds, Starts}
@@ -14,7 +15,7 @@ use Rattle.dk_core.specs.Standing.{StandsFor, over_of}
 use Rattle.dk_core.specs.Steps.{groups_left, Steps, Answers, FaultAnswers}
 use Rattle.dk_core.specs.declared.session.Session.{Session}
 use Rattle.dk_core.proofs.Stepping.{Follows, follows, split_on, room_on}
-use Rattle.dk_cli.specs.WholeFile.{Within, GoesOn, ComesToEnd, FaultGives, IsBroken, TroubleGives, fresh}
+use Rattle.dk_cli.specs.WholeFile.{Within, GoesOn, ComesToEnd, HasFault, FaultGives, IsBroken, TroubleGives, fresh}
 use Rattle.dk_cli.specs.declared.reading.Trouble.TheVariants as t
 
 pub file_begun : (h : History) (s : Session) (r : Reading) (o : Option (List ℕ)) → StandsFor s h → over_of s ≡ false → IfSome o (λ xs. GoesOn h r xs s r o)
@@ -90,15 +91,33 @@ file_fault h r new last (Some xs) mid left s fault (h1, stands, (ys, is, w)) ans
       go (Read file) a = (w.front ++ a.front, (a.rest, a.left_is, split_on xs w.front ys a.front a.rest w.split a.split, w.cut a.front a.rest a.split a.fine))
       go NoMemory a = tt
 
--- what holds where the started file's bytes are told
+-- what holds of a started file holds of its bytes, where they are told
+told : (P : Reading → List ℕ → Type 0) (r mid : Reading) (held : Held) (xs : List ℕ) (rest : Option (List ℕ))
+    → mid ≡ fresh r → Starts held rest → held ≡ Holds xs → IfSome (left_of mid rest) (λ xs. P mid xs) → P (fresh r) xs
+told P r mid held xs rest is starts holds gives =
+    let bytes : rest ≡ Some xs = subst (λ (h : Held). Starts h rest) holds starts in
+    subst (λ (o : Option (List ℕ)). IfSome (left_of (fresh r) o) (λ xs. P (fresh r) xs)) bytes
+    (subst (λ (m : Reading). IfSome (left_of m rest) (λ xs. P m xs)) is gives)
+
+nothing_left : (ahead : List ℕ) (after : Option (List ℕ)) → prepend_known ahead after ≡ Some [] → after ≡ Some []
+nothing_left ahead None e = absurd (cc (e))
+nothing_left [] (Some xs) e = e
+nothing_left (b ∷ bs) (Some xs) e = absurd (cc (e))
+
+pub told_end : (h : History) (r mid last : Reading) (held : Held) (xs : List ℕ) (rest after : Option (List ℕ)) (s : Session)
+    → mid ≡ fresh r → Starts held rest → held ≡ Holds xs → IfSome (left_of mid rest) (λ xs. ComesToEnd h mid xs s last (left_of last after))
+    → ComesToEnd h (fresh r) xs s last after
+told_end h r mid last held xs rest after s is starts holds gives =
+    let (next, stands, nothing, room, all) = told (λ m ys. ComesToEnd h m ys s last (left_of last after)) r mid held xs rest is starts holds gives in
+    (next, stands, nothing_left last.ahead after nothing, room, all)
+
+pub told_fault : (h : History) (r mid : Reading) (held : Held) (xs : List ℕ) (rest : Option (List ℕ)) (fault : LineFault)
+    → mid ≡ fresh r → Starts held rest → held ≡ Holds xs → IfSome (left_of mid rest) (λ xs. HasFault h mid xs fault) → HasFault h (fresh r) xs fault
+told_fault h r mid held xs rest fault is starts holds gives = told (λ m ys. HasFault h m ys fault) r mid held xs rest is starts holds gives
+
 pub told_read : (h : History) (r mid last : Reading) (held : Held) (xs : List ℕ) (before rest after : Option (List ℕ))
-    → mid ≡ fresh r → Starts held rest → held ≡ Holds xs → last.ahead ≡ []
-    → IfSome (left_of mid rest) (λ xs. IsBroken h mid xs (left_of last after))
+    → mid ≡ fresh r → Starts held rest → held ≡ Holds xs → last.ahead ≡ [] → IfSome (left_of mid rest) (λ xs. IsBroken h mid xs (left_of last after))
     → TroubleGives h r xs before t.Read after
 told_read h r mid last held xs before rest after is starts holds none gives =
-    let told : rest ≡ Some xs = subst (λ (h : Held). Starts h rest) holds starts in
-    let f : IsBroken h (fresh r) xs (left_of last after) =
-    subst (λ (o : Option (List ℕ)). IfSome (left_of (fresh r) o) (λ xs. IsBroken h (fresh r) xs (left_of last after))) told
-    (subst (λ (m : Reading). IfSome (left_of m rest) (λ xs. IsBroken h m xs (left_of last after))) is gives) in
-    let now : after ≡ Some f.1.0 = sym (front_nil after) ∙ ap (λ (a : List ℕ). prepend_known a after) (sym none) ∙ f.1.1 in
-    inr (f.0, (f.1.0, now, f.1.2, f.1.3))
+    let (front, (more, left, split, fine)) = told (λ m ys. IsBroken h m ys (left_of last after)) r mid held xs rest is starts holds gives in
+    inr (front, (more, sym (front_nil after) ∙ ap (λ (a : List ℕ). prepend_known a after) (sym none) ∙ left, split, fine))
