@@ -1,7 +1,7 @@
 // Inputs in memory, some of whose calls fail.
 ghost use Rattle.std.specs.Prelude.{◌≡◌, ◌≤◌, ◌<◌, ◌⊎◌, ◌↔◌, [], length, take, min, Some, IsTrue, IfOk, OnOk, OnErr, IsErr};
 ghost use Rattle.std.specs.Io.KnownBytes.{prepend_known, IsAtEnd};
-ghost use Rattle.dk_io.specs.Outside.{Held, Absent, Rose, HasCause, Starts};
+ghost use Rattle.dk_io.specs.Outside.{Absent, Rose, HasCause, Starts};
 ghost use Rattle.dk_io.specs.NamedFiles.{held_in};
 ghost use Rattle.dk_io.specs.Calls.{uncalled, next_fails, counted};
 

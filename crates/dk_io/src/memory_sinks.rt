@@ -1,5 +1,5 @@
 // Sinks in memory, some of whose calls fail, and whose room is limited.
-ghost use Rattle.std.specs.Prelude.{◌≡◌, ◌≤◌, ◌<◌, ◌-◌, ◌↔◌, ◌++◌, [], length, take, min, nat_le, IsTrue, IfOk, OnErr, IsErr, vec_len, vec_capacity, true, false};
+ghost use Rattle.std.specs.Prelude.{◌≡◌, ◌≤◌, ◌<◌, ◌-◌, ◌↔◌, ◌++◌, [], length, take, min, IsTrue, IfOk, OnErr, IsErr, vec_capacity};
 ghost use Rattle.dk_io.specs.Outside.{Rose, HasCause};
 ghost use Rattle.dk_io.specs.Streams.{added};
 ghost use Rattle.dk_io.specs.Calls.{uncalled, counted};

@@ -1,8 +1,8 @@
 // Files by name, which the inputs in memory read from.
-ghost use Rattle.std.specs.Prelude.{◌≡◌, ◌≤◌, ◌<◌, ◌++◌, ◌↔◌, [], length, take, min, IsTrue, MatchOption};
+ghost use Rattle.std.specs.Prelude.{◌≡◌, ◌≤◌, ◌<◌, ◌++◌, [], length, take, min, MatchOption};
 ghost use Rattle.std.specs.Bool.{OnTrue, OnFalse};
 ghost use Rattle.dk_io.specs.Outside.{Absent, Holds};
-ghost use Rattle.dk_io.specs.NamedFiles.{Files, held_in, bytes_of, bytes_at};
+ghost use Rattle.dk_io.specs.NamedFiles.{Files, held_in, bytes_at};
 
 use dk_base::{List, Text};
 use std::marker::Model;

@@ -1,5 +1,5 @@
 // Lines, one after another.
-ghost use Rattle.std.specs.Prelude.{◌≡◌, ◌≤◌, ◌<◌, ◌+◌, ◌-◌, ◌^◌, ◌⊎◌, [], true, false, length, OnOk, OnErr, IfOk, IsErrOf, is_ok};
+ghost use Rattle.std.specs.Prelude.{◌≡◌, ◌≤◌, ◌<◌, ◌+◌, ◌-◌, ◌^◌, ◌⊎◌, [], true, false, OnOk, OnErr, IfOk, IsErrOf, is_ok};
 ghost use Rattle.dk_io.specs.Outside.{Absent, Rose, Starts};
 ghost use Rattle.dk_lines.specs.Left.{without_cr};
 
