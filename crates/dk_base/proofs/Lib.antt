@@ -7,3 +7,4 @@ pub mod Joining
 pub mod ReadBack
 pub mod Written
 pub mod Examples
+pub mod Wordless

@@ -265,7 +265,7 @@ text_whole : (s : List ℕ) → IsTrue (is_text s) → IsWhole s
 text_whole s h =
     elim (null_or_quoted s h) [ inl e ↦ subst IsWhole (sym e) (omega arith, λ rest. refl) | inr q ↦ in_quotes_whole s q ]
 
-text_no_word : (s : List ℕ) → IsTrue (is_text s) → is_missing_word s ≡ false
+pub text_no_word : (s : List ℕ) → IsTrue (is_text s) → is_missing_word s ≡ false
 text_no_word s h =
     let P : List ℕ → Type 0 = λ t. is_missing_word t ≡ false in
     elim (null_or_quoted s h) [ inl e ↦ subst P (sym e) refl | inr q ↦ in_quotes_no_word s q ]

@@ -1,7 +1,8 @@
 -- The words of a line.
 use Rattle.std.specs.Prelude.{ℕ, List, [], ◌∷◌, drop, reverse, take, if◌then◌else◌}
 use Rattle.std.specs.List.{position_or_len}
-use Rattle.dk_base.specs.Pieces.{is_blank, pieces}
+use Rattle.dk_base.specs.Pieces.{pieces}
+pub use Rattle.dk_base.specs.Pieces.{is_blank, is_empty}
 use Rattle.dk_base.specs.declared.splitting.Cut.TheVariants.{AtBlanksAndTabs}
 
 -- without the blanks and tabs at its front

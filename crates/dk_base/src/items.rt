@@ -2,7 +2,7 @@
 ghost use Rattle.std.specs.Prelude.{◌≡◌, ◌≤◌, true, false, option_map, unsigned_abs};
 ghost use Rattle.std.specs.Str.{bytes_eq};
 ghost use Rattle.dk_base.specs.Items.{bool_item, closes, code_of, hash_item, held, int_item, is_missing_word, is_quoted, is_text, item_map};
-ghost use Rattle.dk_base.specs.Numbers.{fits_u64, numeral_of, signed, whole_of};
+ghost use Rattle.dk_base.specs.Numbers.{fits_i64, fits_u64, numeral_of, signed, whole_of};
 
 use crate::numbers::{numeral, whole};
 
@@ -33,20 +33,21 @@ pub(crate) fn is_missing_word(text: &[u8]) -> bool
 pub(crate) fn bool_item(text: &[u8]) -> Item<bool>
     ensures { result ≡ bool_item text.now }
 {
-    if is_missing_word(text) {
-        Item::Missing
-    } else if is_word(text, b"true") || is_word(text, b"1") {
+    if is_word(text, b"true") || is_word(text, b"1") {
         Item::Present(true)
     } else if is_word(text, b"false") || is_word(text, b"0") {
         Item::Present(false)
+    } else if is_missing_word(text) {
+        Item::Missing
     } else {
         Item::Bad
     }
 }
 
+/// What a text that is no number is as a whole number.
 #[tactic(auto, unfolding(crate::specs::Items::int_item))]
-pub(crate) fn int_item(text: &[u8]) -> Item<i64>
-    ensures { result ≡ int_item text.now }
+fn int_word(text: &[u8]) -> Item<i64>
+    ensures { held fits_i64 (whole_of text.now) ≡ Item.Bad → result ≡ int_item text.now }
 {
     if is_missing_word(text) {
         Item::Missing
@@ -55,7 +56,16 @@ pub(crate) fn int_item(text: &[u8]) -> Item<i64>
     } else if is_word(text, b"false") {
         Item::Present(0)
     } else {
-        whole(text)
+        Item::Bad
+    }
+}
+
+pub(crate) fn int_item(text: &[u8]) -> Item<i64>
+    ensures { result ≡ int_item text.now }
+{
+    match whole(text) {
+        Item::Bad => int_word(text),
+        found => found,
     }
 }
 
@@ -103,16 +113,26 @@ fn code(text: &[u8]) -> Item<u64>
     }
 }
 
+/// What a text that is no number is as a hash code.
 #[tactic(auto, unfolding(crate::specs::Items::hash_item))]
+fn hash_word(text: &[u8]) -> Item<u64>
+    ensures { item_map unsigned_abs (held fits_u64 (code_of text.now)) ≡ Item.Bad → result ≡ hash_item text.now }
+{
+    if is_word(text, b"null") {
+        Item::Present(0)
+    } else if is_missing_word(text) {
+        Item::Missing
+    } else {
+        Item::Bad
+    }
+}
+
 pub(crate) fn hash_item(text: &[u8]) -> Item<u64>
     ensures { result ≡ hash_item text.now }
 {
-    if is_missing_word(text) {
-        Item::Missing
-    } else if is_word(text, b"null") {
-        Item::Present(0)
-    } else {
-        code(text)
+    match code(text) {
+        Item::Bad => hash_word(text),
+        found => found,
     }
 }
 

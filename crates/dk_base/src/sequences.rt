@@ -64,14 +64,14 @@ fn read_items<'a, T: Element>(arena: &'a Arena, text: &[u8]) -> Result<Item<&'a 
     Ok(Item::Present(into_bump_slice(items)))
 }
 
-#[tactic(auto, unfolding(crate::specs::Items::str_item))]
+#[tactic(auto, using(crate::proofs::ReadBack::text_no_word), unfolding(crate::specs::Items::str_item))]
 fn str_item(text: &[u8]) -> Item<&[u8]>
     ensures { item_map (λ s. s.now) result ≡ str_item text.entry.now }
 {
-    if is_missing_word(text) {
-        Item::Missing
-    } else if is_text(text) {
+    if is_text(text) {
         Item::Present(text)
+    } else if is_missing_word(text) {
+        Item::Missing
     } else {
         Item::Bad
     }

@@ -243,11 +243,13 @@ fn lines_have_words(rt: HostRuntime) -> Result<(), Fail> {
 fn lists_and_texts_grow(rt: HostRuntime) -> Result<(), Fail> {
     let mut list = List::from_slice(rt.alloc(), &[1u8, 2])?;
     list.push(3)?;
-    assert!(rt; list.as_slice() == [1, 2, 3].as_slice());
+    assert!(rt; list == List::from_slice(rt.alloc(), &[1, 2, 3])?);
+    assert!(rt; list.into_vec().as_slice() == [1, 2, 3].as_slice());
     let mut text = Text::from_slice(rt.alloc(), b"a")?;
     text.push(b'b')?;
     text.append(b"cd")?;
     assert!(rt; text.as_slice() == b"abcd".as_slice());
+    assert!(rt; text.len() == 4 && !text.is_empty());
     assert!(rt; text == Text::from_slice(rt.alloc(), b"abcd")?);
     Ok(())
 }
