@@ -1,10 +1,9 @@
 -- Lines of a declaration, one after another.
-use Rattle.std.proofs.Common.{◌≡◌, ◌<◌, ◌&&◌, ◌||◌, not, ℕ, Bool, true, false, cond, List, [], ◌∷◌, ◌++◌, length, map, position, Option, Some, None, refl, sym, ◌∙◌, ap, subst, arith, append_assoc, bytes_eq}
+use Rattle.std.proofs.Common.{◌≡◌, ◌<◌, ◌&&◌, ◌||◌, not, ℕ, Bool, true, false, cond, List, [], ◌∷◌, ◌++◌, length, Option, Some, None, refl, sym, ◌∙◌, ap, arith, append_assoc, bytes_eq}
 use Rattle.std.specs.List.{list_any}
 use Rattle.std.proofs.lemmas.List.{append-nil}
 use Rattle.std.proofs.lemmas.List.Folds.{list_any-append}
-use Rattle.std.specs.Option.{option_map}
-use Rattle.dk_core.specs.Declarations.{Declaration, has_colons, is_point_type, is_int_type, variable_name, point_name, variables_of, are_distinct, declared, declared_behind, declaration_of, onto_some}
+use Rattle.dk_core.specs.Declarations.{has_colons, is_point_type, is_int_type, variable_name, point_name, variables_of, are_distinct, declared, declared_behind, declaration_of, onto_some}
 use Rattle.dk_core.specs.Blocked.{behind_vars, typed_vars, headed_by, declared_by_state}
 use Rattle.dk_core.specs.declared.declaration.Awaited.TheVariants.{PointType, Variable, IntType}
 

@@ -1,19 +1,18 @@
 -- What is kept from block to block, line after line and block after block.
-use Rattle.std.proofs.Common.{◌≡◌, ◌<◌, ◌≤◌, ◌+◌, ℕ, ℤ, zero, suc, Bool, true, false, cond, List, [], ◌∷◌, ◌++◌, length, take, map, get_or, slice_get, slice_set, is_some, Option, Some, None, Result, Ok, Err, refl, sym, ◌∙◌, ap, subst, arith}
+use Rattle.std.proofs.Common.{◌≡◌, ◌<◌, ◌≤◌, ◌+◌, ℕ, ℤ, zero, suc, true, false, cond, List, [], ◌∷◌, ◌++◌, length, take, map, get_or, slice_get, slice_set, is_some, Option, Some, None, Ok, Err, refl, sym, ◌∙◌, ap, arith}
 use Rattle.std.proofs.lemmas.List.{map-append, map-set, flat_map_more}
 use Rattle.std.proofs.lemmas.Option.{slice_get-map}
 use Rattle.std.specs.List.{flat_map}
 use Rattle.dk_core.specs.Sections.{section_of}
 use Rattle.std.specs.Option.{option_map, option_and_then}
-use Rattle.dk_base.specs.Reading.{Line, LineFault}
+use Rattle.dk_base.specs.Reading.{Line}
 use Rattle.dk_base.specs.declared.why.Why.TheVariants.{BadPoint, UnknownPoint}
 use Rattle.dk_core.specs.Declarations.{Declaration, declaration_of}
 use Rattle.dk_core.specs.Records.{values_of}
-use Rattle.dk_core.specs.Blocked.{declared_by, sampled_by, Declares, Samples}
-use Rattle.dk_core.specs.History.{History, Point, Taken, names, bytes_of, place_of, with_point, sampled, with_sample, with_sample_at, is_declaration, taken_or_refused, effect_of}
+use Rattle.dk_core.specs.Blocked.{sampled_by, Declares, Samples}
+use Rattle.dk_core.specs.History.{History, Point, names, bytes_of, place_of, with_point, sampled, with_sample, with_sample_at, is_declaration, taken_or_refused, effect_of}
 use Rattle.dk_core.specs.Summaries.{Summarized, summary_of}
-use Rattle.dk_core.specs.Standing.{KeepsAll, Stands, resampled, resumed_by, StateGoesOn}
-use Rattle.dk_core.specs.declared.kept.Kept.{Kept}
+use Rattle.dk_core.specs.Standing.{resampled, resumed_by, StateGoesOn}
 use Rattle.dk_core.specs.declared.declaration.DeclarationReader.{DeclarationReader}
 use Rattle.dk_core.specs.declared.record.RecordReader.{RecordReader}
 use Rattle.dk_core.specs.declared.block.State.TheVariants as state

@@ -1,7 +1,7 @@
 -- The two laws of reading a block that the session rests on.
-use Rattle.std.proofs.Common.{◌≡◌, ℕ, [], Option, Some, None, Result, Ok, true, false, refl}
+use Rattle.std.proofs.Common.{◌≡◌, ℕ, [], Option, Some, None, Ok, false, refl}
 use Rattle.std.specs.Result.{IsOk}
-use Rattle.dk_core.specs.History.{History, Taken, effect_of}
+use Rattle.dk_core.specs.History.{History, effect_of}
 use Rattle.dk_core.specs.Standing.{resumed, resumed_by}
 use Rattle.dk_core.specs.declared.block.Block.{Block}
 use Rattle.dk_core.specs.declared.block.State.{State}

@@ -1,5 +1,5 @@
 -- Places of names.
-use Rattle.std.proofs.Common.{◌≡◌, ℕ, suc, ◌+◌, Bool, true, false, cond, not, nat_lt, List, [], ◌∷◌, ◌++◌, length, map, position, is_some, Option, None, Some, refl, if◌then◌else◌, bytes_eq, ap, ◌∙◌, sym, arith}
+use Rattle.std.proofs.Common.{◌≡◌, ℕ, suc, ◌+◌, Bool, false, cond, not, nat_lt, List, [], ◌∷◌, ◌++◌, length, map, position, is_some, None, Some, refl, if◌then◌else◌, bytes_eq, ap, ◌∙◌, sym, arith}
 use Rattle.std.proofs.lemmas.List.{map-append}
 use Rattle.std.specs.List.{prefix_len, list_any}
 use Rattle.indexmap.specs.IndexSet.{insert_key}

@@ -1,5 +1,5 @@
 -- The lines of a report.
-use Rattle.std.proofs.Common.{◌≡◌, ◌≢◌, ◌<◌, ◌≤◌, ◌+◌, ◌-◌, ◌^◌, ℕ, ℤ, pos, zero, suc, min, List, [], ◌∷◌, ◌++◌, length, take, map, fold, Option, Some, None, slice_get, get_or, replicate, codes, refl, sym, ◌∙◌, ap, arith, append_assoc}
+use Rattle.std.proofs.Common.{◌≡◌, ◌≢◌, ◌≤◌, ◌+◌, ℕ, ℤ, pos, zero, suc, List, [], ◌∷◌, ◌++◌, length, take, map, Option, Some, slice_get, get_or, replicate, codes, refl, sym, ◌∙◌, ap, arith, append_assoc}
 use Rattle.std.proofs.lemmas.List.{take_all, flat_map_more}
 use Rattle.std.specs.List.{zip, enumerate_from, flat_map}
 use Rattle.std.specs.Fmt.{decimal}

@@ -1,5 +1,5 @@
 -- Lines of a record, one after another.
-use Rattle.std.proofs.Common.{◌≡◌, ◌≢◌, ◌<◌, ◌≤◌, ◌&&◌, ℕ, ℤ, zero, suc, Bool, true, false, cond, List, [], ◌∷◌, ◌++◌, length, Option, Some, None, slice_get, refl, sym, ◌∙◌, ap, arith, bytes_eq, codes}
+use Rattle.std.proofs.Common.{◌≡◌, ◌≢◌, ◌≤◌, ◌&&◌, ℕ, ℤ, suc, Bool, true, false, cond, List, [], ◌∷◌, ◌++◌, length, Option, Some, None, slice_get, refl, ◌∙◌, ap, arith, bytes_eq}
 use Rattle.dk_core.specs.Declarations.{onto_some}
 use Rattle.dk_base.specs.Numbers.{integer_of}
 use Rattle.dk_core.specs.Records.{values_of}

@@ -1,6 +1,5 @@
 -- Steps of a session.
-use Rattle.std.proofs.Common.{◌≡◌, ◌≤◌, ◌<◌, ◌⊎◌, ◌+◌, ◌-◌, ℕ, zero, suc, List, [], ◌∷◌, ◌++◌, length, inl, inr, Bool, true, false, cond, Option, Some, None, Result, Ok, Err, if◌then◌else◌, IfSome, IsErrOf, not, refl, sym, ◌∙◌, ap, subst, arith, length-append, append_assoc}
-use Rattle.std.proofs.lemmas.List.{append-nil}
+use Rattle.std.proofs.Common.{◌≡◌, ◌≤◌, ◌<◌, ◌+◌, ◌-◌, ℕ, List, [], ◌∷◌, ◌++◌, length, inl, inr, Bool, true, false, Option, Some, None, Result, Ok, Err, if◌then◌else◌, IfSome, IsErrOf, not, refl, sym, ◌∙◌, ap, subst, arith, length-append, append_assoc}
 use Rattle.dk_base.specs.Reading.{Line, LineFault, Reads, ◌>>=◌}
 use Rattle.std.specs.Result.{IsOk}
 use Rattle.dk_lines.specs.Left.{Left, End, Over, Broken, LongLine, TooLong, Ends, Next, lines_left, OneLine}
@@ -10,7 +9,7 @@ use Rattle.dk_lines.specs.declared.lines.Limits.{Limits}
 use Rattle.dk_lines.specs.declared.lines.LineFault as fault
 use Rattle.dk_lines.specs.declared.lines.LineFault.TheVariants as line
 use Rattle.dk_lines.proofs.Lined.{at_break, at_end}
-use Rattle.dk_core.specs.Steps.{unread, Grown, EndCounts, TurnCounts, BlockGives, BlockCounts, Answers, LineShape, EndShape}
+use Rattle.dk_core.specs.Steps.{unread, Grown, TurnCounts, BlockGives, Answers, LineShape, EndShape}
 use Rattle.std.specs.Prelude.{◌==◌}
 use Rattle.dk_base.specs.Pieces.{is_empty}
 use Rattle.std.proofs.Math.Dec.{eqb-suc-zero}

@@ -1,10 +1,10 @@
 -- Samples, one after another, and what is kept of them.
-use Rattle.std.proofs.Common.{◌≡◌, ◌≢◌, ◌<◌, ◌≤◌, ◌+◌, ◌-◌, ◌^◌, ℕ, ℤ, pos, zero, suc, min, List, [], ◌∷◌, ◌++◌, length, take, drop, map, fold, get_or, refl, sym, ◌∙◌, ap, arith, length-append}
+use Rattle.std.proofs.Common.{◌≡◌, ◌≢◌, ◌<◌, ◌+◌, ◌-◌, ◌^◌, ℕ, ℤ, pos, zero, suc, min, List, [], ◌∷◌, ◌++◌, length, take, drop, map, fold, get_or, refl, sym, ◌∙◌, ap, arith, length-append}
 use Rattle.std.proofs.lemmas.List.{map-append, get_or-drop, drop-drop}
 use Rattle.std.proofs.lemmas.List.Sums.{fold-append}
 use Rattle.std.proofs.Math.ListN.{set}
 use Rattle.std.specs.Int.{int_min, int_max}
-use Rattle.std.specs.List.{zip, enumerate_from}
+use Rattle.std.specs.List.{enumerate_from}
 use Rattle.dk_core.specs.History.{Point, sampled}
 use Rattle.dk_core.specs.Sections.{column, count_of}
 use Rattle.dk_core.specs.Summaries.{single, widened, all_widened, extremes, bounds_of, Summarized, summary_of}

@@ -1,5 +1,5 @@
 -- The blocks of a file: groups of lines between the blank ones.
-use Rattle.std.specs.Prelude.{◌≡◌, ℕ, Bool, List, [], ◌∷◌, if◌then◌else◌}
+use Rattle.std.specs.Prelude.{ℕ, Bool, List, [], ◌∷◌, if◌then◌else◌}
 use Rattle.dk_base.specs.Reading.{Line}
 use Rattle.dk_lines.specs.Left.{End, Left, Ends, Next}
 use Rattle.dk_base.specs.Words.{trimmed}

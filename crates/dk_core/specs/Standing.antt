@@ -1,12 +1,11 @@
 -- What a session that is read line by line stands for.
-use Rattle.std.specs.Prelude.{◌≡◌, ℕ, ℤ, Bool, true, false, List, [], ◌∷◌, map, slice_get, slice_set, ⊤, Option, Some, None, Result, Ok, Err}
+use Rattle.std.specs.Prelude.{◌≡◌, ℕ, Bool, false, List, map, slice_get, slice_set, ⊤, Option, Some, None, Result, Ok, Err}
 use Rattle.std.specs.Option.{option_map, option_and_then}
 use Rattle.dk_base.specs.Reading.{Line, LineFault, Reads}
-use Rattle.dk_base.specs.declared.why.Why.{Why}
 use Rattle.dk_base.specs.declared.why.Why.TheVariants.{BadPoint, UnknownPoint}
 use Rattle.dk_base.specs.declared.faults.BlockFault.{BlockFault}
 use Rattle.dk_base.specs.declared.faults.BlockFault.TheVariants.{Refused as RefusedAt, NoMemory}
-use Rattle.dk_core.specs.History.{History, Point, Taken, names, bytes_of, with_point, sampled, taken_or_refused, effect_of}
+use Rattle.dk_core.specs.History.{History, Taken, names, bytes_of, with_point, sampled, taken_or_refused, effect_of}
 use Rattle.dk_core.specs.Summaries.{summary_of}
 use Rattle.dk_core.specs.Blocked.{declared_by, sampled_by}
 use Rattle.dk_core.specs.declared.block.Block.{Block}

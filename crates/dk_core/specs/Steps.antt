@@ -1,5 +1,5 @@
 -- Steps of a session through the bytes that are left.
-use Rattle.std.specs.Prelude.{◌≡◌, ◌≤◌, ◌<◌, ◌⊎◌, not, min, if◌then◌else◌, ◌+◌, ◌-◌, ◌^◌, ℕ, Bool, true, false, List, [], ◌∷◌, ◌++◌, length, ⊤, Option, Some, None, IfSome, Result, Ok, Err}
+use Rattle.std.specs.Prelude.{◌≡◌, ◌≤◌, ◌<◌, not, min, if◌then◌else◌, ◌+◌, ◌-◌, ◌^◌, ℕ, Bool, true, false, List, [], ◌∷◌, ◌++◌, length, ⊤, Option, Some, Result, Ok, Err}
 use Rattle.dk_base.specs.Reading.{Line, Reads}
 use Rattle.std.specs.Result.{IsOk}
 use Rattle.dk_lines.specs.Left.{Left, Next, Over, lines_left}
@@ -11,9 +11,8 @@ use Rattle.dk_lines.specs.declared.lines.LineFault.{LineFault}
 use Rattle.dk_lines.specs.declared.lines.LineFault.TheVariants as f
 use Rattle.dk_core.specs.Blocks.{Groups, Last, grouped}
 use Rattle.dk_core.specs.History.{Taken, History, effect_of}
-use Rattle.dk_core.specs.Reading.{Stepped, after_all, after_next}
+use Rattle.dk_core.specs.Reading.{after_all, after_next}
 use Rattle.dk_core.specs.Standing.{Stands, resumed}
-use Rattle.dk_core.specs.declared.kept.Kept.{Kept}
 use Rattle.dk_core.specs.declared.session.Turn.{Turn}
 use Rattle.dk_core.specs.declared.session.Turn.TheVariants.{Goes, Ends}
 use Rattle.dk_core.specs.declared.session.Ending.{Ending}

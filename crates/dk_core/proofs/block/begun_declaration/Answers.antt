@@ -1,5 +1,4 @@
-use Rattle.std.proofs.Common.{◌≡◌, List, ℕ, Option, ◌∷◌, subst}
-use Rattle.dk_base.specs.Reading.{Line}
+use Rattle.std.proofs.Common.{Option, ◌∷◌, subst}
 use Rattle.dk_core.specs.Blocked.{Declares}
 use Rattle.dk_core.specs.Declarations.{declaration_of}
 use Rattle.dk_core.specs.declared.declaration.DeclarationReader.{DeclarationReader}

@@ -1,5 +1,5 @@
-use Rattle.std.proofs.Common.{◌≡◌, ◌++◌, ◌∙◌, ◌<◌, ◌≤◌, pos, ap, sym, List, ℕ, Some, take, get_or, slice_get, length, arith, rules}
-use Rattle.std.specs.List.{zip, flat_map}
+use Rattle.std.proofs.Common.{◌++◌, ◌∙◌, ◌≤◌, pos, ap, sym, List, ℕ, Some, get_or, slice_get, length, arith}
+use Rattle.std.specs.List.{flat_map}
 use Rattle.std.proofs.lemmas.Option.{slice_get-get_or}
 use Rattle.dk_core.specs.Sections.{instance_line}
 use Rattle.dk_core.specs.Reported.{side}

@@ -1,6 +1,6 @@
-use Rattle.std.proofs.Common.{rules, ap, subst, sym, ◌∙◌, ◌≡◌, ◌≤◌, List, ℕ, Option, Some, None, IfSome, Result, Ok, Err}
+use Rattle.std.proofs.Common.{rules, subst, ◌≡◌, IfSome, Result, Ok, Err}
 use Rattle.dk_lines.specs.Reading.{left_of}
-use Rattle.dk_core.specs.History.{History, effect_of}
+use Rattle.dk_core.specs.History.{effect_of}
 use Rattle.dk_core.specs.declared.session.Turn.{Turn}
 use Rattle.dk_core.specs.declared.session.Turn.TheVariants.{Goes, Ends}
 use Rattle.dk_core.specs.declared.session.Stop.{Stop}

@@ -1,4 +1,4 @@
-use Rattle.std.proofs.Common.{◌≡◌, ◌≤◌, ◌-◌, ◌⊎◌, true, IfSome}
+use Rattle.std.proofs.Common.{◌≡◌, ◌≤◌, ◌-◌, true, IfSome}
 use Rattle.dk_lines.specs.Reading.{left_of}
 use Rattle.dk_core.specs.History.{History, effect_of}
 use Rattle.dk_core.specs.Standing.{Stands}

@@ -1,12 +1,10 @@
-use Rattle.std.proofs.Common.{rules, ap, subst, sym, ◌∙◌, ◌≡◌, ◌≤◌, ◌<◌, ◌+◌, List, ℕ, Option, Some, None, IfSome, IsErrOf, Result, Ok, Err}
+use Rattle.std.proofs.Common.{rules, subst, ◌≡◌, ℕ, Option, Some, None, Result, Ok, Err}
 use Rattle.dk_lines.specs.declared.lines.LineFault.{LineFault}
 use Rattle.dk_base.specs.Reading.{Line}
 use Rattle.dk_lines.specs.Reading.{left_of}
 use Rattle.dk_lines.specs.Answers.{heard, IsNext}
-use Rattle.dk_core.specs.declared.session.Turn.{Turn}
-use Rattle.dk_core.specs.declared.session.Stop.{Stop}
-use Rattle.dk_core.specs.Standing.{Stands, resumed}
-use Rattle.dk_core.specs.Steps.{TurnGives, EndGives, unread}
+use Rattle.dk_core.specs.Standing.{resumed}
+use Rattle.dk_core.specs.Steps.{EndGives}
 use Rattle.dk_core.proofs.Stepping.{told_line, told_end, told_fault, counts_line, counts_end, never_read_line, never_read_end}
 use Rattle.dk_core.proofs.session.take_line.Goals as goal
 

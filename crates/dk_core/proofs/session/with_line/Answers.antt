@@ -1,5 +1,4 @@
 use Rattle.std.proofs.Common.{◌≡◌, ◌∙◌, sym, ap, subst, true, false, ℕ, List}
-use Rattle.dk_base.specs.Reading.{Line}
 use Rattle.dk_base.specs.Pieces.{is_empty}
 use Rattle.dk_base.specs.Words.{trimmed}
 use Rattle.dk_core.specs.Standing.{resumed}

@@ -1,4 +1,4 @@
-use Rattle.std.proofs.Common.{◌≡◌, ◌++◌, length, take, drop}
+use Rattle.std.proofs.Common.{◌≡◌, ◌++◌, take, drop}
 use Rattle.dk_core.specs.Summaries.{all_widened}
 use Rattle.dk_core.proofs.summary.widen.Given as goal
 

@@ -1,4 +1,4 @@
-use Rattle.std.proofs.Common.{◌≡◌, ◌∙◌, sym, ap, inl, inr, Some, []}
+use Rattle.std.proofs.Common.{◌∙◌, ap, inl, inr, []}
 use Rattle.dk_core.specs.Blocked.{declared_by, declared_by_state}
 use Rattle.dk_core.specs.declared.declaration.Awaited.{Awaited}
 use Rattle.dk_core.proofs.Declaring.{ended}

@@ -1,7 +1,7 @@
-use Rattle.std.proofs.Common.{◌≡◌, ◌∙◌, sym, ap, ℕ, List, Bool, true, false, Option, Some, None, is_some, ◌∷◌, bytes_eq}
+use Rattle.std.proofs.Common.{◌≡◌, ◌∙◌, sym, ap, ℕ, List, true, false, Some, is_some, ◌∷◌, bytes_eq}
 use Rattle.std.specs.List.{list_any}
 use Rattle.dk_core.specs.Blocked.{declared_by, declared_by_state, behind_vars, typed_vars}
-use Rattle.dk_core.specs.Declarations.{declared, variable_name, are_distinct}
+use Rattle.dk_core.specs.Declarations.{declared, are_distinct}
 use Rattle.dk_core.specs.declared.declaration.Awaited.{Awaited}
 use Rattle.dk_core.proofs.Places.{is_some-position}
 use Rattle.dk_core.proofs.Declaring.{with_var, no_var, known_var, distinct_more}

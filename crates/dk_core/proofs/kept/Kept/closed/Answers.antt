@@ -1,4 +1,4 @@
-use Rattle.std.proofs.Common.{ap, ℕ, [], Some}
+use Rattle.std.proofs.Common.{ap, [], Some}
 use Rattle.dk_core.specs.History.{effect_of}
 use Rattle.dk_core.specs.Standing.{resumed_by}
 use Rattle.dk_core.specs.declared.block.State.{State}

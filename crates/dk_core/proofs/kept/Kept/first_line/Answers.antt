@@ -1,5 +1,4 @@
-use Rattle.std.proofs.Common.{◌∙◌, ◌≡◌, sym, ap, rules, ℕ, List, false, Some, None}
-use Rattle.dk_base.specs.Reading.{Line}
+use Rattle.std.proofs.Common.{◌∙◌, ◌≡◌, sym, ap, rules, ℕ, List, false}
 use Rattle.dk_core.specs.Standing.{Stands}
 use Rattle.dk_core.specs.History.{place_of, is_declaration}
 use Rattle.dk_core.proofs.Keeping.{begins_record, begins_nothing}

@@ -1,4 +1,4 @@
-use Rattle.std.proofs.Common.{◌∙◌, ◌≡◌, ap, ℕ, List, [], ◌∷◌, ◌++◌}
+use Rattle.std.proofs.Common.{◌∙◌, ap, [], ◌∷◌, ◌++◌}
 use Rattle.dk_core.specs.History.{Point}
 use Rattle.dk_core.specs.Standing.{Stands}
 use Rattle.dk_core.specs.Summaries.{Summarized}

@@ -1,5 +1,4 @@
-use Rattle.std.proofs.Common.{◌∙◌, ◌≡◌, ◌<◌, ◌≤◌, sym, ap, subst, arith, rules, ℕ, List, length, vec_len, Option, Some, None, ◌∷◌}
-use Rattle.dk_base.specs.Reading.{Line}
+use Rattle.std.proofs.Common.{◌∙◌, ◌≡◌, ◌<◌, ◌≤◌, ap, subst, arith, rules, ℕ, List, length, vec_len, Option, Some, None, ◌∷◌}
 use Rattle.dk_core.specs.Standing.{Stands}
 use Rattle.dk_core.specs.Summaries.{Summarized}
 use Rattle.dk_core.specs.Blocked.{Samples, sampled_by}

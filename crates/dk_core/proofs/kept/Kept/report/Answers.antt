@@ -1,4 +1,4 @@
-use Rattle.std.proofs.Common.{◌∙◌, ◌≡◌, ◌<◌, ◌≤◌, ◌++◌, sym, ap, arith, ℕ, List, length, get_or}
+use Rattle.std.proofs.Common.{◌∙◌, ◌≡◌, ◌<◌, ◌≤◌, ◌++◌, ap, arith, ℕ, List, length, get_or}
 use Rattle.std.specs.List.{flat_map}
 use Rattle.dk_core.specs.History.{Point}
 use Rattle.dk_core.specs.Sections.{report_of, section_of}

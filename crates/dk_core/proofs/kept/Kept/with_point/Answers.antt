@@ -1,5 +1,5 @@
-use Rattle.std.proofs.Common.{◌∙◌, ◌≡◌, sym, ap, ℕ, List, [], ◌∷◌, ◌++◌, Option, is_some}
-use Rattle.dk_core.specs.History.{Point, place_of, names}
+use Rattle.std.proofs.Common.{◌∙◌, sym, ap, ℕ, List, [], ◌∷◌, ◌++◌, Option, is_some}
+use Rattle.dk_core.specs.History.{place_of}
 use Rattle.dk_core.specs.Standing.{Stands}
 use Rattle.dk_core.proofs.Keeping.{known_point, new_point}
 use Rattle.dk_core.proofs.kept.Kept.with_point.Goals as goal

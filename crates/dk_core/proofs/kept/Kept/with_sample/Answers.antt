@@ -1,5 +1,4 @@
-use Rattle.std.proofs.Common.{refl, ◌∙◌, ◌≡◌, ◌<◌, ◌≤◌, sym, ap, subst, arith, rules, ℕ, ℤ, List, [], length, vec_len, slice_set, Option, Some, None, Bool, true, false}
-use Rattle.std.specs.Bool.{OnTrue, OnFalse}
+use Rattle.std.proofs.Common.{refl, ◌∙◌, ◌≡◌, ◌<◌, ◌≤◌, sym, ap, arith, rules, ℕ, ℤ, List, [], length, vec_len, slice_set, Some, None}
 use Rattle.dk_core.specs.History.{Point, sampled}
 use Rattle.dk_core.specs.Blocked.{sampled_by}
 use Rattle.dk_core.specs.Standing.{Stands}

@@ -1,4 +1,4 @@
-use Rattle.std.proofs.Common.{◌≡◌, ◌∙◌, sym, ap, length, bytes_eq}
+use Rattle.std.proofs.Common.{◌∙◌, sym, bytes_eq}
 use Rattle.dk_core.proofs.Places.{position-map}
 use Rattle.dk_core.proofs.names.Names.find.Goals as goal
 

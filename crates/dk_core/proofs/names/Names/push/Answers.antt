@@ -1,4 +1,4 @@
-use Rattle.std.proofs.Common.{◌≡◌, ◌∙◌, sym, ap, bytes_eq, map, rules}
+use Rattle.std.proofs.Common.{◌∙◌, ap, map}
 use Rattle.dk_core.proofs.Places.{insert_key-new}
 use Rattle.dk_core.proofs.names.Names.push.Goals.{in-Ok, in-Err}
 use Rattle.dk_core.proofs.names.Names.push.Goals as goal

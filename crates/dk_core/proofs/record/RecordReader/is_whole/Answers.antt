@@ -1,10 +1,9 @@
-use Rattle.std.proofs.Common.{◌≡◌, ◌∙◌, sym, ap, ℕ, ℤ, List, Bool, true, false, Option, Some, None, [], ◌∷◌, ◌++◌, length, arith, rules, inl, inr, slice_get, vec_len, FitsSigned, w64}
-use Rattle.std.proofs.lemmas.Int.{to_z-of_z}
+use Rattle.std.proofs.Common.{◌≡◌, ◌∙◌, ap, [], length, arith, rules, inl, inr, vec_len}
 use Rattle.std.proofs.lemmas.Bool.Decides.{eqb_tells}
 use Rattle.dk_core.specs.Records.{values_of}
-use Rattle.dk_core.specs.Blocked.{sampled_by, behind_values, values_by_state, marked_values}
+use Rattle.dk_core.specs.Blocked.{sampled_by, behind_values, values_by_state}
 use Rattle.dk_core.specs.declared.record.Due.{Due}
-use Rattle.dk_core.proofs.Sampling.{named, misnamed, unnamed, valued, valueless, marked, unmarked, whole, not_whole, named_end, marked_end}
+use Rattle.dk_core.proofs.Sampling.{whole, not_whole, named_end, marked_end}
 use Rattle.dk_core.proofs.record.RecordReader.is_whole.Goals as goal
 
 pub returns-in-Name : goal.returns-in-Name

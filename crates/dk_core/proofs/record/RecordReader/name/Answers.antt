@@ -1,9 +1,7 @@
-use Rattle.std.proofs.Common.{◌≡◌, ◌∙◌, sym, ap, ℕ, ℤ, List, Bool, true, false, Option, Some, None, [], ◌∷◌, ◌++◌, length, arith, rules, inl, inr, slice_get, vec_len, FitsSigned, w64}
-use Rattle.std.proofs.lemmas.Int.{to_z-of_z}
-use Rattle.dk_core.specs.Records.{values_of}
-use Rattle.dk_core.specs.Blocked.{sampled_by, behind_values, values_by_state, marked_values}
+use Rattle.std.proofs.Common.{◌≡◌, ◌∙◌, sym, ap, ℕ, Some, ◌∷◌, length, arith, rules, slice_get, vec_len}
+use Rattle.dk_core.specs.Blocked.{sampled_by, behind_values, values_by_state}
 use Rattle.dk_core.specs.declared.record.Due.{Due}
-use Rattle.dk_core.proofs.Sampling.{named, misnamed, unnamed, valued, valueless, marked, unmarked, whole, not_whole, named_end, marked_end}
+use Rattle.dk_core.proofs.Sampling.{named, misnamed, unnamed}
 use Rattle.dk_core.proofs.record.RecordReader.name.Goals as goal
 
 pub returns-then-eq : goal.returns-then-eq

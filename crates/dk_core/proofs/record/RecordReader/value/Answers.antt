@@ -1,9 +1,8 @@
-use Rattle.std.proofs.Common.{◌≡◌, ◌∙◌, sym, ap, ℕ, ℤ, List, Bool, true, false, Option, Some, None, [], ◌∷◌, ◌++◌, length, arith, rules, inl, inr, slice_get, FitsSigned, w64}
+use Rattle.std.proofs.Common.{◌∙◌, sym, ap, ℤ, ◌∷◌, rules, FitsSigned, w64}
 use Rattle.std.proofs.lemmas.Int.{to_z-of_z}
-use Rattle.dk_core.specs.Records.{values_of}
 use Rattle.dk_core.specs.Blocked.{sampled_by, behind_values, values_by_state, marked_values}
 use Rattle.dk_core.specs.declared.record.Due.{Due}
-use Rattle.dk_core.proofs.Sampling.{named, misnamed, unnamed, valued, valueless, marked, unmarked, whole, not_whole, named_end, marked_end}
+use Rattle.dk_core.proofs.Sampling.{valued, valueless}
 use Rattle.dk_core.proofs.record.RecordReader.value.Goals as goal
 
 pub returns-in-Some : goal.returns-in-Some

@@ -1,7 +1,6 @@
-use Rattle.std.proofs.Common.{rules, arith, length, ◌∙◌, ◌≡◌, sym, ap, ℕ, List, min, map, ◌+◌, ◌-◌, ◌^◌}
-use Rattle.dk_core.specs.Summaries.{Summarized, single, all_widened}
-use Rattle.dk_core.specs.declared.summary.Bounds.{Bounds}
-use Rattle.dk_core.proofs.Summarizing.{fed_first, fed_more, made}
+use Rattle.std.proofs.Common.{◌∙◌, sym, ap, ℕ, min, ◌+◌, ◌-◌, ◌^◌}
+use Rattle.dk_core.specs.Summaries.{Summarized}
+use Rattle.dk_core.proofs.Summarizing.{fed_first, made}
 use Rattle.dk_core.proofs.summary.Summary.first.Goals as goal
 
 pub returns : goal.returns

@@ -1,8 +1,8 @@
-use Rattle.std.proofs.Common.{rules, arith, length, ◌∙◌, ◌≡◌, sym, ap, ℕ, List, min, map, ◌+◌, ◌-◌, ◌^◌}
+use Rattle.std.proofs.Common.{◌∙◌, ◌≡◌, ap, ℕ, List, min, ◌+◌, ◌-◌, ◌^◌}
 use Rattle.std.proofs.lemmas.List.{with_items_is}
-use Rattle.dk_core.specs.Summaries.{Summarized, single, all_widened}
+use Rattle.dk_core.specs.Summaries.{Summarized, all_widened}
 use Rattle.dk_core.specs.declared.summary.Bounds.{Bounds}
-use Rattle.dk_core.proofs.Summarizing.{fed_first, fed_more, made}
+use Rattle.dk_core.proofs.Summarizing.{fed_more, made}
 use Rattle.dk_core.proofs.summary.Summary.next.Goals as goal
 
 pub returns : goal.returns
