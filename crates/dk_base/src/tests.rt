@@ -1,4 +1,4 @@
-// What no clause says: that the calls succeed with ample memory, and the papers' texts of values.
+// What no clause says: that the calls succeed with ample memory; and a table of texts with their values.
 use crate::*;
 use std::alloc::Global;
 use std::process::Abort;
@@ -7,7 +7,7 @@ use std::test::Fail;
 /// A kind, a text, and the one text of the value that it writes, or none where it writes no value of the kind.
 type Case = (Kind, &'static [u8], Option<&'static [u8]>);
 
-static CASES: [Case; 136] = [
+static CASES: [Case; 140] = [
     // the words for a missing value, and no text at all, for every kind
     (Kind::Bool, b"nonsensical", Some(b"missing")),
     (Kind::Int, b"uninit", Some(b"missing")),
@@ -17,6 +17,10 @@ static CASES: [Case; 136] = [
     (Kind::IntSeq, b"missing", Some(b"missing")),
     (Kind::HashSeq, b"nonsensical", Some(b"missing")),
     (Kind::StrSeq, b"uninit", Some(b"missing")),
+    (Kind::IntSeq, b"null", Some(b"missing")),
+    (Kind::HashSeq, b"null", Some(b"missing")),
+    (Kind::StrSeq, b"null", Some(b"missing")),
+    (Kind::Hash, b"-18446744073709551615", Some(b"missing")),
     (Kind::Bool, b"", None),
     (Kind::Int, b"", None),
     (Kind::Hash, b"", None),

@@ -7,8 +7,8 @@ use Rattle.dk_core.specs.declared.session.Session.{Session}
 use Rattle.dk_cli.specs.Words.{name_at}
 use Rattle.dk_cli.specs.Ending.{fault_in}
 use Rattle.dk_cli.specs.Messages.{fault_line}
-use Rattle.dk_cli.specs.Output.{Output, only_on, output_at, unread_output, usage_output, followed}
-use Rattle.dk_cli.specs.Statuses.{Outside, AreClean, ComesTo, Says}
+use Rattle.dk_cli.specs.Output.{Output, only_on, output_at, unread_output, usage_output}
+use Rattle.dk_cli.specs.Statuses.{Outside, AreClean, ComesTo, IsWritten, Says}
 use Rattle.dk_cli.specs.Telling.{Tells, TellsReport}
 use Rattle.dk_cli.specs.AllFiles.{FilesGive, FilesTroubleGives, IsCaused}
 use Rattle.dk_cli.specs.declared.reading.FilesTrouble.TheVariants as t
@@ -17,7 +17,7 @@ use Rattle.dk_cli.specs.declared.status.Status.TheVariants.{Done, Refused, Usage
 
 -- a run that comes to an end and told its output says so
 comes_to_says : (status : Status) (names : Option (List (List ℕ))) (before after : Outside) (output : Output)
-    → ComesTo status names before after output → after.written ≡ followed before.written output → Says status names before after
+    → ComesTo status names before after output → IsWritten before after output → Says status names before after
 comes_to_says Done names before after output comes e = (output, comes, e)
 comes_to_says Refused names before after output comes e = (output, comes, e)
 comes_to_says Usage names before after output comes e = (output, comes, e)
@@ -29,9 +29,9 @@ comes_to_says NoMemory None before after output comes e = absurd comes
 
 pub tells_says : (status : Status) (names : Option (List (List ℕ))) (before after : Outside) (output : Output) (result : Status)
     → ComesTo status names before after output
-    → Tells status output before.written after.written (Rose before.write_faults after.write_faults) result
+    → Tells status output before.written after.written before.write_faults after.write_faults result
     → Says result names before after
-tells_says status names before after output result comes (inl (is, e)) = subst (λ (s : Status). Says s names before after) (sym is) (comes_to_says status names before after output comes e)
+tells_says status names before after output result comes (inl (is, written)) = subst (λ (s : Status). Says s names before after) (sym is) (comes_to_says status names before after output comes written)
 tells_says status names before after output result comes (inr (inl (is, rose, front))) = subst (λ (s : Status). Says s names before after) (sym is) (rose, inr (status, output, comes, front))
 tells_says status names before after output result comes (inr (inr (is, e))) = subst (λ (s : Status). Says s names before after) (sym is) (inl e)
 
@@ -39,7 +39,7 @@ tells_says status names before after output result comes (inr (inr (is, e))) = s
 pub report_says : (names : List (List ℕ)) (before after : Outside) (session : Session) (result : Status)
     → FilesGive before.file names before.rest (Ok session) after.rest → AreClean before.file names
     → All (λ name. before.file name ≢ Absent) names
-    → TellsReport session before.written after.written (Rose before.write_faults after.write_faults) result
+    → TellsReport session before.written after.written before.write_faults after.write_faults result
     → Says result (Some names) before after
 report_says names before after session result gives clean there (inl (is, e)) = subst (λ (s : Status). Says s (Some names) before after) (sym is) (inl e)
 report_says names before after session result gives clean there (inr (text, is, tells)) =
@@ -56,7 +56,7 @@ report_says names before after session result gives clean there (inr (text, is, 
 -- the message of a refused file was due
 pub refused_says : (names : List (List ℕ)) (before after : Outside) (place line : ℕ) (why : Why) (name : List ℕ) (result : Status)
     → name ≡ name_at names place → place < length names → FilesTroubleGives before.file names before.rest (t.Refused place line why) after.rest → AreClean before.file (take place names)
-    → Tells Refused (only_on Messages (fault_line name line why)) before.written after.written (Rose before.write_faults after.write_faults) result
+    → Tells Refused (only_on Messages (fault_line name line why)) before.written after.written before.write_faults after.write_faults result
     → Says result (Some names) before after
 refused_says names before after place line why name result is there gives clean tells =
     let line_is : fault_line name line why ≡ fault_line (name_at names place) line why = ap (λ (n : List ℕ). fault_line n line why) is in
@@ -75,7 +75,7 @@ refused_says names before after place line why name result is there gives clean 
 pub unread_says : (names : List (List ℕ)) (before after : Outside) (place : ℕ) (name : List ℕ) (result : Status)
     → name ≡ name_at names place → place < length names → FilesTroubleGives before.file names before.rest (t.Read place) after.rest → AreClean before.file (take place names)
     → IsCaused before.file names (Rose before.read_faults after.read_faults) (t.Read place)
-    → Tells Read (unread_output name) before.written after.written (Rose before.write_faults after.write_faults) result
+    → Tells Read (unread_output name) before.written after.written before.write_faults after.write_faults result
     → Says result (Some names) before after
 unread_says names before after place name result is there gives clean cause tells =
     tells_says Read (Some names) before after (unread_output name) result
@@ -84,7 +84,7 @@ unread_says names before after place name result is there gives clean cause tell
 
 -- the usage line was due
 pub usage_says : (names : Option (List (List ℕ))) (before after : Outside) (result : Status) → None ≡ names
-    → Tells Usage usage_output before.written after.written (Rose before.write_faults after.write_faults) result
+    → Tells Usage usage_output before.written after.written before.write_faults after.write_faults result
     → Says result names before after
 usage_says None before after result none tells = tells_says Usage None before after usage_output result refl tells
 usage_says (Some names) before after result none tells = absurd (cc (none))

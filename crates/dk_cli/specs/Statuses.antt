@@ -82,11 +82,15 @@ IsCutShort names before after =
     (after.written ≡ before.written)
     ⊎ ((status : Status) × (output : Output) × ComesTo status names before after output × FollowedByFront before.written after.written output)
 
+-- All of the output was written, and no write failed.
+abbrev pub IsWritten : Outside → Outside → Output → Type 0
+IsWritten before after output = (after.written ≡ followed before.written output) × (after.write_faults ≡ before.write_faults)
+
 -- what each status says
 abbrev pub Says : Status → Option (List (List ℕ)) → Outside → Outside → Type 0
 Says Write names before after = Rose before.write_faults after.write_faults × IsCutShort names before after
 Says NoMemory names before after = IsCutShort names before after
-Says status names before after = (output : Output) × ComesTo status names before after output × (after.written ≡ followed before.written output)
+Says status names before after = (output : Output) × ComesTo status names before after output × IsWritten before after output
 
 -- no fault of the outside rose
 pub record IsCalm (before after : Outside) : Type 0 where

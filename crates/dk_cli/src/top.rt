@@ -1,6 +1,6 @@
 // The top call.
 ghost use Rattle.std.specs.Prelude.{◌≡◌, ◌≤◌, ◌⊎◌, ◌∷◌, [], List, ℕ, map, Option, Some, None, IfSome, string_bytes, length};
-ghost use Rattle.dk_io.specs.Outside.{Holds, Rose};
+ghost use Rattle.dk_io.specs.Outside.{Holds};
 ghost use Rattle.dk_io.specs.Streams.{Texts, added, AddsFront};
 ghost use Rattle.dk_cli.specs.Words.{names_of};
 ghost use Rattle.dk_cli.specs.Messages.{fault_line as refusal_text};
@@ -19,7 +19,7 @@ use std::alloc::Global;
 
 // Writes a text and answers the status, or that the write failed.
 fn tell<S: Sinks>(sinks: &mut S, stream: Stream, text: &[u8], status: Status) -> Status
-    ensures { Tells status (only_on stream text.now) (S.written sinks.old) (S.written sinks.new) (Rose (S.faults sinks.old) (S.faults sinks.new)) result }
+    ensures { Tells status (only_on stream text.now) (S.written sinks.old) (S.written sinks.new) (S.faults sinks.old) (S.faults sinks.new) result }
 {
     match write_all(sinks, stream, text) {
         Ok(()) => status,
@@ -29,7 +29,7 @@ fn tell<S: Sinks>(sinks: &mut S, stream: Stream, text: &[u8], status: Status) ->
 
 /// Tells that the words are refused.
 pub(crate) fn tell_usage<S: Sinks>(sinks: &mut S) -> Status
-    ensures { Tells Status.Usage usage_output (S.written sinks.old) (S.written sinks.new) (Rose (S.faults sinks.old) (S.faults sinks.new)) result }
+    ensures { Tells Status.Usage usage_output (S.written sinks.old) (S.written sinks.new) (S.faults sinks.old) (S.faults sinks.new) result }
 {
     tell(
         sinks,
@@ -41,7 +41,7 @@ pub(crate) fn tell_usage<S: Sinks>(sinks: &mut S) -> Status
 
 // Tells that a file can't be read.
 fn tell_unread<S: Sinks>(alloc: Global, name: &str, sinks: &mut S) -> Status
-    ensures { Tells Status.Read (unread_output name.now) (S.written sinks.old) (S.written sinks.new) (Rose (S.faults sinks.old) (S.faults sinks.new)) result }
+    ensures { Tells Status.Read (unread_output name.now) (S.written sinks.old) (S.written sinks.new) (S.faults sinks.old) (S.faults sinks.new) result }
 {
     match unread_line(alloc, name) {
         Ok(text) => tell(sinks, Stream::Messages, text.as_bytes(), Status::Read),
@@ -51,7 +51,7 @@ fn tell_unread<S: Sinks>(alloc: Global, name: &str, sinks: &mut S) -> Status
 
 // Tells that a line of a file is refused.
 fn tell_fault<S: Sinks>(alloc: Global, name: &str, line: u64, why: Why, sinks: &mut S) -> Status
-    ensures { Tells Status.Refused (only_on Stream.Messages (refusal_text name.now line why)) (S.written sinks.old) (S.written sinks.new) (Rose (S.faults sinks.old) (S.faults sinks.new)) result }
+    ensures { Tells Status.Refused (only_on Stream.Messages (refusal_text name.now line why)) (S.written sinks.old) (S.written sinks.new) (S.faults sinks.old) (S.faults sinks.new) result }
 {
     match fault_line(alloc, name, line, why) {
         Ok(text) => tell(sinks, Stream::Messages, text.as_bytes(), Status::Refused),
@@ -61,7 +61,7 @@ fn tell_fault<S: Sinks>(alloc: Global, name: &str, line: u64, why: Why, sinks: &
 
 // Tells the report of a session.
 fn tell_report<S: Sinks>(session: &Session, sinks: &mut S) -> Status
-    ensures { TellsReport session.now (S.written sinks.old) (S.written sinks.new) (Rose (S.faults sinks.old) (S.faults sinks.new)) result }
+    ensures { TellsReport session.now (S.written sinks.old) (S.written sinks.new) (S.faults sinks.old) (S.faults sinks.new) result }
 {
     match session.report() {
         Ok(text) => tell(sinks, Stream::Report, text.as_slice(), Status::Done),

@@ -223,6 +223,8 @@ impl Session {
         ensures gives { (h : History) → Stands self.kept h → IfSome (left_of lines.old (I.rest inputs.old))
             (λ xs. Answers self h lines.old xs result lines.new (left_of lines.new (I.rest inputs.new))) }
         ensures counts { Counts self lines.old result lines.new }
+        // At the file's end nothing is read.
+        ensures over { self.is_over ≡ true → (result ≡ Ok (self, false)) × (inputs.new ≡ inputs.old) × (lines.new ≡ lines.old) }
         // Where reading failed, no byte that was read is held.
         ensures emptied { (file : ℕ) → IsErrOf result (Fault.Read file) → lines.new.ahead ≡ [] }
         ensures files { I.file inputs.new ≡ I.file inputs.old }

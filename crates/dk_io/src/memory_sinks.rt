@@ -1,5 +1,5 @@
 // Sinks in memory, some of whose calls fail, and whose room is limited.
-ghost use Rattle.std.specs.Prelude.{◌≡◌, ◌≤◌, ◌<◌, ◌-◌, ◌↔◌, ◌++◌, [], length, take, min, IsTrue, IfOk, OnErr, IsErr, vec_capacity};
+ghost use Rattle.std.specs.Prelude.{◌≡◌, ◌≤◌, ◌<◌, ◌-◌, ◌↔◌, ◌++◌, [], false, length, take, min, IsTrue, IfOk, OnOk, OnErr, IsErr, vec_capacity};
 ghost use Rattle.dk_io.specs.Outside.{Rose, HasCause};
 ghost use Rattle.dk_io.specs.Streams.{added};
 ghost use Rattle.dk_io.specs.Calls.{uncalled, counted};
@@ -91,6 +91,7 @@ impl MemorySinks {
         ensures counted { self.new ≡ record self.old { calls = counted result self.old.calls } }
         ensures later { self.old.calls.faults ≤ self.new.calls.faults }
         ensures rose { IsTrue result → Rose self.old.calls.faults self.new.calls.faults }
+        ensures calm { result ≡ false → self.new.calls.faults ≡ self.old.calls.faults }
     {
         let fails = self.calls.next_fails() || self.room <= self.written(stream).len();
         self.calls.count(fails);
@@ -109,6 +110,7 @@ impl Sinks for MemorySinks {
         ensures bound { IfOk result (λ n. n ≤ length bytes.now) }
         ensures bytes { IfOk result (λ n. texts_of self.new ≡ added (texts_of self.old) stream (take n bytes.now)) }
         ensures err { OnErr result (texts_of self.new ≡ texts_of self.old) }
+        ensures calm { OnOk result (self.new.calls.faults ≡ self.old.calls.faults) }
         ensures cause { HasCause self.old.calls.faults self.new.calls.faults result }
 
         // The call fails exactly where it is listed or the stream's room is used up, and the count of faults rises exactly there.

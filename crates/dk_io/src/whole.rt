@@ -17,6 +17,7 @@ const PIECE: usize = 65_536;
 pub fn write_all<S: Sinks>(sinks: &mut S, stream: Stream, bytes: &[u8]) -> Result<(), Failed>
     ensures ok { OnOk result (S.written sinks.new ≡ added (S.written sinks.old) stream bytes.now) }
     ensures err { OnErr result (AddsFront (S.written sinks.old) (S.written sinks.new) stream bytes.now) }
+    ensures calm { OnOk result (S.faults sinks.new ≡ S.faults sinks.old) }
     ensures cause { HasCause (S.faults sinks.old) (S.faults sinks.new) result }
 {
     let mut left = bytes;

@@ -1,0 +1,3 @@
+pub mod NamesOfVars
+pub mod LastLines
+mod Examples

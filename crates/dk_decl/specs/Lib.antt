@@ -1,0 +1,12 @@
+pub mod Outcomes
+pub mod LineWords
+pub mod Headers
+pub mod Heads
+pub mod Brackets
+pub mod Types
+pub mod VarNames
+pub mod Variables
+pub mod PptBlock
+pub mod DeclareBlock
+pub mod Blocks
+pub mod Laws

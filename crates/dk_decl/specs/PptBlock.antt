@@ -1,0 +1,69 @@
+-- A declaration that begins with `ppt`.
+use Rattle.std.specs.Prelude.{◌++◌, ℕ, Bool, true, false, List, [], ◌∷◌, codes, is_some, Option, Some, None, Result, Ok, Err, if◌then◌else◌}
+use Rattle.dk_base.specs.Names.{unescaped}
+use Rattle.dk_base.specs.Pieces.{is_empty}
+use Rattle.dk_base.specs.Reading.{Line, LineFault, ◌>>=◌, Reads}
+use Rattle.dk_base.specs.declared.why.Why.TheVariants.{BadPoint}
+use Rattle.dk_decl.specs.Heads.{head_line}
+use Rattle.dk_decl.specs.LineWords.{begins, each_line, operand}
+use Rattle.dk_decl.specs.Outcomes.{refused}
+use Rattle.dk_decl.specs.Variables.{closed, opened, var_line}
+use Rattle.dk_decl.specs.declared.decls.EdgeDecl.{EdgeDecl}
+use Rattle.dk_decl.specs.declared.decls.VarDecl.{VarDecl}
+use Rattle.dk_decl.specs.declared.decls.PointDecl.{PointDecl}
+use Rattle.dk_decl.specs.declared.ppt.PptBlock.{PptBlock}
+use Rattle.dk_decl.specs.declared.variables.OpenVar.{OpenVar}
+
+-- a `variable` line
+unfoldable pub is_variable : Line → Bool
+is_variable l = begins (codes "variable") l.bytes
+
+-- the lines in front of the first variable; then each `variable` line with its own lines
+abbrev pub groups : List Line → List Line × List (Line × List Line)
+groups [] = ([], [])
+groups (l ∷ ls) =
+    if is_variable l then ([], (l, (groups ls).0) ∷ (groups ls).1)
+    else (l ∷ (groups ls).0, (groups ls).1)
+
+-- a variable has ended where another one follows or the block is closed
+abbrev pub has_ended : List (Line × List Line) → Option ℕ → Bool
+has_ended [] close = is_some close
+has_ended (g ∷ gs) close = true
+
+-- the variables with this one, if it has ended
+unfoldable pub with_var : List VarDecl → OpenVar → Bool → Result (List VarDecl) LineFault
+with_var vs o true = closed o >>= λ v. Ok (vs ++ v ∷ [])
+with_var vs o false = Ok vs
+
+-- the variables, each opened, its lines read, and judged when it ends; where the block is cut off the last one is not judged
+abbrev pub vars_after : Bool → List EdgeDecl → List VarDecl → List (Line × List Line) → Option ℕ → Result (List VarDecl) LineFault
+vars_after implicit es vs [] close = Ok vs
+vars_after implicit es vs (g ∷ gs) close =
+    opened vs g.0 >>= λ o. each_line (var_line implicit es) o g.1 >>= λ w. with_var vs w (has_ended gs close) >>= λ more. vars_after implicit es more gs close
+
+abbrev pub point_with : List ℕ → List EdgeDecl → Result (List VarDecl) LineFault → Result PointDecl LineFault
+point_with name es vars = vars >>= λ vs. Ok (record { name = name; edges = es; vars = vs })
+
+-- the lines behind the first: the edges, and then the variables
+unfoldable pub ppt_lines : Bool → List ℕ → Reads PointDecl
+ppt_lines implicit name ls close =
+    each_line head_line [] (groups ls).0 >>= λ es. point_with name es (vars_after implicit es [] (groups ls).1 close)
+
+-- `ppt NAME`
+unfoldable pub point_name : Line → Result (List ℕ) LineFault
+point_name l = if is_empty (operand l.bytes) then refused BadPoint l.number else Ok (unescaped (operand l.bytes))
+
+-- the declaration, or its first fault
+unfoldable pub ppt_of : Bool → Line → Reads PointDecl
+ppt_of implicit first ls close = point_name first >>= λ name. ppt_lines implicit name ls close
+
+-- what a block that has been read so far declares, together with the lines that are left
+abbrev pub ppt_at : Bool → PptBlock → Option OpenVar → Reads PointDecl
+ppt_at implicit b None ls close =
+    each_line head_line b.edges (groups ls).0 >>= λ es. point_with b.name es (vars_after implicit es b.vars (groups ls).1 close)
+ppt_at implicit b (Some o) ls close =
+    each_line (var_line implicit b.edges) o (groups ls).0 >>= λ w. point_with b.name b.edges
+    (with_var b.vars w (has_ended (groups ls).1 close) >>= λ vs. vars_after implicit b.edges vs (groups ls).1 close)
+
+unfoldable pub ppt_resumed : Bool → PptBlock → Reads PointDecl
+ppt_resumed implicit b ls close = ppt_at implicit b b.current ls close

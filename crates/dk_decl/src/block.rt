@@ -1,0 +1,89 @@
+// Declarations, read line by line.
+ghost use Rattle.std.specs.Prelude.{◌≡◌, [], ◌∷◌, ℕ};
+
+use crate::declare::DeclareBlock;
+use crate::decls::PointDecl;
+use crate::line_words::is_word;
+use crate::ppt::PptBlock;
+use dk_base::BlockFault;
+use std::alloc::Global;
+
+/// The form that the declaration has.
+#[derive(Drop)]
+pub(crate) enum Form {
+    Ppt(PptBlock),
+    Declare(DeclareBlock),
+}
+
+/// A declaration that is being read, line by line.
+#[derive(Drop)]
+pub struct DeclBlock {
+    pub(crate) alloc: Global,
+    pub(crate) implicit: bool,
+    pub(crate) form: Form,
+}
+
+impl DeclBlock {
+    ghost use Rattle.dk_decl.specs.Blocks.{decl_of, resumed};
+    ghost use Rattle.dk_decl.specs.Outcomes.{Gives, GoesOn};
+
+    /// A declaration that begins with this line, `ppt NAME` or `DECLARE`, under the comparability word `implicit` or `none`.
+    /// It is refused as `BadPoint` where `ppt` has no name.
+    #[tactic(auto, unfolding(crate::specs::Blocks::decl_of, crate::specs::Blocks::resumed))]
+    pub fn begin(
+        alloc: Global,
+        line: u64,
+        bytes: &[u8],
+        implicit: bool,
+    ) -> Result<DeclBlock, BlockFault>
+        ensures { GoesOn resumed result (decl_of implicit (record { number = line; bytes = bytes.now })) }
+    {
+        let form = if is_word(bytes, b"DECLARE") {
+            Form::Declare(DeclareBlock::begin(line))
+        } else {
+            Form::Ppt(PptBlock::begin(alloc, line, bytes)?)
+        };
+        Ok(DeclBlock {
+            alloc,
+            implicit,
+            form,
+        })
+    }
+
+    /// The declaration with one line more. It is refused as `BadPoint` or `BadVariable` as soon as no lines behind it can make it good.
+    #[tactic(auto, unfolding(crate::specs::Blocks::resumed))]
+    pub fn line(self, line: u64, bytes: &[u8]) -> Result<DeclBlock, BlockFault>
+        ensures { GoesOn resumed result (λ ls. resumed self (record { number = line; bytes = bytes.now } ∷ ls)) }
+    {
+        let DeclBlock {
+            alloc,
+            implicit,
+            form,
+        } = self;
+        let form = match form {
+            Form::Ppt(block) => Form::Ppt(block.line(alloc, implicit, line, bytes)?),
+            Form::Declare(block) => Form::Declare(block.line(alloc, implicit, line, bytes)?),
+        };
+        Ok(DeclBlock {
+            alloc,
+            implicit,
+            form,
+        })
+    }
+
+    /// What the block declares, where it ends here.
+    #[tactic(auto, unfolding(crate::specs::Blocks::resumed))]
+    pub fn end(self) -> Result<PointDecl, BlockFault>
+        ensures { (close : ℕ) → Gives result (resumed self [] (Some close)) }
+    {
+        let DeclBlock {
+            alloc,
+            implicit: _,
+            form,
+        } = self;
+        match form {
+            Form::Ppt(block) => block.end(alloc),
+            Form::Declare(block) => block.end(alloc),
+        }
+    }
+}
