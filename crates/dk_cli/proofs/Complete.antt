@@ -85,16 +85,16 @@ told_refused names before after output comes n contents h held =
     (ap fault_in all, comes.defined (take (k + 1) contents) front ∙ ap (output_at names) (part ∙ sym all))
 
 pub complete_of : (names : List (List ℕ)) (before after : Outside) (result : Status) → Says result (Some names) before after → IsCalm before after → IsComplete names before after result
-complete_of names before after Done (output, comes, e, unfailed) calm = record {
-  done = λ contents held none. inl (refl, e ∙ ap (followed before.written) (comes.defined contents held));
+complete_of names before after Done (output, comes, written) calm = record {
+  done = λ contents held none. inl (refl, written.0 ∙ ap (followed before.written) (comes.defined contents held));
   refused = λ n contents fault held first. let none = comes.clean n contents held in absurd (cc (none, first));
 }
-complete_of names before after Refused (output, comes, e, unfailed) calm = record {
+complete_of names before after Refused (output, comes, written) calm = record {
   done = λ contents held none.
       let told = told_refused names before after output comes (length names) contents comes.named (held_all before.file names contents held) in
       absurd (cc (none, told.0));
   refused = λ n contents fault held first. elim (cases_lt comes.fault.file n) [
-    | inl below ↦ inl (refl, e ∙ ap (followed before.written) (told_refused names before after output comes n contents below held).1)
+    | inl below ↦ inl (refl, written.0 ∙ ap (followed before.written) (told_refused names before after output comes n contents below held).1)
     | inr above ↦ absurd (not_clean before.file names comes.fault.file n contents fault comes.clean_before held first above)
   ];
 }

@@ -31,7 +31,7 @@ pub tells_says : (status : Status) (names : Option (List (List ℕ))) (before af
     → ComesTo status names before after output
     → Tells status output before.written after.written before.write_faults after.write_faults result
     → Says result names before after
-tells_says status names before after output result comes (inl (is, written)) = subst (λ (s : Status). Says s names before after) (sym is) (comes_to_says status names before after output comes written)
+tells_says status names before after output result comes (inl (is, written, unfailed)) = subst (λ (s : Status). Says s names before after) (sym is) (comes_to_says status names before after output comes (written, unfailed))
 tells_says status names before after output result comes (inr (inl (is, rose, front))) = subst (λ (s : Status). Says s names before after) (sym is) (rose, inr (status, output, comes, front))
 tells_says status names before after output result comes (inr (inr (is, e))) = subst (λ (s : Status). Says s names before after) (sym is) (inl e)
 
