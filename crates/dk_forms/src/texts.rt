@@ -1,0 +1,147 @@
+// The form few texts: the distinct values, ascending by their bytes, if they are at most three.
+ghost use Rattle.std.specs.Prelude.{◌≡◌, ◌<◌, ◌≤◌, [], ◌∷◌, length, insert, map, IfOk, MatchOption};
+ghost use Rattle.std.specs.Ordering.{nat_cmp};
+ghost use Rattle.std.specs.Cmp.Lexicographic.{slice_cmp};
+ghost use Rattle.dk_forms.specs.Distinct.{few_meet, put};
+ghost use Rattle.dk_forms.specs.Place.{IsTextPlace};
+ghost use Rattle.dk_forms.specs.Texts.{texts_state, texts_join, texts_of, IsTextsState};
+
+use crate::State;
+use crate::ints::Place;
+use dk_base::{List, NoMemory, Text};
+use std::alloc::Global;
+use std::cmp::Ordering;
+
+// Where a text stands among ascending texts.
+fn find_text(items: &[Text], x: &[u8]) -> Place
+    ensures { IsTextPlace items.now x.now result }
+{
+    for (i, y) in items.iter().enumerate() {
+        match x.cmp(y.as_slice()) {
+            Ordering::Less => return Place::Before(i),
+            Ordering::Equal => return Place::There,
+            Ordering::Greater => {}
+        }
+    }
+    Place::Before(items.len())
+}
+
+// Copies of these texts.
+pub(crate) fn copies(alloc: Global, texts: &[Text]) -> Result<List<Text>, NoMemory>
+    ensures { IfOk result (λ all. all ≡ texts.now) }
+{
+    let mut all = List::new(alloc);
+    for text in texts {
+        all.push(Text::from_slice(alloc, text.as_slice())?)?;
+    }
+    Ok(all)
+}
+
+// A list of these texts.
+fn listed(alloc: Global, texts: Vec<Text>) -> Result<List<Text>, NoMemory>
+    ensures { IfOk result (λ list. list ≡ texts.items) }
+{
+    let mut list = List::new(alloc);
+    for text in texts {
+        list.push(text)?;
+    }
+    Ok(list)
+}
+
+// With one text more at a place.
+fn inserted(
+    alloc: Global,
+    texts: List<Text>,
+    at: usize,
+    text: &[u8],
+) -> Result<List<Text>, NoMemory>
+    requires { at ≤ length texts }
+    ensures { IfOk result (λ more. more ≡ insert texts at text.now) }
+{
+    let mut items = texts.into_vec();
+    items.insert(at, Text::from_slice(alloc, text)?)?;
+    listed(alloc, items)
+}
+
+// With one text more, or none where that makes more than three.
+fn with_text(alloc: Global, texts: List<Text>, text: &[u8]) -> Result<Option<List<Text>>, NoMemory>
+    requires { length texts ≤ 3 }
+    ensures { IfOk result (λ found. MatchOption found (3 < length (put (slice_cmp nat_cmp) text.now texts)) (λ more. (more ≡ put (slice_cmp nat_cmp) text.now texts) × (length more ≤ 3))) }
+{
+    match find_text(texts.as_slice(), text) {
+        Place::There => Ok(Some(texts)),
+        Place::Before(at) => {
+            if texts.len() < 3 {
+                Ok(Some(inserted(alloc, texts, at, text)?))
+            } else {
+                Ok(None)
+            }
+        }
+    }
+}
+
+// The texts of both, if they are at most three.
+fn union_texts(alloc: Global, xs: &[Text], ys: List<Text>) -> Result<State, NoMemory>
+    requires { length ys ≤ 3 }
+    ensures { IfOk result (λ state. state ≡ texts_state (few_meet (slice_cmp nat_cmp) 3 xs.now ys)) }
+{
+    let mut all = ys;
+    for x in xs {
+        match with_text(alloc, all, x.as_slice())? {
+            Some(more) => all = more,
+            None => return Ok(State::Broken),
+        }
+    }
+    Ok(State::Texts(all))
+}
+
+/// The state of one value.
+pub fn text_point(alloc: Global, value: &[u8]) -> Result<State, NoMemory>
+    ensures { IfOk result (λ state. state ≡ texts_of (value.now ∷ [])) }
+{
+    let mut one = List::new(alloc);
+    one.push(Text::from_slice(alloc, value)?)?;
+    Ok(State::Texts(one))
+}
+
+// The distinct values, if they are at most three.
+fn union_values(alloc: Global, values: &[&[u8]]) -> Result<State, NoMemory>
+    ensures { IfOk result (λ state. state ≡ texts_state (few_meet (slice_cmp nat_cmp) 3 (map (λ t. t.now) values.now) [])) }
+{
+    let mut all = List::new(alloc);
+    for value in values {
+        match with_text(alloc, all, value)? {
+            Some(more) => all = more,
+            None => return Ok(State::Broken),
+        }
+    }
+    Ok(State::Texts(all))
+}
+
+/// The state of some values.
+pub fn texts_point(alloc: Global, values: &[&[u8]]) -> Result<State, NoMemory>
+    ensures { IfOk result (λ state. state ≡ texts_of (map (λ t. t.now) values.now)) }
+{
+    if values.is_empty() {
+        Ok(State::Empty)
+    } else {
+        union_values(alloc, values)
+    }
+}
+
+/// The state of two lists together.
+pub fn join_texts(alloc: Global, left: State, right: &State) -> Result<State, NoMemory>
+    requires left { IsTextsState left }
+    requires right { IsTextsState right.now }
+    ensures { IfOk result (λ state. state ≡ texts_join left right.now) }
+{
+    match right {
+        State::Empty => Ok(left),
+        State::Texts(ys) => match left {
+            State::Empty => Ok(State::Texts(copies(alloc, ys.as_slice())?)),
+            State::Texts(xs) => union_texts(alloc, ys.as_slice(), xs),
+            _ => Ok(State::Broken),
+        },
+        _ => Ok(State::Broken),
+    }
+}
