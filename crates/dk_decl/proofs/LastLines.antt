@@ -18,10 +18,7 @@ use Rattle.dk_decl.specs.Types.{constant_at, kind_of, rep_type_of}
 use Rattle.dk_decl.specs.VarNames.{has_name}
 use Rattle.dk_decl.specs.Variables.{closed, counterparts, new_var, opened, var_line, var_with, with_counterparts}
 use Rattle.dk_decl.specs.declared.decls.EdgeDecl.{EdgeDecl}
-use Rattle.dk_decl.specs.declared.decls.ParentVar.{ParentVar}
 use Rattle.dk_decl.specs.declared.decls.VarDecl.{VarDecl}
-use Rattle.dk_decl.specs.declared.types.RepType.{RepType}
-use Rattle.dk_decl.specs.declared.types.Placed.{Placed}
 use Rattle.dk_decl.specs.declared.variables.OpenVar.{OpenVar}
 
 -- reading that gives something has given something at its first step

@@ -1,3 +1,7 @@
 pub mod NamesOfVars
 pub mod LastLines
+pub mod PastLines
+pub mod LastWord
+pub mod ByPosition
+pub mod Unfaulted
 mod Examples

@@ -1,7 +1,7 @@
 -- The declaration of a block, in either form.
-use Rattle.std.specs.Prelude.{ℕ, Bool, List, codes, Option, if◌then◌else◌}
+use Rattle.std.specs.Prelude.{Bool, codes, if◌then◌else◌}
 use Rattle.std.specs.Str.{bytes_eq}
-use Rattle.dk_base.specs.Reading.{Line, ◌>>=◌, Reads}
+use Rattle.dk_base.specs.Reading.{Line, Reads}
 use Rattle.dk_decl.specs.DeclareBlock.{declare_lines, declare_resumed}
 use Rattle.dk_decl.specs.PptBlock.{ppt_of, ppt_resumed}
 use Rattle.dk_decl.specs.declared.block.DeclBlock.{DeclBlock}

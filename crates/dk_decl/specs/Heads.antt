@@ -1,5 +1,5 @@
 -- The lines of a `ppt` block in front of its first variable.
-use Rattle.std.specs.Prelude.{◌&&◌, ◌||◌, ◌==◌, ◌^◌, ◌++◌, ℕ, Bool, List, [], ◌∷◌, codes, map, nat_lt, is_some, Option, Some, None, option_and_then, Result, Ok, Err, if◌then◌else◌}
+use Rattle.std.specs.Prelude.{◌&&◌, ◌||◌, ◌==◌, ◌^◌, ◌++◌, ℕ, Bool, List, [], ◌∷◌, codes, map, nat_lt, is_some, Option, Some, None, option_and_then, Result, Ok, if◌then◌else◌}
 use Rattle.std.specs.Char.{to_ascii_lowercase}
 use Rattle.std.specs.List.{list_any}
 use Rattle.std.specs.Str.{bytes_eq}

@@ -1,11 +1,10 @@
 -- What the lines of a block come to, in the words of the format.
-use Rattle.std.specs.Prelude.{◌≡◌, ℕ, Bool, List, [], ◌∷◌, codes, filter, flat_map, is_some, unwrap_or, option_and_then, option_map, Option, Some, None, Ok, if◌then◌else◌}
+use Rattle.std.specs.Prelude.{◌≡◌, ℕ, Bool, List, [], codes, filter, flat_map, is_some, unwrap_or, option_and_then, option_map, Option, Some, None, Ok, if◌then◌else◌}
 use Rattle.std.specs.Borrow.{Bor}
 use Rattle.std.specs.List.{AllZip, last_or}
 use Rattle.dk_base.specs.Names.{unescaped}
 use Rattle.dk_base.specs.Reading.{Line}
 use Rattle.dk_base.specs.declared.kinds.Compar.{Compar}
-use Rattle.dk_decl.specs.Blocks.{decl_of}
 use Rattle.dk_decl.specs.Brackets.{compar_of, no_compar}
 use Rattle.dk_decl.specs.LineWords.{begins, operand, operands}
 use Rattle.dk_decl.specs.PptBlock.{groups, ppt_of}

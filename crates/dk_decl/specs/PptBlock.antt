@@ -1,5 +1,5 @@
 -- A declaration that begins with `ppt`.
-use Rattle.std.specs.Prelude.{◌++◌, ℕ, Bool, true, false, List, [], ◌∷◌, codes, is_some, Option, Some, None, Result, Ok, Err, if◌then◌else◌}
+use Rattle.std.specs.Prelude.{◌++◌, ℕ, Bool, true, false, List, [], ◌∷◌, codes, is_some, Option, Some, None, Result, Ok, if◌then◌else◌}
 use Rattle.dk_base.specs.Names.{unescaped}
 use Rattle.dk_base.specs.Pieces.{is_empty}
 use Rattle.dk_base.specs.Reading.{Line, LineFault, ◌>>=◌, Reads}

@@ -1,7 +1,7 @@
 -- Rep-types, and the constants that they take.
-use Rattle.std.specs.Prelude.{◌||◌, ℕ, Bool, true, false, List, codes, Option, Some, None, Result, Ok, Err, if◌then◌else◌}
+use Rattle.std.specs.Prelude.{◌||◌, ℕ, Bool, true, false, List, codes, Option, Some, None, Result, Ok, if◌then◌else◌}
 use Rattle.std.specs.Str.{bytes_eq}
-use Rattle.dk_base.specs.Reading.{LineFault, ◌>>=◌}
+use Rattle.dk_base.specs.Reading.{LineFault}
 use Rattle.dk_base.specs.Values.{value_of_text}
 use Rattle.dk_base.specs.declared.kinds.Kind.{Kind}
 use Rattle.dk_base.specs.declared.kinds.Kind.TheVariants.{Bool as BoolKind, Int, Hash, Str, BoolSeq, IntSeq, HashSeq, StrSeq}

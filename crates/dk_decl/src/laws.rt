@@ -1,7 +1,11 @@
 //! What the definitions of blocks come to, in the words of the format.
 ghost use Rattle.std.specs.Prelude.{map, Some, ℕ};
 ghost use Rattle.dk_decl.specs.Blocks.{decl_of};
+ghost use Rattle.dk_decl.specs.HeaderLaw.{LastWordHolds};
 ghost use Rattle.dk_decl.specs.Laws.{LastLinesCount, line_of};
+ghost use Rattle.dk_decl.specs.OpenBlocks.{NoFaultYet};
+ghost use Rattle.dk_decl.specs.Positions.{LinesCountByPosition};
+ghost use Rattle.dk_decl.specs.ReadPast.{CommentsAreReadPast, OtherLinesAreReadPast};
 ghost use Rattle.dk_decl.specs.Outcomes.{Gives};
 
 use crate::block::DeclBlock;
@@ -28,4 +32,30 @@ pub fn read_block(
 /// Of a variable's repeated lines in a `ppt` block the last one counts, and each `parent` line does.
 pub fn last_lines_count()
     ensures { LastLinesCount }
+{}
+
+/// In a `ppt` block lines with other first words than the format's change nothing.
+pub fn other_lines_are_read_past()
+    ensures { OtherLinesAreReadPast }
+{}
+
+/// So do lines that begin with `#` or `//`, behind the first line of a `ppt` block.
+pub fn comments_are_read_past()
+    ensures { CommentsAreReadPast }
+{}
+
+/// In a `DECLARE` block the lines behind the point's name count four by four, and none is left over; one that begins with `#`
+/// counts as any other does.
+pub fn lines_count_by_position()
+    ensures { LinesCountByPosition }
+{}
+
+/// A comparability word holds from its header line on, up to the next one.
+pub fn last_word_holds()
+    ensures { LastWordHolds }
+{}
+
+/// A block that is still read has no fault: what was found was refused at its line.
+pub fn no_fault_yet()
+    ensures { NoFaultYet }
 {}
