@@ -1,5 +1,5 @@
 // Why a block is not taken.
-use crate::Why;
+use crate::{NoMemory, Why};
 use thiserror::Error;
 
 /// Why a block is not taken: a line of it is refused, or memory could not be had.
@@ -9,6 +9,17 @@ pub enum BlockFault {
     Refused { line: u64, why: Why },
     #[error("out of memory")]
     NoMemory,
+}
+
+impl From<NoMemory> for BlockFault {
+    ghost use Rattle.std.specs.Prelude.{◌≡◌};
+    ghost use Rattle.dk_base.specs.declared.faults.BlockFault.TheVariants as fault;
+
+    ghost from_gives = { λ _ e. e ≡ fault.NoMemory };
+
+    fn from(_: NoMemory) -> Self {
+        BlockFault::NoMemory
+    }
 }
 
 /// Why a session goes no further: a line of a file is refused, the file could not be read, or memory could not be had.
