@@ -1,0 +1,4 @@
+pub mod Firsts
+pub mod Agreement
+pub mod OwnLeaders
+pub mod OfKind

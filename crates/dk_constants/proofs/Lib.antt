@@ -1,0 +1,5 @@
+pub mod Lookups
+pub mod TextLists
+pub mod Gaps
+pub mod Parting
+pub mod Feeding

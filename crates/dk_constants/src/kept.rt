@@ -1,0 +1,98 @@
+// Values that are kept, beside the views of a sample.
+ghost use Rattle.std.specs.Prelude.{◌≡◌, ◌↔◌, Decides, IfOk, IsTrue, map};
+ghost use Rattle.dk_base.specs.Values.{value_of};
+
+use dk_base::{List, NoMemory, Text, Value, View};
+use std::alloc::Global;
+
+// Whether the two lists have the same items, which `==` tells apart.
+fn same_items<T: PartialEq>(a: &[T], b: &[T]) -> bool
+    requires { (x y : T) → Decides (T.eq x y) (x ≡ y) }
+    ensures { IsTrue result ↔ (a.now ≡ b.now) }
+{
+    a == b
+}
+
+// Whether the two lists have the same texts.
+fn same_texts(a: &[&[u8]], b: &[Text]) -> bool
+    ensures { IsTrue result ↔ (map (λ t. t.now) a.now ≡ b.now) }
+{
+    if a.len() != b.len() {
+        return false;
+    }
+    for (i, text) in b.iter().enumerate() {
+        if !same_items(a[i], text.as_slice()) {
+            return false;
+        }
+    }
+    true
+}
+
+/// Whether the view shows this value.
+pub(crate) fn shows(view: View<'_>, value: &Value) -> bool
+    ensures { IsTrue result ↔ (value_of view.entry ≡ value.now) }
+{
+    match view {
+        View::Missing => matches!(value, Value::Missing),
+        View::Bool(x) => match value {
+            Value::Bool(y) => x == *y,
+            _ => false,
+        },
+        View::Int(x) => match value {
+            Value::Int(y) => x == *y,
+            _ => false,
+        },
+        View::Hash(x) => match value {
+            Value::Hash(y) => x == *y,
+            _ => false,
+        },
+        View::Str(x) => match value {
+            Value::Str(y) => same_items(x, y.as_slice()),
+            _ => false,
+        },
+        View::BoolSeq(x) => match value {
+            Value::BoolSeq(y) => same_items(x, y.as_slice()),
+            _ => false,
+        },
+        View::IntSeq(x) => match value {
+            Value::IntSeq(y) => same_items(x, y.as_slice()),
+            _ => false,
+        },
+        View::HashSeq(x) => match value {
+            Value::HashSeq(y) => same_items(x, y.as_slice()),
+            _ => false,
+        },
+        View::StrSeq(x) => match value {
+            Value::StrSeq(y) => same_texts(x, y.as_slice()),
+            _ => false,
+        },
+    }
+}
+
+// Copies of these texts.
+fn copy_texts(alloc: Global, texts: &[Text]) -> Result<List<Text>, NoMemory>
+    ensures { IfOk result (λ copies. copies ≡ texts.now) }
+{
+    let mut copies = List::new(alloc);
+    for text in texts {
+        copies.push(Text::from_slice(alloc, text.as_slice())?)?;
+    }
+    Ok(copies)
+}
+
+/// An equal value, with its own strings and sequences.
+pub(crate) fn copy(alloc: Global, value: &Value) -> Result<Value, NoMemory>
+    ensures { IfOk result (λ copy. copy ≡ value.now) }
+{
+    Ok(match value {
+        Value::Missing => Value::Missing,
+        Value::Bool(truth) => Value::Bool(*truth),
+        Value::Int(number) => Value::Int(*number),
+        Value::Hash(code) => Value::Hash(*code),
+        Value::Str(text) => Value::Str(Text::from_slice(alloc, text.as_slice())?),
+        Value::BoolSeq(truths) => Value::BoolSeq(List::from_slice(alloc, truths.as_slice())?),
+        Value::IntSeq(numbers) => Value::IntSeq(List::from_slice(alloc, numbers.as_slice())?),
+        Value::HashSeq(codes) => Value::HashSeq(List::from_slice(alloc, codes.as_slice())?),
+        Value::StrSeq(texts) => Value::StrSeq(copy_texts(alloc, texts.as_slice())?),
+    })
+}

@@ -1,0 +1,12 @@
+//! Constant leaders: those that have had one value in all samples, with that value.
+#![tactic(auto)]
+
+mod constants;
+mod kept;
+mod places;
+mod steps;
+
+pub use constants::Constants;
+
+#[cfg(test)]
+mod tests;
