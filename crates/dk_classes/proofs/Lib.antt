@@ -2,3 +2,4 @@ pub mod Firsts
 pub mod Agreement
 pub mod OwnLeaders
 pub mod OfKind
+pub mod Examples

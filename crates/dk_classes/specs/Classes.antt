@@ -18,6 +18,7 @@ pub record IsFirst (P : ℕ → Type 0) (n : ℕ) : Type 0 where
 abbrev pub kinds_of : List VarInfo → List Kind
 kinds_of vars = map (λ info. info.kind) vars
 
+-- the kind of a variable by its number
 abbrev pub kind_at : List Kind → ℕ → Kind
 kind_at kinds v = slice_index_or kinds v kind.Bool
 

@@ -3,6 +3,7 @@ use Rattle.std.specs.Prelude.{◌≡◌, ◌<◌, ◌≤◌, ◌==◌, ◌^◌, 
 use Rattle.std.specs.List.{enumerate_from, filter}
 use Rattle.dk_base.specs.declared.kinds.VarId.{VarId}
 
+-- the variable of a number
 abbrev pub var : ℕ → VarId
 var n = record { 0 = n }
 

@@ -14,6 +14,7 @@ abbrev pub known_at : List (VarId × Value) → VarId → Option Value
 known_at [] v = None
 known_at (k ∷ known) v = if k.0.0 == v.0 then Some k.1 else known_at known v
 
+-- what a place outside of the list is read as
 abbrev pub none_known : VarId × Value
 none_known = (record { 0 = 0 }, value.Missing)
 

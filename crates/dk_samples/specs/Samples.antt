@@ -9,6 +9,7 @@ use Rattle.dk_base.specs.declared.values.Value.TheVariants as value
 abbrev pub value_in : List Value → VarId → Value
 value_in sample v = value_at sample v.0
 
+-- whether a value isn't the missing one
 abbrev pub is_present : Value → Bool
 is_present value.Missing = false
 is_present _ = true

@@ -1,0 +1,19 @@
+pub mod Places
+pub mod Positions
+pub mod Members
+pub mod Noting
+pub mod Links
+pub mod Heights
+pub mod Steps
+pub mod Turns
+pub mod Depths
+pub mod Bounds
+pub mod Waits
+pub mod Orders
+pub mod Sorting
+pub mod Ascending
+pub mod Added
+pub mod Joining
+pub mod Climbing
+pub mod Walks
+mod Examples

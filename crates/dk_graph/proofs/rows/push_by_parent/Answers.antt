@@ -1,0 +1,19 @@
+use Rattle.std.proofs.Common.{◌∙◌, ◌<◌, ◌++◌, ◌∷◌, [], get_or, length, ap, arith}
+use Rattle.std.proofs.lemmas.List.{length-set}
+use Rattle.dk_graph.specs.declared.nodes.Edge.{Edge}
+use Rattle.dk_graph.proofs.Orders.{spread-next}
+use Rattle.dk_graph.proofs.Places.{slice_get-at}
+use Rattle.dk_graph.proofs.rows.push_by_parent.Goals as goal
+
+pub loop-edge-preserved : goal.loop-edge-preserved
+loop-edge-preserved c =
+    let none : Edge = record { child = record { 0 = 0 }; parent = record { 0 = 0 }; number = 0 } in
+    let e : Edge = get_or c.args.edges.now c.loop-edge.edge-index none in
+    let below : e.parent.0 < length c.args.into.now.items =
+    c.requires c.loop-edge.edge-index e (slice_get-at c.args.edges.now c.loop-edge.edge-index none c.loop-edge-test.true) in (
+      length-set c.loop-edge.into.items e.parent.0 c.push.new.self ∙ c.loop-edge.invariant.0,
+      spread-next c.loop-edge.into.items c.args.edges.now c.loop-edge.edge-index none c.index_mut.result.now c.push.new.self
+          c.loop-edge-test.true (omega (arith, below, c.loop-edge.invariant.0))
+          (c.in_ok-push.ensures ∙ ap (λ xs. xs ++ e ∷ []) c.index_mut.ensures.value)
+          ∙ c.loop-edge.invariant.1,
+    )

@@ -1,0 +1,7 @@
+pub mod Names
+pub mod Notes
+pub mod Graphs
+pub mod Rows
+pub mod Raising
+pub mod Kept
+pub mod Paths

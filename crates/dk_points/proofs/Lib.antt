@@ -1,0 +1,15 @@
+pub mod Separators
+pub mod Nodes
+pub mod Counting
+pub mod Keeping
+pub mod Typing
+pub mod SameValues
+pub mod KeptBy
+pub mod MorePoints
+pub mod PlacesOfNames
+pub mod Exits
+pub mod Declarations
+pub mod EndsOfEdges
+pub mod BaseForms
+pub mod FullTables
+pub mod Examples

@@ -1,0 +1,13 @@
+pub mod Names
+pub mod Table
+pub mod Vars
+pub mod Links
+pub mod Partners
+pub mod Sameness
+pub mod Declaring
+pub mod VarsByName
+pub mod Laws
+pub mod Ends
+pub mod KeptEdges
+pub mod Counts
+pub mod Kept

@@ -1,0 +1,11 @@
+// What a declaration was.
+use dk_base::PointId;
+
+/// What a declaration was to the table.
+#[derive(Clone, Copy, Debug, PartialEq, Eq)]
+pub enum Declared {
+    /// A new point.
+    New(PointId),
+    /// The declaration that this point has already, which changes nothing.
+    Same(PointId),
+}

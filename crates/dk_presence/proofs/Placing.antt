@@ -1,0 +1,172 @@
+-- The patterns by their places.
+use Rattle.std.proofs.Common.{◌≡◌, ℕ, zero, suc, ◌+◌, ◌<◌, ◌≤◌, eqb, inl, inr, List, [], ◌∷◌, ◌++◌, length, get_or, set, take, map, position, Some, None, Bool, true, false, cond, not, ◌&&◌, ◌||◌, refl, ap, sym, ◌∙◌, subst, arith}
+use Rattle.std.specs.Prelude.{nat_lt}
+use Rattle.std.specs.Cmp.Lexicographic.{pointwise}
+use Rattle.std.specs.List.{All, AllByRecursion, IsDistinct, list_any, position_or_len}
+use Rattle.std.proofs.lemmas.Bool.{cases_Bool, true≢false}
+use Rattle.std.proofs.lemmas.Bool.Decides.{nat_tests}
+use Rattle.std.proofs.lemmas.List.{get_or-map, get_or-take, length-map, length-take-le, map-append, take_more}
+use Rattle.std.proofs.lemmas.List.Sums.{fails_before_first}
+use Rattle.std.proofs.lemmas.List.Elements.{All-cons, All-head, All-nil, All-tail}
+use Rattle.std.proofs.lemmas.Map.Keys.{apart_from_distinct, IsDistinct-cons, IsDistinct-head, IsDistinct-tail}
+use Rattle.std.proofs.lemmas.List.Quantifiers.{position-Some}
+use Rattle.dk_base.specs.declared.kinds.VarId.{VarId}
+use Rattle.dk_samples.specs.Leaders.{Ascend}
+use Rattle.dk_presence.specs.declared.held.Held.{Held}
+use Rattle.dk_presence.specs.Patterns.{AreHeld, held_patterns, same_vars}
+use Rattle.dk_presence.specs.Steps.{added, counted_once_more, first_held}
+use Rattle.dk_presence.proofs.Sameness.{same_vars-sym}
+use Rattle.dk_presence.proofs.Adding.{patterns_added}
+use Rattle.dk_presence.proofs.Refining.{any_at}
+
+-- the first pattern with these leaders is counted once more
+added_at : (present : List VarId) (held : List Held) (i : ℕ) (d : Held) → i < length held → same_vars present (get_or held i d).leaders ≡ true → ((k : ℕ) → k < i → same_vars present (get_or held k d).leaders ≡ false) → added present held ≡ set held i (counted_once_more (get_or held i d))
+added_at present [] i d l here before = absurd (omega arith)
+added_at present (h ∷ held) zero d l here before = ap (λ b. cond b (counted_once_more h ∷ held) (h ∷ added present held)) (same_vars-sym h.leaders present ∙ here)
+added_at present (h ∷ held) (suc i) d l here before =
+    ap (λ b. cond b (counted_once_more h ∷ held) (h ∷ added present held)) (same_vars-sym h.leaders present ∙ before 0 (omega arith))
+    ∙ ap (λ hs. h ∷ hs) (added_at present held i d (omega arith) here (λ k lt. before (suc k) (omega arith)))
+
+-- a new pattern goes last
+added_last : (present : List VarId) (held : List Held) → list_any (λ p. same_vars p present) (held_patterns held) ≡ false → added present held ≡ held ++ first_held present ∷ []
+added_last present [] none = refl
+added_last present (h ∷ held) none = elim (cases_Bool (same_vars h.leaders present)) [
+  | inl e ↦ absurd (true≢false (sym (ap (λ b. b || list_any (λ p. same_vars p present) (held_patterns held)) e) ∙ none))
+  | inr n ↦
+      ap (λ b. cond b (counted_once_more h ∷ held) (h ∷ added present held)) n
+      ∙ ap (λ hs. h ∷ hs) (added_last present held (ap (λ b. b || list_any (λ p. same_vars p present) (held_patterns held)) (sym n) ∙ none))
+]
+
+-- the patterns stay as they must be
+all_added : (P : Held → Type 0) (present : List VarId) → P (first_held present) → ((h : Held) → P h → P (counted_once_more h)) → (held : List Held) → All P held → All P (added present held)
+all_added P present first more [] all = All-cons P (first_held present) [] first (All-nil P)
+all_added P present first more (h ∷ held) all = elim (same_vars h.leaders present) as (λ b. All P (cond b (counted_once_more h ∷ held) (h ∷ added present held))) [
+  | true ↦ All-cons P (counted_once_more h) held (more h (All-head P h held all)) (All-tail P h held all)
+  | false ↦ All-cons P h (added present held) (All-head P h held all) (all_added P present first more held (All-tail P h held all))
+]
+
+apart_added : (a present : List VarId) (held : List Held) → same_vars a present ≡ false → AllByRecursion (λ y. same_vars a y ≡ false) (held_patterns held) → AllByRecursion (λ y. same_vars a y ≡ false) (held_patterns (added present held))
+apart_added a present [] n all = (n, tt)
+apart_added a present (h ∷ held) n all = elim (same_vars h.leaders present) as (λ b. AllByRecursion (λ y. same_vars a y ≡ false) (held_patterns (cond b (counted_once_more h ∷ held) (h ∷ added present held)))) [
+  | true ↦ all
+  | false ↦ (all.0, apart_added a present held n all.1)
+]
+
+distinct_added : (present : List VarId) (held : List Held) → IsDistinct same_vars (held_patterns held) → IsDistinct same_vars (held_patterns (added present held))
+unfolding IsDistinct
+distinct_added present [] once = IsDistinct-cons same_vars present [] tt tt
+distinct_added present (h ∷ held) once = elim (cases_Bool (same_vars h.leaders present)) [
+  | inl e ↦ subst (λ b. IsDistinct same_vars (held_patterns (cond b (counted_once_more h ∷ held) (h ∷ added present held)))) (sym e) once
+  | inr n ↦ subst (λ b. IsDistinct same_vars (held_patterns (cond b (counted_once_more h ∷ held) (h ∷ added present held)))) (sym n)
+      (IsDistinct-cons same_vars h.leaders (held_patterns (added present held))
+      (apart_added h.leaders present held n (IsDistinct-head same_vars h.leaders (held_patterns held) once))
+      (distinct_added present held (IsDistinct-tail same_vars h.leaders (held_patterns held) once)))
+]
+
+pub held_added : (present : List VarId) (held : List Held) → Ascend present → AreHeld held → AreHeld (added present held)
+held_added present held up are = record {
+  once = distinct_added present held are.once;
+  some = all_added (λ h. 0 < h.count) present (omega arith) (λ h l. omega (arith, l)) held are.some;
+  ascend = all_added (λ h. Ascend h.leaders) present up (λ h a. a) held are.ascend;
+}
+
+pub held_none : AreHeld []
+unfolding IsDistinct
+held_none = record { once = tt; some = All-nil (λ h. 0 < h.count); ascend = All-nil (λ h. Ascend h.leaders) }
+
+-- ---- look-ups
+any_not : (p : List VarId → Bool) (ps : List (List VarId)) → ((k : ℕ) → k < length ps → p (get_or ps k []) ≡ false) → list_any p ps ≡ false
+any_not p [] h = refl
+any_not p (a ∷ ps) h = ap (λ b. b || list_any p ps) (h 0 (omega arith)) ∙ any_not p ps (λ k l. h (suc k) (omega arith))
+
+-- by the place that a look-up finds
+pub added_found : (present : List VarId) (held : List Held) (i : ℕ) → position (same_vars present) (held_patterns held) ≡ Some i
+    → (i < length held) × ((d : Held) → added present held ≡ set held i (counted_once_more (get_or held i d))) × (held_patterns (added present held) ≡ held_patterns held)
+added_found present held i e =
+    let told = position-Some (same_vars present) (held_patterns held) i [] e in
+    let long = length-map held (λ (h : Held). h.leaders) in
+    let l : i < length held = omega (arith, told.0, long) in
+    let at : (d : Held) (k : ℕ) → k < length held → get_or (held_patterns held) k [] ≡ (get_or held k d).leaders = λ d k m. get_or-map (λ (h : Held). h.leaders) held k d [] m in
+    let there = any_at (λ p. same_vars p present) (held_patterns held) i [] told.0 (same_vars-sym (get_or (held_patterns held) i []) present ∙ told.1) in (
+      l,
+      λ d. added_at present held i d l (ap (same_vars present) (sym (at d i l)) ∙ told.1) (λ k lt. ap (same_vars present) (sym (at d k (omega arith))) ∙ told.2 k lt),
+      patterns_added present held ∙ ap (λ b. cond b (held_patterns held) (held_patterns held ++ present ∷ [])) there,
+    )
+
+position_none : (p : List VarId → Bool) (ps : List (List VarId)) → position p ps ≡ None → length ps ≤ position_or_len p ps
+position_none p ps e = elim (cases_Bool (nat_lt (position_or_len p ps) (length ps))) [
+  | inl t ↦ absurd (let some : position p ps ≡ Some (position_or_len p ps) = ap (λ b. cond b (Some (position_or_len p ps)) None) t in cc)
+  | inr f ↦ grind (arith, nat_tests, f)
+]
+
+not_there : (present : List VarId) (held : List Held) → position (same_vars present) (held_patterns held) ≡ None → list_any (λ p. same_vars p present) (held_patterns held) ≡ false
+not_there present held e =
+    let long = position_none (same_vars present) (held_patterns held) e in
+    any_not (λ p. same_vars p present) (held_patterns held) (λ k l. same_vars-sym (get_or (held_patterns held) k []) present ∙ fails_before_first (same_vars present) (held_patterns held) k [] (omega arith))
+
+pub added_new : (present : List VarId) (held : List Held) → position (same_vars present) (held_patterns held) ≡ None → added present held ≡ held ++ first_held present ∷ []
+added_new present held e = added_last present held (not_there present held e)
+
+pub patterns_new : (present : List VarId) (held : List Held) → position (same_vars present) (held_patterns held) ≡ None → held_patterns (added present held) ≡ held_patterns held ++ present ∷ []
+patterns_new present held e = patterns_added present held ∙ ap (λ b. cond b (held_patterns held) (held_patterns held ++ present ∷ [])) (not_there present held e)
+
+-- ---- keys
+pub pointwise_same : (a b : List VarId) → pointwise (λ (v w : VarId). eqb v.0 w.0) a b ≡ same_vars a b
+pointwise_same [] [] = refl
+pointwise_same [] (w ∷ b) = refl
+pointwise_same (v ∷ a) [] = refl
+pointwise_same (v ∷ a) (w ∷ b) = ap (λ s. eqb v.0 w.0 && s) (pointwise_same a b)
+
+module _ {K : Type 0} (items : K → List VarId) (p : List VarId → Bool) (q : K → Bool) (same : (k : K) → q k ≡ p (items k)) where
+  pub any_keys : (ks : List K) → list_any q ks ≡ list_any p (map items ks)
+  any_keys [] = refl
+  any_keys (k ∷ ks) = ap (λ b. b || list_any q ks) (same k) ∙ ap (λ b. p (items k) || b) (any_keys ks)
+
+  first_keys : (ks : List K) → position_or_len q ks ≡ position_or_len p (map items ks)
+  first_keys [] = refl
+  first_keys (k ∷ ks) = ap (λ b. cond {A = ℕ} (not b) (1 + position_or_len q ks) 0) (same k) ∙ ap (λ n. cond {A = ℕ} (not (p (items k))) (1 + n) 0) (first_keys ks)
+
+  pub position_keys : (ks : List K) → position q ks ≡ position p (map items ks)
+  position_keys ks =
+      ap (λ n. cond (nat_lt n (length ks)) (Some n) None) (first_keys ks)
+      ∙ ap (λ m. cond (nat_lt (position_or_len p (map items ks)) m) (Some (position_or_len p (map items ks))) None) (sym (length-map ks items))
+
+-- ---- the keys of more patterns
+distinct_ahead : (held : List Held) (i : ℕ) (d : Held) → i < length held → IsDistinct same_vars (held_patterns held) → list_any (same_vars (get_or held i d).leaders) (held_patterns (take i held)) ≡ false
+distinct_ahead held i d l once =
+    any_not (same_vars (get_or held i d).leaders) (held_patterns (take i held)) (λ k m.
+    let long = length-map held (λ (h : Held). h.leaders) in
+    let short : k < i = omega (arith, m, length-map (take i held) (λ (h : Held). h.leaders), length-take-le i held (omega arith)) in
+    let apart = apart_from_distinct same_vars (held_patterns held) k i [] once short (omega (arith, l, long)) in
+    let here = get_or-map (λ (h : Held). h.leaders) held i d [] l in
+    let there = get_or-map (λ (h : Held). h.leaders) held k d [] (omega arith) in
+    let taken = get_or-map (λ (h : Held). h.leaders) (take i held) k d [] (omega (arith, m, length-map (take i held) (λ (h : Held). h.leaders))) in
+    let same : (get_or (take i held) k d).leaders ≡ (get_or held k d).leaders = ap (λ (h : Held). h.leaders) (get_or-take i held k d short) in
+    ap (λ xs. same_vars (get_or held i d).leaders xs) (taken ∙ (same ∙ sym there)) ∙ (same_vars-sym (get_or held i d).leaders (get_or (held_patterns held) k [])
+    ∙ (ap (same_vars (get_or (held_patterns held) k [])) (sym here) ∙ apart)))
+
+-- one pattern more gets a key of its own
+pub keys_more : {K : Type 0} (items : K → List VarId) (eq : K → K → Bool) → ((a b : K) → eq a b ≡ same_vars (items a) (items b)) → (held : List Held) (i : ℕ) (d : Held) → i < length held → IsDistinct same_vars (held_patterns held)
+    → (ks more : List K) (k : K) → map items ks ≡ held_patterns (take i held) → items k ≡ (get_or held i d).leaders → more ≡ cond (list_any (eq k) ks) ks (ks ++ k ∷ []) → map items more ≡ held_patterns (take (i + 1) held)
+keys_more items eq same held i d l once ks more k keys key is =
+    let off : list_any (eq k) ks ≡ false = any_keys items (same_vars (items k)) (eq k) (same k) ks ∙ (ap (list_any (same_vars (items k))) keys ∙ (ap (λ x. list_any (same_vars x) (held_patterns (take i held))) key ∙ distinct_ahead held i d l once)) in
+    ap (map items) (is ∙ ap (λ b. cond b ks (ks ++ k ∷ [])) off) ∙ (map-append items ks (k ∷ []) ∙ (ap (λ xs. xs ++ items k ∷ []) keys
+    ∙ (ap (λ x. held_patterns (take i held) ++ x ∷ []) key ∙ sym (ap held_patterns (take_more held i d l) ∙ map-append (λ (h : Held). h.leaders) (take i held) (get_or held i d ∷ [])))))
+
+-- a key more for the new pattern
+pub keys_new : {K : Type 0} (items : K → List VarId) (eq : K → K → Bool) → ((a b : K) → eq a b ≡ same_vars (items a) (items b)) → (present : List VarId) (held : List Held) → position (same_vars present) (held_patterns held) ≡ None
+    → (ks more : List K) (k : K) → map items ks ≡ held_patterns held → items k ≡ present → more ≡ cond (list_any (eq k) ks) ks (ks ++ k ∷ []) → map items more ≡ held_patterns (added present held)
+keys_new items eq same present held none ks more k keys key is =
+    let off : list_any (eq k) ks ≡ false = any_keys items (same_vars (items k)) (eq k) (same k) ks ∙ (ap (list_any (same_vars (items k))) keys ∙ (ap (λ x. list_any (same_vars x) (held_patterns held)) key
+    ∙ any_not (same_vars present) (held_patterns held) (λ j l. fails_before_first (same_vars present) (held_patterns held) j [] (let long = position_none (same_vars present) (held_patterns held) none in omega arith)))) in
+    ap (map items) (is ∙ ap (λ b. cond b ks (ks ++ k ∷ [])) off) ∙ (map-append items ks (k ∷ []) ∙ (ap (λ xs. xs ++ items k ∷ []) keys
+    ∙ (ap (λ x. held_patterns held ++ x ∷ []) key ∙ sym (patterns_new present held none))))
+
+-- one pattern alone
+pub held_one : (h : Held) → 0 < h.count → Ascend h.leaders → AreHeld (h ∷ [])
+unfolding IsDistinct
+held_one h some up = record {
+  once = IsDistinct-cons same_vars h.leaders [] tt tt;
+  some = All-cons (λ k. 0 < k.count) h [] some (All-nil (λ k. 0 < k.count));
+  ascend = All-cons (λ k. Ascend k.leaders) h [] up (All-nil (λ k. Ascend k.leaders));
+}

@@ -1,0 +1,13 @@
+//! Presence: in how many samples which leaders are present.
+#![tactic(auto)]
+
+mod held;
+mod places;
+mod presence;
+mod steps;
+
+pub use held::Held;
+pub use presence::{Presence, present_leaders};
+
+#[cfg(test)]
+mod tests;

@@ -1,0 +1,5 @@
+mod Bounds
+mod MeaningLaws
+mod Tables
+pub mod RowLaws
+mod Examples

@@ -1,0 +1,4 @@
+pub mod Relations
+pub mod Meaning
+pub mod Meanings
+pub mod Laws

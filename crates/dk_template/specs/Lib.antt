@@ -1,0 +1,11 @@
+pub mod Templates
+pub mod Admitted
+pub mod Ascending
+pub mod Exchange
+pub mod Fitting
+pub mod Proper
+pub mod ProperTest
+pub mod Joins
+pub mod Laws
+pub mod Rows
+pub mod Premises

@@ -1,0 +1,10 @@
+pub mod Answers
+pub mod Marks
+pub mod Values
+pub mod Bodies
+pub mod Records
+pub mod ValuesResumed
+pub mod BodiesResumed
+pub mod RecordsResumed
+pub mod OpenRecords
+pub mod Fitting

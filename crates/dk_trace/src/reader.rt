@@ -1,0 +1,127 @@
+// Records, read line by line.
+ghost use Rattle.std.specs.Prelude.{◌≡◌, ◌<◌, ◌∷◌, [], IfOk, Some, length};
+ghost use Rattle.dk_base.specs.Reading.{Line};
+ghost use Rattle.dk_decl.specs.Outcomes.{Gives, GoesOn};
+ghost use Rattle.dk_trace.specs.Answers.{Shows};
+ghost use Rattle.dk_trace.specs.Records.{declared_vars, point_at, sample_of};
+
+use crate::bodies::BodyReader;
+use crate::marks::refused;
+use crate::sample::BaseSample;
+use dk_base::{Arena, BlockFault, PointId, Why, unescape};
+use dk_decl::VarDecl;
+use dk_points::Points;
+use std::alloc::Global;
+
+/// A record that is being read, line by line.
+#[derive(Drop)]
+pub struct RecordReader<'a> {
+    pub(crate) arena: &'a Arena,
+    pub(crate) point: PointId,
+    pub(crate) line: u64,
+    pub(crate) body: BodyReader<'a>,
+}
+
+// The declared point whose name is spelled by a record's first line.
+#[tactic(auto, unfolding(crate::specs::Records::point_at))]
+fn point_at(alloc: Global, points: &Points, line: u64, bytes: &[u8]) -> Result<PointId, BlockFault>
+    ensures point { Shows (λ p. p.0) result (point_at points.now (record { number = line; bytes = bytes.now })) }
+    ensures within { IfOk result (λ p. p.0 < length points.now) }
+{
+    let name = unescape(alloc, bytes)?;
+    match points.find(name.as_slice()) {
+        None => Err(refused(line, Why::UnknownPoint)),
+        Some(point) => match points.decl(point) {
+            None => Err(refused(line, Why::UnknownPoint)),
+            Some(_) => Ok(point),
+        },
+    }
+}
+
+// The variables that the point's block declares.
+#[tactic(auto, unfolding(crate::specs::Records::declared_vars))]
+fn declared_vars(points: &Points, point: PointId) -> &[VarDecl]
+    requires { point.0 < length points.now }
+    ensures { result.now ≡ declared_vars points.now point.0 }
+{
+    match points.decl(point) {
+        None => &[],
+        Some(decl) => decl.vars.as_slice(),
+    }
+}
+
+impl<'a> RecordReader<'a> {
+    ghost use Rattle.dk_trace.specs.RecordsResumed.{IsOf, resumed, shown};
+
+    /// A record that begins with this line. It is refused as `UnknownPoint` where the line spells the name of no declared point.
+    #[tactic(auto, unfolding(crate::specs::Records::sample_of, crate::specs::RecordsResumed::resumed, crate::specs::BodiesResumed::body_resumed))]
+    pub fn begin(
+        alloc: Global,
+        points: &Points,
+        arena: &'a Arena,
+        line: u64,
+        bytes: &[u8],
+    ) -> Result<RecordReader<'a>, BlockFault>
+        ensures goes_on { GoesOn (resumed points.now) result (sample_of points.now (record { number = line; bytes = bytes.now })) }
+        ensures of { IfOk result (λ r. IsOf points.now r) }
+    {
+        let point = point_at(alloc, points, line, bytes)?;
+        Ok(RecordReader {
+            arena,
+            point,
+            line,
+            body: BodyReader::AtStart,
+        })
+    }
+
+    /// The record with one line more. It is refused as `BadNonce`, `WrongName`, `BadValue`, `BadMark` or `ExtraLine` as soon as no lines
+    /// behind it can make it good. The points are those of `begin`.
+    #[tactic(auto, unfolding(crate::specs::RecordsResumed::resumed))]
+    pub fn line(
+        self,
+        points: &Points,
+        line: u64,
+        bytes: &[u8],
+    ) -> Result<RecordReader<'a>, BlockFault>
+        requires { IsOf points.now self }
+        ensures goes_on { GoesOn (resumed points.now) result (λ ls. resumed points.now self.entry (record { number = line; bytes = bytes.now } ∷ ls)) }
+        ensures of { IfOk result (λ r. IsOf points.now r) }
+    {
+        let RecordReader {
+            arena,
+            point,
+            line: first,
+            body,
+        } = self;
+        let body = body.line(arena, declared_vars(points, point), line, bytes)?;
+        Ok(RecordReader {
+            arena,
+            point,
+            line: first,
+            body,
+        })
+    }
+
+    /// The sample of a record that ends at this line. It is refused as `Truncated` where the lines of a variable are missing. The points
+    /// are those of `begin`.
+    #[tactic(auto, unfolding(crate::specs::RecordsResumed::resumed))]
+    pub fn end(self, points: &Points, line: u64) -> Result<BaseSample<'a>, BlockFault>
+        requires { IsOf points.now self }
+        ensures sample { Shows shown result (resumed points.now self.entry [] (Some line)) }
+        ensures of { IfOk result (λ s. s.point.0 < length points.now) }
+    {
+        let RecordReader {
+            arena,
+            point,
+            line: first,
+            body,
+        } = self;
+        let (nonce, values) = body.end(arena, declared_vars(points, point), line)?;
+        Ok(BaseSample {
+            point,
+            line: first,
+            nonce,
+            values,
+        })
+    }
+}

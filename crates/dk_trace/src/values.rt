@@ -1,0 +1,286 @@
+// The lines of a record that give its values.
+ghost use Rattle.std.specs.Prelude.{◌≡◌, ◌++◌, ◌∷◌, ◌+◌, ◌<◌, [], IfOk, IfSome, OnOk, ℕ, List, Option, length, drop, slice_get};
+ghost use Rattle.std.specs.Str.{bytes_eq};
+ghost use Rattle.dk_base.specs.Names.{unescaped};
+ghost use Rattle.dk_base.specs.Reading.{Line};
+ghost use Rattle.dk_base.specs.Values.{values_of as shown_by};
+ghost use Rattle.dk_decl.specs.Outcomes.{Gives, GoesOn};
+ghost use Rattle.dk_decl.specs.declared.decls.VarDecl.{VarDecl as Declared};
+ghost use Rattle.dk_trace.specs.Answers.{Shows, shown_value};
+ghost use Rattle.dk_trace.specs.Values.{IsTold, from_value, known_values, named_kind, then_values, values_of};
+
+use crate::marks::{marked_value, refused};
+use bumpalo::collections::into_bump_slice;
+use dk_base::{Arena, BlockFault, Kind, NoMemory, Text, Value, View, Why, is_spelling};
+use dk_decl::VarDecl;
+
+/// What the next line is.
+#[derive(Clone, Copy)]
+pub(crate) enum Place<'a> {
+    /// A variable's name.
+    AtName,
+    /// The value of a variable of this kind.
+    AtValue(Option<Kind>),
+    /// The mark of a value: the variable's kind, and the line and the text of the value.
+    AtMark(Option<Kind>, u64, &'a [u8]),
+}
+
+/// The values of a record that is being read, line by line.
+#[derive(Drop)]
+pub(crate) struct ValueReader<'a> {
+    pub(crate) arena: &'a Arena,
+    pub(crate) place: Place<'a>,
+    /// The variables in front of this place were read.
+    pub(crate) index: usize,
+    pub(crate) values: Vec<View<'a>, &'a Arena>,
+}
+
+fn is_named(bytes: &[u8], name: &Text) -> bool
+    ensures { result ≡ bytes_eq (unescaped bytes.now) name.now }
+{
+    is_spelling(bytes, name.as_slice())
+}
+
+fn copied<'a>(arena: &'a Arena, bytes: &[u8]) -> Result<&'a [u8], NoMemory>
+    ensures { IfOk result (λ copy. copy.now ≡ bytes.now) }
+{
+    let copy: &'a [u8] = arena.try_alloc_slice_copy(bytes)?;
+    Ok(copy)
+}
+
+fn with_value<'a>(
+    mut values: Vec<View<'a>, &'a Arena>,
+    value: View<'a>,
+) -> Result<Vec<View<'a>, &'a Arena>, NoMemory>
+    ensures { IfOk result (λ more. more.items ≡ values.entry.items ++ value.entry ∷ []) }
+{
+    values.push(value)?;
+    Ok(values)
+}
+
+// The values and the one that is shown, if there is one.
+fn with_shown<'a>(
+    values: Vec<View<'a>, &'a Arena>,
+    value: Option<View<'a>>,
+) -> Result<Vec<View<'a>, &'a Arena>, NoMemory>
+    ensures { IfOk result (λ more. shown_by more.items ≡ shown_by values.entry.items ++ shown_value value.entry) }
+{
+    match value {
+        None => Ok(values),
+        Some(value) => with_value(values, value),
+    }
+}
+
+// The values and a constant behind them, placed in the arena.
+fn with_constant<'a>(
+    arena: &'a Arena,
+    values: Vec<View<'a>, &'a Arena>,
+    constant: &Option<Value>,
+) -> Result<Vec<View<'a>, &'a Arena>, NoMemory>
+    ensures { IfOk result (λ more. shown_by more.items ≡ shown_by values.entry.items ++ known_values constant.now) }
+{
+    match constant {
+        None => Ok(values),
+        Some(constant) => with_value(values, constant.place(arena)?),
+    }
+}
+
+// The place of the first variable without a constant, from this place on, and the values with the constants in front of it.
+fn past_constants<'a>(
+    arena: &'a Arena,
+    vars: &[VarDecl],
+    from: usize,
+    values: Vec<View<'a>, &'a Arena>,
+) -> Result<(usize, Vec<View<'a>, &'a Arena>), NoMemory>
+    ensures same { IfOk result (λ r. (ls : List Line) (close : Option ℕ) → then_values (shown_by values.entry.items) (values_of (drop from vars.now) ls close)
+        ≡ then_values (shown_by r.1.items) (values_of (drop r.0 vars.now) ls close)) }
+    ensures in_records { IfOk result (λ r. IfSome (slice_get vars.now r.0) IsTold) }
+{
+    let mut index = from;
+    let mut known = values;
+    'constants: while let Some(var) = vars.get(index) {
+        if !var.constant_line {
+            return Ok((index, known));
+        }
+        known = with_constant(arena, known, &var.constant)?;
+        index += 1;
+    }
+    Ok((index, known))
+}
+
+// The kind of the variable, whose name the line is to be.
+#[tactic(auto, unfolding(crate::specs::Values::named_kind))]
+fn named_kind(var: &VarDecl, line: u64, bytes: &[u8]) -> Result<Option<Kind>, BlockFault>
+    ensures { Gives result (named_kind var.now (record { number = line; bytes = bytes.now })) }
+{
+    if is_named(bytes, &var.name) {
+        Ok(var.kind)
+    } else {
+        Err(refused(line, Why::WrongName))
+    }
+}
+
+// The kind of the variable at this place, if there is one, whose name the line is to be.
+#[tactic(auto, using(crate::proofs::Left::too_many))]
+fn kind_at(
+    vars: &[VarDecl],
+    index: usize,
+    line: u64,
+    bytes: &[u8],
+) -> Result<Option<Kind>, BlockFault>
+    requires { IfSome (slice_get vars.now index) IsTold }
+    ensures goes_on { GoesOn (λ kind. from_value kind (values_of (drop (index + 1) vars.now))) result (λ ls. values_of (drop index vars.now) (record { number = line; bytes = bytes.now } ∷ ls)) }
+    ensures within { OnOk result (index < length vars.now) }
+{
+    match vars.get(index) {
+        None => Err(refused(line, Why::ExtraLine)),
+        Some(var) => named_kind(var, line, bytes),
+    }
+}
+
+// The values, with the constants that are left, if no other variable is.
+#[tactic(auto, using(crate::proofs::Left::none_left))]
+fn finished<'a>(
+    arena: &'a Arena,
+    vars: &[VarDecl],
+    index: usize,
+    values: Vec<View<'a>, &'a Arena>,
+    line: u64,
+) -> Result<&'a [View<'a>], BlockFault>
+    ensures { Shows (λ views. shown_by views.now) result (then_values (shown_by values.entry.items) (values_of (drop index vars.now) [] (Some line))) }
+{
+    let (index, values) = past_constants(arena, vars, index, values)?;
+    match vars.get(index) {
+        None => Ok(into_bump_slice(values)),
+        Some(_) => Err(refused(line, Why::Truncated)),
+    }
+}
+
+impl<'a> ValueReader<'a> {
+    ghost use Rattle.dk_trace.specs.ValuesResumed.{values_resumed};
+    ghost use Rattle.dk_trace.specs.declared.values.Place.TheVariants.{AtName, AtValue, AtMark};
+
+    /// No line was read.
+    #[tactic(auto, unfolding(crate::specs::ValuesResumed::values_resumed), using(crate::proofs::Joined::then_values_nil))]
+    pub(crate) fn begin(arena: &'a Arena) -> ValueReader<'a>
+        ensures { (vs : List Declared) (ls : List Line) (close : Option ℕ) → values_of vs ls close ≡ values_resumed vs result ls close }
+    {
+        ValueReader {
+            arena,
+            place: Place::AtName,
+            index: 0,
+            values: Vec::new(arena),
+        }
+    }
+
+    // A variable's name, or a line too many.
+    #[tactic(auto, unfolding(crate::specs::ValuesResumed::values_resumed))]
+    fn name_line(
+        self,
+        vars: &[VarDecl],
+        line: u64,
+        bytes: &[u8],
+    ) -> Result<ValueReader<'a>, BlockFault>
+        requires { self.place ≡ AtName }
+        ensures { GoesOn (values_resumed vars.now) result (λ ls. values_resumed vars.now self.entry (record { number = line; bytes = bytes.now } ∷ ls)) }
+    {
+        let ValueReader {
+            arena,
+            place: _,
+            index,
+            values,
+        } = self;
+        let (index, values) = past_constants(arena, vars, index, values)?;
+        let kind = kind_at(vars, index, line, bytes)?;
+        Ok(ValueReader {
+            arena,
+            place: Place::AtValue(kind),
+            index: index + 1,
+            values,
+        })
+    }
+
+    // The value of a variable of this kind.
+    #[tactic(auto, unfolding(crate::specs::ValuesResumed::values_resumed))]
+    fn value_line(
+        self,
+        kind: Option<Kind>,
+        line: u64,
+        bytes: &[u8],
+    ) -> Result<ValueReader<'a>, BlockFault>
+        requires { self.place ≡ AtValue kind }
+        ensures { (vs : List Declared) → GoesOn (values_resumed vs) result (λ ls. values_resumed vs self.entry (record { number = line; bytes = bytes.now } ∷ ls)) }
+    {
+        let ValueReader {
+            arena,
+            place: _,
+            index,
+            values,
+        } = self;
+        let text = copied(arena, bytes)?;
+        Ok(ValueReader {
+            arena,
+            place: Place::AtMark(kind, line, text),
+            index,
+            values,
+        })
+    }
+
+    // The mark of a value.
+    #[tactic(auto, unfolding(crate::specs::ValuesResumed::values_resumed))]
+    fn mark_line(
+        self,
+        kind: Option<Kind>,
+        number: u64,
+        text: &'a [u8],
+        line: u64,
+        bytes: &[u8],
+    ) -> Result<ValueReader<'a>, BlockFault>
+        requires { self.place ≡ AtMark kind number text }
+        ensures { (vs : List Declared) → GoesOn (values_resumed vs) result (λ ls. values_resumed vs self.entry (record { number = line; bytes = bytes.now } ∷ ls)) }
+    {
+        let ValueReader {
+            arena,
+            place: _,
+            index,
+            values,
+        } = self;
+        let value = marked_value(arena, kind, number, text, line, bytes)?;
+        let values = with_shown(values, value)?;
+        Ok(ValueReader {
+            arena,
+            place: Place::AtName,
+            index,
+            values,
+        })
+    }
+
+    /// One line more.
+    #[tactic(auto, unfolding(crate::specs::ValuesResumed::values_resumed))]
+    pub(crate) fn line(
+        self,
+        vars: &[VarDecl],
+        line: u64,
+        bytes: &[u8],
+    ) -> Result<ValueReader<'a>, BlockFault>
+        ensures { GoesOn (values_resumed vars.now) result (λ ls. values_resumed vars.now self.entry (record { number = line; bytes = bytes.now } ∷ ls)) }
+    {
+        match self.place {
+            Place::AtName => self.name_line(vars, line, bytes),
+            Place::AtValue(kind) => self.value_line(kind, line, bytes),
+            Place::AtMark(kind, number, text) => self.mark_line(kind, number, text, line, bytes),
+        }
+    }
+
+    /// The values of a record that ends at this line.
+    #[tactic(auto, unfolding(crate::specs::ValuesResumed::values_resumed))]
+    pub(crate) fn end(self, vars: &[VarDecl], line: u64) -> Result<&'a [View<'a>], BlockFault>
+        ensures { Shows (λ views. shown_by views.now) result (values_resumed vars.now self.entry [] (Some line)) }
+    {
+        match self.place {
+            Place::AtName => finished(self.arena, vars, self.index, self.values, line),
+            Place::AtValue(_) => Err(refused(line, Why::Truncated)),
+            Place::AtMark(_, _, _) => Err(refused(line, Why::Truncated)),
+        }
+    }
+}

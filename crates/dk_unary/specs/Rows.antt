@@ -1,0 +1,66 @@
+-- The numbers of the rows of one variable.
+use Rattle.std.specs.Prelude.{◌≤◌, ℤ, IsTrue, refl}
+use Rattle.dk_forms.specs.declared.states.State.{State}
+use Rattle.dk_forms.specs.declared.states.State.TheVariants.{Least, Greatest}
+use Rattle.dk_rows.specs.Laws.{is_row}
+use Rattle.dk_template.specs.declared.grammar.RowId.{RowId}
+use Rattle.dk_unary.specs.declared.bound.Bound.{Bound}
+use Rattle.dk_unary.specs.declared.bound.Bound.TheVariants as bound
+use Rattle.dk_unary.specs.declared.non_null.NonNull.{NonNull}
+use Rattle.dk_unary.specs.declared.non_null.NonNull.TheVariants as non_null
+use Rattle.dk_unary.specs.declared.one_of.OneOf.{OneOf}
+use Rattle.dk_unary.specs.declared.one_of.OneOf.TheVariants as one_of
+use Rattle.dk_unary.specs.declared.rows.UnaryRow.{UnaryRow}
+use Rattle.dk_unary.specs.declared.rows.UnaryRow.TheVariants as unary
+
+-- a row of one variable that isn't a sequence
+abbrev pub IsUnary : RowId → Type 0
+IsUnary r = (1 ≤ r.0) × (r.0 ≤ 10)
+
+abbrev pub one_of_row : OneOf → RowId
+one_of_row one_of.Int = record { 0 = 1 }
+one_of_row one_of.Bool = record { 0 = 6 }
+one_of_row one_of.Hash = record { 0 = 7 }
+one_of_row one_of.Str = record { 0 = 9 }
+
+abbrev pub bound_row : Bound → RowId
+bound_row bound.Lower = record { 0 = 2 }
+bound_row bound.Upper = record { 0 = 3 }
+
+-- the state of one value
+abbrev pub bound_state : Bound → ℤ → State
+bound_state bound.Lower x = Least x
+bound_state bound.Upper x = Greatest x
+
+abbrev pub non_null_row : NonNull → RowId
+non_null_row non_null.Int = record { 0 = 4 }
+non_null_row non_null.Hash = record { 0 = 8 }
+non_null_row non_null.Str = record { 0 = 10 }
+
+abbrev pub modulus_row : RowId
+modulus_row = record { 0 = 5 }
+
+abbrev pub row_of : UnaryRow → RowId
+row_of (unary.OneOf r) = one_of_row r
+row_of (unary.Bound r) = bound_row r
+row_of (unary.NonNull r) = non_null_row r
+row_of (unary.Modulus r) = modulus_row
+
+-- ---- each is a row of the table
+pub one_of_is_row : (r : OneOf) → IsTrue (is_row (one_of_row r))
+one_of_is_row one_of.Int = refl
+one_of_is_row one_of.Bool = refl
+one_of_is_row one_of.Hash = refl
+one_of_is_row one_of.Str = refl
+
+pub bound_is_row : (r : Bound) → IsTrue (is_row (bound_row r))
+bound_is_row bound.Lower = refl
+bound_is_row bound.Upper = refl
+
+pub non_null_is_row : (r : NonNull) → IsTrue (is_row (non_null_row r))
+non_null_is_row non_null.Int = refl
+non_null_is_row non_null.Hash = refl
+non_null_is_row non_null.Str = refl
+
+pub modulus_is_row : IsTrue (is_row modulus_row)
+modulus_is_row = refl

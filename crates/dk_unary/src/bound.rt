@@ -1,0 +1,60 @@
+// The rows that keep a bound.
+ghost use Rattle.std.specs.Prelude.{◌≡◌};
+ghost use Rattle.dk_unary.specs.Rows.{bound_row, bound_state};
+
+use crate::rows::join;
+use dk_base::{NoMemory, View, int_at};
+use dk_template::{Row, RowId, State};
+use std::alloc::Global;
+
+/// A bound of a number: the least or the greatest value.
+#[derive(Clone, Copy, Debug, PartialEq, Eq)]
+pub enum Bound {
+    Lower,
+    Upper,
+}
+
+impl Bound {
+    /// The number of the row.
+    pub fn row(self) -> RowId
+        ensures { result ≡ bound_row self }
+    {
+        RowId(match self {
+            Bound::Lower => 2,
+            Bound::Upper => 3,
+        })
+    }
+}
+
+// The state of one value.
+fn state_of_one(bound: Bound, x: i64) -> State
+    ensures { result ≡ bound_state bound x }
+{
+    match bound {
+        Bound::Lower => State::Least(x),
+        Bound::Upper => State::Greatest(x),
+    }
+}
+
+impl Row for Bound {
+    ghost use Rattle.dk_rows.proofs.RowLaws.{laws_by};
+    ghost use Rattle.dk_rows.specs.Meanings.{state_of};
+    ghost use Rattle.dk_template.specs.Templates.{form_of, kinds_of};
+    ghost use Rattle.dk_unary.specs.Rows.{bound_is_row, bound_row};
+
+    ghost kinds = { λ row. kinds_of (bound_row row) };
+
+    ghost form = { λ row. form_of (bound_row row) };
+
+    ghost state_of = { λ row. state_of (bound_row row) };
+
+    ghost laws = { λ row. laws_by (bound_row row) (bound_is_row row) };
+
+    fn point(&self, _alloc: Global, tuple: &[View<'_>]) -> Result<State, NoMemory> {
+        Ok(state_of_one(*self, int_at(tuple, 0)))
+    }
+
+    fn join(&self, alloc: Global, a: State, b: &State) -> Result<State, NoMemory> {
+        join(alloc, self.row(), a, b)
+    }
+}

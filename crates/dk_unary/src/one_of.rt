@@ -1,0 +1,80 @@
+// The rows that keep the values of a variable, where they are few.
+ghost use Rattle.std.specs.Prelude.{◌≡◌, [], ◌∷◌, IfOk, OnErr};
+ghost use Rattle.dk_base.specs.Values.{values_of};
+ghost use Rattle.dk_rows.specs.Meanings.{state_of};
+ghost use Rattle.dk_template.specs.Rows.{IsTuple};
+ghost use Rattle.dk_template.specs.Templates.{kinds_of};
+ghost use Rattle.dk_unary.specs.Rows.{one_of_row};
+
+use crate::rows::join;
+use dk_base::{NoMemory, View, bool_at, hash_at, int_at, text_at};
+use dk_forms::text_point;
+use dk_template::{Few, Row, RowId, State};
+use std::alloc::Global;
+
+/// The values of a variable: at most three numbers or strings, one truth value, or one hash code.
+#[derive(Clone, Copy, Debug, PartialEq, Eq)]
+pub enum OneOf {
+    Int,
+    Bool,
+    Hash,
+    Str,
+}
+
+impl OneOf {
+    /// The number of the row.
+    pub fn row(self) -> RowId
+        ensures { result ≡ one_of_row self }
+    {
+        RowId(match self {
+            OneOf::Int => 1,
+            OneOf::Bool => 6,
+            OneOf::Hash => 7,
+            OneOf::Str => 9,
+        })
+    }
+}
+
+// The state of one number.
+fn only_int(alloc: Global, x: i64) -> State
+    ensures { result ≡ State.Ints (x ∷ []) }
+{
+    State::Ints(Few::of(alloc, &[x]))
+}
+
+// The state of one value.
+fn state_of_one(of: OneOf, alloc: Global, tuple: &[View<'_>]) -> Result<State, NoMemory>
+    requires { IsTuple (kinds_of (one_of_row of)) (values_of tuple.now) }
+    ensures state { IfOk result (λ state. state ≡ state_of (one_of_row of) (values_of tuple.now ∷ [])) }
+    ensures err { OnErr result (of ≡ OneOf.Str) }
+{
+    match of {
+        OneOf::Int => Ok(only_int(alloc, int_at(tuple, 0))),
+        OneOf::Bool => Ok(State::Truth(bool_at(tuple, 0))),
+        OneOf::Hash => Ok(State::Code(hash_at(tuple, 0))),
+        OneOf::Str => text_point(alloc, text_at(tuple, 0)),
+    }
+}
+
+impl Row for OneOf {
+    ghost use Rattle.dk_rows.proofs.RowLaws.{laws_by};
+    ghost use Rattle.dk_rows.specs.Meanings.{state_of};
+    ghost use Rattle.dk_template.specs.Templates.{form_of, kinds_of};
+    ghost use Rattle.dk_unary.specs.Rows.{one_of_is_row, one_of_row};
+
+    ghost kinds = { λ row. kinds_of (one_of_row row) };
+
+    ghost form = { λ row. form_of (one_of_row row) };
+
+    ghost state_of = { λ row. state_of (one_of_row row) };
+
+    ghost laws = { λ row. laws_by (one_of_row row) (one_of_is_row row) };
+
+    fn point(&self, alloc: Global, tuple: &[View<'_>]) -> Result<State, NoMemory> {
+        state_of_one(*self, alloc, tuple)
+    }
+
+    fn join(&self, alloc: Global, a: State, b: &State) -> Result<State, NoMemory> {
+        join(alloc, self.row(), a, b)
+    }
+}
