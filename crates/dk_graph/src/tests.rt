@@ -153,3 +153,14 @@ fn cycles(rt: HostRuntime) -> Result<(), Fail> {
     }
     Ok(())
 }
+
+#[test]
+fn names(rt: HostRuntime) -> Result<(), Fail> {
+    let mut names = Names::new(rt.alloc());
+    assert!(rt; names.find(b"a").is_none());
+    names.push(b"a")?;
+    assert_eq!(rt; names.find(b"a"), Some(0));
+    assert_eq!(rt; names.len(), 1);
+    assert_eq!(rt; names.get(0), b"a".as_slice());
+    Ok(())
+}

@@ -1,5 +1,5 @@
 -- The forms of base variables.
-use Rattle.std.proofs.Common.{◌≡◌, ◌∙◌, ◌⊎◌, inl, inr, ℕ, suc, ◌+◌, ◌-◌, Bool, true, false, All, List, [], ◌∷◌, ◌++◌, length, take, drop, filter_map, find, Option, Some, None, IfSome, option_map, option_and_then, slice_range, codes, if◌then◌else◌, bytes_eq, length-append, refl, sym, ap, arith}
+use Rattle.std.proofs.Common.{◌≡◌, ◌∙◌, inl, inr, ℕ, ◌+◌, ◌-◌, Bool, true, false, All, List, ◌++◌, length, take, filter_map, find, Option, Some, None, IfSome, option_map, option_and_then, slice_range, codes, if◌then◌else◌, bytes_eq, length-append, refl, sym, ap, arith}
 use Rattle.std.proofs.lemmas.List.{take_at}
 use Rattle.std.proofs.lemmas.List.Elements.{All-append}
 use Rattle.dk_base.specs.declared.kinds.Form.TheVariants as form
@@ -9,7 +9,6 @@ use Rattle.dk_decl.specs.declared.decls.PointDecl.{PointDecl}
 use Rattle.dk_decl.specs.declared.decls.VarDecl.{VarDecl}
 use Rattle.dk_points.proofs.EndsOfEdges.{all-filter_map, always}
 use Rattle.dk_points.specs.Laws.{IsBaseVar}
-use Rattle.dk_points.specs.Partners.{plain_name}
 use Rattle.dk_points.specs.Table.{Point}
 use Rattle.dk_points.specs.Vars.{base_vars, declared_var, declared_vars, entry_before, orig_name, orig_of, orig_var, orig_vars, same_kind, vars_of_entry}
 

@@ -1,5 +1,5 @@
 -- Edges are between points of the table.
-use Rattle.std.proofs.Common.{◌≡◌, ◌∙◌, ℕ, suc, ◌+◌, ◌<◌, ◌==◌, Bool, true, List, [], ◌∷◌, ◌++◌, length, map, filter, filter_map, All, Option, Some, None, IfSome, option_map, refl, ap, subst, arith}
+use Rattle.std.proofs.Common.{◌≡◌, ℕ, suc, ◌+◌, ◌<◌, ◌==◌, List, [], ◌∷◌, length, filter_map, All, Option, Some, None, IfSome, option_map, subst, arith}
 use Rattle.std.proofs.lemmas.Bool.Decides.{Decides-eqb}
 use Rattle.std.proofs.lemmas.List.{length-map}
 use Rattle.std.proofs.lemmas.List.Elements.{All-append, All-cons, All-filter, All-head, All-map, All-nil, All-tail, filter_passes}
@@ -27,7 +27,7 @@ links-behind n [] = All-nil (λ l. l.child < n + 0)
 links-behind n (x ∷ ns) =
     let here : n < n + suc (length ns) = omega arith in
     let rest : All (λ l. l.child < n + suc (length ns)) (flat_map links_at (enumerate_from (n + 1) ns)) =
-        subst (λ m. All (λ l. l.child < m) (flat_map links_at (enumerate_from (n + 1) ns))) (moved n (length ns)) (links-behind (n + 1) ns) in
+    subst (λ m. All (λ l. l.child < m) (flat_map links_at (enumerate_from (n + 1) ns))) (moved n (length ns)) (links-behind (n + 1) ns) in
     All-append (λ l. l.child < n + suc (length ns)) (links_at (n, x)) (flat_map links_at (enumerate_from (n + 1) ns))
     (All-map (λ l. l.child < n + suc (length ns)) (λ l. record { child = n; number = l.0; parent = l.1 }) (enumerate_from 0 x.links) (always (λ l. n < n + suc (length ns)) (λ l. here) (enumerate_from 0 x.links)))
     rest

@@ -1,10 +1,10 @@
 -- A table that is full takes no new point.
-use Rattle.std.proofs.Common.{◌≡◌, ◌∙◌, ℕ, ◌≤◌, ◌++◌, nat_lt, Bool, true, false, List, length, None, Err, ap, sym, refl, arith}
+use Rattle.std.proofs.Common.{◌≡◌, ◌∙◌, ℕ, ◌≤◌, ◌++◌, nat_lt, Bool, true, false, List, length, None, Err, sym, refl, arith}
 use Rattle.dk_base.specs.declared.why.Why.TheVariants.{TooManyPoints}
 use Rattle.dk_decl.specs.declared.decls.PointDecl.{PointDecl}
 use Rattle.dk_graph.specs.Names.{place_of}
 use Rattle.dk_points.proofs.Declarations.{known-at, length-added, new-points}
-use Rattle.dk_points.specs.Declaring.{declared, declared_new, has_many_points}
+use Rattle.dk_points.specs.Declaring.{declared}
 use Rattle.dk_points.specs.Laws.{FullTableTakesNone}
 use Rattle.dk_points.specs.Table.{Point, added, makes_exit, names}
 

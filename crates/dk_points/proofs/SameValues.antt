@@ -1,5 +1,5 @@
 -- Tests that decide equality.
-use Rattle.std.proofs.Common.{◌≡◌, ◌∙◌, ◌&&◌, ◌==◌, ℕ, Bool, true, false, Option, Some, None, Decides, bytes_eq, int_eq, refl, ap, subst}
+use Rattle.std.proofs.Common.{◌≡◌, ◌&&◌, ◌==◌, Bool, true, false, Option, Some, None, Decides, bytes_eq, int_eq, refl, ap, subst}
 use Rattle.std.specs.Bool.{beq}
 use Rattle.std.specs.Cmp.Lexicographic.{bytes_decides, pointwise, pointwise_decides}
 use Rattle.std.proofs.lemmas.Bool.Decides.{Decides-int_eq, Decides-eqb}
@@ -106,8 +106,13 @@ option-decides same decides (Some x) None = (λ h. cc, λ h. cc)
 option-decides same decides (Some x) (Some y) = (λ h. ap Some ((decides x y).0 h), λ h. (decides x y).1 (let e : x ≡ y = cc in e))
 
 var-itself : (a : VarDecl) → same_var a a ≡ true
-var-itself a = rw ((bytes_decides a.name a.name).1 refl, (option-decides same_kind kind-decides a.kind a.kind).1 refl, (compar-decides a.compar a.compar).1 refl,
-    (option-decides same_value same_value-decides a.constant a.constant).1 refl, (beq_decides a.constant_line a.constant_line).1 refl)
+var-itself a = rw (
+  (bytes_decides a.name a.name).1 refl,
+  (option-decides same_kind kind-decides a.kind a.kind).1 refl,
+  (compar-decides a.compar a.compar).1 refl,
+  (option-decides same_value same_value-decides a.constant a.constant).1 refl,
+  (beq_decides a.constant_line a.constant_line).1 refl,
+)
     ((pointwise_decides parent-decides a.parents a.parents).1 refl)
 
 var-same : (a b : VarDecl) → same_var a b ≡ true → a ≡ b

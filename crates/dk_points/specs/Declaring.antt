@@ -23,7 +23,7 @@ has_many_points ps = nat_lt 65535 (length ps)
 unfoldable pub has_many_vars : List Point → PointDecl → Bool
 has_many_vars ps d = nat_lt 1024 (length d.vars) || nat_lt 16384 (length (with_derived (map shape_of (base_vars ps d))))
 
--- a table that has no cycle, and its last point as the new one
+-- the table with its last point as the new one, unless it has a cycle
 abbrev pub grown : List Point → Result (List Point × Declared) Why
 grown ps = if has_cycle (nodes ps) then Err CyclicParents else Ok (ps, New (record { 0 = length ps - 1 }))
 

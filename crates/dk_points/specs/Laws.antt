@@ -1,5 +1,5 @@
 -- What the definitions come to.
-use Rattle.std.specs.Prelude.{◌≡◌, ◌≤◌, ◌⊎◌, ◌↔◌, ℕ, IsTrue, List, None, Err, length, true}
+use Rattle.std.specs.Prelude.{◌≡◌, ◌≤◌, ◌⊎◌, ◌↔◌, IsTrue, List, None, Err, length, true}
 use Rattle.dk_base.specs.declared.kinds.Form.TheVariants as form
 use Rattle.dk_base.specs.declared.kinds.VarInfo.{VarInfo}
 use Rattle.dk_base.specs.declared.why.Why.TheVariants.{TooManyPoints}

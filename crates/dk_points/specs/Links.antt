@@ -18,8 +18,8 @@ same_edge a b = bytes_eq a.parent b.parent && a.id == b.id
 abbrev pub edges_of_implicit : List Point → List ℕ → List EdgeDecl
 edges_of_implicit ps name = option_map_or (λ p. if p.is_implicit then p.decl.edges else []) (point_of ps name) []
 
--- Whether an edge of its declaration is dropped from a point behind these: an exit has none to its own combined exit, and a
--- subexit none that its implicit combined exit has.
+-- Whether an edge of its declaration is dropped from a point behind these: an implicit exit has none to itself, and a subexit none
+-- to its combined exit and, where that is implicit, none that it was made with.
 abbrev pub is_dropped : List Point → Point → EdgeDecl → Bool
 is_dropped ps p e =
     if p.is_implicit then is_to (combined_name p.decl.name) e

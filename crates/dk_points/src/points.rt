@@ -127,8 +127,8 @@ impl Points {
         self.place(p).own.entry
     }
 
-    /// The edges from the point to its parents, by number. An edge's number is its place among all edges of its child, those to
-    /// points that are not in the table counted.
+    /// The edges from the point to its parents, by number. An edge's number is its place among all edges of its child, declared ones
+    /// first and a made one last. Edges that are dropped have no place, and those to points that are not in the table have one.
     pub fn from(&self, p: PointId) -> &[Edge]
         requires { p.0 < length self.now }
         ensures edges { result.now ≡ edges_from (nodes self.now) p.0 }

@@ -3,18 +3,9 @@ ghost use Rattle.std.specs.Prelude.{◌<◌, length};
 
 use crate::laws::{full_table_takes_none, same_is_equal};
 use crate::*;
-use dk_base::{
-    BlockFault,
-    Compar,
-    Kind,
-    List,
-    NoMemory,
-    PointId,
-    Text,
-    VarId,
-};
-use dk_decl::{EdgeDecl, PointDecl, VarDecl};
+use dk_base::{BlockFault, Compar, Kind, List, NoMemory, PointId, Text, VarId};
 use dk_decl::laws::read_block;
+use dk_decl::{EdgeDecl, PointDecl, VarDecl};
 use std::alloc::Global;
 use std::process::Abort;
 use std::test::Fail;
@@ -55,7 +46,7 @@ static CASES: [Case; 14] = [
         b"ppt M:::EXIT\nvariable x\nrep-type int\n\nppt M:::ENTER\nvariable x\nrep-type int\nvariable y\nrep-type int\nvariable z\nrep-type double\n\nppt M:::EXIT3\nvariable y\nrep-type int[]\nvariable x\nrep-type int\nvariable z\nrep-type double",
         b"M:::EXIT 1: x <2.0(1)\nM:::ENTER 0: x y\nM:::EXIT3 0 of 1: y x orig(x) >0.0\nnew 2",
     ),
-    // parents in a circle
+    // parents in a cycle
     (
         b"ppt A\nparent parent B 1\n\nppt B\nparent parent A 1",
         b"2: 6 CyclicParents",
@@ -77,15 +68,9 @@ static CASES: [Case; 14] = [
         b"ppt P\nvariable x\nrep-type int\n\nppt P\nvariable x\nrep-type boolean",
         b"2: 5 DuplicatePoint",
     ),
-    (
-        b"ppt P\n\nppt P\nparent parent P 1",
-        b"2: 5 DuplicatePoint",
-    ),
+    (b"ppt P\n\nppt P\nparent parent P 1", b"2: 5 DuplicatePoint"),
     // the name of an implicit exit
-    (
-        b"ppt M:::EXIT1\n\nppt M:::EXIT",
-        b"2: 5 DuplicatePoint",
-    ),
+    (b"ppt M:::EXIT1\n\nppt M:::EXIT", b"2: 5 DuplicatePoint"),
     (
         b"ppt M:::EXIT1\n\nppt M:::EXIT1",
         b"M:::EXIT implicit 1: <1.0()\nM:::EXIT1 0: >0.0\nsame 1",
@@ -102,7 +87,12 @@ fn show_vars(shown: &mut Text, points: &Points, p: PointId) -> Result<(), NoMemo
     Ok(())
 }
 
-fn show_partners(alloc: Global, shown: &mut Text, points: &Points, edge: Edge) -> Result<(), NoMemory>
+fn show_partners(
+    alloc: Global,
+    shown: &mut Text,
+    points: &Points,
+    edge: Edge,
+) -> Result<(), NoMemory>
     requires child { edge.child.0 < length points.now }
     requires parent { edge.parent.0 < length points.now }
 {
@@ -266,7 +256,10 @@ fn push_vars(
         vars.push(VarDecl {
             name: Text::from_slice(alloc, name.as_bytes())?,
             kind: Some(kind),
-            compar: Compar { elem: -1, index: -1 },
+            compar: Compar {
+                elem: -1,
+                index: -1,
+            },
             constant: None,
             constant_line: false,
             parents: List::new(alloc),

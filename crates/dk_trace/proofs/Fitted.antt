@@ -1,7 +1,7 @@
 -- The values of a sample fit the declared variables of its point.
-use Rattle.std.proofs.Common.{◌≡◌, ◌∙◌, ◌||◌, ◌++◌, ℕ, ℤ, Bool, true, false, All, List, [], ◌∷◌, codes, filter_map, Option, Some, None, Result, Ok, Err, refl, sym, ap, subst, if◌then◌else◌}
+use Rattle.std.proofs.Common.{◌≡◌, ◌||◌, ◌++◌, ℕ, ℤ, Bool, true, false, All, List, [], ◌∷◌, codes, Option, Some, None, Result, Ok, Err, refl, sym, subst, if◌then◌else◌}
 use Rattle.std.proofs.lemmas.List.Elements.{All-cons, All-head, All-nil, All-tail}
-use Rattle.std.specs.List.{AllZip, cons_option}
+use Rattle.std.specs.List.{cons_option}
 use Rattle.std.specs.Str.{bytes_eq}
 use Rattle.dk_base.specs.Names.{unescaped}
 use Rattle.dk_base.specs.Reading.{Line, LineFault, ◌>>=◌}
@@ -15,11 +15,10 @@ use Rattle.dk_base.proofs.Written.{read_is_written}
 use Rattle.dk_decl.proofs.LastLines.{bind_ok}
 use Rattle.dk_decl.specs.Outcomes.{or_refused, refused}
 use Rattle.dk_decl.specs.declared.decls.VarDecl.{VarDecl}
-use Rattle.dk_points.specs.Table.{Point}
 use Rattle.dk_trace.specs.Bodies.{Body, body_of, body_with, from_nonce, is_nonce_line, nonce_of}
 use Rattle.dk_trace.specs.Fitting.{FitKinds, FitsKind, HasFittingConstant, ValuesFit, kinds_of}
 use Rattle.dk_trace.specs.Marks.{marked_value, no_value, read_value}
-use Rattle.dk_trace.specs.Records.{Sample, declared_vars, point_at, sample_of, sample_with}
+use Rattle.dk_trace.specs.Records.{declared_vars, point_at, sample_of, sample_with}
 use Rattle.dk_trace.specs.Values.{from_name, from_value, known_values, named_kind, then_values, values_of}
 
 -- the values of one variable
@@ -97,6 +96,7 @@ values_fit (v ∷ vs) ls close xs all e =
         let kind : k ≡ v.kind = sym (kind_named v l k is) in
         let P : Option Kind → Type 0 = λ o. FitsOne o front in
         joined v.kind vs front (values_of vs ls (Some close)) xs (subst P kind (fits_marked k t m front given)) (others ls) whole))
+
     by : (b : Bool) → v.constant_line ≡ b
         → (if b then then_values (known_values v.constant) (values_of vs ls (Some close)) else from_name v (values_of vs) ls (Some close)) ≡ Ok xs
         → HasFittingConstant v → ((ls : List Line) (ys : List Value) → values_of vs ls (Some close) ≡ Ok ys → FitKinds (kinds_of vs) ys) → FitKinds (cons_option v.kind (kinds_of vs)) xs
@@ -118,6 +118,7 @@ bodies_fit vs (l ∷ ls) close b all e = by (is_nonce_line l) e
     numbered : (ls : List Line) → from_nonce vs ls (Some close) ≡ Ok b → FitKinds (kinds_of vs) b.values
     numbered [] e = absurd (cc e)
     numbered (n ∷ ls) e = bind_ok (nonce_of n) (λ z. body_with (Some z) (values_of vs ls (Some close))) b e (λ z is whole. with_nonce vs (Some z) ls close b all whole)
+
     by : (c : Bool) → (if c then from_nonce vs ls (Some close) else body_with None (values_of vs (l ∷ ls) (Some close))) ≡ Ok b → FitKinds (kinds_of vs) b.values
     by true e = numbered ls e
     by false e = with_nonce vs None (l ∷ ls) close b all e

@@ -102,8 +102,8 @@ impl<'a> RecordReader<'a> {
         })
     }
 
-    /// The sample of a record that ends at this line. It is refused as `Truncated` where the lines of a variable are missing. The points
-    /// are those of `begin`.
+    /// The sample of a record that ends at this line. It is refused as `Truncated` where a line was still awaited: a nonce, or a variable's
+    /// name, value or mark. The points are those of `begin`.
     #[tactic(auto, unfolding(crate::specs::RecordsResumed::resumed))]
     pub fn end(self, points: &Points, line: u64) -> Result<BaseSample<'a>, BlockFault>
         requires { IsOf points.now self }

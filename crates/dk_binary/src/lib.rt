@@ -1,0 +1,15 @@
+//! The rows of two variables that aren't sequences: relations of two numbers, equality, and the line through all points.
+#![tactic(auto)]
+
+mod compare;
+mod equality;
+mod linear;
+mod rows;
+
+pub use compare::Compare;
+pub use equality::{Equality, Scalar};
+pub use linear::Linear;
+pub use rows::{BinaryRow, join, point, row_at};
+
+#[cfg(test)]
+mod tests;

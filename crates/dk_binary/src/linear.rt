@@ -1,0 +1,58 @@
+// The row of the line through all points.
+ghost use Rattle.std.specs.Prelude.{◌≡◌, ◌∷◌, []};
+ghost use Rattle.dk_base.specs.Tuples.{int_of, value_at};
+ghost use Rattle.dk_base.specs.Values.{values_of};
+ghost use Rattle.dk_base.specs.declared.kinds.Kind.TheVariants as kind;
+ghost use Rattle.dk_binary.specs.Rows.{linear_row};
+ghost use Rattle.dk_forms.specs.Line.{line_of};
+ghost use Rattle.dk_template.specs.Rows.{IsTuple};
+
+use crate::rows::join;
+use dk_base::{NoMemory, View, int_at};
+use dk_forms::line_point;
+use dk_template::{Row, RowId, State};
+use std::alloc::Global;
+
+/// The line through all points (x, y). Points with a coordinate beyond 2^62 lie on none.
+#[derive(Clone, Copy, Debug, PartialEq, Eq)]
+pub struct Linear;
+
+impl Linear {
+    /// The number of the row.
+    pub fn row(self) -> RowId
+        ensures { result ≡ linear_row }
+    {
+        RowId(15)
+    }
+}
+
+// The state of one point.
+fn state_of_one(tuple: &[View<'_>]) -> State
+    requires { IsTuple (kind.Int ∷ kind.Int ∷ []) (values_of tuple.now) }
+    ensures { result ≡ line_of ((int_of (value_at (values_of tuple.now) 0), int_of (value_at (values_of tuple.now) 1)) ∷ []) }
+{
+    line_point(int_at(tuple, 0), int_at(tuple, 1))
+}
+
+impl Row for Linear {
+    ghost use Rattle.dk_binary.specs.Rows.{linear_is_row, linear_row};
+    ghost use Rattle.dk_rows.proofs.RowLaws.{laws_by};
+    ghost use Rattle.dk_rows.specs.Meanings.{state_of};
+    ghost use Rattle.dk_template.specs.Templates.{form_of, kinds_of};
+
+    ghost kinds = { λ row. kinds_of linear_row };
+
+    ghost form = { λ row. form_of linear_row };
+
+    ghost state_of = { λ row. state_of linear_row };
+
+    ghost laws = { λ row. laws_by linear_row linear_is_row };
+
+    fn point(&self, _alloc: Global, tuple: &[View<'_>]) -> Result<State, NoMemory> {
+        Ok(state_of_one(tuple))
+    }
+
+    fn join(&self, alloc: Global, a: State, b: &State) -> Result<State, NoMemory> {
+        join(alloc, self.row(), a, b)
+    }
+}
