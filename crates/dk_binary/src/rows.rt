@@ -14,7 +14,7 @@ use dk_base::{NoMemory, View};
 use dk_template::{Row, RowId, State, join_states, template_at};
 use std::alloc::Global;
 
-/// A row of two variables.
+/// A row of two variables that are no sequences.
 #[derive(Clone, Copy, Debug, PartialEq, Eq)]
 pub enum BinaryRow {
     Compare(Compare),
@@ -31,7 +31,7 @@ macro_rules! equality {
     };
 }
 
-/// The row of a number.
+/// The row that has a number.
 pub fn row_at(row: RowId) -> BinaryRow
     requires { IsBinary row }
     ensures { row_of result ≡ row }

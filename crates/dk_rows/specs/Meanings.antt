@@ -32,7 +32,8 @@ itself x = x ∷ []
 abbrev pub elements : {A : Type 0} → List A → List A
 elements s = s
 
--- the table, the first row first; roles are x, y, or s and t, and in the rows 24 to 34 they are z, x, y
+-- The table, the first row first. The roles are x, y, or s, t, in this order; in the rows 24 to 34 they are z, x, y, in 49 to 51 x, s,
+-- in 52 to 56 s, x, and in 67 x, y, z.
 unfoldable pub meanings : List Meaning
 meanings =
     ints (of_one int_of itself)  -- 1 OneOfInt: the values of x

@@ -1,5 +1,5 @@
 -- What a premise of a rule asks, over the variables of the rule's conclusion.
-use Rattle.std.specs.Prelude.{◌||◌, ◌==◌, ◌<◌, ℕ, ℤ, Bool, true, false, List, [], ◌∷◌, All, IsTrue, length, map, take, slice_index_or, int_le}
+use Rattle.std.specs.Prelude.{◌&&◌, ◌||◌, ◌==◌, ◌<◌, ℕ, ℤ, Bool, true, false, not, List, [], ◌∷◌, All, IsTrue, length, map, take, slice_index_or, int_le}
 use Rattle.std.specs.Ordering.{int_eq}
 use Rattle.std.specs.List.{list_any}
 use Rattle.dk_base.specs.declared.kinds.VarId.{VarId}
@@ -58,8 +58,8 @@ suffices (LeastAtLeast row role k) s = is_least_from k s
 suffices (GreatestAtMost row role k) s = is_greatest_to k s
 suffices (Only role k) s = is_only k s
 
--- Whether a premise fits over the conclusion's variables: its row's state fits, has a least number of at least k or a greatest one
--- of at most k, or says that the variable is only k.
+-- Whether a premise fits over the conclusion's variables. One that a row holds wants its state to fit; one of a least number wants it
+-- to be at least k; one of a greatest number, at most k; and one of an only number wants the variable to be only k.
 abbrev pub premise_fits : (RowId → List VarId → State) → Premise → List VarId → Bool
 premise_fits answered premise vars = suffices premise (answered (row_of premise) (vars_of premise vars))
 
@@ -70,9 +70,14 @@ roles_read (LeastAtLeast row role k) = role ∷ []
 roles_read (GreatestAtMost row role k) = role ∷ []
 roles_read (Only role k) = role ∷ []
 
--- the premise has the row that its form speaks of: one with a relation, one of least numbers, or one of greatest numbers
+-- rows with a relation over strings, of which what is kept can't be asked without memory
+abbrev pub is_laid_out : RowId → Bool
+is_laid_out row = list_any (λ r. row.0 == r) (48 ∷ 51 ∷ 65 ∷ [])
+
+-- the premise has the row that its form speaks of: one with a relation that can be asked without memory, one of least numbers, or
+-- one of greatest numbers
 abbrev pub is_formed : Premise → Bool
-is_formed (Holds row roles) = is_plain (form_of row)
+is_formed (Holds row roles) = is_plain (form_of row) && not (is_laid_out row)
 is_formed (LeastAtLeast row role k) = row.0 == 2 || row.0 == 36
 is_formed (GreatestAtMost row role k) = row.0 == 3 || row.0 == 37
 is_formed (Only role k) = true

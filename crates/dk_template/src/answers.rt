@@ -37,10 +37,10 @@ pub trait Answers {
     /// The state of a row over variables.
     ghost answered: { Self → RowId → List VarId → State };
 
-    /// In how many samples none of the variables is missing.
+    /// In how many samples none of the variables is missing, at most 2^64 - 1; of no variables, how many samples there are.
     ghost counted: { Self → List VarId → ℕ };
 
-    /// Whether two variables agree.
+    /// Whether two variables agree: they are of one kind and have equal values in each sample.
     ghost agreeing: { Self → VarId → VarId → Bool };
 
     /// The state of a row over variables that it admits, in any order and with any repeats. It is proper for the row. Only rows over
@@ -58,7 +58,7 @@ pub trait Answers {
         requires there { AreThere (infos self.now) vars.now }
         ensures { result ≡ counted self.now vars.now };
 
-    /// Whether the two variables have equal values in each sample, the missing value being equal to itself alone.
+    /// Whether the two variables are of one kind and have equal values in each sample, the missing value being equal to itself alone.
     fn agree(&self, v: VarId, w: VarId) -> bool
         requires v { v.0 < length (infos self.now) }
         requires w { w.0 < length (infos self.now) }

@@ -157,8 +157,9 @@ fn exchanged(exchange: Exchange, state: State) -> State
     }
 }
 
-/// A state of the form over the same variables with two neighbouring roles exchanged: coordinates are exchanged, the ends of a
-/// span are ordered anew, and the sign of a line or a plane is set anew; an offset changes its sign. Every other state stays.
+/// A state of the form over the same variables with two neighbouring roles exchanged: the coordinates at these roles are, the ends
+/// of a span are ordered anew, and the sign of a line or a plane is set anew; an offset between the two changes its sign. Every other
+/// state stays, also one over two variables where the last two of three are exchanged.
 pub fn exchange_state(form: StateForm, exchange: Exchange, state: State) -> State
     requires { IsProper form state }
     ensures value { result ≡ exchanged exchange state }
@@ -212,7 +213,7 @@ fn ordered(alloc: Global, exchange: Exchange, tuple: &[VarId]) -> Tuple
     }
 }
 
-/// The tuple in the row's written order: at the roles that may be exchanged the variables ascend. It takes no memory.
+/// The tuple in the row's written order: at the roles that may be exchanged the variables don't descend. It takes no memory.
 pub fn written(row: RowId, alloc: Global, tuple: &[VarId]) -> Tuple
     requires row { IsRow row }
     requires few { length tuple.now ≤ 3 }

@@ -14,7 +14,7 @@ use dk_base::{NoMemory, View};
 use dk_template::{Row, RowId, State, join_states, template_at};
 use std::alloc::Global;
 
-/// A row of one variable.
+/// A row of one variable that is no sequence.
 #[derive(Clone, Copy, Debug, PartialEq, Eq)]
 pub enum UnaryRow {
     OneOf(OneOf),
@@ -23,7 +23,7 @@ pub enum UnaryRow {
     Modulus(Modulus),
 }
 
-/// The row of a number.
+/// The row that has a number.
 pub fn row_at(row: RowId) -> UnaryRow
     requires { IsUnary row }
     ensures { row_of result ≡ row }

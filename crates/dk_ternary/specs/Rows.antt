@@ -1,0 +1,66 @@
+-- The numbers of the rows of three variables, and what these rows state of numbers.
+use Rattle.std.specs.Prelude.{◌≡◌, ◌≤◌, ◌⊎◌, ℤ, bit_and, bit_or, bit_xor, Bool, IsTrue, refl}
+use Rattle.dk_rows.specs.Laws.{is_row}
+use Rattle.dk_rows.specs.Relations.{is_bitwise, is_difference, is_gcd, is_maximum, is_minimum, is_product, is_quotient, is_remainder, is_sum}
+use Rattle.dk_template.specs.declared.grammar.RowId.{RowId}
+use Rattle.dk_ternary.specs.declared.operation.Operation.{Operation}
+use Rattle.dk_ternary.specs.declared.operation.Operation.TheVariants.{Sum, Difference, Product, Minimum, Maximum, Quotient, Remainder, And, Or, Xor, Gcd}
+use Rattle.dk_ternary.specs.declared.rows.TernaryRow.{TernaryRow}
+use Rattle.dk_ternary.specs.declared.rows.TernaryRow.TheVariants as ternary
+
+-- a row of three variables
+abbrev pub IsTernary : RowId → Type 0
+IsTernary r = ((24 ≤ r.0) × (r.0 ≤ 34)) ⊎ (r.0 ≡ 67)
+
+-- ---- the result of an operation
+abbrev pub operation_row : Operation → RowId
+operation_row Sum = record { 0 = 24 }
+operation_row Difference = record { 0 = 25 }
+operation_row Product = record { 0 = 26 }
+operation_row Minimum = record { 0 = 27 }
+operation_row Maximum = record { 0 = 28 }
+operation_row Quotient = record { 0 = 29 }
+operation_row Remainder = record { 0 = 30 }
+operation_row And = record { 0 = 31 }
+operation_row Or = record { 0 = 32 }
+operation_row Xor = record { 0 = 33 }
+operation_row Gcd = record { 0 = 34 }
+
+-- z is the result of the operation on x and y
+abbrev pub is_result : Operation → ℤ → ℤ → ℤ → Bool
+is_result Sum z x y = is_sum z x y
+is_result Difference z x y = is_difference z x y
+is_result Product z x y = is_product z x y
+is_result Minimum z x y = is_minimum z x y
+is_result Maximum z x y = is_maximum z x y
+is_result Quotient z x y = is_quotient z x y
+is_result Remainder z x y = is_remainder z x y
+is_result And z x y = is_bitwise bit_and z x y
+is_result Or z x y = is_bitwise bit_or z x y
+is_result Xor z x y = is_bitwise bit_xor z x y
+is_result Gcd z x y = is_gcd z x y
+
+pub operation_is_row : (r : Operation) → IsTrue (is_row (operation_row r))
+operation_is_row Sum = refl
+operation_is_row Difference = refl
+operation_is_row Product = refl
+operation_is_row Minimum = refl
+operation_is_row Maximum = refl
+operation_is_row Quotient = refl
+operation_is_row Remainder = refl
+operation_is_row And = refl
+operation_is_row Or = refl
+operation_is_row Xor = refl
+operation_is_row Gcd = refl
+
+-- ---- the plane
+abbrev pub linear_ternary_row : RowId
+linear_ternary_row = record { 0 = 67 }
+
+pub linear_ternary_is_row : IsTrue (is_row linear_ternary_row)
+linear_ternary_is_row = refl
+
+-- ---- both
+abbrev pub row_of : TernaryRow → RowId
+row_of (ternary.Operation r) = operation_row r
+row_of (ternary.LinearTernary r) = linear_ternary_row

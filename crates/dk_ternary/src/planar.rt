@@ -1,0 +1,59 @@
+// The row of the plane through all points.
+ghost use Rattle.std.specs.Prelude.{◌≡◌, ◌∷◌, []};
+ghost use Rattle.dk_base.specs.Tuples.{int_of, value_at};
+ghost use Rattle.dk_base.specs.Values.{values_of};
+ghost use Rattle.dk_base.specs.declared.kinds.Kind.TheVariants as kind;
+ghost use Rattle.dk_forms.specs.Plane.{plane_of};
+ghost use Rattle.dk_template.specs.Rows.{IsTuple};
+ghost use Rattle.dk_ternary.specs.Rows.{linear_ternary_row};
+
+use crate::rows::join;
+use dk_base::{NoMemory, View, int_at};
+use dk_forms::plane_point;
+use dk_template::{Row, RowId, State};
+use std::alloc::Global;
+
+/// The plane through all points (x, y, z), or the stretch of a line that they lie on. Points with a coordinate beyond 2^30 lie on
+/// none.
+#[derive(Clone, Copy, Debug, PartialEq, Eq)]
+pub struct LinearTernary;
+
+impl LinearTernary {
+    /// The number of the row.
+    pub fn row(self) -> RowId
+        ensures { result ≡ linear_ternary_row }
+    {
+        RowId(67)
+    }
+}
+
+// The state of one point.
+fn state_of_one(tuple: &[View<'_>]) -> State
+    requires { IsTuple (kind.Int ∷ kind.Int ∷ kind.Int ∷ []) (values_of tuple.now) }
+    ensures { result ≡ plane_of ((int_of (value_at (values_of tuple.now) 0), int_of (value_at (values_of tuple.now) 1), int_of (value_at (values_of tuple.now) 2)) ∷ []) }
+{
+    plane_point(int_at(tuple, 0), int_at(tuple, 1), int_at(tuple, 2))
+}
+
+impl Row for LinearTernary {
+    ghost use Rattle.dk_rows.proofs.RowLaws.{laws_by};
+    ghost use Rattle.dk_rows.specs.Meanings.{state_of};
+    ghost use Rattle.dk_template.specs.Templates.{form_of, kinds_of};
+    ghost use Rattle.dk_ternary.specs.Rows.{linear_ternary_is_row, linear_ternary_row};
+
+    ghost kinds = { λ row. kinds_of linear_ternary_row };
+
+    ghost form = { λ row. form_of linear_ternary_row };
+
+    ghost state_of = { λ row. state_of linear_ternary_row };
+
+    ghost laws = { λ row. laws_by linear_ternary_row linear_ternary_is_row };
+
+    fn point(&self, _alloc: Global, tuple: &[View<'_>]) -> Result<State, NoMemory> {
+        Ok(state_of_one(tuple))
+    }
+
+    fn join(&self, alloc: Global, a: State, b: &State) -> Result<State, NoMemory> {
+        join(alloc, self.row(), a, b)
+    }
+}
