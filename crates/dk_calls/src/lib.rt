@@ -1,0 +1,13 @@
+//! Calls: exits matched with their entries, within a file.
+#![tactic(auto)]
+
+mod calls;
+pub mod laws;
+mod nonces;
+mod origs;
+mod stack;
+
+pub use calls::{Calls, is_entry};
+
+#[cfg(test)]
+mod tests;
