@@ -3,3 +3,4 @@ pub mod Agreement
 pub mod OwnLeaders
 pub mod OfKind
 pub mod Examples
+pub mod Keys

@@ -1,12 +1,14 @@
 // The steps by which classes are made and split.
-ghost use Rattle.std.specs.Prelude.{◌≡◌, ◌≢◌, ◌↔◌, ◌<◌, ◌^◌, [], ℕ, All, Contains, IfOk, IsTrue, MatchOption, length};
+ghost use Rattle.std.specs.Prelude.{◌≡◌, ◌≢◌, ◌↔◌, ◌<◌, ◌^◌, [], ℕ, true, IfOk, IsTrue, OnOk, length};
 ghost use Rattle.dk_base.specs.Values.{value_of, values_of};
 ghost use Rattle.dk_samples.specs.Samples.{value_in};
 ghost use Rattle.dk_classes.specs.Classes.{AreLeaders, AreNew, InClass, IsFirst, IsLike, IsSplit, NewBelow, kinds_of, new_with};
+ghost use Rattle.dk_classes.specs.Keys.{FindsLike, HaveKeys, has_key, key_of};
 ghost use Rattle.dk_classes.specs.Leaders.{AreClasses, leader_at, own_leaders, var};
 
-use dk_base::{Kind, List, NoMemory, VarId, VarInfo, View, same};
+use dk_base::{Kind, List, NoMemory, VarId, VarInfo, View, same, spell};
 use dk_samples::value_at;
+use indexmap::IndexSet;
 use std::alloc::Global;
 
 fn is_same_kind(a: Kind, b: Kind) -> bool
@@ -76,38 +78,103 @@ pub(crate) fn are_one(leaders: &[VarId], sample: &[View<'_>]) -> bool
     true
 }
 
-// The new leader out of an old class that has the value in the sample.
-fn find_like(
+// Whether a new leader comes out of an old class and has the value in the sample.
+fn is_like(new: (VarId, VarId), sample: &[View<'_>], old: VarId, value: View<'_>) -> bool
+    ensures { IsTrue result ↔ ((new.1 ≡ old) × (value_in (values_of sample.now) new.0 ≡ value_of value.entry)) }
+{
+    let (leader, was) = new;
+    was == old && same(value_at(sample, leader), value)
+}
+
+// The new leader out of an old class that has the value in the sample, by a walk over all of them.
+fn walk_to_like(
     new: &[(VarId, VarId)],
     sample: &[View<'_>],
     old: VarId,
     value: View<'_>,
 ) -> Option<VarId>
-    ensures { MatchOption result (All (λ n. n.1 ≡ old → value_in (values_of sample.now) n.0 ≢ value_of value.entry) new.now) (λ w. Contains new.now (w, old) × (value_in (values_of sample.now) w ≡ value_of value.entry)) }
+    ensures { FindsLike new.now (values_of sample.now) old (value_of value.entry) result }
 {
-    for (leader, was) in new {
-        if *was == old && same(value_at(sample, *leader), value) {
-            return Some(*leader);
+    for pair in new {
+        if is_like(*pair, sample, old, value) {
+            return Some(pair.0);
         }
     }
     None
 }
 
-// The first variable like this one, where the new leaders below it are known.
-fn first_like(leaders: &[VarId], new: &[(VarId, VarId)], sample: &[View<'_>], v: u32) -> VarId
+// The new leader out of an old class that has the value in the sample: the one at this place, or else one found by a walk.
+fn find_near(
+    new: &[(VarId, VarId)],
+    sample: &[View<'_>],
+    old: VarId,
+    value: View<'_>,
+    place: usize,
+) -> Option<VarId>
+    ensures { FindsLike new.now (values_of sample.now) old (value_of value.entry) result }
+{
+    if place < new.len() && is_like(new[place], sample, old, value) {
+        return Some(new[place].0);
+    }
+    walk_to_like(new, sample, old, value)
+}
+
+// The key of a value out of an old class.
+fn key_of(alloc: Global, old: VarId, value: View<'_>) -> Result<Vec<u8>, NoMemory>
+    ensures { IfOk result (λ key. key.items ≡ key_of old (value_of value.entry)) }
+{
+    let mut key = spell(alloc, value)?;
+    key.append(&old.0.to_le_bytes())?;
+    Ok(key.into_vec())
+}
+
+// The new leader out of an old class that has the value in the sample. Its key is among the keys from then on. They stand in
+// the order of the new leaders, so the place of a key is mostly the place of its leader.
+fn find_like(
+    alloc: Global,
+    new: &[(VarId, VarId)],
+    keys: &mut IndexSet<Vec<u8>>,
+    sample: &[View<'_>],
+    old: VarId,
+    value: View<'_>,
+) -> Result<Option<VarId>, NoMemory>
+    requires { HaveKeys (values_of sample.now) new.now keys.old.keys }
+    ensures found { IfOk result (FindsLike new.now (values_of sample.now) old (value_of value.entry)) }
+    ensures kept { OnOk result (HaveKeys (values_of sample.now) new.now keys.new.keys) }
+    ensures added { OnOk result (has_key keys.new.keys (key_of old (value_of value.entry)) ≡ true) }
+{
+    let key = key_of(alloc, old, value)?;
+    let (place, is_added) = keys.insert_full(key)?;
+    if is_added {
+        return Ok(None);
+    }
+    Ok(find_near(new, sample, old, value, place))
+}
+
+// The first variable like this one, where the new leaders below it are known with their keys.
+fn first_like(
+    alloc: Global,
+    leaders: &[VarId],
+    new: &[(VarId, VarId)],
+    keys: &mut IndexSet<Vec<u8>>,
+    sample: &[View<'_>],
+    v: u32,
+) -> Result<VarId, NoMemory>
     requires classes { AreClasses leaders.now }
     requires within { v < length leaders.now }
     requires new { NewBelow leaders.now (values_of sample.now) v new.now }
-    ensures { IsFirst (IsLike leaders.now (values_of sample.now) v) result.0 }
+    requires keys { HaveKeys (values_of sample.now) new.now keys.old.keys }
+    ensures first { IfOk result (λ first. IsFirst (IsLike leaders.now (values_of sample.now) v) first.0) }
+    ensures keys { IfOk result (λ first. HaveKeys (values_of sample.now) (new_with new.now v first (var (leader_at leaders.now v))) keys.new.keys) }
 {
     let old = leaders[v as usize];
     let value = value_at(sample, VarId(v));
     if same(value_at(sample, old), value) {
-        return old;
+        return Ok(old);
     }
-    match find_like(new, sample, old, value) {
-        Some(leader) => leader,
-        None => VarId(v),
+    match find_like(alloc, new, keys, sample, old, value)? {
+        Some(leader) => Ok(leader),
+        None => Ok(VarId(v)),
     }
 }
 
@@ -140,8 +207,9 @@ pub(crate) fn split_leaders(
     let count = leaders.len() as u32;
     let mut split = Vec::new(alloc);
     let mut new = List::new(alloc);
+    let mut keys = IndexSet::new(alloc);
     for v in 0..count {
-        let first = first_like(leaders, new.as_slice(), sample, v);
+        let first = first_like(alloc, leaders, new.as_slice(), &mut keys, sample, v)?;
         split.push(first)?;
         new = with_leader(new, v, first, leaders[v as usize])?;
     }

@@ -48,6 +48,38 @@ fn three_numbers_split_in_two_steps(rt: HostRuntime) -> Result<(), Fail> {
 }
 
 #[test]
+fn three_variables_leave_and_two_stay_together(rt: HostRuntime) -> Result<(), Fail> {
+    let alloc = rt.alloc();
+    let leaders = List::from_slice(
+        alloc,
+        &[VarId(0), VarId(0), VarId(2), VarId(0), VarId(2), VarId(0)],
+    )?;
+    let two = Classes::from_leaders(alloc, leaders)?;
+    let sample = [
+        View::Int(1),
+        View::Int(7),
+        View::Int(1),
+        View::Int(8),
+        View::Int(7),
+        View::Int(7),
+    ];
+    let (more, new) = two.split(alloc, &sample)?;
+    let expected = [
+        (VarId(1), VarId(0)),
+        (VarId(3), VarId(0)),
+        (VarId(4), VarId(2)),
+    ];
+    assert!(rt; new.as_slice() == expected.as_slice());
+    check_leaders(
+        &rt,
+        &more,
+        &[VarId(0), VarId(1), VarId(2), VarId(3), VarId(4)],
+    );
+    assert!(rt; more.leader(VarId(5)) == VarId(1));
+    Ok(())
+}
+
+#[test]
 fn kinds_and_missing_values_are_told_apart(rt: HostRuntime) -> Result<(), Fail> {
     let alloc = rt.alloc();
     let kinds = [Kind::Hash, Kind::Int, Kind::Hash, Kind::Int, Kind::Int];

@@ -1,0 +1,92 @@
+-- Small examples, computed from the definitions.
+use Rattle.std.specs.Prelude.{◌≡◌, ℕ, pos, negsuc, true, List, [], ◌∷◌, refl}
+use Rattle.dk_base.specs.declared.kinds.Form.TheVariants as shape
+use Rattle.dk_base.specs.declared.kinds.Kind.TheVariants as kind
+use Rattle.dk_base.specs.declared.kinds.VarId.{VarId}
+use Rattle.dk_base.specs.declared.kinds.VarInfo.{VarInfo}
+use Rattle.dk_base.specs.declared.values.Value.{Value}
+use Rattle.dk_base.specs.declared.values.Value.TheVariants as value
+use Rattle.dk_fits.specs.Fits.{fit, holds, tuples_of}
+use Rattle.dk_fits.specs.Instances.{asked_of, tuples_over}
+use Rattle.dk_forms.specs.declared.states.State.TheVariants.{Empty, Broken, Holds, Greatest}
+use Rattle.dk_presence.specs.Patterns.{count_of}
+use Rattle.dk_rows.specs.Meanings.{meanings, state_of}
+use Rattle.dk_template.specs.Templates.{rows}
+use Rattle.dk_template.specs.declared.grammar.RowId.{RowId}
+
+abbrev x : VarId
+x = record { 0 = 0 }
+
+abbrev y : VarId
+y = record { 0 = 1 }
+
+abbrev row : ℕ → RowId
+row n = record { 0 = n }
+
+abbrev int : ℕ → Value
+int n = value.Int (pos n)
+
+-- three samples of two numbers; the second number is missing in the third sample
+abbrev samples : List (List Value)
+samples = (int 1 ∷ int 2 ∷ []) ∷ (int 3 ∷ int 4 ∷ []) ∷ (int 9 ∷ value.Missing ∷ []) ∷ []
+
+both : tuples_of (x ∷ y ∷ []) samples ≡ (int 1 ∷ int 2 ∷ []) ∷ (int 3 ∷ int 4 ∷ []) ∷ []
+both = refl
+
+turned : tuples_of (y ∷ x ∷ []) samples ≡ (int 2 ∷ int 1 ∷ []) ∷ (int 4 ∷ int 3 ∷ []) ∷ []
+turned = refl
+
+counted : count_of (x ∷ y ∷ []) samples ≡ 2
+counted = refl
+
+-- x < y in the samples in which both are present; y < x isn't so; and of no samples a row says nothing
+less : fit (row 13) (x ∷ y ∷ []) samples ≡ Holds
+unfolding fit state_of meanings
+less = refl
+
+not_less : fit (row 13) (y ∷ x ∷ []) samples ≡ Broken
+unfolding fit state_of meanings
+not_less = refl
+
+nothing : fit (row 13) (x ∷ y ∷ []) [] ≡ Empty
+unfolding fit state_of meanings
+nothing = refl
+
+-- the greatest value of x counts the third sample, and x <= x holds
+greatest : fit (row 3) (x ∷ []) samples ≡ Greatest (pos 9)
+unfolding fit state_of meanings
+greatest = refl
+
+repeated : holds (row 14) (x ∷ x ∷ []) samples ≡ true
+unfolding fit state_of meanings
+repeated = refl
+
+-- ---- instances
+abbrev number : VarInfo
+number = record { name = []; kind = kind.Int; form = shape.Declared; compar = record { elem = negsuc 0; index = negsuc 0 } }
+
+-- all pairs of two variables, in order
+pairs : tuples_over 2 (x ∷ y ∷ []) ≡ (x ∷ x ∷ []) ∷ (x ∷ y ∷ []) ∷ (y ∷ x ∷ []) ∷ (y ∷ y ∷ []) ∷ []
+pairs = refl
+
+-- of two numbers: a row of one is asked about each, a symmetric row of two about them in order, another one both ways round, and a
+-- row of three about none
+of_one : asked_of (number ∷ number ∷ []) (row 4) ≡ (x ∷ []) ∷ (y ∷ []) ∷ []
+unfolding rows
+of_one = refl
+
+of_two : asked_of (number ∷ number ∷ []) (row 11) ≡ (x ∷ y ∷ []) ∷ []
+unfolding rows
+of_two = refl
+
+of_ordered : asked_of (number ∷ number ∷ []) (row 13) ≡ (x ∷ y ∷ []) ∷ (y ∷ x ∷ []) ∷ []
+unfolding rows
+of_ordered = refl
+
+of_three : asked_of (number ∷ number ∷ []) (row 24) ≡ []
+unfolding rows
+of_three = refl
+
+of_sequences : asked_of (number ∷ number ∷ []) (row 39) ≡ []
+unfolding rows
+of_sequences = refl

@@ -1,0 +1,43 @@
+//! What the definitions of fits, counts and instances come to.
+ghost use Rattle.dk_fits.specs.Laws.{AgreeingVariablesCountAlike, AgreeingVariablesFitAlike, CountsAdd, CountsAreOfTuples, CountsOfNoVariables, FitsAreOfSets, FitsAreProper, FitsJoin, FitsOfNoSamples, InstancesAreListed, InstancesAscend, PlainFitsTellTheirRelation, PlainRowsHold};
+
+/// A row of the table says of variables what their samples say together: nothing on no samples, on two lists of samples the join of
+/// what it says on each, and the same on the same set of samples.
+pub fn fits_join()
+    ensures none { FitsOfNoSamples }
+    ensures both { FitsJoin }
+    ensures same { FitsAreOfSets }
+{}
+
+/// A row with a relation says nothing where its variables are present together in no sample. Else it holds exactly where each sample
+/// in which they are present satisfies the relation.
+pub fn plain_fits_tell_their_relation()
+    ensures fit { PlainFitsTellTheirRelation }
+    ensures holds { PlainRowsHold }
+{}
+
+/// What a row says of variables that it admits is a proper state of it.
+pub fn fits_are_proper()
+    ensures { FitsAreProper }
+{}
+
+/// The number of samples in which variables are present is the number of their tuples. It adds up over two lists of samples, and for
+/// no variables it is the number of all samples. Numbers end at 2^64 - 1.
+pub fn counts_add()
+    ensures tuples { CountsAreOfTuples }
+    ensures both { CountsAdd }
+    ensures none { CountsOfNoVariables }
+{}
+
+/// Variables that agree on the samples can stand for each other.
+pub fn agreeing_variables_are_alike()
+    ensures fit { AgreeingVariablesFitAlike }
+    ensures count { AgreeingVariablesCountAlike }
+{}
+
+/// The instances of a grammar are exactly its rows with variables that they are asked about, each once: by row, and then by the
+/// variables in the order of the roles.
+pub fn instances_are_listed()
+    ensures exact { InstancesAreListed }
+    ensures ascend { InstancesAscend }
+{}
