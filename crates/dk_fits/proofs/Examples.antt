@@ -1,17 +1,19 @@
 -- Small examples, computed from the definitions.
-use Rattle.std.specs.Prelude.{◌≡◌, ℕ, pos, negsuc, true, List, [], ◌∷◌, refl}
+use Rattle.std.specs.Prelude.{◌≡◌, ℕ, pos, negsuc, true, false, List, [], ◌∷◌, refl}
 use Rattle.dk_base.specs.declared.kinds.Form.TheVariants as shape
 use Rattle.dk_base.specs.declared.kinds.Kind.TheVariants as kind
 use Rattle.dk_base.specs.declared.kinds.VarId.{VarId}
 use Rattle.dk_base.specs.declared.kinds.VarInfo.{VarInfo}
 use Rattle.dk_base.specs.declared.values.Value.{Value}
 use Rattle.dk_base.specs.declared.values.Value.TheVariants as value
-use Rattle.dk_fits.specs.Fits.{fit, holds, tuples_of}
-use Rattle.dk_fits.specs.Instances.{asked_of, tuples_over}
+use Rattle.dk_fits.specs.Fits.{fit, holds, premise_holds, tuples_of}
+use Rattle.dk_fits.specs.Instances.{asked_of, instances_of, tuples_over}
 use Rattle.dk_forms.specs.declared.states.State.TheVariants.{Empty, Broken, Holds, Greatest}
 use Rattle.dk_presence.specs.Patterns.{count_of}
 use Rattle.dk_rows.specs.Meanings.{meanings, state_of}
 use Rattle.dk_template.specs.Templates.{rows}
+use Rattle.dk_template.specs.declared.answers.Premise.TheVariants.{LeastAtLeast}
+use Rattle.dk_template.specs.declared.grammar.Grammar.TheVariants as grammar
 use Rattle.dk_template.specs.declared.grammar.RowId.{RowId}
 
 abbrev x : VarId
@@ -61,6 +63,15 @@ repeated : holds (row 14) (x ∷ x ∷ []) samples ≡ true
 unfolding fit state_of meanings
 repeated = refl
 
+-- x is at least 1, and so it is at least 0, but not at least 2
+at_least_none : premise_holds samples (LeastAtLeast (row 2) 0 (pos 0)) (x ∷ y ∷ []) ≡ true
+unfolding fit state_of meanings
+at_least_none = refl
+
+at_least_two : premise_holds samples (LeastAtLeast (row 2) 0 (pos 2)) (x ∷ y ∷ []) ≡ false
+unfolding fit state_of meanings
+at_least_two = refl
+
 -- ---- instances
 abbrev number : VarInfo
 number = record { name = []; kind = kind.Int; form = shape.Declared; compar = record { elem = negsuc 0; index = negsuc 0 } }
@@ -90,3 +101,15 @@ of_three = refl
 of_sequences : asked_of (number ∷ number ∷ []) (row 39) ≡ []
 unfolding rows
 of_sequences = refl
+
+-- all instances of two numbers
+abbrev asked : ℕ → List VarId → RowId × List VarId
+asked n vars = (row n, vars)
+
+of_two_numbers :
+    instances_of grammar.One (number ∷ number ∷ [])
+    ≡ asked 1 (x ∷ []) ∷ asked 1 (y ∷ []) ∷ asked 2 (x ∷ []) ∷ asked 2 (y ∷ []) ∷ asked 3 (x ∷ []) ∷ asked 3 (y ∷ []) ∷ asked 4 (x ∷ []) ∷ asked 4 (y ∷ []) ∷ asked 5 (x ∷ []) ∷ asked 5 (y ∷ [])
+    ∷ asked 11 (x ∷ y ∷ []) ∷ asked 12 (x ∷ y ∷ []) ∷ asked 13 (x ∷ y ∷ []) ∷ asked 13 (y ∷ x ∷ []) ∷ asked 14 (x ∷ y ∷ []) ∷ asked 14 (y ∷ x ∷ []) ∷ asked 15 (x ∷ y ∷ [])
+    ∷ asked 16 (x ∷ y ∷ []) ∷ asked 16 (y ∷ x ∷ []) ∷ asked 17 (x ∷ y ∷ []) ∷ asked 17 (y ∷ x ∷ []) ∷ []
+unfolding rows instances_of
+of_two_numbers = refl

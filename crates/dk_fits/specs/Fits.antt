@@ -27,7 +27,7 @@ tuples_of vars samples = filter is_whole (map (tuple_in vars) samples)
 unfoldable pub fit : RowId → List VarId → List (List Value) → State
 fit row vars samples = state_of row (tuples_of vars samples)
 
--- the row says something of the variables that is so in all these samples
+-- the row holds of the variables in these samples: its fit is a state that fits
 abbrev pub holds : RowId → List VarId → List (List Value) → Bool
 holds row vars samples = fits (fit row vars samples)
 
