@@ -1,0 +1,11 @@
+pub mod Facts
+pub mod Usable
+pub mod Freed
+mod Examples
+pub mod Searching
+pub mod NumberRules
+pub mod BitRules
+pub mod SequenceRules
+pub mod Saying
+mod TupleRules
+pub mod Sound

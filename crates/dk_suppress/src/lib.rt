@@ -1,0 +1,13 @@
+//! The rules of suppression: an instance that follows from simpler ones which hold needs no state of its own.
+#![tactic(auto)]
+
+mod freeing;
+pub mod laws;
+mod rules;
+mod suppressing;
+
+pub use freeing::freed_by;
+pub use suppressing::suppressed;
+
+#[cfg(test)]
+mod tests;

@@ -1,0 +1,141 @@
+// The table of the rules.
+ghost use Rattle.std.specs.Prelude.{◌≡◌, map};
+ghost use Rattle.dk_suppress.specs.Rules.{rules};
+ghost use Rattle.dk_suppress.specs.Told.{told};
+
+use dk_template::{Premise, RowId};
+
+/// A rule: its conclusion, and its premises over the roles of the conclusion.
+pub struct Rule {
+    pub conclusion: RowId,
+    pub premises: &'static [Premise],
+}
+
+macro_rules! rule {
+    ($conclusion:expr, $premises:expr) => {
+        Rule {
+            conclusion: RowId($conclusion),
+            premises: &$premises,
+        }
+    };
+}
+
+// The row holds over the roles; a role that the row doesn't have is written as 0.
+macro_rules! holds {
+    ($row:expr, $a:expr) => {
+        Premise::Holds {
+            row: RowId($row),
+            roles: [$a, 0, 0],
+        }
+    };
+    ($row:expr, $a:expr, $b:expr) => {
+        Premise::Holds {
+            row: RowId($row),
+            roles: [$a, $b, 0],
+        }
+    };
+    ($row:expr, $a:expr, $b:expr, $c:expr) => {
+        Premise::Holds {
+            row: RowId($row),
+            roles: [$a, $b, $c],
+        }
+    };
+}
+
+macro_rules! least {
+    ($row:expr, $role:expr, $k:expr) => {
+        Premise::LeastAtLeast {
+            row: RowId($row),
+            role: $role,
+            k: $k,
+        }
+    };
+}
+
+macro_rules! greatest {
+    ($row:expr, $role:expr, $k:expr) => {
+        Premise::GreatestAtMost {
+            row: RowId($row),
+            role: $role,
+            k: $k,
+        }
+    };
+}
+
+macro_rules! only {
+    ($role:expr, $k:expr) => {
+        Premise::Only { role: $role, k: $k }
+    };
+}
+
+// The rules, by their conclusions. The roles are x, y, or s and t, or s and x, and in the rows 24 to 34 they are z, x, y.
+const RULES: &[Rule] = &[
+    rule!(4, [least!(2, 0, 1)]), // x != 0: x >= 1
+    rule!(4, [greatest!(3, 0, -1)]), // x != 0: x <= -1
+    rule!(12, [holds!(13, 0, 1)]), // x != y: x < y
+    rule!(12, [holds!(13, 1, 0)]), // x != y: y < x
+    rule!(14, [holds!(13, 0, 1)]), // x <= y: x < y
+    rule!(14, [holds!(11, 0, 1)]), // x <= y: x == y
+    rule!(16, [holds!(11, 0, 1), holds!(4, 1)]), // x % y == 0: x == y and y != 0
+    rule!(16, [only!(1, 1)]), // x % y == 0: y is only 1
+    rule!(16, [only!(1, -1)]), // x % y == 0: y is only -1
+    rule!(16, [only!(0, 0), holds!(4, 1)]), // x % y == 0: x is only 0 and y != 0
+    rule!(17, [holds!(11, 0, 1), least!(2, 0, 0), greatest!(3, 0, 1)]), // x == y * y: x == y and x >= 0 and x <= 1
+    rule!(24, [holds!(11, 0, 1), only!(2, 0)]), // z == x + y: z == x and y is only 0
+    rule!(24, [holds!(11, 0, 2), only!(1, 0)]), // z == x + y: z == y and x is only 0
+    rule!(25, [holds!(24, 1, 0, 2)]), // z == x - y: x == z + y
+    rule!(26, [holds!(11, 0, 1), only!(2, 1)]), // z == x * y: z == x and y is only 1
+    rule!(26, [holds!(11, 0, 2), only!(1, 1)]), // z == x * y: z == y and x is only 1
+    rule!(26, [only!(0, 0), only!(1, 0)]), // z == x * y: z is only 0 and x is only 0
+    rule!(26, [only!(0, 0), only!(2, 0)]), // z == x * y: z is only 0 and y is only 0
+    rule!(27, [holds!(11, 0, 1), holds!(14, 1, 2)]), // z == min(x, y): z == x and x <= y
+    rule!(27, [holds!(11, 0, 2), holds!(14, 2, 1)]), // z == min(x, y): z == y and y <= x
+    rule!(28, [holds!(11, 0, 1), holds!(14, 2, 1)]), // z == max(x, y): z == x and y <= x
+    rule!(28, [holds!(11, 0, 2), holds!(14, 1, 2)]), // z == max(x, y): z == y and x <= y
+    rule!(29, [holds!(11, 0, 1), only!(2, 1)]), // z == x / y: z == x and y is only 1
+    rule!(29, [only!(0, 0), only!(1, 0), holds!(4, 2)]), // z == x / y: z is only 0 and x is only 0 and y != 0
+    rule!(29, [only!(0, 1), holds!(11, 1, 2), holds!(4, 2)]), // z == x / y: z is only 1 and x == y and y != 0
+    rule!(29, [only!(0, 0), least!(2, 1, 0), holds!(13, 1, 2)]), // z == x / y: z is only 0 and x >= 0 and x < y
+    rule!(30, [only!(0, 0), holds!(16, 1, 2)]), // z == x % y: z is only 0 and x % y == 0
+    rule!(30, [holds!(11, 0, 1), least!(2, 1, 0), holds!(13, 1, 2)]), // z == x % y: z == x and x >= 0 and x < y
+    rule!(31, [holds!(11, 0, 1), holds!(11, 1, 2)]), // z == x & y: z == x and x == y
+    rule!(31, [only!(0, 0), only!(1, 0)]), // z == x & y: z is only 0 and x is only 0
+    rule!(31, [only!(0, 0), only!(2, 0)]), // z == x & y: z is only 0 and y is only 0
+    rule!(31, [holds!(11, 0, 1), only!(2, -1)]), // z == x & y: z == x and y is only -1
+    rule!(31, [holds!(11, 0, 2), only!(1, -1)]), // z == x & y: z == y and x is only -1
+    rule!(32, [holds!(11, 0, 1), holds!(11, 1, 2)]), // z == x | y: z == x and x == y
+    rule!(32, [holds!(11, 0, 1), only!(2, 0)]), // z == x | y: z == x and y is only 0
+    rule!(32, [holds!(11, 0, 2), only!(1, 0)]), // z == x | y: z == y and x is only 0
+    rule!(33, [holds!(11, 0, 1), only!(2, 0)]), // z == x ^ y: z == x and y is only 0
+    rule!(33, [holds!(11, 0, 2), only!(1, 0)]), // z == x ^ y: z == y and x is only 0
+    rule!(33, [only!(0, 0), holds!(11, 1, 2)]), // z == x ^ y: z is only 0 and x == y
+    rule!(34, [only!(0, 1), only!(1, 1)]), // z == gcd(x, y): z is only 1 and x is only 1
+    rule!(34, [only!(0, 1), only!(2, 1)]), // z == gcd(x, y): z is only 1 and y is only 1
+    rule!(34, [holds!(11, 0, 1), least!(2, 1, 1), holds!(16, 2, 1)]), // z == gcd(x, y): z == x and x >= 1 and y % x == 0
+    rule!(34, [holds!(11, 0, 2), least!(2, 2, 1), holds!(16, 1, 2)]), // z == gcd(x, y): z == y and y >= 1 and x % y == 0
+    rule!(38, [least!(36, 0, 1)]), // s elements != 0: s elements >= 1
+    rule!(38, [greatest!(37, 0, -1)]), // s elements != 0: s elements <= -1
+    rule!(40, [holds!(39, 0)]), // s sorted by <=: s sorted by <
+    rule!(40, [holds!(43, 0)]), // s sorted by <=: s elements are equal
+    rule!(42, [holds!(41, 0)]), // s sorted by >=: s sorted by >
+    rule!(42, [holds!(43, 0)]), // s sorted by >=: s elements are equal
+    rule!(54, [holds!(53, 0, 1)]), // s elements <= x: s elements < x
+    rule!(54, [holds!(52, 0, 1)]), // s elements <= x: s elements == x
+    rule!(56, [holds!(55, 0, 1)]), // s elements >= x: s elements > x
+    rule!(56, [holds!(52, 0, 1)]), // s elements >= x: s elements == x
+    rule!(62, [holds!(61, 0, 1)]), // s <= t, pair by pair: s < t, pair by pair
+    rule!(62, [holds!(57, 0, 1)]), // s <= t, pair by pair: s == t
+    rule!(63, [holds!(57, 0, 1)]), // s is a subset of t (numbers): s == t
+    rule!(63, [holds!(66, 0, 1)]), // s is a subset of t (numbers): s is the reverse of t
+    rule!(64, [holds!(59, 0, 1)]), // s is a subset of t (hash codes): s == t
+    rule!(65, [holds!(60, 0, 1)]), // s is a subset of t (strings): s == t
+    rule!(66, [holds!(57, 0, 1), holds!(43, 0)]), // s is the reverse of t: s == t and s elements are equal
+];
+
+/// The rules.
+#[tactic(auto, unfolding(crate::specs::Rules::rules))]
+pub fn rules() -> &'static [Rule]
+    ensures { map told result.now ≡ rules }
+{
+    RULES
+}
