@@ -1,0 +1,4 @@
+mod Takes
+mod Relating
+mod Scans
+mod Shifts

@@ -1,0 +1,20 @@
+//! The rows of two variables of which the second is a sequence: membership, and equality, relations element by element, subsets and
+//! offsets of two sequences.
+#![tactic(auto)]
+
+mod equality;
+mod membership;
+mod offsets;
+mod partners;
+mod rows;
+mod subsets;
+
+pub use equality::EqualSequences;
+pub use membership::Member;
+pub use offsets::PairOffset;
+pub use partners::Partners;
+pub use rows::{PairRow, join, point, row_at};
+pub use subsets::Subset;
+
+#[cfg(test)]
+mod tests;
