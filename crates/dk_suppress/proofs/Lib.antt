@@ -2,6 +2,7 @@ pub mod Facts
 pub mod Usable
 pub mod Freed
 mod Examples
+mod Shown
 pub mod Searching
 pub mod NumberRules
 pub mod BitRules
