@@ -1,5 +1,7 @@
 -- Small examples, computed from the definitions.
 use Rattle.std.specs.Prelude.{◌≡◌, ℕ, pos, negsuc, true, false, List, [], ◌∷◌, refl}
+use Rattle.dk_arith.specs.Directions.{divisor}
+use Rattle.dk_arith.specs.Gcd.{gcd}
 use Rattle.dk_base.specs.declared.kinds.Form.TheVariants as shape
 use Rattle.dk_base.specs.declared.kinds.Kind.TheVariants as kind
 use Rattle.dk_base.specs.declared.kinds.VarId.{VarId}
@@ -8,9 +10,11 @@ use Rattle.dk_base.specs.declared.values.Value.{Value}
 use Rattle.dk_base.specs.declared.values.Value.TheVariants as value
 use Rattle.dk_fits.specs.Fits.{fit, holds, premise_holds, tuples_of}
 use Rattle.dk_fits.specs.Instances.{asked_of, instances_of, tuples_over}
-use Rattle.dk_forms.specs.declared.states.State.TheVariants.{Empty, Broken, Holds, Greatest}
+use Rattle.dk_forms.specs.Line.{through}
+use Rattle.dk_forms.specs.declared.states.State.TheVariants.{Empty, Broken, Holds, Greatest, Straight, Plane}
 use Rattle.dk_presence.specs.Patterns.{count_of}
 use Rattle.dk_rows.specs.Meanings.{meanings, state_of}
+use Rattle.dk_template.specs.Exchange.{turned as turned_state, written}
 use Rattle.dk_template.specs.Templates.{rows}
 use Rattle.dk_template.specs.declared.answers.Premise.TheVariants.{LeastAtLeast}
 use Rattle.dk_template.specs.declared.grammar.Grammar.TheVariants as grammar
@@ -21,6 +25,9 @@ x = record { 0 = 0 }
 
 abbrev y : VarId
 y = record { 0 = 1 }
+
+abbrev z : VarId
+z = record { 0 = 2 }
 
 abbrev row : ℕ → RowId
 row n = record { 0 = n }
@@ -71,6 +78,28 @@ at_least_none = refl
 at_least_two : premise_holds samples (LeastAtLeast (row 2) 0 (pos 2)) (x ∷ y ∷ []) ≡ false
 unfolding fit state_of meanings
 at_least_two = refl
+
+-- y is x + 1, and so x is y - 1; the line in the other order is the first one, turned
+line : fit (row 15) (x ∷ y ∷ []) samples ≡ Straight (pos 1) (negsuc 0) (pos 1)
+unfolding fit state_of meanings through divisor gcd
+line = refl
+
+line_turned : fit (row 15) (y ∷ x ∷ []) samples ≡ Straight (pos 1) (negsuc 0) (negsuc 0)
+unfolding fit state_of meanings through divisor gcd
+line_turned = refl
+
+in_order : written (row 15) (y ∷ x ∷ []) ≡ x ∷ y ∷ []
+unfolding rows
+in_order = refl
+
+turned_back : turned_state (row 15) (y ∷ x ∷ []) (Straight (pos 1) (negsuc 0) (pos 1)) ≡ Straight (pos 1) (negsuc 0) (negsuc 0)
+unfolding rows
+turned_back = refl
+
+-- 2 * x + 3 * y - z + 1 = 0, said of z, y, x
+plane_turned : turned_state (row 67) (z ∷ y ∷ x ∷ []) (Plane (pos 2) (pos 3) (negsuc 0) (pos 1)) ≡ Plane (pos 1) (negsuc 2) (negsuc 1) (negsuc 0)
+unfolding rows
+plane_turned = refl
 
 -- ---- instances
 abbrev number : VarInfo

@@ -1,6 +1,9 @@
+pub mod Alike
 pub mod Ascending
 pub mod Fitting
 pub mod Listing
 pub mod Members
+pub mod Symmetries
+pub mod Turning
 pub mod Whole
 mod Examples

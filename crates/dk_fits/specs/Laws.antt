@@ -1,5 +1,5 @@
 -- What the definitions of fits, counts and instances come to.
-use Rattle.std.specs.Prelude.{◌≡◌, ◌↔◌, ◌<◌, ◌+◌, ◌==◌, ◌||◌, Bool, true, not, All, Contains, IsTrue, List, [], ◌++◌, length, if◌then◌else◌}
+use Rattle.std.specs.Prelude.{◌≡◌, ◌↔◌, ◌<◌, ◌+◌, ◌==◌, ◌||◌, Bool, true, false, not, All, Contains, IsTrue, List, [], ◌++◌, length, if◌then◌else◌}
 use Rattle.std.specs.List.{AllPairs, AllZip, list_all}
 use Rattle.dk_base.specs.Spelling.{IsWritten}
 use Rattle.dk_base.specs.Values.{IsOfKind}
@@ -14,12 +14,17 @@ use Rattle.dk_presence.specs.Patterns.{capped, count_of}
 use Rattle.dk_rows.specs.Meanings.{relation_of}
 use Rattle.dk_samples.specs.Samples.{Agree}
 use Rattle.dk_template.specs.Admitted.{admits}
+use Rattle.dk_template.specs.Exchange.{exchange, exchanged, turned, written as written_order}
 use Rattle.dk_template.specs.Joins.{joined}
 use Rattle.dk_template.specs.Proper.{IsProper}
-use Rattle.dk_template.specs.Templates.{IsRow, form_of}
+use Rattle.dk_template.specs.Templates.{IsRow, arity_of, form_of, template_of}
+use Rattle.dk_template.specs.declared.exchange.Exchange.{Exchange}
+use Rattle.dk_template.specs.declared.exchange.Exchange.TheVariants.{First, Last}
 use Rattle.dk_template.specs.declared.grammar.Grammar.{Grammar}
 use Rattle.dk_template.specs.declared.grammar.RowId.{RowId}
 use Rattle.dk_template.specs.declared.templates.StateForm.TheVariants as form
+use Rattle.dk_template.specs.declared.templates.Symmetry.{Symmetry}
+use Rattle.dk_template.specs.declared.templates.Symmetry.TheVariants as symmetry
 
 -- ---- fits
 -- on no samples
@@ -60,6 +65,25 @@ abbrev pub FitsAreProper : Type 0
 FitsAreProper =
     (row : RowId) → IsRow row → (infos : List VarInfo) (vars : List VarId) → admits row infos vars ≡ true → (samples : List (List Value)) → All (IsSample infos) samples
     → IsProper (form_of row) (fit row vars samples)
+
+-- ---- variables in another order
+-- the two neighbouring roles may be exchanged
+abbrev pub may_exchange : Symmetry → Exchange → Bool
+may_exchange symmetry.Fixed e = false
+may_exchange symmetry.All e = true
+may_exchange symmetry.Arguments First = false
+may_exchange symmetry.Arguments Last = true
+
+-- over variables of which two such neighbours are exchanged
+abbrev pub SymmetricRowsExchange : Type 0
+SymmetricRowsExchange =
+    (row : RowId) → IsRow row → (e : Exchange) → may_exchange (template_of row).symmetry e ≡ true → (vars : List VarId) → length vars ≡ arity_of row → (samples : List (List Value))
+    → fit row (exchange e vars) samples ≡ exchanged e (fit row vars samples)
+
+-- over variables in any order: the fit over them in written order, turned
+abbrev pub FitsTurn : Type 0
+FitsTurn =
+    (row : RowId) → IsRow row → (vars : List VarId) → length vars ≡ arity_of row → (samples : List (List Value)) → fit row vars samples ≡ turned row vars (fit row (written_order row vars) samples)
 
 -- ---- counts
 -- the number of the tuples

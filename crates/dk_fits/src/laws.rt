@@ -1,5 +1,5 @@
 //! What the definitions of fits, counts and instances come to.
-ghost use Rattle.dk_fits.specs.Laws.{AgreeingVariablesCountAlike, AgreeingVariablesFitAlike, CountsAdd, CountsAreOfTuples, CountsOfNoVariables, FitsAreOfSets, FitsAreProper, FitsJoin, FitsOfNoSamples, InstancesAreListed, InstancesAscend, PlainFitsTellTheirRelation, PlainRowsHold};
+ghost use Rattle.dk_fits.specs.Laws.{AgreeingVariablesCountAlike, AgreeingVariablesFitAlike, CountsAdd, CountsAreOfTuples, CountsOfNoVariables, FitsAreOfSets, FitsAreProper, FitsJoin, FitsOfNoSamples, FitsTurn, InstancesAreListed, InstancesAscend, PlainFitsTellTheirRelation, PlainRowsHold, SymmetricRowsExchange};
 
 /// A row of the table says of variables what their samples say together: nothing on no samples, on two lists of samples the join of
 /// what it says on each, and the same on the same set of samples.
@@ -19,6 +19,13 @@ pub fn plain_fits_tell_their_relation()
 /// What a row says of variables that it admits is a proper state of it.
 pub fn fits_are_proper()
     ensures { FitsAreProper }
+{}
+
+/// What a row says of its variables with two of them exchanged, where the row may exchange these roles, is what it says of the
+/// variables, exchanged. So what it says of variables in any order is what it says of them in its written order, turned.
+pub fn fits_turn()
+    ensures exchanged { SymmetricRowsExchange }
+    ensures turned { FitsTurn }
 {}
 
 /// The number of samples in which variables are present is the number of their tuples. It adds up over two lists of samples, and for
