@@ -1,9 +1,9 @@
 -- A loop that puts one value after another among ascending ones.
-use Rattle.std.specs.Prelude.{◌≡◌, ℕ, ◌+◌, ◌<◌, ◌≤◌, List, [], ◌∷◌, length, drop, refl}
+use Rattle.std.specs.Prelude.{◌≡◌, ℕ, ◌+◌, ◌<◌, ◌≤◌, List, length, drop, refl}
 use Rattle.std.specs.declared.cmp.Ordering.{Ordering}
 use Rattle.std.specs.FinMap.{IsAntisymmetric}
 use Rattle.std.specs.Cmp.{IsTotalOrder}
-use Rattle.std.proofs.Common.{sym, ap, ◌∙◌, arith, get_or}
+use Rattle.std.proofs.Common.{ap, arith, get_or}
 use Rattle.dk_forms.specs.Known.{broken}
 use Rattle.dk_forms.specs.Distinct.{put, put_all, at_most}
 use Rattle.dk_forms.proofs.DistinctLaws.{length-all_right, at_most-many}

@@ -1,5 +1,5 @@
 -- The join of lines is the least line through both, so it keeps the laws.
-use Rattle.std.specs.Prelude.{[], ◌≡◌, ℕ, ◌+◌, ◌*◌, ℤ, pos, ◌+ℤ◌, ◌-ℤ◌, ◌*ℤ◌, neg_ℤ, ◌<ℤ◌, ◌≤◌, ◌^◌, ◌⊎◌, unsigned_abs, int_div, true, false, nat_le, ◌&&◌, if◌then◌else◌, List, ◌∷◌, refl}
+use Rattle.std.specs.Prelude.{[], ◌≡◌, ℕ, ◌*◌, ℤ, pos, ◌+ℤ◌, ◌-ℤ◌, ◌*ℤ◌, neg_ℤ, ◌<ℤ◌, ◌≤◌, ◌^◌, ◌⊎◌, unsigned_abs, int_div, true, false, nat_le, ◌&&◌, if◌then◌else◌, List, ◌∷◌, refl}
 use Rattle.std.specs.Bool.{Decides}
 use Rattle.std.specs.Ordering.{int_eq}
 use Rattle.std.specs.List.{list_all}

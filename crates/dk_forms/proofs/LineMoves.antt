@@ -1,5 +1,5 @@
 -- A line with its coordinates exchanged.
-use Rattle.std.specs.Prelude.{◌≡◌, ℤ, pos, negsuc, neg_ℤ, ◌<ℤ◌, ◌≤ℤ◌, ◌≤◌, ◌^◌, ◌⊎◌, unsigned_abs, int_lt, Bool, true, false, ◌&&◌, if◌then◌else◌, List, map, nat_le, refl}
+use Rattle.std.specs.Prelude.{◌≡◌, ℤ, pos, negsuc, neg_ℤ, ◌<ℤ◌, ◌≤ℤ◌, ◌^◌, ◌⊎◌, unsigned_abs, int_lt, Bool, true, false, ◌&&◌, if◌then◌else◌, List, map, nat_le, refl}
 use Rattle.std.proofs.Common.{sym, ap, ◌∙◌, subst, arith, inl, inr}
 use Rattle.std.proofs.lemmas.Int.{ints, by_lt_z}
 use Rattle.dk_forms.proofs.LineFacts.{IsLine, LineLe, On, line_hull, line_known_of_is, line_one}

@@ -1,18 +1,18 @@
 -- The laws of the form modulus.
-use Rattle.std.specs.Prelude.{[], ◌≡◌, ℕ, ◌+◌, ◌-◌, ◌*◌, ◌/◌, ◌%◌, ◌<◌, ◌≤◌, ◌==◌, ℤ, pos, negsuc, unsigned_abs, List, ◌∷◌, map, ◌⊎◌, if◌then◌else◌, refl}
+use Rattle.std.specs.Prelude.{[], ◌≡◌, ℕ, ◌+◌, ◌-◌, ◌*◌, ◌/◌, ◌%◌, ◌<◌, ◌≤◌, ◌==◌, ℤ, pos, negsuc, ◌≤ℤ◌, ◌<ℤ◌, unsigned_abs, List, ◌∷◌, map, ◌⊎◌, if◌then◌else◌, refl}
 use Prim.Native.Nat.{◌∣◌}
 use Rattle.std.specs.Int.{int_rem_euclid}
 use Rattle.std.proofs.Common.{sym, ap, ◌∙◌, subst, arith, eqb, inl, inr}
 use Rattle.std.proofs.lemmas.Bool.{cases_eq, eq-eqb, ne_eqb, cond-true, cond-false}
 use Rattle.std.proofs.lemmas.Int.{ints, by_lt_z}
 use Rattle.std.proofs.lemmas.Nat.Gcd.{dvd_refl, dvd-zero, dvd_trans, le_of_dvd}
-use Rattle.std.proofs.Math.Nat.{dvd-mod_iff, dvd-add, dvd-add_iff_left, eq-one_of_dvd-one, eq-zero_of_zero-dvd, dvd-mul_right, mod-eq_of_lt}
+use Rattle.std.proofs.Math.Nat.{dvd_of_mod-eq-zero, dvd-add, dvd-add_iff_left, eq-one_of_dvd-one, eq-zero_of_zero-dvd, dvd-mul_right, mod-eq_of_lt}
 use Rattle.dk_forms.specs.Known.{IfFact, Known, both, broken, fact, nothing}
 use Rattle.dk_forms.specs.Modulus.{IsModulusState, apart, class, class_meet, class_of, gcd3, gcd_of_all, modulus_join, modulus_known, modulus_of, modulus_state, remainder}
 use Rattle.dk_forms.specs.Laws.{JoinLaws, SummaryLaws}
 use Rattle.dk_forms.proofs.Knowns.{MeetLaws, laws_of_states}
 use Rattle.dk_arith.specs.Gcd.{gcd}
-use Rattle.dk_arith.proofs.GcdLaws.{gcd-both, gcd-left, gcd-right, same_divisors}
+use Rattle.dk_arith.proofs.GcdLaws.{gcd-both, gcd-left, gcd-right, gcd-zero, same_divisors}
 use Rattle.dk_forms.proofs.Summaries.{summary_from}
 use Rattle.dk_forms.specs.declared.states.State.{State}
 use Rattle.dk_forms.specs.declared.states.State.TheVariants.{Empty, Broken, One, Modulus}
@@ -193,6 +193,15 @@ five m n p r s t =
       first = from3 d m n (apart r s) (record { first = k.first; second = l.first; third = k.third });
     }))
 
+-- a class that lies in another
+meet-within : (a b : ℕ × ℤ) → IsClass a → a.0 ∣ b.0 → a.0 ∣ apart a.1 b.1 → class_meet a b ≡ fact a
+meet-within a b p near within =
+    let e : gcd3 a.0 b.0 (apart a.1 b.1) ≡ a.0 =
+    same_divisors (gcd3 a.0 b.0 (apart a.1 b.1)) a.0
+    (λ d h. (to3 d a.0 b.0 (apart a.1 b.1) h).first)
+    (λ d h. from3 d a.0 b.0 (apart a.1 b.1) (record { first = h; second = dvd_trans d h near; third = dvd_trans d h within })) in
+    ap (λ k. class k a.1) e ∙ class-fact a.0 a.1 p.not_one ∙ ap (λ r. fact (a.0, r)) p.reduced
+
 pub class_laws : MeetLaws IsClass class_meet
 class_laws = record {
   closed = λ a b p q. class_fit (gcd3 a.0 b.0 (apart a.1 b.1)) a.1;
@@ -206,10 +215,7 @@ class_laws = record {
       (λ d h. let k = to3 d b.0 a.0 (apart b.1 a.1) h in from3 d a.0 b.0 (apart a.1 b.1) (record { first = k.second; second = k.first; third = apart-swap d b.1 a.1 k.third })) in
       let g = gcd3 b.0 a.0 (apart b.1 a.1) in
       ap (λ k. class k a.1) e ∙ class-same g a.1 b.1 (apart-swap g b.1 a.1 (to3 g b.0 a.0 (apart b.1 a.1) (dvd_refl g)).third);
-  idem = λ a p.
-      let e : gcd3 a.0 a.0 (apart a.1 a.1) ≡ a.0 =
-      same_divisors (gcd3 a.0 a.0 (apart a.1 a.1)) a.0 (λ d h. (to3 d a.0 a.0 (apart a.1 a.1) h).first) (λ d h. from3 d a.0 a.0 (apart a.1 a.1) (record { first = h; second = h; third = apart-same d a.1 })) in
-      ap (λ k. class k a.1) e ∙ class-fact a.0 a.1 p.not_one ∙ ap (λ r. fact (a.0, r)) p.reduced;
+  idem = λ a p. meet-within a a p (dvd_refl a.0) (apart-same a.0 a.1);
 }
 
 -- ---- the class of a list
@@ -298,8 +304,60 @@ modulus_more v vs =
 pub modulus_summary : SummaryLaws IsModulusState Empty modulus_join modulus_of
 modulus_summary = summary_from modulus_laws (record { none = refl; one = λ v. modulus_proper _ (class_of_fit (v ∷ [])); more = modulus_more })
 
--- a divisor of the modulus doesn't see multiples of it
-pub gcd-mod : (m d : ℕ) → gcd m (d % m) ≡ gcd m d
-gcd-mod m d = same_divisors (gcd m (d % m)) (gcd m d)
-    (λ g h. gcd-both m d g (dvd_trans g h (gcd-left m (d % m))) ((dvd-mod_iff g (dvd_trans g h (gcd-left m (d % m)))).0 (dvd_trans g h (gcd-right m (d % m)))))
-    (λ g h. gcd-both m (d % m) g (dvd_trans g h (gcd-left m d)) ((dvd-mod_iff g (dvd_trans g h (gcd-left m d))).1 (dvd_trans g h (gcd-right m d))))
+-- ---- what the code computes
+pub remainder-natural : (m size : ℕ) (x : ℤ) → 0 < m → size ≡ unsigned_abs x → pos 0 ≤ℤ x → pos (size % m) ≡ remainder m x
+remainder-natural m size (pos a) h e sign = ap (λ k. pos (k % m)) e ∙ sym (remainder-pos m (pos a) h)
+remainder-natural m size (negsuc a) h e sign = absurd (omega (arith, ints))
+
+pub remainder-negative : (m size : ℕ) (x : ℤ) → 0 < m → size ≡ unsigned_abs x → x <ℤ pos 0 → pos (m - 1 - (size - 1) % m) ≡ remainder m x
+remainder-negative m size (pos a) h e sign = absurd (omega (arith, ints))
+remainder-negative m size (negsuc a) h e sign =
+    let rest : size - 1 ≡ a = omega (arith, ints) in
+    ap (λ k. pos (m - 1 - k % m)) rest ∙ sym (remainder-pos m (negsuc a) h)
+
+pub class-mod : (m r : ℕ) → 0 < m → class m (pos (r % m)) ≡ class m (pos r)
+class-mod m r h = class-same m (pos (r % m)) (pos r) (apart-swap m (pos r) (pos (r % m)) (alike_pos m (pos r) h))
+
+pub class-remainder : (m : ℕ) (x : ℤ) → class m (remainder m x) ≡ class m x
+class-remainder m x = class-same m (remainder m x) x (apart-swap m x (remainder m x) (alike m x))
+
+pub class-proper : (m r : ℕ) → IsModulusState (Modulus m r) → modulus_state (class m (pos r)) ≡ Modulus m r
+class-proper m r p =
+    let c : IsClass (m, pos r) = modulus_fits (Modulus m r) p in
+    ap modulus_state (class-fact m (pos r) c.not_one ∙ ap (λ x. fact (m, x)) c.reduced) ∙ modulus_back (Modulus m r) p
+
+-- two values are alike by their distance
+pub class_meet-values : (v w : ℤ) → class_meet (0, v) (0, w) ≡ class (apart v w) v
+class_meet-values v w =
+    ap (λ g. class g v) (same_divisors (gcd3 0 0 (apart v w)) (apart v w)
+    (λ d h. (to3 d 0 0 (apart v w) h).third)
+    (λ d h. from3 d 0 0 (apart v w) (record { first = dvd-zero d; second = dvd-zero d; third = h })))
+
+-- of a value, what is left of it by the modulus is enough
+pub class_meet-value : (m : ℕ) (r w : ℤ) → class_meet (m, r) (0, w) ≡ class (gcd m (apart r (remainder m w))) r
+class_meet-value m r w =
+    let s = remainder m w in
+    ap (λ g. class g r) (same_divisors (gcd3 m 0 (apart r w)) (gcd m (apart r s))
+    (λ d h. let k = to3 d m 0 (apart r w) h in gcd-both m (apart r s) d k.first (apart_trans d r w s k.third (dvd_trans d k.first (alike m w))))
+    (λ d h.
+    let first = dvd_trans d h (gcd-left m (apart r s)) in
+    let near = dvd_trans d h (gcd-right m (apart r s)) in
+    from3 d m 0 (apart r w) (record { first = first; second = dvd-zero d; third = apart_trans d r s w near (apart-swap d w s (dvd_trans d first (alike m w))) })))
+
+-- what lies in the class leaves it as it is
+pub join-value_within : (m r : ℕ) (w : ℤ) → IsModulusState (Modulus m r) → remainder m w ≡ pos r → modulus_join (Modulus m r) (One w) ≡ Modulus m r
+join-value_within m r w p e =
+    ap modulus_state (meet-within (m, pos r) (0, w) (modulus_fits (Modulus m r) p) (dvd-zero m) (subst (λ x. m ∣ apart x w) e (apart-swap m w (remainder m w) (alike m w))))
+    ∙ modulus_back (Modulus m r) p
+
+pub join-class_within : (m r n s : ℕ) → IsModulusState (Modulus m r) → n % m ≡ 0 → s % m ≡ r → modulus_join (Modulus m r) (Modulus n s) ≡ Modulus m r
+join-class_within m r n s p near within =
+    let some : 0 < m = omega (arith, p.0) in
+    ap modulus_state (meet-within (m, pos r) (n, pos s) (modulus_fits (Modulus m r) p)
+    (dvd_of_mod-eq-zero m near)
+    (subst (λ x. m ∣ apart (pos x) (pos s)) within (apart-swap m (pos s) (pos (s % m)) (alike_pos m (pos s) some))))
+    ∙ modulus_back (Modulus m r) p
+
+pub gcd_some : (m d : ℕ) → 0 < m → 0 < gcd m d
+gcd_some m d h =
+    elim (cases_eq (gcd m d) 0) as (λ _. 0 < gcd m d) [ inl e ↦ let z = (gcd-zero m d e).0 in absurd (omega arith) | inr ne ↦ omega arith ]

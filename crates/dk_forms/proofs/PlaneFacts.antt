@@ -1,5 +1,5 @@
 -- The join of spans and planes is the least of them that has the points of both, so it keeps the laws.
-use Rattle.std.specs.Prelude.{[], ◌≡◌, ℕ, ◌+◌, ◌*◌, ℤ, pos, ◌+ℤ◌, ◌-ℤ◌, ◌*ℤ◌, neg_ℤ, ◌≤◌, ◌^◌, ◌⊎◌, unsigned_abs, int_div, true, false, nat_le, ◌&&◌, if◌then◌else◌, List, ◌∷◌, fold, refl}
+use Rattle.std.specs.Prelude.{[], ◌≡◌, ℕ, ◌*◌, ℤ, pos, ◌+ℤ◌, ◌-ℤ◌, ◌*ℤ◌, neg_ℤ, ◌≤◌, ◌^◌, ◌⊎◌, unsigned_abs, int_div, true, false, nat_le, ◌&&◌, if◌then◌else◌, List, ◌∷◌, fold, refl}
 use Rattle.std.specs.Bool.{Decides}
 use Rattle.std.specs.Ordering.{int_eq}
 use Rattle.std.proofs.Common.{sym, ap, ◌∙◌, subst, arith, inl, inr}

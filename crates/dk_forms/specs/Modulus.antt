@@ -1,5 +1,5 @@
 -- The form modulus: the remainder that the values share by the greatest common divisor of their differences.
-use Rattle.std.specs.Prelude.{[], ℕ, ◌-◌, ◌<◌, ◌≤◌, ◌==◌, ℤ, pos, ◌-ℤ◌, unsigned_abs, List, ◌∷◌, map, if◌then◌else◌}
+use Rattle.std.specs.Prelude.{[], ℕ, ◌<◌, ◌≤◌, ◌==◌, ℤ, pos, ◌-ℤ◌, unsigned_abs, List, ◌∷◌, map, if◌then◌else◌}
 use Rattle.std.specs.Int.{int_rem_euclid}
 use Rattle.dk_forms.specs.Known.{Known, both, broken, fact, nothing}
 use Rattle.dk_arith.specs.Gcd.{gcd}

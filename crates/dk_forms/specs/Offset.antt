@@ -1,5 +1,5 @@
 -- The form offset: the number by which each element of the second sequence is greater than its partner in the first.
-use Rattle.std.specs.Prelude.{ℕ, ◌==◌, ℤ, ◌-ℤ◌, Bool, false, if◌then◌else◌, List, [], ◌∷◌, length, map, zip, Option, Some, None}
+use Rattle.std.specs.Prelude.{◌==◌, ℤ, ◌-ℤ◌, Bool, false, if◌then◌else◌, List, [], ◌∷◌, length, map, zip, Option, Some, None}
 use Rattle.std.specs.Ordering.{int_eq}
 use Rattle.std.specs.List.{list_all}
 use Rattle.dk_forms.specs.Known.{Known, nothing, broken, fact, both}

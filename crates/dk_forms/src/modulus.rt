@@ -1,64 +1,66 @@
 // The form modulus: the remainder that the values share by the greatest common divisor of their differences.
-ghost use Rattle.std.specs.Prelude.{◌≡◌, [], ◌∷◌, ◌≤◌, ◌<◌, ◌^◌, ◌≤ℤ◌, ◌<ℤ◌, pos, negsuc, neg_ℤ};
-ghost use Rattle.dk_arith.specs.Gcd.{gcd};
-ghost use Rattle.dk_forms.specs.Modulus.{IsModulusState, apart, class, class_meet, gcd3, modulus_join, modulus_of, modulus_state};
+ghost use Rattle.std.specs.Prelude.{◌≡◌, [], ◌∷◌, ◌<◌, pos, IsTrue};
+ghost use Rattle.dk_forms.specs.Modulus.{IsModulusState, class, modulus_join, modulus_of, modulus_state, remainder};
 
 use crate::State;
 use dk_arith::gcd_of;
 
-// The class of x by a modulus, as a state.
-fn class_state(modulus: u64, x: i128) -> State
-    requires small { modulus ≡ 0 → (neg_ℤ (pos (2 ^ 63)) ≤ℤ x) × (x <ℤ pos (2 ^ 63)) }
-    ensures { result ≡ modulus_state (class modulus x) }
+// What is left of a value by a modulus.
+fn remainder_of(m: u64, x: i64) -> u64
+    requires { 0 < m }
+    ensures { pos result ≡ remainder m x }
 {
-    if modulus == 0 {
-        State::One(x as i64)
-    } else if modulus == 1 {
+    let size = x.unsigned_abs();
+    if x < 0 {
+        m - 1 - (size - 1) % m
+    } else {
+        size % m
+    }
+}
+
+// The class of r by a modulus, as a state.
+fn class_state(m: u64, r: u64) -> State
+    requires { 0 < m }
+    ensures { result ≡ modulus_state (class m (pos r)) }
+{
+    if m == 1 {
         State::Broken
     } else {
-        State::Modulus {
-            m: modulus,
-            r: x.rem_euclid(modulus as i128) as u64,
-        }
+        State::Modulus { m, r: r % m }
     }
 }
 
-// A distance, less multiples of a modulus.
-fn reduced(distance: u128, modulus: u64) -> u64
-    requires near { modulus ≡ 0 → distance < 2 ^ 64 }
-    ensures { gcd modulus result ≡ gcd modulus distance }
+fn join_values(v: i64, w: i64) -> State
+    ensures { result ≡ modulus_join (State.One v) (State.One w) }
 {
-    if modulus == 0 {
-        distance as u64
+    let distance = v.abs_diff(w);
+    if distance == 0 {
+        State::One(v)
     } else {
-        (distance % modulus as u128) as u64
+        class_state(distance, remainder_of(distance, v))
     }
 }
 
-// The greatest modulus by which two classes are alike.
-fn common(m: u64, r: i128, n: u64, s: i128) -> u64
-    requires low_r { neg_ℤ (pos (2 ^ 63)) ≤ℤ r }
-    requires high_r { r <ℤ pos (2 ^ 64) }
-    requires low_s { neg_ℤ (pos (2 ^ 63)) ≤ℤ s }
-    requires high_s { s <ℤ pos (2 ^ 64) }
-    requires near { m ≡ 0 → n ≡ 0 → apart r s < 2 ^ 64 }
-    ensures { result ≡ gcd3 m n (apart r s) }
+fn join_value(m: u64, r: u64, w: i64) -> State
+    requires { IsModulusState (State.Modulus m r) }
+    ensures { result ≡ modulus_join (State.Modulus m r) (State.One w) }
 {
-    let both = gcd_of(m, n);
-    gcd_of(both, reduced((r - s).unsigned_abs(), both))
+    let s = remainder_of(m, w);
+    class_state(gcd_of(m, r.abs_diff(s)), r)
 }
 
-// What two classes have in common, as a state.
-fn join_classes(m: u64, r: i128, n: u64, s: i128) -> State
-    requires low_r { neg_ℤ (pos (2 ^ 63)) ≤ℤ r }
-    requires high_r { r <ℤ pos (2 ^ 64) }
-    requires low_s { neg_ℤ (pos (2 ^ 63)) ≤ℤ s }
-    requires high_s { s <ℤ pos (2 ^ 64) }
-    requires one_r { m ≡ 0 → r <ℤ pos (2 ^ 63) }
-    requires one_s { n ≡ 0 → s <ℤ pos (2 ^ 63) }
-    ensures { result ≡ modulus_state (class_meet (m, r) (n, s)) }
+fn join_to_value(v: i64, m: u64, r: u64) -> State
+    requires { IsModulusState (State.Modulus m r) }
+    ensures { result ≡ modulus_join (State.One v) (State.Modulus m r) }
 {
-    class_state(common(m, r, n, s), r)
+    join_value(m, r, v)
+}
+
+fn join_classes(m: u64, r: u64, n: u64, s: u64) -> State
+    requires { IsModulusState (State.Modulus m r) }
+    ensures { result ≡ modulus_join (State.Modulus m r) (State.Modulus n s) }
+{
+    class_state(gcd_of(gcd_of(m, n), r.abs_diff(s)), r)
 }
 
 /// The state of one value.
@@ -83,26 +85,72 @@ fn joined_modulus(left: State, right: &State) -> State
         },
         State::One(v) => match right {
             State::Empty => State::One(v),
-            State::One(w) => join_classes(0, v as i128, 0, *w as i128),
-            State::Modulus { m, r } => join_classes(0, v as i128, *m, *r as i128),
+            State::One(w) => join_values(v, *w),
+            State::Modulus { m, r } => join_to_value(v, *m, *r),
             _ => State::Broken,
         },
         State::Modulus { m, r } => match right {
             State::Empty => State::Modulus { m, r },
-            State::One(w) => join_classes(m, r as i128, 0, *w as i128),
-            State::Modulus { m: n, r: s } => join_classes(m, r as i128, *n, *s as i128),
+            State::One(w) => join_value(m, r, *w),
+            State::Modulus { m: n, r: s } => join_classes(m, r, *n, *s),
             _ => State::Broken,
         },
         _ => State::Broken,
     }
 }
 
-/// The state of two lists together.
+// Whether a value is the one value.
+fn is_same(v: i64, w: i64) -> bool
+    ensures { IsTrue result → modulus_join (State.One v) (State.One w) ≡ State.One v }
+{
+    v == w
+}
+
+// Whether a value lies in a class.
+fn has_value(m: u64, r: u64, w: i64) -> bool
+    requires { IsModulusState (State.Modulus m r) }
+    ensures { IsTrue result → modulus_join (State.Modulus m r) (State.One w) ≡ State.Modulus m r }
+{
+    remainder_of(m, w) == r
+}
+
+// Whether the second class lies in the first.
+fn has_class(m: u64, r: u64, n: u64, s: u64) -> bool
+    requires { IsModulusState (State.Modulus m r) }
+    ensures { IsTrue result → modulus_join (State.Modulus m r) (State.Modulus n s) ≡ State.Modulus m r }
+{
+    if n % m == 0 { s % m == r } else { false }
+}
+
+// Whether the right state is seen to say no more than the left.
+fn adds_nothing(left: &State, right: &State) -> bool
+    requires { IsModulusState left.now }
+    ensures { IsTrue result → modulus_join left.now right.now ≡ left.now }
+{
+    match left {
+        State::One(v) => match right {
+            State::One(w) => is_same(*v, *w),
+            _ => false,
+        },
+        State::Modulus { m, r } => match right {
+            State::One(w) => has_value(*m, *r, *w),
+            State::Modulus { m: n, r: s } => has_class(*m, *r, *n, *s),
+            _ => false,
+        },
+        _ => false,
+    }
+}
+
+/// The state of two lists together. A left state to which the right one adds nothing stays, and no divisor is sought.
 pub fn join_modulus(left: State, right: &State) -> State
     requires left { IsModulusState left }
     requires right { IsModulusState right.now }
     ensures value { result ≡ modulus_join left right.now }
     ensures formed { IsModulusState result }
 {
-    joined_modulus(left, right)
+    if adds_nothing(&left, right) {
+        left
+    } else {
+        joined_modulus(left, right)
+    }
 }

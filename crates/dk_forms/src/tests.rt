@@ -8,11 +8,53 @@ fn check(rt: &impl Abort, found: &State, expected: &State) {
 }
 
 #[test]
-fn joins_moduli(rt: HostRuntime) {
+fn joins_values(rt: HostRuntime) {
+    let alloc = rt.alloc();
+    let ends = ints_point(alloc, &[3, 1]);
+    let more = ints_point(alloc, &[2, 3]);
+    let wide = join_modulus(modulus_point(i64::MIN), &modulus_point(i64::MAX));
     let seven = join_modulus(modulus_point(3), &modulus_point(7));
-    check(&rt, &seven, &State::Modulus { m: 4, r: 3 });
-    let nineteen = join_modulus(seven, &modulus_point(19));
-    check(&rt, &nineteen, &State::Modulus { m: 4, r: 3 });
+    let cases = [
+        (
+            join_least(least_point(&[3]), &least_point(&[5, -2])),
+            State::Least(-2),
+        ),
+        (
+            join_greatest(greatest_point(&[3, -7]), &greatest_point(&[-2])),
+            State::Greatest(3),
+        ),
+        (
+            join_ints(alloc, ends, &more),
+            State::Ints(Few::of(alloc, &[1, 2, 3])),
+        ),
+        (
+            join_truth(truth_point(&[true]), &truth_point(&[false])),
+            State::Broken,
+        ),
+        (
+            join_code(code_point(&[7]), &code_point(&[7, 7])),
+            State::Code(7),
+        ),
+        (
+            join_plain(plain_point(true), &plain_point(false)),
+            State::Broken,
+        ),
+        (
+            join_offset(State::Offset { k: 2 }, &State::Offset { k: 2 }),
+            State::Offset { k: 2 },
+        ),
+        (
+            join_modulus(seven, &modulus_point(19)),
+            State::Modulus { m: 4, r: 3 },
+        ),
+        (
+            join_modulus(wide, &modulus_point(i64::MAX - 3)),
+            State::Modulus { m: 3, r: 1 },
+        ),
+    ];
+    for (found, expected) in &cases {
+        check(&rt, found, expected);
+    }
 }
 
 #[test]

@@ -1,4 +1,4 @@
-use Rattle.std.proofs.Common.{rules, ◌≡◌, ◌<◌, ◌≤◌, ◌+◌, length, drop, get_or, pos, arith, sym, ap, ◌∙◌, SFits, w64}
+use Rattle.std.proofs.Common.{rules, ◌<◌, ◌+◌, length, drop, get_or, pos, arith, sym, ap, ◌∙◌, SFits, w64}
 use Rattle.std.proofs.lemmas.Int.{to_z-of_z}
 use Rattle.std.specs.Ordering.{int_cmp}
 use Rattle.std.specs.FinMap.{int_cmp-IsAntisymmetric}

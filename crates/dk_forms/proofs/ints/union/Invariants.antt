@@ -1,4 +1,4 @@
-use Rattle.std.proofs.Common.{◌≡◌, ◌≤◌, take, drop, length}
+use Rattle.std.proofs.Common.{◌≡◌, ◌≤◌, drop, length}
 use Rattle.std.specs.Ordering.{int_cmp}
 use Rattle.dk_forms.specs.Distinct.{put_all}
 use Rattle.dk_forms.proofs.ints.union.Given as goal

@@ -1,14 +1,8 @@
-use Rattle.std.proofs.Common.{◌≡◌, arith, sym, ◌∙◌}
-use Rattle.std.proofs.lemmas.Int.{ints}
-use Rattle.dk_arith.specs.Gcd.{gcd}
-use Rattle.dk_arith.proofs.GcdLaws.{gcd-zero}
+use Rattle.std.proofs.Common.{◌<◌, arith}
+use Rattle.dk_forms.proofs.ModulusLaws.{gcd_some}
 use Rattle.dk_forms.proofs.modulus.join_classes.Goals as goal
 
 pub class_state-requires : goal.class_state-requires
-class_state-requires c = record {
-  small = λ e.
-      let z = gcd-zero (gcd c.args.m c.args.n) _ (sym c.common.ensures ∙ e) in
-      let m0 = (gcd-zero c.args.m c.args.n z.0).0 in
-      let high = c.requires.one_r m0 in
-      (omega (arith, ints), omega (arith, ints, high));
-}
+class_state-requires c =
+    let both : 0 < c.gcd_of.result = omega (arith, c.gcd_of.ensures, gcd_some c.args.m c.args.n (omega arith)) in
+    omega (arith, c.gcd_of-2.ensures, gcd_some c.gcd_of.result c.abs_diff.result both)

@@ -1,4 +1,4 @@
-use Rattle.std.proofs.Common.{◌≡◌, sym, ap, ◌∙◌}
+use Rattle.std.proofs.Common.{ap, ◌∙◌}
 use Rattle.std.specs.Prelude.{[], ◌∷◌}
 use Rattle.dk_forms.specs.Points.{triple}
 use Rattle.dk_forms.specs.Plane.{plane_from, plane_between, lesser, greater, plane_state}

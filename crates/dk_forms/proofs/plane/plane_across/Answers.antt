@@ -1,5 +1,5 @@
-use Rattle.std.proofs.Common.{rules, ◌≡◌, arith, sym, ap, ◌∙◌, subst, ◌≤◌, ◌^◌, SFits}
-use Rattle.std.specs.Prelude.{ℤ, unsigned_abs, neg_ℤ, pos, ◌-ℤ◌, ◌+ℤ◌, ◌*ℤ◌}
+use Rattle.std.proofs.Common.{rules, ◌≡◌, arith, ap, ◌∙◌, SFits}
+use Rattle.std.specs.Prelude.{ℤ, neg_ℤ, pos, ◌-ℤ◌, ◌+ℤ◌, ◌*ℤ◌}
 use Rattle.std.specs.Int.{w64, w128}
 use Rattle.std.proofs.lemmas.Int.{ints, to_z-of_z}
 use Rattle.dk_arith.proofs.Registers.{fits128, kept, kept_is, space_kept}

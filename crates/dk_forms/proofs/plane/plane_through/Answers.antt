@@ -1,5 +1,5 @@
-use Rattle.std.proofs.Common.{rules, ◌≡◌, arith, sym, ap, ◌∙◌, subst, ◌≤◌, ◌^◌, SFits}
-use Rattle.std.specs.Int.{w64, w128}
+use Rattle.std.proofs.Common.{rules, sym, ap, ◌∙◌, subst, SFits}
+use Rattle.std.specs.Int.{w128}
 use Rattle.std.proofs.lemmas.Int.{to_z-of_z}
 use Rattle.dk_arith.specs.Vectors.{minus, cross}
 use Rattle.dk_arith.proofs.Parallels.{IsZero}

@@ -1,4 +1,4 @@
-use Rattle.std.proofs.Common.{rules, ◌≡◌, sym, ap, ◌∙◌, true, to_z, of_z, ℤ}
+use Rattle.std.proofs.Common.{rules, ◌≡◌, sym, ap, ◌∙◌, true, ℤ}
 use Rattle.std.specs.Int.{w64}
 use Rattle.std.proofs.lemmas.Int.{to_z-of_z}
 use Rattle.dk_forms.specs.Known.{fact}

@@ -1,6 +1,5 @@
-use Rattle.std.proofs.Common.{◌≡◌, length, get_or, [], arith, sym, ap, ◌∙◌}
+use Rattle.std.proofs.Common.{◌≡◌, length, [], arith, sym, ap, ◌∙◌}
 use Rattle.std.proofs.Math.Seq.{drop-length}
-use Rattle.std.specs.declared.cmp.Ordering.TheVariants.{Less, Equal, Greater}
 use Rattle.std.specs.Ordering.{nat_cmp}
 use Rattle.std.specs.Cmp.Lexicographic.{slice_cmp, nat_list_cmp_total}
 use Rattle.std.specs.FinMap.{nat_cmp-IsAntisymmetric, slice_cmp-IsAntisymmetric}

@@ -1,4 +1,4 @@
-use Rattle.std.proofs.Common.{rules, sym, ap, ◌∙◌, ◌≡◌, ◌<◌, ◌≤◌, [], length, get_or, map, List, ℕ, arith}
+use Rattle.std.proofs.Common.{rules, sym, ap, ◌≡◌, ◌<◌, ◌≤◌, [], length, get_or, map, List, ℕ, arith}
 use Rattle.std.specs.Borrow.{Bor}
 use Rattle.std.specs.Ordering.{nat_cmp}
 use Rattle.std.specs.Cmp.Lexicographic.{nat_list_cmp_total, slice_cmp}
