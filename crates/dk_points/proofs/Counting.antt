@@ -7,10 +7,10 @@ use Rattle.dk_base.specs.Shapes.{Shape, by_index, is_int, is_orig, is_sequence, 
 use Rattle.dk_base.specs.declared.kinds.VarInfo.{VarInfo}
 use Rattle.dk_points.specs.Counts.{number_of_ints, number_of_sequences}
 
-abbrev ints_in : Bool → List (ℕ × Shape) → ℕ
+abbrev pub ints_in : Bool → List (ℕ × Shape) → ℕ
 ints_in orig es = length (filter (λ i. is_int i.1.kind && beq (is_orig i.1.form) orig) es)
 
-abbrev sequences_in : Bool → List (ℕ × Shape) → ℕ
+abbrev pub sequences_in : Bool → List (ℕ × Shape) → ℕ
 sequences_in orig es = length (filter (λ s. is_sequence s.1.kind && beq (is_orig s.1.form) orig) es)
 
 -- an element and four slices by each index
@@ -27,10 +27,10 @@ by_indices s (i ∷ es) = length-append (by_index s i) (flat_map (by_index s) es
     go false e h = rw e (omega (arith, h))
 
 -- what each sequence gives
-abbrev given : List (ℕ × Shape) → ℕ × Shape → ℕ
+abbrev pub given : List (ℕ × Shape) → ℕ × Shape → ℕ
 given es s = if is_sequence s.1.kind then 3 + 5 * ints_in (is_orig s.1.form) es else 0
 
-of_one : (es : List (ℕ × Shape)) (s : ℕ × Shape) → length (of_sequence es s) ≡ given es s
+pub of_one : (es : List (ℕ × Shape)) (s : ℕ × Shape) → length (of_sequence es s) ≡ given es s
 of_one es s = go (is_sequence s.1.kind) refl
   where
     go : (b : Bool) → is_sequence s.1.kind ≡ b → length (of_sequence es s) ≡ (if b then 3 + 5 * ints_in (is_orig s.1.form) es else 0)
@@ -72,7 +72,7 @@ derived_in es (s ∷ xs) = length-append (of_sequence es s) (flat_map (of_sequen
         more_true : 3 + 5 * n1 + of_all es xs ≡ (3 * p0 + 5 * (p0 * n0)) + (3 * suc p1 + 5 * (suc p1 * n1))
         more_true = omega arith
 
-sequences_of : (orig : Bool) (n : ℕ) (vs : List VarInfo) → sequences_in orig (enumerate_from n (map shape_of vs)) ≡ number_of_sequences orig vs
+pub sequences_of : (orig : Bool) (n : ℕ) (vs : List VarInfo) → sequences_in orig (enumerate_from n (map shape_of vs)) ≡ number_of_sequences orig vs
 sequences_of orig n [] = refl
 sequences_of orig n (v ∷ vs) = go (is_sequence v.kind && beq (is_orig v.form) orig) (sequences_of orig (n + 1) vs)
   where
@@ -82,7 +82,7 @@ sequences_of orig n (v ∷ vs) = go (is_sequence v.kind && beq (is_orig v.form) 
     go true h = ap suc h
     go false h = h
 
-ints_of : (orig : Bool) (n : ℕ) (vs : List VarInfo) → ints_in orig (enumerate_from n (map shape_of vs)) ≡ number_of_ints orig vs
+pub ints_of : (orig : Bool) (n : ℕ) (vs : List VarInfo) → ints_in orig (enumerate_from n (map shape_of vs)) ≡ number_of_ints orig vs
 ints_of orig n [] = refl
 ints_of orig n (v ∷ vs) = go (is_int v.kind && beq (is_orig v.form) orig) (ints_of orig (n + 1) vs)
   where

@@ -85,7 +85,7 @@ compar-decides a b = (to, λ e. subst (λ x. same_compar a x ≡ true) e (rw ((D
         let index : a.index ≡ b.index = (Decides-int_eq a.index b.index).0 both.1 in
         λ i. record { elem = elem i; index = index i }
 
-kind-same : (a b : Kind) → same_kind a b ≡ true → a ≡ b
+pub kind-same : (a b : Kind) → same_kind a b ≡ true → a ≡ b
 kind-same kind.Bool kind.Bool h = refl
 kind-same kind.Int kind.Int h = refl
 kind-same kind.Hash kind.Hash h = refl

@@ -21,8 +21,11 @@ mod variables;
 
 pub use declared::Declared;
 pub use dk_graph::Edge;
+pub use limits::{is_int, is_sequence};
+pub use partners::{is_orig, plain_name};
 pub use points::Points;
 pub use roles::{Role, role_of};
+pub use variables::orig_name;
 
 #[cfg(test)]
 mod tests;

@@ -6,7 +6,8 @@ ghost use Rattle.dk_points.specs.Counts.{number_of_ints, number_of_sequences};
 use crate::partners::is_orig;
 use dk_base::{Kind, VarInfo};
 
-fn is_sequence(kind: Kind) -> bool
+/// Whether values of the kind are sequences.
+pub fn is_sequence(kind: Kind) -> bool
     ensures { result ≡ is_sequence kind }
 {
     match kind {
@@ -18,7 +19,8 @@ fn is_sequence(kind: Kind) -> bool
     }
 }
 
-fn is_int(kind: Kind) -> bool
+/// Whether it is the kind of whole numbers.
+pub fn is_int(kind: Kind) -> bool
     ensures { result ≡ is_int kind }
 {
     match kind {

@@ -10,7 +10,8 @@ use crate::variables::same_kind;
 use dk_base::{Form, VarInfo};
 use dk_decl::{PointDecl, VarDecl};
 
-pub(crate) fn is_orig(form: Form) -> bool
+/// Whether it is the form of what a declared variable had at the entry.
+pub fn is_orig(form: Form) -> bool
     ensures { result ≡ is_orig form }
 {
     match form {
@@ -20,7 +21,7 @@ pub(crate) fn is_orig(form: Form) -> bool
 }
 
 /// The name N of the variable N or orig(N).
-pub(crate) fn plain_name(var: &VarInfo) -> &[u8]
+pub fn plain_name(var: &VarInfo) -> &[u8]
     ensures { result.now ≡ plain_name var.now }
 {
     let name = var.name.as_slice();

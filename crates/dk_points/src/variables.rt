@@ -60,7 +60,8 @@ fn by_name(alloc: Global, vars: &[VarInfo]) -> Result<Typed, NoMemory>
     Ok(found)
 }
 
-fn orig_name(alloc: Global, name: &[u8]) -> Result<Text, NoMemory>
+/// The name orig(N) for the name N.
+pub fn orig_name(alloc: Global, name: &[u8]) -> Result<Text, NoMemory>
     ensures { IfOk result (λ text. text ≡ orig_name name.now) }
 {
     let mut text = Text::from_slice(alloc, b"orig(")?;

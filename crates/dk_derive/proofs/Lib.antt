@@ -1,0 +1,9 @@
+pub mod Texts
+pub mod Parts
+pub mod Written
+pub mod Typed
+pub mod Deriving
+pub mod Numbers
+pub mod Ranges
+pub mod Examples
+pub mod Alike
