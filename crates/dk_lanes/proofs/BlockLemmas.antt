@@ -98,15 +98,16 @@ pub any_found : (p : ℤ → Bool) (s : List ℤ) (m : ℕ) (blocks : List (List
     → (list_any (list_any p) blocks || list_any p rest) ≡ list_any p s
 any_found p s m blocks rest front back = ap₂ (λ bs r. list_any (list_any p) bs || list_any p r) front back ∙ any_blocks p 8 m s
 
-pub partners_found : (p : ℤ × ℤ → Bool) (s t : List ℤ) (blocks others : List (List ℤ)) (rest other : List ℤ) → length s ≡ length t
-    → blocks ≡ first_chunks 8 (length s / 8) s → rest ≡ drop (length s / 8 * 8) s → others ≡ first_chunks 8 (length t / 8) t → other ≡ drop (length t / 8 * 8) t
-    → (list_all (λ (b : List ℤ × List ℤ). list_all p (zip b.0 b.1)) (zip blocks others) && list_all p (zip rest other)) ≡ list_all p (zip s t)
-partners_found p s t blocks others rest other long front back front₂ back₂ =
-    let seen = λ (bs os : List (List ℤ)). list_all (λ (b : List ℤ × List ℤ). list_all p (zip b.0 b.1)) (zip bs os) in
+-- blocks of n, as `as_chunks` gives them, of two lists of one length
+pub partners_found : {X Y : Type 0} (p : X × Y → Bool) (n : ℕ) (s : List X) (t : List Y) (blocks : List (List X)) (others : List (List Y)) (rest : List X) (other : List Y) → length s ≡ length t
+    → blocks ≡ first_chunks n (length s / n) s → rest ≡ drop (length s / n * n) s → others ≡ first_chunks n (length t / n) t → other ≡ drop (length t / n * n) t
+    → (list_all (λ (b : List X × List Y). list_all p (zip b.0 b.1)) (zip blocks others) && list_all p (zip rest other)) ≡ list_all p (zip s t)
+partners_found {X} {Y} p n s t blocks others rest other long front back front₂ back₂ =
+    let seen = λ (bs : List (List X)) (os : List (List Y)). list_all (λ (b : List X × List Y). list_all p (zip b.0 b.1)) (zip bs os) in
     ap₂ (λ bs r. seen bs others && list_all p (zip r other)) front back
-    ∙ ap₂ (λ os o. seen (first_chunks 8 (length s / 8) s) os && list_all p (zip (drop (length s / 8 * 8) s) o))
-    (front₂ ∙ ap (λ n. first_chunks 8 (n / 8) t) (sym long)) (back₂ ∙ ap (λ n. drop (n / 8 * 8) t) (sym long))
-    ∙ all_zip_blocks p 8 (length s / 8) s t
+    ∙ ap₂ (λ os o. seen (first_chunks n (length s / n) s) os && list_all p (zip (drop (length s / n * n) s) o))
+    (front₂ ∙ ap (λ m. first_chunks n (m / n) t) (sym long)) (back₂ ∙ ap (λ m. drop (m / n * n) t) (sym long))
+    ∙ all_zip_blocks p n (length s / n) s t
 
 -- `zip` stops where the second list ends
 pub zip_short : {X Y : Type 0} (xs : List X) (ys : List Y) → zip (take (length ys) xs) ys ≡ zip xs ys

@@ -1,15 +1,16 @@
 -- Exact differences of numbers of 64 bits, from differences that wrap round and the side on which one of the two is below the other.
-use Rattle.std.proofs.Common.{◌≡◌, ℤ, pos, negsuc, ◌-ℤ◌, ◌<ℤ◌, ◌≤ℤ◌, ◌≤◌, Bool, true, false, cond, ◌&&◌, ◌-◌, ◌%◌, ◌^◌, ◌<◌, List, [], ◌∷◌, length, get_or, zip, refl, sym, ap, ap₂, ◌∙◌, arith, All, SFits, w64, of_z}
+use Rattle.std.proofs.Common.{◌≡◌, ℕ, nat_eq, ℤ, pos, negsuc, ◌-ℤ◌, ◌<ℤ◌, ◌≤ℤ◌, ◌≤◌, Bool, true, false, cond, ◌&&◌, ◌-◌, ◌%◌, ◌^◌, ◌<◌, List, [], ◌∷◌, length, get_or, take, drop, zip, refl, sym, ap, ap₂, ◌∙◌, arith, All, SFits, w64, to_z, of_z}
 use Rattle.std.proofs.lemmas.Int.{ints, of_z-to_z, wrapping_sub_is}
 use Rattle.std.proofs.lemmas.Bool.{ltb-true, eq-eqb}
+use Rattle.std.proofs.lemmas.List.{take_all}
 use Rattle.std.proofs.lemmas.List.Folds.{list_all-map}
 use Rattle.std.proofs.lemmas.Float.{T_from_true}
 use Rattle.std.specs.Bool.{Decides}
-use Rattle.std.proofs.lemmas.Bool.Decides.{same_from_decides, Decides-int_eq, Decides-and, Decides-like}
+use Rattle.std.proofs.lemmas.Bool.Decides.{same_from_decides, Decides-eqb, Decides-int_eq, Decides-and, Decides-like}
 use Rattle.std.specs.Int.{int_wrap, int_wrapping_sub}
 use Rattle.std.specs.List.{list_all}
 use Rattle.std.specs.Ordering.{int_eq}
-use Rattle.std.specs.Prelude.{unsigned_abs, int_lt, int_le}
+use Rattle.std.specs.Prelude.{int_lt, int_le}
 use lib.Signed.{lt_z, le_z, lt_z_yes}
 use mir.Val.{bits}
 use Rattle.dk_lanes.specs.Shift.{are_above_by, wrap_to, shift_of, differences, common_difference}
@@ -71,7 +72,7 @@ Decides-int_le : (a b : ℤ) → Decides (int_le a b) (a ≤ℤ b)
 Decides-int_le a b = (λ e. grind (arith, ints), λ h. grind (arith, ints))
 
 -- ---- two numbers, and two others with the first below or not
-below_exact : (x y : ℤ) → SFits w64 x → SFits w64 y → y <ℤ x → (a b : ℤ) → SFits w64 a → SFits w64 b
+pub below_exact : (x y : ℤ) → SFits w64 x → SFits w64 y → y <ℤ x → (a b : ℤ) → SFits w64 a → SFits w64 b
     → (int_eq (int_wrapping_sub w64 b a) (int_wrapping_sub w64 y x) && int_lt b a) ≡ int_eq (y -ℤ x) (b -ℤ a)
 below_exact x y f g low a b h i =
     let wraps = int_eq (int_wrapping_sub w64 b a) (int_wrapping_sub w64 y x) in
@@ -82,7 +83,7 @@ below_exact x y f g low a b h i =
     (Decides-and wraps (int_lt b a) (Decides-int_eq (int_wrapping_sub w64 b a) (int_wrapping_sub w64 y x)) (Decides-int_lt b a)))
     (Decides-int_eq (y -ℤ x) (b -ℤ a))
 
-above_exact : (x y : ℤ) → SFits w64 x → SFits w64 y → x ≤ℤ y → (a b : ℤ) → SFits w64 a → SFits w64 b
+pub above_exact : (x y : ℤ) → SFits w64 x → SFits w64 y → x ≤ℤ y → (a b : ℤ) → SFits w64 a → SFits w64 b
     → (int_eq (int_wrapping_sub w64 b a) (int_wrapping_sub w64 y x) && int_le a b) ≡ int_eq (y -ℤ x) (b -ℤ a)
 above_exact x y f g high a b h i =
     let wraps = int_eq (int_wrapping_sub w64 b a) (int_wrapping_sub w64 y x) in
@@ -92,6 +93,16 @@ above_exact x y f g high a b h i =
     (λ e. (back_same x y a b f g h i e, omega (arith, ints)))
     (Decides-and wraps (int_le a b) (Decides-int_eq (int_wrapping_sub w64 b a) (int_wrapping_sub w64 y x)) (Decides-int_le a b)))
     (Decides-int_eq (y -ℤ x) (b -ℤ a))
+
+-- differences that wrap round to two numbers are not equal
+pub apart : (x y : ℤ) → SFits w64 x → SFits w64 y → (a b : ℤ) → SFits w64 a → SFits w64 b → (m n : ℕ) → m < 2 ^ 64 → n < 2 ^ 64
+    → int_wrapping_sub w64 b a ≡ to_z w64 m → int_wrapping_sub w64 y x ≡ to_z w64 n → ¬ (m ≡ n) → nat_eq m n ≡ int_eq (y -ℤ x) (b -ℤ a)
+apart x y f g a b h i m n below below₂ left right differ =
+    same_from_decides (nat_eq m n) (int_eq (y -ℤ x) (b -ℤ a)) (Decides-eqb m n)
+    (Decides-like (int_eq (y -ℤ x) (b -ℤ a))
+    (λ (e : (y -ℤ x) ≡ (b -ℤ a)). sym (of_z-to_z w64 m below) ∙ ap (of_z w64) (sym left ∙ back_same x y a b f g h i e ∙ right) ∙ of_z-to_z w64 n below₂)
+    (λ e. absurd (differ e))
+    (Decides-int_eq (y -ℤ x) (b -ℤ a)))
 
 -- two tests of each pair that come to a third
 both_tests : (p q r : ℤ → ℤ → Bool) → ((a b : ℤ) → SFits w64 a → SFits w64 b → (p a b && q a b) ≡ r a b) → (s t : List ℤ) → IsInRange s → IsInRange t
@@ -124,15 +135,18 @@ shift_is (x ∷ s) (y ∷ t) long some =
     ap (λ b. cond b (common_difference (differences (x ∷ s) (y ∷ t))) Unequal) (eq-eqb (length (x ∷ s)) (length (y ∷ t)) long)
     ∙ ap (λ b. cond b (Const d) Unequal) (list_all-map (int_eq d) (λ (p : ℤ × ℤ). p.1 -ℤ p.0) (zip s t) ∙ ap (λ b. b && are_above_by d s t) (sym itself))
 
+-- the first number of t is above its partner by the difference of the two
+pub without_first : (s t : List ℤ) → length s ≡ length t → 1 ≤ length s
+    → (let d = get_or t 0 (pos 0) -ℤ get_or s 0 (pos 0) in are_above_by d (take (length s - 1) (drop 1 s)) (take (length t - 1) (drop 1 t)) ≡ are_above_by d s t)
+without_first [] t long some = absurd (omega arith)
+without_first (x ∷ s) [] long some = absurd (omega arith)
+without_first (x ∷ s) (y ∷ t) long some =
+    let d = y -ℤ x in
+    let itself : int_eq d d ≡ true = (Decides-int_eq d d).1 refl in
+    ap₂ (are_above_by d) (take_all (length (x ∷ s) - 1) s (omega arith)) (take_all (length (y ∷ t) - 1) t (omega arith)) ∙ ap (λ b. b && are_above_by d s t) (sym itself)
+
 pub below_yes : (x y : ℤ) → lt_z y x ≡ true → y <ℤ x
 below_yes x y e = lt_z_yes (T_from_true (lt_z y x) e)
 
 pub below_no : (x y : ℤ) → lt_z y x ≡ false → x ≤ℤ y
 below_no x y e = grind (arith, ints)
-
-small : (d : ℤ) → negsuc (2 ^ 64 - 1) <ℤ d → d <ℤ pos (2 ^ 64) → unsigned_abs d < 2 ^ 64
-small (pos m) low high = omega (arith, ints)
-small (negsuc m) low high = omega (arith, ints)
-
-pub difference_bounded : (x y : ℤ) → SFits w64 x → SFits w64 y → unsigned_abs (y -ℤ x) < 2 ^ 64
-difference_bounded x y f g = small (y -ℤ x) (omega (arith, ints)) (not_too_high x y f g)

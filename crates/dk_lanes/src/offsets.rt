@@ -26,15 +26,20 @@ fn difference(x: i64, y: i64) -> i128
     y as i128 - x as i128
 }
 
+// Whether b is above a by as much as y is above x. Two differences that wrap round to one number are equal exactly where both are
+// below 0, or none.
 #[inline(always)]
-fn is_difference(d: i128, x: i64, y: i64) -> bool
-    ensures { result ≡ int_eq d (y -ℤ x) }
+fn is_above_alike(x: i64, y: i64, a: i64, b: i64) -> bool
+    ensures { result ≡ int_eq (y -ℤ x) (b -ℤ a) }
 {
-    d == difference(x, y)
+    if y < x {
+        b.wrapping_sub(a) == y.wrapping_sub(x) && b < a
+    } else {
+        b.wrapping_sub(a) == y.wrapping_sub(x) && a <= b
+    }
 }
 
-// Whether each number of the right block is above its partner by as much as y is above x. Two differences that wrap round to
-// one number are equal exactly where both are below 0, or none.
+// Whether each number of the right block is above its partner by as much as y is above x.
 #[inline(always)]
 fn block_is_above(x: i64, y: i64, left: &[i64; BLOCK], right: &[i64; BLOCK]) -> bool
     ensures { result ≡ are_above_by (y -ℤ x) left.now right.now }
@@ -57,12 +62,12 @@ fn blocks_are_above(x: i64, y: i64, blocks: &[[i64; BLOCK]], others: &[[i64; BLO
 }
 
 #[inline(always)]
-fn rest_is_above(d: i128, rest: &[i64], other: &[i64]) -> bool
-    ensures { result ≡ are_above_by d rest.now other.now }
+fn rest_is_above(x: i64, y: i64, rest: &[i64], other: &[i64]) -> bool
+    ensures { result ≡ are_above_by (y -ℤ x) rest.now other.now }
 {
     rest.iter()
         .zip(other)
-        .all(|(x, y)| is_difference(d, *x, *y))
+        .all(|(a, b)| is_above_alike(x, y, *a, *b))
 }
 
 // Whether each number of t is above its partner in s by as much as y is above x.
@@ -71,12 +76,20 @@ fn is_above(x: i64, y: i64, s: &[i64], t: &[i64]) -> bool
     requires { length s.now ≡ length t.now }
     ensures { result ≡ are_above_by (y -ℤ x) s.now t.now }
 {
-    if s.len() < BLOCK {
-        return rest_is_above(difference(x, y), s, t);
-    }
     let (blocks, rest) = s.as_chunks::<BLOCK>();
     let (others, other) = t.as_chunks::<BLOCK>();
-    blocks_are_above(x, y, blocks, others) && rest_is_above(difference(x, y), rest, other)
+    blocks_are_above(x, y, blocks, others) && rest_is_above(x, y, rest, other)
+}
+
+#[inline(always)]
+fn shift_where(is_above: bool, x: i64, y: i64) -> Shift
+    ensures { result ≡ (if is_above then Shift.Const (y -ℤ x) else Shift.Unequal) }
+{
+    if is_above {
+        Shift::Const(difference(x, y))
+    } else {
+        Shift::Unequal
+    }
 }
 
 /// By how much each element of `t` is above the element of `s` at its place, if it is the same at all places.
@@ -88,11 +101,11 @@ pub fn offset(s: &[i64], t: &[i64]) -> Shift
         return Shift::Unequal;
     }
     match (s, t) {
-        ([x, ..], [y, ..]) => {
-            if is_above(*x, *y, s, t) {
-                Shift::Const(difference(*x, *y))
+        ([x, rest @ ..], [y, other @ ..]) => {
+            if s.len() < BLOCK {
+                shift_where(rest_is_above(*x, *y, rest, other), *x, *y)
             } else {
-                Shift::Unequal
+                shift_where(is_above(*x, *y, s, t), *x, *y)
             }
         }
         _ => Shift::Empty,

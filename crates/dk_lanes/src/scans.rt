@@ -27,6 +27,9 @@ fn rest_holds<R: Relation>(rest: &[i64], k: i64) -> bool
 fn all_hold<R: Relation>(s: &[i64], k: i64) -> bool
     ensures { result ≡ list_all (λ x. R.related x k) s.now }
 {
+    if s.len() < BLOCK {
+        return rest_holds::<R>(s, k);
+    }
     let (blocks, rest) = s.as_chunks::<BLOCK>();
     blocks_hold::<R>(blocks, k) && rest_holds::<R>(rest, k)
 }
@@ -44,14 +47,42 @@ pub fn all(rel: Rel, s: &[i64], k: i64) -> bool
     }
 }
 
+// Two blocks with one branch.
+#[inline(always)]
+fn two_hold<R: Relation>(left: &[[i64; BLOCK]; 2], right: &[[i64; BLOCK]; 2]) -> bool
+    ensures { result ≡ list_all (λ b. list_all (λ p. R.related p.0 p.1) (zip b.0 b.1)) (zip left.now right.now) }
+{
+    let [a, b] = left;
+    let [c, d] = right;
+    R::block_holds(a, c) & R::block_holds(b, d)
+}
+
+#[inline(always)]
+fn twos_hold<R: Relation>(twos: &[[[i64; BLOCK]; 2]], others: &[[[i64; BLOCK]; 2]]) -> bool
+    ensures { result ≡ list_all (λ w. list_all (λ b. list_all (λ p. R.related p.0 p.1) (zip b.0 b.1)) (zip w.0 w.1)) (zip twos.now others.now) }
+{
+    twos.iter()
+        .zip(others)
+        .all(|(left, right)| two_hold::<R>(left, right))
+}
+
+#[inline(always)]
+fn last_holds<R: Relation>(last: &[[i64; BLOCK]], other: &[[i64; BLOCK]]) -> bool
+    ensures { result ≡ list_all (λ b. list_all (λ p. R.related p.0 p.1) (zip b.0 b.1)) (zip last.now other.now) }
+{
+    last.iter()
+        .zip(other)
+        .all(|(left, right)| R::block_holds(left, right))
+}
+
 #[inline(always)]
 fn partner_blocks_hold<R: Relation>(blocks: &[[i64; BLOCK]], others: &[[i64; BLOCK]]) -> bool
+    requires { length blocks.now ≡ length others.now }
     ensures { result ≡ list_all (λ b. list_all (λ p. R.related p.0 p.1) (zip b.0 b.1)) (zip blocks.now others.now) }
 {
-    blocks
-        .iter()
-        .zip(others)
-        .all(|(left, right)| R::block_holds(left, right))
+    let (twos, last) = blocks.as_chunks::<2>();
+    let (other_twos, other_last) = others.as_chunks::<2>();
+    twos_hold::<R>(twos, other_twos) && last_holds::<R>(last, other_last)
 }
 
 #[inline(always)]
@@ -67,6 +98,9 @@ fn partners_hold<R: Relation>(s: &[i64], t: &[i64]) -> bool
     requires { length s.now ≡ length t.now }
     ensures { result ≡ list_all (λ p. R.related p.0 p.1) (zip s.now t.now) }
 {
+    if s.len() < BLOCK {
+        return partner_rest_holds::<R>(s, t);
+    }
     let (blocks, rest) = s.as_chunks::<BLOCK>();
     let (others, other) = t.as_chunks::<BLOCK>();
     partner_blocks_hold::<R>(blocks, others) && partner_rest_holds::<R>(rest, other)
@@ -122,6 +156,9 @@ fn rest_has(rest: &[i64], k: i64) -> bool
 pub fn member(s: &[i64], k: i64) -> bool
     ensures { result ≡ is_member s.now k }
 {
+    if s.len() < BLOCK {
+        return rest_has(s, k);
+    }
     let (blocks, rest) = s.as_chunks::<BLOCK>();
     blocks_have(blocks, k) || rest_has(rest, k)
 }

@@ -4,4 +4,4 @@ use Rattle.std.proofs.lemmas.List.Sums.{fold_more}
 use Rattle.dk_lanes.proofs.extremes.widened.Goals as goal
 
 pub loop-x-preserved : goal.loop-x-preserved
-loop-x-preserved c = record { low = grind (arith, to_z-of_z, fold_more); high = grind (arith, to_z-of_z, fold_more) }
+loop-x-preserved c = record { least = grind (arith, to_z-of_z, fold_more); greatest = grind (arith, to_z-of_z, fold_more) }

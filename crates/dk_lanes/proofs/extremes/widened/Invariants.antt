@@ -4,6 +4,6 @@ use Rattle.dk_lanes.proofs.extremes.widened.Given as goal
 
 abbrev pub invariant-loop-x : goal.invariant-loop-x
 invariant-loop-x l = record {
-  low : l.low ≡ fold int_min l.fn.least (take l.x-index l.rest);
-  high : l.high ≡ fold int_max l.fn.greatest (take l.x-index l.rest);
+  least : l.least ≡ fold int_min l.fn.first (take l.x-index l.rest);
+  greatest : l.greatest ≡ fold int_max l.fn.first (take l.x-index l.rest);
 }

@@ -1,5 +1,4 @@
 use Rattle.std.proofs.Common.{ℤ, ◌-ℤ◌, sym, ◌∙◌, w64}
-use Rattle.std.specs.Int.{w128}
 use Rattle.std.proofs.lemmas.Int.{to_z-of_z}
 use Rattle.std.specs.Ordering.{int_eq}
 use Rattle.dk_lanes.proofs.BlockLemmas.{left_decides, seen_decides, partners_found}
@@ -10,11 +9,10 @@ returns-then-blocks_are_above c =
     let front = c.as_chunks.ensures in
     let other = c.as_chunks-2.ensures in
     let seen = rw (to_z-of_z w64 c.args.y c.ranges.y, to_z-of_z w64 c.args.x c.ranges.x) at c.blocks_are_above.ensures in
-    let d = rw (to_z-of_z w64 c.args.y c.ranges.y, to_z-of_z w64 c.args.x c.ranges.x) at c.difference-then-blocks_are_above.ensures in
-    let left = rw (to_z-of_z w128 c.difference-then-blocks_are_above.result (record { sfits = c.difference-then-blocks_are_above.type_inv }), d) at c.rest_is_above-then-blocks_are_above.ensures in
+    let left = rw (to_z-of_z w64 c.args.y c.ranges.y, to_z-of_z w64 c.args.x c.ranges.x) at c.rest_is_above.ensures in
     left
     ∙ left_decides _ (sym seen ∙ c.if-blocks_are_above.true)
-    (partners_found (λ (q : ℤ × ℤ). int_eq (c.args.y -ℤ c.args.x) (q.1 -ℤ q.0)) c.args.s.now c.args.t.now _ _ _ _ c.requires front.front front.back other.front other.back)
+    (partners_found (λ (q : ℤ × ℤ). int_eq (c.args.y -ℤ c.args.x) (q.1 -ℤ q.0)) 8 c.args.s.now c.args.t.now _ _ _ _ c.requires front.front front.back other.front other.back)
 
 pub returns-else-blocks_are_above : goal.returns-else-blocks_are_above
 returns-else-blocks_are_above c =
@@ -23,4 +21,4 @@ returns-else-blocks_are_above c =
     let seen = rw (to_z-of_z w64 c.args.y c.ranges.y, to_z-of_z w64 c.args.x c.ranges.x) at c.blocks_are_above.ensures in
     seen
     ∙ seen_decides _ (sym seen ∙ c.if-blocks_are_above.false)
-    (partners_found (λ (q : ℤ × ℤ). int_eq (c.args.y -ℤ c.args.x) (q.1 -ℤ q.0)) c.args.s.now c.args.t.now _ _ _ _ c.requires front.front front.back other.front other.back)
+    (partners_found (λ (q : ℤ × ℤ). int_eq (c.args.y -ℤ c.args.x) (q.1 -ℤ q.0)) 8 c.args.s.now c.args.t.now _ _ _ _ c.requires front.front front.back other.front other.back)

@@ -12,5 +12,5 @@ returns-then-blocks_have c =
 pub returns-else-blocks_have : goal.returns-else-blocks_have
 returns-else-blocks_have c =
     let seen = rw (to_z-of_z w64 c.args.k c.ranges.k) at c.blocks_have.ensures in
-    let left = rw (to_z-of_z w64 c.args.k c.ranges.k) at c.rest_has.ensures in
+    let left = rw (to_z-of_z w64 c.args.k c.ranges.k) at c.rest_has-else-blocks_have.ensures in
     left ∙ left_finds _ (sym seen ∙ c.if-blocks_have.false) (any_found (λ x. int_eq x c.args.k) c.args.s.now (length c.args.s.now / 8) _ _ c.as_chunks.ensures.front c.as_chunks.ensures.back)

@@ -1,0 +1,245 @@
+// Points of rows, and joins of their states.
+ghost use Rattle.std.specs.Prelude.{◌≡◌, ◌≤◌, All, IfOk, replicate};
+ghost use Rattle.dk_bench.specs.Tuples.{IsOfInts};
+ghost use Rattle.dk_base.specs.declared.kinds.Kind.TheVariants as kind;
+ghost use Rattle.dk_template.specs.Proper.{IsProper};
+
+use crate::timing::nanos_each;
+use dk_base::{NoMemory, View};
+use dk_binary::{Compare, Linear};
+use dk_template::laws::state_of_list;
+use dk_template::{Row, State, fits, point_of};
+use dk_ternary::{LinearTernary, Operation};
+use dk_unary::{Bound, Modulus, OneOf};
+use std::alloc::{AllocError, Global};
+use std::io;
+use std::time::Clock;
+
+// How many tuples there are, and how often each is taken in a round.
+const TUPLES: u8 = 64;
+
+const TURNS: u32 = 1024;
+
+// Three numbers, of which a row takes the first one, two or three.
+type Tuple = [View<'static>; 3];
+
+fn views(numbers: [i64; 3]) -> Tuple
+    ensures { IsOfInts result }
+{
+    let [a, b, c] = numbers;
+    [View::Int(a), View::Int(b), View::Int(c)]
+}
+
+// What the closure makes of 0, 1, 2 and so on.
+fn tuples_of<F: Fn(u8) -> [i64; 3] + Drop>(
+    alloc: Global,
+    numbers: F,
+) -> Result<Vec<Tuple>, AllocError>
+    requires { F.IsAlwaysCallable numbers }
+    ensures { IfOk result (λ tuples. All IsOfInts tuples.items) }
+{
+    let mut tuples = Vec::new(alloc);
+    for i in 0..TUPLES {
+        tuples.push(views(numbers(i)))?;
+    }
+    Ok(tuples)
+}
+
+// The points of all tuples, so often.
+#[inline(never)]
+fn points<R: Row>(row: &R, alloc: Global, tuples: &[Tuple], arity: usize) -> Result<u64, NoMemory>
+    requires arity { arity ≤ 3 }
+    requires kinds { R.kinds row.now ≡ replicate arity kind.Int }
+    requires tuples { All IsOfInts tuples.now }
+{
+    let mut found = 0u64;
+    for _ in 0..TURNS {
+        for tuple in tuples {
+            let point = row.point(alloc, &tuple[..arity])?;
+            found = found.wrapping_add(fits(&point) as u64);
+        }
+    }
+    Ok(found)
+}
+
+// The same, each joined with a state.
+#[inline(never)]
+fn joins<R: Row>(
+    row: &R,
+    alloc: Global,
+    tuples: &[Tuple],
+    arity: usize,
+    state: &State,
+) -> Result<u64, NoMemory>
+    requires arity { arity ≤ 3 }
+    requires kinds { R.kinds row.now ≡ replicate arity kind.Int }
+    requires tuples { All IsOfInts tuples.now }
+    requires proper { IsProper (R.form row.now) state.now }
+{
+    let mut found = 0u64;
+    for _ in 0..TURNS {
+        for tuple in tuples {
+            let point = point_of(row, alloc, &tuple[..arity])?;
+            let both = row.join(alloc, point, state)?;
+            found = found.wrapping_add(fits(&both) as u64);
+        }
+    }
+    Ok(found)
+}
+
+// The state of the first n tuples.
+fn state_of_first<R: Row>(
+    row: &R,
+    alloc: Global,
+    tuples: &[Tuple],
+    arity: usize,
+    n: usize,
+) -> Result<State, NoMemory>
+    requires arity { arity ≤ 3 }
+    requires kinds { R.kinds row.now ≡ replicate arity kind.Int }
+    requires tuples { All IsOfInts tuples.now }
+    requires few { n ≤ 3 }
+    ensures { IfOk result (λ state. IsProper (R.form row.now) state) }
+{
+    match tuples {
+        [a, b, c, ..] => {
+            let all = [&a[..arity], &b[..arity], &c[..arity]];
+            state_of_list(row, alloc, &all[..n])
+        }
+        _ => Ok(row.empty()),
+    }
+}
+
+// The nanoseconds for each tuple, of its point, and of its point and a join.
+fn point_nanos<R: Row>(
+    rt: &(impl Clock + AllocGlobal),
+    row: &R,
+    tuples: &[Tuple],
+    arity: usize,
+) -> io::Result<f64>
+    requires arity { arity ≤ 3 }
+    requires kinds { R.kinds row.now ≡ replicate arity kind.Int }
+    requires tuples { All IsOfInts tuples.now }
+{
+    let alloc = rt.alloc();
+    let calls = f64::from(TUPLES) * f64::from(TURNS);
+    nanos_each(rt, || points(row, alloc, tuples, arity).unwrap_or(0), calls)
+}
+
+fn join_nanos<R: Row>(
+    rt: &(impl Clock + AllocGlobal),
+    row: &R,
+    tuples: &[Tuple],
+    arity: usize,
+    state: &State,
+) -> io::Result<f64>
+    requires arity { arity ≤ 3 }
+    requires kinds { R.kinds row.now ≡ replicate arity kind.Int }
+    requires tuples { All IsOfInts tuples.now }
+    requires proper { IsProper (R.form row.now) state.now }
+{
+    let alloc = rt.alloc();
+    let calls = f64::from(TUPLES) * f64::from(TURNS);
+    nanos_each(
+        rt,
+        || joins(row, alloc, tuples, arity, state).unwrap_or(0),
+        calls,
+    )
+}
+
+// One line of the table.
+fn print_line<R: Row + Drop, F: Fn(u8) -> [i64; 3] + Drop>(
+    rt: &(impl Print + Clock + AllocGlobal),
+    name: &str,
+    row: R,
+    arity: usize,
+    numbers: F,
+) -> io::Result<()>
+    requires arity { arity ≤ 3 }
+    requires kinds { R.kinds row ≡ replicate arity kind.Int }
+    requires numbers { F.IsAlwaysCallable numbers }
+{
+    let tuples = tuples_of(rt.alloc(), numbers)?;
+    let point = point_nanos(rt, &row, &tuples, arity)?;
+    print!(rt; "{name:<14} {point:>7.1}")?;
+    for n in 1..4 {
+        let Ok(state) = state_of_first(&row, rt.alloc(), &tuples, arity, n) else {
+            return Err(AllocError.into());
+        };
+        let both = join_nanos(rt, &row, &tuples, arity, &state)?;
+        print!(rt; " {:>7.1}", both - point)?;
+    }
+    println!(rt;)
+}
+
+#[tactic(auto, unfolding(dk_template::specs::Templates::rows))]
+fn print_unary(rt: &(impl Print + Clock + AllocGlobal)) -> io::Result<()> {
+    print_line(rt, "OneOfInt", OneOf::Int, 1, |i| [i as i64 % 3, 0, 0])?;
+    print_line(rt, "LowerBound", Bound::Lower, 1, |i| [i as i64, 0, 0])?;
+    print_line(rt, "Modulus", Modulus, 1, |i| [i as i64 * 4 + 3, 0, 0])
+}
+
+#[tactic(auto, unfolding(dk_template::specs::Templates::rows))]
+fn print_binary(rt: &(impl Print + Clock + AllocGlobal)) -> io::Result<()> {
+    print_line(rt, "Equal", Compare::Equal, 2, |i| [i as i64, i as i64, 0])?;
+    print_line(
+        rt,
+        "Square",
+        Compare::Square,
+        2,
+        |i| [i as i64 * i as i64, i as i64, 0],
+    )?;
+    print_line(
+        rt,
+        "Divides",
+        Compare::Multiple,
+        2,
+        |i| [i as i64 * 6, 6, 0],
+    )?;
+    print_line(rt, "Linear", Linear, 2, |i| [i as i64, i as i64 * 7 + 1, 0])
+}
+
+#[tactic(auto, unfolding(dk_template::specs::Templates::rows))]
+fn print_ternary(rt: &(impl Print + Clock + AllocGlobal)) -> io::Result<()> {
+    print_line(
+        rt,
+        "Sum",
+        Operation::Sum,
+        3,
+        |i| [i as i64 + 5, i as i64, 5],
+    )?;
+    print_line(
+        rt,
+        "Product",
+        Operation::Product,
+        3,
+        |i| [i as i64 * 5, i as i64, 5],
+    )?;
+    print_line(
+        rt,
+        "And",
+        Operation::And,
+        3,
+        |i| [i as i64 & 5, i as i64, 5],
+    )?;
+    print_line(
+        rt,
+        "Quotient",
+        Operation::Quotient,
+        3,
+        |i| [i as i64 / 5, i as i64, 5],
+    )?;
+    print_line(rt, "Gcd", Operation::Gcd, 3, |i| [6, 6 * i as i64, 6])?;
+    print_line(rt, "LinearTernary", LinearTernary, 3, |i| {
+        let x = i as i64;
+        [x, x * x, 2 * x + 3 * x * x + 1]
+    })
+}
+
+/// Prints the table.
+pub fn print_table(rt: &(impl Print + Clock + AllocGlobal)) -> io::Result<()> {
+    println!(rt; "row              point   joined with the state of one, two and three tuples")?;
+    print_unary(rt)?;
+    print_binary(rt)?;
+    print_ternary(rt)
+}
