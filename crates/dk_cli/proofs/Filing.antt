@@ -121,3 +121,23 @@ pub told_read : (h : History) (r mid last : Reading) (held : Held) (xs : List �
 told_read h r mid last held xs before rest after is starts holds none gives =
     let (front, (more, left, split, fine)) = told (λ m ys. IsBroken h m ys (left_of last after)) r mid held xs rest is starts holds gives in
     inr (front, (more, sym (front_nil after) ∙ ap (λ (a : List ℕ). prepend_known a after) (sym none) ∙ left, split, fine))
+
+-- in front of the first block
+pub not_begun : (h : History) (r : Reading) (s : Session) (o : Option (List ℕ)) → over_of s ≡ false → StandsFor s h → IfSome o (λ xs. GoesOn h r xs s r o)
+not_begun h r s None begun stands = tt
+not_begun h r s (Some xs) begun stands = (
+  h,
+  stands,
+  (
+    xs,
+    refl,
+    record {
+      front = [];
+      split = refl;
+      room = omega arith;
+      nothing = λ over. let both = sym begun ∙ over in absurd (cc (both));
+      same = ap (λ (b : Bool). after_all (effect_of h) (groups_left b r true xs)) (sym begun);
+      cut = λ d rest e fine. subst (λ (b : Bool). IsOk (after_all (effect_of h) (groups_left b r false d))) begun fine;
+    },
+  ),
+)

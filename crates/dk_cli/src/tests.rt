@@ -1,242 +1,100 @@
-// Runs over files in memory, by worked examples.
-ghost use Rattle.std.specs.Prelude.{◌<◌};
+// Runs over files in memory, by worked examples. Files past their limit have too many bytes for a run here: the tests of `dk_lines`
+// show them, with smaller limits.
+ghost use Rattle.std.specs.Prelude.{◌≡◌, ◌<◌};
+
+mod outside;
+mod sizes;
+mod stack_ar;
+mod worked;
 
 use crate::status::Status;
 use crate::top::run;
-use dk_base::{List, Text};
-use dk_io::{MemoryInputs, MemorySinks, Stream};
+use dk_base::{List, NoMemory, Text};
+use dk_io::{MemoryInputs, MemorySinks};
 use std::alloc::Global;
 use std::test::Fail;
 
-const POINT: &str =
-    "ppt P\nppt-type point\nvariable x\nrep-type int\nvariable y\nrep-type int\n\nP\nx\n1\n1\ny\n4\n1\n\nP\nx\n7\n1\ny\n2\n1\n";
+const RULE: &str = "===========================================================================\n";
 
-const REPORT: &str =
-    "===========================================================================\nP  [2]\nx >= 1  [2]\ny >= 2  [2]\nx <= 7  [2]\ny <= 4  [2]\n";
-
-// A run with the file `t`, and what it comes to.
-struct Case {
-    name: &'static str,
-    text: &'static str,
-    words: &'static [&'static str],
-    piece: usize,
-    failing_reads: &'static [u64],
-    failing_writes: &'static [u64],
-    status: Status,
-    report: &'static str,
-    messages: &'static str,
+/// What a run with the words `t` comes to.
+enum Outcome {
+    /// Done, with a report of these sections, each without its line of `=`.
+    Sections(&'static [&'static str]),
+    /// Refused, with the message `daikon: t:` and this.
+    Fault(&'static str),
 }
 
-const CASES: [Case; 12] = [
-    Case {
-        name: "bytes one by one",
-        text: POINT,
-        words: &["t"],
-        piece: 1,
-        failing_reads: &[],
-        failing_writes: &[],
-        status: Status::Done,
-        report: REPORT,
-        messages: "",
-    },
-    Case {
-        name: "all bytes at once",
-        text: POINT,
-        words: &["t"],
-        piece: 65536,
-        failing_reads: &[],
-        failing_writes: &[],
-        status: Status::Done,
-        report: REPORT,
-        messages: "",
-    },
-    Case {
-        name: "no bytes",
-        text: "",
-        words: &["t"],
-        piece: 7,
-        failing_reads: &[],
-        failing_writes: &[],
-        status: Status::Done,
-        report: "",
-        messages: "",
-    },
-    Case {
-        name: "a name with three colons",
-        text: "ppt A:::ENTER\nppt-type point\nvariable x\nrep-type int\n\n",
-        words: &["t"],
-        piece: 7,
-        failing_reads: &[],
-        failing_writes: &[],
-        status: Status::Refused,
-        report: "",
-        messages: "daikon: t:1: 3 BadPoint\n",
-    },
-    Case {
-        name: "a value that is no number",
-        text: "ppt P\nppt-type point\nvariable x\nrep-type int\n\nP\nx\nnonsensical\n2\n\n",
-        words: &["t"],
-        piece: 7,
-        failing_reads: &[],
-        failing_writes: &[],
-        status: Status::Refused,
-        report: "",
-        messages: "daikon: t:6: 7 UnknownPoint\n",
-    },
-    Case {
-        name: "no words",
-        text: POINT,
-        words: &[],
-        piece: 7,
-        failing_reads: &[],
-        failing_writes: &[],
-        status: Status::Usage,
-        report: "",
-        messages: "usage: daikon FILE\n",
-    },
-    Case {
-        name: "two words",
-        text: POINT,
-        words: &["t", "t"],
-        piece: 7,
-        failing_reads: &[],
-        failing_writes: &[],
-        status: Status::Usage,
-        report: "",
-        messages: "usage: daikon FILE\n",
-    },
-    Case {
-        name: "a name that is not there",
-        text: POINT,
-        words: &["u"],
-        piece: 7,
-        failing_reads: &[],
-        failing_writes: &[],
-        status: Status::Read,
-        report: "",
-        messages: "daikon: cannot read u\n",
-    },
-    Case {
-        name: "the first read fails",
-        text: POINT,
-        words: &["t"],
-        piece: 7,
-        failing_reads: &[2],
-        failing_writes: &[],
-        status: Status::Read,
-        report: "",
-        messages: "daikon: cannot read t\n",
-    },
-    Case {
-        name: "the report is not taken",
-        text: POINT,
-        words: &["t"],
-        piece: 7,
-        failing_reads: &[],
-        failing_writes: &[1],
-        status: Status::Write,
-        report: "",
-        messages: "",
-    },
-    Case {
-        name: "the message is not taken",
-        text: "ppt\n\n",
-        words: &["t"],
-        piece: 7,
-        failing_reads: &[],
-        failing_writes: &[1],
-        status: Status::Write,
-        report: "",
-        messages: "",
-    },
-    Case {
-        name: "the usage line is not taken",
-        text: POINT,
-        words: &[],
-        piece: 7,
-        failing_reads: &[],
-        failing_writes: &[1],
-        status: Status::Write,
-        report: "",
-        messages: "",
-    },
-];
+impl Outcome {
+    fn status(&self) -> Status {
+        match self {
+            Outcome::Sections(_) => Status::Done,
+            Outcome::Fault(_) => Status::Refused,
+        }
+    }
 
-// The status of a run with the file `t`, and its sinks.
+    fn report(&self, alloc: Global) -> Result<Text, NoMemory> {
+        let mut report = Text::new(alloc);
+        if let Outcome::Sections(sections) = self {
+            for section in *sections {
+                report.append(RULE.as_bytes())?;
+                report.append(section.as_bytes())?;
+            }
+        }
+        Ok(report)
+    }
+
+    fn messages(&self, alloc: Global) -> Result<Text, NoMemory> {
+        let mut messages = Text::new(alloc);
+        if let Outcome::Fault(fault) = self {
+            messages.append(b"daikon: t:")?;
+            messages.append(fault.as_bytes())?;
+            messages.push(b'\n')?;
+        }
+        Ok(messages)
+    }
+}
+
+/// The calls that are to fail, counted from 1, and how many bytes a call moves.
+#[derive(Drop)]
+struct Calls<'a> {
+    piece: usize,
+    failing_reads: &'a [u64],
+    failing_writes: &'a [u64],
+}
+
+/// Calls that do not fail.
+fn steady(piece: usize) -> Calls<'static>
+    ensures { result.piece ≡ piece }
+{
+    Calls {
+        piece,
+        failing_reads: &[],
+        failing_writes: &[],
+    }
+}
+
+/// The status of a run where the file `t` has these bytes, and its sinks.
 fn ran(
     alloc: Global,
-    text: &str,
+    bytes: &[u8],
     words: &[&str],
-    piece: usize,
-    failing_reads: &[u64],
-    failing_writes: &[u64],
+    calls: Calls<'_>,
 ) -> Result<(Status, MemorySinks), Fail>
-    requires { 0 < piece }
+    requires { 0 < calls.piece }
 {
     let mut files = List::new(alloc);
     files.push((
         Text::from_slice(alloc, b"t")?,
-        Text::from_slice(alloc, text.as_bytes())?,
+        Text::from_slice(alloc, bytes)?,
     ))?;
-    let mut inputs = MemoryInputs::new(files, List::from_slice(alloc, failing_reads)?, piece);
-    let mut sinks = MemorySinks::new(alloc, List::from_slice(alloc, failing_writes)?, 65536, 4096)?;
+    let failing_reads = List::from_slice(alloc, calls.failing_reads)?;
+    let failing_writes = List::from_slice(alloc, calls.failing_writes)?;
+    let mut inputs = MemoryInputs::new(files, failing_reads, calls.piece);
+    let mut sinks = MemorySinks::new(alloc, failing_writes, calls.piece, 4096)?;
     let mut names = Vec::new(alloc);
     for word in words {
         names.push(String::from_str(alloc, word)?)?;
     }
     let status = run(alloc, names.as_slice(), &mut inputs, &mut sinks);
     Ok((status, sinks))
-}
-
-#[test]
-fn gives_the_defined_output(rt: HostRuntime) -> Result<(), Fail> {
-    for case in &CASES {
-        let name = case.name;
-        assert!(rt; case.piece > 0);
-        let (status, sinks) = ran(
-            rt.alloc(),
-            case.text,
-            case.words,
-            case.piece,
-            case.failing_reads,
-            case.failing_writes,
-        )?;
-        assert_eq!(rt; status, case.status, "at {name}");
-        assert!(rt;
-            sinks.written(Stream::Report) == case.report.as_bytes(),
-            "the report at {name}"
-        );
-        assert!(rt;
-            sinks.written(Stream::Messages) == case.messages.as_bytes(),
-            "the messages at {name}"
-        );
-        assert!(rt;
-            sinks.written(Stream::State).is_empty(),
-            "the state at {name}"
-        );
-    }
-    Ok(())
-}
-
-// A file of 99 bytes is started, read in seven pieces of at most 16, and then is at its end: nine calls.
-#[test]
-fn tells_each_failing_call(rt: HostRuntime) -> Result<(), Fail> {
-    for call in 1..12u64 {
-        let (status, sinks) = ran(rt.alloc(), POINT, &["t"], 16, &[call], &[])?;
-        if call <= 9 {
-            assert_eq!(rt; status, Status::Read, "at call {call}");
-            assert!(rt;
-                sinks.written(Stream::Messages) == b"daikon: cannot read t\n".as_slice(),
-                "at call {call}"
-            );
-            assert!(rt; sinks.written(Stream::Report).is_empty(), "at call {call}");
-        } else {
-            assert_eq!(rt; status, Status::Done, "at call {call}");
-            assert!(rt;
-                sinks.written(Stream::Report) == REPORT.as_bytes(),
-                "at call {call}"
-            );
-        }
-    }
-    Ok(())
 }

@@ -1,196 +1,184 @@
--- What is kept from block to block, line after line and block after block.
-use Rattle.std.proofs.Common.{◌≡◌, ◌<◌, ◌≤◌, ◌+◌, ℕ, ℤ, zero, suc, true, false, cond, List, [], ◌∷◌, ◌++◌, length, take, map, get_or, slice_get, slice_set, is_some, Option, Some, None, Ok, Err, refl, sym, ◌∙◌, ap, arith}
-use Rattle.std.proofs.lemmas.List.{map-append, map-set, flat_map_more}
-use Rattle.std.proofs.lemmas.Option.{slice_get-map}
-use Rattle.std.specs.List.{flat_map}
-use Rattle.dk_core.specs.Sections.{section_of}
-use Rattle.std.specs.Option.{option_map, option_and_then}
-use Rattle.dk_base.specs.Reading.{Line}
-use Rattle.dk_base.specs.declared.why.Why.TheVariants.{BadPoint, UnknownPoint}
-use Rattle.dk_core.specs.Declarations.{Declaration, declaration_of}
-use Rattle.dk_core.specs.Records.{values_of}
-use Rattle.dk_core.specs.Blocked.{sampled_by, Declares, Samples}
-use Rattle.dk_core.specs.History.{History, Point, names, bytes_of, place_of, with_point, sampled, with_sample, with_sample_at, is_declaration, taken_or_refused, effect_of}
-use Rattle.dk_core.specs.Summaries.{Summarized, summary_of}
-use Rattle.dk_core.specs.Standing.{resampled, resumed_by, StateGoesOn}
-use Rattle.dk_core.specs.declared.declaration.DeclarationReader.{DeclarationReader}
-use Rattle.dk_core.specs.declared.record.RecordReader.{RecordReader}
-use Rattle.dk_core.specs.declared.block.State.TheVariants as state
+-- What is kept from block to block, block after block.
+use Rattle.std.proofs.Common.{◌≡◌, ◌∙◌, ◌<◌, ◌≤◌, ◌+◌, ◌-◌, ℕ, zero, suc, false, is_some, if◌then◌else◌, List, [], ◌∷◌, ◌++◌, length, take, map, get_or, slice_set, replicate, Option, Some, None, Result, Ok, Err, refl, sym, ap, subst, arith, length-append, append_assoc}
+use Rattle.std.proofs.lemmas.List.{flat_map_more, length-map, length-replicate, take_all}
+use Rattle.std.proofs.lemmas.List.FromFn.{length-enumerate_from}
+use Rattle.std.specs.Prelude.{slice_index_or}
+use Rattle.std.specs.List.{enumerate_from, flat_map}
+use Rattle.dk_base.specs.declared.kinds.VarInfo.{VarInfo}
+use Rattle.dk_base.specs.declared.values.Value.{Value}
+use Rattle.dk_bounds.specs.Sections.{section_of}
+use Rattle.dk_bounds.specs.Summaries.{Summarized, summary_of}
+use Rattle.dk_points.specs.Table.{Point, names}
+use Rattle.dk_points.specs.Vars.{entry_of, vars_of}
+use Rattle.dk_core.specs.Summaries.{new_summaries, summaries_of, summary_at}
+use Rattle.dk_core.proofs.Growing.{Extends, same_vars}
+use Rattle.dk_core.proofs.Fronting.{told_at, told_closes}
+use Rattle.dk_core.specs.History.{History, base_values, block, with_declaration, with_record, with_sample, with_table}
+use Rattle.dk_core.specs.Standing.{Closes}
+use Rattle.dk_base.specs.Reading.{LineFault, ◌>>=◌}
+use Rattle.dk_base.specs.declared.faults.BlockFault.{BlockFault}
+use Rattle.dk_decl.specs.Outcomes.{Told}
+use Rattle.dk_decl.specs.declared.decls.PointDecl.{PointDecl}
+use Rattle.dk_points.specs.Declaring.{at_line, declared}
+use Rattle.dk_points.specs.declared.declared.Declared.{Declared}
+use Rattle.dk_trace.specs.Records.{Sample}
+use Rattle.dk_calls.specs.Records.{call_of, entry_with, is_entry_at}
+use Rattle.dk_calls.specs.Waiting.{enters, exits, other}
+use Rattle.std.specs.Option.{option_map_or}
 
--- ---- the first line of a block
+-- ---- lists with their places
 
-declaring : (h : History) (l : Line) (ls : List Line) (close : ℕ) → is_declaration l.bytes ≡ true
-    → effect_of h (l ∷ ls) (Some close) ≡ taken_or_refused l.number BadPoint (option_and_then (with_point h) (declaration_of (l.bytes ∷ bytes_of ls)))
-unfolding effect_of
-declaring h l ls close is =
-    ap (λ b. taken_or_refused l.number (cond b BadPoint UnknownPoint) (cond b (option_and_then (with_point h) (declaration_of (l.bytes ∷ bytes_of ls))) (with_sample h l.bytes (bytes_of ls)))) is
+abbrev Placed : Type 0 → Type 0
+Placed X = ℕ × X
 
-pub begins_declaration : (h : History) (l : Line) (reader : DeclarationReader) → is_declaration l.bytes ≡ true → Declares (λ ls. declaration_of (l.bytes ∷ ls)) (Some reader)
-    → StateGoesOn h (state.Declaration l.number reader) (λ ls close. effect_of h (l ∷ ls) close)
-unfolding effect_of
-begins_declaration h l reader is declares ls None = refl
-begins_declaration h l reader is declares ls (Some close) =
-    declaring h l ls close is ∙ ap (λ (d : Option Declaration). taken_or_refused l.number BadPoint (option_and_then (with_point h) d)) (declares (bytes_of ls))
+map-enumerate-set : {X Y : Type 0} (f : Placed X → Y) (n i m : ℕ) (xs : List X) (x : X) → m ≡ n + i → map f (enumerate_from n (slice_set xs i x)) ≡ slice_set (map f (enumerate_from n xs)) i (f (m, x))
+map-enumerate-set f n i m [] x at = refl
+map-enumerate-set f n zero m (y ∷ ys) x at = let same : n ≡ m = omega arith in ap (λ k. f (k, x) ∷ map f (enumerate_from (n + 1) ys)) same
+map-enumerate-set f n (suc i) m (y ∷ ys) x at = ap (λ l. f (n, y) ∷ l) (map-enumerate-set f (n + 1) i m ys x (omega arith))
 
-pub begins_no_declaration : (h : History) (l : Line) → is_declaration l.bytes ≡ true → Declares (λ ls. declaration_of (l.bytes ∷ ls)) None
-    → StateGoesOn h (state.Refused l.number BadPoint) (λ ls close. effect_of h (l ∷ ls) close)
-unfolding effect_of
-begins_no_declaration h l is declares ls None = refl
-begins_no_declaration h l is declares ls (Some close) =
-    declaring h l ls close is ∙ ap (λ (d : Option Declaration). taken_or_refused l.number BadPoint (option_and_then (with_point h) d)) (declares (bytes_of ls))
+get_or-map-enumerate : {X Y : Type 0} (f : Placed X → Y) (n i m : ℕ) (xs : List X) (d : Y) (e : X) → i < length xs → m ≡ n + i → get_or (map f (enumerate_from n xs)) i d ≡ f (m, get_or xs i e)
+get_or-map-enumerate f n i m [] d e there at = absurd (omega arith)
+get_or-map-enumerate f n zero m (x ∷ xs) d e there at = let same : n ≡ m = omega arith in ap (λ k. f (k, x)) same
+get_or-map-enumerate f n (suc i) m (x ∷ xs) d e there at = get_or-map-enumerate f (n + 1) i m xs d e (omega arith) (omega arith)
 
-sampling : (h : History) (l : Line) (ls : List Line) (close : ℕ) → is_declaration l.bytes ≡ false
-    → effect_of h (l ∷ ls) (Some close) ≡ taken_or_refused l.number UnknownPoint (with_sample h l.bytes (bytes_of ls))
-unfolding effect_of
-sampling h l ls close is =
-    ap (λ b. taken_or_refused l.number (cond b BadPoint UnknownPoint) (cond b (option_and_then (with_point h) (declaration_of (l.bytes ∷ bytes_of ls))) (with_sample h l.bytes (bytes_of ls)))) is
+get_or-enumerate : {X : Type 0} (n i m : ℕ) (xs : List X) (d : Placed X) (e : X) → i < length xs → m ≡ n + i → get_or (enumerate_from n xs) i d ≡ (m, get_or xs i e)
+get_or-enumerate n i m [] d e there at = absurd (omega arith)
+get_or-enumerate n zero m (x ∷ xs) d e there at = let same : n ≡ m = omega arith in ap (λ k. (k, x)) same
+get_or-enumerate n (suc i) m (x ∷ xs) d e there at = get_or-enumerate (n + 1) i m xs d e (omega arith) (omega arith)
 
-pub begins_record : (h : History) (l : Line) (place : ℕ) (reader : RecordReader) → is_declaration l.bytes ≡ false → place_of (names h) l.bytes ≡ Some place
-    → ((vars ls : List (List ℕ)) → values_of vars ls ≡ sampled_by vars reader ls) → StateGoesOn h (state.Record l.number place reader) (λ ls close. effect_of h (l ∷ ls) close)
-unfolding effect_of
-begins_record h l place reader is at begins ls None = refl
-begins_record h l place reader is at begins ls (Some close) =
-    sampling h l ls close is
-    ∙ ap (λ (o : Option ℕ). taken_or_refused l.number UnknownPoint (option_and_then (with_sample_at h (bytes_of ls)) o)) at
-    ∙ ap (λ (o : Option History). taken_or_refused l.number UnknownPoint o) (same (slice_get h place)) where
-      same : (o : Option Point) → option_and_then (λ p. option_map (λ values. slice_set h place (sampled p values)) (values_of p.vars (bytes_of ls))) o
-          ≡ option_and_then (λ p. option_map (λ values. slice_set h place (sampled p values)) (sampled_by p.vars reader (bytes_of ls))) o
-      same None = refl
-      same (Some p) = ap (λ (r : Option (List ℤ)). option_map (λ values. slice_set h place (sampled p values)) r) (begins p.vars (bytes_of ls))
+map-enumerate-append : {X Y : Type 0} (f g : Placed X → Y) (n m : ℕ) (xs ys : List X) → m ≡ n + length xs → ((p : ℕ) (x : X) → p < m → g (p, x) ≡ f (p, x))
+    → map g (enumerate_from n (xs ++ ys)) ≡ map f (enumerate_from n xs) ++ map g (enumerate_from m ys)
+map-enumerate-append f g n m [] ys at same = let is : n ≡ m = omega arith in ap (λ k. map g (enumerate_from k ys)) is
+map-enumerate-append f g n m (x ∷ xs) ys at same =
+    ap (λ y. y ∷ map g (enumerate_from (n + 1) (xs ++ ys))) (same n x (omega arith))
+    ∙ ap (λ l. f (n, x) ∷ l) (map-enumerate-append f g (n + 1) m xs ys (omega arith) same)
 
-pub begins_nothing : (h : History) (l : Line) → is_declaration l.bytes ≡ false → place_of (names h) l.bytes ≡ None
-    → StateGoesOn h (state.Refused l.number UnknownPoint) (λ ls close. effect_of h (l ∷ ls) close)
-unfolding effect_of
-begins_nothing h l is none ls None = refl
-begins_nothing h l is none ls (Some close) =
-    sampling h l ls close is
-    ∙ ap (λ (o : Option ℕ). taken_or_refused l.number UnknownPoint (option_and_then (with_sample_at h (bytes_of ls)) o)) none
+-- ---- summaries
 
--- ---- points by their places
+-- a point has other samples
+pub set_summary : (ps : List Point) (samples : List (List (List Value))) (summaries : List Summarized) (p : ℕ) (own : List (List Value)) (s : Summarized)
+    → summaries ≡ summaries_of ps samples → s ≡ summary_at ps (p, own) → slice_set summaries p s ≡ summaries_of ps (slice_set samples p own)
+set_summary ps samples summaries p own s are is =
+    ap (λ l. slice_set l p s) are
+    ∙ ap (λ t. slice_set (summaries_of ps samples) p t) is
+    ∙ sym (map-enumerate-set (summary_at ps) 0 p p samples own (omega arith))
 
-found_by : (h : History) (place : ℕ) (s d : Summarized) → place < length (map summary_of h) → s ≡ get_or (map summary_of h) place d → (p : Point) × (slice_get h place ≡ Some p) × (s ≡ summary_of p)
-found_by [] place s d h e = absurd (omega arith)
-found_by (p ∷ ps) zero s d h e = (p, refl, e)
-found_by (p ∷ ps) (suc k) s d h e = found_by ps k s d (omega arith) e
+-- the summary at a place is that of the point's samples
+pub summary_found : (ps : List Point) (samples : List (List (List Value))) (summaries : List Summarized) (p : ℕ) (s : Summarized) → summaries ≡ summaries_of ps samples
+    → p < length samples → s ≡ get_or summaries p s → s ≡ summary_at ps (p, get_or samples p [])
+summary_found ps samples summaries p s are there at =
+    at ∙ ap (λ l. get_or l p s) are ∙ get_or-map-enumerate (summary_at ps) 0 p p samples s [] there (omega arith)
 
--- the point whose summary stands at a place
-pub found : (h : History) (points : List Summarized) (place : ℕ) (s : Summarized) → points ≡ map summary_of h → place < length points → s ≡ get_or points place s
-    → (p : Point) × (slice_get h place ≡ Some p) × (s ≡ summary_of p)
-found h points place s all there at =
-    found_by h place s s (omega (arith, ap length all)) (at ∙ ap (λ (l : List Summarized). get_or l place s) all)
+-- new points have no samples
+pub more_summaries : (ps ps' : List Point) (samples : List (List (List Value))) (summaries all : List Summarized) → Extends ps ps' → length samples ≡ length ps
+    → summaries ≡ summaries_of ps samples → all ≡ summaries ++ new_summaries ps' (length summaries)
+    → all ≡ summaries_of ps' (samples ++ replicate (length ps' - length ps) [])
+more_summaries ps ps' samples summaries all extends many are is =
+    let long : length summaries ≡ length samples =
+    ap length are ∙ length-map (enumerate_from 0 samples) (summary_at ps) ∙ length-enumerate_from 0 samples in
+    is
+    ∙ ap (λ n. summaries ++ new_summaries ps' n) long
+    ∙ ap (λ l. l ++ new_summaries ps' (length samples)) are
+    ∙ ap (λ n. summaries_of ps samples ++ map (summary_at ps') (enumerate_from (length samples) (replicate (length ps' - n) []))) many
+    ∙ sym (map-enumerate-append (summary_at ps) (summary_at ps') 0 (length samples) samples (replicate (length ps' - length ps) []) (omega arith)
+    (λ p own there. ap (λ vs. summary_of (length vs) own) (same_vars ps ps' p extends (omega arith))))
 
-missing_by : (h : History) (place : ℕ) → length (map summary_of h) ≤ place → slice_get h place ≡ None
-missing_by [] place h = refl
-missing_by (p ∷ ps) zero h = absurd (omega arith)
-missing_by (p ∷ ps) (suc k) h = missing_by ps k (omega arith)
+pub many_samples : (ps ps' : List Point) (samples : List (List (List Value))) → length ps ≤ length ps' → length samples ≡ length ps
+    → length (samples ++ replicate (length ps' - length ps) []) ≡ length ps'
+many_samples ps ps' samples most many =
+    let none : List (List Value) = [] in
+    omega (arith, length-append samples (replicate (length ps' - length ps) none), length-replicate (length ps' - length ps) none)
 
-pub missing : (h : History) (points : List Summarized) (place : ℕ) → points ≡ map summary_of h → length points ≤ place → slice_get h place ≡ None
-missing h points place all past = missing_by h place (omega (arith, ap length all))
+-- the summary of one new point more
+pub next_new : (ps : List Point) (p : ℕ) → p < length ps → new_summaries ps p ≡ summary_at ps (p, []) ∷ new_summaries ps (p + 1)
+next_new ps p there =
+    let one : length ps - p ≡ suc (length ps - (p + 1)) = omega arith in
+    ap (λ k. map (summary_at ps) (enumerate_from p (replicate k []))) one
 
--- ---- one more line of a record
-
-resampled_at : (h : History) (r : RecordReader) (ls : List (List ℕ)) (place : ℕ) (p : Point) → slice_get h place ≡ Some p
-    → resampled h r ls place ≡ option_map (λ values. slice_set h place (sampled p values)) (sampled_by p.vars r ls)
-resampled_at h r ls place p at = ap (λ (o : Option Point). option_and_then (λ p. option_map (λ values. slice_set h place (sampled p values)) (sampled_by p.vars r ls)) o) at
-
-resampled_past : (h : History) (r : RecordReader) (ls : List (List ℕ)) (place : ℕ) → slice_get h place ≡ None → resampled h r ls place ≡ None
-resampled_past h r ls place at = ap (λ (o : Option Point). option_and_then (λ p. option_map (λ values. slice_set h place (sampled p values)) (sampled_by p.vars r ls)) o) at
-
-pub record_goes : (h : History) (line place : ℕ) (reader more : RecordReader) (l : Line) (p : Point) → slice_get h place ≡ Some p
-    → Samples p.vars (λ ls. sampled_by p.vars reader (l.bytes ∷ ls)) (Some more) → StateGoesOn h (state.Record line place more) (λ ls close. resumed_by h (state.Record line place reader) (l ∷ ls) close)
-record_goes h line place reader more l p at samples ls None = refl
-record_goes h line place reader more l p at samples ls (Some close) =
-    ap (λ (o : Option History). taken_or_refused line UnknownPoint o)
-    (resampled_at h reader (l.bytes ∷ bytes_of ls) place p at
-    ∙ ap (λ (r : Option (List ℤ)). option_map (λ values. slice_set h place (sampled p values)) r) (samples (bytes_of ls))
-    ∙ sym (resampled_at h more (bytes_of ls) place p at))
-
-pub record_fails : (h : History) (line place : ℕ) (reader : RecordReader) (l : Line) (p : Point) → slice_get h place ≡ Some p
-    → Samples p.vars (λ ls. sampled_by p.vars reader (l.bytes ∷ ls)) None → StateGoesOn h (state.Refused line UnknownPoint) (λ ls close. resumed_by h (state.Record line place reader) (l ∷ ls) close)
-record_fails h line place reader l p at samples ls None = refl
-record_fails h line place reader l p at samples ls (Some close) =
-    ap (λ (o : Option History). taken_or_refused line UnknownPoint o)
-    (resampled_at h reader (l.bytes ∷ bytes_of ls) place p at
-    ∙ ap (λ (r : Option (List ℤ)). option_map (λ values. slice_set h place (sampled p values)) r) (samples (bytes_of ls)))
-
-pub record_past : (h : History) (line place : ℕ) (reader : RecordReader) (l : Line) → slice_get h place ≡ None
-    → StateGoesOn h (state.Refused line UnknownPoint) (λ ls close. resumed_by h (state.Record line place reader) (l ∷ ls) close)
-record_past h line place reader l at ls None = refl
-record_past h line place reader l at ls (Some close) = ap (λ (o : Option History). taken_or_refused line UnknownPoint o) (resampled_past h reader (l.bytes ∷ bytes_of ls) place at)
-
--- ---- the end of a block
-
-pub record_past_end : (h : History) (line place : ℕ) (reader : RecordReader) → slice_get h place ≡ None
-    → taken_or_refused line UnknownPoint (resampled h reader [] place) ≡ Err (record { line = line; why = UnknownPoint })
-record_past_end h line place reader at = ap (λ (o : Option History). taken_or_refused line UnknownPoint o) (resampled_past h reader [] place at)
-
-pub record_short_end : (h : History) (line place : ℕ) (reader : RecordReader) (p : Point) → slice_get h place ≡ Some p → sampled_by p.vars reader [] ≡ None
-    → taken_or_refused line UnknownPoint (resampled h reader [] place) ≡ Err (record { line = line; why = UnknownPoint })
-record_short_end h line place reader p at none =
-    ap (λ (o : Option History). taken_or_refused line UnknownPoint o)
-    (resampled_at h reader [] place p at ∙ ap (λ (r : Option (List ℤ)). option_map (λ values. slice_set h place (sampled p values)) r) none)
-
-pub record_end : (h : History) (line place : ℕ) (reader : RecordReader) (p : Point) (values : List ℤ) → slice_get h place ≡ Some p → sampled_by p.vars reader [] ≡ Some values
-    → taken_or_refused line UnknownPoint (resampled h reader [] place) ≡ Ok (record { history = slice_set h place (sampled p values); counts = true })
-record_end h line place reader p values at is =
-    ap (λ (o : Option History). taken_or_refused line UnknownPoint o)
-    (resampled_at h reader [] place p at ∙ ap (λ (r : Option (List ℤ)). option_map (λ values. slice_set h place (sampled p values)) r) is)
-
-same_names : (h : History) (place : ℕ) (p q : Point) → slice_get h place ≡ Some p → q.name ≡ p.name → names (slice_set h place q) ≡ names h
-same_names [] place p q at e = refl
-same_names (x ∷ xs) zero p q at e = let same : x ≡ p = cc in ap (λ (n : List ℕ). n ∷ names xs) (e ∙ sym (ap (λ (y : Point). y.name) same))
-same_names (x ∷ xs) (suc k) p q at e = ap (λ (l : List (List ℕ)). x.name ∷ l) (same_names xs k p q at e)
-
--- a point has one sample more
-pub keeps_sample : (h : History) (ns : List (List ℕ)) (points points' : List Summarized) (place : ℕ) (p : Point) (values : List ℤ) (s : Summarized)
-    → ns ≡ names h → points ≡ map summary_of h → slice_get h place ≡ Some p → s ≡ summary_of (sampled p values) → points' ≡ slice_set points place s
-    → (ns ≡ names (slice_set h place (sampled p values))) × (points' ≡ map summary_of (slice_set h place (sampled p values)))
-keeps_sample h ns points points' place p values s named summed at is set = (
-  named ∙ sym (same_names h place p (sampled p values) at refl),
-  set ∙ ap (λ (l : List Summarized). slice_set l place s) summed ∙ ap (λ (t : Summarized). slice_set (map summary_of h) place t) is
-      ∙ sym (map-set summary_of h place (sampled p values)),
-)
-
--- a new point goes last
-pub keeps_point : (h : History) (ns ns' : List (List ℕ)) (points points' : List Summarized) (p : Point)
-    → ns ≡ names h → points ≡ map summary_of h → ns' ≡ ns ++ p.name ∷ [] → points' ≡ points ++ summary_of p ∷ [] → (ns' ≡ names (h ++ p ∷ [])) × (points' ≡ map summary_of (h ++ p ∷ []))
-keeps_point h ns ns' points points' p named summed more_names more = (
-  more_names ∙ ap (λ (l : List (List ℕ)). l ++ p.name ∷ []) named ∙ sym (map-append (λ (q : Point). q.name) h (p ∷ [])),
-  more ∙ ap (λ (l : List Summarized). l ++ summary_of p ∷ []) summed ∙ sym (map-append summary_of h (p ∷ [])),
-)
-
-pub known_point : (h : History) (line : ℕ) (d : Declaration) → is_some (place_of (names h) d.name) ≡ true → taken_or_refused line BadPoint (with_point h d) ≡ Err (record { line = line; why = BadPoint })
-known_point h line d known = ap (λ b. taken_or_refused line BadPoint (cond b None (Some (h ++ record { name = d.name; vars = d.vars; samples = [] } ∷ [])))) known
-
-pub new_point : (h : History) (line : ℕ) (d : Declaration) → is_some (place_of (names h) d.name) ≡ false
-    → taken_or_refused line BadPoint (with_point h d) ≡ Ok (record { history = h ++ record { name = d.name; vars = d.vars; samples = [] } ∷ []; counts = true })
-new_point h line d new = ap (λ b. taken_or_refused line BadPoint (cond b None (Some (h ++ record { name = d.name; vars = d.vars; samples = [] } ∷ [])))) new
+pub no_new : (ps : List Point) (p : ℕ) → length ps ≤ p → new_summaries ps p ≡ []
+no_new ps p past =
+    let none : length ps - p ≡ 0 = omega arith in
+    ap (λ k. map (summary_at ps) (enumerate_from p (replicate k []))) none
 
 -- ---- the report
 
-taken_next : (h : History) (place : ℕ) (p : Point) → slice_get h place ≡ Some p → take (suc place) h ≡ take place h ++ p ∷ []
-taken_next [] place p at = cc
-taken_next (x ∷ xs) zero p at = let same : x ≡ p = cc in ap (λ (y : Point). y ∷ []) same
-taken_next (x ∷ xs) (suc k) p at = ap (λ (l : List Point). x ∷ l) (taken_next xs k p at)
+take-next : {X : Type 0} (xs : List X) (i : ℕ) (d : X) → i < length xs → take (suc i) xs ≡ take i xs ++ get_or xs i d ∷ []
+take-next [] i d there = absurd (omega arith)
+take-next (x ∷ xs) zero d there = refl
+take-next (x ∷ xs) (suc i) d there = ap (λ l. x ∷ l) (take-next xs i d (omega arith))
 
-pub sections_next : (h : History) (place : ℕ) (p : Point) → slice_get h place ≡ Some p
-    → flat_map section_of (take place h) ++ section_of p ≡ flat_map section_of (take (place + 1) h)
-sections_next h place p at =
+-- the section of a point, by its place
+abbrev pub section_at : List Point → ℕ × List (List Value) → List ℕ
+section_at ps e = section_of (slice_index_or (names ps) e.0 []) (vars_of ps e.0) e.1
+
+-- the sections of the first points
+abbrev pub first_sections : List Point → List (List (List Value)) → ℕ → List ℕ
+first_sections ps samples place = flat_map (section_at ps) (take place (enumerate_from 0 samples))
+
+pub next_section : (ps : List Point) (samples : List (List (List Value))) (place : ℕ) → place < length samples
+    → first_sections ps samples place ++ section_of (slice_index_or (names ps) place []) (vars_of ps place) (get_or samples place []) ≡ first_sections ps samples (place + 1)
+next_section ps samples place there =
+    let e : ℕ × List (List Value) = (place, get_or samples place []) in
     let next : suc place ≡ place + 1 = omega arith in
-    flat_map_more section_of [] (take place h) p ∙ ap (λ (l : List Point). flat_map section_of l) (sym (taken_next h place p at) ∙ ap (λ (n : ℕ). take n h) next)
+    let last : get_or (enumerate_from 0 samples) place e ≡ e = get_or-enumerate 0 place place samples e [] there (omega arith) in
+    flat_map_more (section_at ps) [] (take place (enumerate_from 0 samples)) e
+    ∙ ap (λ l. flat_map (section_at ps) l)
+    (ap (λ x. take place (enumerate_from 0 samples) ++ x ∷ []) (sym last)
+    ∙ sym (take-next (enumerate_from 0 samples) place e (omega (arith, length-enumerate_from 0 samples)))
+    ∙ ap (λ n. take n (enumerate_from 0 samples)) next)
 
-all_by : (h : History) (place : ℕ) → length (map summary_of h) ≤ place → take place h ≡ h
-all_by [] zero past = refl
-all_by [] (suc k) past = refl
-all_by (p ∷ ps) zero past = absurd (omega arith)
-all_by (p ∷ ps) (suc k) past = ap (λ (l : List Point). p ∷ l) (all_by ps k (omega arith))
+pub all_sections : (ps : List Point) (samples : List (List (List Value))) (place : ℕ) → length samples ≤ place → first_sections ps samples place ≡ flat_map (section_at ps) (enumerate_from 0 samples)
+all_sections ps samples place past =
+    ap (λ l. flat_map (section_at ps) l) (take_all place (enumerate_from 0 samples) (omega (arith, length-enumerate_from 0 samples)))
 
-pub all_taken : (h : History) (points : List Summarized) (place : ℕ) → points ≡ map summary_of h → length points ≤ place → take place h ≡ h
-all_taken h points place all past = all_by h place (omega (arith, ap length all))
+pub section_like : (name own : List ℕ) (vars mine : List VarInfo) (samples : List (List Value)) → name ≡ own → vars ≡ mine → section_of name vars samples ≡ section_of own mine samples
+section_like name own vars mine samples named are = ap (λ n. section_of n vars samples) named ∙ ap (λ vs. section_of own vs samples) are
 
--- the name at the place of a point
-pub name_found : (h : History) (ns : List (List ℕ)) (place : ℕ) (p : Point) (name : List ℕ) → ns ≡ names h → slice_get h place ≡ Some p → slice_get ns place ≡ Some name → p.name ≡ name
-name_found h ns place p name all at named =
-    let there : Some p.name ≡ Some name =
-    sym (ap (λ (o : Option Point). option_map (λ (q : Point). q.name) o) at) ∙ sym (slice_get-map (λ (q : Point). q.name) h place) ∙ sym (ap (λ (l : List (List ℕ)). slice_get l place) all) ∙ named in
-    cc
+-- ---- records
+
+-- a record that is neither an exit that must match an entry, nor an entry
+pub other_call : (ps : List Point) (s : Sample) → is_some (entry_of ps s.point) ≡ false → is_entry_at ps s.point ≡ false → call_of ps s ≡ other
+unfolding call_of
+other_call ps s no_exit no_entry = by_entry (entry_of ps s.point) no_exit ∙ ap (λ b. if b then enters (entry_with s) else other) no_entry where
+  by_entry : (e : Option ℕ) → is_some e ≡ false → option_map_or (λ e. exits e s.nonce) e (if is_entry_at ps s.point then enters (entry_with s) else other) ≡ (if is_entry_at ps s.point then enters (entry_with s) else other)
+  by_entry None lacks = refl
+  by_entry (Some e) lacks = absurd (cc (lacks))
+
+-- a declaration that is taken, and one that is refused
+pub declared_ok : (h : History) (ps ps' : List Point) (line : ℕ) (d : PointDecl) (x : Declared) → ps ≡ h.table → at_line line (declared ps d) ≡ Ok (ps', x)
+    → with_declaration h line d ≡ Ok (block (with_table h ps'))
+declared_ok h ps ps' line d x table is =
+    ap (λ (r : Result (List Point × Declared) LineFault). r >>= λ t. Ok (block (with_table h t.0))) (ap (λ (qs : List Point). at_line line (declared qs d)) (sym table) ∙ is)
+
+pub declared_told : (h : History) (ps : List Point) (line : ℕ) (d : PointDecl) (e : BlockFault) → ps ≡ h.table → Told e (at_line line (declared ps d)) → Closes (Err e) (with_declaration h line d)
+declared_told h ps line d e table told =
+    told_closes e (with_declaration h line d)
+    (told_at e (at_line line (declared h.table d)) (λ t. Ok (block (with_table h t.0))) (subst (λ (qs : List Point). Told e (at_line line (declared qs d))) table told))
+
+-- a record whose values are there, and one that is refused
+pub recorded_ok : (h : History) (ps : List Point) (s : Sample) (values : List Value) → ps ≡ h.table → base_values ps s h.calls ≡ Ok values
+    → with_record h s ≡ Ok (block (record h { samples = with_sample h.samples s.point values; calls = call_of h.table s ∷ h.calls }))
+recorded_ok h ps s values table is =
+    ap (λ (r : Result (List Value) LineFault). r >>= λ vs. Ok (block (record h { samples = with_sample h.samples s.point vs; calls = call_of h.table s ∷ h.calls })))
+    (ap (λ (qs : List Point). base_values qs s h.calls) (sym table) ∙ is)
+
+pub recorded_told : (h : History) (ps : List Point) (s : Sample) (e : BlockFault) → ps ≡ h.table → Told e (base_values ps s h.calls) → Closes (Err e) (with_record h s)
+recorded_told h ps s e table told =
+    told_closes e (with_record h s)
+    (told_at e (base_values h.table s h.calls) (λ vs. Ok (block (record h { samples = with_sample h.samples s.point vs; calls = call_of h.table s ∷ h.calls })))
+    (subst (λ (qs : List Point). Told e (base_values qs s h.calls)) table told))
+
+pub paired_more : (ps : List Point) (summaries all : List Summarized) → length summaries ≤ length ps → all ≡ summaries ++ new_summaries ps (length summaries) → length all ≡ length ps
+paired_more ps summaries all most is =
+    let none : List (List Value) = [] in
+    let more : length (new_summaries ps (length summaries)) ≡ length ps - length summaries =
+    length-map (enumerate_from (length summaries) (replicate (length ps - length summaries) none)) (summary_at ps)
+    ∙ length-enumerate_from (length summaries) (replicate (length ps - length summaries) none) ∙ length-replicate (length ps - length summaries) none in
+    omega (arith, ap length is, length-append summaries (new_summaries ps (length summaries)))
+
+-- one new summary more is put behind the others
+pub put_new : (ps : List Point) (place : ℕ) (front all : List Summarized) (s : Summarized) (whole : List Summarized) → place < length ps → s ≡ summary_at ps (place, [])
+    → all ≡ front ++ s ∷ [] → front ++ new_summaries ps place ≡ whole → all ++ new_summaries ps (place + 1) ≡ whole
+put_new ps place front all s whole there is put was =
+    ap (λ l. l ++ new_summaries ps (place + 1)) put ∙ append_assoc front (s ∷ []) (new_summaries ps (place + 1))
+    ∙ ap (λ t. front ++ t ∷ new_summaries ps (place + 1)) is ∙ ap (λ l. front ++ l) (sym (next_new ps place there)) ∙ was

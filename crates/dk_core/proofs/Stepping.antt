@@ -9,20 +9,23 @@ use Rattle.dk_lines.specs.declared.lines.Limits.{Limits}
 use Rattle.dk_lines.specs.declared.lines.LineFault as fault
 use Rattle.dk_lines.specs.declared.lines.LineFault.TheVariants as line
 use Rattle.dk_lines.proofs.Lined.{at_break, at_end}
-use Rattle.dk_core.specs.Steps.{unread, Grown, TurnCounts, BlockGives, Answers, LineShape, EndShape}
+use Rattle.dk_core.specs.Steps.{unread, Grown, TurnCounts, BlockCounts, BlockGives, Answers, LineShape, EndShape, ShapeAt, ClosesAt, LineStep, LineStepShape, StepShape, StepGives, StepCounts, turned}
 use Rattle.std.specs.Prelude.{◌==◌}
 use Rattle.dk_base.specs.Pieces.{is_empty}
 use Rattle.std.proofs.Math.Dec.{eqb-suc-zero}
 use Rattle.dk_core.specs.Blocks.{Groups, Group, Last, onto_group, is_blank_line, taken, grouped}
 use Rattle.dk_core.specs.History.{History, Taken, effect_of}
 use Rattle.dk_core.specs.Reading.{after_last, after_all, after_next, stop_or, Stepped}
-use Rattle.dk_core.specs.Standing.{Stands, resumed}
+use Rattle.dk_core.specs.Standing.{Fits, Stands, resumed}
 use Rattle.dk_core.proofs.Laws.{no_fault_yet, no_lines}
 use Rattle.dk_core.specs.Steps.{Moves, Steps, Stops, groups_left, LineGives, EndGives, BlankGives, WordsGive, TurnGives}
 use Rattle.dk_base.specs.declared.why.Why.{Why}
 use Rattle.dk_base.specs.declared.why.Why.TheVariants.{LongLine as WhyLong, TooLong as WhyMany}
+use Rattle.dk_core.specs.declared.session.Step.{Step}
+use Rattle.dk_core.specs.declared.session.Step.TheVariants.{More, Ended}
 use Rattle.dk_core.specs.declared.session.Turn.{Turn}
 use Rattle.dk_core.specs.declared.session.Turn.TheVariants.{Goes, Ends as Stands_end}
+use Rattle.dk_core.specs.declared.session.Ending.{Ending}
 use Rattle.dk_core.specs.declared.session.Stop.{Stop}
 use Rattle.dk_core.specs.declared.session.Stop.TheVariants.{Refused, Read, NoMemory}
 use Rattle.dk_core.specs.declared.block.Block.{Block}
@@ -438,3 +441,96 @@ follows read (Last ls end) = go (after_last read ls end) refl where
 pub empty_len : (bytes : List ℕ) → (length bytes == 0) ≡ is_empty bytes
 empty_len [] = refl
 empty_len (b ∷ bs) = eqb-suc-zero (length bs)
+
+-- ---- one line, whose end of a block is made apart
+
+pub words_step : (kept : Kept) (read : Reads Taken) (line : Line) (block : Block) → is_blank_line line ≡ false → WordsGive read (taken line) (Ok (Goes kept block)) → LineStep kept read line (Ok (More block))
+words_step kept read line block words gives = words_line read line (Ok (Goes kept block)) words gives
+
+pub words_fault : (kept : Kept) (read : Reads Taken) (line : Line) (stop : Stop) → is_blank_line line ≡ false → WordsGive read (taken line) (Err stop) → LineStep kept read line (Err stop)
+words_fault kept read line stop words gives = words_line read line (Err stop) words gives
+
+pub blank_step : (kept : Kept) (read : Reads Taken) (line : Line) (block : Block) → is_blank_line line ≡ true → LineStep kept read line (Ok (Ended block line.number false))
+blank_step kept read line block blank turn gives = blank_line read line turn blank gives
+
+pub step_line : (h : History) (kept : Kept) (b : Block) (old new : Reading) (o left : Option (List ℕ)) (line : Line) (result : Result Step Stop)
+    → IsNext old o (Ok (Some line)) new left → LineStep kept (resumed h b) line result → IfSome o (λ xs. StepGives kept (resumed h b) old xs result new left)
+step_line h kept b old new None left line result next does = tt
+step_line h kept b old new (Some xs) left line (Ok (More block)) next does = told_line h b old new (Some xs) left line (Ok (Goes kept block)) next does
+step_line h kept b old new (Some xs) left line (Ok (Ended block number over)) next does = λ turn closes. told_line h b old new (Some xs) left line turn next (does turn closes)
+step_line h kept b old new (Some xs) left line (Err stop) next does = told_line h b old new (Some xs) left line (Err stop) next does
+
+pub step_end : (h : History) (kept : Kept) (b block : Block) (old new : Reading) (o left : Option (List ℕ)) (number : ℕ) → number ≡ old.number + 1
+    → IsNext old o (Ok None) new left → IfSome o (λ xs. StepGives kept (resumed h b) old xs (Ok (Ended block number true)) new left)
+step_end h kept b block old new None left number is next = tt
+step_end h kept b block old new (Some xs) left number is next =
+    λ turn closes. told_end h b old new (Some xs) left turn next (subst (λ (n : ℕ). EndGives (resumed h b) n turn) is closes)
+
+pub step_fault : (h : History) (kept : Kept) (b : Block) (old new : Reading) (o left : Option (List ℕ)) (fault : fault.LineFault)
+    → IsNext old o (Err fault) new left → IfSome o (λ xs. StepGives kept (resumed h b) old xs (Err (unread fault)) new left)
+step_fault h kept b old new None left fault next = tt
+step_fault h kept b old new (Some xs) left fault next = told_fault h b old new (Some xs) left fault next
+
+pub step_counts : (kept : Kept) (b : Block) (old new : Reading) (o left : Option (List ℕ)) (line : Line) (result : Result Step Stop)
+    → IsNext old o (Ok (Some line)) new left → LineStepShape kept b result → StepCounts old result new
+step_counts kept b old new o left line (Ok (More block)) gives shape = (gives.limits_stay, gives.counts.2, gives.counts.4, gives.counts.5)
+step_counts kept b old new o left line (Ok (Ended block number over)) gives shape = λ turn closes. counts_line old new o left line turn gives (subst (λ (o : Bool). ShapeAt o turn) shape.1 closes)
+step_counts kept b old new o left line (Err e) gives shape = gives.limits_stay
+
+pub end_counts : (old new : Reading) (o left : Option (List ℕ)) (block : Block) (number : ℕ) → IsNext old o (Ok None) new left → StepCounts old (Ok (Ended block number true)) new
+end_counts old new o left block number gives = λ turn closes. counts_end old new o left turn gives closes
+
+pub line_step_shape : (kept : Kept) (b : Block) (result : Result Step Stop) → LineStepShape kept b result → StepShape kept b result
+line_step_shape kept b (Ok (More block)) shape = shape
+line_step_shape kept b (Ok (Ended block number over)) shape = shape.0
+line_step_shape kept b (Err stop) shape = tt
+
+pub never_read_step : (kept : Kept) (b : Block) (result : Result Step Stop) → LineStepShape kept b result → IsErrOf result Read → ⊥
+never_read_step kept b (Ok (More block)) shape e = cc (e)
+never_read_step kept b (Ok (Ended block number over)) shape e = cc (e)
+never_read_step kept b (Err (Refused line why)) shape e = cc (e)
+never_read_step kept b (Err Read) shape e = shape
+never_read_step kept b (Err NoMemory) shape e = cc (e)
+
+-- ---- the end of a block
+
+pub never_read_at : (over : Bool) (turn : Result Turn Stop) → ShapeAt over turn → IsErrOf turn Read → ⊥
+never_read_at true turn shape e = never_read_end turn shape e
+never_read_at false turn shape e = never_read_line turn shape e
+
+pub fits_at : (over : Bool) (kept : Kept) (block : Block) → ShapeAt over (Ok (Goes kept block)) → Fits kept block
+fits_at true kept block shape = absurd shape
+fits_at false kept block shape = shape
+
+-- the turn that a line and the end of its block make
+pub closed_on : (h : History) (kept : Kept) (b block : Block) (r new : Reading) (number : ℕ) (over : Bool) (o left : Option (List ℕ)) (turn : Result Turn Stop)
+    → block ≡ b → IfSome o (λ xs. StepGives kept (resumed h b) r xs (Ok (Ended block number over)) new left) → ClosesAt over (resumed h block) number turn
+    → IfSome o (λ xs. TurnGives (resumed h b) r xs turn new left)
+closed_on h kept b block r new number over None left turn same gives closes = tt
+closed_on h kept b block r new number over (Some xs) left turn same gives closes = gives turn (subst (λ (c : Block). ClosesAt over (resumed h c) number turn) same closes)
+
+-- ---- the session behind the end of a block
+
+pub block_answers : (s : Session) (h : History) (r new : Reading) (o left : Option (List ℕ)) (end : Ending) (a : Session × Bool) → s.is_over ≡ false
+    → a.0.kept ≡ end.kept → a.0.is_over ≡ end.is_over → a.1 ≡ end.found
+    → IfSome o (λ xs. BlockGives (effect_of h) false r xs (Ok end) new left) → IfSome o (λ xs. Answers s h r xs (Ok a) new left)
+block_answers s h r new None left end a begun kept over found gives = tt
+block_answers s h r new (Some xs) left end a begun kept over found (h', stands, (ys, is, steps)) = (
+  h',
+  subst (λ (k : Kept). Stands k h') (sym kept) stands,
+  (
+    ys,
+    is,
+    subst (λ (b : Bool). Steps (effect_of h) b r xs a.1 h' a.0.is_over new ys) (sym begun)
+        (subst (λ (b : Bool). Steps (effect_of h) false r xs b h' a.0.is_over new ys) (sym found)
+        (subst (λ (b : Bool). Steps (effect_of h) false r xs end.found h' b new ys) (sym over) steps)),
+  ),
+)
+
+grown_on : (over : Bool) (first r new : Reading) → r.limits ≡ first.limits → first.total ≤ r.total → Grown over r new → Grown over first new
+grown_on true first r new same most grown = omega (arith, grown, most)
+grown_on false first r new same most grown = (omega (arith, grown.0, most), subst (λ (l : Limits). new.total ≤ l.total) same grown.1)
+
+-- the counts of the last line of a block are those of the block
+pub block_counts : (first r new : Reading) (end : Ending) → r.limits ≡ first.limits → first.total ≤ r.total → TurnCounts r (Ok (Stands_end end)) new → BlockCounts first (Ok end) new
+block_counts first r new end same most counts = (counts.0 ∙ same, (counts.1.0, grown_on end.is_over first r new same most counts.1.1, counts.1.2))

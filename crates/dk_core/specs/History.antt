@@ -1,85 +1,124 @@
 -- What a history is, and what a block does to it. The layers above know these words by their names alone.
-use Rattle.std.specs.Prelude.{ℕ, ℤ, Bool, true, false, List, [], ◌∷◌, ◌++◌, if◌then◌else◌, codes, map, position, slice_get, slice_set, is_some, Option, Some, None, Result, Ok, Err}
-use Rattle.std.specs.Option.{option_map, option_and_then}
+use Rattle.std.specs.Prelude.{◌-◌, ◌||◌, ℕ, Bool, true, false, List, [], ◌∷◌, ◌++◌, codes, is_some, length, replicate, slice_index_or, slice_set, Option, Some, None, Result, Ok, if◌then◌else◌}
 use Rattle.std.specs.Str.{bytes_eq}
-use Rattle.dk_base.specs.Reading.{Line, LineFault, Reads}
-use Rattle.dk_base.specs.declared.why.Why.{Why}
-use Rattle.dk_base.specs.declared.why.Why.TheVariants.{BadPoint, UnknownPoint}
+use Rattle.dk_base.specs.Reading.{Line, LineFault, Reads, ◌>>=◌}
 use Rattle.dk_base.specs.Words.{first_word}
-use Rattle.dk_core.specs.Declarations.{Declaration, declaration_of}
-use Rattle.dk_core.specs.Records.{values_of}
+use Rattle.dk_base.specs.declared.values.Value.{Value}
+use Rattle.dk_base.specs.declared.why.Why.TheVariants.{BadHeader}
+use Rattle.dk_decl.specs.Blocks.{decl_of}
+use Rattle.dk_decl.specs.Headers.{awaits_word, first_header, is_implicit}
+use Rattle.dk_decl.specs.Outcomes.{refused}
+use Rattle.dk_decl.specs.declared.decls.PointDecl.{PointDecl}
+use Rattle.dk_decl.specs.declared.header.Header.{Header}
+use Rattle.dk_points.specs.Declaring.{at_line, declared}
+use Rattle.dk_points.specs.Table.{Point}
+use Rattle.dk_points.specs.Vars.{entry_of}
+use Rattle.dk_trace.specs.Records.{Sample, sample_of}
+use Rattle.dk_calls.specs.Records.{call_of, values_at_exit}
+use Rattle.dk_calls.specs.Waiting.{Call}
+use Rattle.dk_core.specs.Fronts.{Front, front_of}
 
--- a declared point with its samples: for each the values of the variables, in their order
-pub record Point : Type 0 where
-  pub name : List ℕ
-  pub vars : List (List ℕ)
-  pub samples : List (List ℤ)
-
--- the points, in the order of their declarations
-abbrev pub History : Type 0
-History = List Point
+-- what the blocks so far come to
+pub record History : Type 0 where
+  -- the points that are declared, and the exits that they imply
+  pub table : List Point
+  -- for each point its own samples, each as the values of the point's base variables
+  pub samples : List (List (List Value))
+  -- what the header lines have put in force
+  pub header : Header
+  -- the records of the file that is read, the latest first
+  pub calls : List Call
 
 -- what reading a block comes to: the history with it, and whether it is a block at all
 pub record Taken : Type 0 where
   pub history : History
   pub counts : Bool
 
-abbrev pub bytes_of : List Line → List (List ℕ)
-bytes_of ls = map (λ (l : Line). l.bytes) ls
+abbrev pub block : History → Taken
+block h = record { history = h; counts = true }
 
-abbrev pub names : History → List (List ℕ)
-names h = map (λ (p : Point). p.name) h
+abbrev pub no_block : History → Taken
+no_block h = record { history = h; counts = false }
 
--- the place of a name
-abbrev pub place_of : List (List ℕ) → List ℕ → Option ℕ
-place_of ns name = position (bytes_eq name) ns
+-- What is judged where the block ends. Of a block that is cut off nothing is said.
+abbrev pub where_it_ends : Option ℕ → History → Result Taken LineFault → Result Taken LineFault
+where_it_ends None h taken = Ok (no_block h)
+where_it_ends (Some close) h taken = taken
 
--- a new point goes last; a known name is refused
-abbrev pub with_point : History → Declaration → Option History
-with_point h d =
-    if is_some (place_of (names h) d.name) then None
-    else Some (h ++ record { name = d.name; vars = d.vars; samples = [] } ∷ [])
+-- ---- declarations
 
-abbrev pub sampled : Point → List ℤ → Point
-sampled p values = record p { samples = p.samples ++ values ∷ [] }
+-- with these points, of which the new ones have no samples
+abbrev pub with_table : History → List Point → History
+with_table h ps = record h { table = ps; samples = h.samples ++ replicate (length ps - length h.table) [] }
 
--- the point at this place has one sample more, if the lines give its values
-abbrev pub with_sample_at : History → List (List ℕ) → ℕ → Option History
-with_sample_at h ls i = option_and_then (λ p. option_map (λ values. slice_set h i (sampled p values)) (values_of p.vars ls)) (slice_get h i)
+-- the points with a declaration, whose block begins at this line
+abbrev pub with_declaration : History → ℕ → PointDecl → Result Taken LineFault
+with_declaration h line d = at_line line (declared h.table d) >>= λ t. Ok (block (with_table h t.0))
 
--- the point of this name has one sample more
-abbrev pub with_sample : History → List ℕ → List (List ℕ) → Option History
-with_sample h name ls = option_and_then (with_sample_at h ls) (place_of (names h) name)
+-- ---- sample records
 
--- a block whose first line begins with the word `ppt` is a declaration, and any other a record
-abbrev pub is_declaration : List ℕ → Bool
-is_declaration line = bytes_eq (first_word line) (codes "ppt")
+-- The values of the base variables: those of the record, and behind those of an exit the ones that its entry had. The earlier records of
+-- the file stand with the latest first.
+unfoldable pub base_values : List Point → Sample → List Call → Result (List Value) LineFault
+base_values ps s earlier = if is_some (entry_of ps s.point) then values_at_exit ps s earlier else Ok s.values
 
--- the history after a block of these lines, unless it is refused
-abbrev pub after_block : History → List ℕ → List (List ℕ) → Option History
-after_block h l ls =
-    if is_declaration l then option_and_then (with_point h) (declaration_of (l ∷ ls))
-    else with_sample h l ls
+-- the samples of all points, with one more at a point
+abbrev pub with_sample : List (List (List Value)) → ℕ → List Value → List (List (List Value))
+with_sample samples p values = slice_set samples p (slice_index_or samples p [] ++ values ∷ [])
 
--- why a block with this first line is refused, if it is
-abbrev pub why_refused : List ℕ → Why
-why_refused l = if is_declaration l then BadPoint else UnknownPoint
+-- a record gives its point one sample more
+abbrev pub with_record : History → Sample → Result Taken LineFault
+with_record h s = base_values h.table s h.calls >>= λ values.
+    Ok (block (record h { samples = with_sample h.samples s.point values; calls = call_of h.table s ∷ h.calls }))
 
--- the block with this first line is taken, or refused at that line
-abbrev pub taken_or_refused : ℕ → Why → Option History → Result Taken LineFault
-taken_or_refused line why None = Err (record { line = line; why = why })
-taken_or_refused line why (Some h) = Ok (record { history = h; counts = true })
+-- ---- blocks
 
--- The effect of a block on a history. It is judged when it ends, so where no more is known nothing is said of it.
+-- the first line of a declaration: its first word is `ppt`, or it is `DECLARE`
+unfoldable pub is_declaration : List ℕ → Bool
+is_declaration bytes = bytes_eq (first_word bytes) (codes "ppt") || bytes_eq bytes (codes "DECLARE")
+
+-- behind this line the block is read past
+unfoldable pub is_list_of_implementors : List ℕ → Bool
+is_list_of_implementors bytes = bytes_eq bytes (codes "ListImplementors")
+
+-- what the lines of a declaration do, behind its first line
+abbrev pub after_declaration : History → Line → Reads Taken
+after_declaration h first ls close = decl_of (is_implicit h.header) first ls close >>= λ d. where_it_ends close h (with_declaration h first.number d)
+
+-- what the lines of a sample record do, behind its first line
+abbrev pub after_sample : History → Line → Reads Taken
+after_sample h first ls close = sample_of h.table first ls close >>= λ s. where_it_ends close h (with_record h s)
+
+-- what the lines of a record of any kind do, behind its first line
+abbrev pub after_record : History → Line → Reads Taken
+after_record h first ls close =
+    if is_declaration first.bytes then after_declaration h first ls close
+    else if is_list_of_implementors first.bytes then where_it_ends close h (Ok (block h))
+    else after_sample h first ls close
+
+-- A block without a record, whose last header line has this number. It must not end where a word is awaited. Without header lines, too, it is none.
+abbrev pub without_record : History → Option ℕ → Option ℕ → Result Taken LineFault
+without_record h None close = Ok (no_block h)
+without_record h (Some last) close = where_it_ends close h (if awaits_word h.header then refused BadHeader last else Ok (block h))
+
+abbrev pub after_lines : History → Option ℕ → Reads Taken
+after_lines h last [] close = without_record h last close
+after_lines h last (l ∷ ls) close = after_record h l ls close
+
+abbrev pub after_front : History → Front → Option ℕ → Result Taken LineFault
+after_front h front close = after_lines (record h { header = front.header }) front.last front.lines close
+
+-- The effect of a block on a history: of its header lines, and then of its record. A line's fault is found at the line; the rest is judged
+-- where the block ends.
 unfoldable pub effect_of : History → Reads Taken
-effect_of h ls None = Ok (record { history = h; counts = false })
-effect_of h [] (Some close) = Ok (record { history = h; counts = false })
-effect_of h (l ∷ ls) (Some close) = taken_or_refused l.number (why_refused l.bytes) (after_block h l.bytes (bytes_of ls))
+effect_of h ls close = front_of h.header None ls >>= λ front. after_front h front close
+
+-- ---- files
 
 -- the history before the first file
 unfoldable pub no_history : History
-no_history = []
+no_history = record { table = []; samples = []; header = first_header; calls = [] }
 
--- what of a history goes on to the next file
+-- what of a history goes on to the next file: no entry waits any more
 unfoldable pub file_ended : History → History
-file_ended h = h
+file_ended h = record h { calls = [] }

@@ -1,11 +1,8 @@
 pub mod Blocks
-pub mod Declarations
-pub mod Records
+pub mod Fronts
 pub mod History
 pub mod Sections
 pub mod Summaries
-pub mod Reported
 pub mod Reading
-pub mod Blocked
 pub mod Standing
 pub mod Steps

@@ -1,48 +1,56 @@
 -- What a session that is read line by line stands for.
-use Rattle.std.specs.Prelude.{◌≡◌, ℕ, Bool, false, List, map, slice_get, slice_set, ⊤, Option, Some, None, Result, Ok, Err}
-use Rattle.std.specs.Option.{option_map, option_and_then}
-use Rattle.dk_base.specs.Reading.{Line, LineFault, Reads}
-use Rattle.dk_base.specs.declared.why.Why.TheVariants.{BadPoint, UnknownPoint}
+use Rattle.std.specs.Prelude.{◌≡◌, ℕ, Bool, List, length, ⊤, Option, Result, Ok, Err}
+use Rattle.dk_base.specs.Reading.{Line, LineFault, Reads, ◌>>=◌}
 use Rattle.dk_base.specs.declared.faults.BlockFault.{BlockFault}
-use Rattle.dk_base.specs.declared.faults.BlockFault.TheVariants.{Refused as RefusedAt, NoMemory}
-use Rattle.dk_core.specs.History.{History, Taken, names, bytes_of, with_point, sampled, taken_or_refused, effect_of}
-use Rattle.dk_core.specs.Summaries.{summary_of}
-use Rattle.dk_core.specs.Blocked.{declared_by, sampled_by}
+use Rattle.dk_base.specs.declared.faults.BlockFault.TheVariants.{Refused, NoMemory}
+use Rattle.dk_decl.specs.Blocks.{resumed as decl_resumed}
+use Rattle.dk_points.specs.Table.{Point}
+use Rattle.dk_trace.specs.RecordsResumed.{IsOf, resumed as record_resumed}
+use Rattle.dk_calls.specs.Standing.{StandsFor as CallsStandFor}
+use Rattle.dk_core.specs.Fronts.{front_of}
+use Rattle.dk_core.specs.Summaries.{summaries_of}
+use Rattle.dk_core.specs.History.{History, Taken, after_front, block, where_it_ends, with_declaration, with_record}
 use Rattle.dk_core.specs.declared.block.Block.{Block}
 use Rattle.dk_core.specs.declared.block.State.{State}
-use Rattle.dk_core.specs.declared.block.State.TheVariants.{Empty, Declaration, Record, Refused}
-use Rattle.dk_core.specs.declared.record.RecordReader.{RecordReader}
+use Rattle.dk_core.specs.declared.block.State.TheVariants as state
 use Rattle.dk_core.specs.declared.kept.Kept.{Kept}
 use Rattle.dk_core.specs.declared.session.Session.{Session}
 
--- What a session keeps from block to block stands for a history: it has the points' names and their summaries.
+-- What a session keeps from block to block stands for a history: it has the points, the header, the entries that wait, and a summary of
+-- each point's samples.
 pub record KeepsAll (kept : Kept) (h : History) : Type 0 where
-  pub named : kept.names ≡ names h
-  pub summed : kept.points.items ≡ map summary_of h
+  pub table : kept.points ≡ h.table
+  pub header : kept.header ≡ h.header
+  pub calls : CallsStandFor kept.calls h.calls
+  pub many : length h.samples ≡ length h.table
+  pub summaries : kept.summaries.items ≡ summaries_of h.table h.samples
 
 unfoldable pub Stands : Kept → History → Type 0
 Stands kept h = KeepsAll kept h
 
--- the point at a place has one sample more, if the record's lines so far and these give its values
-abbrev pub resampled : History → RecordReader → List (List ℕ) → ℕ → Option History
-resampled h r ls place = option_and_then (λ p. option_map (λ values. slice_set h place (sampled p values)) (sampled_by p.vars r ls)) (slice_get h place)
-
--- what a block so far says of the lines that are left
+-- what a block so far says of the lines that are left; the header is that behind its header lines
 abbrev pub resumed_by : History → State → Reads Taken
-resumed_by h Empty ls close = effect_of h ls close
-resumed_by h (Declaration line reader) ls None = Ok (record { history = h; counts = false })
-resumed_by h (Declaration line reader) ls (Some close) = taken_or_refused line BadPoint (option_and_then (with_point h) (declared_by reader (bytes_of ls)))
-resumed_by h (Record line place reader) ls None = Ok (record { history = h; counts = false })
-resumed_by h (Record line place reader) ls (Some close) = taken_or_refused line UnknownPoint (resampled h reader (bytes_of ls) place)
-resumed_by h (Refused line why) ls None = Ok (record { history = h; counts = false })
-resumed_by h (Refused line why) ls (Some close) = Err (record { line = line; why = why })
+resumed_by h (state.Front last) ls close = front_of h.header last ls >>= λ front. after_front h front close
+resumed_by h (state.Declaration line reader) ls close = decl_resumed reader ls close >>= λ d. where_it_ends close h (with_declaration h line d)
+resumed_by h state.Implementors ls close = where_it_ends close h (Ok (block h))
+resumed_by h (state.Record reader) ls close = record_resumed h.table reader ls close >>= λ s. where_it_ends close h (with_record h s)
 
 unfoldable pub resumed : History → Block → Reads Taken
-resumed h b ls close = resumed_by h b.state ls close
+resumed h b ls close = resumed_by (record h { header = b.header }) b.state ls close
+
+-- a record that is read is of a point of the table
+abbrev pub StateFits : List Point → State → Type 0
+StateFits ps (state.Front last) = ⊤
+StateFits ps (state.Declaration line reader) = ⊤
+StateFits ps state.Implementors = ⊤
+StateFits ps (state.Record reader) = IsOf ps reader
+
+unfoldable pub Fits : Kept → Block → Type 0
+Fits kept b = StateFits kept.points b.state
 
 -- A fault that was found is what `read` says, whatever is left.
 abbrev pub ToldOn : BlockFault → Reads Taken → Type 0
-ToldOn (RefusedAt line why) read = (ls : List Line) (close : Option ℕ) → read ls close ≡ Err (record { line = line; why = why })
+ToldOn (Refused line why) read = (ls : List Line) (close : Option ℕ) → read ls close ≡ Err (record { line = line; why = why })
 ToldOn NoMemory read = ⊤
 
 -- The block goes on as `read` says, whatever is left.
@@ -50,14 +58,10 @@ abbrev pub GoesOn : History → Result Block BlockFault → Reads Taken → Type
 GoesOn h (Ok b) read = (ls : List Line) (close : Option ℕ) → read ls close ≡ resumed h b ls close
 GoesOn h (Err e) read = ToldOn e read
 
--- the same of the state of a block
-abbrev pub StateGoesOn : History → State → Reads Taken → Type 0
-StateGoesOn h s read = (ls : List Line) (close : Option ℕ) → read ls close ≡ resumed_by h s ls close
-
 -- The block's end gives what was read, or the fault that was.
 abbrev pub Closes : Result (Kept × Bool) BlockFault → Result Taken LineFault → Type 0
 Closes (Ok r) read = (h : History) × Stands r.0 h × (read ≡ Ok (record { history = h; counts = r.1 }))
-Closes (Err (RefusedAt line why)) read = read ≡ Err (record { line = line; why = why })
+Closes (Err (Refused line why)) read = read ≡ Err (record { line = line; why = why })
 Closes (Err NoMemory) read = ⊤
 
 -- a session stands for a history

@@ -12,7 +12,11 @@ use Rattle.dk_lines.specs.declared.lines.LineFault.TheVariants as f
 use Rattle.dk_core.specs.Blocks.{Groups, Last, grouped}
 use Rattle.dk_core.specs.History.{Taken, History, effect_of}
 use Rattle.dk_core.specs.Reading.{after_all, after_next}
-use Rattle.dk_core.specs.Standing.{Stands, resumed}
+use Rattle.dk_core.specs.Standing.{Fits, Stands, resumed}
+use Rattle.dk_core.specs.declared.block.Block.{Block}
+use Rattle.dk_core.specs.declared.kept.Kept.{Kept}
+use Rattle.dk_core.specs.declared.session.Step.{Step}
+use Rattle.dk_core.specs.declared.session.Step.TheVariants.{More, Ended}
 use Rattle.dk_core.specs.declared.session.Turn.{Turn}
 use Rattle.dk_core.specs.declared.session.Turn.TheVariants.{Goes, Ends}
 use Rattle.dk_core.specs.declared.session.Ending.{Ending}
@@ -123,7 +127,7 @@ unread f.NoMemory = NoMemory
 
 -- the forms that an answer has, whatever is told
 abbrev pub LineShape : Result Turn Stop → Type 0
-LineShape (Ok (Goes kept block)) = ⊤
+LineShape (Ok (Goes kept block)) = Fits kept block
 LineShape (Ok (Ends end)) = (end.is_over ≡ false) × (end.found ≡ true)
 LineShape (Err (Refused line why)) = ⊤
 LineShape (Err Read) = ⊥
@@ -135,6 +139,49 @@ EndShape (Ok (Ends end)) = end.is_over ≡ true
 EndShape (Err (Refused line why)) = ⊤
 EndShape (Err Read) = ⊥
 EndShape (Err NoMemory) = ⊤
+
+-- the turn of a line that isn't blank
+abbrev pub turned : Kept → Result Block Stop → Result Turn Stop
+turned kept (Ok block) = Ok (Goes kept block)
+turned kept (Err stop) = Err stop
+
+-- what the end of a block's lines comes to, at the file's end or at a blank line
+abbrev pub ClosesAt : Bool → Reads Taken → ℕ → Result Turn Stop → Type 0
+ClosesAt true read number turn = EndGives read number turn
+ClosesAt false read number turn = BlankGives read number turn
+
+abbrev pub ShapeAt : Bool → Result Turn Stop → Type 0
+ShapeAt true turn = EndShape turn
+ShapeAt false turn = LineShape turn
+
+-- What a line does to a block, whatever follows it: the block has a line more, or it ends, and then does what its end comes to.
+abbrev pub LineStep : Kept → Reads Taken → Line → Result Step Stop → Type 0
+LineStep kept read line (Ok (More block)) = LineGives read line (Ok (Goes kept block))
+LineStep kept read line (Ok (Ended block number is_over)) = (turn : Result Turn Stop) → ClosesAt is_over read number turn → LineGives read line turn
+LineStep kept read line (Err stop) = LineGives read line (Err stop)
+
+-- a block with a line more fits what is kept; a line that isn't read ends no block
+abbrev pub LineStepShape : Kept → Block → Result Step Stop → Type 0
+LineStepShape kept old (Ok (More block)) = Fits kept block
+LineStepShape kept old (Ok (Ended block number is_over)) = (block ≡ old) × (is_over ≡ false)
+LineStepShape kept old (Err stop) = LineShape (Err stop)
+
+abbrev pub StepShape : Kept → Block → Result Step Stop → Type 0
+StepShape kept old (Ok (More block)) = Fits kept block
+StepShape kept old (Ok (Ended block number is_over)) = block ≡ old
+StepShape kept old (Err stop) = ⊤
+
+-- what one line does to a block, of the bytes that are left
+abbrev pub StepGives : Kept → Reads Taken → Reading → List ℕ → Result Step Stop → Reading → Option (List ℕ) → Type 0
+StepGives kept read r xs (Ok (More block)) r' left' = TurnGives read r xs (Ok (Goes kept block)) r' left'
+StepGives kept read r xs (Ok (Ended block number is_over)) r' left' = (turn : Result Turn Stop) → ClosesAt is_over read number turn → TurnGives read r xs turn r' left'
+StepGives kept read r xs (Err stop) r' left' = TurnGives read r xs (Err stop) r' left'
+
+-- lines and totals, whatever is told
+abbrev pub StepCounts : Reading → Result Step Stop → Reading → Type 0
+StepCounts r (Ok (More block)) r' = (r'.limits ≡ r.limits) × (r'.is_started ≡ true) × (r.total < r'.total) × (r'.total ≤ r.limits.total)
+StepCounts r (Ok (Ended block number is_over)) r' = (turn : Result Turn Stop) → ShapeAt is_over turn → TurnCounts r turn r'
+StepCounts r (Err e) r' = r'.limits ≡ r.limits
 
 -- what reading up to the end of a block comes to
 abbrev pub BlockGives : Reads Taken → Bool → Reading → List ℕ → Result Ending Stop → Reading → Option (List ℕ) → Type 0

@@ -1,78 +1,54 @@
 // A block that is being read.
-ghost use Rattle.std.specs.Prelude.{◌≡◌, ◌∷◌, true, ℕ, IfOk};
-ghost use Rattle.dk_core.specs.History.{History, effect_of, is_declaration};
-ghost use Rattle.dk_core.specs.Standing.{resumed_by, StateGoesOn};
+ghost use Rattle.std.specs.Prelude.{◌≡◌, ◌||◌};
+ghost use Rattle.dk_core.specs.Fronts.{is_comment};
+ghost use Rattle.dk_core.specs.History.{is_declaration, is_list_of_implementors};
 
-use crate::declaration::DeclarationReader;
-use crate::record::RecordReader;
 use bumpalo::Bump;
-use dk_base::{NoMemory, Why};
-use std::alloc::Global;
+use dk_base::first_word;
+use dk_decl::{DeclBlock, Header};
+use dk_trace::RecordReader;
 
-/// A block that is being read, with the arena in which its values lie.
+/// A block that is being read, with the arena in which its values lie and what its header lines have put in force.
 #[derive(Drop)]
 pub(crate) struct Block<'a> {
     pub(crate) arena: &'a Bump,
+    pub(crate) header: Header,
     pub(crate) state: State<'a>,
 }
 
 /// What the lines of a block so far come to.
 #[derive(Drop)]
 pub(crate) enum State<'a> {
-    /// There were none.
-    Empty,
-    /// The front of a declaration, whose first line has this number.
-    Declaration {
-        line: u64,
-        reader: DeclarationReader,
-    },
-    /// The front of a record of the point at this place.
-    Record {
-        line: u64,
-        place: usize,
-        reader: RecordReader<'a>,
-    },
-    /// The block is refused at this line when it ends.
-    Refused {
-        line: u64,
-        why: Why,
-    },
+    /// Comments and header lines alone, the last of which has this number, if there is one.
+    Front { last: Option<u64> },
+    /// The front of a declaration that begins at this line.
+    Declaration { line: u64, reader: DeclBlock },
+    /// A list of implementors, which is read past.
+    Implementors,
+    /// The front of a sample record.
+    Record { reader: RecordReader<'a> },
 }
 
-/// The state of a block that begins with this line, whose first word is `ppt`.
-pub(crate) fn begun_declaration<'a>(
-    alloc: Global,
-    number: u64,
-    bytes: &[u8],
-) -> Result<State<'a>, NoMemory>
-    requires { is_declaration bytes.now ≡ true }
-    ensures { IfOk result (λ s. (h : History) → StateGoesOn h s (λ ls close. effect_of h (record { number = number; bytes = bytes.now } ∷ ls) close)) }
+/// Whether a line is a comment: it begins with `#` or `//`.
+#[tactic(auto, unfolding(crate::specs::Fronts::is_comment))]
+pub(crate) fn is_comment(bytes: &[u8]) -> bool
+    ensures { result ≡ is_comment bytes.now }
 {
-    match DeclarationReader::begin(alloc, bytes)? {
-        Some(reader) => Ok(State::Declaration {
-            line: number,
-            reader,
-        }),
-        None => Ok(State::Refused {
-            line: number,
-            why: Why::BadPoint,
-        }),
-    }
+    bytes.starts_with(b"#") || bytes.starts_with(b"//")
 }
 
-/// One more line of a declaration.
-pub(crate) fn declaration_line<'a>(
-    line: u64,
-    reader: DeclarationReader,
-    bytes: &[u8],
-) -> Result<State<'a>, NoMemory>
-    ensures { IfOk result (λ s. (h : History) → (number : ℕ) → StateGoesOn h s (λ ls close. resumed_by h (State.Declaration line reader) (record { number = number; bytes = bytes.now } ∷ ls) close)) }
+/// Whether this first line begins a declaration: its first word is `ppt`, or it is `DECLARE`.
+#[tactic(auto, unfolding(crate::specs::History::is_declaration))]
+pub(crate) fn is_declaration(bytes: &[u8]) -> bool
+    ensures { result ≡ is_declaration bytes.now }
 {
-    match reader.line(bytes)? {
-        Some(reader) => Ok(State::Declaration { line, reader }),
-        None => Ok(State::Refused {
-            line,
-            why: Why::BadPoint,
-        }),
-    }
+    first_word(bytes) == b"ppt".as_slice() || bytes == b"DECLARE".as_slice()
+}
+
+/// Whether this first line begins a list of implementors.
+#[tactic(auto, unfolding(crate::specs::History::is_list_of_implementors))]
+pub(crate) fn is_list_of_implementors(bytes: &[u8]) -> bool
+    ensures { result ≡ is_list_of_implementors bytes.now }
+{
+    bytes == b"ListImplementors".as_slice()
 }

@@ -2,13 +2,8 @@
 #![tactic(auto)]
 
 mod block;
-mod declaration;
 mod kept;
-mod names;
-mod record;
-mod report;
 mod session;
-mod summary;
 #[cfg(test)]
 mod tests;
 

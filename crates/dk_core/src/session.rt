@@ -1,11 +1,11 @@
 // A session.
-ghost use Rattle.std.specs.Prelude.{◌≡◌, ◌≤◌, ◌<◌, ◌+◌, ◌-◌, ◌^◌, min, not, ◌∷◌, [], List, ℕ, Option, Some, None, IfOk, IfSome, IsErrOf, true, false, if◌then◌else◌};
+ghost use Rattle.std.specs.Prelude.{◌≡◌, ◌≤◌, ◌<◌, ◌+◌, ◌-◌, ◌^◌, min, not, ◌∷◌, [], List, ℕ, Option, Some, None, Err, IfOk, IfSome, IsErrOf, true, false, if◌then◌else◌};
 ghost use Rattle.dk_io.specs.Outside.{Rose};
 ghost use Rattle.dk_lines.specs.Reading.{left_of};
 ghost use Rattle.dk_core.specs.History.{History, effect_of, no_history, file_ended};
 ghost use Rattle.dk_core.specs.Sections.{report_of};
-ghost use Rattle.dk_core.specs.Standing.{Stands, resumed};
-ghost use Rattle.dk_core.specs.Steps.{TurnGives, LineGives, EndGives, BlankGives, WordsGive, TurnCounts, Answers, Counts, named, BlockGives, BlockCounts, LineShape, EndShape, stopped, unread};
+ghost use Rattle.dk_core.specs.Standing.{Fits, Stands, resumed};
+ghost use Rattle.dk_core.specs.Steps.{LineGives, EndGives, BlankGives, WordsGive, Answers, Counts, named, BlockGives, BlockCounts, LineShape, EndShape, ShapeAt, ClosesAt, LineStep, LineStepShape, StepShape, StepGives, StepCounts, turned, stopped, unread};
 
 use crate::block::Block;
 use crate::kept::Kept;
@@ -13,6 +13,7 @@ use bumpalo::Bump;
 use dk_base::{BlockFault, Fault, NoMemory, Text, Why, trimmed};
 use dk_io::Inputs;
 use dk_lines::{LineFault, Lines};
+use dk_points::Points;
 use std::alloc::Global;
 
 /// What the blocks so far come to.
@@ -41,7 +42,20 @@ pub(crate) struct Ending {
     pub(crate) found: bool,
 }
 
-/// What comes of one line.
+/// What one line does.
+#[derive(Drop)]
+pub(crate) enum Step<'a> {
+    /// The block has a line more.
+    More(Block<'a>),
+    /// The block ends: at the blank line of this number, or where the file ends in front of it.
+    Ended {
+        block: Block<'a>,
+        number: u64,
+        is_over: bool,
+    },
+}
+
+/// What comes of the end of a block's lines: they are no block, and the next one begins; or a block or the file ends.
 #[derive(Drop)]
 pub(crate) enum Turn<'a> {
     Goes(Kept, Block<'a>),
@@ -76,6 +90,7 @@ fn line_stop(fault: LineFault) -> Stop
 
 // The line is blank.
 fn at_blank<'a>(kept: Kept, block: Block<'a>, number: u64) -> Result<Turn<'a>, Stop>
+    requires { Fits kept block }
     ensures shape { LineShape result }
     ensures gives { (h : History) → Stands kept h → BlankGives (resumed h block.entry) number result }
 {
@@ -96,6 +111,7 @@ fn at_blank<'a>(kept: Kept, block: Block<'a>, number: u64) -> Result<Turn<'a>, S
 
 // The file ends in front of the line of this number.
 fn at_end<'a>(kept: Kept, block: Block<'a>, number: u64) -> Result<Turn<'a>, Stop>
+    requires { Fits kept block }
     ensures shape { EndShape result }
     ensures gives { (h : History) → Stands kept h → EndGives (resumed h block.entry) number result }
 {
@@ -109,41 +125,72 @@ fn at_end<'a>(kept: Kept, block: Block<'a>, number: u64) -> Result<Turn<'a>, Sto
     }
 }
 
+// The end of a block: at a blank line, or where the file ends in front of the line of this number.
+fn closed<'a>(kept: Kept, block: Block<'a>, number: u64, is_over: bool) -> Result<Turn<'a>, Stop>
+    requires { Fits kept block }
+    ensures shape { ShapeAt is_over result }
+    ensures gives { (h : History) → Stands kept h → ClosesAt is_over (resumed h block.entry) number result }
+{
+    if is_over {
+        at_end(kept, block, number)
+    } else {
+        at_blank(kept, block, number)
+    }
+}
+
 // A line that is not blank.
-fn at_words<'a>(kept: Kept, block: Block<'a>, number: u64, bytes: &[u8]) -> Result<Turn<'a>, Stop>
-    ensures shape { LineShape result }
-    ensures gives { (h : History) → Stands kept h → WordsGive (resumed h block.entry) (record { number = number; bytes = bytes.now }) result }
+fn at_words<'a>(kept: &Kept, block: Block<'a>, number: u64, bytes: &[u8]) -> Result<Block<'a>, Stop>
+    requires { Fits kept.now block }
+    ensures fits { IfOk result (λ b. Fits kept.now b) }
+    ensures shape { LineShape (turned kept.now result) }
+    ensures gives { (h : History) → Stands kept.now h → WordsGive (resumed h block.entry) (record { number = number; bytes = bytes.now }) (turned kept.now result) }
 {
     match kept.line(block, number, bytes) {
-        Ok(block) => Ok(Turn::Goes(kept, block)),
+        Ok(block) => Ok(block),
         Err(fault) => Err(stop_of(fault)),
     }
 }
 
 // A line of the file.
-fn with_line<'a>(kept: Kept, block: Block<'a>, number: u64, bytes: &[u8]) -> Result<Turn<'a>, Stop>
-    ensures shape { LineShape result }
-    ensures gives { (h : History) → Stands kept h → LineGives (resumed h block.entry) (record { number = number; bytes = bytes.now }) result }
+fn with_line<'a>(kept: &Kept, block: Block<'a>, number: u64, bytes: &[u8]) -> Result<Step<'a>, Stop>
+    requires { Fits kept.now block }
+    ensures shape { LineStepShape kept.now block.entry result }
+    ensures gives { (h : History) → Stands kept.now h → LineStep kept.now (resumed h block.entry) (record { number = number; bytes = bytes.now }) result }
 {
     let words = trimmed(bytes);
     if words.is_empty() {
-        at_blank(kept, block, number)
-    } else {
-        at_words(kept, block, number, words)
+        return Ok(Step::Ended {
+            block,
+            number,
+            is_over: false,
+        });
     }
+    match at_words(kept, block, number, words) {
+        Ok(block) => Ok(Step::More(block)),
+        Err(stop) => Err(stop),
+    }
+}
+
+// A line can't be read, and the block is given up.
+fn given_up<'a>(_block: Block<'a>, fault: LineFault) -> Result<Step<'a>, Stop>
+    ensures { result ≡ Err (unread fault) }
+{
+    Err(line_stop(fault))
 }
 
 // Reads one line.
 fn take_line<'a, I: Inputs>(
-    kept: Kept,
+    kept: &Kept,
     block: Block<'a>,
     inputs: &mut I,
     lines: &mut Lines,
-) -> Result<Turn<'a>, Stop>
-    requires { lines.old.is_started ≡ true }
-    ensures gives { (h : History) → Stands kept h → IfSome (left_of lines.old (I.rest inputs.old))
-        (λ xs. TurnGives (resumed h block.entry) lines.old xs result lines.new (left_of lines.new (I.rest inputs.new))) }
-    ensures counts { TurnCounts lines.old result lines.new }
+) -> Result<Step<'a>, Stop>
+    requires started { lines.old.is_started ≡ true }
+    requires fits { Fits kept.now block }
+    ensures shape { StepShape kept.now block.entry result }
+    ensures gives { (h : History) → Stands kept.now h → IfSome (left_of lines.old (I.rest inputs.old))
+        (λ xs. StepGives kept.now (resumed h block.entry) lines.old xs result lines.new (left_of lines.new (I.rest inputs.new))) }
+    ensures counts { StepCounts lines.old result lines.new }
     ensures emptied { IsErrOf result Stop.Read → lines.new.ahead ≡ [] }
     ensures files { I.file inputs.new ≡ I.file inputs.old }
     ensures later { I.faults inputs.old ≤ I.faults inputs.new }
@@ -152,8 +199,12 @@ fn take_line<'a, I: Inputs>(
     let next = lines.next_number();
     match lines.next(inputs) {
         Ok(Some(line)) => with_line(kept, block, line.number, line.bytes),
-        Ok(None) => at_end(kept, block, next),
-        Err(fault) => Err(line_stop(fault)),
+        Ok(None) => Ok(Step::Ended {
+            block,
+            number: next,
+            is_over: true,
+        }),
+        Err(fault) => given_up(block, fault),
     }
 }
 
@@ -176,12 +227,26 @@ fn read_block<I: Inputs>(
     let mut block = kept.begin(arena);
     let mut kept = kept;
     'reading: loop {
-        match take_line(kept, block, inputs, lines) {
-            Ok(Turn::Goes(next, more)) => {
-                kept = next;
+        match take_line(&kept, block, inputs, lines) {
+            Ok(Step::More(more)) => {
                 block = more;
+                continue 'reading;
             }
-            Ok(Turn::Ends(end)) => return Ok(end),
+            Ok(
+                Step::Ended {
+                    block: whole,
+                    number,
+                    is_over,
+                },
+            ) => match closed(kept, whole, number, is_over) {
+                Ok(Turn::Goes(next, more)) => {
+                    kept = next;
+                    block = more;
+                    continue 'reading;
+                }
+                Ok(Turn::Ends(end)) => return Ok(end),
+                Err(stop) => return Err(stop),
+            },
             Err(stop) => return Err(stop),
         }
     }
@@ -203,7 +268,7 @@ impl Session {
     pub fn new(alloc: Global) -> Result<Session, NoMemory>
         ensures { IfOk result (λ s. Stands s.kept no_history × (s.blocks ≡ 0) × (s.file ≡ 0) × (s.is_over ≡ false)) }
     {
-        let kept = Kept::new(alloc);
+        let kept = Kept::new(alloc)?;
         Ok(Session {
             alloc,
             kept,
@@ -267,6 +332,13 @@ impl Session {
             file: file.saturating_add(1),
             is_over: false,
         }
+    }
+
+    /// The table of points.
+    pub fn points(&self) -> &Points
+        ensures { (h : History) → Stands self.now.kept h → result.now ≡ h.table }
+    {
+        self.kept.points()
     }
 
     /// The last report whole.

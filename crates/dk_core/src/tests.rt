@@ -3,19 +3,19 @@ use super::Session;
 use dk_base::{List, Text};
 use dk_io::MemoryInputs;
 use dk_lines::{Limits, Lines};
+use std::alloc::Global;
 use std::test::Fail;
 
-// A point without variables, and one record of it.
-const FILE: &[u8] = b"ppt P\nppt-type point\n\n\nP\n";
+// A header line, a point without variables, and one record of it.
+const FILE: &[u8] = b"decl-version 2.0\n\nppt P\n\n# nothing\n\nP\n";
 
 const REPORT: &str = "\
 ===========================================================================
 P  [1]
 ";
 
-#[test]
-fn reads_blocks_one_by_one(rt: HostRuntime) -> Result<(), Fail> {
-    let alloc = rt.alloc();
+// The session behind the blocks of the file.
+fn read(alloc: Global) -> Result<Session, Fail> {
     let mut files = List::new(alloc);
     files.push((
         Text::from_slice(alloc, b"t")?,
@@ -23,18 +23,18 @@ fn reads_blocks_one_by_one(rt: HostRuntime) -> Result<(), Fail> {
     ))?;
     let mut inputs = MemoryInputs::new(files, List::new(alloc), 4);
     let mut lines = Lines::new(alloc, Limits::STANDARD)?;
-    let session = Session::new(alloc)?;
-    assert_eq!(rt; session.blocks(), 0);
     lines.start(&mut inputs, "t")?;
-    let (session, found) = session.block(&mut inputs, &mut lines)?;
-    assert!(rt; found, "the declaration");
-    let (session, found) = session.block(&mut inputs, &mut lines)?;
-    assert!(rt; found, "the record");
-    assert_eq!(rt; session.blocks(), 2);
-    let (session, found) = session.block(&mut inputs, &mut lines)?;
-    assert!(rt; !found, "the file's end");
-    let session = session.end_file();
-    assert_eq!(rt; session.blocks(), 2);
-    assert!(rt; session.report()?.as_slice() == REPORT.as_bytes());
+    let (session, _) = Session::new(alloc)?.block(&mut inputs, &mut lines)?;
+    let (session, _) = session.block(&mut inputs, &mut lines)?;
+    let (session, _) = session.block(&mut inputs, &mut lines)?;
+    let (session, _) = session.block(&mut inputs, &mut lines)?;
+    Ok(session.end_file())
+}
+
+#[test]
+fn reads_blocks_one_by_one(rt: HostRuntime) -> Result<(), Fail> {
+    let session = read(rt.alloc())?;
+    let told = (session.blocks(), session.points().len(), session.report()?);
+    assert!(rt; told.0 == 3 && told.1 == 1 && told.2.as_slice() == REPORT.as_bytes());
     Ok(())
 }

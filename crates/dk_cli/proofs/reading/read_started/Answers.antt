@@ -5,7 +5,7 @@ use Rattle.dk_core.specs.Standing.{StandsFor, over_of}
 use Rattle.dk_core.specs.Steps.{Answers}
 use Rattle.dk_core.specs.declared.session.Session.{Session}
 use Rattle.dk_base.specs.declared.faults.Fault.{Fault}
-use Rattle.dk_cli.proofs.Filing.{file_on, file_end, file_fault}
+use Rattle.dk_cli.proofs.Filing.{file_on, file_end, file_fault, not_begun}
 use Rattle.dk_cli.proofs.reading.read_started.Goals as goal
 
 pub steps-preserved : goal.steps-preserved
@@ -29,3 +29,12 @@ returns-in-Ok-default-false-clause-gives g c h stands =
 
 pub returns-in-Err-clause-gives : goal.returns-in-Err-clause-gives
 returns-in-Err-clause-gives g c h stands = file_fault h c.args.lines.now c.steps.lines c.block.new.lines _ _ _ c.steps.session c.in-Err.fault (c.steps.invariant.goes h stands) c.in-Err.ensures.gives
+
+pub steps-init : goal.steps-init
+steps-init g c = record {
+  started = search rules;
+  limits = search rules;
+  files = search rules;
+  later = search rules;
+  goes = λ h stands. not_begun h c.args.lines.now c.args.session (left_of c.args.lines.now (g.I.Inputs.rest c.args.inputs.now)) c.requires.begins stands;
+}

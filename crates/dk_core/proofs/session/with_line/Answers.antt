@@ -1,20 +1,32 @@
-use Rattle.std.proofs.Common.{◌≡◌, ◌∙◌, sym, ap, subst, true, false, ℕ, List}
+use Rattle.std.proofs.Common.{◌≡◌, ◌∙◌, sym, ap, rules, subst, true, false, ℕ, List, Result, Ok, Err}
 use Rattle.dk_base.specs.Pieces.{is_empty}
+use Rattle.dk_base.specs.Reading.{Line}
 use Rattle.dk_base.specs.Words.{trimmed}
 use Rattle.dk_core.specs.Standing.{resumed}
-use Rattle.dk_core.specs.Steps.{WordsGive}
-use Rattle.dk_core.proofs.Stepping.{blank_line, words_line, empty_len}
+use Rattle.dk_core.specs.Steps.{LineShape, WordsGive, turned}
+use Rattle.dk_core.specs.declared.block.Block.{Block}
+use Rattle.dk_core.specs.declared.session.Stop.{Stop}
+use Rattle.dk_core.proofs.Stepping.{blank_step, words_step, words_fault, empty_len}
 use Rattle.dk_core.proofs.session.with_line.Goals as goal
 
 pub returns-then-is_empty-clause-gives : goal.returns-then-is_empty-clause-gives
 returns-then-is_empty-clause-gives c h stands =
     let blank : is_empty (trimmed c.args.bytes.now) ≡ true =
     ap (λ (l : List ℕ). is_empty l) (sym c.trimmed-words.ensures) ∙ sym (empty_len c.trimmed-words.result.now) ∙ sym c.is_empty.ensures ∙ c.if-is_empty.true in
-    blank_line (resumed h c.args.block) (record { number = c.args.number; bytes = c.args.bytes.now }) c.at_blank.result blank (c.at_blank.ensures.gives h stands)
+    blank_step c.args.kept.now (resumed h c.args.block) (record { number = c.args.number; bytes = c.args.bytes.now }) c.args.block blank
 
-pub returns-else-is_empty-clause-gives : goal.returns-else-is_empty-clause-gives
-returns-else-is_empty-clause-gives c h stands =
+pub returns-in-Ok-clause-gives : goal.returns-in-Ok-clause-gives
+returns-in-Ok-clause-gives c h stands =
     let words : is_empty (trimmed c.args.bytes.now) ≡ false =
     ap (λ (l : List ℕ). is_empty l) (sym c.trimmed-words.ensures) ∙ sym (empty_len c.trimmed-words.result.now) ∙ sym c.is_empty.ensures ∙ c.if-is_empty.false in
-    words_line (resumed h c.args.block) (record { number = c.args.number; bytes = c.args.bytes.now }) c.at_words.result words
-    (subst (λ (l : List ℕ). WordsGive (resumed h c.args.block) (record { number = c.args.number; bytes = l }) c.at_words.result) c.trimmed-words.ensures (c.at_words.ensures.gives h stands))
+    words_step c.args.kept.now (resumed h c.args.block) (record { number = c.args.number; bytes = c.args.bytes.now }) c.in-Ok.block words
+    (subst (λ (l : List ℕ). WordsGive (resumed h c.args.block) (record { number = c.args.number; bytes = l }) (turned c.args.kept.now (Ok c.in-Ok.block))) c.trimmed-words.ensures
+    (c.in-Ok.ensures.gives h stands))
+
+pub returns-in-Err-clause-gives : goal.returns-in-Err-clause-gives
+returns-in-Err-clause-gives c h stands =
+    let words : is_empty (trimmed c.args.bytes.now) ≡ false =
+    ap (λ (l : List ℕ). is_empty l) (sym c.trimmed-words.ensures) ∙ sym (empty_len c.trimmed-words.result.now) ∙ sym c.is_empty.ensures ∙ c.if-is_empty.false in
+    words_fault c.args.kept.now (resumed h c.args.block) (record { number = c.args.number; bytes = c.args.bytes.now }) c.in-Err.stop words
+    (subst (λ (l : List ℕ). WordsGive (resumed h c.args.block) (record { number = c.args.number; bytes = l }) (turned c.args.kept.now (Err c.in-Err.stop))) c.trimmed-words.ensures
+    (c.in-Err.ensures.gives h stands))

@@ -1,19 +1,34 @@
-use Rattle.std.proofs.Common.{◌∙◌, ◌≡◌, sym, ap, rules, ℕ, List, false}
-use Rattle.dk_core.specs.Standing.{Stands}
-use Rattle.dk_core.specs.History.{place_of, is_declaration}
-use Rattle.dk_core.proofs.Keeping.{begins_record, begins_nothing}
+use Rattle.std.proofs.Common.{◌≡◌, ◌∙◌, sym, true, false}
+use Rattle.dk_base.specs.Reading.{Line}
+use Rattle.dk_core.specs.History.{History, is_declaration, is_list_of_implementors}
+use Rattle.dk_core.specs.Standing.{Fits, resumed}
+use Rattle.dk_core.proofs.Fronting.{declares, lists, samples, goes_as}
 use Rattle.dk_core.proofs.kept.Kept.first_line.Goals as goal
 
-pub returns-in-Some : goal.returns-in-Some
-unfolding Stands
-returns-in-Some c h stands =
-    let is : is_declaration c.args.bytes.now ≡ false = search rules in
-    let at = sym (c.in-Some.ensures.place ∙ ap (λ (ns : List (List ℕ)). place_of ns c.args.bytes.now) stands.named) in
-    begins_record h (record { number = c.args.number; bytes = c.args.bytes.now }) c.in-Some.place c.begin.result is at c.begin.ensures
+pub returns-then-is_declaration-clause-goes_on : goal.returns-then-is_declaration-clause-goes_on
+returns-then-is_declaration-clause-goes_on c h stands =
+    let now : History = record h { header = c.args.header } in
+    let first : Line = record { number = c.args.number; bytes = c.args.bytes.now } in
+    let is : is_declaration c.args.bytes.now ≡ true = sym c.is_declaration.ensures ∙ c.if-is_declaration.true in
+    goes_as h c.begun_declaration.result _ _ (λ ls close. declares now first ls close is) (c.begun_declaration.ensures.goes_on h)
 
-pub returns-in-None : goal.returns-in-None
-unfolding Stands
-returns-in-None c h stands =
-    let is : is_declaration c.args.bytes.now ≡ false = search rules in
-    let none = sym (c.in-None.ensures.place ∙ ap (λ (ns : List (List ℕ)). place_of ns c.args.bytes.now) stands.named) in
-    begins_nothing h (record { number = c.args.number; bytes = c.args.bytes.now }) is none
+pub returns-then-is_list_of_implementors-clause-goes_on : goal.returns-then-is_list_of_implementors-clause-goes_on
+unfolding resumed
+returns-then-is_list_of_implementors-clause-goes_on c h stands ls close =
+    let now : History = record h { header = c.args.header } in
+    let first : Line = record { number = c.args.number; bytes = c.args.bytes.now } in
+    let is : is_declaration c.args.bytes.now ≡ false = sym c.is_declaration.ensures ∙ c.if-is_declaration.false in
+    let list : is_list_of_implementors c.args.bytes.now ≡ true = sym c.is_list_of_implementors.ensures ∙ c.if-is_list_of_implementors.true in
+    lists now first ls close is list
+
+pub returns-then-is_list_of_implementors-clause-fits : goal.returns-then-is_list_of_implementors-clause-fits
+unfolding Fits
+returns-then-is_list_of_implementors-clause-fits c = tt
+
+pub returns-clause-goes_on : goal.returns-clause-goes_on
+returns-clause-goes_on c h stands =
+    let now : History = record h { header = c.args.header } in
+    let first : Line = record { number = c.args.number; bytes = c.args.bytes.now } in
+    let is : is_declaration c.args.bytes.now ≡ false = sym c.is_declaration.ensures ∙ c.if-is_declaration.false in
+    let list : is_list_of_implementors c.args.bytes.now ≡ false = sym c.is_list_of_implementors.ensures ∙ c.if-is_list_of_implementors.false in
+    goes_as h c.begun_record.result _ _ (λ ls close. samples now first ls close is list) (c.begun_record.ensures.goes_on h stands)

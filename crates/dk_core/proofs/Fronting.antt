@@ -1,0 +1,132 @@
+-- The lines of a block, one more at a time.
+use Rattle.std.proofs.Common.{◌≡◌, ◌∙◌, ℕ, Bool, true, false, List, ◌∷◌, cond, if◌then◌else◌, Option, Some, None, Result, Ok, Err, refl, sym, ap}
+use Rattle.dk_base.specs.Reading.{Line, LineFault, Reads, ◌>>=◌}
+use Rattle.dk_base.specs.declared.faults.BlockFault.{BlockFault}
+use Rattle.dk_base.specs.declared.faults.BlockFault.TheVariants.{Refused, NoMemory}
+use Rattle.dk_base.specs.declared.why.Why.{Why}
+use Rattle.dk_decl.specs.Headers.{Answers, header_line}
+use Rattle.dk_decl.specs.Outcomes.{refused, Told, ToldOn as DeclToldOn}
+use Rattle.dk_decl.specs.declared.header.Header.{Header}
+use Rattle.dk_core.specs.Fronts.{Front, at_header_line, front_of, is_comment}
+use Rattle.dk_core.specs.History.{History, Taken, after_declaration, after_front, after_record, after_sample, block, effect_of, is_declaration, is_list_of_implementors, where_it_ends}
+use Rattle.dk_base.specs.declared.why.Why.TheVariants.{BadHeader}
+use Rattle.dk_core.specs.Standing.{Closes, GoesOn, ToldOn}
+use Rattle.dk_core.specs.declared.block.Block.{Block}
+
+-- ---- the front of a block
+
+-- nothing was read yet
+pub begun : (h : History) (header : Header) (ls : List Line) (close : Option ℕ) → header ≡ h.header
+    → (front_of header None ls >>= λ front. after_front (record h { header = header }) front close) ≡ effect_of h ls close
+unfolding effect_of
+begun h header ls close is = ap (λ (x : Header). front_of x None ls >>= λ front. after_front (record h { header = x }) front close) is
+
+front_comment : (header : Header) (last : Option ℕ) (l : Line) (ls : List Line) → is_comment l.bytes ≡ true → front_of header last (l ∷ ls) ≡ front_of header last ls
+front_comment header last l ls is =
+    ap (λ b. cond b (front_of header last ls) (at_header_line (header_line header l.bytes) l.number (record { header = header; last = last; lines = l ∷ ls }) (λ next. front_of next (Some l.number) ls))) is
+
+front_header : (header : Header) (last : Option ℕ) (l : Line) (ls : List Line) (o : Option (Result Header Why)) → is_comment l.bytes ≡ false → header_line header l.bytes ≡ o
+    → front_of header last (l ∷ ls) ≡ at_header_line o l.number (record { header = header; last = last; lines = l ∷ ls }) (λ next. front_of next (Some l.number) ls)
+front_header header last l ls o is at =
+    ap (λ b. cond b (front_of header last ls) (at_header_line (header_line header l.bytes) l.number (record { header = header; last = last; lines = l ∷ ls }) (λ next. front_of next (Some l.number) ls))) is
+    ∙ ap (λ (p : Option (Result Header Why)). at_header_line p l.number (record { header = header; last = last; lines = l ∷ ls }) (λ next. front_of next (Some l.number) ls)) at
+
+-- a comment
+pub past_comment : (h : History) (last : Option ℕ) (l : Line) (ls : List Line) (close : Option ℕ) → is_comment l.bytes ≡ true
+    → (front_of h.header last (l ∷ ls) >>= λ front. after_front h front close) ≡ (front_of h.header last ls >>= λ front. after_front h front close)
+past_comment h last l ls close is = ap (λ (r : Result Front LineFault). r >>= λ front. after_front h front close) (front_comment h.header last l ls is)
+
+-- what an answer of a header says of the line
+answered_true : (o : Option (Result Header Why)) (h h' : Header) → Answers o h (Ok true) h' → o ≡ Some (Ok h')
+answered_true None h h' a = let e = a.0 in absurd (cc (e))
+answered_true (Some (Ok next)) h h' a = ap (λ (x : Header). let r : Result Header Why = Ok x in Some r) (sym a.1)
+answered_true (Some (Err why)) h h' a = let e = a.0 in absurd (cc (e))
+
+answered_false : (o : Option (Result Header Why)) (h h' : Header) → Answers o h (Ok false) h' → (o ≡ None) × (h' ≡ h)
+answered_false None h h' a = (refl, a.1)
+answered_false (Some (Ok next)) h h' a = let e = a.0 in absurd (cc (e))
+answered_false (Some (Err why)) h h' a = let e = a.0 in absurd (cc (e))
+
+answered_fault : (o : Option (Result Header Why)) (h h' : Header) (why : Why) → Answers o h (Err why) h' → o ≡ Some (Err why)
+answered_fault None h h' why a = let e = a.0 in absurd (cc (e))
+answered_fault (Some (Ok next)) h h' why a = let e = a.0 in absurd (cc (e))
+answered_fault (Some (Err w)) h h' why a = let e = a.0 in let same : w ≡ why = cc in ap (λ (x : Why). let r : Result Header Why = Err x in Some r) same
+
+-- a header line, behind which this header is in force
+pub past_header : (h : History) (header : Header) (last : Option ℕ) (l : Line) (ls : List Line) (close : Option ℕ) → is_comment l.bytes ≡ false
+    → Answers (header_line h.header l.bytes) h.header (Ok true) header
+    → (front_of h.header last (l ∷ ls) >>= λ front. after_front h front close)
+    ≡ (front_of header (Some l.number) ls >>= λ front. after_front (record h { header = header }) front close)
+past_header h header last l ls close is answers =
+    ap (λ (r : Result Front LineFault). r >>= λ front. after_front h front close)
+    (front_header h.header last l ls (Some (Ok header)) is (answered_true (header_line h.header l.bytes) h.header header answers))
+
+-- a header line that is refused
+pub bad_header : (h : History) (header : Header) (last : Option ℕ) (l : Line) (why : Why) (ls : List Line) (close : Option ℕ) → is_comment l.bytes ≡ false
+    → Answers (header_line h.header l.bytes) h.header (Err why) header
+    → (front_of h.header last (l ∷ ls) >>= λ front. after_front h front close) ≡ Err (record { line = l.number; why = why })
+bad_header h header last l why ls close is answers =
+    ap (λ (r : Result Front LineFault). r >>= λ front. after_front h front close)
+    (front_header h.header last l ls (Some (Err why)) is (answered_fault (header_line h.header l.bytes) h.header header why answers))
+
+-- the first line of the record
+pub at_record : (h : History) (header : Header) (last : Option ℕ) (l : Line) (ls : List Line) (close : Option ℕ) → is_comment l.bytes ≡ false
+    → Answers (header_line h.header l.bytes) h.header (Ok false) header
+    → (front_of h.header last (l ∷ ls) >>= λ front. after_front h front close) ≡ after_record (record h { header = header }) l ls close
+at_record h header last l ls close is answers =
+    let both = answered_false (header_line h.header l.bytes) h.header header answers in
+    ap (λ (r : Result Front LineFault). r >>= λ front. after_front h front close) (front_header h.header last l ls None is both.0)
+    ∙ ap (λ (x : Header). after_record (record h { header = x }) l ls close) (sym both.1)
+
+-- ---- one reader behind another
+
+-- what is told of a reader is told of what is made of what it reads
+pub told_then : {A : Type 0} (e : BlockFault) (read : Reads A) (f : A → Option ℕ → Result Taken LineFault) → DeclToldOn e read → ToldOn e (λ ls close. read ls close >>= λ x. f x close)
+told_then (Refused line why) read f told = λ ls close. ap (λ (r : Result _ LineFault). r >>= λ x. f x close) (told ls close)
+told_then NoMemory read f told = tt
+
+-- a fault of what is read where the block ends
+pub told_at : {A : Type 0} (e : BlockFault) (read : Result A LineFault) (f : A → Result Taken LineFault) → Told e read → Told e (read >>= f)
+told_at (Refused line why) read f told = ap (λ (r : Result _ LineFault). r >>= f) told
+told_at NoMemory read f told = tt
+
+-- ---- the first line of a record
+
+pub declares : (h : History) (l : Line) (ls : List Line) (close : Option ℕ) → is_declaration l.bytes ≡ true → after_record h l ls close ≡ after_declaration h l ls close
+declares h l ls close is =
+    ap (λ b. if b then after_declaration h l ls close else if is_list_of_implementors l.bytes then where_it_ends close h (Ok (block h)) else after_sample h l ls close) is
+
+pub lists : (h : History) (l : Line) (ls : List Line) (close : Option ℕ) → is_declaration l.bytes ≡ false → is_list_of_implementors l.bytes ≡ true
+    → after_record h l ls close ≡ where_it_ends close h (Ok (block h))
+lists h l ls close is list =
+    ap (λ b. if b then after_declaration h l ls close else if is_list_of_implementors l.bytes then where_it_ends close h (Ok (block h)) else after_sample h l ls close) is
+    ∙ ap (λ b. if b then where_it_ends close h (Ok (block h)) else after_sample h l ls close) list
+
+pub samples : (h : History) (l : Line) (ls : List Line) (close : Option ℕ) → is_declaration l.bytes ≡ false → is_list_of_implementors l.bytes ≡ false
+    → after_record h l ls close ≡ after_sample h l ls close
+samples h l ls close is list =
+    ap (λ b. if b then after_declaration h l ls close else if is_list_of_implementors l.bytes then where_it_ends close h (Ok (block h)) else after_sample h l ls close) is
+    ∙ ap (λ b. if b then where_it_ends close h (Ok (block h)) else after_sample h l ls close) list
+
+-- ---- what goes on as one reader goes on as another that reads the same
+
+pub goes_as : (h : History) (result : Result Block BlockFault) (read more : Reads Taken) → ((ls : List Line) (close : Option ℕ) → read ls close ≡ more ls close) → GoesOn h result more → GoesOn h result read
+goes_as h (Ok b) read more same goes = λ ls close. same ls close ∙ goes ls close
+goes_as h (Err (Refused line why)) read more same told = λ ls close. same ls close ∙ told ls close
+goes_as h (Err NoMemory) read more same told = tt
+
+-- ---- the end of a block
+
+pub told_closes : (e : BlockFault) (read : Result Taken LineFault) → Told e read → Closes (Err e) read
+told_closes (Refused line why) read told = told
+told_closes NoMemory read told = tt
+
+-- a word that is not awaited, and one that is
+pub no_word : (b : Bool) (line : ℕ) (h : History) (r : Result Unit Why) → r ≡ (if b then Err BadHeader else Ok tt) → r ≡ Ok tt → (if b then refused BadHeader line else Ok (block h)) ≡ Ok (block h)
+no_word true line h r is ok = let e = sym is ∙ ok in absurd (cc (e))
+no_word false line h r is ok = refl
+
+pub word : (b : Bool) (line : ℕ) (h : History) (why : Why) (r : Result Unit Why) → r ≡ (if b then Err BadHeader else Ok tt) → r ≡ Err why
+    → (if b then refused BadHeader line else Ok (block h)) ≡ Err (record { line = line; why = why })
+word true line h why r is err = let same : BadHeader ≡ why = cc in ap (λ (w : Why). let f : Result Taken LineFault = Err (record { line = line; why = w }) in f) same
+word false line h why r is err = let e = sym is ∙ err in absurd (cc (e))

@@ -1,0 +1,31 @@
+-- What stands in front of a block's record: comments, which are left out, and header lines.
+use Rattle.std.specs.Prelude.{◌||◌, ℕ, Bool, List, [], ◌∷◌, codes, nat_eq, Option, Some, None, Result, Ok, Err, if◌then◌else◌}
+use Rattle.std.specs.List.{starts_with}
+use Rattle.dk_base.specs.Reading.{Line, LineFault}
+use Rattle.dk_base.specs.declared.why.Why.{Why}
+use Rattle.dk_decl.specs.Headers.{header_line}
+use Rattle.dk_decl.specs.Outcomes.{refused}
+use Rattle.dk_decl.specs.declared.header.Header.{Header}
+
+-- a line that begins with `#` or `//`
+unfoldable pub is_comment : List ℕ → Bool
+is_comment bytes = starts_with nat_eq bytes (codes "#") || starts_with nat_eq bytes (codes "//")
+
+-- the header behind the header lines, the number of the last of them, if there is one, and the lines of the record
+pub record Front : Type 0 where
+  pub header : Header
+  pub last : Option ℕ
+  pub lines : List Line
+
+-- the line is the record's first, is a header line behind which reading goes on, or is a header line that is refused
+abbrev pub at_header_line : Option (Result Header Why) → ℕ → Front → (Header → Result Front LineFault) → Result Front LineFault
+at_header_line None number front more = Ok front
+at_header_line (Some (Err why)) number front more = refused why number
+at_header_line (Some (Ok header)) number front more = more header
+
+-- what stands in front of the record of these lines, or the first header line that is refused
+abbrev pub front_of : Header → Option ℕ → List Line → Result Front LineFault
+front_of header last [] = Ok (record { header = header; last = last; lines = [] })
+front_of header last (l ∷ ls) =
+    if is_comment l.bytes then front_of header last ls
+    else at_header_line (header_line header l.bytes) l.number (record { header = header; last = last; lines = l ∷ ls }) (λ next. front_of next (Some l.number) ls)
