@@ -12,8 +12,6 @@ use Rattle.dk_binary.specs.declared.compare.Compare.TheVariants.{Equal, Differen
 use Rattle.dk_binary.specs.declared.equality.Equality.{Equality}
 use Rattle.dk_binary.specs.declared.equality.Scalar.{Scalar}
 use Rattle.dk_binary.specs.declared.equality.Scalar.TheVariants.{Bool as BoolScalar, Hash as HashScalar, Str as StrScalar}
-use Rattle.dk_binary.specs.declared.rows.BinaryRow.{BinaryRow}
-use Rattle.dk_binary.specs.declared.rows.BinaryRow.TheVariants as binary
 use Rattle.dk_rows.specs.Laws.{is_row}
 use Rattle.dk_rows.specs.Relations.{differ, is_multiple, is_square}
 use Rattle.dk_template.specs.declared.grammar.RowId.{RowId}
@@ -84,9 +82,3 @@ is_row_of StrScalar false = refl
 
 pub equality_is_row : (r : Equality) → IsTrue (is_row (equality_row r))
 equality_is_row r = is_row_of r.kind r.equal
-
--- ---- all
-abbrev pub row_of : BinaryRow → RowId
-row_of (binary.Compare r) = compare_row r
-row_of (binary.Linear r) = linear_row
-row_of (binary.Equality r) = equality_row r

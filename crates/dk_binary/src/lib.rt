@@ -9,7 +9,7 @@ mod rows;
 pub use compare::Compare;
 pub use equality::{Equality, Scalar};
 pub use linear::Linear;
-pub use rows::{BinaryRow, join, point, row_at};
+pub use rows::{join, point};
 
 #[cfg(test)]
 mod tests;

@@ -1,7 +1,7 @@
 // The rows of two variables by their numbers.
 ghost use Rattle.std.specs.Prelude.{◌≡◌, [], ◌∷◌, IfOk, OnErr};
 ghost use Rattle.dk_base.specs.Values.{values_of};
-ghost use Rattle.dk_binary.specs.Rows.{IsBinary, row_of};
+ghost use Rattle.dk_binary.specs.Rows.{IsBinary};
 ghost use Rattle.dk_rows.specs.Meanings.{state_of};
 ghost use Rattle.dk_template.specs.Joins.{joined};
 ghost use Rattle.dk_template.specs.Proper.{IsProper};
@@ -11,46 +11,16 @@ ghost use Rattle.dk_template.specs.declared.templates.StateForm.{StateForm};
 
 use crate::{Compare, Equality, Linear, Scalar};
 use dk_base::{NoMemory, View};
-use dk_template::{Row, RowId, State, join_states, template_at};
+use dk_template::{Row, RowId, State, by_number, join_states, template_at};
 use std::alloc::Global;
-
-/// A row of two variables that are no sequences.
-#[derive(Clone, Copy, Debug, PartialEq, Eq)]
-pub enum BinaryRow {
-    Compare(Compare),
-    Linear(Linear),
-    Equality(Equality),
-}
 
 macro_rules! equality {
     ($kind:ident, $equal:expr) => {
-        BinaryRow::Equality(Equality {
+        Equality {
             kind: Scalar::$kind,
             equal: $equal,
-        })
+        }
     };
-}
-
-/// The row that has a number.
-pub fn row_at(row: RowId) -> BinaryRow
-    requires { IsBinary row }
-    ensures { row_of result ≡ row }
-{
-    match row.0 {
-        11 => BinaryRow::Compare(Compare::Equal),
-        12 => BinaryRow::Compare(Compare::Different),
-        13 => BinaryRow::Compare(Compare::Less),
-        14 => BinaryRow::Compare(Compare::AtMost),
-        15 => BinaryRow::Linear(Linear),
-        16 => BinaryRow::Compare(Compare::Multiple),
-        17 => BinaryRow::Compare(Compare::Square),
-        18 => equality!(Bool, true),
-        19 => equality!(Bool, false),
-        20 => equality!(Hash, true),
-        21 => equality!(Hash, false),
-        22 => equality!(Str, true),
-        _ => equality!(Str, false),
-    }
 }
 
 /// The state of one tuple. It wants no memory.
@@ -60,11 +30,21 @@ pub fn point(alloc: Global, row: RowId, tuple: &[View<'_>]) -> Result<State, NoM
     ensures state { IfOk result (λ state. state ≡ state_of row (values_of tuple.now ∷ [])) }
     ensures err { OnErr result (form_of row ≡ StateForm.Texts) }
 {
-    match row_at(row) {
-        BinaryRow::Compare(row) => row.point(alloc, tuple),
-        BinaryRow::Linear(row) => row.point(alloc, tuple),
-        BinaryRow::Equality(row) => row.point(alloc, tuple),
-    }
+    by_number!(row, row => row.point(alloc, tuple), {
+        11 => Compare::Equal,
+        12 => Compare::Different,
+        13 => Compare::Less,
+        14 => Compare::AtMost,
+        15 => Linear,
+        16 => Compare::Multiple,
+        17 => Compare::Square,
+        18 => equality!(Bool, true),
+        19 => equality!(Bool, false),
+        20 => equality!(Hash, true),
+        21 => equality!(Hash, false),
+        22 => equality!(Str, true),
+        _ => equality!(Str, false),
+    })
 }
 
 /// The state of two lists together. It wants no memory.

@@ -12,8 +12,6 @@ use Rattle.dk_elements.specs.declared.non_null.NonNull.{NonNull}
 use Rattle.dk_elements.specs.declared.non_null.NonNull.TheVariants as non_null
 use Rattle.dk_elements.specs.declared.one_of.OneOf.{OneOf}
 use Rattle.dk_elements.specs.declared.one_of.OneOf.TheVariants as one_of
-use Rattle.dk_elements.specs.declared.rows.ElementRow.{ElementRow}
-use Rattle.dk_elements.specs.declared.rows.ElementRow.TheVariants as element
 use Rattle.dk_elements.specs.declared.sorted.Sorted.{Sorted}
 use Rattle.dk_forms.specs.Code.{code_of}
 use Rattle.dk_forms.specs.Greatest.{greatest_of}
@@ -134,11 +132,3 @@ compare_number_is_row Ge = refl
 
 pub compare_is_row : (r : Compare) → IsTrue (is_row (compare_row r))
 compare_is_row r = compare_number_is_row r.0
-
--- ---- all
-abbrev pub row_of : ElementRow → RowId
-row_of (element.OneOf r) = one_of_row r
-row_of (element.Bound r) = bound_row r
-row_of (element.NonNull r) = non_null_row r
-row_of (element.Sorted r) = sorted_row r
-row_of (element.Compare r) = compare_row r

@@ -14,7 +14,7 @@ pub use compare::Compare;
 pub use dk_lanes::Rel;
 pub use non_null::NonNull;
 pub use one_of::OneOf;
-pub use rows::{ElementRow, join, point, row_at};
+pub use rows::{join, point};
 pub use sorted::Sorted;
 
 #[cfg(test)]

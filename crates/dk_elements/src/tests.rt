@@ -167,5 +167,4 @@ fn rows_know_their_numbers(rt: HostRuntime) {
     assert!(rt; OneOf::Str.row() == RowId(47) && Bound::Upper.row() == RowId(37));
     assert!(rt; NonNull::Hash.row() == RowId(46) && Sorted(Rel::Eq).row() == RowId(43));
     assert!(rt; Compare(Rel::Ge).row() == RowId(56) && Bound::Lower.empty() == State::Empty);
-    assert!(rt; row_at(RowId(42)) == ElementRow::Sorted(Sorted(Rel::Ge)));
 }

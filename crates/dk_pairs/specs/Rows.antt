@@ -13,8 +13,6 @@ use Rattle.dk_pairs.specs.declared.membership.Member.{Member}
 use Rattle.dk_pairs.specs.declared.membership.Member.TheVariants as member
 use Rattle.dk_pairs.specs.declared.partners.Partners.{Partners}
 use Rattle.dk_pairs.specs.declared.partners.Partners.TheVariants as partners
-use Rattle.dk_pairs.specs.declared.rows.PairRow.{PairRow}
-use Rattle.dk_pairs.specs.declared.rows.PairRow.TheVariants as pair
 use Rattle.dk_pairs.specs.declared.subsets.Subset.{Subset}
 use Rattle.dk_pairs.specs.declared.subsets.Subset.TheVariants as subset
 use Rattle.dk_rows.specs.Laws.{is_row}
@@ -119,11 +117,3 @@ offset_row = record { 0 = 68 }
 
 pub offset_is_row : IsTrue (is_row offset_row)
 offset_is_row = refl
-
--- ---- all
-abbrev pub row_of : PairRow → RowId
-row_of (pair.Member r) = member_row r
-row_of (pair.EqualSequences r) = equal_row r
-row_of (pair.Partners r) = partners_row r
-row_of (pair.Subset r) = subset_row r
-row_of (pair.PairOffset r) = offset_row

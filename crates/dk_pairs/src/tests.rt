@@ -159,6 +159,5 @@ fn rows_know_their_numbers(rt: HostRuntime) {
     assert!(rt; Member::Str.row() == RowId(51) && EqualSequences::Bool.row() == RowId(58));
     assert!(rt; Partners::Reversed.row() == RowId(66) && Subset::Hash.row() == RowId(64));
     assert!(rt; PairOffset.row() == RowId(68) && PairOffset.empty() == State::Empty);
-    assert!(rt; row_at(RowId(62)) == PairRow::Partners(Partners::AtMost));
     assert!(rt; Partners::Less.relates(&[1, 2], &[2, 3]) && !Subset::Int.broken(&State::Empty));
 }

@@ -4,6 +4,7 @@
 
 mod admitting;
 mod answers;
+mod dispatch;
 mod exchange;
 mod fitting;
 mod grammar;

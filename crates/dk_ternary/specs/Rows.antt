@@ -5,8 +5,6 @@ use Rattle.dk_rows.specs.Relations.{is_bitwise, is_difference, is_gcd, is_maximu
 use Rattle.dk_template.specs.declared.grammar.RowId.{RowId}
 use Rattle.dk_ternary.specs.declared.operation.Operation.{Operation}
 use Rattle.dk_ternary.specs.declared.operation.Operation.TheVariants.{Sum, Difference, Product, Minimum, Maximum, Quotient, Remainder, And, Or, Xor, Gcd}
-use Rattle.dk_ternary.specs.declared.rows.TernaryRow.{TernaryRow}
-use Rattle.dk_ternary.specs.declared.rows.TernaryRow.TheVariants as ternary
 
 -- a row of three variables
 abbrev pub IsTernary : RowId → Type 0
@@ -59,8 +57,3 @@ linear_ternary_row = record { 0 = 67 }
 
 pub linear_ternary_is_row : IsTrue (is_row linear_ternary_row)
 linear_ternary_is_row = refl
-
--- ---- both
-abbrev pub row_of : TernaryRow → RowId
-row_of (ternary.Operation r) = operation_row r
-row_of (ternary.LinearTernary r) = linear_ternary_row

@@ -8,7 +8,7 @@ mod rows;
 
 pub use operation::Operation;
 pub use planar::LinearTernary;
-pub use rows::{TernaryRow, join, point, row_at};
+pub use rows::{join, point};
 
 #[cfg(test)]
 mod tests;

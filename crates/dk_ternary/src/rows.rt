@@ -1,7 +1,7 @@
 // The rows of three variables by their numbers.
 ghost use Rattle.std.specs.Prelude.{◌≡◌, [], ◌∷◌, IfOk, OnErr};
 ghost use Rattle.dk_base.specs.Values.{values_of};
-ghost use Rattle.dk_ternary.specs.Rows.{IsTernary, row_of};
+ghost use Rattle.dk_ternary.specs.Rows.{IsTernary};
 ghost use Rattle.dk_rows.specs.Meanings.{state_of};
 ghost use Rattle.dk_template.specs.Joins.{joined};
 ghost use Rattle.dk_template.specs.Proper.{IsProper};
@@ -11,36 +11,8 @@ ghost use Rattle.dk_template.specs.declared.templates.StateForm.{StateForm};
 
 use crate::{LinearTernary, Operation};
 use dk_base::{NoMemory, View};
-use dk_template::{Row, RowId, State, join_states, template_at};
+use dk_template::{Row, RowId, State, by_number, join_states, template_at};
 use std::alloc::Global;
-
-/// A row of three variables.
-#[derive(Clone, Copy, Debug, PartialEq, Eq)]
-pub enum TernaryRow {
-    Operation(Operation),
-    LinearTernary(LinearTernary),
-}
-
-/// The row of a number.
-pub fn row_at(row: RowId) -> TernaryRow
-    requires { IsTernary row }
-    ensures { row_of result ≡ row }
-{
-    match row.0 {
-        24 => TernaryRow::Operation(Operation::Sum),
-        25 => TernaryRow::Operation(Operation::Difference),
-        26 => TernaryRow::Operation(Operation::Product),
-        27 => TernaryRow::Operation(Operation::Minimum),
-        28 => TernaryRow::Operation(Operation::Maximum),
-        29 => TernaryRow::Operation(Operation::Quotient),
-        30 => TernaryRow::Operation(Operation::Remainder),
-        31 => TernaryRow::Operation(Operation::And),
-        32 => TernaryRow::Operation(Operation::Or),
-        33 => TernaryRow::Operation(Operation::Xor),
-        34 => TernaryRow::Operation(Operation::Gcd),
-        _ => TernaryRow::LinearTernary(LinearTernary),
-    }
-}
 
 /// The state of one tuple. It wants no memory.
 pub fn point(alloc: Global, row: RowId, tuple: &[View<'_>]) -> Result<State, NoMemory>
@@ -49,10 +21,20 @@ pub fn point(alloc: Global, row: RowId, tuple: &[View<'_>]) -> Result<State, NoM
     ensures state { IfOk result (λ state. state ≡ state_of row (values_of tuple.now ∷ [])) }
     ensures err { OnErr result (form_of row ≡ StateForm.Texts) }
 {
-    match row_at(row) {
-        TernaryRow::Operation(row) => row.point(alloc, tuple),
-        TernaryRow::LinearTernary(row) => row.point(alloc, tuple),
-    }
+    by_number!(row, row => row.point(alloc, tuple), {
+        24 => Operation::Sum,
+        25 => Operation::Difference,
+        26 => Operation::Product,
+        27 => Operation::Minimum,
+        28 => Operation::Maximum,
+        29 => Operation::Quotient,
+        30 => Operation::Remainder,
+        31 => Operation::And,
+        32 => Operation::Or,
+        33 => Operation::Xor,
+        34 => Operation::Gcd,
+        _ => LinearTernary,
+    })
 }
 
 /// The state of two lists together. It wants no memory.

@@ -96,7 +96,6 @@ fn states_of_one_point(rt: HostRuntime) -> Result<(), Fail> {
 #[test]
 fn rows_know_their_numbers(rt: HostRuntime) {
     assert!(rt; Operation::Gcd.row() == RowId(34) && LinearTernary.row() == RowId(67));
-    assert!(rt; row_at(RowId(31)) == TernaryRow::Operation(Operation::And));
     assert!(rt; Operation::Xor.is_result(6, 12, 10) && LinearTernary.empty() == State::Empty);
     assert!(rt; Operation::Sum.broken(&State::Broken));
 }

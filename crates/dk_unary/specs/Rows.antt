@@ -10,8 +10,6 @@ use Rattle.dk_unary.specs.declared.non_null.NonNull.{NonNull}
 use Rattle.dk_unary.specs.declared.non_null.NonNull.TheVariants as non_null
 use Rattle.dk_unary.specs.declared.one_of.OneOf.{OneOf}
 use Rattle.dk_unary.specs.declared.one_of.OneOf.TheVariants as one_of
-use Rattle.dk_unary.specs.declared.rows.UnaryRow.{UnaryRow}
-use Rattle.dk_unary.specs.declared.rows.UnaryRow.TheVariants as unary
 
 -- a row of one variable that isn't a sequence
 abbrev pub IsUnary : RowId → Type 0
@@ -39,12 +37,6 @@ non_null_row non_null.Str = record { 0 = 10 }
 
 abbrev pub modulus_row : RowId
 modulus_row = record { 0 = 5 }
-
-abbrev pub row_of : UnaryRow → RowId
-row_of (unary.OneOf r) = one_of_row r
-row_of (unary.Bound r) = bound_row r
-row_of (unary.NonNull r) = non_null_row r
-row_of (unary.Modulus r) = modulus_row
 
 -- ---- each is a row of the table
 pub one_of_is_row : (r : OneOf) → IsTrue (is_row (one_of_row r))

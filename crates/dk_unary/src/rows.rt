@@ -7,40 +7,12 @@ ghost use Rattle.dk_template.specs.Proper.{IsProper};
 ghost use Rattle.dk_template.specs.Rows.{IsTuple};
 ghost use Rattle.dk_template.specs.Templates.{form_of, kinds_of};
 ghost use Rattle.dk_template.specs.declared.templates.StateForm.{StateForm};
-ghost use Rattle.dk_unary.specs.Rows.{IsUnary, row_of};
+ghost use Rattle.dk_unary.specs.Rows.{IsUnary};
 
 use crate::{Bound, Modulus, NonNull, OneOf};
 use dk_base::{NoMemory, View};
-use dk_template::{Row, RowId, State, join_states, template_at};
+use dk_template::{Row, RowId, State, by_number, join_states, template_at};
 use std::alloc::Global;
-
-/// A row of one variable that is no sequence.
-#[derive(Clone, Copy, Debug, PartialEq, Eq)]
-pub enum UnaryRow {
-    OneOf(OneOf),
-    Bound(Bound),
-    NonNull(NonNull),
-    Modulus(Modulus),
-}
-
-/// The row that has a number.
-pub fn row_at(row: RowId) -> UnaryRow
-    requires { IsUnary row }
-    ensures { row_of result ≡ row }
-{
-    match row.0 {
-        1 => UnaryRow::OneOf(OneOf::Int),
-        2 => UnaryRow::Bound(Bound::Lower),
-        3 => UnaryRow::Bound(Bound::Upper),
-        4 => UnaryRow::NonNull(NonNull::Int),
-        5 => UnaryRow::Modulus(Modulus),
-        6 => UnaryRow::OneOf(OneOf::Bool),
-        7 => UnaryRow::OneOf(OneOf::Hash),
-        8 => UnaryRow::NonNull(NonNull::Hash),
-        9 => UnaryRow::OneOf(OneOf::Str),
-        _ => UnaryRow::NonNull(NonNull::Str),
-    }
-}
 
 /// The state of one tuple. Only row 9 wants memory.
 pub fn point(alloc: Global, row: RowId, tuple: &[View<'_>]) -> Result<State, NoMemory>
@@ -49,12 +21,18 @@ pub fn point(alloc: Global, row: RowId, tuple: &[View<'_>]) -> Result<State, NoM
     ensures state { IfOk result (λ state. state ≡ state_of row (values_of tuple.now ∷ [])) }
     ensures err { OnErr result (form_of row ≡ StateForm.Texts) }
 {
-    match row_at(row) {
-        UnaryRow::OneOf(row) => row.point(alloc, tuple),
-        UnaryRow::Bound(row) => row.point(alloc, tuple),
-        UnaryRow::NonNull(row) => row.point(alloc, tuple),
-        UnaryRow::Modulus(row) => row.point(alloc, tuple),
-    }
+    by_number!(row, row => row.point(alloc, tuple), {
+        1 => OneOf::Int,
+        2 => Bound::Lower,
+        3 => Bound::Upper,
+        4 => NonNull::Int,
+        5 => Modulus,
+        6 => OneOf::Bool,
+        7 => OneOf::Hash,
+        8 => NonNull::Hash,
+        9 => OneOf::Str,
+        _ => NonNull::Str,
+    })
 }
 
 /// The state of two lists together. Only row 9 wants memory.

@@ -151,6 +151,5 @@ fn joins_states(rt: HostRuntime) -> Result<(), Fail> {
 fn rows_know_their_numbers(rt: HostRuntime) {
     assert!(rt; OneOf::Str.row() == RowId(9) && Bound::Upper.row() == RowId(3));
     assert!(rt; NonNull::Hash.row() == RowId(8) && Modulus.row() == RowId(5));
-    assert!(rt; row_at(RowId(6)) == UnaryRow::OneOf(OneOf::Bool));
     assert!(rt; Modulus.empty() == State::Empty && Bound::Lower.broken(&State::Broken));
 }
