@@ -1,4 +1,5 @@
 pub mod Joined
+pub mod Marked
 pub mod Left
 pub mod Unfaulted
 pub mod Fitted

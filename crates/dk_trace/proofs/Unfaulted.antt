@@ -36,7 +36,7 @@ values_ok (v ∷ vs) = by v.constant_line (values_ok vs)
 place_ok : (vs : List VarDecl) (p : Place) → IsOk (from_place p vs [] None)
 place_ok vs AtName = values_ok vs
 place_ok vs (AtValue k) = refl
-place_ok vs (AtMark k number text) = refl
+place_ok vs (AtMark u) = refl
 
 reader_ok : (vs : List VarDecl) (r : ValueReader) → IsOk (values_resumed vs r [] None)
 unfolding values_resumed

@@ -3,6 +3,7 @@ pub mod Marks
 pub mod Values
 pub mod Bodies
 pub mod Records
+pub mod MarksResumed
 pub mod ValuesResumed
 pub mod BodiesResumed
 pub mod RecordsResumed

@@ -19,9 +19,13 @@ abbrev pub no_value : Option Kind → List Value
 no_value None = []
 no_value (Some k) = value.Missing ∷ []
 
+-- what the mark makes of the missing value and of what the text says
+abbrev pub marked : List Value → Result (List Value) LineFault → Line → Result (List Value) LineFault
+marked missing said mark =
+    if bytes_eq mark.bytes (codes "2") then Ok missing
+    else if bytes_eq mark.bytes (codes "0") || bytes_eq mark.bytes (codes "1") then said
+    else refused BadMark mark.number
+
 -- A value of a text with a mark. With mark 2 it is missing, whatever the text; with mark 0 or 1 the text is to be a value of the kind.
 unfoldable pub marked_value : Option Kind → Line → Line → Result (List Value) LineFault
-marked_value k text mark =
-    if bytes_eq mark.bytes (codes "2") then Ok (no_value k)
-    else if bytes_eq mark.bytes (codes "0") || bytes_eq mark.bytes (codes "1") then read_value k text
-    else refused BadMark mark.number
+marked_value k text mark = marked (no_value k) (read_value k text) mark

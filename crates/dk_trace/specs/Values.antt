@@ -20,11 +20,12 @@ next_line known read (l ∷ ls) close = read l ls close
 abbrev pub then_values : List Value → Result (List Value) LineFault → Result (List Value) LineFault
 then_values front others = others >>= λ back. Ok (front ++ back)
 
-abbrev pub from_mark : Option Kind → Line → Reads (List Value) → Reads (List Value)
-from_mark k text others = next_line [] (λ mark ls close. marked_value k text mark >>= λ front. then_values front (others ls close))
+-- the next line is a value's mark, and `with_mark` says what the value is with each mark
+abbrev pub from_mark : (Line → Result (List Value) LineFault) → Reads (List Value) → Reads (List Value)
+from_mark with_mark others = next_line [] (λ mark ls close. with_mark mark >>= λ front. then_values front (others ls close))
 
 abbrev pub from_value : Option Kind → Reads (List Value) → Reads (List Value)
-from_value k others = next_line [] (λ text. from_mark k text others)
+from_value k others = next_line [] (λ text. from_mark (marked_value k text) others)
 
 -- the kind of the variable, whose name the line is to be
 unfoldable pub named_kind : VarDecl → Line → Result (Option Kind) LineFault

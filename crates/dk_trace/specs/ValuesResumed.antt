@@ -4,6 +4,7 @@ use Rattle.dk_base.specs.Reading.{Reads}
 use Rattle.dk_base.specs.Values.{values_of as shown_by}
 use Rattle.dk_base.specs.declared.values.Value.{Value}
 use Rattle.dk_decl.specs.declared.decls.VarDecl.{VarDecl}
+use Rattle.dk_trace.specs.MarksResumed.{with_mark}
 use Rattle.dk_trace.specs.Values.{from_mark, from_value, then_values, values_of}
 use Rattle.dk_trace.specs.declared.values.Place.{Place}
 use Rattle.dk_trace.specs.declared.values.Place.TheVariants.{AtName, AtValue, AtMark}
@@ -12,7 +13,7 @@ use Rattle.dk_trace.specs.declared.values.ValueReader.{ValueReader}
 abbrev pub from_place : Place → List VarDecl → Reads (List Value)
 from_place AtName vs ls close = values_of vs ls close
 from_place (AtValue k) vs ls close = from_value k (values_of vs) ls close
-from_place (AtMark k number text) vs ls close = from_mark k (record { number = number; bytes = text.now }) (values_of vs) ls close
+from_place (AtMark u) vs ls close = from_mark (with_mark u) (values_of vs) ls close
 
 -- the values that were read so far, together with those of the lines that are left
 unfoldable pub values_resumed : List VarDecl → ValueReader → Reads (List Value)

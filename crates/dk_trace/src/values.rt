@@ -9,7 +9,7 @@ ghost use Rattle.dk_decl.specs.declared.decls.VarDecl.{VarDecl as Declared};
 ghost use Rattle.dk_trace.specs.Answers.{Shows, shown_value};
 ghost use Rattle.dk_trace.specs.Values.{IsTold, from_value, known_values, named_kind, then_values, values_of};
 
-use crate::marks::{marked_value, refused};
+use crate::marks::{Unmarked, refused};
 use bumpalo::collections::into_bump_slice;
 use dk_base::{Arena, BlockFault, Kind, NoMemory, Text, Value, View, Why, is_spelling};
 use dk_decl::VarDecl;
@@ -21,8 +21,8 @@ pub(crate) enum Place<'a> {
     AtName,
     /// The value of a variable of this kind.
     AtValue(Option<Kind>),
-    /// The mark of a value: the variable's kind, and the line and the text of the value.
-    AtMark(Option<Kind>, u64, &'a [u8]),
+    /// The mark of a value whose text says this.
+    AtMark(Unmarked<'a>),
 }
 
 /// The values of a record that is being read, line by line.
@@ -39,13 +39,6 @@ fn is_named(bytes: &[u8], name: &Text) -> bool
     ensures { result ≡ bytes_eq (unescaped bytes.now) name.now }
 {
     is_spelling(bytes, name.as_slice())
-}
-
-fn copied<'a>(arena: &'a Arena, bytes: &[u8]) -> Result<&'a [u8], NoMemory>
-    ensures { IfOk result (λ copy. copy.now ≡ bytes.now) }
-{
-    let copy: &'a [u8] = arena.try_alloc_slice_copy(bytes)?;
-    Ok(copy)
 }
 
 fn with_value<'a>(
@@ -201,7 +194,7 @@ impl<'a> ValueReader<'a> {
     }
 
     // The value of a variable of this kind.
-    #[tactic(auto, unfolding(crate::specs::ValuesResumed::values_resumed))]
+    #[tactic(auto, using(crate::proofs::Marked::same_marked), unfolding(crate::specs::ValuesResumed::values_resumed))]
     fn value_line(
         self,
         kind: Option<Kind>,
@@ -217,10 +210,10 @@ impl<'a> ValueReader<'a> {
             index,
             values,
         } = self;
-        let text = copied(arena, bytes)?;
+        let unmarked = Unmarked::read(arena, kind, line, bytes)?;
         Ok(ValueReader {
             arena,
-            place: Place::AtMark(kind, line, text),
+            place: Place::AtMark(unmarked),
             index,
             values,
         })
@@ -230,13 +223,11 @@ impl<'a> ValueReader<'a> {
     #[tactic(auto, unfolding(crate::specs::ValuesResumed::values_resumed))]
     fn mark_line(
         self,
-        kind: Option<Kind>,
-        number: u64,
-        text: &'a [u8],
+        unmarked: Unmarked<'a>,
         line: u64,
         bytes: &[u8],
     ) -> Result<ValueReader<'a>, BlockFault>
-        requires { self.place ≡ AtMark kind number text }
+        requires { self.place ≡ AtMark unmarked }
         ensures { (vs : List Declared) → GoesOn (values_resumed vs) result (λ ls. values_resumed vs self.entry (record { number = line; bytes = bytes.now } ∷ ls)) }
     {
         let ValueReader {
@@ -245,7 +236,7 @@ impl<'a> ValueReader<'a> {
             index,
             values,
         } = self;
-        let value = marked_value(arena, kind, number, text, line, bytes)?;
+        let value = unmarked.with_mark(line, bytes)?;
         let values = with_shown(values, value)?;
         Ok(ValueReader {
             arena,
@@ -268,7 +259,7 @@ impl<'a> ValueReader<'a> {
         match self.place {
             Place::AtName => self.name_line(vars, line, bytes),
             Place::AtValue(kind) => self.value_line(kind, line, bytes),
-            Place::AtMark(kind, number, text) => self.mark_line(kind, number, text, line, bytes),
+            Place::AtMark(unmarked) => self.mark_line(unmarked, line, bytes),
         }
     }
 
@@ -280,7 +271,7 @@ impl<'a> ValueReader<'a> {
         match self.place {
             Place::AtName => finished(self.arena, vars, self.index, self.values, line),
             Place::AtValue(_) => Err(refused(line, Why::Truncated)),
-            Place::AtMark(_, _, _) => Err(refused(line, Why::Truncated)),
+            Place::AtMark(_) => Err(refused(line, Why::Truncated)),
         }
     }
 }
