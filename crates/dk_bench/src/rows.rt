@@ -10,7 +10,7 @@ use dk_binary::{Compare, Linear};
 use dk_template::laws::state_of_list;
 use dk_template::{Row, State, fits, point_of};
 use dk_ternary::{LinearTernary, Operation};
-use dk_unary::{Bound, Modulus, OneOf};
+use dk_unary::{Bound, Modulus, NonNull, OneOf};
 use std::alloc::{AllocError, Global};
 use std::io;
 use std::time::Clock;
@@ -176,19 +176,23 @@ fn print_line<R: Row + Drop, F: Fn(u8) -> [i64; 3] + Drop>(
 fn print_unary(rt: &(impl Print + Clock + AllocGlobal)) -> io::Result<()> {
     print_line(rt, "OneOfInt", OneOf::Int, 1, |i| [i as i64 % 3, 0, 0])?;
     print_line(rt, "LowerBound", Bound::Lower, 1, |i| [i as i64, 0, 0])?;
+    print_line(rt, "UpperBound", Bound::Upper, 1, |i| [i as i64, 0, 0])?;
+    print_line(rt, "NonZero", NonNull::Int, 1, |i| [i as i64 + 1, 0, 0])?;
     print_line(rt, "Modulus", Modulus, 1, |i| [i as i64 * 4 + 3, 0, 0])
 }
 
 #[tactic(auto, unfolding(dk_template::specs::Templates::rows))]
-fn print_binary(rt: &(impl Print + Clock + AllocGlobal)) -> io::Result<()> {
+fn print_comparisons(rt: &(impl Print + Clock + AllocGlobal)) -> io::Result<()> {
     print_line(rt, "Equal", Compare::Equal, 2, |i| [i as i64, i as i64, 0])?;
     print_line(
         rt,
-        "Square",
-        Compare::Square,
+        "Different",
+        Compare::Different,
         2,
-        |i| [i as i64 * i as i64, i as i64, 0],
+        |i| [i as i64, 99, 0],
     )?;
+    print_line(rt, "Less", Compare::Less, 2, |i| [i as i64, 99, 0])?;
+    print_line(rt, "AtMost", Compare::AtMost, 2, |i| [i as i64, 99, 0])?;
     print_line(
         rt,
         "Divides",
@@ -196,17 +200,30 @@ fn print_binary(rt: &(impl Print + Clock + AllocGlobal)) -> io::Result<()> {
         2,
         |i| [i as i64 * 6, 6, 0],
     )?;
-    print_line(rt, "Linear", Linear, 2, |i| [i as i64, i as i64 * 7 + 1, 0])
+    print_line(
+        rt,
+        "Square",
+        Compare::Square,
+        2,
+        |i| [i as i64 * i as i64, i as i64, 0],
+    )
 }
 
 #[tactic(auto, unfolding(dk_template::specs::Templates::rows))]
-fn print_ternary(rt: &(impl Print + Clock + AllocGlobal)) -> io::Result<()> {
+fn print_arithmetic(rt: &(impl Print + Clock + AllocGlobal)) -> io::Result<()> {
     print_line(
         rt,
         "Sum",
         Operation::Sum,
         3,
         |i| [i as i64 + 5, i as i64, 5],
+    )?;
+    print_line(
+        rt,
+        "Difference",
+        Operation::Difference,
+        3,
+        |i| [i as i64 - 5, i as i64, 5],
     )?;
     print_line(
         rt,
@@ -217,19 +234,45 @@ fn print_ternary(rt: &(impl Print + Clock + AllocGlobal)) -> io::Result<()> {
     )?;
     print_line(
         rt,
-        "And",
-        Operation::And,
-        3,
-        |i| [i as i64 & 5, i as i64, 5],
-    )?;
-    print_line(
-        rt,
         "Quotient",
         Operation::Quotient,
         3,
         |i| [i as i64 / 5, i as i64, 5],
     )?;
-    print_line(rt, "Gcd", Operation::Gcd, 3, |i| [6, 6 * i as i64, 6])?;
+    print_line(
+        rt,
+        "Remainder",
+        Operation::Remainder,
+        3,
+        |i| [i as i64 % 5, i as i64, 5],
+    )?;
+    print_line(rt, "Gcd", Operation::Gcd, 3, |i| [6, 6 * i as i64, 6])
+}
+
+#[tactic(auto, unfolding(dk_template::specs::Templates::rows))]
+fn print_choices(rt: &(impl Print + Clock + AllocGlobal)) -> io::Result<()> {
+    print_line(rt, "Minimum", Operation::Minimum, 3, |i| [-1, i as i64, -1])?;
+    print_line(rt, "Maximum", Operation::Maximum, 3, |i| [99, i as i64, 99])?;
+    print_line(
+        rt,
+        "And",
+        Operation::And,
+        3,
+        |i| [i as i64 & 5, i as i64, 5],
+    )?;
+    print_line(rt, "Or", Operation::Or, 3, |i| [i as i64 | 5, i as i64, 5])?;
+    print_line(
+        rt,
+        "Xor",
+        Operation::Xor,
+        3,
+        |i| [i as i64 ^ 5, i as i64, 5],
+    )
+}
+
+#[tactic(auto, unfolding(dk_template::specs::Templates::rows))]
+fn print_lines_and_planes(rt: &(impl Print + Clock + AllocGlobal)) -> io::Result<()> {
+    print_line(rt, "Linear", Linear, 2, |i| [i as i64, i as i64 * 7 + 1, 0])?;
     print_line(rt, "LinearTernary", LinearTernary, 3, |i| {
         let x = i as i64;
         [x, x * x, 2 * x + 3 * x * x + 1]
@@ -240,6 +283,8 @@ fn print_ternary(rt: &(impl Print + Clock + AllocGlobal)) -> io::Result<()> {
 pub fn print_table(rt: &(impl Print + Clock + AllocGlobal)) -> io::Result<()> {
     println!(rt; "row              point   joined with the state of one, two and three tuples")?;
     print_unary(rt)?;
-    print_binary(rt)?;
-    print_ternary(rt)
+    print_comparisons(rt)?;
+    print_arithmetic(rt)?;
+    print_choices(rt)?;
+    print_lines_and_planes(rt)
 }
