@@ -1,13 +1,13 @@
 use Rattle.std.proofs.Common.{arith, rules, subst, ◌≡◌, ◌∙◌, IfSome, Result, Ok, Err}
 use Rattle.dk_lines.specs.Reading.{left_of}
-use Rattle.dk_core.specs.History.{History, effect_of}
-use Rattle.dk_core.specs.Standing.{Stands, resumed}
+use Rattle.dk_core.specs.History.{effect_of}
+use Rattle.dk_core.specs.Standing.{resumed}
 use Rattle.dk_core.specs.declared.session.Step.{Step}
 use Rattle.dk_core.specs.declared.session.Step.TheVariants.{More, Ended}
 use Rattle.dk_core.specs.declared.session.Turn.{Turn}
 use Rattle.dk_core.specs.declared.session.Turn.TheVariants.{Goes, Ends}
 use Rattle.dk_core.specs.declared.session.Stop.{Stop}
-use Rattle.dk_core.specs.Steps.{ClosesAt, ShapeAt, StepGives, StepShape, StepCounts, TurnCounts, TurnGives}
+use Rattle.dk_core.specs.Steps.{ClosesAt, ShapeAt, StepGives, StepShape, StepCounts, TurnCounts}
 use Rattle.dk_core.proofs.Stepping.{begun, block_counts, closed_on, fits_at, told_on, told_stop}
 use Rattle.dk_core.proofs.session.read_block.Goals as goal
 

@@ -1,4 +1,4 @@
-use Rattle.std.proofs.Common.{rules, subst, ◌≡◌, ℕ, Option, Some, None, Result, Ok, Err}
+use Rattle.std.proofs.Common.{rules, subst, ◌≡◌, Option, Some, None, Result, Ok, Err}
 use Rattle.dk_lines.specs.declared.lines.LineFault.{LineFault}
 use Rattle.dk_base.specs.Reading.{Line}
 use Rattle.dk_lines.specs.Reading.{left_of}

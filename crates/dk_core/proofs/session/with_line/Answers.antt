@@ -1,11 +1,8 @@
-use Rattle.std.proofs.Common.{◌≡◌, ◌∙◌, sym, ap, rules, subst, true, false, ℕ, List, Result, Ok, Err}
+use Rattle.std.proofs.Common.{◌≡◌, ◌∙◌, sym, ap, subst, true, false, ℕ, List, Ok, Err}
 use Rattle.dk_base.specs.Pieces.{is_empty}
-use Rattle.dk_base.specs.Reading.{Line}
 use Rattle.dk_base.specs.Words.{trimmed}
 use Rattle.dk_core.specs.Standing.{resumed}
-use Rattle.dk_core.specs.Steps.{LineShape, WordsGive, turned}
-use Rattle.dk_core.specs.declared.block.Block.{Block}
-use Rattle.dk_core.specs.declared.session.Stop.{Stop}
+use Rattle.dk_core.specs.Steps.{WordsGive, turned}
 use Rattle.dk_core.proofs.Stepping.{blank_step, words_step, words_fault, empty_len}
 use Rattle.dk_core.proofs.session.with_line.Goals as goal
 
