@@ -1,12 +1,13 @@
 // Points of rows, and joins of their states.
-ghost use Rattle.std.specs.Prelude.{◌≡◌, ◌≤◌, All, IfOk, replicate};
-ghost use Rattle.dk_bench.specs.Tuples.{IsOfInts};
+ghost use Rattle.std.specs.Prelude.{◌≡◌, ◌≤◌, All, IfOk, IsTrue, replicate};
+ghost use Rattle.dk_base.specs.Items.{is_text};
 ghost use Rattle.dk_base.specs.declared.kinds.Kind.TheVariants as kind;
+ghost use Rattle.dk_bench.specs.Tuples.{IsOf, IsScalar, IsTaken};
 ghost use Rattle.dk_template.specs.Proper.{IsProper};
 
 use crate::timing::nanos_each;
-use dk_base::{NoMemory, View};
-use dk_binary::{Compare, Linear};
+use dk_base::{Kind, NoMemory, View};
+use dk_binary::{Compare, Equality, Linear, Scalar};
 use dk_template::laws::state_of_list;
 use dk_template::{Row, State, fits, point_of};
 use dk_ternary::{LinearTernary, Operation};
@@ -20,27 +21,95 @@ const TUPLES: u8 = 64;
 
 const TURNS: u32 = 1024;
 
-// Three numbers, of which a row takes the first one, two or three.
+macro_rules! equality {
+    ($kind:ident, $equal:expr) => {
+        Equality {
+            kind: Scalar::$kind,
+            equal: $equal,
+        }
+    };
+}
+
+// Three values of one kind, of which a row takes the first one, two or three.
 type Tuple = [View<'static>; 3];
 
-fn views(numbers: [i64; 3]) -> Tuple
-    ensures { IsOfInts result }
+// A string for a number: there are three of them.
+#[tactic(auto, unfolding(dk_base::specs::Items::is_text, dk_base::specs::Items::is_quoted))]
+fn text_of(number: i64) -> &'static [u8]
+    ensures { IsTrue (is_text result.now) }
+{
+    match number {
+        0 => b"\"nothing\"",
+        1 => b"\"one\"",
+        _ => b"\"more than one\"",
+    }
+}
+
+// Numbers, and truth values, hash codes and strings for numbers.
+fn ints(numbers: [i64; 3]) -> Tuple
+    ensures { IsOf kind.Int result }
 {
     let [a, b, c] = numbers;
     [View::Int(a), View::Int(b), View::Int(c)]
 }
 
-// What the closure makes of 0, 1, 2 and so on.
+fn truths(numbers: [i64; 3]) -> Tuple
+    ensures { IsOf kind.Bool result }
+{
+    let [a, b, c] = numbers;
+    [View::Bool(a != 0), View::Bool(b != 0), View::Bool(c != 0)]
+}
+
+fn hashes(numbers: [i64; 3]) -> Tuple
+    ensures { IsOf kind.Hash result }
+{
+    let [a, b, c] = numbers;
+    [
+        View::Hash(a.unsigned_abs()),
+        View::Hash(b.unsigned_abs()),
+        View::Hash(c.unsigned_abs()),
+    ]
+}
+
+fn texts(numbers: [i64; 3]) -> Tuple
+    ensures { IsOf kind.Str result }
+{
+    let [a, b, c] = numbers;
+    [
+        View::Str(text_of(a)),
+        View::Str(text_of(b)),
+        View::Str(text_of(c)),
+    ]
+}
+
+// Values of the kind, one for each number.
+fn views(kind: Kind, numbers: [i64; 3]) -> Tuple
+    requires { IsScalar kind }
+    ensures { IsOf kind result }
+{
+    match kind {
+        Kind::Bool => truths(numbers),
+        Kind::Hash => hashes(numbers),
+        Kind::Str => texts(numbers),
+        _ => ints(numbers),
+    }
+}
+
+// Values of the kind for what the closure makes of 0, 1, 2 and so on.
 fn tuples_of<F: Fn(u8) -> [i64; 3] + Drop>(
     alloc: Global,
+    kind: Kind,
+    arity: usize,
     numbers: F,
 ) -> Result<Vec<Tuple>, AllocError>
-    requires { F.IsAlwaysCallable numbers }
-    ensures { IfOk result (λ tuples. All IsOfInts tuples.items) }
+    requires kind { IsScalar kind }
+    requires arity { arity ≤ 3 }
+    requires numbers { F.IsAlwaysCallable numbers }
+    ensures { IfOk result (λ tuples. All (IsTaken (replicate arity kind) arity) tuples.items) }
 {
     let mut tuples = Vec::new(alloc);
     for i in 0..TUPLES {
-        tuples.push(views(numbers(i)))?;
+        tuples.push(views(kind, numbers(i)))?;
     }
     Ok(tuples)
 }
@@ -49,8 +118,7 @@ fn tuples_of<F: Fn(u8) -> [i64; 3] + Drop>(
 #[inline(never)]
 fn points<R: Row>(row: &R, alloc: Global, tuples: &[Tuple], arity: usize) -> Result<u64, NoMemory>
     requires arity { arity ≤ 3 }
-    requires kinds { R.kinds row.now ≡ replicate arity kind.Int }
-    requires tuples { All IsOfInts tuples.now }
+    requires tuples { All (IsTaken (R.kinds row.now) arity) tuples.now }
 {
     let mut found = 0u64;
     for _ in 0..TURNS {
@@ -72,8 +140,7 @@ fn joins<R: Row>(
     state: &State,
 ) -> Result<u64, NoMemory>
     requires arity { arity ≤ 3 }
-    requires kinds { R.kinds row.now ≡ replicate arity kind.Int }
-    requires tuples { All IsOfInts tuples.now }
+    requires tuples { All (IsTaken (R.kinds row.now) arity) tuples.now }
     requires proper { IsProper (R.form row.now) state.now }
 {
     let mut found = 0u64;
@@ -96,8 +163,7 @@ fn state_of_first<R: Row>(
     n: usize,
 ) -> Result<State, NoMemory>
     requires arity { arity ≤ 3 }
-    requires kinds { R.kinds row.now ≡ replicate arity kind.Int }
-    requires tuples { All IsOfInts tuples.now }
+    requires tuples { All (IsTaken (R.kinds row.now) arity) tuples.now }
     requires few { n ≤ 3 }
     ensures { IfOk result (λ state. IsProper (R.form row.now) state) }
 {
@@ -118,8 +184,7 @@ fn point_nanos<R: Row>(
     arity: usize,
 ) -> io::Result<f64>
     requires arity { arity ≤ 3 }
-    requires kinds { R.kinds row.now ≡ replicate arity kind.Int }
-    requires tuples { All IsOfInts tuples.now }
+    requires tuples { All (IsTaken (R.kinds row.now) arity) tuples.now }
 {
     let alloc = rt.alloc();
     let calls = f64::from(TUPLES) * f64::from(TURNS);
@@ -134,8 +199,7 @@ fn join_nanos<R: Row>(
     state: &State,
 ) -> io::Result<f64>
     requires arity { arity ≤ 3 }
-    requires kinds { R.kinds row.now ≡ replicate arity kind.Int }
-    requires tuples { All IsOfInts tuples.now }
+    requires tuples { All (IsTaken (R.kinds row.now) arity) tuples.now }
     requires proper { IsProper (R.form row.now) state.now }
 {
     let alloc = rt.alloc();
@@ -152,14 +216,16 @@ fn print_line<R: Row + Drop, F: Fn(u8) -> [i64; 3] + Drop>(
     rt: &(impl Print + Clock + AllocGlobal),
     name: &str,
     row: R,
+    kind: Kind,
     arity: usize,
     numbers: F,
 ) -> io::Result<()>
+    requires scalar { IsScalar kind }
     requires arity { arity ≤ 3 }
-    requires kinds { R.kinds row ≡ replicate arity kind.Int }
+    requires kinds { R.kinds row ≡ replicate arity kind }
     requires numbers { F.IsAlwaysCallable numbers }
 {
-    let tuples = tuples_of(rt.alloc(), numbers)?;
+    let tuples = tuples_of(rt.alloc(), kind, arity, numbers)?;
     let point = point_nanos(rt, &row, &tuples, arity)?;
     print!(rt; "{name:<14} {point:>7.1}")?;
     for n in 1..4 {
@@ -174,29 +240,87 @@ fn print_line<R: Row + Drop, F: Fn(u8) -> [i64; 3] + Drop>(
 
 #[tactic(auto, unfolding(dk_template::specs::Templates::rows))]
 fn print_unary(rt: &(impl Print + Clock + AllocGlobal)) -> io::Result<()> {
-    print_line(rt, "OneOfInt", OneOf::Int, 1, |i| [i as i64 % 3, 0, 0])?;
-    print_line(rt, "LowerBound", Bound::Lower, 1, |i| [i as i64, 0, 0])?;
-    print_line(rt, "UpperBound", Bound::Upper, 1, |i| [i as i64, 0, 0])?;
-    print_line(rt, "NonZero", NonNull::Int, 1, |i| [i as i64 + 1, 0, 0])?;
-    print_line(rt, "Modulus", Modulus, 1, |i| [i as i64 * 4 + 3, 0, 0])
+    print_line(
+        rt,
+        "OneOfInt",
+        OneOf::Int,
+        Kind::Int,
+        1,
+        |i| [i as i64 % 3, 0, 0],
+    )?;
+    print_line(
+        rt,
+        "LowerBound",
+        Bound::Lower,
+        Kind::Int,
+        1,
+        |i| [i as i64, 0, 0],
+    )?;
+    print_line(
+        rt,
+        "UpperBound",
+        Bound::Upper,
+        Kind::Int,
+        1,
+        |i| [i as i64, 0, 0],
+    )?;
+    print_line(
+        rt,
+        "NonZero",
+        NonNull::Int,
+        Kind::Int,
+        1,
+        |i| [i as i64 + 1, 0, 0],
+    )?;
+    print_line(
+        rt,
+        "Modulus",
+        Modulus,
+        Kind::Int,
+        1,
+        |i| [i as i64 * 4 + 3, 0, 0],
+    )
 }
 
 #[tactic(auto, unfolding(dk_template::specs::Templates::rows))]
 fn print_comparisons(rt: &(impl Print + Clock + AllocGlobal)) -> io::Result<()> {
-    print_line(rt, "Equal", Compare::Equal, 2, |i| [i as i64, i as i64, 0])?;
+    print_line(
+        rt,
+        "Equal",
+        Compare::Equal,
+        Kind::Int,
+        2,
+        |i| [i as i64, i as i64, 0],
+    )?;
     print_line(
         rt,
         "Different",
         Compare::Different,
+        Kind::Int,
         2,
         |i| [i as i64, 99, 0],
     )?;
-    print_line(rt, "Less", Compare::Less, 2, |i| [i as i64, 99, 0])?;
-    print_line(rt, "AtMost", Compare::AtMost, 2, |i| [i as i64, 99, 0])?;
+    print_line(
+        rt,
+        "Less",
+        Compare::Less,
+        Kind::Int,
+        2,
+        |i| [i as i64, 99, 0],
+    )?;
+    print_line(
+        rt,
+        "AtMost",
+        Compare::AtMost,
+        Kind::Int,
+        2,
+        |i| [i as i64, 99, 0],
+    )?;
     print_line(
         rt,
         "Divides",
         Compare::Multiple,
+        Kind::Int,
         2,
         |i| [i as i64 * 6, 6, 0],
     )?;
@@ -204,6 +328,7 @@ fn print_comparisons(rt: &(impl Print + Clock + AllocGlobal)) -> io::Result<()> 
         rt,
         "Square",
         Compare::Square,
+        Kind::Int,
         2,
         |i| [i as i64 * i as i64, i as i64, 0],
     )
@@ -215,6 +340,7 @@ fn print_arithmetic(rt: &(impl Print + Clock + AllocGlobal)) -> io::Result<()> {
         rt,
         "Sum",
         Operation::Sum,
+        Kind::Int,
         3,
         |i| [i as i64 + 5, i as i64, 5],
     )?;
@@ -222,6 +348,7 @@ fn print_arithmetic(rt: &(impl Print + Clock + AllocGlobal)) -> io::Result<()> {
         rt,
         "Difference",
         Operation::Difference,
+        Kind::Int,
         3,
         |i| [i as i64 - 5, i as i64, 5],
     )?;
@@ -229,6 +356,7 @@ fn print_arithmetic(rt: &(impl Print + Clock + AllocGlobal)) -> io::Result<()> {
         rt,
         "Product",
         Operation::Product,
+        Kind::Int,
         3,
         |i| [i as i64 * 5, i as i64, 5],
     )?;
@@ -236,6 +364,7 @@ fn print_arithmetic(rt: &(impl Print + Clock + AllocGlobal)) -> io::Result<()> {
         rt,
         "Quotient",
         Operation::Quotient,
+        Kind::Int,
         3,
         |i| [i as i64 / 5, i as i64, 5],
     )?;
@@ -243,28 +372,59 @@ fn print_arithmetic(rt: &(impl Print + Clock + AllocGlobal)) -> io::Result<()> {
         rt,
         "Remainder",
         Operation::Remainder,
+        Kind::Int,
         3,
         |i| [i as i64 % 5, i as i64, 5],
     )?;
-    print_line(rt, "Gcd", Operation::Gcd, 3, |i| [6, 6 * i as i64, 6])
+    print_line(
+        rt,
+        "Gcd",
+        Operation::Gcd,
+        Kind::Int,
+        3,
+        |i| [6, 6 * i as i64, 6],
+    )
 }
 
 #[tactic(auto, unfolding(dk_template::specs::Templates::rows))]
 fn print_choices(rt: &(impl Print + Clock + AllocGlobal)) -> io::Result<()> {
-    print_line(rt, "Minimum", Operation::Minimum, 3, |i| [-1, i as i64, -1])?;
-    print_line(rt, "Maximum", Operation::Maximum, 3, |i| [99, i as i64, 99])?;
+    print_line(
+        rt,
+        "Minimum",
+        Operation::Minimum,
+        Kind::Int,
+        3,
+        |i| [-1, i as i64, -1],
+    )?;
+    print_line(
+        rt,
+        "Maximum",
+        Operation::Maximum,
+        Kind::Int,
+        3,
+        |i| [99, i as i64, 99],
+    )?;
     print_line(
         rt,
         "And",
         Operation::And,
+        Kind::Int,
         3,
         |i| [i as i64 & 5, i as i64, 5],
     )?;
-    print_line(rt, "Or", Operation::Or, 3, |i| [i as i64 | 5, i as i64, 5])?;
+    print_line(
+        rt,
+        "Or",
+        Operation::Or,
+        Kind::Int,
+        3,
+        |i| [i as i64 | 5, i as i64, 5],
+    )?;
     print_line(
         rt,
         "Xor",
         Operation::Xor,
+        Kind::Int,
         3,
         |i| [i as i64 ^ 5, i as i64, 5],
     )
@@ -272,19 +432,110 @@ fn print_choices(rt: &(impl Print + Clock + AllocGlobal)) -> io::Result<()> {
 
 #[tactic(auto, unfolding(dk_template::specs::Templates::rows))]
 fn print_lines_and_planes(rt: &(impl Print + Clock + AllocGlobal)) -> io::Result<()> {
-    print_line(rt, "Linear", Linear, 2, |i| [i as i64, i as i64 * 7 + 1, 0])?;
-    print_line(rt, "LinearTernary", LinearTernary, 3, |i| {
+    print_line(
+        rt,
+        "Linear",
+        Linear,
+        Kind::Int,
+        2,
+        |i| [i as i64, i as i64 * 7 + 1, 0],
+    )?;
+    print_line(rt, "LinearTernary", LinearTernary, Kind::Int, 3, |i| {
         let x = i as i64;
         [x, x * x, 2 * x + 3 * x * x + 1]
     })
+}
+
+#[tactic(auto, unfolding(dk_template::specs::Templates::rows))]
+fn print_single_values(rt: &(impl Print + Clock + AllocGlobal)) -> io::Result<()> {
+    print_line(rt, "OneOfBool", OneOf::Bool, Kind::Bool, 1, |_| [1, 0, 0])?;
+    print_line(rt, "OneOfHash", OneOf::Hash, Kind::Hash, 1, |_| [7, 0, 0])?;
+    print_line(
+        rt,
+        "NonNullHash",
+        NonNull::Hash,
+        Kind::Hash,
+        1,
+        |i| [i as i64 + 1, 0, 0],
+    )?;
+    print_line(
+        rt,
+        "OneOfStr",
+        OneOf::Str,
+        Kind::Str,
+        1,
+        |i| [i as i64 % 3, 0, 0],
+    )?;
+    print_line(
+        rt,
+        "NonNullStr",
+        NonNull::Str,
+        Kind::Str,
+        1,
+        |i| [i as i64 % 3, 0, 0],
+    )
+}
+
+#[tactic(auto, unfolding(dk_template::specs::Templates::rows))]
+fn print_equalities(rt: &(impl Print + Clock + AllocGlobal)) -> io::Result<()> {
+    print_line(
+        rt,
+        "EqualBools",
+        equality!(Bool, true),
+        Kind::Bool,
+        2,
+        |i| [i as i64 % 2, i as i64 % 2, 0],
+    )?;
+    print_line(
+        rt,
+        "DifferBools",
+        equality!(Bool, false),
+        Kind::Bool,
+        2,
+        |_| [0, 1, 0],
+    )?;
+    print_line(
+        rt,
+        "EqualHashes",
+        equality!(Hash, true),
+        Kind::Hash,
+        2,
+        |i| [i as i64, i as i64, 0],
+    )?;
+    print_line(
+        rt,
+        "DifferHashes",
+        equality!(Hash, false),
+        Kind::Hash,
+        2,
+        |i| [i as i64, 99, 0],
+    )?;
+    print_line(
+        rt,
+        "EqualStrs",
+        equality!(Str, true),
+        Kind::Str,
+        2,
+        |i| [i as i64 % 3, i as i64 % 3, 0],
+    )?;
+    print_line(
+        rt,
+        "DifferStrs",
+        equality!(Str, false),
+        Kind::Str,
+        2,
+        |_| [0, 1, 0],
+    )
 }
 
 /// Prints the table.
 pub fn print_table(rt: &(impl Print + Clock + AllocGlobal)) -> io::Result<()> {
     println!(rt; "row              point   joined with the state of one, two and three tuples")?;
     print_unary(rt)?;
+    print_single_values(rt)?;
     print_comparisons(rt)?;
     print_arithmetic(rt)?;
     print_choices(rt)?;
-    print_lines_and_planes(rt)
+    print_lines_and_planes(rt)?;
+    print_equalities(rt)
 }
