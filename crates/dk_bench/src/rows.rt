@@ -21,15 +21,6 @@ const TUPLES: u8 = 64;
 
 const TURNS: u32 = 1024;
 
-macro_rules! equality {
-    ($kind:ident, $equal:expr) => {
-        Equality {
-            kind: Scalar::$kind,
-            equal: $equal,
-        }
-    };
-}
-
 // Three values of one kind, of which a row takes the first one, two or three.
 type Tuple = [View<'static>; 3];
 
@@ -239,7 +230,7 @@ fn print_line<R: Row + Drop, F: Fn(u8) -> [i64; 3] + Drop>(
 }
 
 #[tactic(auto, unfolding(dk_template::specs::Templates::rows))]
-fn print_unary(rt: &(impl Print + Clock + AllocGlobal)) -> io::Result<()> {
+fn print_single_numbers(rt: &(impl Print + Clock + AllocGlobal)) -> io::Result<()> {
     print_line(
         rt,
         "OneOfInt",
@@ -447,7 +438,7 @@ fn print_lines_and_planes(rt: &(impl Print + Clock + AllocGlobal)) -> io::Result
 }
 
 #[tactic(auto, unfolding(dk_template::specs::Templates::rows))]
-fn print_single_values(rt: &(impl Print + Clock + AllocGlobal)) -> io::Result<()> {
+fn print_other_single_values(rt: &(impl Print + Clock + AllocGlobal)) -> io::Result<()> {
     print_line(rt, "OneOfBool", OneOf::Bool, Kind::Bool, 1, |_| [1, 0, 0])?;
     print_line(rt, "OneOfHash", OneOf::Hash, Kind::Hash, 1, |_| [7, 0, 0])?;
     print_line(
@@ -481,7 +472,10 @@ fn print_equalities(rt: &(impl Print + Clock + AllocGlobal)) -> io::Result<()> {
     print_line(
         rt,
         "EqualBools",
-        equality!(Bool, true),
+        Equality {
+            kind: Scalar::Bool,
+            equal: true,
+        },
         Kind::Bool,
         2,
         |i| [i as i64 % 2, i as i64 % 2, 0],
@@ -489,7 +483,10 @@ fn print_equalities(rt: &(impl Print + Clock + AllocGlobal)) -> io::Result<()> {
     print_line(
         rt,
         "DifferBools",
-        equality!(Bool, false),
+        Equality {
+            kind: Scalar::Bool,
+            equal: false,
+        },
         Kind::Bool,
         2,
         |_| [0, 1, 0],
@@ -497,7 +494,10 @@ fn print_equalities(rt: &(impl Print + Clock + AllocGlobal)) -> io::Result<()> {
     print_line(
         rt,
         "EqualHashes",
-        equality!(Hash, true),
+        Equality {
+            kind: Scalar::Hash,
+            equal: true,
+        },
         Kind::Hash,
         2,
         |i| [i as i64, i as i64, 0],
@@ -505,7 +505,10 @@ fn print_equalities(rt: &(impl Print + Clock + AllocGlobal)) -> io::Result<()> {
     print_line(
         rt,
         "DifferHashes",
-        equality!(Hash, false),
+        Equality {
+            kind: Scalar::Hash,
+            equal: false,
+        },
         Kind::Hash,
         2,
         |i| [i as i64, 99, 0],
@@ -513,7 +516,10 @@ fn print_equalities(rt: &(impl Print + Clock + AllocGlobal)) -> io::Result<()> {
     print_line(
         rt,
         "EqualStrs",
-        equality!(Str, true),
+        Equality {
+            kind: Scalar::Str,
+            equal: true,
+        },
         Kind::Str,
         2,
         |i| [i as i64 % 3, i as i64 % 3, 0],
@@ -521,7 +527,10 @@ fn print_equalities(rt: &(impl Print + Clock + AllocGlobal)) -> io::Result<()> {
     print_line(
         rt,
         "DifferStrs",
-        equality!(Str, false),
+        Equality {
+            kind: Scalar::Str,
+            equal: false,
+        },
         Kind::Str,
         2,
         |_| [0, 1, 0],
@@ -531,8 +540,8 @@ fn print_equalities(rt: &(impl Print + Clock + AllocGlobal)) -> io::Result<()> {
 /// Prints the table.
 pub fn print_table(rt: &(impl Print + Clock + AllocGlobal)) -> io::Result<()> {
     println!(rt; "row              point   joined with the state of one, two and three tuples")?;
-    print_unary(rt)?;
-    print_single_values(rt)?;
+    print_single_numbers(rt)?;
+    print_other_single_values(rt)?;
     print_comparisons(rt)?;
     print_arithmetic(rt)?;
     print_choices(rt)?;
