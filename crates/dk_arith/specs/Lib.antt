@@ -1,3 +1,4 @@
 pub mod Gcd
 pub mod Directions
 pub mod Vectors
+pub mod Laws

@@ -8,3 +8,4 @@ pub mod ReadBack
 pub mod Written
 pub mod Examples
 pub mod Wordless
+pub mod ValueTests

@@ -12,11 +12,11 @@ use Rattle.std.proofs.lemmas.List.Elements.{All-head, All-map, All-tail, All-wea
 use Rattle.std.proofs.lemmas.Slice.Eq.{bytes_eq-Decides}
 use Rattle.dk_base.specs.Items.{bool_item, closes, code_of, hash_item, int_item, is_missing_word, is_quoted, is_text, str_item}
 use Rattle.dk_base.specs.Numbers.{fits_i64, numeral_of, whole_of}
-use Rattle.dk_base.specs.Pieces.{is_empty, outside, parts, nonempty, pieces}
+use Rattle.dk_base.specs.Pieces.{behind, is_empty, outside, parts, nonempty, pieces}
 use Rattle.dk_base.specs.Sequences.{all_of, inside, is_bad, is_missing, present, sequence}
 use Rattle.dk_base.specs.Spelling.{IsWritten, bool_text, hash_text, sequence_text, spelling}
 use Rattle.dk_base.specs.Values.{IsOfKind, value_of_text}
-use Rattle.dk_base.proofs.Splits.{behind, kept}
+use Rattle.dk_base.proofs.Splits.{kept}
 use Rattle.dk_base.specs.declared.items.Item.{Item}
 use Rattle.dk_base.specs.declared.items.Item.TheVariants.{Present}
 use Rattle.dk_base.specs.declared.kinds.Kind.{Kind}

@@ -1,5 +1,5 @@
 -- Names and their spelling, byte by byte.
-use Rattle.std.proofs.Common.{◌≡◌, ◌≢◌, ◌↔◌, ◌<◌, ◌+◌, ◌∷◌, ◌++◌, [], ℕ, Bool, true, false, List, All, IsTrue, refl, sym, ap, ◌∙◌, if◌then◌else◌, drop, get_or, length, arith}
+use Rattle.std.proofs.Common.{◌≡◌, ◌≢◌, ◌↔◌, ◌<◌, ◌+◌, ◌∷◌, ◌++◌, [], ℕ, suc, Bool, true, false, List, All, IsTrue, refl, sym, ap, ◌∙◌, if◌then◌else◌, drop, get_or, length, arith}
 use Rattle.std.proofs.lemmas.Bool.{eqb-true, eqb-false, cond_both}
 use Rattle.std.proofs.lemmas.List.{drop_more}
 use Rattle.std.proofs.lemmas.List.Elements.{All-nil, All-cons, All-append}
@@ -11,6 +11,22 @@ plain_byte : (b : ℕ) (bs : List ℕ) → (b == 92) ≡ false → unescaped (b 
 unfolding unescaped
 plain_byte b [] h = refl
 plain_byte b (c ∷ bs) h = rw h refl
+
+is_other : (b : ℕ) → b ≢ 92 → (b == 92) ≡ false
+is_other b other = go (b == 92) refl
+  where
+    go : (x : Bool) → (b == 92) ≡ x → (b == 92) ≡ false
+    go true e = absurd (other (eqb-true b 92 e))
+    go false e = e
+
+-- a spelling without a backslash is its name
+pub plain : (text : List ℕ) → ((k : ℕ) → k < length text → get_or text k 0 ≢ 92) → unescaped text ≡ text
+unfolding unescaped
+plain [] other = refl
+plain (b ∷ bs) other = plain_byte b bs (is_other b (other 0 (omega arith))) ∙ ap (λ cs. b ∷ cs) (plain bs (λ k lt. other (suc k) (omega arith)))
+
+pub as_spelled : (text name : List ℕ) → text ≡ name → unescaped text ≡ text → unescaped text ≡ name
+as_spelled text name same means = means ∙ same
 
 first_spelled : (b : ℕ) (rest : List ℕ) → unescaped (escaped_byte b ++ rest) ≡ b ∷ unescaped rest
 unfolding unescaped

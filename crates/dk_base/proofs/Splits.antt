@@ -1,14 +1,12 @@
 -- The pieces of a text, byte by byte.
 use Rattle.std.proofs.Common.{◌≡◌, ◌<◌, ◌≤◌, ◌+◌, ◌∙◌, ◌++◌, ◌∷◌, [], ℕ, Bool, true, false, zero, suc, List, refl, ap, append-nil, append_assoc, sym, drop, take, length, get_or, arith, subst}
+use Rattle.std.specs.Prelude.{◌==◌, ◌||◌, ◌&&◌}
+use Rattle.std.proofs.lemmas.Bool.{eqb-true}
 use Rattle.std.proofs.lemmas.List.{take_more, drop_more, take_all, drop_all, length-take}
-use Rattle.dk_base.specs.Pieces.{outside, place_after, cuts, parts, nonempty, pieces, BeginsPiece}
+use Rattle.dk_base.specs.Pieces.{outside, place_after, cuts, parts, behind, nonempty, is_blank, pieces, BeginsPiece}
 use Rattle.dk_base.specs.declared.splitting.Cut.{Cut}
 use Rattle.dk_base.specs.declared.splitting.Cut.TheVariants.{AtBlanksAndTabs, AtBlanksOutsideQuotes}
 use Rattle.dk_base.specs.declared.splitting.Place.{Place}
-
--- bytes in front of the first part
-abbrev pub behind : List ℕ → List ℕ × List (List ℕ) → List ℕ × List (List ℕ)
-behind front found = (front ++ found.0, found.1)
 
 -- what cuts in quotes cuts outside of them
 cuts_outside : (cut : Cut) (p : Place) (b : ℕ) → cuts cut p b ≡ true → cuts cut outside b ≡ true
@@ -53,6 +51,33 @@ longer cut p text i lt h so_far =
     ∙ stays cut p (take i text) (get_or text i 0) (drop (i + 1) text) h
     ∙ ap (λ bs. behind (take i text) (parts cut p bs)) (sym (drop_more text i 0 lt))
     ∙ so_far
+
+-- a byte that is no blank, no tab and no quote stays outside, and cuts nothing
+plain_cuts : (cut : Cut) (b : ℕ) → is_blank b ≡ false → cuts cut outside b ≡ false
+plain_cuts AtBlanksAndTabs b h = h
+plain_cuts AtBlanksOutsideQuotes b h = go (b == 32) (b == 9) h
+  where
+    go : (x y : Bool) → (x || y) ≡ false → (true && x) ≡ false
+    go true y h = cc h
+    go false y h = refl
+
+plain_place : (cut : Cut) (b : ℕ) → (b == 34) ≡ false → place_after cut outside b ≡ outside
+plain_place AtBlanksAndTabs b h = refl
+plain_place AtBlanksOutsideQuotes b h = ap (λ (x : Bool). let p : Place = record { quoted = x; escaped = false } in p) h
+
+pub plain_longer : (cut : Cut) (text : List ℕ) (i : ℕ) → i < length text → is_blank (get_or text i 0) ≡ false → (get_or text i 0 == 34) ≡ false
+    → behind (take i text) (parts cut outside (drop i text)) ≡ parts cut outside text
+    → behind (take (i + 1) text) (parts cut outside (drop (i + 1) text)) ≡ parts cut outside text
+plain_longer cut text i lt blank quote so_far =
+    ap (λ (p : Place). behind (take (i + 1) text) (parts cut p (drop (i + 1) text))) (sym (plain_place cut (get_or text i 0) quote))
+    ∙ longer cut outside text i lt (plain_cuts cut (get_or text i 0) blank) so_far
+
+pub no_quote : (b : ℕ) → (b ≡ 34 → ⊥) → (b == 34) ≡ false
+no_quote b other = go (b == 34) refl
+  where
+    go : (x : Bool) → (b == 34) ≡ x → (b == 34) ≡ false
+    go true e = absurd (other (eqb-true b 34 e))
+    go false e = e
 
 -- the pieces, where the first part is not empty
 pub kept : (first : List ℕ) (others : List (List ℕ)) → 0 < length first → nonempty (first ∷ others) ≡ first ∷ nonempty others

@@ -7,6 +7,7 @@ pub mod Numbers
 pub mod Items
 pub mod Sequences
 pub mod Values
+pub mod SameValues
 pub mod Spelling
 pub mod Comparability
 pub mod Shapes

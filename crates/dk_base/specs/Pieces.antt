@@ -1,5 +1,5 @@
 -- A text cut into its pieces.
-use Rattle.std.specs.Prelude.{◌≡◌, ◌||◌, ◌&&◌, ℕ, Bool, true, false, not, List, [], ◌∷◌, ◌==◌, filter, if◌then◌else◌}
+use Rattle.std.specs.Prelude.{◌≡◌, ◌||◌, ◌&&◌, ◌++◌, ℕ, Bool, true, false, not, List, [], ◌∷◌, ◌==◌, filter, if◌then◌else◌}
 use Rattle.dk_base.specs.declared.splitting.Cut.{Cut}
 use Rattle.dk_base.specs.declared.splitting.Cut.TheVariants.{AtBlanksAndTabs, AtBlanksOutsideQuotes}
 use Rattle.dk_base.specs.declared.splitting.Place.{Place}
@@ -39,6 +39,10 @@ parts cut p [] = ([], [])
 parts cut p (b ∷ bs) =
     if cuts cut p b then ([], (parts cut outside bs).0 ∷ (parts cut outside bs).1)
     else (b ∷ (parts cut (place_after cut p b) bs).0, (parts cut (place_after cut p b) bs).1)
+
+-- bytes in front of the first part
+abbrev pub behind : List ℕ → List ℕ × List (List ℕ) → List ℕ × List (List ℕ)
+behind front found = (front ++ found.0, found.1)
 
 abbrev pub nonempty : List (List ℕ) → List (List ℕ)
 nonempty texts = filter (λ t. not (is_empty t)) texts

@@ -1,5 +1,5 @@
 -- Values, and the texts that write them.
-use Rattle.std.specs.Prelude.{◌≡◌, ℕ, List, map, Option, Some, None, IfSome}
+use Rattle.std.specs.Prelude.{◌≡◌, ℕ, Bool, true, false, List, map, Option, Some, None, IfSome}
 use Rattle.std.specs.Borrow.{Bor}
 use Rattle.dk_base.specs.Items.{bool_item, hash_item, int_item, str_item}
 use Rattle.dk_base.specs.Sequences.{sequence}
@@ -38,6 +38,14 @@ kind_of (value.BoolSeq bs) = Some kind.BoolSeq
 kind_of (value.IntSeq zs) = Some kind.IntSeq
 kind_of (value.HashSeq ns) = Some kind.HashSeq
 kind_of (value.StrSeq ss) = Some kind.StrSeq
+
+-- a value that is more than a number or a truth: a string, or a sequence
+abbrev pub has_items : Value → Bool
+has_items value.Missing = false
+has_items (value.Bool b) = false
+has_items (value.Int z) = false
+has_items (value.Hash n) = false
+has_items _ = true
 
 -- a value of the kind; the missing one is of every kind
 abbrev pub IsOfKind : Kind → Value → Type 0

@@ -26,7 +26,7 @@ pub use items::is_text;
 pub use kinds::{Compar, Form, Kind, PointId, VarId, VarInfo, comparable};
 pub use lists::List;
 pub use memory::NoMemory;
-pub use names::{escape, is_spelling, unescape};
+pub use names::{escape, is_plain, is_spelling, unescape};
 pub use numbers::{parse_integer, parse_natural};
 pub use parsing::{ValueFault, parse_value};
 pub use sameness::{same, same_kept};

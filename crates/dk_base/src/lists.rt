@@ -72,6 +72,13 @@ impl<T> List<T> {
         self.kept.as_slice()
     }
 
+    /// The items of a vector, where they lie. It takes no memory.
+    pub fn from_vec(items: Vec<T>) -> List<T>
+        ensures { result ≡ items.items }
+    {
+        List { kept: items }
+    }
+
     /// The items, with the memory that they lie in.
     pub fn into_vec(self) -> Vec<T>
         ensures { result.items ≡ self }

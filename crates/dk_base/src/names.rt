@@ -35,8 +35,20 @@ pub fn unescape(alloc: Global, text: &[u8]) -> Result<Text, NoMemory>
     Ok(name)
 }
 
-/// Whether the text is a spelling of the name. It takes no memory.
-pub fn is_spelling(text: &[u8], name: &[u8]) -> bool
+/// Whether no byte is a backslash. Then the spelling is the name.
+pub fn is_plain(text: &[u8]) -> bool
+    ensures { IsTrue result → unescaped text.now ≡ text.now }
+{
+    for byte in text {
+        if *byte == b'\\' {
+            return false;
+        }
+    }
+    true
+}
+
+// Whether the text is a spelling of the name, byte by byte.
+fn is_spelled(text: &[u8], name: &[u8]) -> bool
     ensures { IsTrue result ↔ (unescaped text.now ≡ name.now) }
 {
     let mut left = text;
@@ -52,6 +64,17 @@ pub fn is_spelling(text: &[u8], name: &[u8]) -> bool
         }
     }
     next_byte(left).is_none()
+}
+
+/// Whether the text is a spelling of the name. It takes no memory.
+#[tactic(auto, using(crate::proofs::Spellings::as_spelled))]
+pub fn is_spelling(text: &[u8], name: &[u8]) -> bool
+    ensures { IsTrue result ↔ (unescaped text.now ≡ name.now) }
+{
+    if text == name && is_plain(text) {
+        return true;
+    }
+    is_spelled(text, name)
 }
 
 fn spelled(alloc: Global, name: &[u8]) -> Result<Text, NoMemory>

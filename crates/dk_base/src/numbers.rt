@@ -1,5 +1,5 @@
 // Whole numbers as text.
-ghost use Rattle.std.specs.Prelude.{◌≡◌, ◌+◌, ◌*◌, ◌≤◌, option_and_then, option_map, Some};
+ghost use Rattle.std.specs.Prelude.{◌≡◌, ◌+◌, ◌*◌, ◌≤◌, length, option_and_then, option_map, Some};
 ghost use Rattle.std.specs.Char.{digit_value as value_of_digit};
 ghost use Rattle.dk_base.specs.Items.{held, held_in_u64};
 ghost use Rattle.dk_base.specs.Numbers.{fits_i64, in_u64, integer_of, natural_of, numeral_of, signed, whole_of};
@@ -52,6 +52,36 @@ pub(crate) fn numeral(radix: u8, text: &[u8]) -> Item<u64>
     }
 }
 
+/// The number that at most 18 decimal digits write. 64 bits hold each such number, so no step looks whether they do.
+fn short_numeral(text: &[u8]) -> Item<u64>
+    requires { length text.now ≤ 18 }
+    ensures { result ≡ held_in_u64 (numeral_of 10 text.now) }
+{
+    if text.is_empty() {
+        return Item::Bad;
+    }
+    let mut total: u64 = 0;
+    for byte in text {
+        let digit = digit_value(*byte);
+        if digit >= 10 {
+            return Item::Bad;
+        }
+        total = total * 10 + u64::from(digit);
+    }
+    Item::Present(total)
+}
+
+/// The number that decimal digits write: missing where 64 bits do not hold it, and bad where the text has other bytes or none.
+fn decimal(text: &[u8]) -> Item<u64>
+    ensures { result ≡ held_in_u64 (numeral_of 10 text.now) }
+{
+    if text.len() <= 18 {
+        short_numeral(text)
+    } else {
+        numeral(10, text)
+    }
+}
+
 fn number_of_sign(is_negative: bool, size: u64) -> Item<i64>
     ensures { result ≡ held fits_i64 (Some (signed is_negative size)) }
 {
@@ -72,7 +102,7 @@ fn number_of_sign(is_negative: bool, size: u64) -> Item<i64>
 fn signed_numeral(is_negative: bool, text: &[u8]) -> Item<i64>
     ensures { result ≡ held fits_i64 (option_map (signed is_negative) (numeral_of 10 text.now)) }
 {
-    match numeral(10, text) {
+    match decimal(text) {
         Item::Bad => Item::Bad,
         Item::Missing => Item::Missing,
         Item::Present(size) => number_of_sign(is_negative, size),

@@ -1,6 +1,6 @@
 // A text cut into its pieces: a line into words, a sequence into items.
 ghost use Rattle.std.specs.Prelude.{◌≡◌, ◌∷◌, [], ◌<◌, ◌≤◌, length, take, drop, MatchOption, IfSome};
-ghost use Rattle.dk_base.specs.Pieces.{is_blank as blank, place_after, cuts, BeginsPiece, pieces};
+ghost use Rattle.dk_base.specs.Pieces.{is_blank as blank, outside, place_after, cuts, parts, behind, BeginsPiece, pieces};
 
 /// What cuts a text into pieces.
 #[derive(Clone, Copy)]
@@ -55,6 +55,19 @@ fn cuts(cut: Cut, place: Place, byte: u8) -> bool
     }
 }
 
+/// How many bytes in front are no blank, tab or quote: they stand outside of quotes, and cut nothing.
+fn plain_len(cut: Cut, text: &[u8]) -> usize
+    ensures within { result ≤ length text.now }
+    ensures plain { behind (take result text.now) (parts cut outside (drop result text.now)) ≡ parts cut outside text.now }
+{
+    for (i, byte) in text.iter().enumerate() {
+        if is_blank(*byte) || *byte == b'"' {
+            return i;
+        }
+    }
+    text.len()
+}
+
 /// How many bytes stand in front of the first cut.
 fn piece_len(cut: Cut, text: &[u8]) -> usize
     requires { BeginsPiece cut text.now }
@@ -63,11 +76,13 @@ fn piece_len(cut: Cut, text: &[u8]) -> usize
     ensures cut_off { pieces cut text.now ≡ take result text.now ∷ pieces cut (drop result text.now) }
 {
     let mut place = OUTSIDE;
-    for (i, byte) in text.iter().enumerate() {
-        if cuts(cut, place, *byte) {
+    let front = plain_len(cut, text);
+    for i in front..text.len() {
+        let byte = text[i];
+        if cuts(cut, place, byte) {
             return i;
         }
-        place = place_after(cut, place, *byte);
+        place = place_after(cut, place, byte);
     }
     text.len()
 }

@@ -1,7 +1,7 @@
 // Values: views of them in an arena, and values that are kept.
-ghost use Rattle.std.specs.Prelude.{◌≡◌, IfOk, map};
+ghost use Rattle.std.specs.Prelude.{◌≡◌, ◌↔◌, IfOk, IfSome, IsNone, IsTrue, OnErr, Some, map};
 
-use crate::{Arena, List, NoMemory, Text};
+use crate::{Arena, Kind, List, NoMemory, Text};
 use bumpalo::collections::into_bump_slice;
 use std::alloc::Global;
 
@@ -80,7 +80,7 @@ fn place_slice<'a, T: Copy>(items: &List<T>, arena: &'a Arena) -> Result<&'a [T]
 }
 
 impl Value {
-    ghost use Rattle.dk_base.specs.Values.{value_of};
+    ghost use Rattle.dk_base.specs.Values.{has_items, kind_of, value_of};
 
     /// The value that the view shows, with its own strings and sequences.
     pub fn keep(alloc: Global, view: View<'_>) -> Result<Value, NoMemory>
@@ -99,9 +99,28 @@ impl Value {
         })
     }
 
-    /// A view of the value, with its strings and sequences in the arena.
+    /// A view of the value where it lies, which takes no memory. A sequence of strings alone has none: `place` lays its strings out.
+    pub fn view(&self) -> Option<View<'_>>
+        ensures shown { IfSome result (λ view. value_of view ≡ self.now) }
+        ensures none { IsNone result ↔ (kind_of self.now ≡ Some Kind.StrSeq) }
+    {
+        match self {
+            Value::Missing => Some(View::Missing),
+            Value::Bool(truth) => Some(View::Bool(*truth)),
+            Value::Int(number) => Some(View::Int(*number)),
+            Value::Hash(code) => Some(View::Hash(*code)),
+            Value::Str(text) => Some(View::Str(text.as_slice())),
+            Value::BoolSeq(truths) => Some(View::BoolSeq(truths.as_slice())),
+            Value::IntSeq(numbers) => Some(View::IntSeq(numbers.as_slice())),
+            Value::HashSeq(codes) => Some(View::HashSeq(codes.as_slice())),
+            Value::StrSeq(_) => None,
+        }
+    }
+
+    /// A view of the value, with its strings and sequences in the arena. Strings and sequences alone can want memory.
     pub fn place<'a>(&self, arena: &'a Arena) -> Result<View<'a>, NoMemory>
-        ensures { IfOk result (λ view. value_of view ≡ self.now) }
+        ensures value { IfOk result (λ view. value_of view ≡ self.now) }
+        ensures err { OnErr result (IsTrue (has_items self.now)) }
     {
         Ok(match self {
             Value::Missing => View::Missing,

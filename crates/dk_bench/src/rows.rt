@@ -145,6 +145,22 @@ fn joins<R: Row>(
     Ok(found)
 }
 
+// How often a tuple leaves a state as it is.
+#[inline(never)]
+fn stayings<R: Row>(row: &R, tuples: &[Tuple], arity: usize, state: &State) -> u64
+    requires arity { arity ≤ 3 }
+    requires tuples { All (IsTaken (R.kinds row.now) arity) tuples.now }
+    requires proper { IsProper (R.form row.now) state.now }
+{
+    let mut found = 0u64;
+    for _ in 0..TURNS {
+        for tuple in tuples {
+            found = found.wrapping_add(row.stays(state, &tuple[..arity]) as u64);
+        }
+    }
+    found
+}
+
 // The state of the first n tuples.
 fn state_of_first<R: Row>(
     row: &R,
@@ -202,6 +218,21 @@ fn join_nanos<R: Row>(
     )
 }
 
+fn stay_nanos<R: Row>(
+    rt: &impl Clock,
+    row: &R,
+    tuples: &[Tuple],
+    arity: usize,
+    state: &State,
+) -> io::Result<f64>
+    requires arity { arity ≤ 3 }
+    requires tuples { All (IsTaken (R.kinds row.now) arity) tuples.now }
+    requires proper { IsProper (R.form row.now) state.now }
+{
+    let calls = f64::from(TUPLES) * f64::from(TURNS);
+    nanos_each(rt, || stayings(row, tuples, arity, state), calls)
+}
+
 // One line of the table.
 fn print_line<R: Row + Drop, F: Fn(u8) -> [i64; 3] + Drop>(
     rt: &(impl Print + Clock + AllocGlobal),
@@ -224,7 +255,8 @@ fn print_line<R: Row + Drop, F: Fn(u8) -> [i64; 3] + Drop>(
             return Err(AllocError.into());
         };
         let both = join_nanos(rt, &row, &tuples, arity, &state)?;
-        print!(rt; " {:>7.1}", both - point)?;
+        let stays = stay_nanos(rt, &row, &tuples, arity, &state)?;
+        print!(rt; " {:>7.1} {stays:>7.2}", both - point)?;
     }
     println!(rt;)
 }
@@ -539,7 +571,9 @@ fn print_equalities(rt: &(impl Print + Clock + AllocGlobal)) -> io::Result<()> {
 
 /// Prints the table.
 pub fn print_table(rt: &(impl Print + Clock + AllocGlobal)) -> io::Result<()> {
-    println!(rt; "row              point   joined with the state of one, two and three tuples")?;
+    println!(rt;
+        "row              point   join, stays with the state of one, of two and of three tuples"
+    )?;
     print_single_numbers(rt)?;
     print_other_single_values(rt)?;
     print_comparisons(rt)?;

@@ -50,3 +50,7 @@ equality_form HashScalar true = refl
 equality_form HashScalar false = refl
 equality_form StrScalar true = refl
 equality_form StrScalar false = refl
+
+pub linear_form : form_of linear_row ≡ form.Line
+unfolding rows
+linear_form = refl

@@ -8,7 +8,7 @@ ghost use Rattle.dk_template.specs.Templates.{kinds_of};
 
 use crate::rows::join;
 use dk_base::{NoMemory, View, bool_at, hash_at, text_at};
-use dk_forms::plain_point;
+use dk_forms::{plain_point, plain_stays};
 use dk_template::{Row, RowId, State};
 use std::alloc::Global;
 
@@ -92,5 +92,9 @@ impl Row for Equality {
 
     fn join(&self, alloc: Global, a: State, b: &State) -> Result<State, NoMemory> {
         join(alloc, self.row(), a, b)
+    }
+
+    fn stays(&self, state: &State, tuple: &[View<'_>]) -> bool {
+        plain_stays(state, self.holds(tuple))
     }
 }

@@ -9,7 +9,7 @@ mod rows;
 pub use compare::Compare;
 pub use equality::{Equality, Scalar};
 pub use linear::Linear;
-pub use rows::{join, point};
+pub use rows::{join, point, stays};
 
 #[cfg(test)]
 mod tests;

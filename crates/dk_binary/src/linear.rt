@@ -1,15 +1,15 @@
 // The row of the line through all points.
-ghost use Rattle.std.specs.Prelude.{◌≡◌, ◌∷◌, []};
+ghost use Rattle.std.specs.Prelude.{◌≡◌, ◌↔◌, ◌∷◌, [], IsTrue};
 ghost use Rattle.dk_base.specs.Tuples.{int_of, value_at};
 ghost use Rattle.dk_base.specs.Values.{values_of};
 ghost use Rattle.dk_base.specs.declared.kinds.Kind.TheVariants as kind;
 ghost use Rattle.dk_binary.specs.Rows.{linear_row};
-ghost use Rattle.dk_forms.specs.Line.{line_of};
+ghost use Rattle.dk_forms.specs.Line.{IsLineState, line_join, line_of};
 ghost use Rattle.dk_template.specs.Rows.{IsTuple};
 
 use crate::rows::join;
 use dk_base::{NoMemory, View, int_at};
-use dk_forms::line_point;
+use dk_forms::{line_point, line_stays};
 use dk_template::{Row, RowId, State};
 use std::alloc::Global;
 
@@ -34,6 +34,15 @@ fn state_of_one(tuple: &[View<'_>]) -> State
     line_point(int_at(tuple, 0), int_at(tuple, 1))
 }
 
+// Whether one point leaves the state as it is.
+fn one_stays(state: &State, tuple: &[View<'_>]) -> bool
+    requires state { IsLineState state.now }
+    requires tuple { IsTuple (kind.Int ∷ kind.Int ∷ []) (values_of tuple.now) }
+    ensures { IsTrue result ↔ (line_join state.now (line_of ((int_of (value_at (values_of tuple.now) 0), int_of (value_at (values_of tuple.now) 1)) ∷ [])) ≡ state.now) }
+{
+    line_stays(state, int_at(tuple, 0), int_at(tuple, 1))
+}
+
 impl Row for Linear {
     ghost use Rattle.dk_binary.specs.Rows.{linear_is_row, linear_row};
     ghost use Rattle.dk_rows.proofs.RowLaws.{laws_by};
@@ -54,5 +63,9 @@ impl Row for Linear {
 
     fn join(&self, alloc: Global, a: State, b: &State) -> Result<State, NoMemory> {
         join(alloc, self.row(), a, b)
+    }
+
+    fn stays(&self, state: &State, tuple: &[View<'_>]) -> bool {
+        one_stays(state, tuple)
     }
 }

@@ -1,5 +1,5 @@
 // The rows of two variables by their numbers.
-ghost use Rattle.std.specs.Prelude.{◌≡◌, [], ◌∷◌, IfOk, OnErr};
+ghost use Rattle.std.specs.Prelude.{◌≡◌, ◌↔◌, [], ◌∷◌, IfOk, IsTrue, OnErr};
 ghost use Rattle.dk_base.specs.Values.{values_of};
 ghost use Rattle.dk_binary.specs.Rows.{IsBinary};
 ghost use Rattle.dk_rows.specs.Meanings.{state_of};
@@ -9,17 +9,29 @@ ghost use Rattle.dk_template.specs.Rows.{IsTuple};
 ghost use Rattle.dk_template.specs.Templates.{form_of, kinds_of};
 ghost use Rattle.dk_template.specs.declared.templates.StateForm.{StateForm};
 
-use crate::{Compare, Equality, Linear, Scalar};
 use dk_base::{NoMemory, View};
-use dk_template::{Row, RowId, State, by_number, join_states, template_at};
+use dk_template::{Row, RowId, State, join_states, template_at};
 use std::alloc::Global;
 
-macro_rules! equality {
-    ($kind:ident, $equal:expr) => {
-        Equality {
-            kind: Scalar::$kind,
-            equal: $equal,
-        }
+/// An expression over the row of two variables that has a number, in the row's own type: `binary_row!(number, row => expression)`.
+#[macro_export]
+macro_rules! binary_row {
+    ($number:expr, $row:ident => $value:expr) => {
+        dk_template::by_number!($number, $row => $value, {
+            11 => $crate::Compare::Equal,
+            12 => $crate::Compare::Different,
+            13 => $crate::Compare::Less,
+            14 => $crate::Compare::AtMost,
+            15 => $crate::Linear,
+            16 => $crate::Compare::Multiple,
+            17 => $crate::Compare::Square,
+            18 => $crate::Equality { kind: $crate::Scalar::Bool, equal: true },
+            19 => $crate::Equality { kind: $crate::Scalar::Bool, equal: false },
+            20 => $crate::Equality { kind: $crate::Scalar::Hash, equal: true },
+            21 => $crate::Equality { kind: $crate::Scalar::Hash, equal: false },
+            22 => $crate::Equality { kind: $crate::Scalar::Str, equal: true },
+            _ => $crate::Equality { kind: $crate::Scalar::Str, equal: false },
+        })
     };
 }
 
@@ -30,21 +42,7 @@ pub fn point(alloc: Global, row: RowId, tuple: &[View<'_>]) -> Result<State, NoM
     ensures state { IfOk result (λ state. state ≡ state_of row (values_of tuple.now ∷ [])) }
     ensures err { OnErr result (form_of row ≡ StateForm.Texts) }
 {
-    by_number!(row, row => row.point(alloc, tuple), {
-        11 => Compare::Equal,
-        12 => Compare::Different,
-        13 => Compare::Less,
-        14 => Compare::AtMost,
-        15 => Linear,
-        16 => Compare::Multiple,
-        17 => Compare::Square,
-        18 => equality!(Bool, true),
-        19 => equality!(Bool, false),
-        20 => equality!(Hash, true),
-        21 => equality!(Hash, false),
-        22 => equality!(Str, true),
-        _ => equality!(Str, false),
-    })
+    binary_row!(row, row => row.point(alloc, tuple))
 }
 
 /// The state of two lists together. It wants no memory.
@@ -56,4 +54,14 @@ pub fn join(alloc: Global, row: RowId, a: State, b: &State) -> Result<State, NoM
     ensures err { OnErr result (form_of row ≡ StateForm.Texts) }
 {
     join_states(template_at(row).form, alloc, a, b)
+}
+
+/// Whether a tuple leaves a state as it is.
+pub fn stays(row: RowId, state: &State, tuple: &[View<'_>]) -> bool
+    requires row { IsBinary row }
+    requires state { IsProper (form_of row) state.now }
+    requires tuple { IsTuple (kinds_of row) (values_of tuple.now) }
+    ensures { IsTrue result ↔ (joined (form_of row) state.now (state_of row (values_of tuple.now ∷ [])) ≡ state.now) }
+{
+    binary_row!(row, row => row.stays(state, tuple))
 }

@@ -5,4 +5,6 @@ pub mod Waits
 pub mod Holding
 pub mod Owning
 pub mod Fitted
+pub mod Untaken
 pub mod Examples
+pub mod Roles

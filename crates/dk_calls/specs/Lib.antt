@@ -6,3 +6,4 @@ pub mod Links
 pub mod Nonces
 pub mod Standing
 pub mod Fitting
+pub mod Untaken

@@ -16,3 +16,8 @@ pub record Holds (calls : Calls) (waiting : List Entry) : Type 0 where
 -- The calls keep exactly the entries that wait after these records of a file, which stand with the latest first.
 abbrev pub StandsFor : Calls → List Call → Type 0
 StandsFor calls earlier = Holds calls (waiting_of earlier)
+
+-- What waits is the same, whatever records that stands for.
+pub record WaitAlike (old new : Calls) : Type 0 where
+  pub plain : new.plain ≡ old.plain
+  pub nonces : (point : ℕ) (n : ℤ) → held point n new.nonces ≡ held point n old.nonces

@@ -13,7 +13,7 @@ use crate::origs::{own_len, with_origs};
 use crate::stack::Stack;
 use bumpalo::collections::into_bump_slice;
 use dk_base::{Arena, BlockFault, List, NoMemory, PointId, Value, VarInfo, View, Why};
-use dk_points::{Points, Role, role_of};
+use dk_points::{Points, Role};
 use dk_trace::BaseSample;
 use std::alloc::Global;
 
@@ -45,9 +45,9 @@ pub fn is_entry(points: &Points, point: PointId) -> bool
     requires { point.0 < length points.now }
     ensures { result ≡ is_entry_at points.now point.0 }
 {
-    match points.decl(point) {
+    match points.role(point) {
         None => false,
-        Some(decl) => is_entry_role(role_of(decl.name.as_slice())),
+        Some(role) => is_entry_role(role),
     }
 }
 
@@ -105,7 +105,7 @@ fn with_entry<'a>(
 }
 
 impl Calls {
-    ghost use Rattle.dk_calls.specs.Standing.{Holds, StandsFor};
+    ghost use Rattle.dk_calls.specs.Standing.{Holds, StandsFor, WaitAlike};
 
     /// No entry waits.
     pub fn new(alloc: Global) -> Result<Calls, NoMemory>
@@ -126,11 +126,11 @@ impl Calls {
         self.nonces.clear();
     }
 
-    /// The entry waits. The record is that of an entry.
+    /// The entry waits. The record is that of an entry. A refused call leaves what waits as it was.
     pub fn enter(&mut self, points: &Points, sample: &BaseSample<'_>) -> Result<(), NoMemory>
         requires { is_entry_at points.now sample.now.point.0 ≡ true }
         ensures ok { OnOk result ((earlier : List Call) → StandsFor self.old earlier → StandsFor self.new (call_of points.now (shown sample.now) ∷ earlier)) }
-        ensures err { OnErr result ((earlier : List Call) → StandsFor self.old earlier → StandsFor self.new earlier) }
+        ensures err { OnErr result (WaitAlike self.old self.new) }
     {
         let values = keep_all(self.alloc, sample.values)?;
         match sample.nonce {

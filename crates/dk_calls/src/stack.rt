@@ -2,6 +2,7 @@
 ghost use Rattle.std.specs.Prelude.{◌≡◌, ◌∷◌, [], ℕ, OnOk, OnErr, IsSome, drop, find, nat_eq, option_map, slice_get};
 ghost use Rattle.std.specs.Map.{update};
 ghost use Rattle.indexmap.specs.IndexMap.{get};
+ghost use Rattle.dk_calls.specs.Links.{plain_of};
 ghost use Rattle.dk_calls.specs.Stacks.{Plain, below_first, is_at};
 
 use dk_base::{List, NoMemory, Value};
@@ -94,21 +95,16 @@ impl Stack {
         }
     }
 
-    // The point of the entry on top, which goes.
-    fn pop(&mut self) -> Option<u32>
-        ensures point { result ≡ option_map (λ w. w.point) (slice_get self.old 0) }
+    // The entry on top, which goes.
+    fn pop(&mut self) -> Option<Placed>
+        ensures top { option_map plain_of result ≡ slice_get self.old 0 }
         ensures rest { self.new ≡ drop 1 self.old }
     {
         match self.entries.pop() {
             None => None,
             Some(top) => {
-                let Placed {
-                    point,
-                    values: _,
-                    below,
-                } = top;
-                set_latest(&mut self.latest, point, below);
-                Some(point)
+                set_latest(&mut self.latest, top.point, top.below);
+                Some(top)
             }
         }
     }
@@ -118,7 +114,7 @@ impl Stack {
         ensures { self.new ≡ below_first (is_at point) self.old }
     {
         'cut: while let Some(top) = self.pop() {
-            if top == point {
+            if top.point == point {
                 return;
             }
         }

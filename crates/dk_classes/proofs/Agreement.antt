@@ -1,4 +1,5 @@
 -- Leaders of classes stand for the samples, and go on to do so where a sample splits them.
+use Rattle.std.specs.Prelude.{IfOk, Result, Ok, Err}
 use Rattle.std.proofs.Common.{◌≡◌, ℕ, zero, suc, ◌^◌, ◌<◌, eqb, ◌⊎◌, inl, inr, List, [], ◌∷◌, ◌++◌, length, cond, refl, ap, sym, ◌∙◌, subst, arith}
 use Rattle.std.specs.List.{Contains}
 use Rattle.std.proofs.lemmas.Bool.{cases_Bool, cases_eq, eqb-true}
@@ -14,6 +15,11 @@ use Rattle.dk_classes.specs.Classes.{AreLeaders, AreNew, InClass, IsLike, IsSpli
 use Rattle.dk_classes.proofs.Firsts.{first_on, first_same, one_first}
 use Rattle.dk_classes.proofs.OwnLeaders.{leads_from_own, own_from_leads}
 
+-- two facts of one result
+pub ok_both : {T E : Type 0} (r : Result T E) (P Q : T → Type 0) → IfOk r P → IfOk r Q → IfOk r (λ v. P v × Q v)
+ok_both (Ok v) P Q p q = (p, q)
+ok_both (Err e) P Q p q = tt
+
 agree_front : (samples : List (List Value)) (sample : List Value) (v w : VarId) → Agree (samples ++ sample ∷ []) v w → Agree samples v w × (value_in sample v ≡ value_in sample w)
 agree_front [] sample v w h = (All-nil (λ s. value_in s v ≡ value_in s w), All-head (λ s. value_in s v ≡ value_in s w) sample [] h)
 agree_front (s ∷ samples) sample v w h =
@@ -21,7 +27,7 @@ agree_front (s ∷ samples) sample v w h =
     (All-cons (λ s. value_in s v ≡ value_in s w) s samples (All-head (λ s. value_in s v ≡ value_in s w) s (samples ++ sample ∷ []) h) rest.0, rest.1)
 
 module _ (kinds : List Kind) (samples : List (List Value)) where
-  class_back : (v w : ℕ) → v < length kinds → InClass kinds samples v w → InClass kinds samples w v
+  pub class_back : (v w : ℕ) → v < length kinds → InClass kinds samples v w → InClass kinds samples w v
   class_back v w l c = record { within = l; kind = sym c.kind; agree = λ k d m. sym (c.agree k d m) }
 
   class_on : (u v w : ℕ) → InClass kinds samples u v → InClass kinds samples v w → InClass kinds samples u w
@@ -29,14 +35,14 @@ module _ (kinds : List Kind) (samples : List (List Value)) where
 
   module _ (leaders : List VarId) (are : AreLeaders kinds samples leaders) where
     -- variables of one class have one leader
-    one_leader : (v w : ℕ) → v < length leaders → w < length leaders → InClass kinds samples v w → leader_at leaders w ≡ leader_at leaders v
+    pub one_leader : (v w : ℕ) → v < length leaders → w < length leaders → InClass kinds samples v w → leader_at leaders w ≡ leader_at leaders v
     one_leader v w lv lw c = one_first (InClass kinds samples v) (leader_at leaders w) (leader_at leaders v)
         (first_same (InClass kinds samples w) (InClass kinds samples v) (leader_at leaders w) (λ m h. class_on v w m c h)
         (λ m h. class_on w v m (class_back v w (omega (arith, are.long)) c) h) (are.each w lw))
         (are.each v lv)
 
     -- and only they
-    class_from_leader : (v w : ℕ) → v < length leaders → w < length leaders → leader_at leaders w ≡ leader_at leaders v → InClass kinds samples v w
+    pub class_from_leader : (v w : ℕ) → v < length leaders → w < length leaders → leader_at leaders w ≡ leader_at leaders v → InClass kinds samples v w
     class_from_leader v w lv lw e =
         let to = (are.each v lv).holds in
         let from = subst (InClass kinds samples w) e (are.each w lw).holds in
@@ -108,7 +114,7 @@ old_cases (n ∷ new) v = elim (cases_Bool (eqb n.0.0 v.0)) [
 
 module _ (leaders : List VarId) (sample : List Value) (split : List VarId) (new : List (VarId × VarId)) (classes : AreClasses leaders) (is : IsSplit leaders sample split) (are_new : AreNew leaders split new) where
   -- a variable that led and isn't new leads
-  still_leads : (v : ℕ) → v < length leaders → leader_at leaders v ≡ v → leader_at split v ≡ v
+  pub still_leads : (v : ℕ) → v < length leaders → leader_at leaders v ≡ v → leader_at split v ≡ v
   still_leads v l e =
       let first = is.each v l in
       let low = first.first v (record { within = l; class = refl; value = refl }) in
@@ -117,7 +123,7 @@ module _ (leaders : List VarId) (sample : List Value) (split : List VarId) (new 
       omega (arith, low, high, same, e)
 
   -- a variable leads now where its old leader led
-  led_now : (v : VarId) → Contains (own_leaders split) v → Contains (own_leaders leaders) (old_of new v)
+  pub led_now : (v : VarId) → Contains (own_leaders split) v → Contains (own_leaders leaders) (old_of new v)
   led_now v has =
       let leads = leads_from_own split v has in
       let l : v.0 < length leaders = omega (arith, leads.0, is.long) in
@@ -133,7 +139,7 @@ module _ (leaders : List VarId) (sample : List Value) (split : List VarId) (new 
         ])
       ]
 
-  leads_now : (v : VarId) → Contains (own_leaders leaders) (old_of new v) → Contains (own_leaders split) v
+  pub leads_now : (v : VarId) → Contains (own_leaders leaders) (old_of new v) → Contains (own_leaders split) v
   leads_now v has = elim (old_cases new v) [
     | inl found ↦ let told = (are_new.each v found.0).0 found.1 in own_from_leads split v told.0 told.1
     | inr none ↦

@@ -4,3 +4,4 @@ pub mod OwnLeaders
 pub mod OfKind
 pub mod Examples
 pub mod Keys
+pub mod Determined

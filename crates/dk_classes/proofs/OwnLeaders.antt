@@ -1,9 +1,10 @@
 -- The variables that are their own leaders.
 use Rattle.std.proofs.Common.{◌≡◌, ℕ, zero, suc, ◌+◌, ◌<◌, eqb, ◌⊎◌, inl, inr, List, [], ◌∷◌, ◌++◌, length, get_or, take, map, true, false, cond, refl, ap, sym, ◌∙◌, subst, arith}
-use Rattle.std.specs.List.{Contains, enumerate_from, filter}
+use Rattle.std.specs.List.{AllPairs, Contains, enumerate_from, filter}
 use Rattle.std.proofs.lemmas.Bool.{cases_Bool, eqb-true, eq-eqb}
 use Rattle.std.proofs.lemmas.List.{map-append, take_more, length-take-le}
-use Rattle.std.proofs.lemmas.List.Elements.{filter-append}
+use Rattle.std.proofs.lemmas.List.Elements.{Contains-get_or, filter-append}
+use Rattle.std.proofs.lemmas.List.Kept.{AllPairs-cons}
 use Rattle.dk_base.specs.declared.kinds.VarId.{VarId}
 use Rattle.dk_classes.specs.Leaders.{leader_at, own_leaders, var}
 
@@ -74,3 +75,22 @@ leads_from_own xs v h =
 
 pub own_from_leads : (xs : List VarId) (v : VarId) → v.0 < length xs → leader_at xs v.0 ≡ v.0 → Contains (own_leaders xs) v
 own_from_leads xs v l e = own_back 0 xs v v.0 l (omega arith) (ap (λ n. record { 0 = n }) e)
+
+-- own leaders ascend
+own_ascend_from : (n : ℕ) (xs : List VarId) → AllPairs (λ (v w : VarId). v.0 < w.0) (map (λ (p : ℕ × VarId). p.1) (filter (λ p. eqb p.1.0 p.0) (enumerate_from n xs)))
+own_ascend_from n [] = λ i j d l m. absurd (omega (arith, m))
+own_ascend_from n (x ∷ xs) =
+    let rest = map (λ (p : ℕ × VarId). p.1) (filter (λ p. eqb p.1.0 p.0) (enumerate_from (n + 1) xs)) in
+    let up = own_ascend_from (n + 1) xs in
+    elim (cases_Bool (eqb x.0 n)) [
+      | inl own ↦ subst (λ b. AllPairs (λ (v w : VarId). v.0 < w.0) (map (λ (p : ℕ × VarId). p.1) (cond b ((n, x) ∷ filter (λ p. eqb p.1.0 p.0) (enumerate_from (n + 1) xs)) (filter (λ p. eqb p.1.0 p.0) (enumerate_from (n + 1) xs))))) (sym own)
+          (AllPairs-cons (λ (v w : VarId). v.0 < w.0) x rest (λ k d l.
+          let found = own_to (n + 1) xs (get_or rest k d) (Contains-get_or rest k d l) in
+          let here = eqb-true x.0 n own in
+          let there = found.2 in
+          omega (arith, here, there)) up)
+      | inr other ↦ subst (λ b. AllPairs (λ (v w : VarId). v.0 < w.0) (map (λ (p : ℕ × VarId). p.1) (cond b ((n, x) ∷ filter (λ p. eqb p.1.0 p.0) (enumerate_from (n + 1) xs)) (filter (λ p. eqb p.1.0 p.0) (enumerate_from (n + 1) xs))))) (sym other) up
+    ]
+
+pub own_ascend : (leaders : List VarId) → AllPairs (λ (v w : VarId). v.0 < w.0) (own_leaders leaders)
+own_ascend leaders = own_ascend_from 0 leaders

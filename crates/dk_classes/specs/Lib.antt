@@ -1,3 +1,4 @@
 pub mod Leaders
 pub mod Classes
 pub mod Keys
+pub mod Laws

@@ -36,12 +36,12 @@ fn three_numbers_split_in_two_steps(rt: HostRuntime) -> Result<(), Fail> {
     let vars = infos(alloc, &[Kind::Int, Kind::Int, Kind::Int])?;
     let none = Classes::new(alloc, vars.as_slice())?;
     check_leaders(&rt, &none, &[VarId(0)]);
-    let (one, new) = none.split(alloc, &[View::Int(1), View::Int(1), View::Int(1)])?;
+    let (one, new) = none.split(&[View::Int(1), View::Int(1), View::Int(1)])?;
     assert!(rt; new.is_empty());
-    let (two, new) = one.split(alloc, &[View::Int(2), View::Int(2), View::Int(5)])?;
+    let (two, new) = one.split(&[View::Int(2), View::Int(2), View::Int(5)])?;
     assert!(rt; new.as_slice() == [(VarId(2), VarId(0))].as_slice());
     check_leaders(&rt, &two, &[VarId(0), VarId(2)]);
-    let (three, new) = two.split(alloc, &[View::Int(3), View::Missing, View::Int(5)])?;
+    let (three, new) = two.split(&[View::Int(3), View::Missing, View::Int(5)])?;
     assert!(rt; new.as_slice() == [(VarId(1), VarId(0))].as_slice());
     check_leaders(&rt, &three, &[VarId(0), VarId(1), VarId(2)]);
     Ok(())
@@ -63,7 +63,7 @@ fn three_variables_leave_and_two_stay_together(rt: HostRuntime) -> Result<(), Fa
         View::Int(7),
         View::Int(7),
     ];
-    let (more, new) = two.split(alloc, &sample)?;
+    let (more, new) = two.split(&sample)?;
     let expected = [
         (VarId(1), VarId(0)),
         (VarId(3), VarId(0)),
@@ -93,7 +93,7 @@ fn kinds_and_missing_values_are_told_apart(rt: HostRuntime) -> Result<(), Fail> 
         View::Int(0),
         View::Int(0),
     ];
-    let (one, new) = none.split(alloc, &sample)?;
+    let (one, new) = none.split(&sample)?;
     assert!(rt; new.as_slice() == [(VarId(3), VarId(1))].as_slice());
     assert!(rt; one.leader(VarId(2)) == VarId(0));
     assert!(rt; one.leader(VarId(4)) == VarId(3));

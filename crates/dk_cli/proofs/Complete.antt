@@ -7,9 +7,10 @@ use Rattle.dk_io.specs.Outside.{Held, Absent, Holds, Rose}
 use Rattle.dk_core.specs.History.{History, no_history, file_ended}
 use Rattle.dk_cli.specs.Files.{File, whole, AreHeld}
 use Rattle.dk_cli.specs.Words.{name_at}
+use Rattle.dk_cli.proofs.Running.{name-take}
 use Rattle.dk_cli.specs.Ending.{FileFault, total_limit, then_files, after_file, after_files, history_after, fault_in, first_fault}
 use Rattle.dk_cli.specs.Output.{Output, output_at, output_of, followed}
-use Rattle.dk_cli.specs.Statuses.{Outside, Says, IsCalm, AreClean, IsComplete, IsRefused}
+use Rattle.dk_cli.specs.Statuses.{AtStart, Break, HasBroken, Outside, Says, IsCalm, AreClean, IsComplete, IsRefused, Within}
 use Rattle.dk_cli.specs.declared.status.Status.{Status}
 use Rattle.dk_cli.specs.declared.status.Status.TheVariants.{Done, Refused, Usage, Read, Write, NoMemory}
 
@@ -46,12 +47,6 @@ held_there file (n ∷ ns) [] k held h = absurd (cc (held))
 held_there file (n ∷ ns) (c ∷ cs) zero held h = (c, cc (held))
 held_there file (n ∷ ns) (c ∷ cs) (suc k) held h = held_there file ns cs k (cc (held)) (omega arith)
 
-name-take : (names : List (List ℕ)) (n k : ℕ) → k < n → name_at (take n names) k ≡ name_at names k
-name-take names zero k h = absurd (omega arith)
-name-take [] (suc n) k h = refl
-name-take (x ∷ xs) (suc n) zero h = refl
-name-take (x ∷ xs) (suc n) (suc k) h = name-take xs n k (omega arith)
-
 -- of the first n names the files are held, and they have a first fault: so the faulty one stands behind the clean ones
 not_clean : (file : List ℕ → Held) (names : List (List ℕ)) (k n : ℕ) (contents : List (List ℕ)) (fault : FileFault) → AreClean file (take k names)
     → AreHeld file (take n names) contents → first_fault (map whole contents) ≡ Some fault → n ≤ k → ⊥
@@ -59,10 +54,11 @@ not_clean file names k n contents fault clean held first h =
     let none = clean n contents (subst (λ (l : List (List ℕ)). AreHeld file l contents) (sym (take-take n k names h)) held) in cc (none, first)
 
 -- no file that is held was left unread
-not_unread : (names : List (List ℕ)) (before after : Outside) (place n : ℕ) (contents : List (List ℕ)) → IsCalm before after → AreHeld before.file (take n names) contents → place < n → place < length names
-    → (before.file (name_at names place) ≡ Absent) ⊎ Rose before.read_faults after.read_faults → ⊥
-not_unread names before after place n contents calm held below named (inr rose) = calm.read rose
-not_unread names before after place n contents calm held below named (inl absent) =
+not_unread : (names : List (List ℕ)) (before after : Outside) (by : Break) (place n : ℕ) (contents : List (List ℕ)) → IsCalm before after → AreHeld before.file (take n names) contents → place < n → place < length names
+    → HasBroken by (before.file (name_at names place)) (Rose before.read_faults after.read_faults) → ⊥
+not_unread names before after Within place n contents calm held below named cause = calm.read cause.1
+not_unread names before after AtStart place n contents calm held below named (inr rose) = calm.read rose
+not_unread names before after AtStart place n contents calm held below named (inl absent) =
     let there = held_there before.file (take n names) contents place held (omega (arith, length-take n names)) in
     let same = ap before.file (name-take names n place below) in
     cc (absent, same, there.1)
@@ -100,9 +96,9 @@ complete_of names before after Refused (output, comes, written) calm = record {
 }
 complete_of names before after Usage (output, comes, written) calm = absurd comes
 complete_of names before after Read (output, comes, written) calm = record {
-  done = λ contents held none. absurd (not_unread names before after comes.place (length names) contents calm (held_all before.file names contents held) comes.named comes.named comes.cause);
+  done = λ contents held none. absurd (not_unread names before after comes.by comes.place (length names) contents calm (held_all before.file names contents held) comes.named comes.named comes.cause);
   refused = λ n contents fault held first. elim (cases_lt comes.place n) [
-    | inl below ↦ absurd (not_unread names before after comes.place n contents calm held below comes.named comes.cause)
+    | inl below ↦ absurd (not_unread names before after comes.by comes.place n contents calm held below comes.named comes.cause)
     | inr above ↦ absurd (not_clean before.file names comes.place n contents fault comes.clean_before held first above)
   ];
 }

@@ -29,7 +29,7 @@ use Rattle.dk_trace.specs.Values.{named_kind}
 use Rattle.dk_calls.specs.Origs.{orig_values, own_vars}
 use Rattle.dk_calls.specs.Records.{call_of, is_entry_at, values_at_exit}
 use Rattle.dk_bounds.specs.Sections.{section_of}
-use Rattle.dk_core.specs.Fronts.{is_comment}
+use Rattle.dk_decl.specs.Comments.{is_comment}
 use Rattle.dk_core.specs.History.{base_values, effect_of, file_ended, is_declaration, is_list_of_implementors, no_history}
 use Rattle.dk_core.specs.Sections.{report_of}
 use Rattle.dk_points.specs.Sameness.{same_decl}

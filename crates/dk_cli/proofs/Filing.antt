@@ -120,7 +120,7 @@ pub told_read : (h : History) (r mid last : Reading) (held : Held) (xs : List �
     → TroubleGives h r xs before t.Read after
 told_read h r mid last held xs before rest after is starts holds none gives =
     let (front, (more, left, split, fine)) = told (λ m ys. IsBroken h m ys (left_of last after)) r mid held xs rest is starts holds gives in
-    inr (front, (more, sym (front_nil after) ∙ ap (λ (a : List ℕ). prepend_known a after) (sym none) ∙ left, split, fine))
+    (front, (more, sym (front_nil after) ∙ ap (λ (a : List ℕ). prepend_known a after) (sym none) ∙ left, split, fine))
 
 -- in front of the first block
 pub not_begun : (h : History) (r : Reading) (s : Session) (o : Option (List ℕ)) → over_of s ≡ false → StandsFor s h → IfSome o (λ xs. GoesOn h r xs s r o)

@@ -1,15 +1,16 @@
 -- Reading file after file.
-use Rattle.std.proofs.Common.{All, ◌≡◌, ◌≢◌, ◌<◌, ◌+◌, ◌-◌, ℕ, zero, suc, List, [], ◌∷◌, ◌++◌, map, take, length, get_or, inl, inr, Bool, true, false, Option, Some, None, Result, Ok, Err, refl, sym, ◌∙◌, ap, subst, arith}
+use Rattle.std.proofs.Common.{All, ◌≡◌, ◌≢◌, ◌≤◌, ◌<◌, ◌⊎◌, ◌+◌, ◌-◌, ◌^◌, min, ℕ, zero, suc, List, [], ◌∷◌, ◌++◌, map, take, length, get_or, inl, inr, Bool, true, false, Option, Some, None, Result, Ok, Err, refl, sym, ◌∙◌, ap, subst, arith}
 use Rattle.std.proofs.lemmas.List.{append-nil, take_all, take-take, length-take}
+use Rattle.std.proofs.lemmas.List.Elements.{All-take}
 use Rattle.std.proofs.lemmas.Bool.{cases_lt}
 use Rattle.std.specs.Result.{IsOk}
 use Rattle.dk_base.specs.Reading.{LineFault, ◌>>=◌}
-use Rattle.dk_io.specs.Outside.{Held, Absent, Holds}
+use Rattle.dk_io.specs.Outside.{Held, Absent, Holds, Rose}
 use Rattle.dk_lines.proofs.Lined.{at_break}
 use Rattle.dk_lines.specs.Left.{Left, lined}
 use Rattle.dk_lines.specs.Reading.{Reading, room_of}
 use Rattle.dk_lines.specs.declared.lines.Limits.{Limits}
-use Rattle.dk_core.proofs.Laws.{no_lines}
+use Rattle.dk_core.proofs.BlockLaws.{no_lines}
 use Rattle.dk_core.specs.Blocks.{grouped}
 use Rattle.dk_core.specs.History.{History, Taken, effect_of, file_ended, no_history}
 use Rattle.dk_core.specs.Reading.{after_all}
@@ -21,7 +22,7 @@ use Rattle.dk_cli.specs.Words.{name_at}
 use Rattle.dk_cli.specs.Ending.{line_limit, total_limit, then_files, after_file, after_files, history_after, fault_in, first_fault}
 use Rattle.dk_cli.specs.Statuses.{rest_behind, AreClean}
 use Rattle.dk_cli.specs.WholeFile.{FileGives, TroubleGives, fresh}
-use Rattle.dk_cli.specs.AllFiles.{RunsOnHeld, FilesGive, FilesTroubleGives, placed}
+use Rattle.dk_cli.specs.AllFiles.{AreThere, RunsOnHeld, FilesGive, FilesTroubleGives, IsCaused, placed}
 use Rattle.dk_cli.specs.declared.reading.Trouble.{Trouble}
 use Rattle.dk_cli.specs.declared.reading.Trouble.TheVariants as t
 
@@ -154,12 +155,13 @@ runs_trouble file names k before mid after s r name (t.Refused line why) h is li
     ∙ ap history_after (sym (append-nil (map whole (m.front ++ m.bytes ∷ []))) ∙ files_of m.front m.bytes [])
     ∙ on.goes (whole m.bytes ∷ [])
     ∙ ap (λ (e : Result History LineFault). then_files k e (λ n. Ok (file_ended n))) (started_file r on.history true m.bytes limits ∙ gives on.history on.stands m.bytes (ap file is ∙ m.there))
+runs_trouble file names k before mid after s r name t.Start h is limits runs gives = λ contents xs held holds.
+    let on = runs contents held in
+    ([], (refl, gives on.history on.stands xs (ap file is ∙ holds) ∙ on.rest), clean_cut r on.history k contents [] limits on.goes (fine_nothing r on.history))
 runs_trouble file names k before mid after s r name t.Read h is limits runs gives = λ contents xs held holds.
     let on = runs contents held in
-    elim (gives on.history on.stands xs (ap file is ∙ holds)) [
-      | inl e ↦ ([], inl (refl, e ∙ on.rest), clean_cut r on.history k contents [] limits on.goes (fine_nothing r on.history))
-      | inr (front, (rest, now, split, fine)) ↦ (front, inr (rest, now, split), clean_cut r on.history k contents front limits on.goes fine)
-    ]
+    let (front, (rest, now, split, fine)) = gives on.history on.stands xs (ap file is ∙ holds) in
+    (front, (rest, now, split), clean_cut r on.history k contents front limits on.goes fine)
 runs_trouble file names k before mid after s r name t.NoMemory h is limits runs gives = tt
 
 pub there_more : (file : List ℕ → Held) (names : List (List ℕ)) (k : ℕ) (name : List ℕ) → name ≡ name_at names k → ((j : ℕ) → j < k → file (name_at names j) ≢ Absent) → file name ≢ Absent
@@ -176,3 +178,44 @@ all_there file names there = λ k d h. subst (λ (n : List ℕ). file n ≢ Abse
   at [] k d h = absurd (omega arith)
   at (n ∷ ns) zero d h = refl
   at (n ∷ ns) (suc k) d h = at ns k d (omega arith)
+
+pub name-take : (names : List (List ℕ)) (n k : ℕ) → k < n → name_at (take n names) k ≡ name_at names k
+name-take names zero k h = absurd (omega arith)
+name-take [] (suc n) k h = refl
+name-take (x ∷ xs) (suc n) zero h = refl
+name-take (x ∷ xs) (suc n) (suc k) h = name-take xs n k (omega arith)
+
+-- no file of the first names is absent
+pub front_there : (file : List ℕ → Held) (names : List (List ℕ)) (n : ℕ) → n ≤ length names → ((k : ℕ) → k < n → file (name_at names k) ≢ Absent) → All (λ n. file n ≢ Absent) (take n names)
+front_there file names n h there = all_there file (take n names) (λ k below. at k (omega (arith, length-take n names))) where
+  at : (k : ℕ) → k < n → file (name_at (take n names) k) ≢ Absent
+  at k below = subst (λ (w : List ℕ). file w ≢ Absent) (sym (name-take names n k below)) (there k below)
+
+-- where a trouble with a file leaves the files in front of it, and itself
+pub trouble_there : (file : List ℕ → Held) (names : List (List ℕ)) (k : ℕ) (name : List ℕ) (r : Result Session Trouble) (trouble : Trouble) → r ≡ Err trouble → k < length names → name ≡ name_at names k
+    → ((j : ℕ) → j < k → file (name_at names j) ≢ Absent) → (r ≢ Err t.Start → file name ≢ Absent) → AreThere file names (Err (placed k trouble))
+trouble_there file names k name r (t.Refused line why) e h is below here = front_there file names (k + 1) (omega arith) (there_more file names k name is below (here (λ s. cc (e, s))))
+trouble_there file names k name r t.Start e h is below here = front_there file names k (omega arith) below
+trouble_there file names k name r t.Read e h is below here = front_there file names (k + 1) (omega arith) (there_more file names k name is below (here (λ s. cc (e, s))))
+trouble_there file names k name r t.NoMemory e h is below here = tt
+
+rose_within : (a b c limit : ℕ) → a ≤ b → min (b + 1) limit ≤ c → min (a + 1) limit ≤ c
+rose_within a b c limit h r = omega arith
+
+-- faults that rose in a later call rose in the run
+rose_since : (a b c : ℕ) → a ≤ b → Rose b c → Rose a c
+rose_since a b c h r = rose_within a b c (2 ^ 64 - 1) h r
+
+pub trouble_caused : (file : List ℕ → Held) (names : List (List ℕ)) (k : ℕ) (name : List ℕ) (r : Result Session Trouble) (trouble : Trouble) (a b c : ℕ) → r ≡ Err trouble → name ≡ name_at names k
+    → a ≤ b → (r ≢ Err t.Start → file name ≢ Absent) → (r ≡ Err t.Start → (file name ≡ Absent) ⊎ Rose b c) → (r ≡ Err t.Read → Rose b c) → IsCaused file names (Rose a c) (placed k trouble)
+trouble_caused file names k name r (t.Refused line why) a b c e is h there start read = tt
+trouble_caused file names k name r t.Start a b c e is h there start read = elim (start e) [
+  | inl absent ↦ inl (subst (λ (n : List ℕ). file n ≡ Absent) is absent)
+  | inr rose ↦ inr (rose_since a b c h rose)
+]
+trouble_caused file names k name r t.Read a b c e is h there start read = (subst (λ (n : List ℕ). file n ≢ Absent) is (there (λ s. cc (e, s))), rose_since a b c h (read e))
+trouble_caused file names k name r t.NoMemory a b c e is h there start read = tt
+
+pub front_of_there : (file : List ℕ → Held) (names : List (List ℕ)) (k : ℕ) → All (λ n. file n ≢ Absent) (take (k + 1) names) → All (λ n. file n ≢ Absent) (take k names)
+front_of_there file names k there =
+    subst (All (λ (n : List ℕ). file n ≢ Absent)) (take-take k (k + 1) names (omega arith)) (All-take (λ (n : List ℕ). file n ≢ Absent) k (take (k + 1) names) there)

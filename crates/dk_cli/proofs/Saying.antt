@@ -1,5 +1,5 @@
 -- What each end of a run says.
-use Rattle.std.proofs.Common.{◌≡◌, ◌≢◌, ◌<◌, inl, inr, ℕ, List, take, length, Option, Some, None, Ok, All, refl, sym, ◌∙◌, ap, subst}
+use Rattle.std.proofs.Common.{◌≡◌, ◌≢◌, ◌<◌, inl, inr, ℕ, List, take, length, Option, Some, None, Ok, Err, All, refl, sym, ◌∙◌, ap, subst}
 use Rattle.dk_base.specs.declared.why.Why.{Why}
 use Rattle.dk_io.specs.Outside.{Absent, Rose}
 use Rattle.dk_io.specs.declared.outside.Stream.TheVariants.{Report, Messages}
@@ -8,9 +8,9 @@ use Rattle.dk_cli.specs.Words.{name_at}
 use Rattle.dk_cli.specs.Ending.{fault_in}
 use Rattle.dk_cli.specs.Messages.{fault_line}
 use Rattle.dk_cli.specs.Output.{Output, only_on, output_at, unread_output, usage_output}
-use Rattle.dk_cli.specs.Statuses.{Outside, AreClean, ComesTo, IsWritten, Says}
+use Rattle.dk_cli.specs.Statuses.{Break, HasBroken, Outside, AreClean, ComesTo, IsWritten, Says}
 use Rattle.dk_cli.specs.Telling.{Tells, TellsReport}
-use Rattle.dk_cli.specs.AllFiles.{FilesGive, FilesTroubleGives, IsCaused}
+use Rattle.dk_cli.specs.AllFiles.{AreThere, FilesGive, FilesTroubleGives, IsFineUpTo}
 use Rattle.dk_cli.specs.declared.reading.FilesTrouble.TheVariants as t
 use Rattle.dk_cli.specs.declared.status.Status.{Status}
 use Rattle.dk_cli.specs.declared.status.Status.TheVariants.{Done, Refused, Usage, Read, Write, NoMemory}
@@ -56,14 +56,16 @@ report_says names before after session result gives clean there (inr (text, is, 
 -- the message of a refused file was due
 pub refused_says : (names : List (List ℕ)) (before after : Outside) (place line : ℕ) (why : Why) (name : List ℕ) (result : Status)
     → name ≡ name_at names place → place < length names → FilesTroubleGives before.file names before.rest (t.Refused place line why) after.rest → AreClean before.file (take place names)
+    → AreThere before.file names (Err (t.Refused place line why))
     → Tells Refused (only_on Messages (fault_line name line why)) before.written after.written before.write_faults after.write_faults result
     → Says result (Some names) before after
-refused_says names before after place line why name result is there gives clean tells =
+refused_says names before after place line why name result is placed gives clean there tells =
     let line_is : fault_line name line why ≡ fault_line (name_at names place) line why = ap (λ (n : List ℕ). fault_line n line why) is in
     tells_says Refused (Some names) before after (only_on Messages (fault_line name line why)) result
     (record {
       fault = record { file = place; line = line; why = why };
-      named = there;
+      named = placed;
+      none_absent = there;
       message = line_is;
       clean_before = clean;
       first = λ contents held. ap fault_in (gives contents held);
@@ -72,14 +74,15 @@ refused_says names before after place line why name result is there gives clean 
     tells
 
 -- the message of a file that can't be read was due
-pub unread_says : (names : List (List ℕ)) (before after : Outside) (place : ℕ) (name : List ℕ) (result : Status)
-    → name ≡ name_at names place → place < length names → FilesTroubleGives before.file names before.rest (t.Read place) after.rest → AreClean before.file (take place names)
-    → IsCaused before.file names (Rose before.read_faults after.read_faults) (t.Read place)
+pub unread_says : (names : List (List ℕ)) (before after : Outside) (by : Break) (place : ℕ) (name : List ℕ) (result : Status)
+    → name ≡ name_at names place → place < length names → IsFineUpTo by before.file names before.rest place after.rest → AreClean before.file (take place names)
+    → All (λ name. before.file name ≢ Absent) (take place names)
+    → HasBroken by (before.file (name_at names place)) (Rose before.read_faults after.read_faults)
     → Tells Read (unread_output name) before.written after.written before.write_faults after.write_faults result
     → Says result (Some names) before after
-unread_says names before after place name result is there gives clean cause tells =
+unread_says names before after by place name result is placed gives clean there cause tells =
     tells_says Read (Some names) before after (unread_output name) result
-    (record { place = place; named = there; cause = cause; defined = ap unread_output is; clean_before = clean; clean = gives })
+    (record { place = place; named = placed; by = by; cause = cause; none_absent = there; defined = ap unread_output is; clean_before = clean; clean = gives })
     tells
 
 -- the usage line was due

@@ -32,10 +32,22 @@ abbrev pub rest_behind : ℕ → Option (List ℕ) → Option (List ℕ)
 rest_behind zero rest = rest
 rest_behind (suc n) rest = Some []
 
--- These bytes were delivered of the file at this place, which holds the bytes xs: none where its start failed, and else those in front of what is left.
-abbrev pub IsDelivered : ℕ → List ℕ → Option (List ℕ) → Option (List ℕ) → List ℕ → Type 0
-IsDelivered place xs before after bytes =
-    ((bytes ≡ []) × (after ≡ rest_behind place before)) ⊎ ((rest : List ℕ) × (after ≡ Some rest) × (xs ≡ bytes ++ rest))
+-- why a file was not read to its end: it could not be started, or it was, and then a read failed
+pub data Break : Type 0 where
+  AtStart : Break
+  Within : Break
+
+-- These bytes were delivered of the file at this place, which holds the bytes xs: none where its start failed, and then what is left of the
+-- inputs is what it was; where a read failed, all those in front of what is left.
+abbrev pub IsDelivered : Break → ℕ → List ℕ → Option (List ℕ) → Option (List ℕ) → List ℕ → Type 0
+IsDelivered AtStart place xs before after bytes = (bytes ≡ []) × (after ≡ rest_behind place before)
+IsDelivered Within place xs before after bytes = (rest : List ℕ) × (after ≡ Some rest) × (xs ≡ bytes ++ rest)
+
+-- The cause of a break, where this is told of the file: a start fails where the file is absent or a fault of the inputs rose, and a read only
+-- where one rose, of a file that is not absent.
+abbrev pub HasBroken : Break → Held → Type 0 → Type 0
+HasBroken AtStart held rose = (held ≡ Absent) ⊎ rose
+HasBroken Within held rose = (held ≢ Absent) × rose
 
 -- As far as files of these names are held, from the first on, they hold no fault.
 abbrev pub AreClean : (List ℕ → Held) → List (List ℕ) → Type 0
@@ -53,20 +65,23 @@ pub record IsDone (names : List (List ℕ)) (before after : Outside) (output : O
 pub record IsRefused (names : List (List ℕ)) (before after : Outside) (output : Output) : Type 0 where
   pub fault : FileFault
   pub named : fault.file < length names
+  pub none_absent : All (λ name. before.file name ≢ Absent) (take (fault.file + 1) names)
   pub message : output.messages ≡ fault_line (name_at names fault.file) fault.line fault.why
   pub clean_before : AreClean before.file (take fault.file names)
   pub first : (contents : List (List ℕ)) → AreHeld before.file (take (fault.file + 1) names) contents → first_fault (map whole contents) ≡ Some fault
   pub defined : (contents : List (List ℕ)) → AreHeld before.file (take (fault.file + 1) names) contents → output ≡ output_of names (map whole contents)
 
--- The file at this place could not be read: it is absent, or a fault of the inputs rose. What was delivered holds no fault.
+-- The file at this place could not be read: its start failed, or a read. None in front of it is absent, and what was delivered holds no fault.
 pub record IsUnread (names : List (List ℕ)) (before after : Outside) (output : Output) : Type 0 where
   pub place : ℕ
   pub named : place < length names
-  pub cause : (before.file (name_at names place) ≡ Absent) ⊎ Rose before.read_faults after.read_faults
+  pub by : Break
+  pub cause : HasBroken by (before.file (name_at names place)) (Rose before.read_faults after.read_faults)
+  pub none_absent : All (λ name. before.file name ≢ Absent) (take place names)
   pub defined : output ≡ unread_output (name_at names place)
   pub clean_before : AreClean before.file (take place names)
   pub clean : (contents : List (List ℕ)) (xs : List ℕ) → AreHeld before.file (take place names) contents → before.file (name_at names place) ≡ Holds xs →
-      (bytes : List ℕ) × IsDelivered place xs before.rest after.rest bytes × (first_fault (map whole contents ++ cut_off bytes ∷ []) ≡ None)
+      (bytes : List ℕ) × IsDelivered by place xs before.rest after.rest bytes × (first_fault (map whole contents ++ cut_off bytes ∷ []) ≡ None)
 
 -- A run whose words give these names comes to this status, and has this output, unless a write fails or memory runs out before.
 abbrev pub ComesTo : Status → Option (List (List ℕ)) → Outside → Outside → Output → Type 0

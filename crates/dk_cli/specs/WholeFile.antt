@@ -1,5 +1,5 @@
 -- What reading one file comes to.
-use Rattle.std.specs.Prelude.{◌≡◌, ◌⊎◌, ◌-◌, ℕ, Bool, true, false, List, [], ◌++◌, length, ⊤, Option, Some, Result, Ok, Err}
+use Rattle.std.specs.Prelude.{◌≡◌, ◌-◌, ℕ, Bool, true, false, List, [], ◌++◌, length, ⊤, Option, Some, Result, Ok, Err}
 use Rattle.std.specs.Result.{IsOk}
 use Rattle.dk_base.specs.Reading.{LineFault}
 use Rattle.dk_base.specs.declared.faults.Fault.{Fault}
@@ -12,7 +12,7 @@ use Rattle.dk_core.specs.Standing.{StandsFor, over_of}
 use Rattle.dk_core.specs.Steps.{groups_left}
 use Rattle.dk_core.specs.declared.session.Session.{Session}
 use Rattle.dk_cli.specs.declared.reading.Trouble.{Trouble}
-use Rattle.dk_cli.specs.declared.reading.Trouble.TheVariants.{Refused, Read, NoMemory}
+use Rattle.dk_cli.specs.declared.reading.Trouble.TheVariants.{Refused, Start, Read, NoMemory}
 
 -- Within a file: what the history says of what was left is what the new one says of what is left now.
 pub record Within (history : History) (old : Reading) (xs : List ℕ) (next : History) (is_over : Bool) (new : Reading) (ys : List ℕ) : Type 0 where
@@ -59,10 +59,15 @@ StartedGives history old xs (Err fault) new left = FaultGives history old xs fau
 abbrev pub fresh : Reading → Reading
 fresh r = record r { is_started = true; number = 0; ahead = []; line = [] }
 
--- what a trouble with a file of the bytes xs says
+-- a reader that could not start a file
+abbrev pub unstarted : Reading → Reading
+unstarted r = record r { is_started = false; number = 0; ahead = []; line = [] }
+
+-- What a trouble with a file of the bytes xs says. Where it could not be started, what is left of the inputs is what it was.
 abbrev pub TroubleGives : History → Reading → List ℕ → Option (List ℕ) → Trouble → Option (List ℕ) → Type 0
 TroubleGives history old xs before (Refused line why) after = HasFault history (fresh old) xs (record { line = line; why = why })
-TroubleGives history old xs before Read after = (after ≡ before) ⊎ IsBroken history (fresh old) xs after
+TroubleGives history old xs before Start after = after ≡ before
+TroubleGives history old xs before Read after = IsBroken history (fresh old) xs after
 TroubleGives history old xs before NoMemory after = ⊤
 
 -- what reading a file of the bytes xs comes to

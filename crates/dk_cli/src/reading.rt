@@ -1,12 +1,12 @@
 // Reading the files of a run, one after another.
-ghost use Rattle.std.specs.Prelude.{All, ◌≡◌, ◌≢◌, ◌≤◌, ◌<◌, ◌⊎◌, length, string_bytes, ◌∷◌, [], List, ℕ, map, take, Some, None, IfOk, IfErr, OnOk, OnErr, IfSome, IsErrOf, true, false, is_ok};
+ghost use Rattle.std.specs.Prelude.{◌≡◌, ◌≢◌, ◌≤◌, ◌<◌, ◌⊎◌, length, string_bytes, ◌∷◌, [], List, ℕ, map, take, Some, None, Err, IfOk, IfErr, OnOk, OnErr, IfSome, IsErrOf, true, false, is_ok};
 ghost use Rattle.dk_io.specs.Outside.{Absent, Rose, Starts};
 ghost use Rattle.dk_lines.specs.Reading.{left_of};
 ghost use Rattle.dk_core.specs.History.{History};
 ghost use Rattle.dk_core.specs.Standing.{StandsFor, over_of};
-ghost use Rattle.dk_cli.specs.WholeFile.{StartedGives, FileGives};
+ghost use Rattle.dk_cli.specs.WholeFile.{StartedGives, FileGives, unstarted};
 ghost use Rattle.dk_cli.specs.Statuses.{AreClean};
-ghost use Rattle.dk_cli.specs.AllFiles.{FilesGive, IsCleanBefore, IsPlaced, IsCaused, placed};
+ghost use Rattle.dk_cli.specs.AllFiles.{AreThere, FilesGive, IsCleanBefore, IsPlaced, IsCaused, placed};
 ghost use Rattle.dk_cli.specs.Words.{name_at as nth_name};
 
 use dk_base::{Fault, Why};
@@ -18,7 +18,11 @@ use std::alloc::Global;
 /// Why a file is not read to its end.
 #[derive(Clone, Copy, Debug, PartialEq, Eq)]
 pub(crate) enum Trouble {
+    /// A line of it is refused.
     Refused { line: u64, why: Why },
+    /// It could not be started.
+    Start,
+    /// It was started, and then a read failed.
     Read,
     NoMemory,
 }
@@ -27,6 +31,7 @@ pub(crate) enum Trouble {
 #[derive(Clone, Copy, Debug, PartialEq, Eq)]
 pub(crate) enum FilesTrouble {
     Refused { place: usize, line: u64, why: Why },
+    Start { place: usize },
     Read { place: usize },
     NoMemory,
 }
@@ -51,8 +56,8 @@ fn read_started<I: Inputs>(
     let mut session = session;
     'steps: loop {
         match session.block(inputs, lines) {
-            Ok((next, true)) => session = next,
-            Ok((next, false)) => return Ok(next.end_file()),
+            Ok(true) => continue 'steps,
+            Ok(false) => return Ok(session.end_file()),
             Err(fault) => return Err(fault),
         }
     }
@@ -68,14 +73,17 @@ fn read_file<I: Inputs>(
     requires { over_of session ≡ false }
     ensures gives { FileGives session (I.file inputs.old name.now) (I.rest inputs.old) lines.old result lines.new (I.rest inputs.new) }
     ensures over { IfOk result (λ next. over_of next ≡ false) }
-    ensures there { OnOk result (I.file inputs.old name.now ≢ Absent) }
+    // Only a file that could not be started may be absent, and of that one nothing was read.
+    ensures there { result ≢ Err Trouble.Start → I.file inputs.old name.now ≢ Absent }
+    ensures unstarted { result ≡ Err Trouble.Start → lines.new ≡ unstarted lines.old }
     ensures limits { lines.new.limits ≡ lines.old.limits }
     ensures files { I.file inputs.new ≡ I.file inputs.old }
     ensures later { I.faults inputs.old ≤ I.faults inputs.new }
-    ensures cause { IsErrOf result Trouble.Read → (I.file inputs.old name.now ≡ Absent) ⊎ Rose (I.faults inputs.old) (I.faults inputs.new) }
+    ensures start { result ≡ Err Trouble.Start → (I.file inputs.old name.now ≡ Absent) ⊎ Rose (I.faults inputs.old) (I.faults inputs.new) }
+    ensures read { result ≡ Err Trouble.Read → Rose (I.faults inputs.old) (I.faults inputs.new) }
 {
     match lines.start(inputs, name) {
-        Err(Failed) => Err(Trouble::Read),
+        Err(Failed) => Err(Trouble::Start),
         Ok(()) => match read_started(session, inputs, lines) {
             Ok(next) => Ok(next),
             Err(Fault::Refused { file: _, line, why }) => Err(Trouble::Refused { line, why }),
@@ -98,6 +106,7 @@ fn at_place(place: usize, trouble: Trouble) -> FilesTrouble
 {
     match trouble {
         Trouble::Refused { line, why } => FilesTrouble::Refused { place, line, why },
+        Trouble::Start => FilesTrouble::Start { place },
         Trouble::Read => FilesTrouble::Read { place },
         Trouble::NoMemory => FilesTrouble::NoMemory,
     }
@@ -110,7 +119,7 @@ pub(crate) fn read_files<I: Inputs>(
     inputs: &mut I,
 ) -> Result<Session, FilesTrouble>
     ensures gives { FilesGive (I.file inputs.old) (map string_bytes names.now) (I.rest inputs.old) result (I.rest inputs.new) }
-    ensures there { OnOk result (All (λ name. I.file inputs.old name ≢ Absent) (map string_bytes names.now)) }
+    ensures there { AreThere (I.file inputs.old) (map string_bytes names.now) result }
     ensures clean { IfOk result (λ _. AreClean (I.file inputs.old) (map string_bytes names.now)) }
     ensures clean_before { IfErr result (λ trouble. IsCleanBefore (I.file inputs.old) (map string_bytes names.now) trouble) }
     ensures place { IfErr result (λ trouble. IsPlaced (length names.now) trouble) }

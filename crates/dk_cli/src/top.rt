@@ -151,6 +151,7 @@ fn run_files<I: Inputs, S: Sinks>(
             why,
             sinks,
         ),
+        Err(FilesTrouble::Start { place }) => tell_unread(alloc, name_at(names, place), sinks),
         Err(FilesTrouble::Read { place }) => tell_unread(alloc, name_at(names, place), sinks),
         Err(FilesTrouble::NoMemory) => Status::NoMemory,
     }

@@ -4,7 +4,7 @@ use Rattle.std.specs.List.{All, AllPairs, Contains, cons_option}
 use Rattle.std.specs.Option.{option_map, option_or}
 use Rattle.std.proofs.lemmas.Bool.{cases_Bool, false≢true}
 use Rattle.std.proofs.lemmas.Bool.Decides.{nat_tests}
-use Rattle.std.proofs.lemmas.List.{length-map, get_or-map}
+use Rattle.std.proofs.lemmas.List.{length-map, length_push, get_or-map}
 use Rattle.std.proofs.lemmas.List.Elements.{All-head, All-tail, All-cons, All-nil, All-push}
 use Rattle.dk_base.specs.declared.kinds.VarId.{VarId}
 use Rattle.dk_base.specs.declared.values.Value.{Value}
@@ -14,7 +14,7 @@ use Rattle.dk_constants.specs.Known.{Ascend, IsParted, born_of, known_at, none_k
 use Rattle.dk_constants.specs.Constants.{AreConstants, AreFed, HasAlways, HaveEnded}
 use Rattle.dk_constants.proofs.Parting.{ascend_parted, each_parted, known_parted, parted_flip, same_var}
 
-some_in : (o : Option Value) → IsSome o → (x : Value) × (o ≡ Some x)
+pub some_in : (o : Option Value) → IsSome o → (x : Value) × (o ≡ Some x)
 some_in None h = absurd (false≢true h)
 some_in (Some x) h = (x, refl)
 
@@ -108,18 +108,26 @@ module _ (known : List (VarId × Value)) (new : List (VarId × VarId)) (sample :
       }
 
 -- ---- lists of samples
-has_front : (samples : List (List Value)) (sample : List Value) (v : VarId) (x : Value) → HasAlways (samples ++ sample ∷ []) v x → HasAlways samples v x × (value_in sample v ≡ x)
-has_front [] sample v x h = (All-nil (λ s. value_in s v ≡ x), All-head (λ s. value_in s v ≡ x) sample [] h)
-has_front (s ∷ samples) sample v x h =
-    let rest = has_front samples sample v x (All-tail (λ s. value_in s v ≡ x) s (samples ++ sample ∷ []) h) in
+all_front : (samples : List (List Value)) (sample : List Value) (v : VarId) (x : Value) → All (λ s. value_in s v ≡ x) (samples ++ sample ∷ []) → All (λ s. value_in s v ≡ x) samples × (value_in sample v ≡ x)
+all_front [] sample v x h = (All-nil (λ s. value_in s v ≡ x), All-head (λ s. value_in s v ≡ x) sample [] h)
+all_front (s ∷ samples) sample v x h =
+    let rest = all_front samples sample v x (All-tail (λ s. value_in s v ≡ x) s (samples ++ sample ∷ []) h) in
     (All-cons (λ s. value_in s v ≡ x) s samples (All-head (λ s. value_in s v ≡ x) s (samples ++ sample ∷ []) h) rest.0, rest.1)
+
+-- one sample more
+pub has_push : (samples : List (List Value)) (sample : List Value) (v : VarId) (x : Value) → HasAlways samples v x → value_in sample v ≡ x → HasAlways (samples ++ sample ∷ []) v x
+has_push samples sample v x has e = record { some = (let long = length_push samples sample in omega arith); each = All-push (λ s. value_in s v ≡ x) samples sample has.each e }
+
+-- one sample less, where others are left
+pub has_front : (samples : List (List Value)) (sample : List Value) (v : VarId) (x : Value) → 0 < length samples → HasAlways (samples ++ sample ∷ []) v x → HasAlways samples v x × (value_in sample v ≡ x)
+has_front samples sample v x some has = let front = all_front samples sample v x has.each in (record { some = some; each = front.0 }, front.1)
 
 -- variables that agree have the same constant value
 has_same : (samples : List (List Value)) (v w : VarId) (x : Value) → Agree samples v w → HasAlways samples w x → HasAlways samples v x
-has_same samples v w x agree h k d l = agree k d l ∙ h k d l
+has_same samples v w x agree h = record { some = h.some; each = λ k d l. agree k d l ∙ h.each k d l }
 
 has_same_back : (samples : List (List Value)) (v w : VarId) (x : Value) → Agree samples v w → HasAlways samples v x → HasAlways samples w x
-has_same_back samples v w x agree h k d l = sym (agree k d l) ∙ h k d l
+has_same_back samples v w x agree h = record { some = h.some; each = λ k d l. sym (agree k d l) ∙ h.each k d l }
 
 module _ (leaders : List VarId) (new : List (VarId × VarId)) (samples : List (List Value)) (sample : List Value) (now : List VarId) (known still over : List (VarId × Value))
     (are : AreConstants leaders samples known) (lead : LeadNow leaders new samples now) (fed : AreFed known new sample still over) where
@@ -136,16 +144,16 @@ module _ (leaders : List VarId) (new : List (VarId × VarId)) (samples : List (L
   one : (v : VarId) (x y : Value) → known_at known (old_of new v) ≡ Some x → known_at known (old_of new v) ≡ Some y → x ≡ y
   one v x y e f = cc
 
-  pub constants_fed : AreConstants now (samples ++ sample ∷ []) still
-  constants_fed = record {
+  pub constants_fed : 0 < length samples → AreConstants now (samples ++ sample ∷ []) still
+  constants_fed some = record {
     ascend = fed.still_ascend;
     each = λ v x. (
       λ e.
           let told = fed.stays v x e in
           let has = had v x told.0 in
-          (has.0, All-push (λ s. value_in s v ≡ x) samples sample has.1 told.1),
+          (has.0, has_push samples sample v x has.1 told.1),
       λ h.
-          let both = has_front samples sample v x h.1 in
+          let both = has_front samples sample v x some h.1 in
           let was = was_known v x h.0 both.0 in
           elim (fed.each v (subst IsSome (sym was) refl)) [
             | inl s ↦ let found = some_in (known_at still v) s in found.1 ∙ ap Some (one v found.0 x (fed.stays v found.0 found.1).0 was)
@@ -214,7 +222,7 @@ pub constants_first : (leaders : List VarId) (sample : List Value) → AllPairs 
 constants_first leaders sample up = record {
   ascend = ascend_first leaders sample up;
   each = λ v x. (
-    λ e. let found = known_first leaders sample v x e in (found.0, All-cons (λ s. value_in s v ≡ x) sample [] found.1 (All-nil (λ s. value_in s v ≡ x))),
-    λ h. first_known leaders sample v x h.0 (All-head (λ s. value_in s v ≡ x) sample [] h.1),
+    λ e. let found = known_first leaders sample v x e in (found.0, record { some = omega arith; each = All-cons (λ s. value_in s v ≡ x) sample [] found.1 (All-nil (λ s. value_in s v ≡ x)) }),
+    λ h. first_known leaders sample v x h.0 (All-head (λ s. value_in s v ≡ x) sample [] h.1.each),
   );
 }

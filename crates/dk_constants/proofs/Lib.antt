@@ -3,3 +3,4 @@ pub mod TextLists
 pub mod Gaps
 pub mod Parting
 pub mod Feeding
+pub mod Determined

@@ -1,16 +1,17 @@
 -- Constant leaders: those that have one value in all samples. The missing value is a value.
-use Rattle.std.specs.Prelude.{◌≡◌, ◌≢◌, ◌↔◌, All, Contains, List, Some, IsSome, ◌⊎◌}
+use Rattle.std.specs.Prelude.{◌≡◌, ◌≢◌, ◌↔◌, ◌<◌, All, Contains, List, Some, IsSome, length, ◌⊎◌}
 use Rattle.dk_base.specs.declared.kinds.VarId.{VarId}
 use Rattle.dk_base.specs.declared.values.Value.{Value}
 use Rattle.dk_samples.specs.Leaders.{old_of}
 use Rattle.dk_samples.specs.Samples.{value_in}
 use Rattle.dk_constants.specs.Known.{Ascend, known_at}
 
--- the variable has the value in each of the samples
-abbrev pub HasAlways : List (List Value) → VarId → Value → Type 0
-HasAlways samples v x = All (λ s. value_in s v ≡ x) samples
+-- the variable has the value in each of the samples, of which there are some
+pub record HasAlways (samples : List (List Value)) (v : VarId) (x : Value) : Type 0 where
+  pub some : 0 < length samples
+  pub each : All (λ s. value_in s v ≡ x) samples
 
--- the constant leaders of these samples, ascending, each with its value
+-- the constant leaders of these samples, ascending, each with its value; of no samples there are none
 pub record AreConstants (leaders : List VarId) (samples : List (List Value)) (known : List (VarId × Value)) : Type 0 where
   pub ascend : Ascend known
   pub each : (v : VarId) (x : Value) → (known_at known v ≡ Some x) ↔ (Contains leaders v × HasAlways samples v x)

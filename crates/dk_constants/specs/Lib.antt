@@ -1,2 +1,3 @@
 pub mod Known
 pub mod Constants
+pub mod Laws

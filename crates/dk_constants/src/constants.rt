@@ -1,5 +1,5 @@
 // Constant leaders with their values.
-ghost use Rattle.std.specs.Prelude.{◌≡◌, ◌≢◌, ◌<◌, [], ◌∷◌, ◌++◌, All, IfOk, List, map, None, option_copied};
+ghost use Rattle.std.specs.Prelude.{◌≡◌, ◌≢◌, ◌↔◌, ◌<◌, [], ◌∷◌, ◌++◌, All, IfOk, IsTrue, List, length, map, None, option_copied};
 ghost use Rattle.std.specs.List.{AllPairs};
 ghost use Rattle.dk_base.specs.Values.{values_of};
 ghost use Rattle.dk_base.specs.declared.kinds.VarId.{VarId};
@@ -9,8 +9,9 @@ ghost use Rattle.dk_samples.specs.Samples.{value_in};
 ghost use Rattle.dk_constants.specs.Constants.{AreConstants, AreFed, HaveEnded};
 ghost use Rattle.dk_constants.specs.Known.{Ascend, known_at};
 
+use crate::kept::copies;
 use crate::places::find;
-use crate::steps::fed;
+use crate::steps::{are_still, fed};
 use dk_base::{List, NoMemory, Value, VarId, View};
 use dk_samples::value_at;
 use std::alloc::Global;
@@ -20,6 +21,7 @@ use std::marker::Model;
 /// the leaders.
 #[derive(Debug, Drop)]
 pub struct Constants {
+    alloc: Global,
     known: Vec<(VarId, Value)>,
 }
 
@@ -48,17 +50,26 @@ impl Constants {
         for v in leaders {
             known.push((*v, Value::keep(alloc, value_at(sample, *v))?))?;
         }
-        Ok(Constants { known })
+        Ok(Constants { alloc, known })
     }
 
     /// These constant leaders with their values, possibly none. The leaders ascend.
-    pub fn from_known(_alloc: Global, known: List<(VarId, Value)>) -> Result<Constants, NoMemory>
+    pub fn from_known(alloc: Global, known: List<(VarId, Value)>) -> Result<Constants, NoMemory>
         requires { Ascend known }
         ensures { IfOk result (λ c. c ≡ known) }
     {
         Ok(Constants {
+            alloc,
             known: known.into_vec(),
         })
+    }
+
+    /// The constant leaders with their values, ascending.
+    pub fn entries(&self) -> &[(VarId, Value)]
+        ensures all { result.now ≡ self.now }
+        ensures ascend { Ascend self.now }
+    {
+        self.known.as_slice()
     }
 
     /// The value of a constant leader.
@@ -70,18 +81,46 @@ impl Constants {
 
     /// The constants with one sample more, and those that ended with their old values, ascending. Where classes were split before,
     /// each new leader stands in `new` with its old one, and has had that one's value. The new leaders differ and aren't known.
+    /// Where none is new and none ended, these are the same constants.
     pub fn feed(
         self,
-        alloc: Global,
         new: &[(VarId, VarId)],
         sample: &[View<'_>],
     ) -> Result<(Constants, List<(VarId, Value)>), NoMemory>
         requires differ { AllPairs (λ m n. m.0.0 ≢ n.0.0) new.now }
         requires unknown { All (λ n. known_at self n.0 ≡ None) new.now }
         ensures exact { IfOk result (λ r. AreFed self new.now (values_of sample.now) r.0 r.1) }
-        ensures stands { IfOk result (λ r. (leaders now : List VarId) (samples : List (List Value)) → AreConstants leaders samples self → LeadNow leaders new.now samples now → AreConstants now (samples ++ values_of sample.now ∷ []) r.0 × HaveEnded now samples (values_of sample.now) r.1) }
+        ensures same { IfOk result (λ r. new.now ≡ [] → r.1 ≡ [] → r.0 ≡ self) }
+        ensures stands { IfOk result (λ r. (leaders now : List VarId) (samples : List (List Value)) → 0 < length samples → AreConstants leaders samples self → LeadNow leaders new.now samples now → AreConstants now (samples ++ values_of sample.now ∷ []) r.0 × HaveEnded now samples (values_of sample.now) r.1) }
     {
-        let (known, ended) = fed(alloc, self.known, new, sample)?;
-        Ok((Constants { known }, ended))
+        let Constants { alloc, known } = self;
+        let (known, ended) = fed(alloc, known, new, sample)?;
+        Ok((Constants { alloc, known }, ended))
+    }
+
+    /// Whether the sample has each of the values.
+    pub fn stays_with(&self, sample: &[View<'_>]) -> bool
+        ensures { IsTrue result ↔ AreFed self.now [] (values_of sample.now) self.now [] }
+    {
+        are_still(self.known.as_slice(), sample)
+    }
+
+    /// As `feed` gives them. These stay as they are.
+    pub fn feed_with(
+        &self,
+        new: &[(VarId, VarId)],
+        sample: &[View<'_>],
+    ) -> Result<(Constants, List<(VarId, Value)>), NoMemory>
+        requires differ { AllPairs (λ m n. m.0.0 ≢ n.0.0) new.now }
+        requires unknown { All (λ n. known_at self.now n.0 ≡ None) new.now }
+        ensures { IfOk result (λ r. AreFed self.now new.now (values_of sample.now) r.0 r.1) }
+    {
+        let known = copies(self.alloc, self.known.as_slice())?;
+        let (known, ended) = fed(self.alloc, known, new, sample)?;
+        let constants = Constants {
+            alloc: self.alloc,
+            known,
+        };
+        Ok((constants, ended))
     }
 }

@@ -2,7 +2,7 @@
 ghost use Rattle.std.specs.Prelude.{◌≡◌, ◌↔◌, Decides, IfOk, IsTrue, map};
 ghost use Rattle.dk_base.specs.Values.{value_of};
 
-use dk_base::{List, NoMemory, Text, Value, View};
+use dk_base::{List, NoMemory, Text, Value, VarId, View};
 use std::alloc::Global;
 
 // Whether the two lists have the same items, which `==` tells apart.
@@ -95,4 +95,18 @@ pub(crate) fn copy(alloc: Global, value: &Value) -> Result<Value, NoMemory>
         Value::HashSeq(codes) => Value::HashSeq(List::from_slice(alloc, codes.as_slice())?),
         Value::StrSeq(texts) => Value::StrSeq(copy_texts(alloc, texts.as_slice())?),
     })
+}
+
+/// Copies of these entries.
+pub(crate) fn copies(
+    alloc: Global,
+    known: &[(VarId, Value)],
+) -> Result<Vec<(VarId, Value)>, NoMemory>
+    ensures { IfOk result (λ all. all.items ≡ known.now) }
+{
+    let mut all = Vec::new(alloc);
+    for (v, value) in known {
+        all.push((*v, copy(alloc, value)?))?;
+    }
+    Ok(all)
 }

@@ -3,6 +3,7 @@
 
 mod constants;
 mod kept;
+pub mod laws;
 mod places;
 mod steps;
 

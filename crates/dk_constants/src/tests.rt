@@ -26,11 +26,11 @@ fn constants_end_one_after_the_other(rt: HostRuntime) -> Result<(), Fail> {
     let alloc = rt.alloc();
     let leaders = [VarId(0), VarId(1)];
     let first = Constants::first(alloc, &leaders, &[View::Int(100), View::Int(101)])?;
-    let (second, ended) = first.feed(alloc, &[], &[View::Int(100), View::Int(102)])?;
+    let (second, ended) = first.feed(&[], &[View::Int(100), View::Int(102)])?;
     check_ended(&rt, &ended, 1, View::Int(101));
     check_known(&rt, &second, 0, View::Int(100));
     assert!(rt; second.value(VarId(1)).is_none());
-    let (third, ended) = second.feed(alloc, &[], &[View::Int(300), View::Int(250)])?;
+    let (third, ended) = second.feed(&[], &[View::Int(300), View::Int(250)])?;
     check_ended(&rt, &ended, 0, View::Int(100));
     assert!(rt; third.value(VarId(0)).is_none());
     Ok(())
@@ -41,7 +41,7 @@ fn new_leader_has_had_the_old_value(rt: HostRuntime) -> Result<(), Fail> {
     let alloc = rt.alloc();
     let first = Constants::first(alloc, &[VarId(0)], &[View::Missing, View::Missing])?;
     let new = [(VarId(1), VarId(0))];
-    let (second, ended) = first.feed(alloc, &new, &[View::Missing, View::Int(7)])?;
+    let (second, ended) = first.feed(&new, &[View::Missing, View::Int(7)])?;
     check_ended(&rt, &ended, 1, View::Missing);
     check_known(&rt, &second, 0, View::Missing);
     Ok(())
@@ -71,10 +71,10 @@ fn values_of_every_kind(rt: HostRuntime) -> Result<(), Fail> {
         VarId(7),
     ];
     let first = Constants::first(alloc, &leaders, &sample)?;
-    let (second, ended) = first.feed(alloc, &[(VarId(8), VarId(7))], &sample)?;
+    let (second, ended) = first.feed(&[(VarId(8), VarId(7))], &sample)?;
     check_ended(&rt, &ended, 8, View::StrSeq(&[b"\"a\"", b"null"]));
     check_known(&rt, &second, 5, View::IntSeq(&[1, 2]));
-    let (third, ended) = second.feed(alloc, &[], &[])?;
+    let (third, ended) = second.feed(&[], &[])?;
     assert!(rt; ended.len() == 8);
     assert!(rt; third.value(VarId(7)).is_none());
     let again = Constants::from_known(alloc, ended)?;

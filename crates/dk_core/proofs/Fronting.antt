@@ -1,17 +1,24 @@
 -- The lines of a block, one more at a time.
-use Rattle.std.proofs.Common.{◌≡◌, ◌∙◌, ℕ, Bool, true, false, List, ◌∷◌, cond, if◌then◌else◌, Option, Some, None, Result, Ok, Err, refl, sym, ap}
+use Rattle.std.proofs.Common.{◌≡◌, ◌∙◌, ℕ, Bool, true, false, List, ◌∷◌, cond, if◌then◌else◌, Option, Some, None, Result, Ok, Err, refl, sym, ap, subst}
 use Rattle.dk_base.specs.Reading.{Line, LineFault, Reads, ◌>>=◌}
 use Rattle.dk_base.specs.declared.faults.BlockFault.{BlockFault}
 use Rattle.dk_base.specs.declared.faults.BlockFault.TheVariants.{Refused, NoMemory}
 use Rattle.dk_base.specs.declared.why.Why.{Why}
 use Rattle.dk_decl.specs.Headers.{Answers, header_line}
-use Rattle.dk_decl.specs.Outcomes.{refused, Told, ToldOn as DeclToldOn}
+use Rattle.dk_decl.specs.Outcomes.{refused, GoesOn as DeclGoesOn, Told, ToldOn as DeclToldOn}
 use Rattle.dk_decl.specs.declared.header.Header.{Header}
 use Rattle.dk_core.specs.Fronts.{Front, at_header_line, front_of, is_comment}
-use Rattle.dk_core.specs.History.{History, Taken, after_declaration, after_front, after_record, after_sample, block, effect_of, is_declaration, is_list_of_implementors, where_it_ends}
+use Rattle.dk_core.specs.History.{History, Taken, after_declaration, after_front, after_record, after_sample, block, effect_of, is_declaration, is_list_of_implementors, where_it_ends, with_record}
 use Rattle.dk_base.specs.declared.why.Why.TheVariants.{BadHeader}
-use Rattle.dk_core.specs.Standing.{Closes, GoesOn, ToldOn}
+use Rattle.std.specs.Prelude.{OnOk}
+use Rattle.dk_points.specs.Table.{Point}
+use Rattle.dk_trace.specs.Records.{Sample}
+use Rattle.dk_trace.specs.RecordsResumed.{resumed as record_resumed}
+use Rattle.dk_trace.specs.declared.reader.RecordReader.{RecordReader}
+use Rattle.dk_core.specs.Standing.{Closes, GoesOn, ToldOn, carried, resumed, resumed_by}
 use Rattle.dk_core.specs.declared.block.Block.{Block}
+use Rattle.dk_core.specs.declared.block.State.{State}
+use Rattle.dk_core.specs.declared.block.State.TheVariants as state
 
 -- ---- the front of a block
 
@@ -114,6 +121,26 @@ pub goes_as : (h : History) (result : Result Block BlockFault) (read more : Read
 goes_as h (Ok b) read more same goes = λ ls close. same ls close ∙ goes ls close
 goes_as h (Err (Refused line why)) read more same told = λ ls close. same ls close ∙ told ls close
 goes_as h (Err NoMemory) read more same told = tt
+
+pub if_ok : {A E : Type 0} (result : Result A E) (P : Type 0) → P → OnOk result P
+if_ok (Ok x) P p = p
+if_ok (Err e) P p = tt
+
+-- a record that goes on in place
+pub record_goes : {A : Type 0} (h : History) (ps : List Point) (b : Block) (r r' : RecordReader) (l : Line) (result : Result A BlockFault)
+    → b.state ≡ state.Record r → ps ≡ h.table → DeclGoesOn (λ (x : A). record_resumed ps r') result (λ ls. record_resumed ps r (l ∷ ls))
+    → GoesOn h (carried (record b { state = state.Record r' }) result) (λ ls close. resumed h b (l ∷ ls) close)
+unfolding resumed
+record_goes h ps b r r' l (Ok x) is table goes = λ ls close.
+    let now : History = record h { header = b.header } in
+    ap (λ (s : State). resumed_by now s (l ∷ ls) close) is
+    ∙ ap (λ (o : Result Sample LineFault). o >>= λ s. where_it_ends close now (with_record now s))
+    (ap (λ (qs : List Point). record_resumed qs r (l ∷ ls) close) (sym table) ∙ goes ls close ∙ ap (λ (qs : List Point). record_resumed qs r' ls close) table)
+record_goes h ps b r r' l (Err e) is table told =
+    let now : History = record h { header = b.header } in
+    goes_as h (Err e) _ _ (λ ls close. ap (λ (s : State). resumed_by now s (l ∷ ls) close) is)
+    (told_then e (λ ls. record_resumed h.table r (l ∷ ls)) (λ s close. where_it_ends close now (with_record now s))
+    (subst (λ (qs : List Point). DeclToldOn e (λ ls. record_resumed qs r (l ∷ ls))) table told))
 
 -- ---- the end of a block
 

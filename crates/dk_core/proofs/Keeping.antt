@@ -14,7 +14,11 @@ use Rattle.dk_core.specs.Summaries.{new_summaries, summaries_of, summary_at}
 use Rattle.dk_core.proofs.Growing.{Extends, same_vars}
 use Rattle.dk_core.proofs.Fronting.{told_at, told_closes}
 use Rattle.dk_core.specs.History.{History, base_values, block, with_declaration, with_record, with_sample, with_table}
-use Rattle.dk_core.specs.Standing.{Closes}
+use Rattle.dk_calls.specs.Standing.{StandsFor as CallsStandFor}
+use Rattle.dk_calls.specs.declared.calls.Calls.{Calls}
+use Rattle.dk_core.specs.Standing.{Closes, Stands}
+use Rattle.dk_core.specs.declared.kept.Kept.{Kept}
+use Rattle.dk_decl.specs.declared.header.Header.{Header}
 use Rattle.dk_base.specs.Reading.{LineFault, ◌>>=◌}
 use Rattle.dk_base.specs.declared.faults.BlockFault.{BlockFault}
 use Rattle.dk_decl.specs.Outcomes.{Told}
@@ -182,3 +186,15 @@ pub put_new : (ps : List Point) (place : ℕ) (front all : List Summarized) (s :
 put_new ps place front all s whole there is put was =
     ap (λ l. l ++ new_summaries ps (place + 1)) put ∙ append_assoc front (s ∷ []) (new_summaries ps (place + 1))
     ∙ ap (λ t. front ++ t ∷ new_summaries ps (place + 1)) is ∙ ap (λ l. front ++ l) (sym (next_new ps place there)) ∙ was
+
+-- another header is in force
+pub with_header : (kept kept' : Kept) (h : History) (header : Header) → Stands kept h → kept'.points ≡ kept.points → kept'.header ≡ header → kept'.calls ≡ kept.calls
+    → kept'.summaries.items ≡ kept.summaries.items → Stands kept' (record h { header = header })
+unfolding Stands
+with_header kept kept' h header stands points is calls summaries = record {
+  table = points ∙ stands.table;
+  header = is;
+  calls = subst (λ (cs : Calls). CallsStandFor cs h.calls) (sym calls) stands.calls;
+  many = stands.many;
+  summaries = summaries ∙ stands.summaries;
+}

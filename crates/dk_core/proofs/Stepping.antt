@@ -17,19 +17,17 @@ use Rattle.dk_core.specs.Blocks.{Groups, Group, Last, onto_group, is_blank_line,
 use Rattle.dk_core.specs.History.{History, Taken, effect_of}
 use Rattle.dk_core.specs.Reading.{after_last, after_all, after_next, stop_or, Stepped}
 use Rattle.dk_core.specs.Standing.{Fits, Stands, resumed}
-use Rattle.dk_core.proofs.Laws.{no_fault_yet, no_lines}
+use Rattle.dk_core.proofs.BlockLaws.{no_fault_yet, no_lines}
 use Rattle.dk_core.specs.Steps.{Moves, Steps, Stops, groups_left, LineGives, EndGives, BlankGives, WordsGive, TurnGives}
 use Rattle.dk_base.specs.declared.why.Why.{Why}
 use Rattle.dk_base.specs.declared.why.Why.TheVariants.{LongLine as WhyLong, TooLong as WhyMany}
 use Rattle.dk_core.specs.declared.session.Step.{Step}
 use Rattle.dk_core.specs.declared.session.Step.TheVariants.{More, Ended}
-use Rattle.dk_core.specs.declared.session.Turn.{Turn}
-use Rattle.dk_core.specs.declared.session.Turn.TheVariants.{Goes, Ends as Stands_end}
-use Rattle.dk_core.specs.declared.session.Ending.{Ending}
 use Rattle.dk_core.specs.declared.session.Stop.{Stop}
 use Rattle.dk_core.specs.declared.session.Stop.TheVariants.{Refused, Read, NoMemory}
 use Rattle.dk_core.specs.declared.block.Block.{Block}
 use Rattle.dk_core.specs.declared.kept.Kept.{Kept}
+use Rattle.dk_core.specs.Turns.{Turn, Goes, Ends as Stands_end, Ending}
 use Rattle.dk_core.specs.declared.session.Session.{Session}
 
 -- ---- what is known of reading blocks
@@ -444,53 +442,53 @@ empty_len (b ∷ bs) = eqb-suc-zero (length bs)
 
 -- ---- one line, whose end of a block is made apart
 
-pub words_step : (kept : Kept) (read : Reads Taken) (line : Line) (block : Block) → is_blank_line line ≡ false → WordsGive read (taken line) (Ok (Goes kept block)) → LineStep kept read line (Ok (More block))
+pub words_step : (kept : Kept) (read : Reads Taken) (line : Line) (block : Block) → is_blank_line line ≡ false → WordsGive read (taken line) (Ok (Goes kept block)) → LineStep kept block read line (Ok More)
 words_step kept read line block words gives = words_line read line (Ok (Goes kept block)) words gives
 
-pub words_fault : (kept : Kept) (read : Reads Taken) (line : Line) (stop : Stop) → is_blank_line line ≡ false → WordsGive read (taken line) (Err stop) → LineStep kept read line (Err stop)
-words_fault kept read line stop words gives = words_line read line (Err stop) words gives
+pub words_fault : (kept : Kept) (block : Block) (read : Reads Taken) (line : Line) (stop : Stop) → is_blank_line line ≡ false → WordsGive read (taken line) (Err stop) → LineStep kept block read line (Err stop)
+words_fault kept block read line stop words gives = words_line read line (Err stop) words gives
 
-pub blank_step : (kept : Kept) (read : Reads Taken) (line : Line) (block : Block) → is_blank_line line ≡ true → LineStep kept read line (Ok (Ended block line.number false))
+pub blank_step : (kept : Kept) (read : Reads Taken) (line : Line) (block : Block) → is_blank_line line ≡ true → LineStep kept block read line (Ok (Ended line.number false))
 blank_step kept read line block blank turn gives = blank_line read line turn blank gives
 
-pub step_line : (h : History) (kept : Kept) (b : Block) (old new : Reading) (o left : Option (List ℕ)) (line : Line) (result : Result Step Stop)
-    → IsNext old o (Ok (Some line)) new left → LineStep kept (resumed h b) line result → IfSome o (λ xs. StepGives kept (resumed h b) old xs result new left)
-step_line h kept b old new None left line result next does = tt
-step_line h kept b old new (Some xs) left line (Ok (More block)) next does = told_line h b old new (Some xs) left line (Ok (Goes kept block)) next does
-step_line h kept b old new (Some xs) left line (Ok (Ended block number over)) next does = λ turn closes. told_line h b old new (Some xs) left line turn next (does turn closes)
-step_line h kept b old new (Some xs) left line (Err stop) next does = told_line h b old new (Some xs) left line (Err stop) next does
+pub step_line : (h : History) (kept : Kept) (b block : Block) (old new : Reading) (o left : Option (List ℕ)) (line : Line) (result : Result Step Stop)
+    → IsNext old o (Ok (Some line)) new left → LineStep kept block (resumed h b) line result → IfSome o (λ xs. StepGives kept block (resumed h b) old xs result new left)
+step_line h kept b block old new None left line result next does = tt
+step_line h kept b block old new (Some xs) left line (Ok More) next does = told_line h b old new (Some xs) left line (Ok (Goes kept block)) next does
+step_line h kept b block old new (Some xs) left line (Ok (Ended number over)) next does = λ turn closes. told_line h b old new (Some xs) left line turn next (does turn closes)
+step_line h kept b block old new (Some xs) left line (Err stop) next does = told_line h b old new (Some xs) left line (Err stop) next does
 
 pub step_end : (h : History) (kept : Kept) (b block : Block) (old new : Reading) (o left : Option (List ℕ)) (number : ℕ) → number ≡ old.number + 1
-    → IsNext old o (Ok None) new left → IfSome o (λ xs. StepGives kept (resumed h b) old xs (Ok (Ended block number true)) new left)
+    → IsNext old o (Ok None) new left → IfSome o (λ xs. StepGives kept block (resumed h b) old xs (Ok (Ended number true)) new left)
 step_end h kept b block old new None left number is next = tt
 step_end h kept b block old new (Some xs) left number is next =
     λ turn closes. told_end h b old new (Some xs) left turn next (subst (λ (n : ℕ). EndGives (resumed h b) n turn) is closes)
 
-pub step_fault : (h : History) (kept : Kept) (b : Block) (old new : Reading) (o left : Option (List ℕ)) (fault : fault.LineFault)
-    → IsNext old o (Err fault) new left → IfSome o (λ xs. StepGives kept (resumed h b) old xs (Err (unread fault)) new left)
-step_fault h kept b old new None left fault next = tt
-step_fault h kept b old new (Some xs) left fault next = told_fault h b old new (Some xs) left fault next
+pub step_fault : (h : History) (kept : Kept) (b block : Block) (old new : Reading) (o left : Option (List ℕ)) (fault : fault.LineFault)
+    → IsNext old o (Err fault) new left → IfSome o (λ xs. StepGives kept block (resumed h b) old xs (Err (unread fault)) new left)
+step_fault h kept b block old new None left fault next = tt
+step_fault h kept b block old new (Some xs) left fault next = told_fault h b old new (Some xs) left fault next
 
-pub step_counts : (kept : Kept) (b : Block) (old new : Reading) (o left : Option (List ℕ)) (line : Line) (result : Result Step Stop)
-    → IsNext old o (Ok (Some line)) new left → LineStepShape kept b result → StepCounts old result new
-step_counts kept b old new o left line (Ok (More block)) gives shape = (gives.limits_stay, gives.counts.2, gives.counts.4, gives.counts.5)
-step_counts kept b old new o left line (Ok (Ended block number over)) gives shape = λ turn closes. counts_line old new o left line turn gives (subst (λ (o : Bool). ShapeAt o turn) shape.1 closes)
-step_counts kept b old new o left line (Err e) gives shape = gives.limits_stay
+pub step_counts : (kept : Kept) (b block : Block) (old new : Reading) (o left : Option (List ℕ)) (line : Line) (result : Result Step Stop)
+    → IsNext old o (Ok (Some line)) new left → LineStepShape kept b block result → StepCounts old result new
+step_counts kept b block old new o left line (Ok More) gives shape = (gives.limits_stay, gives.counts.2, gives.counts.4, gives.counts.5)
+step_counts kept b block old new o left line (Ok (Ended number over)) gives shape = λ turn closes. counts_line old new o left line turn gives (subst (λ (o : Bool). ShapeAt o turn) shape.1 closes)
+step_counts kept b block old new o left line (Err e) gives shape = gives.limits_stay
 
-pub end_counts : (old new : Reading) (o left : Option (List ℕ)) (block : Block) (number : ℕ) → IsNext old o (Ok None) new left → StepCounts old (Ok (Ended block number true)) new
-end_counts old new o left block number gives = λ turn closes. counts_end old new o left turn gives closes
+pub end_counts : (old new : Reading) (o left : Option (List ℕ)) (number : ℕ) → IsNext old o (Ok None) new left → StepCounts old (Ok (Ended number true)) new
+end_counts old new o left number gives = λ turn closes. counts_end old new o left turn gives closes
 
-pub line_step_shape : (kept : Kept) (b : Block) (result : Result Step Stop) → LineStepShape kept b result → StepShape kept b result
-line_step_shape kept b (Ok (More block)) shape = shape
-line_step_shape kept b (Ok (Ended block number over)) shape = shape.0
-line_step_shape kept b (Err stop) shape = tt
+pub line_step_shape : (kept : Kept) (b block : Block) (result : Result Step Stop) → LineStepShape kept b block result → StepShape kept b block result
+line_step_shape kept b block (Ok More) shape = shape
+line_step_shape kept b block (Ok (Ended number over)) shape = shape.0
+line_step_shape kept b block (Err stop) shape = tt
 
-pub never_read_step : (kept : Kept) (b : Block) (result : Result Step Stop) → LineStepShape kept b result → IsErrOf result Read → ⊥
-never_read_step kept b (Ok (More block)) shape e = cc (e)
-never_read_step kept b (Ok (Ended block number over)) shape e = cc (e)
-never_read_step kept b (Err (Refused line why)) shape e = cc (e)
-never_read_step kept b (Err Read) shape e = shape
-never_read_step kept b (Err NoMemory) shape e = cc (e)
+pub never_read_step : (kept : Kept) (b block : Block) (result : Result Step Stop) → LineStepShape kept b block result → IsErrOf result Read → ⊥
+never_read_step kept b block (Ok More) shape e = cc (e)
+never_read_step kept b block (Ok (Ended number over)) shape e = cc (e)
+never_read_step kept b block (Err (Refused line why)) shape e = cc (e)
+never_read_step kept b block (Err Read) shape e = shape
+never_read_step kept b block (Err NoMemory) shape e = cc (e)
 
 -- ---- the end of a block
 
@@ -504,7 +502,7 @@ fits_at false kept block shape = shape
 
 -- the turn that a line and the end of its block make
 pub closed_on : (h : History) (kept : Kept) (b block : Block) (r new : Reading) (number : ℕ) (over : Bool) (o left : Option (List ℕ)) (turn : Result Turn Stop)
-    → block ≡ b → IfSome o (λ xs. StepGives kept (resumed h b) r xs (Ok (Ended block number over)) new left) → ClosesAt over (resumed h block) number turn
+    → block ≡ b → IfSome o (λ xs. StepGives kept block (resumed h b) r xs (Ok (Ended number over)) new left) → ClosesAt over (resumed h block) number turn
     → IfSome o (λ xs. TurnGives (resumed h b) r xs turn new left)
 closed_on h kept b block r new number over None left turn same gives closes = tt
 closed_on h kept b block r new number over (Some xs) left turn same gives closes = gives turn (subst (λ (c : Block). ClosesAt over (resumed h c) number turn) same closes)

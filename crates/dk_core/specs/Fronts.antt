@@ -1,15 +1,11 @@
 -- What stands in front of a block's record: comments, which are left out, and header lines.
-use Rattle.std.specs.Prelude.{◌||◌, ℕ, Bool, List, [], ◌∷◌, codes, nat_eq, Option, Some, None, Result, Ok, Err, if◌then◌else◌}
-use Rattle.std.specs.List.{starts_with}
+use Rattle.std.specs.Prelude.{ℕ, List, [], ◌∷◌, Option, Some, None, Result, Ok, Err, if◌then◌else◌}
 use Rattle.dk_base.specs.Reading.{Line, LineFault}
 use Rattle.dk_base.specs.declared.why.Why.{Why}
+pub use Rattle.dk_decl.specs.Comments.{is_comment}
 use Rattle.dk_decl.specs.Headers.{header_line}
 use Rattle.dk_decl.specs.Outcomes.{refused}
 use Rattle.dk_decl.specs.declared.header.Header.{Header}
-
--- a line that begins with `#` or `//`
-unfoldable pub is_comment : List ℕ → Bool
-is_comment bytes = starts_with nat_eq bytes (codes "#") || starts_with nat_eq bytes (codes "//")
 
 -- the header behind the header lines, the number of the last of them, if there is one, and the lines of the record
 pub record Front : Type 0 where

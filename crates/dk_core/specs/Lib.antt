@@ -1,4 +1,5 @@
 pub mod Blocks
+pub mod Runs
 pub mod Fronts
 pub mod History
 pub mod Sections
@@ -6,3 +7,4 @@ pub mod Summaries
 pub mod Reading
 pub mod Standing
 pub mod Steps
+pub mod Turns

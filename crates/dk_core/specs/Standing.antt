@@ -48,6 +48,23 @@ StateFits ps (state.Record reader) = IsOf ps reader
 unfoldable pub Fits : Kept → Block → Type 0
 Fits kept b = StateFits kept.points b.state
 
+-- the lines so far are the front of a declaration
+abbrev pub IsDeclared : State → Type 0
+IsDeclared (state.Front last) = ⊥
+IsDeclared (state.Declaration line reader) = ⊤
+IsDeclared state.Implementors = ⊥
+IsDeclared (state.Record reader) = ⊥
+
+-- What a call leaves behind its reference, if it succeeds; after a fault nothing is said of it.
+abbrev pub carried : {A B E : Type 0} → B → Result A E → Result B E
+carried b (Ok x) = Ok b
+carried b (Err e) = Err e
+
+-- what a call leaves behind its reference, beside what it answers
+abbrev pub paired : {A B E : Type 0} → B → Result A E → Result (B × A) E
+paired b (Ok x) = Ok (b, x)
+paired b (Err e) = Err e
+
 -- A fault that was found is what `read` says, whatever is left.
 abbrev pub ToldOn : BlockFault → Reads Taken → Type 0
 ToldOn (Refused line why) read = (ls : List Line) (close : Option ℕ) → read ls close ≡ Err (record { line = line; why = why })

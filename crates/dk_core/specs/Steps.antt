@@ -17,13 +17,11 @@ use Rattle.dk_core.specs.declared.block.Block.{Block}
 use Rattle.dk_core.specs.declared.kept.Kept.{Kept}
 use Rattle.dk_core.specs.declared.session.Step.{Step}
 use Rattle.dk_core.specs.declared.session.Step.TheVariants.{More, Ended}
-use Rattle.dk_core.specs.declared.session.Turn.{Turn}
-use Rattle.dk_core.specs.declared.session.Turn.TheVariants.{Goes, Ends}
-use Rattle.dk_core.specs.declared.session.Ending.{Ending}
 use Rattle.dk_core.specs.declared.session.Session.{Session}
 use Rattle.dk_base.specs.declared.faults.Fault.{Fault}
 use Rattle.dk_base.specs.declared.faults.Fault.TheVariants as x
 use Rattle.dk_core.specs.declared.session.Stop.{Stop}
+use Rattle.dk_core.specs.Turns.{Turn, Goes, Ends, Ending}
 use Rattle.dk_core.specs.declared.session.Stop.TheVariants.{Refused, Read, NoMemory}
 
 -- The groups that are left: none where the session has come to the file's end.
@@ -154,33 +152,34 @@ abbrev pub ShapeAt : Bool → Result Turn Stop → Type 0
 ShapeAt true turn = EndShape turn
 ShapeAt false turn = LineShape turn
 
--- What a line does to a block, whatever follows it: the block has a line more, or it ends, and then does what its end comes to.
-abbrev pub LineStep : Kept → Reads Taken → Line → Result Step Stop → Type 0
-LineStep kept read line (Ok (More block)) = LineGives read line (Ok (Goes kept block))
-LineStep kept read line (Ok (Ended block number is_over)) = (turn : Result Turn Stop) → ClosesAt is_over read number turn → LineGives read line turn
-LineStep kept read line (Err stop) = LineGives read line (Err stop)
+-- What a line does to a block, which is `block` then, whatever follows it: the block has a line more, or it ends, and then does what its
+-- end comes to.
+abbrev pub LineStep : Kept → Block → Reads Taken → Line → Result Step Stop → Type 0
+LineStep kept block read line (Ok More) = LineGives read line (Ok (Goes kept block))
+LineStep kept block read line (Ok (Ended number is_over)) = (turn : Result Turn Stop) → ClosesAt is_over read number turn → LineGives read line turn
+LineStep kept block read line (Err stop) = LineGives read line (Err stop)
 
 -- a block with a line more fits what is kept; a line that isn't read ends no block
-abbrev pub LineStepShape : Kept → Block → Result Step Stop → Type 0
-LineStepShape kept old (Ok (More block)) = Fits kept block
-LineStepShape kept old (Ok (Ended block number is_over)) = (block ≡ old) × (is_over ≡ false)
-LineStepShape kept old (Err stop) = LineShape (Err stop)
+abbrev pub LineStepShape : Kept → Block → Block → Result Step Stop → Type 0
+LineStepShape kept old block (Ok More) = Fits kept block
+LineStepShape kept old block (Ok (Ended number is_over)) = (block ≡ old) × (is_over ≡ false)
+LineStepShape kept old block (Err stop) = LineShape (Err stop)
 
-abbrev pub StepShape : Kept → Block → Result Step Stop → Type 0
-StepShape kept old (Ok (More block)) = Fits kept block
-StepShape kept old (Ok (Ended block number is_over)) = block ≡ old
-StepShape kept old (Err stop) = ⊤
+abbrev pub StepShape : Kept → Block → Block → Result Step Stop → Type 0
+StepShape kept old block (Ok More) = Fits kept block
+StepShape kept old block (Ok (Ended number is_over)) = block ≡ old
+StepShape kept old block (Err stop) = ⊤
 
--- what one line does to a block, of the bytes that are left
-abbrev pub StepGives : Kept → Reads Taken → Reading → List ℕ → Result Step Stop → Reading → Option (List ℕ) → Type 0
-StepGives kept read r xs (Ok (More block)) r' left' = TurnGives read r xs (Ok (Goes kept block)) r' left'
-StepGives kept read r xs (Ok (Ended block number is_over)) r' left' = (turn : Result Turn Stop) → ClosesAt is_over read number turn → TurnGives read r xs turn r' left'
-StepGives kept read r xs (Err stop) r' left' = TurnGives read r xs (Err stop) r' left'
+-- what one line does to a block, which is `block` then, of the bytes that are left
+abbrev pub StepGives : Kept → Block → Reads Taken → Reading → List ℕ → Result Step Stop → Reading → Option (List ℕ) → Type 0
+StepGives kept block read r xs (Ok More) r' left' = TurnGives read r xs (Ok (Goes kept block)) r' left'
+StepGives kept block read r xs (Ok (Ended number is_over)) r' left' = (turn : Result Turn Stop) → ClosesAt is_over read number turn → TurnGives read r xs turn r' left'
+StepGives kept block read r xs (Err stop) r' left' = TurnGives read r xs (Err stop) r' left'
 
 -- lines and totals, whatever is told
 abbrev pub StepCounts : Reading → Result Step Stop → Reading → Type 0
-StepCounts r (Ok (More block)) r' = (r'.limits ≡ r.limits) × (r'.is_started ≡ true) × (r.total < r'.total) × (r'.total ≤ r.limits.total)
-StepCounts r (Ok (Ended block number is_over)) r' = (turn : Result Turn Stop) → ShapeAt is_over turn → TurnCounts r turn r'
+StepCounts r (Ok More) r' = (r'.limits ≡ r.limits) × (r'.is_started ≡ true) × (r.total < r'.total) × (r'.total ≤ r.limits.total)
+StepCounts r (Ok (Ended number is_over)) r' = (turn : Result Turn Stop) → ShapeAt is_over turn → TurnCounts r turn r'
 StepCounts r (Err e) r' = r'.limits ≡ r.limits
 
 -- what reading up to the end of a block comes to

@@ -1,6 +1,6 @@
 // A block that is being read.
 ghost use Rattle.std.specs.Prelude.{◌≡◌, ◌||◌};
-ghost use Rattle.dk_core.specs.Fronts.{is_comment};
+ghost use Rattle.dk_decl.specs.Comments.{is_comment};
 ghost use Rattle.dk_core.specs.History.{is_declaration, is_list_of_implementors};
 
 use bumpalo::Bump;
@@ -30,7 +30,7 @@ pub(crate) enum State<'a> {
 }
 
 /// Whether a line is a comment: it begins with `#` or `//`.
-#[tactic(auto, unfolding(crate::specs::Fronts::is_comment))]
+#[tactic(auto, unfolding(dk_decl::specs::Comments::is_comment))]
 pub(crate) fn is_comment(bytes: &[u8]) -> bool
     ensures { result ≡ is_comment bytes.now }
 {

@@ -14,6 +14,7 @@ ghost use Rattle.dk_core.specs.Sections.{report_of};
 ghost use Rattle.dk_core.specs.Summaries.{new_summaries};
 
 use crate::block::{Block, State, is_comment, is_declaration, is_list_of_implementors};
+use crate::first_lines::is_plainly_sample;
 use bumpalo::Bump;
 use dk_base::{BlockFault, NoMemory, PointId, Text, View};
 use dk_bounds::{Summary, push_section};
@@ -22,6 +23,7 @@ use dk_decl::{DeclBlock, Header, PointDecl};
 use dk_points::Points;
 use dk_trace::{BaseSample, RecordReader};
 use std::alloc::Global;
+use std::mem::replace;
 
 /// What a session keeps from block to block: the table of points, what the header lines have put in force, the entries of the file that
 /// wait, and a summary of each point's own samples.
@@ -68,7 +70,7 @@ fn base_values<'a>(
 }
 
 impl Kept {
-    ghost use Rattle.dk_core.specs.Standing.{Stands, Fits, GoesOn, Closes, resumed, resumed_by};
+    ghost use Rattle.dk_core.specs.Standing.{Stands, Fits, GoesOn, Closes, IsDeclared, carried, paired, resumed, resumed_by};
 
     /// No points.
     #[tactic(auto, unfolding(crate::specs::Standing::Stands, crate::specs::History::no_history))]
@@ -97,63 +99,64 @@ impl Kept {
         }
     }
 
-    /// A block with one line more, which is not blank.
+    /// The next block begins in place of this one.
+    #[tactic(auto, unfolding(crate::specs::Standing::resumed, crate::specs::Standing::Stands, crate::specs::Standing::Fits, crate::specs::History::effect_of))]
+    pub(crate) fn begin_again<'a>(&self, block: &mut Block<'a>)
+        ensures resumes { (h : History) → Stands self.now h → (ls : List Line) (close : Option ℕ) → resumed h block.new ls close ≡ effect_of h ls close }
+        ensures fits { Fits self.now block.new }
+    {
+        block.header = self.header;
+        block.state = State::Front { last: None };
+    }
+
+    /// One line more, which is not blank. After a fault nothing is said of the block.
     pub(crate) fn line<'a>(
         &self,
-        block: Block<'a>,
+        block: &mut Block<'a>,
         number: u64,
         bytes: &[u8],
-    ) -> Result<Block<'a>, BlockFault>
-        requires { Fits self.now block }
-        ensures goes_on { (h : History) → Stands self.now h → GoesOn h result (λ ls close. resumed h block.entry (record { number = number; bytes = bytes.now } ∷ ls) close) }
-        ensures fits { IfOk result (λ b. Fits self.now b) }
+    ) -> Result<(), BlockFault>
+        requires { Fits self.now block.old }
+        ensures goes_on { (h : History) → Stands self.now h → GoesOn h (carried block.new result) (λ ls close. resumed h block.old (record { number = number; bytes = bytes.now } ∷ ls) close) }
+        ensures fits { OnOk result (Fits self.now block.new) }
     {
-        let Block {
-            arena,
-            header,
-            state,
-        } = block;
-        match state {
-            State::Front { last } => self.front_line(arena, header, last, number, bytes),
-            State::Declaration { line, reader } => {
-                self.declaration_line(arena, header, line, reader, number, bytes)
+        match &mut block.state {
+            State::Record { reader } => reader.line(&self.points, number, bytes),
+            State::Front { last } => {
+                let last = *last;
+                self.front_line(block, last, number, bytes)
             }
-            State::Implementors => Ok(Block {
-                arena,
-                header,
-                state: State::Implementors,
-            }),
-            State::Record { reader } => self.record_line(arena, header, reader, number, bytes),
+            State::Declaration { line: _, reader: _ } => self.declaration_line(
+                block, number, bytes,
+            ),
+            State::Implementors => Ok(()),
         }
     }
 
     // One more line of a block whose record has not begun.
     fn front_line<'a>(
         &self,
-        arena: &'a Bump,
-        header: Header,
+        block: &mut Block<'a>,
         last: Option<u64>,
         number: u64,
         bytes: &[u8],
-    ) -> Result<Block<'a>, BlockFault>
-        ensures goes_on { (h : History) → Stands self.now h → GoesOn h result (λ ls close. resumed_by (record h { header = header }) (State.Front last) (record { number = number; bytes = bytes.now } ∷ ls) close) }
-        ensures fits { IfOk result (λ b. Fits self.now b) }
+    ) -> Result<(), BlockFault>
+        ensures goes_on { (h : History) → Stands self.now h → GoesOn h (carried block.new result) (λ ls close. resumed_by (record h { header = block.old.header }) (State.Front last) (record { number = number; bytes = bytes.now } ∷ ls) close) }
+        ensures fits { OnOk result (Fits self.now block.new) }
     {
         if is_comment(bytes) {
-            return Ok(Block {
-                arena,
-                header,
-                state: State::Front { last },
-            });
+            block.state = State::Front { last };
+            return Ok(());
         }
-        let mut header = header;
-        match header.line(bytes) {
-            Ok(true) => Ok(Block {
-                arena,
-                header,
-                state: State::Front { last: Some(number) },
-            }),
-            Ok(false) => self.first_line(arena, header, number, bytes),
+        if is_plainly_sample(&block.header, bytes) {
+            return self.begun_record(block, number, bytes);
+        }
+        match block.header.line(bytes) {
+            Ok(true) => {
+                block.state = State::Front { last: Some(number) };
+                Ok(())
+            }
+            Ok(false) => self.first_line(block, number, bytes),
             Err(why) => Err(BlockFault::Refused { line: number, why }),
         }
     }
@@ -161,47 +164,42 @@ impl Kept {
     // The first line of a record.
     fn first_line<'a>(
         &self,
-        arena: &'a Bump,
-        header: Header,
+        block: &mut Block<'a>,
         number: u64,
         bytes: &[u8],
-    ) -> Result<Block<'a>, BlockFault>
-        ensures goes_on { (h : History) → Stands self.now h → GoesOn h result (λ ls close. after_record (record h { header = header }) (record { number = number; bytes = bytes.now }) ls close) }
-        ensures fits { IfOk result (λ b. Fits self.now b) }
+    ) -> Result<(), BlockFault>
+        ensures goes_on { (h : History) → Stands self.now h → GoesOn h (carried block.new result) (λ ls close. after_record (record h { header = block.old.header }) (record { number = number; bytes = bytes.now }) ls close) }
+        ensures fits { OnOk result (Fits self.now block.new) }
     {
         if is_declaration(bytes) {
-            return self.begun_declaration(arena, header, number, bytes);
+            return self.begun_declaration(block, number, bytes);
         }
         if is_list_of_implementors(bytes) {
-            return Ok(Block {
-                arena,
-                header,
-                state: State::Implementors,
-            });
+            block.state = State::Implementors;
+            return Ok(());
         }
-        self.begun_record(arena, header, number, bytes)
+        self.begun_record(block, number, bytes)
     }
 
     // The first line of a declaration.
+    #[inline(never)]
     fn begun_declaration<'a>(
         &self,
-        arena: &'a Bump,
-        header: Header,
+        block: &mut Block<'a>,
         number: u64,
         bytes: &[u8],
-    ) -> Result<Block<'a>, BlockFault>
-        ensures goes_on { (h : History) → GoesOn h result (λ ls close. after_declaration (record h { header = header }) (record { number = number; bytes = bytes.now }) ls close) }
-        ensures fits { IfOk result (λ b. Fits self.now b) }
+    ) -> Result<(), BlockFault>
+        ensures goes_on { (h : History) → GoesOn h (carried block.new result) (λ ls close. after_declaration (record h { header = block.old.header }) (record { number = number; bytes = bytes.now }) ls close) }
+        ensures fits { OnOk result (Fits self.now block.new) }
     {
-        match DeclBlock::begin(self.alloc, number, bytes, header.implicit()) {
-            Ok(reader) => Ok(Block {
-                arena,
-                header,
-                state: State::Declaration {
+        match DeclBlock::begin(self.alloc, number, bytes, block.header.implicit()) {
+            Ok(reader) => {
+                block.state = State::Declaration {
                     line: number,
                     reader,
-                },
-            }),
+                };
+                Ok(())
+            }
             Err(fault) => Err(fault),
         }
     }
@@ -209,153 +207,128 @@ impl Kept {
     // The first line of a sample record.
     fn begun_record<'a>(
         &self,
-        arena: &'a Bump,
-        header: Header,
+        block: &mut Block<'a>,
         number: u64,
         bytes: &[u8],
-    ) -> Result<Block<'a>, BlockFault>
-        ensures goes_on { (h : History) → Stands self.now h → GoesOn h result (λ ls close. after_sample (record h { header = header }) (record { number = number; bytes = bytes.now }) ls close) }
-        ensures fits { IfOk result (λ b. Fits self.now b) }
+    ) -> Result<(), BlockFault>
+        ensures goes_on { (h : History) → Stands self.now h → GoesOn h (carried block.new result) (λ ls close. after_sample (record h { header = block.old.header }) (record { number = number; bytes = bytes.now }) ls close) }
+        ensures fits { OnOk result (Fits self.now block.new) }
     {
-        match RecordReader::begin(self.alloc, &self.points, arena, number, bytes) {
-            Ok(reader) => Ok(Block {
-                arena,
-                header,
-                state: State::Record { reader },
-            }),
+        match RecordReader::begin(self.alloc, &self.points, block.arena, number, bytes) {
+            Ok(reader) => {
+                block.state = State::Record { reader };
+                Ok(())
+            }
             Err(fault) => Err(fault),
         }
     }
 
     // One more line of a declaration.
+    #[inline(never)]
     fn declaration_line<'a>(
         &self,
-        arena: &'a Bump,
-        header: Header,
-        line: u64,
-        reader: DeclBlock,
+        block: &mut Block<'a>,
         number: u64,
         bytes: &[u8],
-    ) -> Result<Block<'a>, BlockFault>
-        ensures goes_on { (h : History) → GoesOn h result (λ ls close. resumed_by (record h { header = header }) (State.Declaration line reader) (record { number = number; bytes = bytes.now } ∷ ls) close) }
-        ensures fits { IfOk result (λ b. Fits self.now b) }
+    ) -> Result<(), BlockFault>
+        requires { IsDeclared block.old.state }
+        ensures goes_on { (h : History) → GoesOn h (carried block.new result) (λ ls close. resumed h block.old (record { number = number; bytes = bytes.now } ∷ ls) close) }
+        ensures fits { OnOk result (Fits self.now block.new) }
     {
-        match reader.line(number, bytes) {
-            Ok(reader) => Ok(Block {
-                arena,
-                header,
-                state: State::Declaration { line, reader },
-            }),
-            Err(fault) => Err(fault),
+        match replace(&mut block.state, State::Implementors) {
+            State::Declaration { line, reader } => match reader.line(number, bytes) {
+                Ok(reader) => {
+                    block.state = State::Declaration { line, reader };
+                    Ok(())
+                }
+                Err(fault) => Err(fault),
+            },
+            _ => Ok(()),
         }
     }
 
-    // One more line of a sample record.
-    fn record_line<'a>(
-        &self,
-        arena: &'a Bump,
-        header: Header,
-        reader: RecordReader<'a>,
+    /// Takes the block, which ends here: whether it is one. The line of this number ends it, or the file ends in front of that line. Nothing
+    /// is said of the block behind it; after a fault nothing is said of what is kept.
+    pub(crate) fn close<'a>(
+        &mut self,
+        block: &mut Block<'a>,
         number: u64,
-        bytes: &[u8],
-    ) -> Result<Block<'a>, BlockFault>
-        requires { IsOf self.now.points reader }
-        ensures goes_on { (h : History) → Stands self.now h → GoesOn h result (λ ls close. resumed_by (record h { header = header }) (State.Record reader.entry) (record { number = number; bytes = bytes.now } ∷ ls) close) }
-        ensures fits { IfOk result (λ b. Fits self.now b) }
+    ) -> Result<bool, BlockFault>
+        requires { Fits self.old block.old }
+        ensures { (h : History) → Stands self.old h → Closes (paired self.new result) (resumed h block.old [] (Some number)) }
     {
-        match reader.line(&self.points, number, bytes) {
-            Ok(reader) => Ok(Block {
-                arena,
-                header,
-                state: State::Record { reader },
-            }),
-            Err(fault) => Err(fault),
-        }
-    }
-
-    /// With the block, which ends here, and whether it is one. The line of this number ends it, or the file ends in front of that line.
-    pub(crate) fn close<'a>(self, block: Block<'a>, number: u64) -> Result<(Kept, bool), BlockFault>
-        requires { Fits self block }
-        ensures { (h : History) → Stands self h → Closes result (resumed h block.entry [] (Some number)) }
-    {
-        let Block {
-            arena,
-            header,
-            state,
-        } = block;
-        let kept = self.with_header(header);
-        match state {
-            State::Front { last } => kept.without_record(last),
-            State::Declaration { line, reader } => match reader.end() {
-                Ok(decl) => kept.with_declaration(line, decl),
+        self.header = block.header;
+        match &mut block.state {
+            State::Record { reader } => match reader.end(&self.points, number) {
+                Ok(sample) => self.with_record(block.arena, &sample),
                 Err(fault) => Err(fault),
             },
-            State::Implementors => Ok((kept, true)),
-            State::Record { reader } => match reader.end(&kept.points, number) {
-                Ok(sample) => kept.with_record(arena, &sample),
-                Err(fault) => Err(fault),
-            },
-        }
-    }
-
-    // With this header in force.
-    fn with_header(self, header: Header) -> Kept
-        ensures stands { (h : History) → Stands self h → Stands result (record h { header = header }) }
-        ensures points { result.points ≡ self.points }
-    {
-        let Kept {
-            alloc,
-            points,
-            header: _,
-            calls,
-            summaries,
-        } = self;
-        Kept {
-            alloc,
-            points,
-            header,
-            calls,
-            summaries,
+            State::Front { last } => {
+                let last = *last;
+                self.without_record(last)
+            }
+            State::Declaration { line: _, reader: _ } => self.declaration_end(block, number),
+            State::Implementors => Ok(true),
         }
     }
 
     // A block ends whose last header line has this number, and that has no record.
-    fn without_record(self, last: Option<u64>) -> Result<(Kept, bool), BlockFault>
-        ensures { (h : History) → Stands self h → (close : ℕ) → Closes result (without_record h last (Some close)) }
+    fn without_record(&self, last: Option<u64>) -> Result<bool, BlockFault>
+        ensures { (h : History) → Stands self.now h → (close : ℕ) → Closes (paired self.now result) (without_record h last (Some close)) }
     {
         let Some(line) = last else {
-            return Ok((self, false));
+            return Ok(false);
         };
         let mut header = self.header;
         match header.end() {
-            Ok(()) => Ok((self, true)),
+            Ok(()) => Ok(true),
             Err(why) => Err(BlockFault::Refused { line, why }),
         }
     }
 
-    // With a declaration, whose block begins at this line.
-    fn with_declaration(self, line: u64, decl: PointDecl) -> Result<(Kept, bool), BlockFault>
-        ensures { (h : History) → Stands self h → Closes result (with_declaration h line decl) }
+    // A declaration ends.
+    #[inline(never)]
+    fn declaration_end<'a>(
+        &mut self,
+        block: &mut Block<'a>,
+        number: u64,
+    ) -> Result<bool, BlockFault>
+        requires { IsDeclared block.old.state }
+        ensures { (h : History) → Stands self.old h → Closes (paired self.new result) (resumed_by h block.old.state [] (Some number)) }
     {
+        match replace(&mut block.state, State::Implementors) {
+            State::Declaration { line, reader } => match reader.end() {
+                Ok(decl) => self.with_declaration(line, decl),
+                Err(fault) => Err(fault),
+            },
+            _ => Ok(true),
+        }
+    }
+
+    // With a declaration, whose block begins at this line.
+    fn with_declaration(&mut self, line: u64, decl: PointDecl) -> Result<bool, BlockFault>
+        ensures { (h : History) → Stands self.old h → Closes (paired self.new result) (with_declaration h line decl) }
+    {
+        let none = Kept::new(self.alloc)?;
         let Kept {
             alloc,
             points,
             header,
             calls,
             summaries,
-        } = self;
+        } = replace(self, none);
         match points.declare(decl, line) {
             Ok((points, _)) => match with_new(alloc, summaries, &points) {
-                Ok(summaries) => Ok((
-                    Kept {
+                Ok(summaries) => {
+                    *self = Kept {
                         alloc,
                         points,
                         header,
                         calls,
                         summaries,
-                    },
-                    true,
-                )),
+                    };
+                    Ok(true)
+                }
                 Err(NoMemory) => Err(BlockFault::NoMemory),
             },
             Err(fault) => Err(fault),
@@ -364,32 +337,16 @@ impl Kept {
 
     // With the sample of a record.
     fn with_record<'a>(
-        self,
+        &mut self,
         arena: &'a Bump,
         sample: &BaseSample<'a>,
-    ) -> Result<(Kept, bool), BlockFault>
-        requires { sample.now.point.0 < length self.points }
-        ensures { (h : History) → Stands self h → Closes result (with_record h (shown sample.now)) }
+    ) -> Result<bool, BlockFault>
+        requires { sample.now.point.0 < length self.old.points }
+        ensures { (h : History) → Stands self.old h → Closes (paired self.new result) (with_record h (shown sample.now)) }
     {
-        let Kept {
-            alloc,
-            points,
-            header,
-            mut calls,
-            mut summaries,
-        } = self;
-        match base_values(&points, &mut calls, arena, sample) {
-            Ok(values) => match summaries[sample.point.0 as usize].feed(values) {
-                Ok(()) => Ok((
-                    Kept {
-                        alloc,
-                        points,
-                        header,
-                        calls,
-                        summaries,
-                    },
-                    true,
-                )),
+        match base_values(&self.points, &mut self.calls, arena, sample) {
+            Ok(values) => match self.summaries[sample.point.0 as usize].feed(values) {
+                Ok(()) => Ok(true),
                 Err(NoMemory) => Err(BlockFault::NoMemory),
             },
             Err(fault) => Err(fault),

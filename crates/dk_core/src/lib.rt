@@ -2,7 +2,9 @@
 #![tactic(auto)]
 
 mod block;
+mod first_lines;
 mod kept;
+pub mod laws;
 mod session;
 #[cfg(test)]
 mod tests;

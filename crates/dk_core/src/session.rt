@@ -1,11 +1,12 @@
 // A session.
-ghost use Rattle.std.specs.Prelude.{◌≡◌, ◌≤◌, ◌<◌, ◌+◌, ◌-◌, ◌^◌, min, not, ◌∷◌, [], List, ℕ, Option, Some, None, Err, IfOk, IfSome, IsErrOf, true, false, if◌then◌else◌};
+ghost use Rattle.std.specs.Prelude.{◌≡◌, ◌≤◌, ◌<◌, ◌+◌, ◌-◌, ◌^◌, min, not, ◌∷◌, [], List, ℕ, Option, Some, None, Err, IfOk, OnOk, IfSome, IsErrOf, true, false, if◌then◌else◌};
 ghost use Rattle.dk_io.specs.Outside.{Rose};
 ghost use Rattle.dk_lines.specs.Reading.{left_of};
 ghost use Rattle.dk_core.specs.History.{History, effect_of, no_history, file_ended};
 ghost use Rattle.dk_core.specs.Sections.{report_of};
-ghost use Rattle.dk_core.specs.Standing.{Fits, Stands, resumed};
+ghost use Rattle.dk_core.specs.Standing.{Fits, Stands, carried, paired, resumed};
 ghost use Rattle.dk_core.specs.Steps.{LineGives, EndGives, BlankGives, WordsGive, Answers, Counts, named, BlockGives, BlockCounts, LineShape, EndShape, ShapeAt, ClosesAt, LineStep, LineStepShape, StepShape, StepGives, StepCounts, turned, stopped, unread};
+ghost use Rattle.dk_core.specs.Turns.{turn_of, ending_of};
 
 use crate::block::Block;
 use crate::kept::Kept;
@@ -35,31 +36,26 @@ pub(crate) enum Stop {
 }
 
 /// The end of a block, or of a file without one.
-#[derive(Drop)]
-pub(crate) struct Ending {
-    pub(crate) kept: Kept,
+#[derive(Clone, Copy, Debug, PartialEq, Eq)]
+pub(crate) struct End {
     pub(crate) is_over: bool,
     pub(crate) found: bool,
 }
 
 /// What one line does.
-#[derive(Drop)]
-pub(crate) enum Step<'a> {
+#[derive(Clone, Copy, Debug, PartialEq, Eq)]
+pub(crate) enum Step {
     /// The block has a line more.
-    More(Block<'a>),
+    More,
     /// The block ends: at the blank line of this number, or where the file ends in front of it.
-    Ended {
-        block: Block<'a>,
-        number: u64,
-        is_over: bool,
-    },
+    Ended { number: u64, is_over: bool },
 }
 
 /// What comes of the end of a block's lines: they are no block, and the next one begins; or a block or the file ends.
-#[derive(Drop)]
-pub(crate) enum Turn<'a> {
-    Goes(Kept, Block<'a>),
-    Ends(Ending),
+#[derive(Clone, Copy, Debug, PartialEq, Eq)]
+pub(crate) enum After {
+    Goes,
+    Ends(End),
 }
 
 fn stop_of(fault: BlockFault) -> Stop
@@ -89,35 +85,32 @@ fn line_stop(fault: LineFault) -> Stop
 }
 
 // The line is blank.
-fn at_blank<'a>(kept: Kept, block: Block<'a>, number: u64) -> Result<Turn<'a>, Stop>
-    requires { Fits kept block }
-    ensures shape { LineShape result }
-    ensures gives { (h : History) → Stands kept h → BlankGives (resumed h block.entry) number result }
+fn at_blank<'a>(kept: &mut Kept, block: &mut Block<'a>, number: u64) -> Result<After, Stop>
+    requires { Fits kept.old block.old }
+    ensures shape { LineShape (turn_of kept.new block.new result) }
+    ensures gives { (h : History) → Stands kept.old h → BlankGives (resumed h block.old) number (turn_of kept.new block.new result) }
 {
-    let arena = block.arena;
     match kept.close(block, number) {
-        Ok((kept, true)) => Ok(Turn::Ends(Ending {
-            kept,
+        Ok(true) => Ok(After::Ends(End {
             is_over: false,
             found: true,
         })),
-        Ok((kept, false)) => {
-            let block = kept.begin(arena);
-            Ok(Turn::Goes(kept, block))
+        Ok(false) => {
+            kept.begin_again(block);
+            Ok(After::Goes)
         }
         Err(fault) => Err(stop_of(fault)),
     }
 }
 
 // The file ends in front of the line of this number.
-fn at_end<'a>(kept: Kept, block: Block<'a>, number: u64) -> Result<Turn<'a>, Stop>
-    requires { Fits kept block }
-    ensures shape { EndShape result }
-    ensures gives { (h : History) → Stands kept h → EndGives (resumed h block.entry) number result }
+fn at_end<'a>(kept: &mut Kept, block: &mut Block<'a>, number: u64) -> Result<After, Stop>
+    requires { Fits kept.old block.old }
+    ensures shape { EndShape (turn_of kept.new block.new result) }
+    ensures gives { (h : History) → Stands kept.old h → EndGives (resumed h block.old) number (turn_of kept.new block.new result) }
 {
     match kept.close(block, number) {
-        Ok((kept, found)) => Ok(Turn::Ends(Ending {
-            kept,
+        Ok(found) => Ok(After::Ends(End {
             is_over: true,
             found,
         })),
@@ -126,10 +119,15 @@ fn at_end<'a>(kept: Kept, block: Block<'a>, number: u64) -> Result<Turn<'a>, Sto
 }
 
 // The end of a block: at a blank line, or where the file ends in front of the line of this number.
-fn closed<'a>(kept: Kept, block: Block<'a>, number: u64, is_over: bool) -> Result<Turn<'a>, Stop>
-    requires { Fits kept block }
-    ensures shape { ShapeAt is_over result }
-    ensures gives { (h : History) → Stands kept h → ClosesAt is_over (resumed h block.entry) number result }
+fn closed<'a>(
+    kept: &mut Kept,
+    block: &mut Block<'a>,
+    number: u64,
+    is_over: bool,
+) -> Result<After, Stop>
+    requires { Fits kept.old block.old }
+    ensures shape { ShapeAt is_over (turn_of kept.new block.new result) }
+    ensures gives { (h : History) → Stands kept.old h → ClosesAt is_over (resumed h block.old) number (turn_of kept.new block.new result) }
 {
     if is_over {
         at_end(kept, block, number)
@@ -139,57 +137,54 @@ fn closed<'a>(kept: Kept, block: Block<'a>, number: u64, is_over: bool) -> Resul
 }
 
 // A line that is not blank.
-fn at_words<'a>(kept: &Kept, block: Block<'a>, number: u64, bytes: &[u8]) -> Result<Block<'a>, Stop>
-    requires { Fits kept.now block }
-    ensures fits { IfOk result (λ b. Fits kept.now b) }
-    ensures shape { LineShape (turned kept.now result) }
-    ensures gives { (h : History) → Stands kept.now h → WordsGive (resumed h block.entry) (record { number = number; bytes = bytes.now }) (turned kept.now result) }
+fn at_words<'a>(kept: &Kept, block: &mut Block<'a>, number: u64, bytes: &[u8]) -> Result<(), Stop>
+    requires { Fits kept.now block.old }
+    ensures fits { OnOk result (Fits kept.now block.new) }
+    ensures shape { LineShape (turned kept.now (carried block.new result)) }
+    ensures gives { (h : History) → Stands kept.now h → WordsGive (resumed h block.old) (record { number = number; bytes = bytes.now }) (turned kept.now (carried block.new result)) }
 {
     match kept.line(block, number, bytes) {
-        Ok(block) => Ok(block),
+        Ok(()) => Ok(()),
         Err(fault) => Err(stop_of(fault)),
     }
 }
 
 // A line of the file.
-fn with_line<'a>(kept: &Kept, block: Block<'a>, number: u64, bytes: &[u8]) -> Result<Step<'a>, Stop>
-    requires { Fits kept.now block }
-    ensures shape { LineStepShape kept.now block.entry result }
-    ensures gives { (h : History) → Stands kept.now h → LineStep kept.now (resumed h block.entry) (record { number = number; bytes = bytes.now }) result }
+fn with_line<'a>(
+    kept: &Kept,
+    block: &mut Block<'a>,
+    number: u64,
+    bytes: &[u8],
+) -> Result<Step, Stop>
+    requires { Fits kept.now block.old }
+    ensures shape { LineStepShape kept.now block.old block.new result }
+    ensures gives { (h : History) → Stands kept.now h → LineStep kept.now block.new (resumed h block.old) (record { number = number; bytes = bytes.now }) result }
 {
     let words = trimmed(bytes);
     if words.is_empty() {
         return Ok(Step::Ended {
-            block,
             number,
             is_over: false,
         });
     }
     match at_words(kept, block, number, words) {
-        Ok(block) => Ok(Step::More(block)),
+        Ok(()) => Ok(Step::More),
         Err(stop) => Err(stop),
     }
-}
-
-// A line can't be read, and the block is given up.
-fn given_up<'a>(_block: Block<'a>, fault: LineFault) -> Result<Step<'a>, Stop>
-    ensures { result ≡ Err (unread fault) }
-{
-    Err(line_stop(fault))
 }
 
 // Reads one line.
 fn take_line<'a, I: Inputs>(
     kept: &Kept,
-    block: Block<'a>,
+    block: &mut Block<'a>,
     inputs: &mut I,
     lines: &mut Lines,
-) -> Result<Step<'a>, Stop>
+) -> Result<Step, Stop>
     requires started { lines.old.is_started ≡ true }
-    requires fits { Fits kept.now block }
-    ensures shape { StepShape kept.now block.entry result }
+    requires fits { Fits kept.now block.old }
+    ensures shape { StepShape kept.now block.old block.new result }
     ensures gives { (h : History) → Stands kept.now h → IfSome (left_of lines.old (I.rest inputs.old))
-        (λ xs. StepGives kept.now (resumed h block.entry) lines.old xs result lines.new (left_of lines.new (I.rest inputs.new))) }
+        (λ xs. StepGives kept.now block.new (resumed h block.old) lines.old xs result lines.new (left_of lines.new (I.rest inputs.new))) }
     ensures counts { StepCounts lines.old result lines.new }
     ensures emptied { IsErrOf result Stop.Read → lines.new.ahead ≡ [] }
     ensures files { I.file inputs.new ≡ I.file inputs.old }
@@ -200,51 +195,38 @@ fn take_line<'a, I: Inputs>(
     match lines.next(inputs) {
         Ok(Some(line)) => with_line(kept, block, line.number, line.bytes),
         Ok(None) => Ok(Step::Ended {
-            block,
             number: next,
             is_over: true,
         }),
-        Err(fault) => given_up(block, fault),
+        Err(fault) => Err(line_stop(fault)),
     }
 }
 
-// Reads up to the end of the next block.
+// Reads up to the end of the next block. The values of its record lie in an arena of its own, which takes no memory before the first of
+// them and goes whole behind the block.
 fn read_block<I: Inputs>(
-    arena: &Bump,
-    kept: Kept,
+    alloc: Global,
+    kept: &mut Kept,
     inputs: &mut I,
     lines: &mut Lines,
-) -> Result<Ending, Stop>
+) -> Result<End, Stop>
     requires { lines.old.is_started ≡ true }
-    ensures gives { (h : History) → Stands kept h → IfSome (left_of lines.old (I.rest inputs.old))
-        (λ xs. BlockGives (effect_of h) false lines.old xs result lines.new (left_of lines.new (I.rest inputs.new))) }
-    ensures counts { BlockCounts lines.old result lines.new }
+    ensures gives { (h : History) → Stands kept.old h → IfSome (left_of lines.old (I.rest inputs.old))
+        (λ xs. BlockGives (effect_of h) false lines.old xs (ending_of kept.new result) lines.new (left_of lines.new (I.rest inputs.new))) }
+    ensures counts { BlockCounts lines.old (ending_of kept.new result) lines.new }
     ensures emptied { IsErrOf result Stop.Read → lines.new.ahead ≡ [] }
     ensures files { I.file inputs.new ≡ I.file inputs.old }
     ensures later { I.faults inputs.old ≤ I.faults inputs.new }
     ensures cause { IsErrOf result Stop.Read → Rose (I.faults inputs.old) (I.faults inputs.new) }
 {
-    let mut block = kept.begin(arena);
-    let mut kept = kept;
+    let arena = Bump::new(alloc);
+    let mut block = kept.begin(&arena);
     'reading: loop {
-        match take_line(&kept, block, inputs, lines) {
-            Ok(Step::More(more)) => {
-                block = more;
-                continue 'reading;
-            }
-            Ok(
-                Step::Ended {
-                    block: whole,
-                    number,
-                    is_over,
-                },
-            ) => match closed(kept, whole, number, is_over) {
-                Ok(Turn::Goes(next, more)) => {
-                    kept = next;
-                    block = more;
-                    continue 'reading;
-                }
-                Ok(Turn::Ends(end)) => return Ok(end),
+        match take_line(kept, &mut block, inputs, lines) {
+            Ok(Step::More) => continue 'reading,
+            Ok(Step::Ended { number, is_over }) => match closed(kept, &mut block, number, is_over) {
+                Ok(After::Goes) => continue 'reading,
+                Ok(After::Ends(end)) => return Ok(end),
                 Err(stop) => return Err(stop),
             },
             Err(stop) => return Err(stop),
@@ -263,6 +245,17 @@ fn fault_of(file: u32, stop: Stop) -> Fault
     }
 }
 
+// How many blocks were read, with one more where one was found.
+fn blocks_with(blocks: u64, found: bool) -> u64
+    ensures { result ≡ (if found then min (blocks + 1) (2 ^ 64 - 1) else blocks) }
+{
+    if found {
+        blocks.saturating_add(1)
+    } else {
+        blocks
+    }
+}
+
 impl Session {
     /// The session of no blocks.
     pub fn new(alloc: Global) -> Result<Session, NoMemory>
@@ -278,18 +271,15 @@ impl Session {
         })
     }
 
-    /// Reads and applies the next block of the started file. False where the file ends without one.
-    pub fn block<I: Inputs>(
-        self,
-        inputs: &mut I,
-        lines: &mut Lines,
-    ) -> Result<(Session, bool), Fault>
-        requires { lines.old.is_started ≡ not self.is_over }
-        ensures gives { (h : History) → Stands self.kept h → IfSome (left_of lines.old (I.rest inputs.old))
-            (λ xs. Answers self h lines.old xs result lines.new (left_of lines.new (I.rest inputs.new))) }
-        ensures counts { Counts self lines.old result lines.new }
+    /// Reads and applies the next block of the started file. False where the file ends without one. After a fault nothing is said of the
+    /// session.
+    pub fn block<I: Inputs>(&mut self, inputs: &mut I, lines: &mut Lines) -> Result<bool, Fault>
+        requires { lines.old.is_started ≡ not self.old.is_over }
+        ensures gives { (h : History) → Stands self.old.kept h → IfSome (left_of lines.old (I.rest inputs.old))
+            (λ xs. Answers self.old h lines.old xs (paired self.new result) lines.new (left_of lines.new (I.rest inputs.new))) }
+        ensures counts { Counts self.old lines.old (paired self.new result) lines.new }
         // At the file's end nothing is read.
-        ensures over { self.is_over ≡ true → (result ≡ Ok (self, false)) × (inputs.new ≡ inputs.old) × (lines.new ≡ lines.old) }
+        ensures over { self.old.is_over ≡ true → (result ≡ Ok false) × (self.new ≡ self.old) × (inputs.new ≡ inputs.old) × (lines.new ≡ lines.old) }
         // Where reading failed, no byte that was read is held.
         ensures emptied { (file : ℕ) → IsErrOf result (Fault.Read file) → lines.new.ahead ≡ [] }
         ensures files { I.file inputs.new ≡ I.file inputs.old }
@@ -297,19 +287,15 @@ impl Session {
         ensures cause { (file : ℕ) → IsErrOf result (Fault.Read file) → Rose (I.faults inputs.old) (I.faults inputs.new) }
     {
         if self.is_over {
-            return Ok((self, false));
+            return Ok(false);
         }
-        let Session {
-            alloc,
-            kept,
-            blocks,
-            file,
-            is_over: _,
-        } = self;
-        let arena = Bump::new(alloc);
-        match read_block(&arena, kept, inputs, lines) {
-            Ok(end) => Ok(ended(alloc, blocks, file, end)),
-            Err(stop) => Err(fault_of(file, stop)),
+        match read_block(self.alloc, &mut self.kept, inputs, lines) {
+            Ok(end) => {
+                self.is_over = end.is_over;
+                self.blocks = blocks_with(self.blocks, end.found);
+                Ok(end.found)
+            }
+            Err(stop) => Err(fault_of(self.file, stop)),
         }
     }
 
@@ -354,31 +340,4 @@ impl Session {
     {
         self.blocks
     }
-}
-
-// The session at the end of a block.
-fn ended(alloc: Global, blocks: u64, file: u32, end: Ending) -> (Session, bool)
-    ensures { (result.0.kept ≡ end.kept) × (result.0.is_over ≡ end.is_over) × (result.1 ≡ end.found) × (result.0.file ≡ file)
-        × (result.0.blocks ≡ (if end.found then min (blocks + 1) (2 ^ 64 - 1) else blocks)) }
-{
-    let Ending {
-        kept,
-        is_over,
-        found,
-    } = end;
-    let blocks = if found {
-        blocks.saturating_add(1)
-    } else {
-        blocks
-    };
-    (
-        Session {
-            alloc,
-            kept,
-            blocks,
-            file,
-            is_over,
-        },
-        found,
-    )
 }

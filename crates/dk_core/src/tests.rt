@@ -24,10 +24,10 @@ fn read(alloc: Global) -> Result<Session, Fail> {
     let mut inputs = MemoryInputs::new(files, List::new(alloc), 4);
     let mut lines = Lines::new(alloc, Limits::STANDARD)?;
     lines.start(&mut inputs, "t")?;
-    let (session, _) = Session::new(alloc)?.block(&mut inputs, &mut lines)?;
-    let (session, _) = session.block(&mut inputs, &mut lines)?;
-    let (session, _) = session.block(&mut inputs, &mut lines)?;
-    let (session, _) = session.block(&mut inputs, &mut lines)?;
+    let mut session = Session::new(alloc)?;
+    for _ in 0..4 {
+        let _found = session.block(&mut inputs, &mut lines)?;
+    }
     Ok(session.end_file())
 }
 

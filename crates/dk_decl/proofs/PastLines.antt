@@ -8,7 +8,8 @@ use Rattle.dk_base.specs.Words.{first_word}
 use Rattle.dk_decl.specs.Heads.{head_line}
 use Rattle.dk_decl.specs.LineWords.{begins, each_line}
 use Rattle.dk_decl.specs.PptBlock.{groups, has_ended, is_variable, point_name, point_with, ppt_lines, ppt_of, vars_after, with_var}
-use Rattle.dk_decl.specs.ReadPast.{CommentsAreReadPast, OtherLinesAreReadPast, goes_on_with_slash, is_comment, is_read}
+use Rattle.dk_decl.specs.Comments.{is_comment}
+use Rattle.dk_decl.specs.ReadPast.{CommentsAreReadPast, OtherLinesAreReadPast, is_read}
 use Rattle.dk_decl.specs.Variables.{opened, var_line}
 use Rattle.dk_decl.specs.declared.decls.EdgeDecl.{EdgeDecl}
 use Rattle.dk_decl.specs.declared.decls.PointDecl.{PointDecl}
@@ -122,12 +123,13 @@ word_begins : (b : ℕ) (bs : List ℕ) → is_blank b ≡ false → first_word 
 word_begins b bs h = rw h (let s : 1 + position_or_len is_blank bs ≡ suc (position_or_len is_blank bs) = omega arith in rw s refl)
 
 comment_begins : (b : ℕ) (bs : List ℕ) → is_comment (b ∷ bs) ≡ true → (b ≡ 35) ⊎ (b ≡ 47)
-comment_begins b bs h = go (b == 35) (b == 47) refl refl h
+unfolding is_comment
+comment_begins b bs h = go (35 == b) (47 == b) _ _ refl refl h
   where
-    go : (x y : Bool) → (b == 35) ≡ x → (b == 47) ≡ y → (x || (y && goes_on_with_slash bs)) ≡ true → (b ≡ 35) ⊎ (b ≡ 47)
-    go true y e f h = inl (eqb-true b 35 e)
-    go false true e f h = inr (eqb-true b 47 f)
-    go false false e f h = cc
+    go : (x y u v : Bool) → (35 == b) ≡ x → (47 == b) ≡ y → ((x && u) || (y && v)) ≡ true → (b ≡ 35) ⊎ (b ≡ 47)
+    go true y u v e f h = inl (sym (eqb-true 35 b e))
+    go false true u v e f h = inr (sym (eqb-true 47 b f))
+    go false false u v e f h = cc
 
 -- with these two bytes no line of the format begins
 no_word : (b : ℕ) (bs : List ℕ) (n : ℕ) → is_blank b ≡ false
@@ -138,6 +140,7 @@ unfolding begins
 no_word b bs n h e = rw (word_begins b bs h) e
 
 comment_is_past : (n : ℕ) (bytes : List ℕ) → is_comment bytes ≡ true → is_read (record { number = n; bytes = bytes }) ≡ false
+unfolding is_comment
 comment_is_past n [] h = cc
 comment_is_past n (b ∷ bs) h = go (comment_begins b bs h)
   where

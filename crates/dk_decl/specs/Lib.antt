@@ -10,6 +10,7 @@ pub mod PptBlock
 pub mod DeclareBlock
 pub mod Blocks
 pub mod Laws
+pub mod Comments
 pub mod ReadPast
 pub mod HeaderLaw
 pub mod Positions

@@ -1,6 +1,7 @@
 -- Lines of a `ppt` block that have no effect.
-use Rattle.std.specs.Prelude.{◌≡◌, ◌&&◌, ◌||◌, ◌==◌, ℕ, Bool, false, not, List, [], ◌∷◌, codes, filter, Option}
+use Rattle.std.specs.Prelude.{◌≡◌, ◌||◌, ℕ, Bool, not, List, codes, filter, Option}
 use Rattle.dk_base.specs.Reading.{Line}
+use Rattle.dk_decl.specs.Comments.{is_comment}
 use Rattle.dk_decl.specs.LineWords.{begins}
 use Rattle.dk_decl.specs.PptBlock.{ppt_of}
 
@@ -8,16 +9,6 @@ use Rattle.dk_decl.specs.PptBlock.{ppt_of}
 abbrev pub is_read : Line → Bool
 is_read l = begins (codes "variable") l.bytes || begins (codes "ppt-type") l.bytes || begins (codes "parent") l.bytes
     || begins (codes "rep-type") l.bytes || begins (codes "comparability") l.bytes || begins (codes "constant") l.bytes
-
--- the next byte is `/` (47)
-abbrev pub goes_on_with_slash : List ℕ → Bool
-goes_on_with_slash [] = false
-goes_on_with_slash (b ∷ bs) = b == 47
-
--- a line that begins with `#` (35) or `//`
-abbrev pub is_comment : List ℕ → Bool
-is_comment [] = false
-is_comment (b ∷ bs) = b == 35 || (b == 47 && goes_on_with_slash bs)
 
 -- behind the first line of a `ppt` block, lines with other first words change nothing
 abbrev pub OtherLinesAreReadPast : Type 0

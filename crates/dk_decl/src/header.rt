@@ -78,11 +78,10 @@ impl Header {
         ensures value { result ≡ (if awaits_word self.old then Err Why.BadHeader else Ok tt) }
         ensures unchanged { self.new ≡ self.old }
     {
-        if self.awaits_word {
-            Err(Why::BadHeader)
-        } else {
-            Ok(())
+        if !self.awaits_word {
+            return Ok(());
         }
+        Err(Why::BadHeader)
     }
 
     /// Whether the comparability word in force is `implicit`, and not `none`.

@@ -1,14 +1,17 @@
 // The rows that keep a bound of the elements.
-ghost use Rattle.std.specs.Prelude.{◌≡◌, [], ◌∷◌};
+ghost use Rattle.std.specs.Prelude.{◌≡◌, ◌↔◌, [], ◌∷◌, IsTrue};
 ghost use Rattle.dk_base.specs.Tuples.{ints_of, value_at};
 ghost use Rattle.dk_base.specs.Values.{values_of};
 ghost use Rattle.dk_base.specs.declared.kinds.Kind.TheVariants as kind;
 ghost use Rattle.dk_elements.specs.Rows.{bound_row, bound_state};
+ghost use Rattle.dk_template.specs.Joins.{joined};
+ghost use Rattle.dk_template.specs.Proper.{IsProper};
 ghost use Rattle.dk_template.specs.Rows.{IsTuple};
+ghost use Rattle.dk_template.specs.Templates.{form_of};
 
 use crate::rows::join;
 use dk_base::{NoMemory, View, ints_at};
-use dk_forms::{greatest_point, least_point};
+use dk_forms::{greatest_all_stay, greatest_point, least_all_stay, least_point};
 use dk_template::{Row, RowId, State};
 use std::alloc::Global;
 
@@ -42,6 +45,19 @@ fn state_of_elements(bound: Bound, tuple: &[View<'_>]) -> State
     }
 }
 
+// Whether the elements leave the state as it is.
+#[tactic(auto, unfolding(dk_template::specs::Templates::rows))]
+fn elements_stay(bound: Bound, state: &State, tuple: &[View<'_>]) -> bool
+    requires state { IsProper (form_of (bound_row bound)) state.now }
+    requires tuple { IsTuple (kind.IntSeq ∷ []) (values_of tuple.now) }
+    ensures { IsTrue result ↔ (joined (form_of (bound_row bound)) state.now (bound_state bound (ints_of (value_at (values_of tuple.now) 0))) ≡ state.now) }
+{
+    match bound {
+        Bound::Lower => least_all_stay(state, ints_at(tuple, 0)),
+        Bound::Upper => greatest_all_stay(state, ints_at(tuple, 0)),
+    }
+}
+
 impl Row for Bound {
     ghost use Rattle.dk_elements.specs.Rows.{bound_is_row, bound_row};
     ghost use Rattle.dk_rows.proofs.RowLaws.{laws_by};
@@ -62,5 +78,9 @@ impl Row for Bound {
 
     fn join(&self, alloc: Global, a: State, b: &State) -> Result<State, NoMemory> {
         join(alloc, self.row(), a, b)
+    }
+
+    fn stays(&self, state: &State, tuple: &[View<'_>]) -> bool {
+        elements_stay(*self, state, tuple)
     }
 }

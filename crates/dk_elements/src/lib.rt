@@ -14,7 +14,7 @@ pub use compare::Compare;
 pub use dk_lanes::Rel;
 pub use non_null::NonNull;
 pub use one_of::OneOf;
-pub use rows::{join, point};
+pub use rows::{join, point, stays};
 pub use sorted::Sorted;
 
 #[cfg(test)]

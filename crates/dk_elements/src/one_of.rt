@@ -1,13 +1,19 @@
 // The rows that keep the elements of a sequence, where they are few.
-ghost use Rattle.std.specs.Prelude.{◌≡◌, [], ◌∷◌, IfOk, OnErr};
+ghost use Rattle.std.specs.Prelude.{◌≡◌, ◌↔◌, [], ◌∷◌, IfOk, IsTrue, OnErr};
 ghost use Rattle.dk_base.specs.Tuples.{value_at};
 ghost use Rattle.dk_base.specs.Values.{values_of};
 ghost use Rattle.dk_elements.specs.Rows.{one_of_kind, one_of_row, one_of_state};
+ghost use Rattle.dk_template.specs.Joins.{joined};
+ghost use Rattle.dk_template.specs.Proper.{IsProper};
 ghost use Rattle.dk_template.specs.Rows.{IsTuple};
+ghost use Rattle.dk_template.specs.Templates.{form_of};
 
 use crate::rows::join;
 use dk_base::{NoMemory, View, bools_at, hashes_at, ints_at, texts_at};
-use dk_forms::{code_point, ints_point, texts_point, truth_point};
+use dk_forms::{
+    code_all_stay, code_point, ints_all_stay, ints_point, texts_all_stay, texts_point,
+    truth_all_stay, truth_point,
+};
 use dk_template::{Row, RowId, State};
 use std::alloc::Global;
 
@@ -49,6 +55,21 @@ fn state_of_elements(of: OneOf, alloc: Global, tuple: &[View<'_>]) -> Result<Sta
     }
 }
 
+// Whether the elements leave the state as it is.
+#[tactic(auto, unfolding(dk_template::specs::Templates::rows))]
+fn elements_stay(of: OneOf, state: &State, tuple: &[View<'_>]) -> bool
+    requires state { IsProper (form_of (one_of_row of)) state.now }
+    requires tuple { IsTuple (one_of_kind of ∷ []) (values_of tuple.now) }
+    ensures { IsTrue result ↔ (joined (form_of (one_of_row of)) state.now (one_of_state of (value_at (values_of tuple.now) 0)) ≡ state.now) }
+{
+    match of {
+        OneOf::Int => ints_all_stay(state, ints_at(tuple, 0)),
+        OneOf::Bool => truth_all_stay(state, bools_at(tuple, 0)),
+        OneOf::Hash => code_all_stay(state, hashes_at(tuple, 0)),
+        OneOf::Str => texts_all_stay(state, texts_at(tuple, 0)),
+    }
+}
+
 impl Row for OneOf {
     ghost use Rattle.dk_elements.specs.Rows.{one_of_is_row, one_of_row};
     ghost use Rattle.dk_rows.proofs.RowLaws.{laws_by};
@@ -69,5 +90,9 @@ impl Row for OneOf {
 
     fn join(&self, alloc: Global, a: State, b: &State) -> Result<State, NoMemory> {
         join(alloc, self.row(), a, b)
+    }
+
+    fn stays(&self, state: &State, tuple: &[View<'_>]) -> bool {
+        elements_stay(*self, state, tuple)
     }
 }

@@ -1,5 +1,5 @@
 // The rows over the elements of a sequence by their numbers.
-ghost use Rattle.std.specs.Prelude.{◌≡◌, [], ◌∷◌, IfOk, OnErr};
+ghost use Rattle.std.specs.Prelude.{◌≡◌, ◌↔◌, [], ◌∷◌, IfOk, IsTrue, OnErr};
 ghost use Rattle.dk_base.specs.Values.{values_of};
 ghost use Rattle.dk_elements.specs.Rows.{IsElementRow};
 ghost use Rattle.dk_rows.specs.Meanings.{state_of};
@@ -9,10 +9,37 @@ ghost use Rattle.dk_template.specs.Rows.{IsTuple};
 ghost use Rattle.dk_template.specs.Templates.{form_of, kinds_of};
 ghost use Rattle.dk_template.specs.declared.templates.StateForm.{StateForm};
 
-use crate::{Bound, Compare, NonNull, OneOf, Rel, Sorted};
 use dk_base::{NoMemory, View};
-use dk_template::{Row, RowId, State, by_number, join_states, template_at};
+use dk_template::{Row, RowId, State, join_states, template_at};
 use std::alloc::Global;
+
+/// An expression over the row over the elements of a sequence that has a number, in the row's own type: `element_row!(number, row => expression)`.
+#[macro_export]
+macro_rules! element_row {
+    ($number:expr, $row:ident => $value:expr) => {
+        dk_template::by_number!($number, $row => $value, {
+            35 => $crate::OneOf::Int,
+            36 => $crate::Bound::Lower,
+            37 => $crate::Bound::Upper,
+            38 => $crate::NonNull::Int,
+            39 => $crate::Sorted($crate::Rel::Lt),
+            40 => $crate::Sorted($crate::Rel::Le),
+            41 => $crate::Sorted($crate::Rel::Gt),
+            42 => $crate::Sorted($crate::Rel::Ge),
+            43 => $crate::Sorted($crate::Rel::Eq),
+            44 => $crate::OneOf::Bool,
+            45 => $crate::OneOf::Hash,
+            46 => $crate::NonNull::Hash,
+            47 => $crate::OneOf::Str,
+            48 => $crate::NonNull::Str,
+            52 => $crate::Compare($crate::Rel::Eq),
+            53 => $crate::Compare($crate::Rel::Lt),
+            54 => $crate::Compare($crate::Rel::Le),
+            55 => $crate::Compare($crate::Rel::Gt),
+            _ => $crate::Compare($crate::Rel::Ge),
+        })
+    };
+}
 
 /// The state of one tuple. Only row 47 wants memory.
 pub fn point(alloc: Global, row: RowId, tuple: &[View<'_>]) -> Result<State, NoMemory>
@@ -21,27 +48,7 @@ pub fn point(alloc: Global, row: RowId, tuple: &[View<'_>]) -> Result<State, NoM
     ensures state { IfOk result (λ state. state ≡ state_of row (values_of tuple.now ∷ [])) }
     ensures err { OnErr result (form_of row ≡ StateForm.Texts) }
 {
-    by_number!(row, row => row.point(alloc, tuple), {
-        35 => OneOf::Int,
-        36 => Bound::Lower,
-        37 => Bound::Upper,
-        38 => NonNull::Int,
-        39 => Sorted(Rel::Lt),
-        40 => Sorted(Rel::Le),
-        41 => Sorted(Rel::Gt),
-        42 => Sorted(Rel::Ge),
-        43 => Sorted(Rel::Eq),
-        44 => OneOf::Bool,
-        45 => OneOf::Hash,
-        46 => NonNull::Hash,
-        47 => OneOf::Str,
-        48 => NonNull::Str,
-        52 => Compare(Rel::Eq),
-        53 => Compare(Rel::Lt),
-        54 => Compare(Rel::Le),
-        55 => Compare(Rel::Gt),
-        _ => Compare(Rel::Ge),
-    })
+    element_row!(row, row => row.point(alloc, tuple))
 }
 
 /// The state of two lists together. Only row 47 wants memory.
@@ -53,4 +60,14 @@ pub fn join(alloc: Global, row: RowId, a: State, b: &State) -> Result<State, NoM
     ensures err { OnErr result (form_of row ≡ StateForm.Texts) }
 {
     join_states(template_at(row).form, alloc, a, b)
+}
+
+/// Whether a tuple leaves a state as it is.
+pub fn stays(row: RowId, state: &State, tuple: &[View<'_>]) -> bool
+    requires row { IsElementRow row }
+    requires state { IsProper (form_of row) state.now }
+    requires tuple { IsTuple (kinds_of row) (values_of tuple.now) }
+    ensures { IsTrue result ↔ (joined (form_of row) state.now (state_of row (values_of tuple.now ∷ [])) ≡ state.now) }
+{
+    element_row!(row, row => row.stays(state, tuple))
 }

@@ -9,7 +9,7 @@ ghost use Rattle.dk_template.specs.Rows.{IsTuple};
 
 use crate::rows::join;
 use dk_base::{NoMemory, View, ints_at};
-use dk_forms::plain_point;
+use dk_forms::{plain_point, plain_stays};
 use dk_lanes::{Rel, sorted};
 use dk_template::{Row, RowId, State};
 use std::alloc::Global;
@@ -61,5 +61,9 @@ impl Row for Sorted {
 
     fn join(&self, alloc: Global, a: State, b: &State) -> Result<State, NoMemory> {
         join(alloc, self.row(), a, b)
+    }
+
+    fn stays(&self, state: &State, tuple: &[View<'_>]) -> bool {
+        plain_stays(state, self.holds(tuple))
     }
 }

@@ -37,7 +37,7 @@ tuples_given vars (s ∷ samples) =
       | false ↦ tuples_given vars samples
     ]
 
-tuples_both : (vars : List VarId) (first second : List (List Value)) → tuples_of vars (first ++ second) ≡ tuples_of vars first ++ tuples_of vars second
+pub tuples_both : (vars : List VarId) (first second : List (List Value)) → tuples_of vars (first ++ second) ≡ tuples_of vars first ++ tuples_of vars second
 tuples_both vars first second = ap (filter is_whole) (map-append (tuple_in vars) first second) ∙ filter-append is_whole (map (tuple_in vars) first) (map (tuple_in vars) second)
 
 -- ---- fits

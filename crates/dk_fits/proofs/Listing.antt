@@ -1,7 +1,7 @@
 -- The instances of a grammar are listed.
 use Rattle.std.specs.Prelude.{◌≡◌, ◌<◌, ◌&&◌, ℕ, zero, suc, true, All, List, [], ◌∷◌, flat_map, length, map, refl, slice_get, zip, ◌==◌}
 use Rattle.std.specs.List.{list_all, range_with_len}
-use Rattle.std.proofs.Common.{ap, arith, inl, subst, sym}
+use Rattle.std.proofs.Common.{ap, arith, inl, inr, subst, sym}
 use Rattle.std.proofs.lemmas.Bool.{and_parts, eqb-true, false≢true}
 use Rattle.std.proofs.lemmas.List.Elements.{All-cons, All-head, All-nil, All-tail}
 use Rattle.dk_base.specs.declared.kinds.VarId.{VarId}
@@ -17,7 +17,7 @@ use Rattle.dk_template.specs.declared.grammar.RowId.{RowId}
 use Rattle.dk_template.specs.declared.templates.Role.{Role}
 
 -- ---- rows
-row_of_grammar : (grammar : Grammar) (row : RowId) → IsIn row (rows_of grammar) → IsRowOf grammar row
+pub row_of_grammar : (grammar : Grammar) (row : RowId) → IsIn row (rows_of grammar) → IsRowOf grammar row
 row_of_grammar grammar row h =
     let n = of_map {X = ℕ} {Y = RowId} (λ n. record { 0 = n }) row (range_with_len 1 (rows_in grammar)) h in
     let e : row.0 ≡ n.0 = ap (λ (r : RowId). r.0) n.2 in
@@ -26,20 +26,32 @@ row_of_grammar grammar row h =
     let high = p.1 in
     (omega (arith, e, low), omega (arith, e, high))
 
-row_in : (grammar : Grammar) (row : RowId) → IsRowOf grammar row → IsIn row (rows_of grammar)
+pub row_in : (grammar : Grammar) (row : RowId) → IsRowOf grammar row → IsIn row (rows_of grammar)
 row_in grammar row is =
     let low = is.0 in
     let high = is.1 in
     in_map {X = ℕ} {Y = RowId} (λ n. record { 0 = n }) row.0 (range_with_len 1 (rows_in grammar)) (in_range row.0 1 (rows_in grammar) low (omega (arith, high)))
 
 -- ---- tuples of variables
-in_tuples : (all : List VarId) (n : ℕ) (vars : List VarId) → length vars ≡ n → All (λ v. IsIn v all) vars → IsIn vars (tuples_over n all)
+pub in_tuples : (all : List VarId) (n : ℕ) (vars : List VarId) → length vars ≡ n → All (λ v. IsIn v all) vars → IsIn vars (tuples_over n all)
 in_tuples all zero [] e h = inl refl
 in_tuples all zero (v ∷ vars) e h = absurd (omega (arith, e))
 in_tuples all (suc n) [] e h = absurd (omega (arith, e))
 in_tuples all (suc n) (v ∷ vars) e h =
     let rest = in_tuples all n vars (omega (arith, e)) (All-tail (λ w. IsIn w all) v vars h) in
     in_flat (λ w. map (λ r. w ∷ r) (tuples_over n all)) (v ∷ vars) v all (in_map (λ r. v ∷ r) vars (tuples_over n all) rest) (All-head (λ w. IsIn w all) v vars h)
+
+-- and only tuples of so many of them are there
+pub of_tuples : (all : List VarId) (n : ℕ) (vars : List VarId) → IsIn vars (tuples_over n all) → All (λ v. IsIn v all) vars × (length vars ≡ n)
+of_tuples all zero vars h = elim h as (λ _. All (λ v. IsIn v all) vars × (length vars ≡ 0)) [
+  | inl e ↦ subst (λ (t : List VarId). All (λ v. IsIn v all) t × (length t ≡ 0)) (sym e) (All-nil (λ v. IsIn v all), refl)
+  | inr l ↦ absurd l
+]
+of_tuples all (suc n) vars h =
+    let v = of_flat (λ w. map (λ r. w ∷ r) (tuples_over n all)) vars all h in
+    let r = of_map (λ r. v.0 ∷ r) vars (tuples_over n all) v.2 in
+    let rest = of_tuples all n r.0 r.1 in
+    subst (λ (t : List VarId). All (λ w. IsIn w all) t × (length t ≡ suc n)) (sym r.2) (All-cons (λ w. IsIn w all) v.0 r.0 v.1 rest.0, ap suc rest.1)
 
 there : (role : Role) (infos : List VarInfo) (n : ℕ) → suits role (slice_get infos n) ≡ true → n < length infos
 there role [] n s = absurd (false≢true s)

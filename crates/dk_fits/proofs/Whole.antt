@@ -26,7 +26,7 @@ use Rattle.dk_template.specs.declared.grammar.RowId.{RowId}
 use Rattle.dk_template.specs.declared.templates.Role.{Role}
 
 -- ---- one value
-kind_alike : (k l : Kind) → same_kind k l ≡ true → k ≡ l
+pub kind_alike : (k l : Kind) → same_kind k l ≡ true → k ≡ l
 kind_alike kind.Bool kind.Bool e = refl
 kind_alike kind.Int kind.Int e = refl
 kind_alike kind.Hash kind.Hash e = refl
@@ -38,7 +38,7 @@ kind_alike kind.StrSeq kind.StrSeq e = refl
 kind_alike _ _ e = absurd (false≢true e)
 
 -- a value of a kind that isn't missing has the kind
-kind_is : (x : Value) (k : Kind) → is_present x ≡ true → IsOfKind k x → kind_of x ≡ Some k
+pub kind_is : (x : Value) (k : Kind) → is_present x ≡ true → IsOfKind k x → kind_of x ≡ Some k
 kind_is value.Missing k p h = absurd (false≢true p)
 kind_is (value.Bool b) k p h = ap (λ l. Some l) h
 kind_is (value.Int z) k p h = ap (λ l. Some l) h

@@ -1,5 +1,5 @@
 -- What the definitions of fits, counts and instances come to.
-use Rattle.std.specs.Prelude.{◌≡◌, ◌↔◌, ◌<◌, ◌+◌, ◌==◌, ◌||◌, Bool, true, false, not, All, Contains, IsTrue, List, [], ◌++◌, length, if◌then◌else◌}
+use Rattle.std.specs.Prelude.{◌≡◌, ◌↔◌, ◌<◌, ◌+◌, ◌==◌, ◌||◌, Bool, true, false, not, All, Contains, IsTrue, List, [], ◌∷◌, ◌++◌, length, if◌then◌else◌}
 use Rattle.std.specs.List.{AllPairs, AllZip, list_all}
 use Rattle.dk_base.specs.Spelling.{IsWritten}
 use Rattle.dk_base.specs.Values.{IsOfKind}
@@ -11,7 +11,7 @@ use Rattle.dk_forms.specs.declared.states.State.TheVariants.{Empty, Broken, Hold
 use Rattle.dk_fits.specs.Fits.{fit, holds, is_whole, tuple_in, tuples_of}
 use Rattle.dk_fits.specs.Instances.{ComesBefore, IsInstance, instances_of}
 use Rattle.dk_presence.specs.Patterns.{capped, count_of}
-use Rattle.dk_rows.specs.Meanings.{relation_of}
+use Rattle.dk_rows.specs.Meanings.{relation_of, state_of}
 use Rattle.dk_samples.specs.Samples.{Agree}
 use Rattle.dk_template.specs.Admitted.{admits}
 use Rattle.dk_template.specs.Exchange.{exchange, exchanged, turned, written as written_order}
@@ -38,6 +38,18 @@ FitsJoin = (row : RowId) → IsRow row → (vars : List VarId) (first second : L
 -- on the same samples in any order and with any repeats
 abbrev pub FitsAreOfSets : Type 0
 FitsAreOfSets = (row : RowId) → IsRow row → (vars : List VarId) (first second : List (List Value)) → SameSet first second → fit row vars first ≡ fit row vars second
+
+-- a sample more: one in which a variable is missing changes nothing, and any other one joins with its tuple
+abbrev pub SamplesJoinOneByOne : Type 0
+SamplesJoinOneByOne =
+    (row : RowId) → IsRow row → (vars : List VarId) (samples : List (List Value)) (sample : List Value)
+    → fit row vars (samples ++ sample ∷ []) ≡ (if is_whole (tuple_in vars sample) then joined (form_of row) (fit row vars samples) (state_of row (tuple_in vars sample ∷ [])) else fit row vars samples)
+
+-- over variables that have one tuple in all samples
+abbrev pub FitsOfOneTuple : Type 0
+FitsOfOneTuple =
+    (row : RowId) → IsRow row → (vars : List VarId) (tuple : List Value) (samples : List (List Value)) → 0 < length samples → All (λ s. tuple_in vars s ≡ tuple) samples
+    → fit row vars samples ≡ (if is_whole tuple then state_of row (tuple ∷ []) else Empty)
 
 -- one of the variables is missing in the sample, or their values satisfy the row's relation
 abbrev pub satisfies : RowId → List VarId → List Value → Bool

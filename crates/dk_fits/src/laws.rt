@@ -1,5 +1,5 @@
 //! What the definitions of fits, counts and instances come to.
-ghost use Rattle.dk_fits.specs.Laws.{AgreeingVariablesCountAlike, AgreeingVariablesFitAlike, CountsAdd, CountsAreOfTuples, CountsOfNoVariables, FitsAreOfSets, FitsAreProper, FitsJoin, FitsOfNoSamples, FitsTurn, InstancesAreListed, InstancesAscend, PlainFitsTellTheirRelation, PlainRowsHold, SymmetricRowsExchange};
+ghost use Rattle.dk_fits.specs.Laws.{AgreeingVariablesCountAlike, AgreeingVariablesFitAlike, CountsAdd, CountsAreOfTuples, CountsOfNoVariables, FitsAreOfSets, FitsAreProper, FitsJoin, FitsOfNoSamples, FitsOfOneTuple, FitsTurn, InstancesAreListed, InstancesAscend, PlainFitsTellTheirRelation, PlainRowsHold, SamplesJoinOneByOne, SymmetricRowsExchange};
 
 /// A row of the table says of variables what their samples say together: nothing on no samples, on two lists of samples the join of
 /// what it says on each, and the same on the same set of samples.
@@ -7,6 +7,17 @@ pub fn fits_join()
     ensures none { FitsOfNoSamples }
     ensures both { FitsJoin }
     ensures same { FitsAreOfSets }
+{}
+
+/// A sample more changes what a row says of variables only where all of them are present in it: then its tuple joins.
+pub fn samples_join_one_by_one()
+    ensures { SamplesJoinOneByOne }
+{}
+
+/// What a row says of variables that have one tuple in all samples, it says of that tuple. Where one of them is missing it says
+/// nothing.
+pub fn fits_of_one_tuple()
+    ensures { FitsOfOneTuple }
 {}
 
 /// A row with a relation says nothing where its variables are present together in no sample. Else it holds exactly where each sample

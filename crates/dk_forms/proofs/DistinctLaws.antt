@@ -35,7 +35,7 @@ module _ {K : Type 0} {R : K → K → Ordering} (o : IsTotalOrder R) (same : Is
   itself : (x : K) → R x x ≡ Equal
   itself x = tied_itself o x
 
-  put_twice : (x : K) (s : List K) → put R x (put R x s) ≡ put R x s
+  pub put_twice : (x : K) (s : List K) → put R x (put R x s) ≡ put R x s
   put_twice x [] = ap (put R x) (put-nil x) ∙ put-equal x x [] (itself x) ∙ sym (put-nil x)
   put_twice x (z ∷ zs) =
       elim (R x z) as (λ r. R x z ≡ r → put R x (put R x (z ∷ zs)) ≡ put R x (z ∷ zs)) [
@@ -68,7 +68,7 @@ module _ {K : Type 0} {R : K → K → Ordering} (o : IsTotalOrder R) (same : Is
             ∙ sym (ap (put R y) (put-greater x z zs xz) ∙ put-greater y z (put R x zs) zy)
       ] refl
 
-  put_swap : (x y : K) (zs : List K) → put R x (put R y zs) ≡ put R y (put R x zs)
+  pub put_swap : (x y : K) (zs : List K) → put R x (put R y zs) ≡ put R y (put R x zs)
   put_swap x y zs =
       elim (R x y) as (λ r. R x y ≡ r → put R x (put R y zs) ≡ put R y (put R x zs)) [
         | Less ↦ λ e. put_apart x y zs e
@@ -131,7 +131,7 @@ module _ {K : Type 0} {R : K → K → Ordering} (o : IsTotalOrder R) (same : Is
     pub at_most-many : (s : List K) → n < length s → at_most R n s ≡ broken
     at_most-many s h = cond-false (leb (length s) n) (fact s) broken (lt-leb (length s) n h)
 
-    at_most_cases : (s : List K) (P : Type 0) → (length s ≤ n → at_most R n s ≡ fact s → P) → (n < length s → at_most R n s ≡ broken → P) → P
+    pub at_most_cases : (s : List K) (P : Type 0) → (length s ≤ n → at_most R n s ≡ fact s → P) → (n < length s → at_most R n s ≡ broken → P) → P
     at_most_cases s P few many =
         elim (cases_Bool (leb (length s) n)) as (λ _. P) [
           | inl t ↦ let h : length s ≤ n = leb-true (length s) n t in few h (at_most-few s h)

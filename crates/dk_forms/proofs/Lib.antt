@@ -23,3 +23,11 @@ pub mod TruthLaws
 pub mod CodeLaws
 pub mod OffsetLaws
 pub mod Gathering
+pub mod FewStays
+pub mod ModulusStays
+pub mod LineStays
+pub mod Stays
+pub mod SmallNumbers
+pub mod PlaneStays
+pub mod ListStays
+pub mod Geometry

@@ -23,10 +23,10 @@ use Rattle.dk_arith.proofs.TwoPoints.{no_factor, one_line}
 use Rattle.dk_arith.proofs.Ring.{rep, rep-add, rep-mul, rep-sub, same_rep}
 
 -- ---- what the tests decide
-abbrev IsSame : ℤ × ℤ → ℤ × ℤ → Type 0
+abbrev pub IsSame : ℤ × ℤ → ℤ × ℤ → Type 0
 IsSame p q = (p.0 ≡ q.0) × (p.1 ≡ q.1)
 
-decides_same : (p q : ℤ × ℤ) → Decides (same_point p q) (IsSame p q)
+pub decides_same : (p q : ℤ × ℤ) → Decides (same_point p q) (IsSame p q)
 decides_same p q = Decides-and (int_eq p.0 q.0) (int_eq p.1 q.1) (Decides-int_eq p.0 q.0) (Decides-int_eq p.1 q.1)
 
 decides_line : (l m : ℤ × ℤ × ℤ) → Decides (same_line l m) ((l.0 ≡ m.0) × ((l.1 ≡ m.1) × (l.2 ≡ m.2)))
@@ -205,16 +205,16 @@ line_one p = if in_limit p then fact (spot p) else broken
 Decides-leb : (a b : ℕ) → Decides (nat_le a b) (a ≤ b)
 Decides-leb a b = ((λ h. grind arith), (λ h. grind arith))
 
-decides_limit : (p : ℤ × ℤ) → Decides (in_limit p) ((unsigned_abs p.0 ≤ 2 ^ 62) × (unsigned_abs p.1 ≤ 2 ^ 62))
+pub decides_limit : (p : ℤ × ℤ) → Decides (in_limit p) ((unsigned_abs p.0 ≤ 2 ^ 62) × (unsigned_abs p.1 ≤ 2 ^ 62))
 decides_limit p = Decides-and (nat_le (unsigned_abs p.0) (2 ^ 62)) (nat_le (unsigned_abs p.1) (2 ^ 62)) (Decides-leb (unsigned_abs p.0) (2 ^ 62)) (Decides-leb (unsigned_abs p.1) (2 ^ 62))
 
 spot_of_limit : (p : ℤ × ℤ) → in_limit p ≡ true → IsSpot p
 spot_of_limit p e = let h = (decides_limit p).0 e in record { x = h.0; y = h.1 }
 
-one_within : (p : ℤ × ℤ) → in_limit p ≡ true → line_one p ≡ fact (spot p)
+pub one_within : (p : ℤ × ℤ) → in_limit p ≡ true → line_one p ≡ fact (spot p)
 one_within p e = ap (λ b. if b then fact (spot p) else broken) e
 
-one_outside : (p : ℤ × ℤ) → in_limit p ≡ false → line_one p ≡ broken
+pub one_outside : (p : ℤ × ℤ) → in_limit p ≡ false → line_one p ≡ broken
 one_outside p e = ap (λ b. if b then fact (spot p) else broken) e
 
 line_one_fit : (p : ℤ × ℤ) → IfFact IsLine (line_one p)

@@ -98,7 +98,7 @@ below_pos m (negsuc a) h = (m - 1 - a % m, omega arith, refl)
 pub below : (m : ℕ) (x : ℤ) → 0 < m → (k : ℕ) × (k < m) × (remainder m x ≡ pos k)
 below m x h = let b = below_pos m x h in (b.0, b.1, remainder-pos m x h ∙ b.2)
 
-same_small : (m u v : ℕ) → u < m → v < m → m ∣ apart (pos u) (pos v) → u ≡ v
+pub same_small : (m u v : ℕ) → u < m → v < m → m ∣ apart (pos u) (pos v) → u ≡ v
 same_small m u v p q h =
     let lt : apart (pos u) (pos v) < m = omega (arith, ints) in
     let z : apart (pos u) (pos v) ≡ 0 = small_multiple m (apart (pos u) (pos v)) h lt in

@@ -56,3 +56,6 @@ offset_more d ds =
 
 pub offset_summary : SummaryLaws IsOffsetState Empty offset_join offset_of
 offset_summary = summary_from offset_laws (record { none = refl; one = offset_one; more = offset_more })
+
+pub offset_of_proper : (ds : List (Option ℤ)) → IsOffsetState (offset_of ds)
+offset_of_proper ds = offset_summary.proper ds

@@ -1,6 +1,6 @@
 -- A join that is the least upper bound of an order keeps the laws, and so does the state of a list that is the least upper bound of its values.
 use Rattle.std.specs.Prelude.{[], ◌≡◌, List, ◌∷◌, refl}
-use Rattle.std.proofs.Common.{ap, inl, inr}
+use Rattle.std.proofs.Common.{ap, subst, inl, inr}
 use Rattle.dk_forms.specs.Known.{IfFact, Known, both, broken, fact, nothing}
 use Rattle.dk_forms.specs.Laws.{IsIn}
 use Rattle.dk_forms.proofs.Knowns.{MeetLaws}
@@ -166,3 +166,12 @@ module _ {F : Type 0} {Fit : F → Type 0} {Le : F → F → Type 0} {meet : F �
         | inr z ↦ absurd z
       ]))
       (k.least vs all r (λ w i. k.holds w (v ∷ vs) (inr i))))
+
+  -- what changes nothing is what says no more
+  pub meet_stays : (x y : F) → Fit x → Fit y → Le y x → meet x y ≡ fact x
+  meet_stays x y p q le =
+      let j = h.joins x y p q in
+      below-antisymmetric (meet x y) (fact x) j.fit p (j.least x p (h.same x p) le) j.first
+
+  pub meet_says_no_more : (x y : F) → Fit x → Fit y → meet x y ≡ fact x → Le y x
+  meet_says_no_more x y p q e = subst (Below Le (fact y)) e (h.joins x y p q).second

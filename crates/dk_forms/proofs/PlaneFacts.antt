@@ -61,10 +61,10 @@ same_if_zero p q z =
 abbrev pub InHull : ℤ × ℤ × ℤ → ℤ × ℤ × ℤ → ℤ × ℤ × ℤ → Type 0
 InHull p q v = (n : ℤ × ℤ × ℤ × ℤ) → On n p → On n q → On n v
 
-abbrev Aligned : ℤ × ℤ × ℤ → ℤ × ℤ × ℤ → ℤ × ℤ × ℤ → Type 0
+abbrev pub Aligned : ℤ × ℤ × ℤ → ℤ × ℤ × ℤ → ℤ × ℤ × ℤ → Type 0
 Aligned p q v = AreParallel (minus q p) (minus v p)
 
-decides_aligned : (p q v : ℤ × ℤ × ℤ) → Decides (are_aligned p q v) (Aligned p q v)
+pub decides_aligned : (p q v : ℤ × ℤ × ℤ) → Decides (are_aligned p q v) (Aligned p q v)
 decides_aligned p q v =
     let u = minus q p in
     let f = minus v p in
@@ -78,7 +78,7 @@ decides_on : (n : ℤ × ℤ × ℤ × ℤ) (p : ℤ × ℤ × ℤ) → Decides 
 decides_on n p = Decides-int_eq (n.0 *ℤ p.0 +ℤ n.1 *ℤ p.1 +ℤ n.2 *ℤ p.2) (neg_ℤ n.3)
 
 -- a point between two others on their line lies in each plane of them
-hull_from_aligned : (p q v : ℤ × ℤ × ℤ) → Aligned p q v → Before p v → Before v q → InHull p q v
+pub hull_from_aligned : (p q v : ℤ × ℤ × ℤ) → Aligned p q v → Before p v → Before v q → InHull p q v
 hull_from_aligned p q v a pv vq n hp hq =
     elim (zero_cases (minus q p)) as (λ _. On n v) [
       | inl z ↦ let e = same_if_zero p q z in subst (On n) (before_antisymmetric p v pv (subst (Before v) e vq)) hp
@@ -128,7 +128,7 @@ zero_parallel u f x y z = record {
 }
 
 -- three points of a hull are on one line
-aligned_in_hull : (r t p q v : ℤ × ℤ × ℤ) → InHull r t p → InHull r t q → InHull r t v → Aligned p q v
+pub aligned_in_hull : (r t p q v : ℤ × ℤ × ℤ) → InHull r t p → InHull r t q → InHull r t v → Aligned p q v
 aligned_in_hull r t p q v hp hq hv =
     let e = minus t r in
     elim (zero_cases e) as (λ _. Aligned p q v) [
@@ -262,7 +262,7 @@ flat_transitive (plane n) (plane m) (span t) f g h k e = absurd e
 flat_transitive (plane n) (plane m) (plane l) f g h k e = k ∙ e
 
 -- ---- the state of some points
-abbrev point : ℤ × ℤ × ℤ → Flat
+abbrev pub point : ℤ × ℤ × ℤ → Flat
 point v = span (v, v)
 
 abbrev Knows : List (ℤ × ℤ × ℤ) → Known Flat → Type 0
@@ -439,7 +439,7 @@ plane_hull = record { same = flat_same; antisymmetric = flat_antisymmetric; tran
 Decides-nat_le : (a b : ℕ) → Decides (nat_le a b) (a ≤ b)
 Decides-nat_le a b = ((λ h. grind arith), (λ h. grind arith))
 
-point_of_limit : (p : ℤ × ℤ × ℤ) → in_space p ≡ true → IsPoint p
+pub point_of_limit : (p : ℤ × ℤ × ℤ) → in_space p ≡ true → IsPoint p
 point_of_limit p e =
     let x = nat_le (unsigned_abs p.0) (2 ^ 30) in let y = nat_le (unsigned_abs p.1) (2 ^ 30) in let z = nat_le (unsigned_abs p.2) (2 ^ 30) in
     let d = Decides-and x (y && z) (Decides-nat_le (unsigned_abs p.0) (2 ^ 30)) (Decides-and y z (Decides-nat_le (unsigned_abs p.1) (2 ^ 30)) (Decides-nat_le (unsigned_abs p.2) (2 ^ 30))) in

@@ -17,3 +17,4 @@ pub mod Truth
 pub mod Code
 pub mod Offset
 pub mod Copies
+pub mod Geometry

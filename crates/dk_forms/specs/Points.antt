@@ -2,6 +2,7 @@
 use Rattle.dk_arith.specs.declared.exact.Direction.{Direction}
 use Rattle.dk_forms.specs.declared.plane.Point.{Point}
 use Rattle.dk_forms.specs.declared.plane.Plane.{Plane}
+use Rattle.dk_forms.specs.declared.small.Step.{Step}
 use Rattle.std.specs.Prelude.{ℤ, unsigned_abs, ◌≤◌, ◌^◌}
 
 abbrev pub triple : Point → ℤ × ℤ × ℤ
@@ -12,6 +13,9 @@ quadruple n = (n.a, n.b, n.c, n.d)
 
 abbrev pub direction : Direction → ℤ × ℤ × ℤ
 direction u = (u.a, u.b, u.c)
+
+abbrev pub step : Step → ℤ × ℤ × ℤ
+step u = (u.a, u.b, u.c)
 
 -- as a difference of points has it
 pub record IsGap (u : ℤ × ℤ × ℤ) : Type 0 where

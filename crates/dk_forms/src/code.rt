@@ -1,5 +1,5 @@
 // The form code: the hash code, if there is only one.
-ghost use Rattle.std.specs.Prelude.{◌≡◌, nat_eq};
+ghost use Rattle.std.specs.Prelude.{◌≡◌, ◌↔◌, [], ◌∷◌, nat_eq, IsTrue};
 ghost use Rattle.std.specs.List.{list_all};
 ghost use Rattle.dk_forms.specs.Code.{IsCodeState, code_join, code_of};
 
@@ -48,5 +48,32 @@ pub fn join_code(left: State, right: &State) -> State
             _ => State::Broken,
         },
         _ => State::Broken,
+    }
+}
+
+/// Whether a value leaves the state as it is.
+#[inline]
+pub fn code_stays(state: &State, value: u64) -> bool
+    requires { IsCodeState state.now }
+    ensures { IsTrue result ↔ (code_join state.now (code_of (value ∷ [])) ≡ state.now) }
+{
+    match state {
+        State::Code(only) => *only == value,
+        _ => matches!(state, State::Broken),
+    }
+}
+
+/// Whether some values leave the state as it is.
+pub fn code_all_stay(state: &State, values: &[u64]) -> bool
+    requires { IsCodeState state.now }
+    ensures { IsTrue result ↔ (code_join state.now (code_of values.now) ≡ state.now) }
+{
+    match values {
+        [] => true,
+        [v, rest @ ..] => if code_stays(state, *v) {
+            code_all_stay(state, rest)
+        } else {
+            false
+        },
     }
 }

@@ -1,5 +1,5 @@
 // The form greatest: the greatest of the values.
-ghost use Rattle.std.specs.Prelude.{◌≡◌, fold};
+ghost use Rattle.std.specs.Prelude.{◌≡◌, ◌↔◌, [], ◌∷◌, fold, IsTrue};
 ghost use Rattle.std.specs.Int.{int_max};
 ghost use Rattle.dk_forms.specs.Greatest.{IsGreatestState, greatest_join, greatest_of};
 
@@ -39,5 +39,32 @@ pub fn join_greatest(left: State, right: &State) -> State
             _ => State::Broken,
         },
         _ => State::Broken,
+    }
+}
+
+/// Whether a value leaves the state as it is.
+#[inline]
+pub fn greatest_stays(state: &State, x: i64) -> bool
+    requires { IsGreatestState state.now }
+    ensures { IsTrue result ↔ (greatest_join state.now (greatest_of (x ∷ [])) ≡ state.now) }
+{
+    match state {
+        State::Greatest(greatest) => x <= *greatest,
+        _ => matches!(state, State::Broken),
+    }
+}
+
+/// Whether some values leave the state as it is.
+pub fn greatest_all_stay(state: &State, values: &[i64]) -> bool
+    requires { IsGreatestState state.now }
+    ensures { IsTrue result ↔ (greatest_join state.now (greatest_of values.now) ≡ state.now) }
+{
+    match values {
+        [] => true,
+        [v, rest @ ..] => if greatest_stays(state, *v) {
+            greatest_all_stay(state, rest)
+        } else {
+            false
+        },
     }
 }

@@ -1,6 +1,7 @@
 // The form few integers: the distinct values, ascending, if they are at most three.
-ghost use Rattle.std.specs.Prelude.{◌≡◌, ◌<◌, ◌≤◌, length, MatchOption};
-ghost use Rattle.std.specs.Ordering.{int_cmp};
+ghost use Rattle.std.specs.Prelude.{◌≡◌, ◌↔◌, [], ◌∷◌, IsTrue, ◌<◌, ◌≤◌, length, MatchOption};
+ghost use Rattle.std.specs.List.{list_any};
+ghost use Rattle.std.specs.Ordering.{int_cmp, int_eq};
 ghost use Rattle.dk_forms.specs.Distinct.{put, few_meet};
 ghost use Rattle.dk_forms.specs.Place.{IsPlace};
 ghost use Rattle.dk_forms.specs.Ints.{ints_state, ints_join, ints_of, IsIntsState};
@@ -85,5 +86,40 @@ pub fn ints_point(alloc: Global, values: &[i64]) -> State
         State::Empty
     } else {
         union(values, Few::of(alloc, &[]))
+    }
+}
+
+// Whether a number is one of these.
+fn has_number(few: &Few, x: i64) -> bool
+    ensures { result ≡ list_any (int_eq x) few.now }
+{
+    few.as_slice().iter().any(|y| x == *y)
+}
+
+/// Whether a value leaves the state as it is.
+#[inline]
+#[tactic(auto, using(crate::proofs::FewStays::ints_stay))]
+pub fn ints_stays(state: &State, x: i64) -> bool
+    requires { IsIntsState state.now }
+    ensures { IsTrue result ↔ (ints_join state.now (ints_of (x ∷ [])) ≡ state.now) }
+{
+    match state {
+        State::Ints(few) => has_number(few, x),
+        _ => matches!(state, State::Broken),
+    }
+}
+
+/// Whether some values leave the state as it is.
+pub fn ints_all_stay(state: &State, values: &[i64]) -> bool
+    requires { IsIntsState state.now }
+    ensures { IsTrue result ↔ (ints_join state.now (ints_of values.now) ≡ state.now) }
+{
+    match values {
+        [] => true,
+        [v, rest @ ..] => if ints_stays(state, *v) {
+            ints_all_stay(state, rest)
+        } else {
+            false
+        },
     }
 }

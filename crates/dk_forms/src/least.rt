@@ -1,5 +1,5 @@
 // The form least: the least of the values.
-ghost use Rattle.std.specs.Prelude.{◌≡◌, fold};
+ghost use Rattle.std.specs.Prelude.{◌≡◌, ◌↔◌, [], ◌∷◌, fold, IsTrue};
 ghost use Rattle.std.specs.Int.{int_min};
 ghost use Rattle.dk_forms.specs.Least.{IsLeastState, least_join, least_of};
 
@@ -39,5 +39,32 @@ pub fn join_least(left: State, right: &State) -> State
             _ => State::Broken,
         },
         _ => State::Broken,
+    }
+}
+
+/// Whether a value leaves the state as it is.
+#[inline]
+pub fn least_stays(state: &State, x: i64) -> bool
+    requires { IsLeastState state.now }
+    ensures { IsTrue result ↔ (least_join state.now (least_of (x ∷ [])) ≡ state.now) }
+{
+    match state {
+        State::Least(least) => *least <= x,
+        _ => matches!(state, State::Broken),
+    }
+}
+
+/// Whether some values leave the state as it is.
+pub fn least_all_stay(state: &State, values: &[i64]) -> bool
+    requires { IsLeastState state.now }
+    ensures { IsTrue result ↔ (least_join state.now (least_of values.now) ≡ state.now) }
+{
+    match values {
+        [] => true,
+        [v, rest @ ..] => if least_stays(state, *v) {
+            least_all_stay(state, rest)
+        } else {
+            false
+        },
     }
 }

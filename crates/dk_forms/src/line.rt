@@ -1,9 +1,9 @@
 // The form line: the point, or the line through all points.
-ghost use Rattle.std.specs.Prelude.{◌≡◌, false, ◌≤◌, ◌^◌, ℤ, pos, unsigned_abs, [], ◌∷◌};
+ghost use Rattle.std.specs.Prelude.{◌≡◌, ◌↔◌, ◌&&◌, false, ◌≤◌, ◌^◌, ℤ, pos, unsigned_abs, [], ◌∷◌, nat_le, IsTrue};
 ghost use Rattle.dk_forms.specs.Known.{fact};
-ghost use Rattle.dk_forms.specs.Line.{straight, same_point, is_on, through, IsSpot, IsStraight, IsLineState, line_state, line_join, line_of};
+ghost use Rattle.dk_forms.specs.Line.{straight, in_limit, same_point, is_on, through, IsSpot, IsStraight, IsLineState, line_state, line_join, line_of};
 
-use crate::State;
+use crate::{State, small};
 use dk_arith::{lowest, minus, value_at};
 
 /// Whether the point lies on the line. It is exact.
@@ -127,5 +127,61 @@ fn join_straights(a: i128, b: i128, c: i128, k: i128, l: i128, m: i128) -> State
         State::Straight { a, b, c }
     } else {
         State::Broken
+    }
+}
+
+fn is_near(x: i64) -> bool
+    ensures { result ≡ nat_le (unsigned_abs x) (2 ^ 62) }
+{
+    -(1 << 62) <= x && x <= 1 << 62
+}
+
+fn in_limit(x: i64, y: i64) -> bool
+    ensures { result ≡ in_limit (x, y) }
+{
+    is_near(x) && is_near(y)
+}
+
+// Whether the point lies on the line and isn't beyond the limit.
+#[inline(never)]
+fn wide_meet(a: i128, b: i128, c: i128, x: i64, y: i64) -> bool
+    requires { IsStraight (a, b, c) }
+    ensures { result ≡ (in_limit (x, y) && is_on (a, b, c) (x, y)) }
+{
+    if in_limit(x, y) {
+        on_line(a, b, c, x, y)
+    } else {
+        false
+    }
+}
+
+fn is_small(x: i64) -> bool
+    ensures { IsTrue result → unsigned_abs x ≤ 2 ^ 30 }
+{
+    -(1 << 30) <= x && x < 1 << 30
+}
+
+// The same, in 64 bits where the numbers are small, as they mostly are.
+fn has_point(a: i128, b: i128, c: i128, x: i64, y: i64) -> bool
+    requires { IsStraight (a, b, c) }
+    ensures { result ≡ (in_limit (x, y) && is_on (a, b, c) (x, y)) }
+{
+    if small::is_factor(a) && small::is_factor(b) && is_small(x) && is_small(y) {
+        small::is_level(a as i64, b as i64, c, x, y)
+    } else {
+        wide_meet(a, b, c, x, y)
+    }
+}
+
+/// Whether a point leaves the state as it is.
+#[inline]
+pub fn line_stays(state: &State, x: i64, y: i64) -> bool
+    requires { IsLineState state.now }
+    ensures { IsTrue result ↔ (line_join state.now (line_of ((x, y) ∷ [])) ≡ state.now) }
+{
+    match state {
+        State::Spot { x: u, y: v } => is_same(*u, *v, x, y),
+        State::Straight { a, b, c } => has_point(*a, *b, *c, x, y),
+        _ => matches!(state, State::Broken),
     }
 }

@@ -1,5 +1,6 @@
 // The form modulus: the remainder that the values share by the greatest common divisor of their differences.
-ghost use Rattle.std.specs.Prelude.{◌≡◌, [], ◌∷◌, ◌<◌, pos, IsTrue};
+ghost use Rattle.std.specs.Prelude.{◌≡◌, ◌↔◌, [], ◌∷◌, ◌<◌, pos, IsTrue};
+ghost use Rattle.std.specs.Ordering.{int_eq};
 ghost use Rattle.dk_forms.specs.Modulus.{IsModulusState, class, modulus_join, modulus_of, modulus_state, remainder};
 
 use crate::State;
@@ -152,5 +153,33 @@ pub fn join_modulus(left: State, right: &State) -> State
         left
     } else {
         joined_modulus(left, right)
+    }
+}
+
+fn is_value(v: i64, w: i64) -> bool
+    ensures { result ≡ int_eq v w }
+{
+    v == w
+}
+
+// Whether a value leaves the remainder r by a modulus.
+fn leaves(m: u64, r: u64, x: i64) -> bool
+    requires { 0 < m }
+    ensures { IsTrue result ↔ (remainder m x ≡ pos r) }
+{
+    remainder_of(m, x) == r
+}
+
+/// Whether a value leaves the state as it is.
+#[inline]
+#[tactic(auto, using(crate::proofs::ModulusStays::empty_moves, crate::proofs::ModulusStays::one_stays, crate::proofs::ModulusStays::class_stays))]
+pub fn modulus_stays(state: &State, x: i64) -> bool
+    requires { IsModulusState state.now }
+    ensures { IsTrue result ↔ (modulus_join state.now (modulus_of (x ∷ [])) ≡ state.now) }
+{
+    match state {
+        State::One(v) => is_value(*v, x),
+        State::Modulus { m, r } => leaves(*m, *r, x),
+        _ => matches!(state, State::Broken),
     }
 }

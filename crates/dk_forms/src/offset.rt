@@ -1,5 +1,5 @@
 // The form offset: the number by which each element of the second sequence is greater than its partner in the first.
-ghost use Rattle.std.specs.Prelude.{◌≡◌};
+ghost use Rattle.std.specs.Prelude.{◌≡◌, ◌↔◌, IsTrue};
 ghost use Rattle.dk_forms.specs.Offset.{IsOffsetState, offset_join};
 
 use crate::State;
@@ -24,5 +24,21 @@ pub fn join_offset(left: State, right: &State) -> State
             _ => State::Broken,
         },
         _ => State::Broken,
+    }
+}
+
+/// Whether a state that is known leaves another as it is.
+pub fn offset_stays(state: &State, point: &State) -> bool
+    requires state { IsOffsetState state.now }
+    requires point { IsOffsetState point.now }
+    ensures { IsTrue result ↔ (offset_join state.now point.now ≡ state.now) }
+{
+    match point {
+        State::Empty => true,
+        State::Offset { k: l } => match state {
+            State::Offset { k } => *k == *l,
+            _ => matches!(state, State::Broken),
+        },
+        _ => matches!(state, State::Broken),
     }
 }

@@ -1,5 +1,5 @@
 // The form plain: whether each tuple satisfies the relation.
-ghost use Rattle.std.specs.Prelude.{◌≡◌, [], ◌∷◌};
+ghost use Rattle.std.specs.Prelude.{◌≡◌, ◌↔◌, [], ◌∷◌, IsTrue};
 ghost use Rattle.dk_forms.specs.Plain.{IsPlainState, plain_join, plain_of};
 
 use crate::State;
@@ -24,5 +24,17 @@ pub fn join_plain(left: State, right: &State) -> State
             _ => State::Broken,
         },
         _ => State::Broken,
+    }
+}
+
+/// Whether a tuple, which satisfies the relation or not, leaves the state as it is.
+#[inline]
+pub fn plain_stays(state: &State, holds: bool) -> bool
+    requires { IsPlainState state.now }
+    ensures { IsTrue result ↔ (plain_join state.now (plain_of (holds ∷ [])) ≡ state.now) }
+{
+    match state {
+        State::Holds => holds,
+        _ => matches!(state, State::Broken),
     }
 }

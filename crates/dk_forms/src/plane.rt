@@ -1,12 +1,13 @@
 // The form plane: the stretch of a line that all points lie on, or the plane through all points.
-ghost use Rattle.std.specs.Prelude.{◌≡◌, ◌≤◌, ◌^◌, ℤ, pos, false, unsigned_abs, [], ◌∷◌, map};
+ghost use Rattle.std.specs.Prelude.{◌≡◌, ◌↔◌, ◌&&◌, ◌≤◌, ◌^◌, ℤ, pos, false, unsigned_abs, [], ◌∷◌, map, nat_le, IsTrue};
 ghost use Rattle.dk_forms.specs.Known.{fact, both};
 ghost use Rattle.dk_arith.specs.Vectors.{minus, cross};
 ghost use Rattle.dk_forms.specs.Plane.{span, plane, plane_meet, in_space, plane_between, plane_across, first_off, are_parallel, is_before, lesser, greater, are_aligned, is_in_plane, plane_through, IsPoint, IsSpan, IsPlane, plane_from, IsPlaneState, plane_state, plane_known, plane_join, plane_of};
-ghost use Rattle.dk_forms.specs.Points.{triple, quadruple, direction, IsGap};
+ghost use Rattle.dk_forms.specs.Points.{triple, quadruple, direction, step, IsGap};
 ghost use Rattle.std.specs.List.{list_all, All};
 
 use crate::State;
+use crate::small::{self, Step};
 use dk_arith::{Direction, area, lowest, minus, same_products, value_in_space};
 
 /// A point in space.
@@ -442,4 +443,144 @@ pub fn join_plane(left: State, right: &State) -> State
     ensures formed { IsPlaneState result }
 {
     joined_plane(left, right)
+}
+
+// Whether the point lies in the plane, in 64 bits where its factors are small, as they mostly are.
+fn has_point(n: Plane, p: Point) -> bool
+    requires n { IsPlane (quadruple n) }
+    requires p { IsPoint (triple p) }
+    ensures { result ≡ is_in_plane (quadruple n) (triple p) }
+{
+    if small::is_factor(n.a) && small::is_factor(n.b) && small::is_factor(n.c) {
+        small::is_flat(n.a as i64, n.b as i64, n.c as i64, n.d, p.x, p.y, p.z)
+    } else {
+        wide_meet(n.a, n.b, n.c, n.d, p.x, p.y, p.z)
+    }
+}
+
+// It takes numbers and no structs, so that the common case stores none.
+#[inline(never)]
+fn wide_meet(a: i128, b: i128, c: i128, d: i128, x: i64, y: i64, z: i64) -> bool
+    requires n { IsPlane (a, b, c, d) }
+    requires p { IsPoint (x, y, z) }
+    ensures { result ≡ is_in_plane (a, b, c, d) (x, y, z) }
+{
+    is_in_plane(Plane { a, b, c, d }, Point { x, y, z })
+}
+
+// The same of a point that may be beyond the limit.
+#[tactic(auto, using(crate::proofs::PlaneFacts::point_of_limit))]
+fn plane_has(n: Plane, p: Point) -> bool
+    requires n { IsPlane (quadruple n) }
+    ensures { result ≡ (in_space (triple p) && is_in_plane (quadruple n) (triple p)) }
+{
+    if is_point(p) { has_point(n, p) } else { false }
+}
+
+// From p to q.
+fn step(p: Point, q: Point) -> Step
+    requires p { IsPoint (triple p) }
+    requires q { IsPoint (triple q) }
+    ensures value { step result ≡ minus (triple q) (triple p) }
+    ensures small { IsGap (step result) }
+{
+    Step {
+        a: small::distance(q.x, p.x),
+        b: small::distance(q.y, p.y),
+        c: small::distance(q.z, p.z),
+    }
+}
+
+// Whether the three points lie on one line, in 64 bits.
+fn are_on_line(p: Point, q: Point, v: Point) -> bool
+    requires p { IsPoint (triple p) }
+    requires q { IsPoint (triple q) }
+    requires v { IsPoint (triple v) }
+    ensures { result ≡ are_aligned (triple p) (triple q) (triple v) }
+{
+    small::are_parallel(step(p, q), step(p, v))
+}
+
+// Whether v lies on the line of p and q, and between them.
+fn is_between(p: Point, q: Point, v: Point) -> bool
+    requires p { IsPoint (triple p) }
+    requires q { IsPoint (triple q) }
+    requires v { IsPoint (triple v) }
+    ensures { result ≡ (is_before (triple p) (triple v) && (is_before (triple v) (triple q) && are_aligned (triple p) (triple q) (triple v))) }
+{
+    if is_before(p, v) {
+        if is_before(v, q) {
+            are_on_line(p, q, v)
+        } else {
+            false
+        }
+    } else {
+        false
+    }
+}
+
+fn is_near(x: i64) -> bool
+    ensures { result ≡ nat_le (unsigned_abs x) (2 ^ 30) }
+{
+    -(1 << 30) <= x && x <= 1 << 30
+}
+
+fn is_point(p: Point) -> bool
+    ensures { result ≡ in_space (triple p) }
+{
+    is_near(p.x) && is_near(p.y) && is_near(p.z)
+}
+
+// The same of a point that may be beyond the limit.
+#[tactic(auto, using(crate::proofs::PlaneFacts::point_of_limit))]
+fn span_has(p: Point, q: Point, v: Point) -> bool
+    requires { IsSpan (triple p, triple q) }
+    ensures { result ≡ (in_space (triple v) && (is_before (triple p) (triple v) && (is_before (triple v) (triple q) && are_aligned (triple p) (triple q) (triple v)))) }
+{
+    if is_point(v) {
+        is_between(p, q, v)
+    } else {
+        false
+    }
+}
+
+/// Whether a point leaves the state as it is.
+#[inline]
+#[tactic(auto, using(crate::proofs::PlaneStays::empty_moves))]
+pub fn plane_stays(state: &State, x: i64, y: i64, z: i64) -> bool
+    requires { IsPlaneState state.now }
+    ensures { IsTrue result ↔ (plane_join state.now (plane_of ((x, y, z) ∷ [])) ≡ state.now) }
+{
+    match state {
+        State::Span {
+            x1,
+            y1,
+            z1,
+            x2,
+            y2,
+            z2,
+        } => span_has(
+            Point {
+                x: *x1,
+                y: *y1,
+                z: *z1,
+            },
+            Point {
+                x: *x2,
+                y: *y2,
+                z: *z2,
+            },
+            Point { x, y, z },
+        ),
+        State::Plane { a, b, c, d } => plane_has(
+            Plane {
+                a: *a,
+                b: *b,
+                c: *c,
+                d: *d,
+            },
+            Point { x, y, z },
+        ),
+        _ => matches!(state, State::Broken),
+    }
 }

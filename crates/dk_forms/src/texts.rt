@@ -1,6 +1,8 @@
 // The form few texts: the distinct values, ascending by their bytes, if they are at most three.
-ghost use Rattle.std.specs.Prelude.{◌≡◌, ◌<◌, ◌≤◌, [], ◌∷◌, length, insert, map, IfOk, MatchOption};
+ghost use Rattle.std.specs.Prelude.{◌≡◌, ◌↔◌, ◌<◌, ◌≤◌, [], ◌∷◌, length, insert, map, IfOk, IsTrue, MatchOption};
+ghost use Rattle.std.specs.List.{list_any};
 ghost use Rattle.std.specs.Ordering.{nat_cmp};
+ghost use Rattle.std.specs.Str.{bytes_eq};
 ghost use Rattle.std.specs.Cmp.Lexicographic.{slice_cmp};
 ghost use Rattle.dk_forms.specs.Distinct.{few_meet, put};
 ghost use Rattle.dk_forms.specs.Place.{IsTextPlace};
@@ -143,5 +145,40 @@ pub fn join_texts(alloc: Global, left: State, right: &State) -> Result<State, No
             _ => Ok(State::Broken),
         },
         _ => Ok(State::Broken),
+    }
+}
+
+// Whether a text is one of these.
+fn has_text(texts: &[Text], x: &[u8]) -> bool
+    ensures { result ≡ list_any (bytes_eq x.now) texts.now }
+{
+    texts.iter().any(|y| x == y.as_slice())
+}
+
+/// Whether a value leaves the state as it is. No text is made.
+#[inline]
+#[tactic(auto, using(crate::proofs::FewStays::texts_stay))]
+pub fn text_stays(state: &State, value: &[u8]) -> bool
+    requires { IsTextsState state.now }
+    ensures { IsTrue result ↔ (texts_join state.now (texts_of (value.now ∷ [])) ≡ state.now) }
+{
+    match state {
+        State::Texts(texts) => has_text(texts.as_slice(), value),
+        _ => matches!(state, State::Broken),
+    }
+}
+
+/// Whether some values leave the state as it is. No text is made.
+pub fn texts_all_stay(state: &State, values: &[&[u8]]) -> bool
+    requires { IsTextsState state.now }
+    ensures { IsTrue result ↔ (texts_join state.now (texts_of (map (λ t. t.now) values.now)) ≡ state.now) }
+{
+    match values {
+        [] => true,
+        [v, rest @ ..] => if text_stays(state, v) {
+            texts_all_stay(state, rest)
+        } else {
+            false
+        },
     }
 }

@@ -1,5 +1,5 @@
 // The form truth: the truth value, if there is only one.
-ghost use Rattle.std.specs.Prelude.{◌≡◌};
+ghost use Rattle.std.specs.Prelude.{◌≡◌, ◌↔◌, [], ◌∷◌, IsTrue};
 ghost use Rattle.std.specs.List.{list_all};
 ghost use Rattle.std.proofs.Math.Bool.{beq};
 ghost use Rattle.dk_forms.specs.Truth.{IsTruthState, truth_join, truth_of};
@@ -49,5 +49,32 @@ pub fn join_truth(left: State, right: &State) -> State
             _ => State::Broken,
         },
         _ => State::Broken,
+    }
+}
+
+/// Whether a value leaves the state as it is.
+#[inline]
+pub fn truth_stays(state: &State, value: bool) -> bool
+    requires { IsTruthState state.now }
+    ensures { IsTrue result ↔ (truth_join state.now (truth_of (value ∷ [])) ≡ state.now) }
+{
+    match state {
+        State::Truth(only) => *only == value,
+        _ => matches!(state, State::Broken),
+    }
+}
+
+/// Whether some values leave the state as it is.
+pub fn truth_all_stay(state: &State, values: &[bool]) -> bool
+    requires { IsTruthState state.now }
+    ensures { IsTrue result ↔ (truth_join state.now (truth_of values.now) ≡ state.now) }
+{
+    match values {
+        [] => true,
+        [v, rest @ ..] => if truth_stays(state, *v) {
+            truth_all_stay(state, rest)
+        } else {
+            false
+        },
     }
 }

@@ -4,6 +4,7 @@ use Rattle.std.proofs.lemmas.Bool.{cases_eq}
 use Rattle.std.proofs.lemmas.Bool.Decides.{nat_tests}
 use Rattle.std.proofs.lemmas.List.Elements.{All-head, All-tail}
 use Rattle.std.proofs.lemmas.List.Sums.{sum_by-cons}
+use Rattle.dk_lines.specs.Laws.{WholeFileHasItsLines}
 use Rattle.dk_lines.specs.Left.{Left, Next, Piece, onto_first, pieces, size_of, without_cr, lines_of, numbered, is_long, is_over, lined_by, lined}
 use Rattle.dk_lines.proofs.Lined.{pieces_lf, pieces_other}
 
@@ -39,8 +40,6 @@ kept limit room n (p ∷ ps) all sum =
     ∙ ap (λ (l : Left). Next (record { number = n + 1; bytes = without_cr p.bytes }) l)
     (kept limit (room - size_of p) (n + 1) ps (All-tail (λ p. length p.bytes ≤ limit) p ps all) (omega (arith, sum_by-cons size_of p ps)))
 
--- An ended file whose lines and bytes keep the limits has its lines, numbered one after another, and nothing else.
-pub whole_file : (limit room n : ℕ) (bytes : List ℕ) → All (λ p. length p.bytes ≤ limit) (pieces bytes) → length bytes ≤ room
-    → lined limit room n true bytes ≡ numbered n (lines_of bytes)
+pub whole_file : WholeFileHasItsLines
 unfolding lined
 whole_file limit room n bytes all fits = kept limit room n (pieces bytes) all (omega (arith, size_all bytes))

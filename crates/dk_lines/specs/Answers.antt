@@ -21,7 +21,7 @@ Counts old (Ok None) new = (new.is_started ≡ false) × (new.total ≡ old.tota
 Counts old (Err fault.Read) new = (new.is_started ≡ false) × (new.ahead ≡ []) × (old.total ≤ new.total)
 Counts old (Err (fault.LongLine n)) new = (n ≡ old.number + 1) × (new.is_started ≡ false) × (new.total ≡ min (old.total + old.limits.line + 1) (old.limits.total + 1))
 Counts old (Err (fault.TooLong n)) new = (n ≡ old.number + 1) × (new.is_started ≡ false) × (new.total ≡ old.limits.total + 1)
-Counts old (Err fault.NoMemory) new = new.is_started ≡ false
+Counts old (Err fault.NoMemory) new = (new.is_started ≡ false) × (old.total ≤ new.total)
 
 -- What an answer says where the bytes xs were left, and what is left now: the next line; that nothing was left; that reading failed,
 -- and the bytes that were delivered hold no whole line and no byte too many; or that a byte is too many, however the file ends.

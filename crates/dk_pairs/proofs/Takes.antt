@@ -68,3 +68,7 @@ unfolding rows
 subset_form subset.Int = refl
 subset_form subset.Hash = refl
 subset_form subset.Str = refl
+
+pub offset_form : form_of offset_row ≡ form.Offset
+unfolding rows
+offset_form = refl

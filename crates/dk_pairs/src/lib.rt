@@ -13,7 +13,7 @@ pub use equality::EqualSequences;
 pub use membership::Member;
 pub use offsets::PairOffset;
 pub use partners::Partners;
-pub use rows::{join, point};
+pub use rows::{join, point, stays};
 pub use subsets::Subset;
 
 #[cfg(test)]

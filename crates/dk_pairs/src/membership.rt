@@ -8,7 +8,7 @@ ghost use Rattle.dk_template.specs.Rows.{IsTuple};
 
 use crate::rows::join;
 use dk_base::{NoMemory, View, hash_at, hashes_at, int_at, ints_at, text_at, texts_at};
-use dk_forms::plain_point;
+use dk_forms::{plain_point, plain_stays};
 use dk_template::{Row, RowId, State};
 use std::alloc::Global;
 
@@ -79,5 +79,9 @@ impl Row for Member {
 
     fn join(&self, alloc: Global, a: State, b: &State) -> Result<State, NoMemory> {
         join(alloc, self.row(), a, b)
+    }
+
+    fn stays(&self, state: &State, tuple: &[View<'_>]) -> bool {
+        plain_stays(state, self.holds(tuple))
     }
 }

@@ -1,14 +1,15 @@
 // The row of the offset of two sequences.
-ghost use Rattle.std.specs.Prelude.{◌≡◌, ◌∷◌, []};
+ghost use Rattle.std.specs.Prelude.{◌≡◌, ◌↔◌, ◌∷◌, [], IsTrue};
 ghost use Rattle.dk_base.specs.Tuples.{ints_of, value_at};
 ghost use Rattle.dk_base.specs.Values.{values_of};
 ghost use Rattle.dk_base.specs.declared.kinds.Kind.TheVariants as kind;
-ghost use Rattle.dk_forms.specs.Offset.{differences, offset_of};
+ghost use Rattle.dk_forms.specs.Offset.{IsOffsetState, differences, offset_join, offset_of};
 ghost use Rattle.dk_pairs.specs.Rows.{offset_row};
 ghost use Rattle.dk_template.specs.Rows.{IsTuple};
 
 use crate::rows::join;
 use dk_base::{NoMemory, View, ints_at};
+use dk_forms::offset_stays;
 use dk_lanes::{Shift, offset};
 use dk_template::{Row, RowId, State};
 use std::alloc::Global;
@@ -45,6 +46,17 @@ fn state_of_one(tuple: &[View<'_>]) -> State
     state_of_pair(ints_at(tuple, 0), ints_at(tuple, 1))
 }
 
+// Whether one tuple leaves the state as it is.
+#[tactic(auto, using(dk_forms::proofs::OffsetLaws::offset_of_proper))]
+fn one_stays(state: &State, tuple: &[View<'_>]) -> bool
+    requires state { IsOffsetState state.now }
+    requires tuple { IsTuple (kind.IntSeq ∷ kind.IntSeq ∷ []) (values_of tuple.now) }
+    ensures { IsTrue result ↔ (offset_join state.now (offset_of (differences (ints_of (value_at (values_of tuple.now) 0)) (ints_of (value_at (values_of tuple.now) 1)))) ≡ state.now) }
+{
+    let point = state_of_one(tuple);
+    offset_stays(state, &point)
+}
+
 impl Row for PairOffset {
     ghost use Rattle.dk_pairs.specs.Rows.{offset_is_row, offset_row};
     ghost use Rattle.dk_rows.proofs.RowLaws.{laws_by};
@@ -65,5 +77,9 @@ impl Row for PairOffset {
 
     fn join(&self, alloc: Global, a: State, b: &State) -> Result<State, NoMemory> {
         join(alloc, self.row(), a, b)
+    }
+
+    fn stays(&self, state: &State, tuple: &[View<'_>]) -> bool {
+        one_stays(state, tuple)
     }
 }

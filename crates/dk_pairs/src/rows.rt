@@ -1,5 +1,5 @@
 // The rows of a value and a sequence and of two sequences by their numbers.
-ghost use Rattle.std.specs.Prelude.{◌≡◌, [], ◌∷◌, IfOk, OnErr};
+ghost use Rattle.std.specs.Prelude.{◌≡◌, ◌↔◌, [], ◌∷◌, IfOk, IsTrue, OnErr};
 ghost use Rattle.dk_base.specs.Values.{values_of};
 ghost use Rattle.dk_pairs.specs.Rows.{IsPair};
 ghost use Rattle.dk_rows.specs.Meanings.{state_of};
@@ -9,10 +9,32 @@ ghost use Rattle.dk_template.specs.Rows.{IsTuple};
 ghost use Rattle.dk_template.specs.Templates.{form_of, kinds_of};
 ghost use Rattle.dk_template.specs.declared.templates.StateForm.{StateForm};
 
-use crate::{EqualSequences, Member, PairOffset, Partners, Subset};
 use dk_base::{NoMemory, View};
-use dk_template::{Row, RowId, State, by_number, join_states, template_at};
+use dk_template::{Row, RowId, State, join_states, template_at};
 use std::alloc::Global;
+
+/// An expression over the row of a value and a sequence or of two sequences that has a number, in the row's own type: `pair_row!(number, row => expression)`.
+#[macro_export]
+macro_rules! pair_row {
+    ($number:expr, $row:ident => $value:expr) => {
+        dk_template::by_number!($number, $row => $value, {
+            49 => $crate::Member::Int,
+            50 => $crate::Member::Hash,
+            51 => $crate::Member::Str,
+            57 => $crate::EqualSequences::Int,
+            58 => $crate::EqualSequences::Bool,
+            59 => $crate::EqualSequences::Hash,
+            60 => $crate::EqualSequences::Str,
+            61 => $crate::Partners::Less,
+            62 => $crate::Partners::AtMost,
+            63 => $crate::Subset::Int,
+            64 => $crate::Subset::Hash,
+            65 => $crate::Subset::Str,
+            66 => $crate::Partners::Reversed,
+            _ => $crate::PairOffset,
+        })
+    };
+}
 
 /// The state of one tuple. It wants no memory.
 pub fn point(alloc: Global, row: RowId, tuple: &[View<'_>]) -> Result<State, NoMemory>
@@ -21,22 +43,7 @@ pub fn point(alloc: Global, row: RowId, tuple: &[View<'_>]) -> Result<State, NoM
     ensures state { IfOk result (λ state. state ≡ state_of row (values_of tuple.now ∷ [])) }
     ensures err { OnErr result (form_of row ≡ StateForm.Texts) }
 {
-    by_number!(row, row => row.point(alloc, tuple), {
-        49 => Member::Int,
-        50 => Member::Hash,
-        51 => Member::Str,
-        57 => EqualSequences::Int,
-        58 => EqualSequences::Bool,
-        59 => EqualSequences::Hash,
-        60 => EqualSequences::Str,
-        61 => Partners::Less,
-        62 => Partners::AtMost,
-        63 => Subset::Int,
-        64 => Subset::Hash,
-        65 => Subset::Str,
-        66 => Partners::Reversed,
-        _ => PairOffset,
-    })
+    pair_row!(row, row => row.point(alloc, tuple))
 }
 
 /// The state of two lists together. It wants no memory.
@@ -48,4 +55,14 @@ pub fn join(alloc: Global, row: RowId, a: State, b: &State) -> Result<State, NoM
     ensures err { OnErr result (form_of row ≡ StateForm.Texts) }
 {
     join_states(template_at(row).form, alloc, a, b)
+}
+
+/// Whether a tuple leaves a state as it is.
+pub fn stays(row: RowId, state: &State, tuple: &[View<'_>]) -> bool
+    requires row { IsPair row }
+    requires state { IsProper (form_of row) state.now }
+    requires tuple { IsTuple (kinds_of row) (values_of tuple.now) }
+    ensures { IsTrue result ↔ (joined (form_of row) state.now (state_of row (values_of tuple.now ∷ [])) ≡ state.now) }
+{
+    pair_row!(row, row => row.stays(state, tuple))
 }

@@ -10,7 +10,7 @@ ghost use Rattle.dk_template.specs.Rows.{IsTuple};
 use crate::membership::{has_code, has_text};
 use crate::rows::join;
 use dk_base::{NoMemory, View, hashes_at, ints_at, texts_at};
-use dk_forms::plain_point;
+use dk_forms::{plain_point, plain_stays};
 use dk_lanes::member;
 use dk_template::{Row, RowId, State};
 use std::alloc::Global;
@@ -90,5 +90,9 @@ impl Row for Subset {
 
     fn join(&self, alloc: Global, a: State, b: &State) -> Result<State, NoMemory> {
         join(alloc, self.row(), a, b)
+    }
+
+    fn stays(&self, state: &State, tuple: &[View<'_>]) -> bool {
+        plain_stays(state, self.holds(tuple))
     }
 }

@@ -46,14 +46,20 @@ impl Points {
         }
     }
 
-    // The declaration with the base variables and the entry of its point.
+    // The declaration with the role, the base variables and the entry of its point.
     pub(crate) fn own(&self, decl: PointDecl) -> Result<Own, NoMemory>
         ensures decl { IfOk result (λ own. own.decl ≡ decl) }
         ensures own { IfOk result (λ own. IsOwnBehind self.now own) }
     {
+        let role = role_of(decl.name.as_slice());
         let entry = self.entry_before(decl.name.as_slice())?;
         let vars = self.base_vars(&decl, entry)?;
-        Ok(Own { decl, vars, entry })
+        Ok(Own {
+            decl,
+            role,
+            vars,
+            entry,
+        })
     }
 
     // Whether a declaration with this combined exit makes it.

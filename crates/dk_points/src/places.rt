@@ -1,12 +1,14 @@
 // What the table keeps of each point.
+use crate::roles::Role;
 use dk_base::{List, PointId, VarInfo};
 use dk_decl::PointDecl;
 use std::rc::Rc;
 
-// A declaration with the base variables and the entry of its point, which its implicit exit has too.
+// A declaration with the role, the base variables and the entry of its point; its implicit exit has its variables and entry too.
 #[derive(Drop)]
 pub struct Own {
     pub(crate) decl: PointDecl,
+    pub(crate) role: Role,
     pub(crate) vars: List<VarInfo>,
     pub(crate) entry: Option<PointId>,
 }

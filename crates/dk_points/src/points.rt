@@ -8,12 +8,14 @@ ghost use Rattle.dk_points.specs.Ends.{AreFrom, AreInto};
 ghost use Rattle.dk_points.specs.Kept.{IsPlaceBehind, point_at};
 ghost use Rattle.dk_points.specs.Laws.{IsBaseVar};
 ghost use Rattle.dk_points.specs.Links.{nodes};
+ghost use Rattle.dk_points.specs.Names.{role_of};
 ghost use Rattle.dk_points.specs.Partners.{partner_of};
 ghost use Rattle.dk_points.specs.Table.{decl_of, name_of, names};
 ghost use Rattle.dk_points.specs.Vars.{entry_of, vars_of};
 
 use crate::partners::partner_in;
 use crate::places::Place;
+use crate::roles::Role;
 use dk_base::{List, NoMemory, PointId, VarId, VarInfo};
 use dk_decl::PointDecl;
 use dk_graph::{Edge, Graph};
@@ -105,6 +107,19 @@ impl Points {
             None
         } else {
             Some(&place.own.decl)
+        }
+    }
+
+    /// The role of the point in the calls of its method, by its declaration's name. An implicit exit, which no block declares, has none.
+    pub fn role(&self, p: PointId) -> Option<Role>
+        requires { p.0 < length self.now }
+        ensures { result ≡ option_map (λ d. role_of d.name) (decl_of self.now p.0) }
+    {
+        let place = self.place(p);
+        if place.is_implicit {
+            None
+        } else {
+            Some(place.own.role)
         }
     }
 

@@ -6,3 +6,4 @@ pub mod Refining
 pub mod Finding
 pub mod Placing
 pub mod Examples
+pub mod Determined

@@ -13,9 +13,10 @@ use Rattle.std.proofs.lemmas.List.Quantifiers.{position-Some}
 use Rattle.dk_base.specs.declared.kinds.VarId.{VarId}
 use Rattle.dk_samples.specs.Leaders.{Ascend}
 use Rattle.dk_presence.specs.declared.held.Held.{Held}
-use Rattle.dk_presence.specs.Patterns.{AreHeld, held_patterns, same_vars}
+use Rattle.dk_presence.specs.Patterns.{AreHeld, held_at, held_patterns, same_vars}
 use Rattle.dk_presence.specs.Steps.{added, counted_once_more, first_held}
-use Rattle.dk_presence.proofs.Sameness.{same_vars-sym}
+use Rattle.dk_presence.proofs.Sameness.{same_vars-sym, same_vars-true}
+use Rattle.dk_presence.proofs.Sums.{count_at}
 use Rattle.dk_presence.proofs.Adding.{patterns_added}
 use Rattle.dk_presence.proofs.Refining.{any_at}
 
@@ -38,7 +39,7 @@ added_last present (h ∷ held) none = elim (cases_Bool (same_vars h.leaders pre
 ]
 
 -- the patterns stay as they must be
-all_added : (P : Held → Type 0) (present : List VarId) → P (first_held present) → ((h : Held) → P h → P (counted_once_more h)) → (held : List Held) → All P held → All P (added present held)
+pub all_added : (P : Held → Type 0) (present : List VarId) → P (first_held present) → ((h : Held) → P h → P (counted_once_more h)) → (held : List Held) → All P held → All P (added present held)
 all_added P present first more [] all = All-cons P (first_held present) [] first (All-nil P)
 all_added P present first more (h ∷ held) all = elim (same_vars h.leaders present) as (λ b. All P (cond b (counted_once_more h ∷ held) (h ∷ added present held))) [
   | true ↦ All-cons P (counted_once_more h) held (more h (All-head P h held all)) (All-tail P h held all)
@@ -103,6 +104,17 @@ not_there : (present : List VarId) (held : List Held) → position (same_vars pr
 not_there present held e =
     let long = position_none (same_vars present) (held_patterns held) e in
     any_not (λ p. same_vars p present) (held_patterns held) (λ k l. same_vars-sym (get_or (held_patterns held) k []) present ∙ fails_before_first (same_vars present) (held_patterns held) k [] (omega arith))
+
+unheld : (present : List VarId) (held : List Held) → list_any (λ p. same_vars p present) (held_patterns held) ≡ false → held_at held present ≡ 0
+unheld present [] none = refl
+unheld present (h ∷ held) none = elim (cases_Bool (same_vars h.leaders present)) [
+  | inl e ↦ absurd (true≢false (sym (ap (λ b. b || list_any (λ p. same_vars p present) (held_patterns held)) e) ∙ none))
+  | inr n ↦ ap (λ b. cond b h.count (held_at held present)) n ∙ unheld present held (ap (λ b. b || list_any (λ p. same_vars p present) (held_patterns held)) (sym n) ∙ none)
+]
+
+-- a pattern that a look-up doesn't find has no count
+pub held_missing : (present : List VarId) (held : List Held) → position (same_vars present) (held_patterns held) ≡ None → held_at held present ≡ 0
+held_missing present held e = unheld present held (not_there present held e)
 
 pub added_new : (present : List VarId) (held : List Held) → position (same_vars present) (held_patterns held) ≡ None → added present held ≡ held ++ first_held present ∷ []
 added_new present held e = added_last present held (not_there present held e)
@@ -170,3 +182,16 @@ held_one h some up = record {
   some = All-cons (λ k. 0 < k.count) h [] some (All-nil (λ k. 0 < k.count));
   ascend = All-cons (λ k. Ascend k.leaders) h [] up (All-nil (λ k. Ascend k.leaders));
 }
+
+-- the count at a pattern that a look-up finds
+pub held_found : (present : List VarId) (held : List Held) → AreHeld held → (i : ℕ) → position (same_vars present) (held_patterns held) ≡ Some i → 0 < held_at held present
+held_found present held are i e =
+    let told = position-Some (same_vars present) (held_patterns held) i [] e in
+    let long = length-map held (λ (h : Held). h.leaders) in
+    let l : i < length held = omega (arith, told.0, long) in
+    let h = get_or held i (first_held present) in
+    let at : get_or (held_patterns held) i [] ≡ h.leaders = get_or-map (λ (k : Held). k.leaders) held i (first_held present) [] l in
+    let same : present ≡ h.leaders = same_vars-true present h.leaders (ap (same_vars present) (sym at) ∙ told.1) in
+    let count : held_at held present ≡ h.count = ap (held_at held) same ∙ count_at held are.once i (first_held present) l in
+    let some = are.some i (first_held present) l in
+    omega (arith, count, some)

@@ -157,7 +157,7 @@ module _ (new : List (VarId × VarId)) (differ : Differ new) where
       ]
 
 -- ---- the patterns of samples over the new leaders
-has-contains : (vs : List VarId) (v : VarId) → Contains vs v → has vs v ≡ true
+pub has-contains : (vs : List VarId) (v : VarId) → Contains vs v → has vs v ≡ true
 has-contains [] v h = absurd (omega (arith, h.1))
 has-contains (w ∷ vs) v (zero, l, e) = ap (λ b. b || has vs v) (eq-eqb w.0 v.0 (ap (λ (u : VarId). u.0) e))
 has-contains (w ∷ vs) v (suc k, l, e) = elim (eqb w.0 v.0) as (λ b. (b || has vs v) ≡ true) [ true ↦ refl | false ↦ has-contains vs v (k, omega arith, e) ]

@@ -2,6 +2,7 @@
 #![tactic(auto)]
 
 mod held;
+pub mod laws;
 mod places;
 mod presence;
 mod steps;

@@ -1,10 +1,10 @@
 // Patterns of present leaders with their counts.
-ghost use Rattle.std.specs.Prelude.{◌≡◌, [], ◌∷◌, ◌++◌, true, All, IfOk, List, map};
+ghost use Rattle.std.specs.Prelude.{◌≡◌, ◌↔◌, [], ◌∷◌, ◌++◌, ◌<◌, true, All, IfOk, IsTrue, List, map};
 ghost use Rattle.dk_base.specs.Values.{values_of};
 ghost use Rattle.dk_base.specs.declared.kinds.VarId.{VarId};
 ghost use Rattle.dk_base.specs.declared.values.Value.{Value};
 ghost use Rattle.dk_samples.specs.Leaders.{Ascend, LeadNow};
-ghost use Rattle.dk_presence.specs.Patterns.{AreCounted, AreHeld, count_of, counted_by, has, patterns_of, present_in};
+ghost use Rattle.dk_presence.specs.Patterns.{AreCounted, AreHeld, count_of, counted_by, has, held_at, patterns_of, present_in};
 ghost use Rattle.dk_presence.specs.Steps.{AreUnheld, Differ, added, refined};
 
 use crate::Held;
@@ -19,6 +19,7 @@ use std::marker::Model;
 /// How often each pattern of present leaders occurs in the samples. Contracts see it as the list of the patterns with their counts.
 #[derive(Drop)]
 pub struct Presence {
+    alloc: Global,
     held: Vec<Held>,
     places: IndexSet<Vec<VarId>>,
 }
@@ -35,13 +36,14 @@ impl Model for Presence {
     ghost invariant = { λ p. AreHeld p.held.items × (map (λ k. k.items) p.places.keys ≡ held_patterns p.held.items) };
 }
 
-/// The leaders that are present in a sample.
+/// The leaders that are present in a sample. They ascend where the leaders do.
 pub fn present_leaders(
     alloc: Global,
     leaders: &[VarId],
     sample: &[View<'_>],
 ) -> Result<List<VarId>, NoMemory>
-    ensures { IfOk result (λ present. present ≡ present_in leaders.now (values_of sample.now)) }
+    ensures exact { IfOk result (λ present. present ≡ present_in leaders.now (values_of sample.now)) }
+    ensures ascend { IfOk result (λ present. Ascend leaders.now → Ascend present) }
 {
     let mut present = List::new(alloc);
     for leader in leaders {
@@ -59,6 +61,7 @@ impl Presence {
         ensures stands { IfOk result (λ p. AreCounted [] p) }
     {
         Ok(Presence {
+            alloc,
             held: Vec::new(alloc),
             places: IndexSet::new(alloc),
         })
@@ -71,6 +74,7 @@ impl Presence {
     {
         let places = places_of(alloc, held.as_slice())?;
         Ok(Presence {
+            alloc,
             held: held.into_vec(),
             places,
         })
@@ -92,21 +96,34 @@ impl Presence {
         sum_of(self.held.as_slice(), leaders)
     }
 
+    /// Whether these leaders are a pattern that is held.
+    pub fn has_pattern(&self, present: &[VarId]) -> bool
+        ensures { IsTrue result ↔ (0 < held_at self.now present.now) }
+    {
+        place_of(&self.places, present).is_some()
+    }
+
     /// The patterns with a sample more, in which these leaders are present. They ascend.
-    pub fn add(self, alloc: Global, present: &[VarId]) -> Result<Presence, NoMemory>
+    pub fn add(self, present: &[VarId]) -> Result<Presence, NoMemory>
         requires { Ascend present.now }
         ensures exact { IfOk result (λ p. p ≡ added present.now self) }
         ensures stands { IfOk result (λ p. (patterns : List (List VarId)) → AreCounted patterns self → AreCounted (patterns ++ present.now ∷ []) p) }
     {
-        let Presence { held, mut places } = self;
+        let Presence {
+            alloc,
+            held,
+            mut places,
+        } = self;
         match place_of(&places, present) {
             Some(place) => Ok(Presence {
+                alloc,
                 held: with_one_more(held, place),
                 places,
             }),
             None => {
                 places.insert(Vec::from_slice(alloc, present)?)?;
                 Ok(Presence {
+                    alloc,
                     held: with_pattern(alloc, held, present)?,
                     places,
                 })
@@ -115,19 +132,32 @@ impl Presence {
     }
 
     /// The patterns after classes were split: each new leader is present where its old one is. The new leaders differ and stand
-    /// in no pattern.
-    pub fn refine(self, alloc: Global, new: &[(VarId, VarId)]) -> Result<Presence, NoMemory>
+    /// in no pattern. Where none is new, these are the same patterns.
+    pub fn refine(self, new: &[(VarId, VarId)]) -> Result<Presence, NoMemory>
         requires differ { Differ new.now }
         requires unheld { AreUnheld new.now self }
         ensures exact { IfOk result (λ p. p ≡ map (refined new.now) self) }
+        ensures same { IfOk result (λ p. new.now ≡ [] → p ≡ self) }
         ensures stands { IfOk result (λ p. (leaders now : List VarId) (samples : List (List Value)) → Ascend leaders → Ascend now → LeadNow leaders new.now samples now → AreCounted (patterns_of leaders samples) self → AreCounted (patterns_of now samples) p) }
     {
-        let Presence { held, places } = self;
+        let Presence {
+            alloc,
+            held,
+            places,
+        } = self;
         if new.is_empty() {
-            return Ok(Presence { held, places });
+            return Ok(Presence {
+                alloc,
+                held,
+                places,
+            });
         }
         let held = refine_all(alloc, held, new)?;
         let places = places_of(alloc, held.as_slice())?;
-        Ok(Presence { held, places })
+        Ok(Presence {
+            alloc,
+            held,
+            places,
+        })
     }
 }

@@ -26,12 +26,12 @@ fn one_held(alloc: Global, count: u64, leaders: &[VarId]) -> Result<List<Held>, 
 fn three_numbers_split_in_two_steps(rt: HostRuntime) -> Result<(), Fail> {
     let alloc = rt.alloc();
     let none = Presence::new(alloc)?;
-    let one = none.add(alloc, &[VarId(0)])?;
-    let two = one.refine(alloc, &[(VarId(2), VarId(0))])?;
-    let two = two.add(alloc, &[VarId(0), VarId(2)])?;
+    let one = none.add(&[VarId(0)])?;
+    let two = one.refine(&[(VarId(2), VarId(0))])?;
+    let two = two.add(&[VarId(0), VarId(2)])?;
     assert!(rt; two.held().len() == 1);
-    let three = two.refine(alloc, &[(VarId(1), VarId(0))])?;
-    let three = three.add(alloc, &[VarId(0), VarId(2)])?;
+    let three = two.refine(&[(VarId(1), VarId(0))])?;
+    let three = three.add(&[VarId(0), VarId(2)])?;
     assert!(rt; three.held().len() == 2);
     assert!(rt; three.count(&[VarId(0), VarId(1)]) == 2);
     assert!(rt; three.count(&[VarId(2)]) == 3);
@@ -44,9 +44,9 @@ fn three_numbers_split_in_two_steps(rt: HostRuntime) -> Result<(), Fail> {
 fn counts_end_at_the_greatest(rt: HostRuntime) -> Result<(), Fail> {
     let alloc = rt.alloc();
     let most = Presence::from_held(alloc, one_held(alloc, u64::MAX, &[VarId(4)])?)?;
-    let more = most.add(alloc, &[VarId(4)])?;
+    let more = most.add(&[VarId(4)])?;
     assert!(rt; more.count(&[VarId(4)]) == u64::MAX);
-    let none = more.add(alloc, &[])?;
+    let none = more.add(&[])?;
     assert!(rt; none.count(&[]) == u64::MAX);
     Ok(())
 }

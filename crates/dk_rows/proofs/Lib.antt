@@ -3,3 +3,4 @@ mod MeaningLaws
 mod Tables
 pub mod RowLaws
 mod Examples
+pub mod Staying

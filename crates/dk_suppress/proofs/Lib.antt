@@ -1,5 +1,6 @@
 pub mod Facts
 pub mod Usable
+pub mod Asking
 pub mod Freed
 mod Examples
 mod Shown
@@ -10,3 +11,4 @@ pub mod SequenceRules
 pub mod Saying
 mod TupleRules
 pub mod Sound
+pub mod Agreeing

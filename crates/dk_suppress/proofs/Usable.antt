@@ -130,7 +130,7 @@ module _ (conclusion : RowId) (infos : List VarInfo) (vars : List VarId) (admitt
   asked (GreatestAtMost row role k) = refl
   asked (Only role k) = refl
 
-  usable : (g : Grammar) (premises : List Premise) (p : Premise) → can_be_asked (conclusion, premises) p ≡ true → IsUsable g infos p vars
+  pub usable : (g : Grammar) (premises : List Premise) (p : Premise) → can_be_asked (conclusion, premises) p ≡ true → IsUsable g infos p vars
   usable g premises p h =
       let wanted = roles_of (template_of (row_of p)).takes in
       let reads = roles_read p in

@@ -1,5 +1,5 @@
 //! What the table of the rules comes to.
-ghost use Rattle.dk_suppress.specs.Laws.{ConclusionsArePlain, PremisesAreBelow, PremisesAreUsable, RolesAreThere};
+ghost use Rattle.dk_suppress.specs.Laws.{AgreeingVariablesAreSuppressedAlike, ConclusionsArePlain, PremisesAreBelow, PremisesAreUsable, RolesAreThere, SuppressionIsOfLowerRank};
 ghost use Rattle.dk_suppress.specs.Soundness.{RulesAreSound, SuppressedInstancesHold};
 
 /// Each premise has a lower rank than its conclusion.
@@ -31,4 +31,11 @@ pub fn rules_are_sound()
 /// So a suppressed instance holds, or has no tuples.
 pub fn suppressed_instances_hold()
     ensures { SuppressedInstancesHold }
+{}
+
+/// Whether a row's variables are suppressed depends only on the states of rows of lower rank over these variables, and it is the same
+/// for variables that agree.
+pub fn suppression_is_of_lower_rank()
+    ensures rank { SuppressionIsOfLowerRank }
+    ensures alike { AgreeingVariablesAreSuppressedAlike }
 {}

@@ -7,6 +7,7 @@ mod rules;
 mod suppressing;
 
 pub use freeing::freed_by;
+pub use rules::{Rule, table};
 pub use suppressing::suppressed;
 
 #[cfg(test)]

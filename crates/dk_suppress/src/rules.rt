@@ -139,3 +139,10 @@ pub fn rules() -> &'static [Rule]
 {
     RULES
 }
+
+/// All rules, by their conclusions.
+pub fn table() -> &'static [Rule]
+    ensures { map told result.now ≡ rules }
+{
+    rules()
+}

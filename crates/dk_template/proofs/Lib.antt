@@ -1,5 +1,7 @@
 pub mod Table
 pub mod Ascents
+pub mod Absorbing
+pub mod Askings
 mod Examples
 pub mod Exchanges
 pub mod Listing
@@ -9,3 +11,5 @@ pub mod ProperStates
 pub mod ProperTests
 pub mod RowLaws
 pub mod WrittenOrder
+pub mod WrittenTuples
+pub mod Staying

@@ -1,5 +1,5 @@
 -- What the definitions of rows and states come to.
-use Rattle.std.specs.Prelude.{◌≡◌, true, List, map, ℤ, flat_map}
+use Rattle.std.specs.Prelude.{◌≡◌, ◌≤◌, true, All, Contains, List, length, map, ℤ, flat_map}
 use Rattle.std.specs.Borrow.{Bor}
 use Rattle.dk_base.specs.Values.{values_of}
 use Rattle.dk_base.specs.declared.kinds.VarId.{VarId}
@@ -12,7 +12,7 @@ use Rattle.dk_forms.specs.Offset.{differences, offset_of}
 use Rattle.dk_forms.specs.Plane.{plane_of}
 use Rattle.dk_forms.specs.declared.states.State.{State}
 use Rattle.dk_forms.specs.declared.states.State.TheVariants.{Empty, Broken, Holds}
-use Rattle.dk_template.specs.Admitted.{admits}
+use Rattle.dk_template.specs.Admitted.{admits, is_written}
 use Rattle.dk_template.specs.Exchange.{exchanged, swap, swapped, written}
 use Rattle.dk_template.specs.Fitting.{fits}
 use Rattle.dk_template.specs.Joins.{joined}
@@ -67,3 +67,15 @@ ExchangeableRolesTakeTheSame = (row : RowId) → IsRow row → TakeTheSame (temp
 -- a tuple that a row admits is admitted in its written order
 abbrev pub WrittenTuplesAreAdmitted : Type 0
 WrittenTuplesAreAdmitted = (row : RowId) → IsRow row → (vars : List VarInfo) (tuple : List VarId) → admits row vars tuple ≡ true → admits row vars (written row tuple) ≡ true
+
+-- the written order of at most three variables is written
+abbrev pub WrittenOrdersAreWritten : Type 0
+WrittenOrdersAreWritten = (row : RowId) (tuple : List VarId) → length tuple ≤ 3 → is_written row (written row tuple) ≡ true
+
+-- the written order has no other variables, so what holds of all variables holds of all in their written order
+abbrev pub WrittenOrdersKeepVariables : Type 0
+WrittenOrdersKeepVariables = (row : RowId) (tuple : List VarId) → All (Contains tuple) (written row tuple)
+
+-- Broken joins with any state to Broken, also with one that isn't proper
+abbrev pub BrokenAbsorbs : Type 0
+BrokenAbsorbs = (form : StateForm) (s : State) → joined form Broken s ≡ Broken

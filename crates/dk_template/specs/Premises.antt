@@ -51,6 +51,13 @@ vars_of (LeastAtLeast row role k) vars = at_role role vars ∷ []
 vars_of (GreatestAtMost row role k) vars = at_role role vars ∷ []
 vars_of (Only role k) vars = at_role role vars ∷ []
 
+-- how many they are
+abbrev pub asked_count : Premise → ℕ
+asked_count (Holds row roles) = arity_of row
+asked_count (LeastAtLeast row role k) = 1
+asked_count (GreatestAtMost row role k) = 1
+asked_count (Only role k) = 1
+
 -- whether the state of the premise's row is as the premise wants it
 abbrev pub suffices : Premise → State → Bool
 suffices (Holds row roles) s = fits s
@@ -94,6 +101,7 @@ pub record IsUsable (grammar : Grammar) (infos : List VarInfo) (premise : Premis
 abbrev pub AreThere : List VarInfo → List VarId → Type 0
 AreThere infos vars = All (λ (v : VarId). v.0 < length infos) vars
 
--- the rows over strings whose answer may want memory: their states are texts, or their strings may have to be laid out anew
+-- The rows over strings whose answer may want memory: their states are texts, or their strings may have to be laid out anew. Whether
+-- two sequences of strings are the same is told without.
 abbrev pub MayWantMemory : RowId → Type 0
-MayWantMemory row = IsTrue (list_any (λ r. row.0 == r) (9 ∷ 47 ∷ 48 ∷ 51 ∷ 60 ∷ 65 ∷ []))
+MayWantMemory row = IsTrue (list_any (λ r. row.0 == r) (9 ∷ 47 ∷ 48 ∷ 51 ∷ 65 ∷ []))

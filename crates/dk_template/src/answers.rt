@@ -10,6 +10,7 @@ ghost use Rattle.dk_template.specs.Templates.{IsRowOf, form_of};
 ghost use Rattle.dk_template.specs.declared.grammar.Grammar.{Grammar};
 ghost use Rattle.dk_template.specs.declared.grammar.RowId.{RowId};
 
+use crate::asking::{asked_count, asked_row, asked_vars, suffices_for};
 use crate::{RowId, State};
 use dk_base::{NoMemory, VarId};
 
@@ -44,7 +45,7 @@ pub trait Answers {
     ghost agreeing: { Self → VarId → VarId → Bool };
 
     /// The state of a row over variables that it admits, in any order and with any repeats. It is proper for the row. Only rows over
-    /// strings want memory.
+    /// strings want memory, and never the row that two sequences of strings are the same.
     fn answer(&self, row: RowId, vars: &[VarId]) -> Result<State, NoMemory>
         requires row { IsRowOf (grammar self.now) row }
         requires vars { IsTrue (admits row (infos self.now) vars.now) }
@@ -67,5 +68,12 @@ pub trait Answers {
     /// Whether a premise fits over the variables of its rule's conclusion. It takes no memory.
     fn premise(&self, premise: &Premise, vars: &[VarId]) -> bool
         requires { IsUsable (grammar self.now) (infos self.now) premise.now vars.now }
-        ensures { result ≡ premise_fits (answered self.now) premise.now vars.now };
+        ensures { result ≡ premise_fits (answered self.now) premise.now vars.now }
+    {
+        let asked = asked_vars(premise, vars);
+        match self.answer(asked_row(premise), &asked[..asked_count(premise)]) {
+            Ok(state) => suffices_for(premise, &state),
+            Err(_) => unreachable!(),
+        }
+    }
 }

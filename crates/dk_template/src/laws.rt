@@ -1,7 +1,7 @@
 //! What the definitions of rows and states come to.
 ghost use Rattle.std.specs.Prelude.{◌≡◌, All, IfOk, OnErr};
 ghost use Rattle.dk_base.specs.Values.{values_of};
-ghost use Rattle.dk_template.specs.Laws.{ExchangeableRolesTakeTheSame, LinesExchange, OffsetsExchange, PlainStatesFitWhereTheyHold, PlanesExchange, ProperStatesJoin, WrittenTuplesAreAdmitted, tuples_of};
+ghost use Rattle.dk_template.specs.Laws.{BrokenAbsorbs, ExchangeableRolesTakeTheSame, LinesExchange, OffsetsExchange, PlainStatesFitWhereTheyHold, PlanesExchange, ProperStatesJoin, WrittenOrdersAreWritten, WrittenOrdersKeepVariables, WrittenTuplesAreAdmitted, tuples_of};
 ghost use Rattle.dk_template.specs.Proper.{IsProper};
 ghost use Rattle.dk_template.specs.Rows.{IsTuple};
 
@@ -62,4 +62,15 @@ pub fn exchangeable_roles_take_the_same()
 /// A tuple that a row admits is admitted in its written order.
 pub fn written_tuples_are_admitted()
     ensures { WrittenTuplesAreAdmitted }
+{}
+
+/// The written order of variables is written, and has no other variables.
+pub fn written_orders_are_written()
+    ensures written { WrittenOrdersAreWritten }
+    ensures variables { WrittenOrdersKeepVariables }
+{}
+
+/// Broken stays, whatever is joined to it.
+pub fn broken_absorbs()
+    ensures { BrokenAbsorbs }
 {}

@@ -4,6 +4,7 @@
 
 mod admitting;
 mod answers;
+mod asking;
 mod dispatch;
 mod exchange;
 mod fitting;
@@ -17,6 +18,7 @@ mod tuple;
 
 pub use admitting::{admits, is_written};
 pub use answers::{Answers, Premise};
+pub use asking::{asked_row, suffices_for};
 pub use dk_forms::{Few, State};
 pub use exchange::{Exchange, exchange_state, turned, written};
 pub use fitting::fits;

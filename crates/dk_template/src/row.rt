@@ -44,6 +44,12 @@ pub trait Row {
         ensures state { IfOk result (λ state. state ≡ joined (form self.now) a b.now) }
         ensures err { OnErr result (form self.now ≡ StateForm.Texts) };
 
+    /// Whether a tuple leaves a state as it is. It takes no memory.
+    fn stays(&self, state: &State, tuple: &[View<'_>]) -> bool
+        requires state { IsProper (form self.now) state.now }
+        requires tuple { IsTuple (kinds self.now) (values_of tuple.now) }
+        ensures { IsTrue result ↔ (joined (form self.now) state.now (state_of self.now (values_of tuple.now ∷ [])) ≡ state.now) };
+
     /// Whether nothing that the row could say is so of all tuples.
     fn broken(&self, state: &State) -> bool
         requires { IsProper (form self.now) state.now }

@@ -4,7 +4,7 @@ ghost use Rattle.dk_template.specs.Templates.{IsRow};
 
 use super::*;
 use dk_base::{Compar, Form, Kind, List, NoMemory, Text, VarId, VarInfo, View, int_at};
-use dk_forms::plain_point;
+use dk_forms::{plain_point, plain_stays};
 use std::alloc::Global;
 use std::process::Abort;
 use std::test::Fail;
@@ -36,6 +36,10 @@ impl Row for Less {
 
     fn join(&self, alloc: Global, a: State, b: &State) -> Result<State, NoMemory> {
         join_states(StateForm::Plain, alloc, a, b)
+    }
+
+    fn stays(&self, state: &State, tuple: &[View<'_>]) -> bool {
+        plain_stays(state, int_at(tuple, 0) < int_at(tuple, 1))
     }
 }
 

@@ -40,3 +40,7 @@ operation_form And = refl
 operation_form Or = refl
 operation_form Xor = refl
 operation_form Gcd = refl
+
+pub linear_ternary_form : form_of linear_ternary_row ≡ form.Plane
+unfolding rows
+linear_ternary_form = refl

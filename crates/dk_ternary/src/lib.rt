@@ -8,7 +8,7 @@ mod rows;
 
 pub use operation::Operation;
 pub use planar::LinearTernary;
-pub use rows::{join, point};
+pub use rows::{join, point, stays};
 
 #[cfg(test)]
 mod tests;

@@ -9,7 +9,7 @@ ghost use Rattle.dk_ternary.specs.Rows.{is_result, operation_row};
 use crate::exact::{is_difference, is_gcd, is_product, is_quotient, is_remainder, is_sum};
 use crate::rows::join;
 use dk_base::{NoMemory, View, int_at};
-use dk_forms::plain_point;
+use dk_forms::{plain_point, plain_stays};
 use dk_template::{Row, RowId, State};
 use std::alloc::Global;
 
@@ -108,5 +108,9 @@ impl Row for Operation {
 
     fn join(&self, alloc: Global, a: State, b: &State) -> Result<State, NoMemory> {
         join(alloc, self.row(), a, b)
+    }
+
+    fn stays(&self, state: &State, tuple: &[View<'_>]) -> bool {
+        plain_stays(state, holds(*self, tuple))
     }
 }

@@ -1,15 +1,15 @@
 // The row of the plane through all points.
-ghost use Rattle.std.specs.Prelude.{◌≡◌, ◌∷◌, []};
+ghost use Rattle.std.specs.Prelude.{◌≡◌, ◌↔◌, ◌∷◌, [], IsTrue};
 ghost use Rattle.dk_base.specs.Tuples.{int_of, value_at};
 ghost use Rattle.dk_base.specs.Values.{values_of};
 ghost use Rattle.dk_base.specs.declared.kinds.Kind.TheVariants as kind;
-ghost use Rattle.dk_forms.specs.Plane.{plane_of};
+ghost use Rattle.dk_forms.specs.Plane.{IsPlaneState, plane_join, plane_of};
 ghost use Rattle.dk_template.specs.Rows.{IsTuple};
 ghost use Rattle.dk_ternary.specs.Rows.{linear_ternary_row};
 
 use crate::rows::join;
 use dk_base::{NoMemory, View, int_at};
-use dk_forms::plane_point;
+use dk_forms::{plane_point, plane_stays};
 use dk_template::{Row, RowId, State};
 use std::alloc::Global;
 
@@ -35,6 +35,15 @@ fn state_of_one(tuple: &[View<'_>]) -> State
     plane_point(int_at(tuple, 0), int_at(tuple, 1), int_at(tuple, 2))
 }
 
+// Whether one point leaves the state as it is.
+fn one_stays(state: &State, tuple: &[View<'_>]) -> bool
+    requires state { IsPlaneState state.now }
+    requires tuple { IsTuple (kind.Int ∷ kind.Int ∷ kind.Int ∷ []) (values_of tuple.now) }
+    ensures { IsTrue result ↔ (plane_join state.now (plane_of ((int_of (value_at (values_of tuple.now) 0), int_of (value_at (values_of tuple.now) 1), int_of (value_at (values_of tuple.now) 2)) ∷ [])) ≡ state.now) }
+{
+    plane_stays(state, int_at(tuple, 0), int_at(tuple, 1), int_at(tuple, 2))
+}
+
 impl Row for LinearTernary {
     ghost use Rattle.dk_rows.proofs.RowLaws.{laws_by};
     ghost use Rattle.dk_rows.specs.Meanings.{state_of};
@@ -55,5 +64,9 @@ impl Row for LinearTernary {
 
     fn join(&self, alloc: Global, a: State, b: &State) -> Result<State, NoMemory> {
         join(alloc, self.row(), a, b)
+    }
+
+    fn stays(&self, state: &State, tuple: &[View<'_>]) -> bool {
+        one_stays(state, tuple)
     }
 }

@@ -1,5 +1,5 @@
 // The rows of three variables by their numbers.
-ghost use Rattle.std.specs.Prelude.{◌≡◌, [], ◌∷◌, IfOk, OnErr};
+ghost use Rattle.std.specs.Prelude.{◌≡◌, ◌↔◌, [], ◌∷◌, IfOk, IsTrue, OnErr};
 ghost use Rattle.dk_base.specs.Values.{values_of};
 ghost use Rattle.dk_ternary.specs.Rows.{IsTernary};
 ghost use Rattle.dk_rows.specs.Meanings.{state_of};
@@ -9,10 +9,30 @@ ghost use Rattle.dk_template.specs.Rows.{IsTuple};
 ghost use Rattle.dk_template.specs.Templates.{form_of, kinds_of};
 ghost use Rattle.dk_template.specs.declared.templates.StateForm.{StateForm};
 
-use crate::{LinearTernary, Operation};
 use dk_base::{NoMemory, View};
-use dk_template::{Row, RowId, State, by_number, join_states, template_at};
+use dk_template::{Row, RowId, State, join_states, template_at};
 use std::alloc::Global;
+
+/// An expression over the row of three variables that has a number, in the row's own type: `ternary_row!(number, row => expression)`.
+#[macro_export]
+macro_rules! ternary_row {
+    ($number:expr, $row:ident => $value:expr) => {
+        dk_template::by_number!($number, $row => $value, {
+            24 => $crate::Operation::Sum,
+            25 => $crate::Operation::Difference,
+            26 => $crate::Operation::Product,
+            27 => $crate::Operation::Minimum,
+            28 => $crate::Operation::Maximum,
+            29 => $crate::Operation::Quotient,
+            30 => $crate::Operation::Remainder,
+            31 => $crate::Operation::And,
+            32 => $crate::Operation::Or,
+            33 => $crate::Operation::Xor,
+            34 => $crate::Operation::Gcd,
+            _ => $crate::LinearTernary,
+        })
+    };
+}
 
 /// The state of one tuple. It wants no memory.
 pub fn point(alloc: Global, row: RowId, tuple: &[View<'_>]) -> Result<State, NoMemory>
@@ -21,20 +41,7 @@ pub fn point(alloc: Global, row: RowId, tuple: &[View<'_>]) -> Result<State, NoM
     ensures state { IfOk result (λ state. state ≡ state_of row (values_of tuple.now ∷ [])) }
     ensures err { OnErr result (form_of row ≡ StateForm.Texts) }
 {
-    by_number!(row, row => row.point(alloc, tuple), {
-        24 => Operation::Sum,
-        25 => Operation::Difference,
-        26 => Operation::Product,
-        27 => Operation::Minimum,
-        28 => Operation::Maximum,
-        29 => Operation::Quotient,
-        30 => Operation::Remainder,
-        31 => Operation::And,
-        32 => Operation::Or,
-        33 => Operation::Xor,
-        34 => Operation::Gcd,
-        _ => LinearTernary,
-    })
+    ternary_row!(row, row => row.point(alloc, tuple))
 }
 
 /// The state of two lists together. It wants no memory.
@@ -46,4 +53,14 @@ pub fn join(alloc: Global, row: RowId, a: State, b: &State) -> Result<State, NoM
     ensures err { OnErr result (form_of row ≡ StateForm.Texts) }
 {
     join_states(template_at(row).form, alloc, a, b)
+}
+
+/// Whether a tuple leaves a state as it is.
+pub fn stays(row: RowId, state: &State, tuple: &[View<'_>]) -> bool
+    requires row { IsTernary row }
+    requires state { IsProper (form_of row) state.now }
+    requires tuple { IsTuple (kinds_of row) (values_of tuple.now) }
+    ensures { IsTrue result ↔ (joined (form_of row) state.now (state_of row (values_of tuple.now ∷ [])) ≡ state.now) }
+{
+    ternary_row!(row, row => row.stays(state, tuple))
 }

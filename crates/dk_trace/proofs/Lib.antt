@@ -3,3 +3,4 @@ pub mod Marked
 pub mod Left
 pub mod Unfaulted
 pub mod Fitted
+pub mod ByPosition

@@ -9,3 +9,4 @@ pub mod BodiesResumed
 pub mod RecordsResumed
 pub mod OpenRecords
 pub mod Fitting
+pub mod Positions

@@ -40,7 +40,7 @@ fn nonce_of(line: u64, bytes: &[u8]) -> Result<i64, BlockFault>
 }
 
 impl<'a> BodyReader<'a> {
-    ghost use Rattle.dk_trace.specs.BodiesResumed.{body_resumed, shown_body};
+    ghost use Rattle.dk_trace.specs.BodiesResumed.{body_resumed, nonce_read, shown_body};
 
     // The line behind the point's name.
     #[tactic(auto, unfolding(crate::specs::Bodies::body_of, crate::specs::BodiesResumed::body_resumed))]
@@ -55,7 +55,8 @@ impl<'a> BodyReader<'a> {
         if is_nonce_line(line, bytes) {
             return Ok(BodyReader::AtNonce);
         }
-        let values = ValueReader::begin(arena).line(vars, line, bytes)?;
+        let mut values = ValueReader::begin(arena);
+        values.line(vars, line, bytes)?;
         Ok(BodyReader::AtValues(None, values))
     }
 
@@ -68,44 +69,66 @@ impl<'a> BodyReader<'a> {
         Ok(BodyReader::AtValues(Some(nonce), ValueReader::begin(arena)))
     }
 
-    /// One line more.
+    /// One line more. After a fault nothing is said of the reader.
     #[tactic(auto, unfolding(crate::specs::BodiesResumed::body_resumed))]
     pub(crate) fn line(
-        self,
+        &mut self,
         arena: &'a Arena,
         vars: &[VarDecl],
         line: u64,
         bytes: &[u8],
-    ) -> Result<BodyReader<'a>, BlockFault>
-        ensures { GoesOn (body_resumed vars.now) result (λ ls. body_resumed vars.now self.entry (record { number = line; bytes = bytes.now } ∷ ls)) }
+    ) -> Result<(), BlockFault>
+        ensures { GoesOn (λ _. body_resumed vars.now self.new) result (λ ls. body_resumed vars.now self.old (record { number = line; bytes = bytes.now } ∷ ls)) }
     {
         match self {
-            BodyReader::AtStart => BodyReader::first_line(arena, vars, line, bytes),
-            BodyReader::AtNonce => BodyReader::nonce_line(arena, line, bytes),
-            BodyReader::AtValues(nonce, values) => {
-                let values = values.line(vars, line, bytes)?;
-                Ok(BodyReader::AtValues(nonce, values))
-            }
+            BodyReader::AtStart => match BodyReader::first_line(arena, vars, line, bytes) {
+                Ok(next) => {
+                    *self = next;
+                    Ok(())
+                }
+                Err(fault) => Err(fault),
+            },
+            BodyReader::AtNonce => match BodyReader::nonce_line(arena, line, bytes) {
+                Ok(next) => {
+                    *self = next;
+                    Ok(())
+                }
+                Err(fault) => Err(fault),
+            },
+            BodyReader::AtValues(_, values) => values.line(vars, line, bytes),
         }
     }
 
-    /// The nonce, if there is one, and the values of a record that ends at this line.
+    // The nonce, where it was read.
+    fn nonce(&self) -> Option<i64>
+        ensures { result ≡ nonce_read self.now }
+    {
+        match self {
+            BodyReader::AtStart => None,
+            BodyReader::AtNonce => None,
+            BodyReader::AtValues(nonce, _) => *nonce,
+        }
+    }
+
+    /// The nonce, if there is one, and the values of a record that ends at this line. Nothing is said of the reader behind it.
     #[tactic(auto, unfolding(crate::specs::Bodies::body_of, crate::specs::BodiesResumed::body_resumed))]
     pub(crate) fn end(
-        self,
+        &mut self,
         arena: &'a Arena,
         vars: &[VarDecl],
         line: u64,
     ) -> Result<(Option<i64>, &'a [View<'a>]), BlockFault>
-        ensures { Shows shown_body result (body_resumed vars.now self.entry [] (Some line)) }
+        ensures { Shows shown_body result (body_resumed vars.now self.old [] (Some line)) }
     {
+        let nonce = self.nonce();
         match self {
             BodyReader::AtStart => {
-                let views = ValueReader::begin(arena).end(vars, line)?;
+                let mut values = ValueReader::begin(arena);
+                let views = values.end(vars, line)?;
                 Ok((None, views))
             }
             BodyReader::AtNonce => Err(refused(line, Why::Truncated)),
-            BodyReader::AtValues(nonce, values) => {
+            BodyReader::AtValues(_, values) => {
                 let views = values.end(vars, line)?;
                 Ok((nonce, views))
             }

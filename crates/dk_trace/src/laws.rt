@@ -4,6 +4,7 @@ ghost use Rattle.dk_decl.specs.Laws.{line_of};
 ghost use Rattle.dk_trace.specs.Answers.{Shows};
 ghost use Rattle.dk_trace.specs.Fitting.{ValuesFit};
 ghost use Rattle.dk_trace.specs.OpenRecords.{NoFaultYet};
+ghost use Rattle.dk_trace.specs.Positions.{LinesCountByPosition};
 ghost use Rattle.dk_trace.specs.Records.{sample_of};
 ghost use Rattle.dk_trace.specs.RecordsResumed.{shown};
 
@@ -27,7 +28,7 @@ pub fn read_record<'a>(
 {
     let mut reader = RecordReader::begin(alloc, points, arena, first.0, first.1)?;
     for (number, bytes) in rest {
-        reader = reader.line(points, *number, *bytes)?;
+        reader.line(points, *number, *bytes)?;
     }
     reader.end(points, close)
 }
@@ -41,4 +42,10 @@ pub fn no_fault_yet()
 /// each is one that some text writes, if the declared constants are.
 pub fn values_fit()
     ensures { ValuesFit }
+{}
+
+/// Behind the name and the nonce of a record its lines count three by three, a variable's name, its value's text and its mark, and none is
+/// left over. A variable with a constant has no lines.
+pub fn lines_count_by_position()
+    ensures { LinesCountByPosition }
 {}

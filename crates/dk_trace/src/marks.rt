@@ -1,5 +1,5 @@
 // A value and its mark.
-ghost use Rattle.std.specs.Prelude.{◌≡◌, IfOk};
+ghost use Rattle.std.specs.Prelude.{◌≡◌, ◌∷◌, [], IfOk};
 ghost use Rattle.std.specs.Str.{bytes_eq};
 ghost use Rattle.dk_base.specs.Reading.{Line};
 ghost use Rattle.dk_trace.specs.Answers.{Shows, shown_value};
@@ -29,6 +29,18 @@ pub(crate) fn is_word(text: &[u8], word: &[u8]) -> bool
     ensures { result ≡ bytes_eq text.now word.now }
 {
     text == word
+}
+
+// Whether the text is this one byte.
+#[tactic(auto, using(crate::proofs::Marked::empty_is_no_byte, crate::proofs::Marked::one_byte, crate::proofs::Marked::more_is_no_byte))]
+fn is_byte(text: &[u8], byte: u8) -> bool
+    ensures { result ≡ bytes_eq text.now (byte ∷ []) }
+{
+    match text {
+        [] => false,
+        [only] => *only == byte,
+        [_, _, ..] => false,
+    }
 }
 
 impl<'a> Unmarked<'a> {
@@ -81,9 +93,9 @@ impl<'a> Unmarked<'a> {
     pub(crate) fn with_mark(self, line: u64, mark: &[u8]) -> Result<Option<View<'a>>, BlockFault>
         ensures { Shows shown_value result (with_mark self.entry (record { number = line; bytes = mark.now })) }
     {
-        if is_word(mark, b"2") {
+        if is_byte(mark, b'2') {
             Ok(self.missing())
-        } else if is_word(mark, b"0") || is_word(mark, b"1") {
+        } else if is_byte(mark, b'0') || is_byte(mark, b'1') {
             self.value()
         } else {
             Err(refused(line, Why::BadMark))

@@ -1,14 +1,15 @@
 // Records, read line by line.
 ghost use Rattle.std.specs.Prelude.{◌≡◌, ◌<◌, ◌∷◌, [], IfOk, Some, length};
 ghost use Rattle.dk_base.specs.Reading.{Line};
-ghost use Rattle.dk_decl.specs.Outcomes.{Gives, GoesOn};
+ghost use Rattle.dk_base.specs.declared.why.Why.TheVariants.{UnknownPoint};
+ghost use Rattle.dk_decl.specs.Outcomes.{Gives, GoesOn, or_refused};
 ghost use Rattle.dk_trace.specs.Answers.{Shows};
-ghost use Rattle.dk_trace.specs.Records.{declared_vars, point_at, sample_of};
+ghost use Rattle.dk_trace.specs.Records.{declared_place, declared_vars, point_at, sample_of};
 
 use crate::bodies::BodyReader;
 use crate::marks::refused;
 use crate::sample::BaseSample;
-use dk_base::{Arena, BlockFault, PointId, Why, unescape};
+use dk_base::{Arena, BlockFault, PointId, Why, is_plain, unescape};
 use dk_decl::VarDecl;
 use dk_points::Points;
 use std::alloc::Global;
@@ -22,20 +23,31 @@ pub struct RecordReader<'a> {
     pub(crate) body: BodyReader<'a>,
 }
 
-// The declared point whose name is spelled by a record's first line.
-#[tactic(auto, unfolding(crate::specs::Records::point_at))]
-fn point_at(alloc: Global, points: &Points, line: u64, bytes: &[u8]) -> Result<PointId, BlockFault>
-    ensures point { Shows (λ p. p.0) result (point_at points.now (record { number = line; bytes = bytes.now })) }
+// The declared point of this name, which the line spells.
+fn named_point(points: &Points, line: u64, name: &[u8]) -> Result<PointId, BlockFault>
+    ensures point { Shows (λ p. p.0) result (or_refused UnknownPoint line (declared_place points.now name.now)) }
     ensures within { IfOk result (λ p. p.0 < length points.now) }
 {
-    let name = unescape(alloc, bytes)?;
-    match points.find(name.as_slice()) {
+    match points.find(name) {
         None => Err(refused(line, Why::UnknownPoint)),
         Some(point) => match points.decl(point) {
             None => Err(refused(line, Why::UnknownPoint)),
             Some(_) => Ok(point),
         },
     }
+}
+
+// The declared point whose name is spelled by a record's first line.
+#[tactic(auto, unfolding(crate::specs::Records::point_at))]
+fn point_at(alloc: Global, points: &Points, line: u64, bytes: &[u8]) -> Result<PointId, BlockFault>
+    ensures point { Shows (λ p. p.0) result (point_at points.now (record { number = line; bytes = bytes.now })) }
+    ensures within { IfOk result (λ p. p.0 < length points.now) }
+{
+    if is_plain(bytes) {
+        return named_point(points, line, bytes);
+    }
+    let name = unescape(alloc, bytes)?;
+    named_point(points, line, name.as_slice())
 }
 
 // The variables that the point's block declares.
@@ -74,52 +86,32 @@ impl<'a> RecordReader<'a> {
         })
     }
 
-    /// The record with one line more. It is refused as `BadNonce`, `WrongName`, `BadValue`, `BadMark` or `ExtraLine` as soon as no lines
-    /// behind it can make it good. The points are those of `begin`.
+    /// One line more. The record is refused as `BadNonce`, `WrongName`, `BadValue`, `BadMark` or `ExtraLine` as soon as no lines behind it
+    /// can make it good; after a fault no more is said of the reader than its point. The points are those of `begin`.
     #[tactic(auto, unfolding(crate::specs::RecordsResumed::resumed))]
-    pub fn line(
-        self,
-        points: &Points,
-        line: u64,
-        bytes: &[u8],
-    ) -> Result<RecordReader<'a>, BlockFault>
-        requires { IsOf points.now self }
-        ensures goes_on { GoesOn (resumed points.now) result (λ ls. resumed points.now self.entry (record { number = line; bytes = bytes.now } ∷ ls)) }
-        ensures of { IfOk result (λ r. IsOf points.now r) }
+    pub fn line(&mut self, points: &Points, line: u64, bytes: &[u8]) -> Result<(), BlockFault>
+        requires { IsOf points.now self.old }
+        ensures goes_on { GoesOn (λ _. resumed points.now self.new) result (λ ls. resumed points.now self.old (record { number = line; bytes = bytes.now } ∷ ls)) }
+        ensures of { IsOf points.now self.new }
     {
-        let RecordReader {
-            arena,
-            point,
-            line: first,
-            body,
-        } = self;
-        let body = body.line(arena, declared_vars(points, point), line, bytes)?;
-        Ok(RecordReader {
-            arena,
-            point,
-            line: first,
-            body,
-        })
+        self.body
+            .line(self.arena, declared_vars(points, self.point), line, bytes)
     }
 
     /// The sample of a record that ends at this line. It is refused as `Truncated` where a line was still awaited: a nonce, or a variable's
-    /// name, value or mark. The points are those of `begin`.
+    /// name, value or mark. The points are those of `begin`. Nothing is said of the reader behind it.
     #[tactic(auto, unfolding(crate::specs::RecordsResumed::resumed))]
-    pub fn end(self, points: &Points, line: u64) -> Result<BaseSample<'a>, BlockFault>
-        requires { IsOf points.now self }
-        ensures sample { Shows shown result (resumed points.now self.entry [] (Some line)) }
+    pub fn end(&mut self, points: &Points, line: u64) -> Result<BaseSample<'a>, BlockFault>
+        requires { IsOf points.now self.old }
+        ensures sample { Shows shown result (resumed points.now self.old [] (Some line)) }
         ensures of { IfOk result (λ s. s.point.0 < length points.now) }
     {
-        let RecordReader {
-            arena,
-            point,
-            line: first,
-            body,
-        } = self;
-        let (nonce, values) = body.end(arena, declared_vars(points, point), line)?;
+        let (nonce, values) = self
+            .body
+            .end(self.arena, declared_vars(points, self.point), line)?;
         Ok(BaseSample {
-            point,
-            line: first,
+            point: self.point,
+            line: self.line,
             nonce,
             values,
         })

@@ -13,6 +13,7 @@ use crate::marks::{Unmarked, refused};
 use bumpalo::collections::into_bump_slice;
 use dk_base::{Arena, BlockFault, Kind, NoMemory, Text, Value, View, Why, is_spelling};
 use dk_decl::VarDecl;
+use std::mem::replace;
 
 /// What the next line is.
 #[derive(Clone, Copy)]
@@ -41,64 +42,53 @@ fn is_named(bytes: &[u8], name: &Text) -> bool
     is_spelling(bytes, name.as_slice())
 }
 
-fn with_value<'a>(
-    mut values: Vec<View<'a>, &'a Arena>,
-    value: View<'a>,
-) -> Result<Vec<View<'a>, &'a Arena>, NoMemory>
-    ensures { IfOk result (λ more. more.items ≡ values.entry.items ++ value.entry ∷ []) }
-{
-    values.push(value)?;
-    Ok(values)
-}
-
 // The values and the one that is shown, if there is one.
-fn with_shown<'a>(
-    values: Vec<View<'a>, &'a Arena>,
+fn push_shown<'a>(
+    values: &mut Vec<View<'a>, &'a Arena>,
     value: Option<View<'a>>,
-) -> Result<Vec<View<'a>, &'a Arena>, NoMemory>
-    ensures { IfOk result (λ more. shown_by more.items ≡ shown_by values.entry.items ++ shown_value value.entry) }
+) -> Result<(), NoMemory>
+    ensures { OnOk result (shown_by values.new.items ≡ shown_by values.old.items ++ shown_value value.entry) }
 {
-    match value {
-        None => Ok(values),
-        Some(value) => with_value(values, value),
+    if let Some(value) = value {
+        values.push(value)?;
     }
+    Ok(())
 }
 
 // The values and a constant behind them, placed in the arena.
-fn with_constant<'a>(
+fn push_constant<'a>(
     arena: &'a Arena,
-    values: Vec<View<'a>, &'a Arena>,
+    values: &mut Vec<View<'a>, &'a Arena>,
     constant: &Option<Value>,
-) -> Result<Vec<View<'a>, &'a Arena>, NoMemory>
-    ensures { IfOk result (λ more. shown_by more.items ≡ shown_by values.entry.items ++ known_values constant.now) }
+) -> Result<(), NoMemory>
+    ensures { OnOk result (shown_by values.new.items ≡ shown_by values.old.items ++ known_values constant.now) }
 {
-    match constant {
-        None => Ok(values),
-        Some(constant) => with_value(values, constant.place(arena)?),
+    if let Some(constant) = constant {
+        values.push(constant.place(arena)?)?;
     }
+    Ok(())
 }
 
-// The place of the first variable without a constant, from this place on, and the values with the constants in front of it.
+// The place of the first variable without a constant, from this place on; the values get the constants in front of it.
 fn past_constants<'a>(
     arena: &'a Arena,
     vars: &[VarDecl],
     from: usize,
-    values: Vec<View<'a>, &'a Arena>,
-) -> Result<(usize, Vec<View<'a>, &'a Arena>), NoMemory>
-    ensures same { IfOk result (λ r. (ls : List Line) (close : Option ℕ) → then_values (shown_by values.entry.items) (values_of (drop from vars.now) ls close)
-        ≡ then_values (shown_by r.1.items) (values_of (drop r.0 vars.now) ls close)) }
-    ensures in_records { IfOk result (λ r. IfSome (slice_get vars.now r.0) IsTold) }
+    values: &mut Vec<View<'a>, &'a Arena>,
+) -> Result<usize, NoMemory>
+    ensures same { IfOk result (λ i. (ls : List Line) (close : Option ℕ) → then_values (shown_by values.old.items) (values_of (drop from vars.now) ls close)
+        ≡ then_values (shown_by values.new.items) (values_of (drop i vars.now) ls close)) }
+    ensures in_records { IfOk result (λ i. IfSome (slice_get vars.now i) IsTold) }
 {
     let mut index = from;
-    let mut known = values;
     'constants: while let Some(var) = vars.get(index) {
         if !var.constant_line {
-            return Ok((index, known));
+            return Ok(index);
         }
-        known = with_constant(arena, known, &var.constant)?;
+        push_constant(arena, values, &var.constant)?;
         index += 1;
     }
-    Ok((index, known))
+    Ok(index)
 }
 
 // The kind of the variable, whose name the line is to be.
@@ -137,14 +127,14 @@ fn finished<'a>(
     arena: &'a Arena,
     vars: &[VarDecl],
     index: usize,
-    values: Vec<View<'a>, &'a Arena>,
+    values: &mut Vec<View<'a>, &'a Arena>,
     line: u64,
 ) -> Result<&'a [View<'a>], BlockFault>
-    ensures { Shows (λ views. shown_by views.now) result (then_values (shown_by values.entry.items) (values_of (drop index vars.now) [] (Some line))) }
+    ensures { Shows (λ views. shown_by views.now) result (then_values (shown_by values.old.items) (values_of (drop index vars.now) [] (Some line))) }
 {
-    let (index, values) = past_constants(arena, vars, index, values)?;
+    let index = past_constants(arena, vars, index, values)?;
     match vars.get(index) {
-        None => Ok(into_bump_slice(values)),
+        None => Ok(into_bump_slice(replace(values, Vec::new(arena)))),
         Some(_) => Err(refused(line, Why::Truncated)),
     }
 }
@@ -168,93 +158,54 @@ impl<'a> ValueReader<'a> {
 
     // A variable's name, or a line too many.
     #[tactic(auto, unfolding(crate::specs::ValuesResumed::values_resumed))]
-    fn name_line(
-        self,
-        vars: &[VarDecl],
-        line: u64,
-        bytes: &[u8],
-    ) -> Result<ValueReader<'a>, BlockFault>
-        requires { self.place ≡ AtName }
-        ensures { GoesOn (values_resumed vars.now) result (λ ls. values_resumed vars.now self.entry (record { number = line; bytes = bytes.now } ∷ ls)) }
+    fn name_line(&mut self, vars: &[VarDecl], line: u64, bytes: &[u8]) -> Result<(), BlockFault>
+        requires { self.old.place ≡ AtName }
+        ensures { GoesOn (λ _. values_resumed vars.now self.new) result (λ ls. values_resumed vars.now self.old (record { number = line; bytes = bytes.now } ∷ ls)) }
     {
-        let ValueReader {
-            arena,
-            place: _,
-            index,
-            values,
-        } = self;
-        let (index, values) = past_constants(arena, vars, index, values)?;
+        let index = past_constants(self.arena, vars, self.index, &mut self.values)?;
         let kind = kind_at(vars, index, line, bytes)?;
-        Ok(ValueReader {
-            arena,
-            place: Place::AtValue(kind),
-            index: index + 1,
-            values,
-        })
+        self.place = Place::AtValue(kind);
+        self.index = index + 1;
+        Ok(())
     }
 
     // The value of a variable of this kind.
     #[tactic(auto, using(crate::proofs::Marked::same_marked), unfolding(crate::specs::ValuesResumed::values_resumed))]
-    fn value_line(
-        self,
-        kind: Option<Kind>,
-        line: u64,
-        bytes: &[u8],
-    ) -> Result<ValueReader<'a>, BlockFault>
-        requires { self.place ≡ AtValue kind }
-        ensures { (vs : List Declared) → GoesOn (values_resumed vs) result (λ ls. values_resumed vs self.entry (record { number = line; bytes = bytes.now } ∷ ls)) }
+    fn value_line(&mut self, kind: Option<Kind>, line: u64, bytes: &[u8]) -> Result<(), BlockFault>
+        requires { self.old.place ≡ AtValue kind }
+        ensures { (vs : List Declared) → GoesOn (λ _. values_resumed vs self.new) result (λ ls. values_resumed vs self.old (record { number = line; bytes = bytes.now } ∷ ls)) }
     {
-        let ValueReader {
-            arena,
-            place: _,
-            index,
-            values,
-        } = self;
-        let unmarked = Unmarked::read(arena, kind, line, bytes)?;
-        Ok(ValueReader {
-            arena,
-            place: Place::AtMark(unmarked),
-            index,
-            values,
-        })
+        let unmarked = Unmarked::read(self.arena, kind, line, bytes)?;
+        self.place = Place::AtMark(unmarked);
+        Ok(())
     }
 
     // The mark of a value.
     #[tactic(auto, unfolding(crate::specs::ValuesResumed::values_resumed))]
     fn mark_line(
-        self,
+        &mut self,
         unmarked: Unmarked<'a>,
         line: u64,
         bytes: &[u8],
-    ) -> Result<ValueReader<'a>, BlockFault>
-        requires { self.place ≡ AtMark unmarked }
-        ensures { (vs : List Declared) → GoesOn (values_resumed vs) result (λ ls. values_resumed vs self.entry (record { number = line; bytes = bytes.now } ∷ ls)) }
+    ) -> Result<(), BlockFault>
+        requires { self.old.place ≡ AtMark unmarked }
+        ensures { (vs : List Declared) → GoesOn (λ _. values_resumed vs self.new) result (λ ls. values_resumed vs self.old (record { number = line; bytes = bytes.now } ∷ ls)) }
     {
-        let ValueReader {
-            arena,
-            place: _,
-            index,
-            values,
-        } = self;
         let value = unmarked.with_mark(line, bytes)?;
-        let values = with_shown(values, value)?;
-        Ok(ValueReader {
-            arena,
-            place: Place::AtName,
-            index,
-            values,
-        })
+        push_shown(&mut self.values, value)?;
+        self.place = Place::AtName;
+        Ok(())
     }
 
-    /// One line more.
+    /// One line more. After a fault nothing is said of the reader.
     #[tactic(auto, unfolding(crate::specs::ValuesResumed::values_resumed))]
     pub(crate) fn line(
-        self,
+        &mut self,
         vars: &[VarDecl],
         line: u64,
         bytes: &[u8],
-    ) -> Result<ValueReader<'a>, BlockFault>
-        ensures { GoesOn (values_resumed vars.now) result (λ ls. values_resumed vars.now self.entry (record { number = line; bytes = bytes.now } ∷ ls)) }
+    ) -> Result<(), BlockFault>
+        ensures { GoesOn (λ _. values_resumed vars.now self.new) result (λ ls. values_resumed vars.now self.old (record { number = line; bytes = bytes.now } ∷ ls)) }
     {
         match self.place {
             Place::AtName => self.name_line(vars, line, bytes),
@@ -263,13 +214,13 @@ impl<'a> ValueReader<'a> {
         }
     }
 
-    /// The values of a record that ends at this line.
+    /// The values of a record that ends at this line. Nothing is said of the reader behind it.
     #[tactic(auto, unfolding(crate::specs::ValuesResumed::values_resumed))]
-    pub(crate) fn end(self, vars: &[VarDecl], line: u64) -> Result<&'a [View<'a>], BlockFault>
-        ensures { Shows (λ views. shown_by views.now) result (values_resumed vars.now self.entry [] (Some line)) }
+    pub(crate) fn end(&mut self, vars: &[VarDecl], line: u64) -> Result<&'a [View<'a>], BlockFault>
+        ensures { Shows (λ views. shown_by views.now) result (values_resumed vars.now self.old [] (Some line)) }
     {
         match self.place {
-            Place::AtName => finished(self.arena, vars, self.index, self.values, line),
+            Place::AtName => finished(self.arena, vars, self.index, &mut self.values, line),
             Place::AtValue(_) => Err(refused(line, Why::Truncated)),
             Place::AtMark(_) => Err(refused(line, Why::Truncated)),
         }

@@ -2,9 +2,12 @@
 use Rattle.std.specs.Prelude.{◌≡◌, List, [], ◌∷◌, refl}
 use Rattle.dk_base.specs.Tuples.{bool_of, hash_of, int_of, text_of, value_at}
 use Rattle.dk_base.specs.declared.values.Value.{Value}
+use Rattle.dk_forms.specs.Code.{code_of}
 use Rattle.dk_forms.specs.Distinct.{put}
+use Rattle.dk_forms.specs.Ints.{ints_of}
 use Rattle.dk_forms.specs.Modulus.{modulus_of}
 use Rattle.dk_forms.specs.Texts.{texts_of}
+use Rattle.dk_forms.specs.Truth.{truth_of}
 use Rattle.dk_forms.specs.declared.states.State.TheVariants.{Ints, Truth, Code}
 use Rattle.dk_rows.specs.Meanings.{meanings, relation_of, state_of}
 use Rattle.dk_rows.specs.Relations.{is_nonnull, is_nonzero, is_nonzero_hash}
@@ -50,3 +53,16 @@ non_null_hash t = refl
 pub non_null_str : (t : List Value) → relation_of (non_null_row non_null.Str) t ≡ is_nonnull (text_of (value_at t 0))
 unfolding relation_of meanings
 non_null_str t = refl
+
+-- the same by the state of a list of one value
+pub ints_of_one : (t : List Value) → state_of (one_of_row one_of.Int) (t ∷ []) ≡ ints_of (int_of (value_at t 0) ∷ [])
+unfolding state_of meanings
+ints_of_one t = refl
+
+pub bools_of_one : (t : List Value) → state_of (one_of_row one_of.Bool) (t ∷ []) ≡ truth_of (bool_of (value_at t 0) ∷ [])
+unfolding state_of meanings
+bools_of_one t = refl
+
+pub hashes_of_one : (t : List Value) → state_of (one_of_row one_of.Hash) (t ∷ []) ≡ code_of (hash_of (value_at t 0) ∷ [])
+unfolding state_of meanings
+hashes_of_one t = refl

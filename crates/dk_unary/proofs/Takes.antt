@@ -51,6 +51,22 @@ unfolding rows
 modulus_takes t is = is.each 0
 
 -- ---- forms
+pub one_of_ints : form_of (one_of_row one_of.Int) ≡ form.Ints
+unfolding rows
+one_of_ints = refl
+
+pub one_of_bools : form_of (one_of_row one_of.Bool) ≡ form.Truth
+unfolding rows
+one_of_bools = refl
+
+pub one_of_hashes : form_of (one_of_row one_of.Hash) ≡ form.Code
+unfolding rows
+one_of_hashes = refl
+
+pub modulus_form : form_of modulus_row ≡ form.Modulus
+unfolding rows
+modulus_form = refl
+
 pub one_of_strings : form_of (one_of_row one_of.Str) ≡ form.Texts
 unfolding rows
 one_of_strings = refl

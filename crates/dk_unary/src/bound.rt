@@ -1,9 +1,13 @@
 // The rows that keep a bound.
-ghost use Rattle.std.specs.Prelude.{◌≡◌};
+ghost use Rattle.std.specs.Prelude.{◌≡◌, ◌↔◌, IsTrue};
+ghost use Rattle.dk_template.specs.Joins.{joined};
+ghost use Rattle.dk_template.specs.Proper.{IsProper};
+ghost use Rattle.dk_template.specs.Templates.{form_of};
 ghost use Rattle.dk_unary.specs.Rows.{bound_row, bound_state};
 
 use crate::rows::join;
 use dk_base::{NoMemory, View, int_at};
+use dk_forms::{greatest_stays, least_stays};
 use dk_template::{Row, RowId, State};
 use std::alloc::Global;
 
@@ -36,6 +40,18 @@ fn state_of_one(bound: Bound, x: i64) -> State
     }
 }
 
+// Whether one value leaves the state as it is.
+#[tactic(auto, unfolding(dk_template::specs::Templates::rows))]
+fn one_stays(bound: Bound, state: &State, x: i64) -> bool
+    requires { IsProper (form_of (bound_row bound)) state.now }
+    ensures { IsTrue result ↔ (joined (form_of (bound_row bound)) state.now (bound_state bound x) ≡ state.now) }
+{
+    match bound {
+        Bound::Lower => least_stays(state, x),
+        Bound::Upper => greatest_stays(state, x),
+    }
+}
+
 impl Row for Bound {
     ghost use Rattle.dk_rows.proofs.RowLaws.{laws_by};
     ghost use Rattle.dk_rows.specs.Meanings.{state_of};
@@ -56,5 +72,9 @@ impl Row for Bound {
 
     fn join(&self, alloc: Global, a: State, b: &State) -> Result<State, NoMemory> {
         join(alloc, self.row(), a, b)
+    }
+
+    fn stays(&self, state: &State, tuple: &[View<'_>]) -> bool {
+        one_stays(*self, state, int_at(tuple, 0))
     }
 }

@@ -11,7 +11,7 @@ pub use bound::Bound;
 pub use modulus::Modulus;
 pub use non_null::NonNull;
 pub use one_of::OneOf;
-pub use rows::{join, point};
+pub use rows::{join, point, stays};
 
 #[cfg(test)]
 mod tests;

@@ -4,7 +4,7 @@ ghost use Rattle.dk_unary.specs.Rows.{modulus_row};
 
 use crate::rows::join;
 use dk_base::{NoMemory, View, int_at};
-use dk_forms::modulus_point;
+use dk_forms::{modulus_point, modulus_stays};
 use dk_template::{Row, RowId, State};
 use std::alloc::Global;
 
@@ -41,5 +41,9 @@ impl Row for Modulus {
 
     fn join(&self, alloc: Global, a: State, b: &State) -> Result<State, NoMemory> {
         join(alloc, self.row(), a, b)
+    }
+
+    fn stays(&self, state: &State, tuple: &[View<'_>]) -> bool {
+        modulus_stays(state, int_at(tuple, 0))
     }
 }

@@ -9,7 +9,7 @@ ghost use Rattle.dk_unary.specs.Rows.{non_null_row};
 
 use crate::rows::join;
 use dk_base::{NoMemory, View, hash_at, int_at, text_at};
-use dk_forms::plain_point;
+use dk_forms::{plain_point, plain_stays};
 use dk_template::{Row, RowId, State};
 use std::alloc::Global;
 
@@ -80,5 +80,9 @@ impl Row for NonNull {
 
     fn join(&self, alloc: Global, a: State, b: &State) -> Result<State, NoMemory> {
         join(alloc, self.row(), a, b)
+    }
+
+    fn stays(&self, state: &State, tuple: &[View<'_>]) -> bool {
+        plain_stays(state, self.holds(tuple))
     }
 }

@@ -1,14 +1,16 @@
 // The rows that keep the values of a variable, where they are few.
-ghost use Rattle.std.specs.Prelude.{◌≡◌, [], ◌∷◌, IfOk, OnErr};
+ghost use Rattle.std.specs.Prelude.{◌≡◌, ◌↔◌, [], ◌∷◌, IfOk, IsTrue, OnErr};
 ghost use Rattle.dk_base.specs.Values.{values_of};
 ghost use Rattle.dk_rows.specs.Meanings.{state_of};
+ghost use Rattle.dk_template.specs.Joins.{joined};
+ghost use Rattle.dk_template.specs.Proper.{IsProper};
 ghost use Rattle.dk_template.specs.Rows.{IsTuple};
-ghost use Rattle.dk_template.specs.Templates.{kinds_of};
+ghost use Rattle.dk_template.specs.Templates.{form_of, kinds_of};
 ghost use Rattle.dk_unary.specs.Rows.{one_of_row};
 
 use crate::rows::join;
 use dk_base::{NoMemory, View, bool_at, hash_at, int_at, text_at};
-use dk_forms::text_point;
+use dk_forms::{code_stays, ints_stays, text_point, text_stays, truth_stays};
 use dk_template::{Few, Row, RowId, State};
 use std::alloc::Global;
 
@@ -56,6 +58,20 @@ fn state_of_one(of: OneOf, alloc: Global, tuple: &[View<'_>]) -> Result<State, N
     }
 }
 
+// Whether one value leaves the state as it is.
+fn one_stays(of: OneOf, state: &State, tuple: &[View<'_>]) -> bool
+    requires state { IsProper (form_of (one_of_row of)) state.now }
+    requires tuple { IsTuple (kinds_of (one_of_row of)) (values_of tuple.now) }
+    ensures { IsTrue result ↔ (joined (form_of (one_of_row of)) state.now (state_of (one_of_row of) (values_of tuple.now ∷ [])) ≡ state.now) }
+{
+    match of {
+        OneOf::Int => ints_stays(state, int_at(tuple, 0)),
+        OneOf::Bool => truth_stays(state, bool_at(tuple, 0)),
+        OneOf::Hash => code_stays(state, hash_at(tuple, 0)),
+        OneOf::Str => text_stays(state, text_at(tuple, 0)),
+    }
+}
+
 impl Row for OneOf {
     ghost use Rattle.dk_rows.proofs.RowLaws.{laws_by};
     ghost use Rattle.dk_rows.specs.Meanings.{state_of};
@@ -76,5 +92,9 @@ impl Row for OneOf {
 
     fn join(&self, alloc: Global, a: State, b: &State) -> Result<State, NoMemory> {
         join(alloc, self.row(), a, b)
+    }
+
+    fn stays(&self, state: &State, tuple: &[View<'_>]) -> bool {
+        one_stays(*self, state, tuple)
     }
 }

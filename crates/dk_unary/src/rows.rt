@@ -1,5 +1,5 @@
 // The rows of one variable by their numbers.
-ghost use Rattle.std.specs.Prelude.{◌≡◌, [], ◌∷◌, IfOk, OnErr};
+ghost use Rattle.std.specs.Prelude.{◌≡◌, ◌↔◌, [], ◌∷◌, IfOk, IsTrue, OnErr};
 ghost use Rattle.dk_base.specs.Values.{values_of};
 ghost use Rattle.dk_rows.specs.Meanings.{state_of};
 ghost use Rattle.dk_template.specs.Joins.{joined};
@@ -9,10 +9,28 @@ ghost use Rattle.dk_template.specs.Templates.{form_of, kinds_of};
 ghost use Rattle.dk_template.specs.declared.templates.StateForm.{StateForm};
 ghost use Rattle.dk_unary.specs.Rows.{IsUnary};
 
-use crate::{Bound, Modulus, NonNull, OneOf};
 use dk_base::{NoMemory, View};
-use dk_template::{Row, RowId, State, by_number, join_states, template_at};
+use dk_template::{Row, RowId, State, join_states, template_at};
 use std::alloc::Global;
+
+/// An expression over the row of one variable that has a number, in the row's own type: `unary_row!(number, row => expression)`.
+#[macro_export]
+macro_rules! unary_row {
+    ($number:expr, $row:ident => $value:expr) => {
+        dk_template::by_number!($number, $row => $value, {
+            1 => $crate::OneOf::Int,
+            2 => $crate::Bound::Lower,
+            3 => $crate::Bound::Upper,
+            4 => $crate::NonNull::Int,
+            5 => $crate::Modulus,
+            6 => $crate::OneOf::Bool,
+            7 => $crate::OneOf::Hash,
+            8 => $crate::NonNull::Hash,
+            9 => $crate::OneOf::Str,
+            _ => $crate::NonNull::Str,
+        })
+    };
+}
 
 /// The state of one tuple. Only row 9 wants memory.
 pub fn point(alloc: Global, row: RowId, tuple: &[View<'_>]) -> Result<State, NoMemory>
@@ -21,18 +39,7 @@ pub fn point(alloc: Global, row: RowId, tuple: &[View<'_>]) -> Result<State, NoM
     ensures state { IfOk result (λ state. state ≡ state_of row (values_of tuple.now ∷ [])) }
     ensures err { OnErr result (form_of row ≡ StateForm.Texts) }
 {
-    by_number!(row, row => row.point(alloc, tuple), {
-        1 => OneOf::Int,
-        2 => Bound::Lower,
-        3 => Bound::Upper,
-        4 => NonNull::Int,
-        5 => Modulus,
-        6 => OneOf::Bool,
-        7 => OneOf::Hash,
-        8 => NonNull::Hash,
-        9 => OneOf::Str,
-        _ => NonNull::Str,
-    })
+    unary_row!(row, row => row.point(alloc, tuple))
 }
 
 /// The state of two lists together. Only row 9 wants memory.
@@ -44,4 +51,14 @@ pub fn join(alloc: Global, row: RowId, a: State, b: &State) -> Result<State, NoM
     ensures err { OnErr result (form_of row ≡ StateForm.Texts) }
 {
     join_states(template_at(row).form, alloc, a, b)
+}
+
+/// Whether a tuple leaves a state as it is.
+pub fn stays(row: RowId, state: &State, tuple: &[View<'_>]) -> bool
+    requires row { IsUnary row }
+    requires state { IsProper (form_of row) state.now }
+    requires tuple { IsTuple (kinds_of row) (values_of tuple.now) }
+    ensures { IsTrue result ↔ (joined (form_of row) state.now (state_of row (values_of tuple.now ∷ [])) ≡ state.now) }
+{
+    unary_row!(row, row => row.stays(state, tuple))
 }

@@ -1,6 +1,5 @@
 use Rattle.std.proofs.Common.{◌≡◌, drop, take}
-use Rattle.dk_base.specs.Pieces.{outside, parts}
-use Rattle.dk_base.proofs.Splits.{behind}
+use Rattle.dk_base.specs.Pieces.{outside, parts, behind}
 use Rattle.dk_base.proofs.splitting.piece_len.Given as goal
 
 abbrev pub invariant-loop-i : goal.invariant-loop-i

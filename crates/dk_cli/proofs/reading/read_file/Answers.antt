@@ -11,5 +11,5 @@ returns-in-Ok-read_started-clause-gives g c h stands xs holds =
 pub returns-in-Err-Read-clause-gives : goal.returns-in-Err-Read-clause-gives
 returns-in-Err-Read-clause-gives g c h stands xs holds =
     let started : c.start.new.self ≡ fresh c.args.lines.now = search rules in
-    told_read h c.args.lines.now c.start.new.self c.read_started.new.lines _ xs _ _ _ started c.in-Ok.ensures.rest holds
+    told_read h c.args.lines.now c.start.new.self c.read_started.new.lines _ xs (g.I.Inputs.rest c.args.inputs.now) _ _ started c.in-Ok.ensures.rest holds
     (c.in-Err-Read.ensures.emptied c.in-Err-Read.field-0-0 (cc)) (rw c.in-Err-Read.field-0-is at (c.in-Err-Read.ensures.gives h stands))

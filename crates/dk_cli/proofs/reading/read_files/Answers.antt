@@ -1,12 +1,12 @@
-use Rattle.std.proofs.Common.{rules, arith, ap, subst, sym, ℕ, List, map, string_bytes, Ok, Err}
+use Rattle.std.proofs.Common.{rules, arith, ap, subst, sym, refl, ℕ, List, map, string_bytes, Ok, Err}
 use Rattle.std.proofs.lemmas.List.{length-map, take_all}
-use Rattle.dk_io.specs.Outside.{Held}
+use Rattle.dk_io.specs.Outside.{Held, Rose}
 use Rattle.dk_lines.specs.Reading.{room_of}
 use Rattle.dk_cli.specs.WholeFile.{FileGives}
 use Rattle.dk_cli.specs.Statuses.{AreClean}
-use Rattle.dk_cli.specs.AllFiles.{FilesTroubleGives}
+use Rattle.dk_cli.specs.AllFiles.{AreThere, FilesTroubleGives, IsCaused}
 use Rattle.dk_cli.specs.declared.reading.FilesTrouble.{FilesTrouble}
-use Rattle.dk_cli.proofs.Running.{runs_none, runs_on, runs_end, runs_trouble, there_more, clean_none, clean_on, all_there}
+use Rattle.dk_cli.proofs.Running.{runs_none, runs_on, runs_end, runs_trouble, there_more, clean_none, clean_on, all_there, trouble_there, trouble_caused}
 use Rattle.dk_cli.proofs.reading.read_files.Goals as goal
 
 pub loop-place-init : goal.loop-place-init
@@ -23,7 +23,7 @@ loop-place-init g c = record {
 pub loop-place-preserved : goal.loop-place-preserved
 loop-place-preserved g c =
     let names : List (List ℕ) = map string_bytes c.args.names.now in
-    let there = rw c.loop-place.invariant.files at c.in-Ok-read_file.ensures.there in
+    let there = rw c.loop-place.invariant.files at (c.in-Ok-read_file.ensures.there (λ e. cc e)) in
     let gives = subst (λ (f : List ℕ → Held). FileGives c.loop-place.session (f c.name_at.result.now) (g.I.Inputs.rest c.loop-place.inputs) c.loop-place.lines (Ok c.in-Ok-read_file.next) c.read_file.new.lines (g.I.Inputs.rest c.read_file.new.inputs))
     c.loop-place.invariant.files c.in-Ok-read_file.ensures.gives in
     let runs = runs_on (g.I.Inputs.file c.args.inputs.now) names c.loop-place.place _ _ _ c.loop-place.session c.in-Ok-read_file.next c.loop-place.lines c.read_file.new.lines c.name_at.result.now
@@ -46,6 +46,23 @@ returns-in-Err-read_file-clause-gives g c =
     subst (λ (t : FilesTrouble). FilesTroubleGives (g.I.Inputs.file c.args.inputs.now) names (g.I.Inputs.rest c.args.inputs.now) t (g.I.Inputs.rest c.read_file.new.inputs)) (sym c.at_place.ensures)
     (runs_trouble (g.I.Inputs.file c.args.inputs.now) names c.loop-place.place _ _ _ c.loop-place.session c.loop-place.lines c.name_at.result.now c.in-Err-read_file.trouble
     (omega (arith, length-map c.args.names.now string_bytes)) c.name_at.ensures c.loop-place.invariant.limits c.loop-place.invariant.runs gives)
+
+pub returns-in-Err-read_file-clause-there : goal.returns-in-Err-read_file-clause-there
+returns-in-Err-read_file-clause-there g c =
+    let names : List (List ℕ) = map string_bytes c.args.names.now in
+    subst (λ (t : FilesTrouble). AreThere (g.I.Inputs.file c.args.inputs.now) names (Err t)) (sym c.at_place.ensures)
+    (trouble_there (g.I.Inputs.file c.args.inputs.now) names c.loop-place.place c.name_at.result.now (Err c.in-Err-read_file.trouble) c.in-Err-read_file.trouble refl
+    (omega (arith, length-map c.args.names.now string_bytes)) c.name_at.ensures c.loop-place.invariant.there (rw c.loop-place.invariant.files at c.in-Err-read_file.ensures.there))
+
+pub returns-in-Err-read_file-clause-cause : goal.returns-in-Err-read_file-clause-cause
+returns-in-Err-read_file-clause-cause g c =
+    let names : List (List ℕ) = map string_bytes c.args.names.now in
+    let file = g.I.Inputs.file c.args.inputs.now in
+    let a = g.I.Inputs.faults c.args.inputs.now in
+    let z = g.I.Inputs.faults c.read_file.new.inputs in
+    subst (λ (t : FilesTrouble). IsCaused file names (Rose a z) t) (sym c.at_place.ensures)
+    (trouble_caused file names c.loop-place.place c.name_at.result.now (Err c.in-Err-read_file.trouble) c.in-Err-read_file.trouble a (g.I.Inputs.faults c.loop-place.inputs) z refl c.name_at.ensures
+    c.loop-place.invariant.later (rw c.loop-place.invariant.files at c.in-Err-read_file.ensures.there) (rw c.loop-place.invariant.files at c.in-Err-read_file.ensures.start) c.in-Err-read_file.ensures.read)
 
 pub returns-clause-gives : goal.returns-clause-gives
 returns-clause-gives g c =

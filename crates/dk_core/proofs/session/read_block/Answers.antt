@@ -4,11 +4,12 @@ use Rattle.dk_core.specs.History.{effect_of}
 use Rattle.dk_core.specs.Standing.{resumed}
 use Rattle.dk_core.specs.declared.session.Step.{Step}
 use Rattle.dk_core.specs.declared.session.Step.TheVariants.{More, Ended}
-use Rattle.dk_core.specs.declared.session.Turn.{Turn}
-use Rattle.dk_core.specs.declared.session.Turn.TheVariants.{Goes, Ends}
 use Rattle.dk_core.specs.declared.session.Stop.{Stop}
 use Rattle.dk_core.specs.Steps.{ClosesAt, ShapeAt, StepGives, StepShape, StepCounts, TurnCounts}
 use Rattle.dk_core.proofs.Stepping.{begun, block_counts, closed_on, fits_at, told_on, told_stop}
+use Rattle.dk_core.specs.Turns.{Goes, Ends, ended, turn_of}
+use Rattle.dk_core.specs.declared.session.After.{After}
+use Rattle.dk_core.specs.declared.session.After.TheVariants as after
 use Rattle.dk_core.proofs.session.read_block.Goals as goal
 
 pub reading-init : goal.reading-init
@@ -19,12 +20,12 @@ reading-init g c = record {
   files = search rules;
   later = search rules;
   fits = c.begin-block.ensures.fits;
-  goes = λ h stands. begun h c.args.kept c.begin-block.result c.args.lines.now (left_of c.args.lines.now (g.I.Inputs.rest c.args.inputs.now)) stands (c.begin-block.ensures.resumes h stands);
+  goes = λ h stands. begun h c.args.kept.now c.begin-block.result c.args.lines.now (left_of c.args.lines.now (g.I.Inputs.rest c.args.inputs.now)) stands (c.begin-block.ensures.resumes h stands);
 }
 
 pub reading-preserved-in-Ok-More : goal.reading-preserved-in-Ok-More
 reading-preserved-in-Ok-More g c =
-    let is : c.take_line.result ≡ Ok (More c.in-Ok-More.more) = search rules in
+    let is : c.take_line.result ≡ Ok More = search rules in
     let counts = subst (λ (t : Result Step Stop). StepCounts c.reading.lines t c.take_line.new.lines) is c.take_line.ensures.counts in
     record {
       started = counts.1;
@@ -32,59 +33,59 @@ reading-preserved-in-Ok-More g c =
       grown = omega (arith, counts.2, c.reading.invariant.grown);
       files = c.take_line.ensures.files ∙ c.reading.invariant.files;
       later = omega (arith, c.take_line.ensures.later, c.reading.invariant.later);
-      fits = subst (λ (t : Result Step Stop). StepShape c.reading.kept c.reading.block t) is c.take_line.ensures.shape;
+      fits = subst (λ (t : Result Step Stop). StepShape c.reading.kept c.reading.block c.take_line.new.block t) is c.take_line.ensures.shape;
       goes = λ h stands.
-          told_on (effect_of h) c.args.lines.now c.reading.lines c.take_line.new.lines _ _ _ c.reading.kept c.reading.block (Ok (Goes c.reading.kept c.in-Ok-More.more)) (c.reading.invariant.goes h stands)
-          (λ now holds. subst (λ (t : Result Step Stop). IfSome (left_of c.reading.lines (g.I.Inputs.rest c.reading.inputs)) (λ ys. StepGives c.reading.kept (resumed now c.reading.block) c.reading.lines ys t c.take_line.new.lines (left_of c.take_line.new.lines (g.I.Inputs.rest c.take_line.new.inputs)))) is
+          told_on (effect_of h) c.args.lines.now c.reading.lines c.take_line.new.lines _ _ _ c.reading.kept c.reading.block (Ok (Goes c.reading.kept c.take_line.new.block)) (c.reading.invariant.goes h stands)
+          (λ now holds. subst (λ (t : Result Step Stop). IfSome (left_of c.reading.lines (g.I.Inputs.rest c.reading.inputs)) (λ ys. StepGives c.reading.kept c.take_line.new.block (resumed now c.reading.block) c.reading.lines ys t c.take_line.new.lines (left_of c.take_line.new.lines (g.I.Inputs.rest c.take_line.new.inputs)))) is
           (c.take_line.ensures.gives now holds));
     }
 
 pub reading-preserved : goal.reading-preserved
 reading-preserved g c =
-    let is : c.take_line.result ≡ Ok (Ended c.in-Ok-Ended.whole c.in-Ok-Ended.number c.in-Ok-Ended.is_over) = search rules in
-    let turns : c.closed.result ≡ Ok (Goes c.in-Ok-Goes.next c.in-Ok-Goes.more) = search rules in
-    let shape : ShapeAt c.in-Ok-Ended.is_over (Ok (Goes c.in-Ok-Goes.next c.in-Ok-Goes.more)) = subst (λ (t : Result Turn Stop). ShapeAt c.in-Ok-Ended.is_over t) turns c.closed.ensures.shape in
-    let counts : TurnCounts c.reading.lines (Ok (Goes c.in-Ok-Goes.next c.in-Ok-Goes.more)) c.take_line.new.lines =
-    subst (λ (t : Result Step Stop). StepCounts c.reading.lines t c.take_line.new.lines) is c.take_line.ensures.counts (Ok (Goes c.in-Ok-Goes.next c.in-Ok-Goes.more)) shape in
-    let same = subst (λ (t : Result Step Stop). StepShape c.reading.kept c.reading.block t) is c.take_line.ensures.shape in
+    let is : c.take_line.result ≡ Ok (Ended c.in-Ok-Ended.number c.in-Ok-Ended.is_over) = search rules in
+    let turns : c.closed.result ≡ Ok after.Goes = search rules in
+    let shape : ShapeAt c.in-Ok-Ended.is_over (Ok (Goes c.closed.new.kept c.closed.new.block)) = subst (λ (t : Result After Stop). ShapeAt c.in-Ok-Ended.is_over (turn_of c.closed.new.kept c.closed.new.block t)) turns c.closed.ensures.shape in
+    let counts : TurnCounts c.reading.lines (Ok (Goes c.closed.new.kept c.closed.new.block)) c.take_line.new.lines =
+    subst (λ (t : Result Step Stop). StepCounts c.reading.lines t c.take_line.new.lines) is c.take_line.ensures.counts (Ok (Goes c.closed.new.kept c.closed.new.block)) shape in
+    let same = subst (λ (t : Result Step Stop). StepShape c.reading.kept c.reading.block c.take_line.new.block t) is c.take_line.ensures.shape in
     record {
       started = counts.1;
       limits = counts.0 ∙ c.reading.invariant.limits;
       grown = omega (arith, counts.2, c.reading.invariant.grown);
       files = c.take_line.ensures.files ∙ c.reading.invariant.files;
       later = omega (arith, c.take_line.ensures.later, c.reading.invariant.later);
-      fits = fits_at c.in-Ok-Ended.is_over c.in-Ok-Goes.next c.in-Ok-Goes.more shape;
+      fits = fits_at c.in-Ok-Ended.is_over c.closed.new.kept c.closed.new.block shape;
       goes = λ h stands.
-          told_on (effect_of h) c.args.lines.now c.reading.lines c.take_line.new.lines _ _ _ c.reading.kept c.reading.block (Ok (Goes c.in-Ok-Goes.next c.in-Ok-Goes.more)) (c.reading.invariant.goes h stands)
-          (λ now holds. closed_on now c.reading.kept c.reading.block c.in-Ok-Ended.whole c.reading.lines c.take_line.new.lines c.in-Ok-Ended.number c.in-Ok-Ended.is_over _ _ (Ok (Goes c.in-Ok-Goes.next c.in-Ok-Goes.more)) same
-          (subst (λ (t : Result Step Stop). IfSome (left_of c.reading.lines (g.I.Inputs.rest c.reading.inputs)) (λ ys. StepGives c.reading.kept (resumed now c.reading.block) c.reading.lines ys t c.take_line.new.lines (left_of c.take_line.new.lines (g.I.Inputs.rest c.take_line.new.inputs)))) is
+          told_on (effect_of h) c.args.lines.now c.reading.lines c.take_line.new.lines _ _ _ c.reading.kept c.reading.block (Ok (Goes c.closed.new.kept c.closed.new.block)) (c.reading.invariant.goes h stands)
+          (λ now holds. closed_on now c.reading.kept c.reading.block c.take_line.new.block c.reading.lines c.take_line.new.lines c.in-Ok-Ended.number c.in-Ok-Ended.is_over _ _ (Ok (Goes c.closed.new.kept c.closed.new.block)) same
+          (subst (λ (t : Result Step Stop). IfSome (left_of c.reading.lines (g.I.Inputs.rest c.reading.inputs)) (λ ys. StepGives c.reading.kept c.take_line.new.block (resumed now c.reading.block) c.reading.lines ys t c.take_line.new.lines (left_of c.take_line.new.lines (g.I.Inputs.rest c.take_line.new.inputs)))) is
           (c.take_line.ensures.gives now holds))
-          (subst (λ (t : Result Turn Stop). ClosesAt c.in-Ok-Ended.is_over (resumed now c.in-Ok-Ended.whole) c.in-Ok-Ended.number t) turns (c.closed.ensures.gives now holds)));
+          (subst (λ (t : Result After Stop). ClosesAt c.in-Ok-Ended.is_over (resumed now c.take_line.new.block) c.in-Ok-Ended.number (turn_of c.closed.new.kept c.closed.new.block t)) turns (c.closed.ensures.gives now holds)));
     }
 
 pub returns-in-Ok-Ends-clause-gives : goal.returns-in-Ok-Ends-clause-gives
 returns-in-Ok-Ends-clause-gives g c h stands =
-    let is : c.take_line.result ≡ Ok (Ended c.in-Ok-Ended.whole c.in-Ok-Ended.number c.in-Ok-Ended.is_over) = search rules in
-    let turns : c.closed.result ≡ Ok (Ends c.in-Ok-Ends.end) = search rules in
-    let same = subst (λ (t : Result Step Stop). StepShape c.reading.kept c.reading.block t) is c.take_line.ensures.shape in
-    told_on (effect_of h) c.args.lines.now c.reading.lines c.take_line.new.lines _ _ _ c.reading.kept c.reading.block (Ok (Ends c.in-Ok-Ends.end)) (c.reading.invariant.goes h stands)
-    (λ now holds. closed_on now c.reading.kept c.reading.block c.in-Ok-Ended.whole c.reading.lines c.take_line.new.lines c.in-Ok-Ended.number c.in-Ok-Ended.is_over _ _ (Ok (Ends c.in-Ok-Ends.end)) same
-    (subst (λ (t : Result Step Stop). IfSome (left_of c.reading.lines (g.I.Inputs.rest c.reading.inputs)) (λ ys. StepGives c.reading.kept (resumed now c.reading.block) c.reading.lines ys t c.take_line.new.lines (left_of c.take_line.new.lines (g.I.Inputs.rest c.take_line.new.inputs)))) is
+    let is : c.take_line.result ≡ Ok (Ended c.in-Ok-Ended.number c.in-Ok-Ended.is_over) = search rules in
+    let turns : c.closed.result ≡ Ok (after.Ends c.in-Ok-Ends.end) = search rules in
+    let same = subst (λ (t : Result Step Stop). StepShape c.reading.kept c.reading.block c.take_line.new.block t) is c.take_line.ensures.shape in
+    told_on (effect_of h) c.args.lines.now c.reading.lines c.take_line.new.lines _ _ _ c.reading.kept c.reading.block (Ok (Ends (ended c.closed.new.kept c.in-Ok-Ends.end))) (c.reading.invariant.goes h stands)
+    (λ now holds. closed_on now c.reading.kept c.reading.block c.take_line.new.block c.reading.lines c.take_line.new.lines c.in-Ok-Ended.number c.in-Ok-Ended.is_over _ _ (Ok (Ends (ended c.closed.new.kept c.in-Ok-Ends.end))) same
+    (subst (λ (t : Result Step Stop). IfSome (left_of c.reading.lines (g.I.Inputs.rest c.reading.inputs)) (λ ys. StepGives c.reading.kept c.take_line.new.block (resumed now c.reading.block) c.reading.lines ys t c.take_line.new.lines (left_of c.take_line.new.lines (g.I.Inputs.rest c.take_line.new.inputs)))) is
     (c.take_line.ensures.gives now holds))
-    (subst (λ (t : Result Turn Stop). ClosesAt c.in-Ok-Ended.is_over (resumed now c.in-Ok-Ended.whole) c.in-Ok-Ended.number t) turns (c.closed.ensures.gives now holds)))
+    (subst (λ (t : Result After Stop). ClosesAt c.in-Ok-Ended.is_over (resumed now c.take_line.new.block) c.in-Ok-Ended.number (turn_of c.closed.new.kept c.closed.new.block t)) turns (c.closed.ensures.gives now holds)))
 
 pub returns-in-Ok-Ends-clause-counts : goal.returns-in-Ok-Ends-clause-counts
 returns-in-Ok-Ends-clause-counts g c =
-    let is : c.take_line.result ≡ Ok (Ended c.in-Ok-Ended.whole c.in-Ok-Ended.number c.in-Ok-Ended.is_over) = search rules in
-    let turns : c.closed.result ≡ Ok (Ends c.in-Ok-Ends.end) = search rules in
-    let shape : ShapeAt c.in-Ok-Ended.is_over (Ok (Ends c.in-Ok-Ends.end)) = subst (λ (t : Result Turn Stop). ShapeAt c.in-Ok-Ended.is_over t) turns c.closed.ensures.shape in
-    block_counts c.args.lines.now c.reading.lines c.take_line.new.lines c.in-Ok-Ends.end c.reading.invariant.limits c.reading.invariant.grown
-    (subst (λ (t : Result Step Stop). StepCounts c.reading.lines t c.take_line.new.lines) is c.take_line.ensures.counts (Ok (Ends c.in-Ok-Ends.end)) shape)
+    let is : c.take_line.result ≡ Ok (Ended c.in-Ok-Ended.number c.in-Ok-Ended.is_over) = search rules in
+    let turns : c.closed.result ≡ Ok (after.Ends c.in-Ok-Ends.end) = search rules in
+    let shape : ShapeAt c.in-Ok-Ended.is_over (Ok (Ends (ended c.closed.new.kept c.in-Ok-Ends.end))) = subst (λ (t : Result After Stop). ShapeAt c.in-Ok-Ended.is_over (turn_of c.closed.new.kept c.closed.new.block t)) turns c.closed.ensures.shape in
+    block_counts c.args.lines.now c.reading.lines c.take_line.new.lines (ended c.closed.new.kept c.in-Ok-Ends.end) c.reading.invariant.limits c.reading.invariant.grown
+    (subst (λ (t : Result Step Stop). StepCounts c.reading.lines t c.take_line.new.lines) is c.take_line.ensures.counts (Ok (Ends (ended c.closed.new.kept c.in-Ok-Ends.end))) shape)
 
 pub returns-in-Err-clause-gives : goal.returns-in-Err-clause-gives
 returns-in-Err-clause-gives g c h stands =
     let is : c.take_line.result ≡ Err c.in-Err.stop = search rules in
     told_stop (effect_of h) c.args.lines.now c.take_line.new.lines _ _ c.in-Err.stop
     (told_on (effect_of h) c.args.lines.now c.reading.lines c.take_line.new.lines _ _ _ c.reading.kept c.reading.block (Err c.in-Err.stop) (c.reading.invariant.goes h stands)
-    (λ now holds. subst (λ (t : Result Step Stop). IfSome (left_of c.reading.lines (g.I.Inputs.rest c.reading.inputs)) (λ ys. StepGives c.reading.kept (resumed now c.reading.block) c.reading.lines ys t c.take_line.new.lines (left_of c.take_line.new.lines (g.I.Inputs.rest c.take_line.new.inputs)))) is
+    (λ now holds. subst (λ (t : Result Step Stop). IfSome (left_of c.reading.lines (g.I.Inputs.rest c.reading.inputs)) (λ ys. StepGives c.reading.kept c.take_line.new.block (resumed now c.reading.block) c.reading.lines ys t c.take_line.new.lines (left_of c.take_line.new.lines (g.I.Inputs.rest c.take_line.new.inputs)))) is
     (c.take_line.ensures.gives now holds)))

@@ -5,9 +5,9 @@ use Rattle.dk_trace.specs.Values.{then_values}
 use Rattle.dk_trace.proofs.Left.{cut_in_front}
 use Rattle.dk_trace.proofs.values.finished.Goals as goal
 
-pub returns : goal.returns
-returns c =
+pub returns-in-Some : goal.returns-in-Some
+returns-in-Some c =
     let within : c.in_ok-index.index < length c.args.vars.now = ltb-true _ _ (sym c.in-Some.ensures.lookup.0) in
     rw c.refused.ensures
     (c.in_ok-index.ensures.same [] (Some c.args.line)
-    ∙ ap (then_values (shown_by c.in_ok-index.values.items)) (cut_in_front c.args.vars.now c.in_ok-index.index c.args.line c.in_ok-index.ensures.in_records within))
+    ∙ ap (then_values (shown_by c.past_constants.new.values.items)) (cut_in_front c.args.vars.now c.in_ok-index.index c.args.line c.in_ok-index.ensures.in_records within))

@@ -7,7 +7,7 @@ use Rattle.dk_trace.proofs.values.past_constants.Given as goal
 -- the values are the same, wherever the constants stand
 abbrev pub invariant-constants : goal.invariant-constants
 invariant-constants l = (ls : List Line) (close : Option ℕ) → then_values (shown_by l.fn.values.items) (values_of (drop l.from l.vars) ls close)
-    ≡ then_values (shown_by l.known.items) (values_of (drop l.index l.vars) ls close)
+    ≡ then_values (shown_by l.values.items) (values_of (drop l.index l.vars) ls close)
 
 abbrev pub decreases-constants : goal.decreases-constants
 decreases-constants l = length l.vars - l.index

@@ -9,7 +9,7 @@ use Rattle.dk_core.proofs.kept.Kept.begun_declaration.Goals as goal
 pub returns-in-Ok-clause-goes_on : goal.returns-in-Ok-clause-goes_on
 unfolding resumed
 returns-in-Ok-clause-goes_on c h ls close =
-    let now : History = record h { header = c.args.header } in
+    let now : History = record h { header = c.args.block.now.header } in
     let first : Line = record { number = c.args.number; bytes = c.args.bytes.now } in
     ap (λ (r : Result PointDecl LineFault). r >>= λ d. where_it_ends close now (with_declaration now c.args.number d))
     (ap (λ (b : Bool). decl_of b first ls close) (sym c.implicit.ensures) ∙ c.in-Ok.ensures ls close)

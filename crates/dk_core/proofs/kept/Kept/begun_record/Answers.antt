@@ -12,7 +12,7 @@ use Rattle.dk_core.proofs.kept.Kept.begun_record.Goals as goal
 pub returns-in-Ok-clause-goes_on : goal.returns-in-Ok-clause-goes_on
 unfolding resumed Stands
 returns-in-Ok-clause-goes_on c h stands ls close =
-    let now : History = record h { header = c.args.header } in
+    let now : History = record h { header = c.args.block.now.header } in
     let first : Line = record { number = c.args.number; bytes = c.args.bytes.now } in
     ap (λ (r : Result Sample LineFault). r >>= λ s. where_it_ends close now (with_record now s))
     (ap (λ (ps : List Point). sample_of ps first ls close) (sym stands.table) ∙ c.in-Ok.ensures.goes_on ls close
@@ -25,7 +25,7 @@ returns-in-Ok-clause-fits c = c.in-Ok.ensures.of
 pub returns-in-Err-clause-goes_on : goal.returns-in-Err-clause-goes_on
 unfolding Stands
 returns-in-Err-clause-goes_on c h stands =
-    let now : History = record h { header = c.args.header } in
+    let now : History = record h { header = c.args.block.now.header } in
     let first : Line = record { number = c.args.number; bytes = c.args.bytes.now } in
     told_then c.in-Err.fault (sample_of h.table first) (λ s close. where_it_ends close now (with_record now s))
     (subst (λ (ps : List Point). DeclToldOn c.in-Err.fault (sample_of ps first)) stands.table c.in-Err.ensures.goes_on)

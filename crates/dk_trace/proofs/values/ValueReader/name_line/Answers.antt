@@ -10,6 +10,6 @@ pub returns : goal.returns
 unfolding values_resumed
 returns c = λ (ls : List Line) (close : Option ℕ).
     let l : Line = record { number = c.args.line; bytes = c.args.bytes.now } in
-    ap (λ (p : Place). then_values (shown_by c.args.self.values.items) (from_place p (drop c.args.self.index c.args.vars.now) (l ∷ ls) close)) c.requires
+    ap (λ (p : Place). then_values (shown_by c.args.self.now.values.items) (from_place p (drop c.args.self.now.index c.args.vars.now) (l ∷ ls) close)) c.requires
     ∙ c.in_ok-index.ensures.same (l ∷ ls) close
-    ∙ ap (then_values (shown_by c.in_ok-index.values.items)) (c.in_ok-kind.ensures.goes_on ls close)
+    ∙ ap (then_values (shown_by c.past_constants.new.values.items)) (c.in_ok-kind.ensures.goes_on ls close)

@@ -1,0 +1,31 @@
+-- What a line does to a block, with what is kept and the block behind it.
+use Rattle.std.specs.Prelude.{Bool, Result, Ok, Err}
+use Rattle.dk_core.specs.declared.block.Block.{Block}
+use Rattle.dk_core.specs.declared.kept.Kept.{Kept}
+use Rattle.dk_core.specs.declared.session.After.{After}
+use Rattle.dk_core.specs.declared.session.After.TheVariants as after
+use Rattle.dk_core.specs.declared.session.End.{End}
+use Rattle.dk_core.specs.declared.session.Stop.{Stop}
+
+-- the end of a block, or of a file without one, and what is kept then
+pub record Ending : Type 0 where
+  pub kept : Kept
+  pub is_over : Bool
+  pub found : Bool
+
+-- the block goes on, or the next one began; or a block or the file ends
+pub data Turn : Type 0 where
+  Goes : (kept : Kept) → (block : Block) → Turn
+  Ends : (end : Ending) → Turn
+
+abbrev pub ended : Kept → End → Ending
+ended kept end = record { kept = kept; is_over = end.is_over; found = end.found }
+
+abbrev pub turn_of : Kept → Block → Result After Stop → Result Turn Stop
+turn_of kept block (Ok after.Goes) = Ok (Goes kept block)
+turn_of kept block (Ok (after.Ends end)) = Ok (Ends (ended kept end))
+turn_of kept block (Err stop) = Err stop
+
+abbrev pub ending_of : Kept → Result End Stop → Result Ending Stop
+ending_of kept (Ok end) = Ok (ended kept end)
+ending_of kept (Err stop) = Err stop

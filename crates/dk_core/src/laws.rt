@@ -1,0 +1,7 @@
+//! What the definitions of blocks come to, in the words of the format.
+ghost use Rattle.dk_core.specs.Runs.{GroupsAreLongestRuns};
+
+/// The groups that blocks are read from are the longest runs of lines that are not blank.
+pub fn groups_are_longest_runs()
+    ensures { GroupsAreLongestRuns }
+{}

@@ -1,0 +1,28 @@
+use Rattle.std.specs.Prelude.{◌<◌, ◌≤◌, ◌+◌, ◌++◌, List, flat_map}
+use Rattle.std.proofs.Common.{ap, ◌∙◌, arith}
+use Rattle.dk_base.specs.declared.kinds.VarId.{VarId}
+use Rattle.dk_template.specs.Templates.{rows_in}
+use Rattle.dk_template.specs.declared.grammar.RowId.{RowId}
+use Rattle.dk_engine.proofs.Spread.{row_more, rows_all}
+use Rattle.dk_engine.specs.Feeding.{read_after}
+use Rattle.dk_engine.specs.Narrow.{chosen_touched, touched_candidates}
+use Rattle.dk_engine.proofs.choosing.touched.Goals as goal
+
+pub loop-n-preserved : goal.loop-n-preserved
+loop-n-preserved c =
+    let o = c.args.after.now in
+    let F : RowId → List (RowId × List VarId) = λ row. chosen_touched o.whole.infos (read_after o.whole.kept o.sample) row c.args.touching.now c.args.others.now c.args.leaders.now in
+    let test = c.loop-n-test.true in
+    let last = c.rows-n-end.ensures in
+    let within : c.loop-n.n < rows_in c.args.grammar = omega (arith, test, last) in
+    c.in_ok-all.ensures ∙ (ap (λ ss. ss ++ F (record { 0 = c.loop-n.n + 1 })) c.loop-n.invariant ∙ row_more F c.args.grammar c.loop-n.n within)
+
+pub returns : goal.returns
+unfolding touched_candidates
+returns c =
+    let o = c.args.after.now in
+    let F : RowId → List (RowId × List VarId) = λ row. chosen_touched o.whole.infos (read_after o.whole.kept o.sample) row c.args.touching.now c.args.others.now c.args.leaders.now in
+    let test = c.loop-n-test.false in
+    let last = c.rows-n-end.ensures in
+    let past : rows_in c.args.grammar ≤ c.loop-n.n = omega (arith, test, last) in
+    c.loop-n.invariant ∙ ap (flat_map F) (rows_all c.args.grammar c.loop-n.n past)

@@ -1,0 +1,15 @@
+pub mod Parts
+pub mod Ordering
+pub mod Exact
+pub mod Reading
+pub mod Conditions
+pub mod Feeding
+pub mod Memory
+pub mod Levels
+pub mod Numbers
+pub mod Sweeps
+pub mod Laws
+pub mod Step
+pub mod Narrow
+pub mod Choices
+pub mod StepLaws

@@ -1,0 +1,75 @@
+// Changes of kept slots.
+ghost use Rattle.std.specs.Prelude.{◌≡◌, filter, fold, not};
+ghost use Rattle.std.specs.List.{list_any};
+ghost use Rattle.dk_forms.specs.declared.states.State.{State as SlotState};
+ghost use Rattle.dk_engine.specs.Feeding.{is_broken};
+ghost use Rattle.dk_engine.specs.Narrow.{AreChanges, left_of, with_change};
+ghost use Rattle.dk_engine.specs.declared.slot.Slot.{Slot as KeptSlot};
+
+use crate::changes::Change;
+use crate::{Slot, Slots};
+use dk_base::List;
+use dk_template::State;
+
+// Whether the slot's state is Broken.
+fn is_broken(state: &State) -> bool
+    ensures { result ≡ is_broken state.now }
+{
+    matches!(state, State::Broken)
+}
+
+// Whether a change breaks a slot.
+fn break_some(changes: &[Change]) -> bool
+    ensures { result ≡ list_any (λ c. is_broken c.state) changes.now }
+{
+    for change in changes {
+        if is_broken(&change.state) {
+            return true;
+        }
+    }
+    false
+}
+
+// The slots with a change.
+fn with_change(slots: Vec<Slot>, change: Change) -> Vec<Slot>
+    ensures { result.items ≡ with_change slots.items change }
+{
+    let mut slots = slots;
+    let Change { place, state } = change;
+    if let Some(slot) = slots.get_mut(place) {
+        slot.state = state;
+    }
+    slots
+}
+
+// The slots with all changes.
+fn with_changes(slots: Vec<Slot>, changes: Vec<Change>) -> Vec<Slot>
+    ensures { result.items ≡ fold with_change slots.items changes.items }
+{
+    let mut changed = slots;
+    for change in changes {
+        changed = with_change(changed, change);
+    }
+    changed
+}
+
+// Those that aren't Broken.
+fn unbroken(slots: Vec<Slot>) -> Vec<Slot>
+    ensures { result.items ≡ filter (λ s. not (is_broken s.state)) slots.items }
+{
+    let mut left = slots;
+    left.retain(|slot| !is_broken(&slot.state));
+    left
+}
+
+/// The slots with all changes, without those that are Broken then.
+pub(crate) fn changed(slots: Slots, changes: List<Change>) -> Slots
+    ensures { (made : KeptSlot → SlotState) → AreChanges made slots changes → result ≡ left_of made slots }
+{
+    let breaks = break_some(changes.as_slice());
+    let all = with_changes(slots.into_vec(), changes.into_vec());
+    if breaks {
+        return Slots::of(unbroken(all));
+    }
+    Slots::of(all)
+}

@@ -1,0 +1,216 @@
+// The engine of a point.
+ghost use Rattle.std.specs.Prelude.{◌≡◌, ◌<◌, ◌≤◌, suc, [], IfOk, IsTrue, List, OnErr, length};
+ghost use Rattle.dk_base.specs.declared.kinds.VarId.{VarId};
+ghost use Rattle.dk_base.specs.declared.kinds.VarInfo.{VarInfo};
+ghost use Rattle.dk_classes.specs.Leaders.{own_leaders};
+ghost use Rattle.dk_template.specs.Admitted.{admits};
+ghost use Rattle.dk_template.specs.Premises.{AreThere};
+ghost use Rattle.dk_template.specs.Proper.{IsProper};
+ghost use Rattle.dk_template.specs.Templates.{IsRowOf, form_of};
+ghost use Rattle.dk_template.specs.declared.grammar.Grammar.{Grammar};
+ghost use Rattle.dk_engine.specs.Exact.{AreOfPoint, IsKeptOf};
+ghost use Rattle.dk_engine.specs.Memory.{wants_memory};
+ghost use Rattle.dk_engine.specs.Parts.{leaders_of};
+ghost use Rattle.dk_engine.specs.Reading.{agree_read, count_read, read, read_leaders};
+
+use crate::nothing::Nothing;
+use crate::over::Over;
+use crate::{Counts, Kept, Slot, Slots};
+use dk_base::{List, NoMemory, VarId, VarInfo};
+use dk_classes::Classes;
+use dk_constants::Constants;
+use dk_presence::Presence;
+use dk_template::{Answers, Grammar, RowId, State, Tuple};
+use std::alloc::Global;
+use std::marker::Model;
+
+/// The engine of a point: what it keeps of the point's samples, and what it answers from that alone.
+#[derive(Drop)]
+pub struct Engine {
+    pub(crate) alloc: Global,
+    pub(crate) grammar: Grammar,
+    pub(crate) infos: List<VarInfo>,
+    pub(crate) kept: Kept,
+}
+
+impl Model for Engine {
+    ghost use Rattle.dk_engine.specs.Conditions.{CanBeFed};
+    ghost use Rattle.dk_engine.specs.Exact.{AreOfPoint};
+    ghost use Rattle.dk_engine.specs.Levels.{Whole};
+
+    ghost Value = { Whole };
+
+    ghost view = { λ e. record { grammar = e.grammar; infos = e.infos; kept = e.kept } };
+
+    ghost invariant = { λ e. AreOfPoint e.infos × CanBeFed e.grammar e.infos e.kept };
+}
+
+impl Engine {
+    /// The engine of no samples, over the variables of a point and the rows of a grammar.
+    pub fn new(alloc: Global, vars: List<VarInfo>, grammar: Grammar) -> Result<Engine, NoMemory>
+        requires { AreOfPoint vars }
+        ensures grammar { IfOk result (λ e. e.grammar ≡ grammar) }
+        ensures infos { IfOk result (λ e. e.infos ≡ vars) }
+        ensures stands { IfOk result (λ e. IsKeptOf grammar vars [] e.kept) }
+    {
+        let leaders = Classes::new(alloc, vars.as_slice())?;
+        let known = Constants::from_known(alloc, List::new(alloc))?;
+        let held = Presence::new(alloc)?;
+        let kept = Kept {
+            samples: 0,
+            leaders,
+            known,
+            held,
+            slots: Slots::new(alloc),
+        };
+        Ok(Engine {
+            alloc,
+            grammar,
+            infos: vars,
+            kept,
+        })
+    }
+
+    /// Its grammar.
+    pub fn grammar(&self) -> Grammar
+        ensures { result ≡ self.now.grammar }
+    {
+        self.grammar
+    }
+
+    /// Its variables.
+    pub fn vars(&self) -> &[VarInfo]
+        ensures { result.now ≡ self.now.infos }
+    {
+        self.infos.as_slice()
+    }
+
+    /// The sizes of what it keeps.
+    pub fn counts(&self) -> Counts
+        ensures samples { result.samples ≡ self.now.kept.samples }
+        ensures leaders { result.leaders ≡ length (own_leaders self.now.kept.leaders) }
+        ensures constants { result.constants ≡ length self.now.kept.known }
+        ensures patterns { result.patterns ≡ length self.now.kept.held }
+        ensures slots { result.slots ≡ length self.now.kept.slots }
+    {
+        Counts {
+            samples: self.kept.samples,
+            leaders: self.kept.leaders.leaders().len() as u32,
+            constants: self.kept.known.entries().len() as u32,
+            patterns: self.kept.held.held().len() as u64,
+            slots: self.kept.slots.as_slice().len() as u64,
+        }
+    }
+
+    /// The kept slots, by row and then by variables.
+    pub fn slots(&self) -> &[Slot]
+        ensures { result.now ≡ self.now.kept.slots }
+    {
+        self.kept.slots.as_slice()
+    }
+
+    /// The classes of its variables.
+    pub fn classes(&self) -> &Classes
+        ensures { result.now ≡ self.now.kept.leaders }
+    {
+        &self.kept.leaders
+    }
+
+    /// The patterns of present leaders.
+    pub fn presence(&self) -> &Presence
+        ensures { result.now ≡ self.now.kept.held }
+    {
+        &self.kept.held
+    }
+
+    /// The constant leaders.
+    pub fn constants(&self) -> &Constants
+        ensures { result.now ≡ self.now.kept.known }
+    {
+        &self.kept.known
+    }
+
+    // One level over a lower one.
+    fn over<'a, B: Answers>(&'a self, below: u8, lower: B) -> Over<'a, B>
+        requires grammar { B.grammar lower ≡ self.now.grammar }
+        requires infos { B.infos lower ≡ self.now.infos }
+        requires lower { B.answered lower ≡ read_leaders below self.now.kept }
+        ensures { result ≡ record { grammar = self.now.grammar; infos = self.now.infos; kept = self.now.kept; ranks = suc below } }
+    {
+        Over {
+            alloc: self.alloc,
+            grammar: self.grammar,
+            infos: self.infos.as_slice(),
+            kept: &self.kept,
+            below,
+            lower,
+        }
+    }
+
+    // The leaders of at most three variables.
+    fn leaders_of(&self, vars: &[VarId]) -> Tuple
+        requires few { length vars.now ≤ 3 }
+        requires there { AreThere self.now.infos vars.now }
+        ensures { result ≡ leaders_of self.now.kept.leaders vars.now }
+    {
+        let classes = &self.kept.leaders;
+        match vars {
+            [] => Tuple::of(self.alloc, &[]),
+            [v] => Tuple::of(self.alloc, &[classes.leader(*v)]),
+            [v, w] => Tuple::of(self.alloc, &[classes.leader(*v), classes.leader(*w)]),
+            [v, w, x] => Tuple::of(
+                self.alloc,
+                &[classes.leader(*v), classes.leader(*w), classes.leader(*x)],
+            ),
+            _ => unreachable!(),
+        }
+    }
+
+    /// The state of a row over variables, told without memory but for the rows that want it.
+    pub(crate) fn state(&self, row: RowId, vars: &[VarId]) -> Result<State, NoMemory>
+        requires row { IsRowOf self.now.grammar row }
+        requires vars { IsTrue (admits row self.now.infos vars.now) }
+        ensures state { IfOk result (λ s. s ≡ read self.now.kept row vars.now) }
+        ensures proper { IfOk result (λ s. IsProper (form_of row) s) }
+        ensures err { OnErr result (IsTrue (wants_memory row)) }
+    {
+        if self.kept.samples == 0 {
+            return Ok(State::Empty);
+        }
+        let leaders = self.leaders_of(vars);
+        let lowest = self.over(
+            0,
+            Nothing {
+                grammar: self.grammar,
+                infos: self.infos.as_slice(),
+                kept: &self.kept,
+            },
+        );
+        let levels = self.over(3, self.over(2, self.over(1, lowest)));
+        levels.state(row, leaders.as_slice())
+    }
+}
+
+impl Answers for Engine {
+    ghost grammar = { λ e. e.grammar };
+
+    ghost infos = { λ e. e.infos };
+
+    ghost answered = { λ e. read e.kept };
+
+    ghost counted = { λ e. count_read e.kept };
+
+    ghost agreeing = { λ e. agree_read e.kept };
+
+    fn answer(&self, row: RowId, vars: &[VarId]) -> Result<State, NoMemory> {
+        self.state(row, vars)
+    }
+
+    fn count(&self, vars: &[VarId]) -> u64 {
+        self.kept.held.count(self.leaders_of(vars).as_slice())
+    }
+
+    fn agree(&self, v: VarId, w: VarId) -> bool {
+        self.kept.leaders.leader(v) == self.kept.leaders.leader(w)
+    }
+}

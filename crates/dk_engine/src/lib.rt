@@ -1,0 +1,35 @@
+//! The engine of a point: what it keeps of the point's samples, and what it answers from that alone.
+#![tactic(auto)]
+
+mod after;
+mod changes;
+mod changing;
+mod choosing;
+mod constant;
+mod counts;
+mod engine;
+mod feed;
+mod kept;
+pub mod laws;
+mod lending;
+mod nothing;
+mod now;
+mod over;
+mod places;
+mod points;
+mod slot;
+mod slots;
+pub mod step_laws;
+mod sweeps;
+mod touching;
+
+pub use counts::Counts;
+pub use engine::Engine;
+pub use kept::Kept;
+pub use now::Now;
+pub use points::point;
+pub use slot::Slot;
+pub use slots::Slots;
+
+#[cfg(test)]
+mod tests;

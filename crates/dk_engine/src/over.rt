@@ -1,0 +1,110 @@
+// One level of reading over another.
+ghost use Rattle.std.specs.Prelude.{◌≡◌, ◌-◌, ◌≤◌, false, IfOk, IsTrue, List, OnErr, length};
+ghost use Rattle.dk_base.specs.declared.kinds.VarInfo.{VarInfo};
+ghost use Rattle.dk_forms.specs.declared.states.State.{State};
+ghost use Rattle.dk_presence.specs.Patterns.{counted_by};
+ghost use Rattle.dk_template.specs.Admitted.{admits};
+ghost use Rattle.dk_template.specs.Proper.{IsProper};
+ghost use Rattle.dk_template.specs.Templates.{IsRowOf, form_of};
+ghost use Rattle.dk_template.specs.declared.grammar.Grammar.{Grammar};
+ghost use Rattle.dk_engine.specs.Conditions.{CanBeRead};
+ghost use Rattle.dk_engine.specs.Memory.{wants_memory};
+ghost use Rattle.dk_engine.specs.Reading.{agree_read, read_leaders, read_written};
+
+use crate::Kept;
+use crate::constant::{are_known, constant_state};
+use crate::places::find;
+use dk_base::{NoMemory, VarId, VarInfo};
+use dk_suppress::suppressed;
+use dk_template::{Answers, Grammar, RowId, State, turned, written};
+use std::alloc::Global;
+use std::marker::Model;
+
+/// What kept parts answer over leaders for the rows of the lowest ranks, where `lower` answers for those of one rank less.
+#[derive(Drop)]
+pub(crate) struct Over<'a, B: Answers> {
+    pub(crate) alloc: Global,
+    pub(crate) grammar: Grammar,
+    pub(crate) infos: &'a [VarInfo],
+    pub(crate) kept: &'a Kept,
+    pub(crate) below: u8,
+    pub(crate) lower: B,
+}
+
+impl<'a, B: Answers> Model for Over<'a, B> {
+    ghost use Rattle.std.specs.Prelude.{◌≡◌, suc};
+    ghost use Rattle.std.specs.List.{AllPairs};
+    ghost use Rattle.dk_engine.specs.Conditions.{CanBeRead};
+    ghost use Rattle.dk_engine.specs.Exact.{SlotBefore};
+    ghost use Rattle.dk_engine.specs.Levels.{Level};
+    ghost use Rattle.dk_engine.specs.Reading.{read_leaders};
+
+    ghost Value = { Level };
+
+    ghost view = { λ o. record { grammar = o.grammar; infos = o.infos.now; kept = o.kept.now; ranks = suc o.below } };
+
+    ghost invariant = { λ o. CanBeRead o.infos.now o.kept.now × ((B.grammar o.lower ≡ o.grammar) × ((B.infos o.lower ≡ o.infos.now) × ((B.answered o.lower ≡ read_leaders o.below o.kept.now) × AllPairs SlotBefore o.kept.now.slots))) };
+}
+
+impl<'a, B: Answers> Over<'a, B> {
+    // The state of leaders in the row's written order.
+    fn state_written(&self, row: RowId, vars: &[VarId]) -> Result<State, NoMemory>
+        requires row { IsRowOf self.now.grammar row }
+        requires vars { IsTrue (admits row self.now.infos vars.now) }
+        ensures state { IfOk result (λ s. s ≡ read_written self.now.kept (read_leaders (self.now.ranks - 1) self.now.kept) row vars.now) }
+        ensures err { OnErr result (IsTrue (wants_memory row)) }
+    {
+        if are_known(&self.kept.known, vars) {
+            return constant_state(self.alloc, &self.kept.known, row, vars);
+        }
+        match find(self.kept.slots.as_slice(), row, vars) {
+            Some(slot) => slot.state.copy(self.alloc),
+            None => Ok(if suppressed(row, vars, &self.lower) {
+                if self.kept.held.count(vars) == 0 {
+                    State::Empty
+                } else {
+                    State::Holds
+                }
+            } else {
+                State::Broken
+            }),
+        }
+    }
+
+    /// The state of leaders in any order.
+    pub(crate) fn state(&self, row: RowId, vars: &[VarId]) -> Result<State, NoMemory>
+        requires row { IsRowOf self.now.grammar row }
+        requires vars { IsTrue (admits row self.now.infos vars.now) }
+        ensures state { IfOk result (λ s. s ≡ read_leaders self.now.ranks self.now.kept row vars.now) }
+        ensures proper { IfOk result (λ s. IsProper (form_of row) s) }
+        ensures err { OnErr result (IsTrue (wants_memory row)) }
+    {
+        let ordered = written(row, self.alloc, vars);
+        let state = self.state_written(row, ordered.as_slice())?;
+        Ok(turned(row, self.alloc, vars, state))
+    }
+}
+
+impl<'a, B: Answers> Answers for Over<'a, B> {
+    ghost grammar = { λ o. o.grammar };
+
+    ghost infos = { λ o. o.infos };
+
+    ghost answered = { λ o. read_leaders o.ranks o.kept };
+
+    ghost counted = { λ o. counted_by o.kept.held };
+
+    ghost agreeing = { λ o. agree_read o.kept };
+
+    fn answer(&self, row: RowId, vars: &[VarId]) -> Result<State, NoMemory> {
+        self.state(row, vars)
+    }
+
+    fn count(&self, vars: &[VarId]) -> u64 {
+        self.kept.held.count(vars)
+    }
+
+    fn agree(&self, v: VarId, w: VarId) -> bool {
+        self.kept.leaders.leader(v) == self.kept.leaders.leader(w)
+    }
+}

@@ -1,0 +1,10 @@
+pub mod Answers
+pub mod Sameness
+pub mod Facts
+pub mod Candidates
+pub mod Choices
+pub mod Found
+pub mod Parents
+pub mod Memory
+pub mod OfSamples
+pub mod Laws

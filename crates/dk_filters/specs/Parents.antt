@@ -1,0 +1,27 @@
+-- Views of a point and its parents, as what they tell.
+use Rattle.std.specs.Prelude.{◌≡◌, ◌<◌, ◌^◌, ℕ, Bool, List, length, map}
+use Rattle.dk_base.specs.declared.kinds.VarId.{VarId}
+use Rattle.dk_base.specs.declared.kinds.VarInfo.{VarInfo}
+use Rattle.dk_forms.specs.declared.states.State.{State}
+use Rattle.dk_template.specs.declared.grammar.RowId.{RowId}
+use Rattle.dk_filters.specs.Answers.{Answers, Parent}
+use Rattle.dk_filters.specs.Laws.{PartnersAreLike}
+use Rattle.dk_filters.specs.declared.parents.ParentView.{ParentView}
+
+-- what is told of a point with these variables
+abbrev pub told : List VarInfo → (RowId → List VarId → State) → (List VarId → ℕ) → (VarId → VarId → Bool) → Answers
+told infos answered counted agreeing = record { infos = infos; answered = answered; counted = counted; agreeing = agreeing }
+
+-- what a view shows of a parent, whose answers tell by these functions
+abbrev pub shown : {P : Type 0} → (P → RowId → List VarId → State) → (P → List VarId → ℕ) → (P → VarId → VarId → Bool) → ParentView P → Parent
+shown answered counted agreeing view = record {
+  answers = told view.vars.now (answered view.answers.now) (counted view.answers.now) (agreeing view.answers.now);
+  partners = view.partner.now;
+}
+
+-- A view shows a parent of a point with these variables: what answers for it has the view's variables, fewer than 2 ^ 32, and each
+-- of these that has a partner is like it.
+pub record IsViewOf (answered infos : List VarInfo) (parent : Parent) : Type 0 where
+  pub same : answered ≡ parent.answers.infos
+  pub alike : PartnersAreLike infos parent
+  pub small : length parent.answers.infos < 2 ^ 32

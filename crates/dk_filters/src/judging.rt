@@ -1,0 +1,169 @@
+// The facts of an instance.
+ghost use Rattle.std.specs.Prelude.{◌≡◌, ◌==◌, ◌<◌, ◌^◌, All, IfOk, IsTrue, OnErr, length, map, not};
+ghost use Rattle.std.specs.List.{list_any};
+ghost use Rattle.dk_filters.specs.Facts.{facts_of, is_at, is_constant_by, is_member_by, tells_member_by};
+ghost use Rattle.dk_filters.specs.Found.{by_partner, first_in, found_of, one_value_in};
+ghost use Rattle.dk_filters.specs.Memory.{MayWantMemory};
+ghost use Rattle.dk_filters.specs.Parents.{IsViewOf, shown, told};
+ghost use Rattle.dk_template.specs.Admitted.{admits};
+ghost use Rattle.dk_template.specs.Premises.{MayWantMemory as AnswerMayWantMemory};
+ghost use Rattle.dk_template.specs.Templates.{IsRowOf};
+
+use crate::comparing::is_incomparable;
+use crate::implied::{is_implied, is_one_of};
+use crate::parents::Sought;
+use crate::{Facts, ParentView, PointFacts};
+use dk_base::{List, NoMemory, VarId, VarInfo};
+use dk_template::{Answers, RowId, State};
+use std::alloc::Global;
+
+// The first variable that is like it.
+fn first_of(firsts: &[VarId], v: VarId) -> VarId
+    ensures { result ≡ first_in firsts.now v }
+{
+    match firsts.get(v.0 as usize) {
+        Some(first) => *first,
+        None => v,
+    }
+}
+
+// Whether it is an equality of the first variable with another one that is like it.
+fn tells_member(firsts: &[VarId], row: RowId, tuple: &[VarId]) -> bool
+    ensures { result ≡ tells_member_by (first_in firsts.now) row tuple.now }
+{
+    match tuple {
+        [v, w] => is_one_of(&[11, 18, 20, 22, 57, 58, 59, 60], row)
+            && first_of(firsts, *w).0 == v.0,
+        _ => false,
+    }
+}
+
+// Whether some variable isn't the first of those like it.
+fn has_later(firsts: &[VarId], tuple: &[VarId]) -> bool
+    ensures { result ≡ list_any (λ v. not ((first_in firsts.now v).0 == v.0)) tuple.now }
+{
+    tuple.iter().any(|v| first_of(firsts, *v).0 != v.0)
+}
+
+// Whether some variable isn't the first of those like it, and it is no equality that tells so.
+fn is_member(firsts: &[VarId], row: RowId, tuple: &[VarId]) -> bool
+    ensures { result ≡ is_member_by (first_in firsts.now) row tuple.now }
+{
+    !tells_member(firsts, row, tuple) && has_later(firsts, tuple)
+}
+
+fn has_one_value(one_values: &[bool], v: VarId) -> bool
+    ensures { result ≡ one_value_in one_values.now v }
+{
+    match one_values.get(v.0 as usize) {
+        Some(one) => *one,
+        None => false,
+    }
+}
+
+// Whether some variable has one value.
+fn has_constant(one_values: &[bool], tuple: &[VarId]) -> bool
+    ensures { result ≡ list_any (one_value_in one_values.now) tuple.now }
+{
+    tuple.iter().any(|v| has_one_value(one_values, *v))
+}
+
+// Whether it has several variables of which one has one value, and it is no equality that tells of a variable like another.
+fn is_constant(firsts: &[VarId], one_values: &[bool], row: RowId, tuple: &[VarId]) -> bool
+    ensures { result ≡ is_constant_by (first_in firsts.now) (one_value_in one_values.now) row tuple.now }
+{
+    1 < tuple.len() && !tells_member(firsts, row, tuple) && has_constant(one_values, tuple)
+}
+
+// Whether some parent has the row with this state over variables whose partners are these.
+fn is_at_parent<P: Answers>(
+    vars: &[VarInfo],
+    parents: &[ParentView<'_, P>],
+    partners: &[List<List<VarId>>],
+    row: RowId,
+    tuple: &[VarId],
+    state: &State,
+) -> Result<bool, NoMemory>
+    requires vars { IsTrue (admits row vars.now tuple.now) }
+    requires parents { All (λ p. IsRowOf (P.grammar p.answers.now) row × IsViewOf (P.infos p.answers.now) vars.now (shown P.answered P.counted P.agreeing p)) parents.now }
+    requires partners { partners.now ≡ map (by_partner vars.now) (map (shown P.answered P.counted P.agreeing) parents.now) }
+    ensures state { IfOk result (λ stands. stands ≡ list_any (is_at row state.now tuple.now) (map (shown P.answered P.counted P.agreeing) parents.now)) }
+    ensures err { OnErr result (AnswerMayWantMemory row) }
+{
+    for (place, parent) in parents.iter().enumerate() {
+        let sought = Sought {
+            there: parent.answers,
+            vars: parent.vars,
+            row,
+            state,
+        };
+        if sought.stands_somewhere(partners[place].as_slice(), tuple, [VarId(0); 3], 0)? {
+            return Ok(true);
+        }
+    }
+    Ok(false)
+}
+
+/// The facts of an instance with what is found once for its point: nothing is looked for among all variables, and of a parent only
+/// the variables whose partners are the instance's are asked about. Its state is given, since a report has it. Only rows over strings
+/// want memory.
+pub fn judge_with<A: Answers, P: Answers>(
+    least: u64,
+    vars: &[VarInfo],
+    here: &A,
+    parents: &[ParentView<'_, P>],
+    found: &PointFacts,
+    row: RowId,
+    tuple: &[VarId],
+    state: &State,
+) -> Result<Facts, NoMemory>
+    requires infos { A.infos here.now ≡ vars.now }
+    requires parents { All (λ p. IsRowOf (P.grammar p.answers.now) row × IsViewOf (P.infos p.answers.now) vars.now (shown P.answered P.counted P.agreeing p)) parents.now }
+    requires found { found.now ≡ found_of (told vars.now (A.answered here.now) (A.counted here.now) (A.agreeing here.now)) (map (shown P.answered P.counted P.agreeing) parents.now) }
+    requires row { IsRowOf (A.grammar here.now) row }
+    requires instance { IsTrue (admits row vars.now tuple.now) }
+    requires state { state.now ≡ A.answered here.now row tuple.now }
+    ensures facts { IfOk result (λ facts. facts ≡ facts_of least (told vars.now (A.answered here.now) (A.counted here.now) (A.agreeing here.now)) (map (shown P.answered P.counted P.agreeing) parents.now) row tuple.now) }
+    ensures err { OnErr result (MayWantMemory row) }
+{
+    let firsts = found.firsts.as_slice();
+    let one_values = found.one_values.as_slice();
+    let partners = found.partners.as_slice();
+    let few = here.count(tuple) < least;
+    let incomparable = is_incomparable(vars, tuple);
+    let member = is_member(firsts, row, tuple);
+    let constant = is_constant(firsts, one_values, row, tuple);
+    let implied = is_implied(here, row, tuple)?;
+    let parent = is_at_parent(vars, parents, partners, row, tuple, state)?;
+    Ok(Facts {
+        few,
+        incomparable,
+        member,
+        implied,
+        constant,
+        parent,
+    })
+}
+
+/// The facts of an instance: for each filter whether it drops the instance, whatever the other ones do. `parents` are the parents by
+/// edge. What `judge_with` takes is found here anew.
+pub fn judge<A: Answers, P: Answers>(
+    alloc: Global,
+    least: u64,
+    vars: &[VarInfo],
+    here: &A,
+    parents: &[ParentView<'_, P>],
+    row: RowId,
+    tuple: &[VarId],
+) -> Result<Facts, NoMemory>
+    requires infos { A.infos here.now ≡ vars.now }
+    requires small { length vars.now < 2 ^ 32 }
+    requires parents { All (λ p. IsRowOf (P.grammar p.answers.now) row × IsViewOf (P.infos p.answers.now) vars.now (shown P.answered P.counted P.agreeing p)) parents.now }
+    requires row { IsRowOf (A.grammar here.now) row }
+    requires instance { IsTrue (admits row vars.now tuple.now) }
+    ensures { IfOk result (λ facts. facts ≡ facts_of least (told vars.now (A.answered here.now) (A.counted here.now) (A.agreeing here.now)) (map (shown P.answered P.counted P.agreeing) parents.now) row tuple.now) }
+{
+    let found = PointFacts::of(alloc, vars, here, parents)?;
+    let state = here.answer(row, tuple)?;
+    judge_with(least, vars, here, parents, &found, row, tuple, &state)
+}

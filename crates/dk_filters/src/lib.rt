@@ -1,0 +1,20 @@
+//! Filters: which of the instances that hold a report leaves out, and why.
+#![tactic(auto)]
+
+mod candidate;
+mod comparing;
+mod facts;
+mod found;
+mod implied;
+mod judging;
+pub mod laws;
+mod parents;
+
+pub use candidate::Candidate;
+pub use facts::Facts;
+pub use found::PointFacts;
+pub use judging::{judge, judge_with};
+pub use parents::ParentView;
+
+#[cfg(test)]
+mod tests;

@@ -1,0 +1,11 @@
+use Rattle.dk_forms.proofs.Geometry.{broken_points_have_no_line, lines_have_all_points, points_have_one_line}
+use Rattle.dk_forms.proofs.laws.lines_go_through_all_points.Goals as goal
+
+pub returns-clause-all : goal.returns-clause-all
+returns-clause-all c = lines_have_all_points
+
+pub returns-clause-one : goal.returns-clause-one
+returns-clause-one c = points_have_one_line
+
+pub returns-clause-none : goal.returns-clause-none
+returns-clause-none c = broken_points_have_no_line

@@ -1,0 +1,95 @@
+// Small numbers, whose products are exact in 64 bits, and numbers of 64 bits among wider ones.
+ghost use Rattle.std.specs.Prelude.{◌≡◌, ◌≤◌, ◌^◌, ◌+ℤ◌, ◌*ℤ◌, ◌-ℤ◌, neg_ℤ, unsigned_abs, IsTrue};
+ghost use Rattle.std.specs.Ordering.{int_eq};
+ghost use Rattle.dk_forms.specs.Plane.{are_parallel};
+ghost use Rattle.dk_forms.specs.Points.{IsGap, step};
+
+/// Whether the number is a small factor: at most 2^31 by its size.
+pub(crate) fn is_factor(n: i128) -> bool
+    ensures { IsTrue result → unsigned_abs n ≤ 2 ^ 31 }
+{
+    -(1 << 31) <= n && n < 1 << 31
+}
+
+/// `a * x`, which is exact.
+pub(crate) fn product(a: i64, x: i64) -> i64
+    requires a { unsigned_abs a ≤ 2 ^ 31 }
+    requires x { unsigned_abs x ≤ 2 ^ 30 }
+    ensures value { result ≡ a *ℤ x }
+    ensures small { unsigned_abs result ≤ 2 ^ 61 }
+{
+    a * x
+}
+
+/// Whether `a * x + b * y + c` is 0. It is exact, with one multiplication of 64 bits for each factor.
+pub(crate) fn is_level(a: i64, b: i64, c: i128, x: i64, y: i64) -> bool
+    requires a { unsigned_abs a ≤ 2 ^ 31 }
+    requires b { unsigned_abs b ≤ 2 ^ 31 }
+    requires c { unsigned_abs c ≤ 2 ^ 126 }
+    requires x { unsigned_abs x ≤ 2 ^ 30 }
+    requires y { unsigned_abs y ≤ 2 ^ 30 }
+    ensures { result ≡ int_eq (a *ℤ x +ℤ b *ℤ y) (neg_ℤ c) }
+{
+    let sum = product(a, x) + product(b, y);
+    -sum as i128 == c
+}
+
+/// Whether `a * x + b * y + c * z + d` is 0. It is exact, with one multiplication of 64 bits for each factor.
+pub(crate) fn is_flat(a: i64, b: i64, c: i64, d: i128, x: i64, y: i64, z: i64) -> bool
+    requires a { unsigned_abs a ≤ 2 ^ 31 }
+    requires b { unsigned_abs b ≤ 2 ^ 31 }
+    requires c { unsigned_abs c ≤ 2 ^ 31 }
+    requires d { unsigned_abs d ≤ 2 ^ 126 }
+    requires x { unsigned_abs x ≤ 2 ^ 30 }
+    requires y { unsigned_abs y ≤ 2 ^ 30 }
+    requires z { unsigned_abs z ≤ 2 ^ 30 }
+    ensures { result ≡ int_eq (a *ℤ x +ℤ b *ℤ y +ℤ c *ℤ z) (neg_ℤ d) }
+{
+    let sum = product(a, x) + product(b, y) + product(c, z);
+    -sum as i128 == d
+}
+
+/// From one point to another.
+#[derive(Clone, Copy)]
+pub(crate) struct Step {
+    pub a: i64,
+    pub b: i64,
+    pub c: i64,
+}
+
+/// `x - u`, which is exact.
+pub(crate) fn distance(x: i64, u: i64) -> i64
+    requires x { unsigned_abs x ≤ 2 ^ 30 }
+    requires u { unsigned_abs u ≤ 2 ^ 30 }
+    ensures value { result ≡ x -ℤ u }
+    ensures small { unsigned_abs result ≤ 2 ^ 31 }
+{
+    x - u
+}
+
+/// Whether `a * b` and `c * d` are equal. It is exact.
+pub(crate) fn same_products(a: i64, b: i64, c: i64, d: i64) -> bool
+    requires a { unsigned_abs a ≤ 2 ^ 31 }
+    requires b { unsigned_abs b ≤ 2 ^ 31 }
+    requires c { unsigned_abs c ≤ 2 ^ 31 }
+    requires d { unsigned_abs d ≤ 2 ^ 31 }
+    ensures { result ≡ int_eq (a *ℤ b) (c *ℤ d) }
+{
+    a * b == c * d
+}
+
+pub(crate) fn are_parallel(u: Step, f: Step) -> bool
+    requires u { IsGap (step u) }
+    requires f { IsGap (step f) }
+    ensures { result ≡ are_parallel (step u) (step f) }
+{
+    if same_products(u.a, f.b, f.a, u.b) {
+        if same_products(u.a, f.c, f.a, u.c) {
+            same_products(u.b, f.c, f.b, u.c)
+        } else {
+            false
+        }
+    } else {
+        false
+    }
+}

@@ -1,0 +1,4 @@
+mod Breaking
+mod Sweeping
+mod Numbers
+pub mod Slots

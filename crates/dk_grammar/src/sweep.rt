@@ -1,0 +1,85 @@
+// The first slot of a run that a sample changes, of a row in its own type.
+ghost use Rattle.std.specs.Prelude.{◌≡◌, ◌↔◌, All, IsTrue};
+ghost use Rattle.dk_base.specs.Values.{values_of};
+ghost use Rattle.dk_fits.specs.Fits.{is_whole, tuple_in};
+ghost use Rattle.dk_grammar.specs.Runs.{IsFirstWithout, IsSlot, Stays};
+
+use crate::Slot;
+use dk_base::{VarId, View};
+use dk_samples::{is_present, value_at};
+use dk_template::{Row, State};
+
+// Whether no value of the tuple is missing.
+#[inline(always)]
+fn is_whole(tuple: &[View<'_>]) -> bool
+    ensures { result ≡ is_whole (values_of tuple.now) }
+{
+    for value in tuple {
+        if !is_present(*value) {
+            return false;
+        }
+    }
+    true
+}
+
+// Whether a sample, in which the variables have the values of the tuple, leaves a state of theirs as it is.
+#[inline(always)]
+fn tuple_stays<R: Row>(
+    row: &R,
+    vars: &[VarId],
+    state: &State,
+    sample: &[View<'_>],
+    tuple: &[View<'_>],
+) -> bool
+    requires slot { IsSlot (R.kinds row.now) (R.form row.now) (values_of sample.now) vars.now state.now }
+    requires tuple { values_of tuple.now ≡ tuple_in vars.now (values_of sample.now) }
+    ensures { IsTrue result ↔ Stays (R.form row.now) (R.state_of row.now) (values_of sample.now) vars.now state.now }
+{
+    if is_whole(tuple) {
+        row.stays(state, tuple)
+    } else {
+        true
+    }
+}
+
+// Whether a sample leaves a state over variables as it is.
+#[inline(always)]
+fn stays_over<R: Row>(row: &R, vars: &[VarId], state: &State, sample: &[View<'_>]) -> bool
+    requires { IsSlot (R.kinds row.now) (R.form row.now) (values_of sample.now) vars.now state.now }
+    ensures { IsTrue result ↔ Stays (R.form row.now) (R.state_of row.now) (values_of sample.now) vars.now state.now }
+{
+    match vars {
+        [v] => tuple_stays(row, vars, state, sample, &[value_at(sample, *v)]),
+        [v, w] => {
+            let tuple = [value_at(sample, *v), value_at(sample, *w)];
+            tuple_stays(row, vars, state, sample, &tuple)
+        }
+        [u, v, w] => {
+            let tuple = [
+                value_at(sample, *u),
+                value_at(sample, *v),
+                value_at(sample, *w),
+            ];
+            tuple_stays(row, vars, state, sample, &tuple)
+        }
+        _ => unreachable!(),
+    }
+}
+
+/// The first slot of a run of slots of one row that a sample changes.
+pub(crate) fn first_changed_by<R: Row, S: Slot>(
+    row: &R,
+    run: &[S],
+    sample: &[View<'_>],
+) -> Option<usize>
+    requires { All (λ slot. IsSlot (R.kinds row.now) (R.form row.now) (values_of sample.now) (S.vars slot) (S.state slot)) run.now }
+    ensures { IsFirstWithout (λ slot. Stays (R.form row.now) (R.state_of row.now) (values_of sample.now) (S.vars slot) (S.state slot)) run.now result }
+{
+    for place in 0..run.len() {
+        let slot = &run[place];
+        if !stays_over(row, slot.vars(), slot.state(), sample) {
+            return Some(place);
+        }
+    }
+    None
+}

@@ -1,0 +1,16 @@
+pub mod Deeper
+pub mod Samples
+pub mod Edges
+pub mod Mapped
+pub mod Telling
+pub mod Partners
+pub mod Onward
+pub mod Levels
+pub mod Descending
+pub mod Going
+pub mod WayExamples
+pub mod Merging
+pub mod Standing
+pub mod Joining
+pub mod Adding
+pub mod Stepping

@@ -1,0 +1,55 @@
+-- What ways from a point down to others come to.
+use Rattle.std.specs.Prelude.{◌≡◌, ◌<◌, ◌++◌, ℕ, false, All, List, [], ◌∷◌, flat_map, length}
+use Rattle.dk_base.specs.declared.kinds.VarId.{VarId}
+use Rattle.dk_base.specs.declared.values.Value.{Value}
+use Rattle.dk_fits.specs.Fits.{fit}
+use Rattle.dk_graph.specs.Graphs.{depth_of, edges_into, has_cycle}
+use Rattle.dk_graph.specs.declared.nodes.Edge.{Edge}
+use Rattle.dk_points.specs.Links.{nodes}
+use Rattle.dk_points.specs.Table.{Point}
+use Rattle.dk_template.specs.Templates.{IsRow}
+use Rattle.dk_template.specs.declared.grammar.RowId.{RowId}
+use Rattle.dk_hierarchy.specs.Descent.{IsDescent, first_levels, with_ways_below}
+use Rattle.dk_hierarchy.specs.Samples.{OwnSamples, all_vars_of, own_samples_of, samples_of}
+use Rattle.dk_hierarchy.specs.Ways.{TellTheSame, all_brought, brought, way_below, with_way}
+use Rattle.dk_hierarchy.specs.declared.way.Way.{Way}
+
+-- a row says the same of lists of samples that tell the same
+abbrev pub SameSamplesSayTheSame : Type 0
+SameSamplesSayTheSame =
+    (first second : List (List Value)) → TellTheSame first second
+    → (row : RowId) → IsRow row → (vars : List VarId) → fit row vars first ≡ fit row vars second
+
+-- of all samples: the own ones of the lower point, and those that come on by the edges into it
+abbrev pub WaysGoOn : Type 0
+WaysGoOn =
+    (ps : List Point) → has_cycle (nodes ps) ≡ false → (own : OwnSamples) (way : Way)
+    → TellTheSame (brought (samples_of ps own) way)
+    (brought (own_samples_of ps own) way ++ flat_map (λ e. brought (samples_of ps own) (way_below ps way e)) (edges_into (nodes ps) way.point.0))
+
+-- a way more
+abbrev pub EqualWaysAreOne : Type 0
+EqualWaysAreOne =
+    (samples : ℕ → List (List Value)) (ways : List Way) (way : Way)
+    → TellTheSame (all_brought samples (with_way ways way)) (all_brought samples ways ++ brought samples way)
+
+-- ---- going down
+-- it begins with the point itself at its depth
+abbrev pub DescentsBegin : Type 0
+DescentsBegin =
+    (ps : List Point) → has_cycle (nodes ps) ≡ false → (p : ℕ) → p < length ps
+    → IsDescent ps p [] (first_levels p (length (all_vars_of ps p)) (depth_of (nodes ps) p))
+
+-- a way of the deepest level is done, and those that go on from it are still to be followed
+abbrev pub DescentsGoOn : Type 0
+DescentsGoOn =
+    (ps : List Point) → has_cycle (nodes ps) ≡ false → (p : ℕ) (ways : List Way) (levels : List (List Way)) (level : List Way)
+    → (way : Way) → All (λ (e : Edge). (e.child.0 < length ps) × (e.parent.0 ≡ way.point.0)) (edges_into (nodes ps) way.point.0)
+    → IsDescent ps p ways (levels ++ (level ++ way ∷ []) ∷ [])
+    → IsDescent ps p (ways ++ way ∷ []) (with_ways_below ps levels way ++ level ∷ [])
+
+-- it ends where no way is to be followed: then the own samples that the ways bring tell the same as all samples of the point
+abbrev pub DescentsEnd : Type 0
+DescentsEnd =
+    (ps : List Point) (p : ℕ) (ways : List Way) → IsDescent ps p ways [] → (own : OwnSamples)
+    → TellTheSame (samples_of ps own p) (all_brought (own_samples_of ps own) ways)

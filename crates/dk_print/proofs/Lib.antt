@@ -1,0 +1,4 @@
+mod Examples
+pub mod Pieces
+pub mod Reading
+pub mod Alike

@@ -1,0 +1,5 @@
+pub mod Parts
+pub mod Texts
+pub mod Shown
+pub mod Sections
+pub mod Laws

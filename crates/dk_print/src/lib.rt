@@ -1,0 +1,17 @@
+//! The texts of a report: of an instance, of a section, of sizes, and of a fault.
+#![tactic(auto)]
+
+mod instances;
+pub mod laws;
+mod numbers;
+mod parts;
+mod sections;
+mod states;
+mod terms;
+mod values;
+
+pub use instances::{instance, push_instance};
+pub use sections::{fault, push_fault, push_section, push_stats, section};
+
+#[cfg(test)]
+mod tests;

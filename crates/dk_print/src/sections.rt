@@ -1,0 +1,171 @@
+// The texts of sections, and the lines round them.
+ghost use Rattle.std.specs.Prelude.{◌≡◌, ◌++◌, IfOk, OnOk, codes, flat_map};
+ghost use Rattle.dk_base.specs.Refusals.{text_of};
+ghost use Rattle.dk_print.specs.Sections.{candidate_line, count_text, fault_line, heading, kept_text, samples_text, section_text, sizes_from, stats_line, variables_text};
+
+use crate::instances::push_instance;
+use crate::numbers::push_number;
+use dk_base::{NoMemory, Text, VarInfo, Why};
+use dk_filters::Candidate;
+use itoa::Integer;
+use std::alloc::Global;
+
+// The line in front of each heading.
+const RULE: &[u8] =
+    b"===========================================================================\n";
+
+// A count, at the end of a line.
+fn push_count(text: &mut Text, count: u64) -> Result<(), NoMemory>
+    ensures { OnOk result (text.new ≡ text.old ++ count_text count) }
+{
+    text.append(b"  [")?;
+    push_number(text, count)?;
+    text.append(b"]\n")
+}
+
+// The heading of a point's section.
+fn push_heading(text: &mut Text, name: &[u8], samples: u64) -> Result<(), NoMemory>
+    ensures { OnOk result (text.new ≡ text.old ++ heading name.now samples) }
+{
+    text.append(RULE)?;
+    text.append(name)?;
+    push_count(text, samples)
+}
+
+// The line of a candidate.
+fn push_candidate(text: &mut Text, vars: &[VarInfo], candidate: &Candidate) -> Result<(), NoMemory>
+    ensures { OnOk result (text.new ≡ text.old ++ candidate_line vars.now candidate.now) }
+{
+    let tuple = candidate.vars.as_slice();
+    push_instance(text, candidate.row, vars, tuple, &candidate.state)?;
+    push_count(text, candidate.count)
+}
+
+// The lines of the candidates, in their order.
+fn push_candidates(text: &mut Text, vars: &[VarInfo], list: &[Candidate]) -> Result<(), NoMemory>
+    ensures { OnOk result (text.new ≡ text.old ++ flat_map (candidate_line vars.now) list.now) }
+{
+    for candidate in list {
+        push_candidate(text, vars, candidate)?;
+    }
+    Ok(())
+}
+
+/// The section of a point, behind the text: a line of 75 `=`, the point's name with the number of its samples, and for each candidate a
+/// line with its text and its count, in their order. After an error the text may hold a part of it.
+#[tactic(auto, unfolding(crate::specs::Sections::section_text))]
+pub fn push_section(
+    text: &mut Text,
+    name: &[u8],
+    samples: u64,
+    vars: &[VarInfo],
+    list: &[Candidate],
+) -> Result<(), NoMemory>
+    ensures { OnOk result (text.new ≡ text.old ++ section_text name.now samples vars.now list.now) }
+{
+    push_heading(text, name, samples)?;
+    push_candidates(text, vars, list)
+}
+
+/// The section of a point, as `push_section` writes it.
+pub fn section(
+    alloc: Global,
+    name: &[u8],
+    samples: u64,
+    vars: &[VarInfo],
+    list: &[Candidate],
+) -> Result<Text, NoMemory>
+    ensures { IfOk result (λ text. text ≡ section_text name.now samples vars.now list.now) }
+{
+    let mut text = Text::new(alloc);
+    push_section(&mut text, name, samples, vars, list)?;
+    Ok(text)
+}
+
+// A number behind what it counts.
+fn push_size<I: Integer>(text: &mut Text, label: &[u8], size: I) -> Result<(), NoMemory>
+    ensures { OnOk result (text.new ≡ text.old ++ (label.now ++ I.text size)) }
+{
+    text.append(label)?;
+    push_number(text, size)
+}
+
+// How many leaders there are, and how many of them are constant.
+fn push_variables(text: &mut Text, leaders: u32, constants: u32) -> Result<(), NoMemory>
+    ensures { OnOk result (text.new ≡ text.old ++ variables_text leaders constants) }
+{
+    push_size(text, b", leaders ", leaders)?;
+    push_size(text, b", constants ", constants)
+}
+
+// How many patterns and slots there are, and the end of the line.
+fn push_samples(text: &mut Text, patterns: u64, slots: u64) -> Result<(), NoMemory>
+    ensures { OnOk result (text.new ≡ text.old ++ samples_text patterns slots) }
+{
+    push_size(text, b", patterns ", patterns)?;
+    push_size(text, b", slots ", slots)?;
+    text.append(b"\n")
+}
+
+// The sizes behind the number of samples, and the end of the line.
+fn push_kept(
+    text: &mut Text,
+    leaders: u32,
+    constants: u32,
+    patterns: u64,
+    slots: u64,
+) -> Result<(), NoMemory>
+    ensures { OnOk result (text.new ≡ text.old ++ kept_text leaders constants patterns slots) }
+{
+    push_variables(text, leaders, constants)?;
+    push_samples(text, patterns, slots)
+}
+
+/// The line of what an engine keeps of a point's samples, behind the text. After an error the text may hold a part of it.
+#[tactic(auto, unfolding(crate::specs::Sections::stats_line))]
+pub fn push_stats(
+    text: &mut Text,
+    name: &[u8],
+    samples: u64,
+    leaders: u32,
+    constants: u32,
+    patterns: u64,
+    slots: u64,
+) -> Result<(), NoMemory>
+    ensures { OnOk result (text.new ≡ text.old ++ stats_line name.now (sizes_from samples leaders constants patterns slots)) }
+{
+    text.append(b"stats ")?;
+    text.append(name)?;
+    push_size(text, b": samples ", samples)?;
+    push_kept(text, leaders, constants, patterns, slots)
+}
+
+// Why a line is refused, by number and name, and the end of the line.
+fn push_why(text: &mut Text, why: Why) -> Result<(), NoMemory>
+    ensures { OnOk result (text.new ≡ text.old ++ (codes ": " ++ text_of why ++ codes "\n")) }
+{
+    push_size(text, b": ", why.number())?;
+    text.append(b" ")?;
+    text.append(why.name().as_bytes())?;
+    text.append(b"\n")
+}
+
+/// The message of a fault, behind the text: a line of this file is refused. After an error the text may hold a part of it.
+#[tactic(auto, unfolding(crate::specs::Sections::fault_line))]
+pub fn push_fault(text: &mut Text, file: &[u8], line: u64, why: Why) -> Result<(), NoMemory>
+    ensures { OnOk result (text.new ≡ text.old ++ fault_line file.now line why) }
+{
+    text.append(b"daikon: ")?;
+    text.append(file)?;
+    push_size(text, b":", line)?;
+    push_why(text, why)
+}
+
+/// The message of a fault, as `push_fault` writes it.
+pub fn fault(alloc: Global, file: &[u8], line: u64, why: Why) -> Result<Text, NoMemory>
+    ensures { IfOk result (λ text. text ≡ fault_line file.now line why) }
+{
+    let mut text = Text::new(alloc);
+    push_fault(&mut text, file, line, why)?;
+    Ok(text)
+}

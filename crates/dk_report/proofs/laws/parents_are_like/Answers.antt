@@ -1,0 +1,5 @@
+use Rattle.dk_report.proofs.Parents.{parents_are_like}
+use Rattle.dk_report.proofs.laws.parents_are_like.Goals as goal
+
+pub returns : goal.returns
+returns c = parents_are_like

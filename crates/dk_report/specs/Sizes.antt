@@ -1,0 +1,75 @@
+-- How much of the samples of a point is kept.
+use Rattle.std.specs.Prelude.{◌&&◌, ◌==◌, ℕ, Bool, true, false, not, List, [], ◌∷◌, ◌++◌, filter, flat_map, length, map, take}
+use Rattle.std.specs.List.{list_all, list_any}
+use Rattle.dk_base.specs.declared.kinds.VarId.{VarId}
+use Rattle.dk_base.specs.declared.kinds.VarInfo.{VarInfo}
+use Rattle.dk_base.specs.declared.values.Value.{Value}
+use Rattle.dk_core.specs.History.{History}
+use Rattle.dk_filters.specs.OfSamples.{agrees}
+use Rattle.dk_fits.specs.Fits.{fit}
+use Rattle.dk_fits.specs.Instances.{all_vars, rows_of, tuples_over}
+use Rattle.dk_forms.specs.declared.states.State.{State}
+use Rattle.dk_forms.specs.declared.states.State.TheVariants as state
+use Rattle.dk_hierarchy.specs.Samples.{all_vars_of, own_samples_of}
+use Rattle.dk_base.specs.SameValues.{same_value}
+use Rattle.dk_presence.specs.Patterns.{capped, patterns_of, same_vars}
+use Rattle.dk_print.specs.Sections.{Sizes}
+use Rattle.dk_samples.specs.Samples.{value_in}
+use Rattle.dk_suppress.specs.Rules.{is_suppressed}
+use Rattle.dk_template.specs.Admitted.{admits, is_written}
+use Rattle.dk_template.specs.Templates.{arity_of}
+use Rattle.dk_template.specs.declared.grammar.Grammar.{Grammar}
+use Rattle.dk_template.specs.declared.grammar.RowId.{RowId}
+
+-- a leader is a variable with which no earlier one agrees
+abbrev pub leads : List VarInfo → List (List Value) → VarId → Bool
+leads infos samples v = not (list_any (λ w. agrees infos samples w v) (take v.0 (all_vars infos)))
+
+abbrev pub leaders_of : List VarInfo → List (List Value) → List VarId
+leaders_of infos samples = filter (leads infos samples) (all_vars infos)
+
+-- a variable is constant in samples if it has one value in all of them, the missing one counted
+abbrev pub is_constant_in : List (List Value) → VarId → Bool
+is_constant_in [] v = false
+is_constant_in (s ∷ samples) v = list_all (λ t. same_value (value_in t v) (value_in s v)) samples
+
+-- each pattern once
+abbrev pub each_once : List (List VarId) → List (List VarId)
+each_once [] = []
+each_once (pattern ∷ patterns) = pattern ∷ filter (λ p. not (same_vars pattern p)) (each_once patterns)
+
+abbrev pub is_broken : State → Bool
+is_broken state.Broken = true
+is_broken _ = false
+
+-- A slot is a row with leaders that it admits in its written order, repeats allowed, not all of them constant; its fit isn't broken, and
+-- no rule suppresses it.
+abbrev pub is_slot : List VarInfo → List (List Value) → RowId → List VarId → Bool
+is_slot infos samples row vars =
+    admits row infos vars
+    && is_written row vars
+    && not (list_all (is_constant_in samples) vars)
+    && not (is_broken (fit row vars samples))
+    && not (is_suppressed (λ row vars. fit row vars samples) row vars)
+
+abbrev pub slots_over : List VarInfo → List (List Value) → List VarId → RowId → List (List VarId)
+slots_over infos samples leaders row = filter (is_slot infos samples row) (tuples_over (arity_of row) leaders)
+
+-- all slots; of no samples there is none
+abbrev pub slots_of : Grammar → List VarInfo → List (List Value) → List (RowId × List VarId)
+slots_of grammar infos [] = []
+slots_of grammar infos (s ∷ samples) =
+    flat_map (λ row. map (λ vars. (row, vars)) (slots_over infos (s ∷ samples) (leaders_of infos (s ∷ samples)) row)) (rows_of grammar)
+
+abbrev pub sizes_of : Grammar → List VarInfo → List (List Value) → Sizes
+sizes_of grammar infos samples = record {
+  samples = capped (length samples);
+  leaders = length (leaders_of infos samples);
+  constants = length (filter (is_constant_in samples) (leaders_of infos samples));
+  patterns = length (each_once (patterns_of (leaders_of infos samples) samples));
+  slots = length (slots_of grammar infos samples);
+}
+
+-- the sizes of what is kept of a point's own samples
+unfoldable pub sizes_at : Grammar → History → ℕ → Sizes
+sizes_at grammar h p = sizes_of grammar (all_vars_of h.table p) (own_samples_of h.table h.samples p)
