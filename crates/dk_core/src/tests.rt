@@ -25,9 +25,10 @@ fn read(alloc: Global) -> Result<Session, Fail> {
     let mut lines = Lines::new(alloc, Limits::STANDARD)?;
     lines.start(&mut inputs, "t")?;
     let mut session = Session::new(alloc)?;
-    for _ in 0..4 {
-        let _found = session.block(&mut inputs, &mut lines)?;
-    }
+    let _headers = session.block(&mut inputs, &mut lines)?;
+    let _declaration = session.block(&mut inputs, &mut lines)?;
+    let _record = session.block(&mut inputs, &mut lines)?;
+    let _end = session.block(&mut inputs, &mut lines)?;
     Ok(session.end_file())
 }
 
