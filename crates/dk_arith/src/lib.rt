@@ -7,6 +7,3 @@ pub mod laws;
 
 pub use divisors::{gcd_of, gcd_wide};
 pub use exact::{Direction, area, lowest, minus, same_products, value_at, value_in_space};
-
-#[cfg(test)]
-mod tests;

@@ -9,3 +9,4 @@ pub mod Written
 pub mod Examples
 pub mod Wordless
 pub mod ValueTests
+pub mod Parted

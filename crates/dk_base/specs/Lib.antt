@@ -2,6 +2,7 @@ pub mod Refusals
 pub mod Reading
 pub mod Pieces
 pub mod Words
+pub mod WordLaws
 pub mod Names
 pub mod Numbers
 pub mod Items

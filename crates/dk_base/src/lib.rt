@@ -6,6 +6,7 @@ mod blanks;
 mod faults;
 mod items;
 mod kinds;
+pub mod laws;
 mod lists;
 mod memory;
 mod names;
@@ -39,6 +40,3 @@ pub use why::Why;
 
 /// An arena: what lies in it goes all at once.
 pub type Arena = bumpalo::Bump;
-
-#[cfg(test)]
-mod tests;

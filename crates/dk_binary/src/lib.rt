@@ -10,6 +10,3 @@ pub use compare::Compare;
 pub use equality::{Equality, Scalar};
 pub use linear::Linear;
 pub use rows::{join, point, stays};
-
-#[cfg(test)]
-mod tests;

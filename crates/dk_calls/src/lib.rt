@@ -8,6 +8,3 @@ mod origs;
 mod stack;
 
 pub use calls::{Calls, is_entry};
-
-#[cfg(test)]
-mod tests;

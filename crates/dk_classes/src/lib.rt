@@ -7,6 +7,3 @@ mod steps;
 
 pub use class::Classes;
 pub use dk_presence::{Held, Presence, present_leaders};
-
-#[cfg(test)]
-mod tests;

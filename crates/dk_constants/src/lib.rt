@@ -8,6 +8,3 @@ mod places;
 mod steps;
 
 pub use constants::Constants;
-
-#[cfg(test)]
-mod tests;

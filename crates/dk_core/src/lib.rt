@@ -6,7 +6,5 @@ mod first_lines;
 mod kept;
 pub mod laws;
 mod session;
-#[cfg(test)]
-mod tests;
 
 pub use session::Session;

@@ -22,6 +22,3 @@ mod vars;
 pub use block::DeclBlock;
 pub use decls::{EdgeDecl, ParentVar, PointDecl, VarDecl};
 pub use header::Header;
-
-#[cfg(test)]
-mod tests;

@@ -11,6 +11,3 @@ mod values;
 pub use derived::derive;
 pub use partners::partner;
 pub use values::extend;
-
-#[cfg(test)]
-mod tests;

@@ -16,6 +16,3 @@ pub use non_null::NonNull;
 pub use one_of::OneOf;
 pub use rows::{join, point, stays};
 pub use sorted::Sorted;
-
-#[cfg(test)]
-mod tests;

@@ -30,6 +30,3 @@ pub use plane::{join_plane, plane_point, plane_stays};
 pub use states::State;
 pub use texts::{join_texts, text_point, text_stays, texts_all_stay, texts_point};
 pub use truth::{join_truth, truth_all_stay, truth_point, truth_stays};
-
-#[cfg(test)]
-mod tests;

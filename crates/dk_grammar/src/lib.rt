@@ -10,6 +10,3 @@ mod sweep;
 pub use rows::{breaks, join, point, stays};
 pub use runs::first_changed;
 pub use slot::Slot;
-
-#[cfg(test)]
-mod tests;

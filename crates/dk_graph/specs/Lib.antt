@@ -4,4 +4,5 @@ pub mod Graphs
 pub mod Rows
 pub mod Raising
 pub mod Kept
+pub mod Joined
 pub mod Paths

@@ -3,6 +3,7 @@ ghost use Rattle.std.specs.Prelude.{◌≡◌, ◌∷◌, ◌++◌, [], ◌<◌,
 ghost use Rattle.dk_graph.specs.Names.{place_of};
 ghost use Rattle.dk_graph.specs.Graphs.{names, edges_from, edges_into, place_in, edge_of, links_of};
 ghost use Rattle.dk_graph.specs.Kept.{waited};
+ghost use Rattle.dk_graph.specs.Joined.{AreJoined};
 
 use crate::names::Names;
 use crate::nodes::{Edge, Node, Waiting};
@@ -12,10 +13,10 @@ use dk_base::{List, NoMemory, PointId, Text};
 use std::alloc::Global;
 use std::marker::Model;
 
-// Points with their edges. There may be cycles.
+// Points, and what is kept beside them: their names, the links that wait for their parents, and a row of edges by child and by parent
+// for each.
 #[derive(Drop)]
-pub struct Edges {
-    alloc: Global,
+pub(crate) struct Parts {
     nodes: List<Node>,
     names: Names,
     waiting: Notes,
@@ -23,16 +24,23 @@ pub struct Edges {
     into: Vec<Row>,
 }
 
+// Points with their edges. There may be cycles.
+#[derive(Drop)]
+pub struct Edges {
+    alloc: Global,
+    parts: Parts,
+}
+
 impl Model for Edges {
     ghost use Rattle.std.specs.Prelude.{List};
     ghost use Rattle.dk_graph.specs.declared.nodes.Node.{Node};
-    ghost use Rattle.dk_graph.specs.Kept.{IsJoined};
+    ghost use Rattle.dk_graph.specs.Joined.{AreJoined};
 
     ghost Value = { List Node };
 
-    ghost view = { λ e. e.nodes };
+    ghost view = { λ e. e.parts.nodes };
 
-    ghost invariant = { λ e. IsJoined e.nodes e.names e.waiting e.from.items e.into.items };
+    ghost invariant = { λ e. AreJoined e.parts };
 }
 
 impl Edges {
@@ -42,11 +50,13 @@ impl Edges {
     {
         Edges {
             alloc,
-            nodes: List::new(alloc),
-            names: Names::new(alloc),
-            waiting: Notes::new(alloc),
-            from: Vec::new(alloc),
-            into: Vec::new(alloc),
+            parts: Parts {
+                nodes: List::new(alloc),
+                names: Names::new(alloc),
+                waiting: Notes::new(alloc),
+                from: Vec::new(alloc),
+                into: Vec::new(alloc),
+            },
         }
     }
 
@@ -55,7 +65,7 @@ impl Edges {
         ensures len { result ≡ length self.now }
         ensures few { length self.now ≤ 65535 }
     {
-        self.nodes.len() as u32
+        self.parts.nodes.len() as u32
     }
 
     // The point of a name.
@@ -63,7 +73,7 @@ impl Edges {
         ensures place { option_map place_in result ≡ place_of (names self.now) name.now }
         ensures within { IfSome result (λ p. p.0 < length self.now) }
     {
-        match self.names.find(name) {
+        match self.parts.names.find(name) {
             Some(place) => Some(PointId(place as u32)),
             None => None,
         }
@@ -74,7 +84,7 @@ impl Edges {
         requires { p.0 < length self.now }
         ensures { slice_get (names self.now) p.0 ≡ Some result.now }
     {
-        self.names.get(p.0 as usize)
+        self.parts.names.get(p.0 as usize)
     }
 
     // The edges from a point to its parents, by number.
@@ -82,7 +92,7 @@ impl Edges {
         requires { p.0 < length self.now }
         ensures { result.now ≡ edges_from self.now p.0 }
     {
-        self.from[p.0 as usize].as_slice()
+        self.parts.from[p.0 as usize].as_slice()
     }
 
     // The edges into a point from its children, by child and then by number.
@@ -90,7 +100,7 @@ impl Edges {
         requires { p.0 < length self.now }
         ensures { result.now ≡ edges_into self.now p.0 }
     {
-        self.into[p.0 as usize].as_slice()
+        self.parts.into[p.0 as usize].as_slice()
     }
 }
 
@@ -125,6 +135,34 @@ fn sort_links(
     Ok(())
 }
 
+impl Parts {
+    // One point more, which goes last. After a refusal nothing is said of the parts.
+    fn push(&mut self, alloc: Global, node: Node) -> Result<(), NoMemory>
+        requires joined { AreJoined self.old }
+        requires new { place_of (names self.old.nodes) node.name ≡ None }
+        requires few { length self.old.nodes < 65535 }
+        ensures nodes { OnOk result (self.new.nodes ≡ self.old.nodes ++ node ∷ []) }
+        ensures joined { OnOk result (AreJoined self.new) }
+    {
+        let place = PointId(self.nodes.len() as u32);
+        let children = edges_of_waiting(alloc, place, self.waiting.under(node.name.as_slice()))?;
+        insert_by_child(children.as_slice(), &mut self.from)?;
+        self.into.push(children)?;
+        self.names.push(node.name.as_slice())?;
+        let mut own = Row::new(alloc);
+        sort_links(
+            &self.names,
+            place,
+            node.links.as_slice(),
+            &mut own,
+            &mut self.waiting,
+        )?;
+        push_by_parent(own.as_slice(), &mut self.into)?;
+        self.from.push(own)?;
+        self.nodes.push(node)
+    }
+}
+
 impl Edges {
     // The allocator.
     pub fn alloc(&self) -> Global {
@@ -137,31 +175,8 @@ impl Edges {
         requires few { length self < 65535 }
         ensures { IfOk result (λ edges. edges ≡ self ++ node ∷ []) }
     {
-        let Edges {
-            alloc,
-            mut nodes,
-            mut names,
-            mut waiting,
-            mut from,
-            mut into,
-        } = self;
-        let place = PointId(nodes.len() as u32);
-        let children = edges_of_waiting(alloc, place, waiting.under(node.name.as_slice()))?;
-        insert_by_child(children.as_slice(), &mut from)?;
-        into.push(children)?;
-        names.push(node.name.as_slice())?;
-        let mut own = Row::new(alloc);
-        sort_links(&names, place, node.links.as_slice(), &mut own, &mut waiting)?;
-        push_by_parent(own.as_slice(), &mut into)?;
-        from.push(own)?;
-        nodes.push(node)?;
-        Ok(Edges {
-            alloc,
-            nodes,
-            names,
-            waiting,
-            from,
-            into,
-        })
+        let Edges { alloc, mut parts } = self;
+        parts.push(alloc, node)?;
+        Ok(Edges { alloc, parts })
     }
 }

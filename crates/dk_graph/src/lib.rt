@@ -16,6 +16,3 @@ mod rows;
 pub use graph::Graph;
 pub use names::Names;
 pub use nodes::{Edge, Node};
-
-#[cfg(test)]
-mod tests;

@@ -11,6 +11,3 @@ pub use extremes::bounds;
 pub use offsets::{Shift, offset};
 pub use relation::Rel;
 pub use scans::{all, member, pairwise, sorted};
-
-#[cfg(test)]
-mod tests;

@@ -15,6 +15,3 @@ pub use offsets::PairOffset;
 pub use partners::Partners;
 pub use rows::{join, point, stays};
 pub use subsets::Subset;
-
-#[cfg(test)]
-mod tests;

@@ -26,6 +26,3 @@ pub use partners::{is_orig, plain_name};
 pub use points::Points;
 pub use roles::{Role, role_of};
 pub use variables::orig_name;
-
-#[cfg(test)]
-mod tests;

@@ -9,6 +9,3 @@ mod steps;
 
 pub use held::Held;
 pub use presence::{Presence, present_leaders};
-
-#[cfg(test)]
-mod tests;

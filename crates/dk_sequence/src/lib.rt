@@ -8,6 +8,3 @@ pub use dk_elements::{Bound, Compare, NonNull, OneOf, Sorted};
 pub use dk_lanes::Rel;
 pub use dk_pairs::{EqualSequences, Member, PairOffset, Partners, Subset};
 pub use rows::{join, point, stays};
-
-#[cfg(test)]
-mod tests;

@@ -9,6 +9,3 @@ mod suppressing;
 pub use freeing::freed_by;
 pub use rules::{Rule, table};
 pub use suppressing::suppressed;
-
-#[cfg(test)]
-mod tests;

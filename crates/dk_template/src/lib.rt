@@ -28,6 +28,3 @@ pub use properness::proper;
 pub use row::{Row, point_of};
 pub use templates::{Role, RowInfo, StateForm, Symmetry, Takes, Template, info, template_at};
 pub use tuple::Tuple;
-
-#[cfg(test)]
-mod tests;

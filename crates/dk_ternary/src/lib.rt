@@ -9,6 +9,3 @@ mod rows;
 pub use operation::Operation;
 pub use planar::LinearTernary;
 pub use rows::{join, point, stays};
-
-#[cfg(test)]
-mod tests;

@@ -14,6 +14,3 @@ mod values;
 
 pub use reader::RecordReader;
 pub use sample::BaseSample;
-
-#[cfg(test)]
-mod tests;

@@ -12,6 +12,3 @@ pub use modulus::Modulus;
 pub use non_null::NonNull;
 pub use one_of::OneOf;
 pub use rows::{join, point, stays};
-
-#[cfg(test)]
-mod tests;

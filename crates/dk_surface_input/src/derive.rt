@@ -1,0 +1,416 @@
+// What no clause says: that the calls succeed with ample memory; and tables of variables with what is derived of them.
+ghost use Rattle.std.specs.Prelude.{◌<◌, All, IfOk, IfSome, length};
+ghost use Rattle.dk_points.specs.Laws.{IsBaseVar};
+
+use bumpalo::collections::into_bump_slice;
+use dk_base::{
+    Arena, BlockFault, Compar, Form, Kind, List, NoMemory, PointId, Text, ValueFault, VarId,
+    VarInfo, View, parse_value, spell,
+};
+use dk_decl::laws::read_block;
+use dk_derive::laws::{
+    derive_gives_derived, derived_are_counted, missing_bases_give_missing, partners_are_alike,
+    values_are_of_kinds, values_are_within,
+};
+use dk_derive::*;
+use dk_graph::Edge;
+use dk_points::Points;
+use std::alloc::Global;
+use std::process::Abort;
+use std::test::Fail;
+
+fn declare_block(
+    alloc: Global,
+    points: Points,
+    block: &[(u64, &[u8])],
+) -> Result<Points, BlockFault> {
+    match block {
+        [] => Ok(points),
+        [first, rest @ ..] => {
+            let decl = read_block(alloc, true, *first, rest)?;
+            let (more, _) = points.declare(decl, 1)?;
+            Ok(more)
+        }
+    }
+}
+
+fn with_line<'a>(
+    mut block: Vec<(u64, &'a [u8])>,
+    line: &'a [u8],
+) -> Result<Vec<(u64, &'a [u8])>, NoMemory> {
+    block.push((1, line))?;
+    Ok(block)
+}
+
+// The table behind the blocks of a text, which blank lines separate.
+fn table(alloc: Global, text: &[u8]) -> Result<Points, BlockFault> {
+    let mut points = Points::new(alloc)?;
+    let mut block: Vec<(u64, &[u8])> = Vec::new(alloc);
+    for line in text.split(|byte| *byte == b'\n') {
+        if line.is_empty() {
+            points = declare_block(alloc, points, block.as_slice())?;
+            block = Vec::new(alloc);
+        } else {
+            block = with_line(block, line)?;
+        }
+    }
+    declare_block(alloc, points, block.as_slice())
+}
+
+fn last_point(points: &Points) -> Option<PointId>
+    ensures { IfSome result (λ p. p.0 < length points.now) }
+{
+    match points.len().checked_sub(1) {
+        None => None,
+        Some(last) => Some(PointId(last)),
+    }
+}
+
+/// Blocks, and what is derived of the variables of the last point: names, and numbers of comparability.
+static NAMES: [(&'static [u8], &'static [u8]); 4] = [
+    (
+        b"ppt P\nvariable this.a[..]\nrep-type String[]\ncomparability 2[3]\nvariable n\nrep-type int\ncomparability 5",
+        b"size(this.a[..]) 3 -1; this.a[0] 2 -1; this.a[-1] 2 -1; this.a[n] 2 -1; this.a[0..n] 2 3; this.a[0..n-1] 2 3; this.a[n..] 2 3; this.a[n+1..] 2 3; ",
+    ),
+    // names end in different ways; hash codes, truth values and opaque variables are no indices
+    (
+        b"ppt P\nvariable h\nrep-type hashcode\nvariable b[]\nrep-type boolean[]\nvariable d\nrep-type double\nvariable c\nrep-type hashcode[]\nvariable e[][..]\nrep-type int[]\nvariable f[..][]\nrep-type int[]\nvariable t\nrep-type boolean",
+        b"size(b[]) -1 -1; b[0] -1 -1; b[-1] -1 -1; size(c) -1 -1; c[0] -1 -1; c[-1] -1 -1; size(e[][..]) -1 -1; e[][0] -1 -1; e[][-1] -1 -1; size(f[..][]) -1 -1; f[..][0] -1 -1; f[..][-1] -1 -1; ",
+    ),
+    // two sequences and two whole numbers
+    (
+        b"ppt P\nvariable i\nrep-type int\nvariable a\nrep-type int[]\nvariable b\nrep-type int[]\nvariable j\nrep-type int",
+        b"size(a) -1 -1; a[0] -1 -1; a[-1] -1 -1; a[i] -1 -1; a[0..i] -1 -1; a[0..i-1] -1 -1; a[i..] -1 -1; a[i+1..] -1 -1; a[j] -1 -1; a[0..j] -1 -1; a[0..j-1] -1 -1; a[j..] -1 -1; a[j+1..] -1 -1; size(b) -1 -1; b[0] -1 -1; b[-1] -1 -1; b[i] -1 -1; b[0..i] -1 -1; b[0..i-1] -1 -1; b[i..] -1 -1; b[i+1..] -1 -1; b[j] -1 -1; b[0..j] -1 -1; b[0..j-1] -1 -1; b[j..] -1 -1; b[j+1..] -1 -1; ",
+    ),
+    // plain and orig ones don't mix
+    (
+        b"ppt M:::ENTER\nvariable a[..]\nrep-type int[]\nvariable i\nrep-type int\n\nppt M:::EXIT\nvariable a[..]\nrep-type int[]\ncomparability 2[3]\nvariable i\nrep-type int\ncomparability 3",
+        b"size(a[..]) 3 -1; a[0] 2 -1; a[-1] 2 -1; a[i] 2 -1; a[0..i] 2 3; a[0..i-1] 2 3; a[i..] 2 3; a[i+1..] 2 3; orig(size(a[..])) 3 -1; orig(a[0]) 2 -1; orig(a[-1]) 2 -1; orig(a[i]) 2 -1; orig(a[0..i]) 2 3; orig(a[0..i-1]) 2 3; orig(a[i..]) 2 3; orig(a[i+1..]) 2 3; ",
+    ),
+];
+
+fn show_var(alloc: Global, shown: &mut Text, var: &VarInfo) -> Result<(), NoMemory> {
+    shown.append(var.name.as_slice())?;
+    let elem = var.compar.elem;
+    let index = var.compar.index;
+    shown.append(format!(in alloc; " {elem} {index}; ")?.as_bytes())
+}
+
+fn derived_names(alloc: Global, points: &Points) -> Result<Text, NoMemory> {
+    let mut shown = Text::new(alloc);
+    let Some(p) = last_point(points) else {
+        return Ok(shown);
+    };
+    let base = points.vars(p);
+    let vars = derive(alloc, base)?;
+    for var in vars.as_slice().iter().skip(base.len()) {
+        show_var(alloc, &mut shown, var)?;
+    }
+    Ok(shown)
+}
+
+#[test]
+fn derived_variables_have_names(rt: HostRuntime) -> Result<(), Fail> {
+    for (blocks, expected) in &NAMES {
+        let points = table(rt.alloc(), blocks)?;
+        assert_eq!(&rt; derived_names(rt.alloc(), &points)?.as_slice(), *expected);
+    }
+    Ok(())
+}
+
+/// A rep-type of a sequence; a sequence and a whole number, one a line; and the values that are derived of them: the size, the first
+/// and the last element, the element at the number, and the elements up to it, before it, from it on and after it.
+static VALUES: [(&'static [u8], &'static [u8], &'static [u8]); 20] = [
+    (
+        b"int[]",
+        b"[1 2]\n2",
+        b"2; 1; 2; missing; missing; [1 2]; []; missing; ",
+    ),
+    (
+        b"int[]",
+        b"[1 2]\n-1",
+        b"2; 1; 2; missing; []; missing; missing; [1 2]; ",
+    ),
+    (b"int[]", b"[1 2]\n0", b"2; 1; 2; 1; [1]; []; [1 2]; [2]; "),
+    (b"int[]", b"[1 2]\n1", b"2; 1; 2; 2; [1 2]; [1]; [2]; []; "),
+    (
+        b"int[]",
+        b"[1 2]\n-2",
+        b"2; 1; 2; missing; missing; missing; missing; missing; ",
+    ),
+    (
+        b"int[]",
+        b"[1 2]\n3",
+        b"2; 1; 2; missing; missing; missing; missing; missing; ",
+    ),
+    (
+        b"int[]",
+        b"[1 2]\n9223372036854775807",
+        b"2; 1; 2; missing; missing; missing; missing; missing; ",
+    ),
+    (
+        b"int[]",
+        b"[1 2]\n-9223372036854775808",
+        b"2; 1; 2; missing; missing; missing; missing; missing; ",
+    ),
+    // no element, and one
+    (
+        b"int[]",
+        b"[]\n0",
+        b"0; missing; missing; missing; missing; []; []; missing; ",
+    ),
+    (
+        b"int[]",
+        b"[]\n-1",
+        b"0; missing; missing; missing; []; missing; missing; []; ",
+    ),
+    (
+        b"int[]",
+        b"[]\n1",
+        b"0; missing; missing; missing; missing; missing; missing; missing; ",
+    ),
+    (b"int[]", b"[7]\n0", b"1; 7; 7; 7; [7]; []; [7]; []; "),
+    // a missing base
+    (
+        b"int[]",
+        b"missing\n0",
+        b"missing; missing; missing; missing; missing; missing; missing; missing; ",
+    ),
+    (
+        b"int[]",
+        b"[1 2]\nmissing",
+        b"2; 1; 2; missing; missing; missing; missing; missing; ",
+    ),
+    (
+        b"int[]",
+        b"null\nuninit",
+        b"missing; missing; missing; missing; missing; missing; missing; missing; ",
+    ),
+    // other elements
+    (
+        b"boolean[]",
+        b"[true false true]\n1",
+        b"3; true; true; false; [true false]; [true]; [false true]; [true]; ",
+    ),
+    (
+        b"hashcode[]",
+        b"[0x1f null]\n1",
+        b"2; 0x1f; null; null; [0x1f null]; [0x1f]; [null]; []; ",
+    ),
+    (
+        b"String[]",
+        b"[\"a b\" null \"c\"]\n1",
+        b"3; \"a b\"; \"c\"; null; [\"a b\" null]; [\"a b\"]; [null \"c\"]; [\"c\"]; ",
+    ),
+    (
+        b"String[]",
+        b"[]\n-1",
+        b"0; missing; missing; missing; []; missing; missing; []; ",
+    ),
+    (
+        b"String[]",
+        b"[\"\"]\n1",
+        b"1; \"\"; \"\"; missing; missing; [\"\"]; []; missing; ",
+    ),
+];
+
+fn parsed<'a>(arena: &'a Arena, kind: Kind, text: &[u8]) -> Result<View<'a>, NoMemory> {
+    match parse_value(arena, kind, text) {
+        Ok(value) => Ok(value),
+        Err(ValueFault::Bad) => Err(NoMemory),
+        Err(ValueFault::NoMemory) => Err(NoMemory),
+    }
+}
+
+fn with_value<'a>(
+    mut values: Vec<View<'a>, &'a Arena>,
+    value: View<'a>,
+) -> Result<Vec<View<'a>, &'a Arena>, NoMemory> {
+    values.push(value)?;
+    Ok(values)
+}
+
+// The values of the base variables, one a line.
+fn base_values<'a>(
+    arena: &'a Arena,
+    base: &[VarInfo],
+    text: &[u8],
+) -> Result<&'a [View<'a>], NoMemory> {
+    let mut values: Vec<View<'a>, &'a Arena> = Vec::new(arena);
+    let mut place = 0usize;
+    for line in text.split(|byte| *byte == b'\n') {
+        let Some(var) = base.get(place) else {
+            return Err(NoMemory);
+        };
+        values = with_value(values, parsed(arena, var.kind, line)?)?;
+        place = place.saturating_add(1);
+    }
+    Ok(into_bump_slice(values))
+}
+
+fn derived_values(alloc: Global, points: &Points, text: &[u8]) -> Result<Text, NoMemory> {
+    let mut shown = Text::new(alloc);
+    let Some(p) = last_point(points) else {
+        return Ok(shown);
+    };
+    let base = points.vars(p);
+    let vars = derive(alloc, base)?;
+    let arena = Arena::new(alloc);
+    let given = base_values(&arena, base, text)?;
+    let values = extend(&arena, vars.as_slice(), given)?;
+    for value in values.iter().skip(given.len()) {
+        shown.append(spell(alloc, *value)?.as_slice())?;
+        shown.append(b"; ")?;
+    }
+    Ok(shown)
+}
+
+fn block_of(alloc: Global, rep_type: &[u8]) -> Result<Text, NoMemory> {
+    let mut text = Text::from_slice(alloc, b"ppt P\nvariable a[..]\nrep-type ")?;
+    text.append(rep_type)?;
+    text.append(b"\nvariable i\nrep-type int")?;
+    Ok(text)
+}
+
+#[test]
+fn derived_variables_have_values(rt: HostRuntime) -> Result<(), Fail> {
+    for (rep_type, values, expected) in &VALUES {
+        let block = block_of(rt.alloc(), rep_type)?;
+        let points = table(rt.alloc(), block.as_slice())?;
+        let shown = derived_values(rt.alloc(), &points, values)?;
+        assert_eq!(&rt; shown.as_slice(), *expected);
+    }
+    Ok(())
+}
+
+/// Blocks, and the partners through the first edge into the last point, for each of its variables.
+static PARTNERS: [(&'static [u8], &'static [u8]); 5] = [
+    (
+        b"ppt C\nparent parent Q 1\nvariable t[..]\nrep-type int[]\nparent Q 1 s[..]\nvariable m\nrep-type int\nparent Q 1 n\nvariable k\nrep-type int\n\nppt Q\nvariable s[..]\nrep-type int[]\nvariable n\nrep-type int",
+        b"0 1 3 4 5 6 7 8 9 10 ",
+    ),
+    (
+        b"ppt C\nparent parent Q 1\nvariable k\nrep-type int\nvariable t[..]\nrep-type int[]\nparent Q 1 s[..]\nvariable m\nrep-type int\nparent Q 1 n\n\nppt Q\nvariable n\nrep-type int\nvariable s[..]\nrep-type int[]",
+        b"2 1 3 4 5 11 12 13 14 15 ",
+    ),
+    // an index without a partner, and a sequence of another kind
+    (
+        b"ppt C\nparent parent Q 1\nvariable t[..]\nrep-type int[]\nparent Q 1 s[..]\n\nppt Q\nvariable s[..]\nrep-type int[]\nvariable n\nrep-type int",
+        b"0 - 1 2 3 - - - - - ",
+    ),
+    (
+        b"ppt C\nparent parent Q 1\nvariable t[..]\nrep-type String[]\nparent Q 1 s[..]\nvariable n\nrep-type int\nparent Q 1\n\nppt Q\nvariable s[..]\nrep-type int[]\nvariable n\nrep-type int",
+        b"- 1 - - - - - - - - ",
+    ),
+    // what is derived of orig variables
+    (
+        b"ppt A:::ENTER\nvariable a\nrep-type int[]\n\nppt A:::EXIT\nparent parent B:::EXIT 1\nvariable a\nrep-type int[]\nparent B:::EXIT 1 b\n\nppt B:::ENTER\nvariable b\nrep-type int[]\n\nppt B:::EXIT\nvariable b\nrep-type int[]",
+        b"0 1 2 3 4 5 6 7 ",
+    ),
+];
+
+fn show_partner(alloc: Global, shown: &mut Text, partner: Option<VarId>) -> Result<(), NoMemory> {
+    match partner {
+        None => shown.append(b"- "),
+        Some(v) => {
+            let place = v.0;
+            shown.append(format!(in alloc; "{place} ")?.as_bytes())
+        }
+    }
+}
+
+// The partners of all variables of the edge's parent.
+fn partners(alloc: Global, points: &Points, edge: Edge) -> Result<Text, NoMemory>
+    requires child { edge.child.0 < length points.now }
+    requires parent { edge.parent.0 < length points.now }
+{
+    let parent = derive(alloc, points.vars(edge.parent))?;
+    let child = derive(alloc, points.vars(edge.child))?;
+    let mut shown = Text::new(alloc);
+    for w in 0..parent.len() {
+        let found = partner(
+            points,
+            edge,
+            parent.as_slice(),
+            child.as_slice(),
+            VarId(w as u32),
+        );
+        show_partner(alloc, &mut shown, found)?;
+    }
+    Ok(shown)
+}
+
+fn first_partners(alloc: Global, points: &Points) -> Result<Text, NoMemory> {
+    let Some(p) = last_point(points) else {
+        return Ok(Text::new(alloc));
+    };
+    match points.into(p) {
+        [] => Ok(Text::new(alloc)),
+        [edge, ..] => partners(alloc, points, *edge),
+    }
+}
+
+#[test]
+fn derived_variables_have_partners(rt: HostRuntime) -> Result<(), Fail> {
+    for (blocks, expected) in &PARTNERS {
+        let points = table(rt.alloc(), blocks)?;
+        assert_eq!(&rt; first_partners(rt.alloc(), &points)?.as_slice(), *expected);
+    }
+    Ok(())
+}
+
+fn some_vars(
+    alloc: Global,
+    vars: List<VarInfo>,
+    kind: Kind,
+    letter: char,
+    count: u32,
+) -> Result<List<VarInfo>, NoMemory>
+    requires { All IsBaseVar vars }
+    ensures { IfOk result (λ more. All IsBaseVar more) }
+{
+    let mut more = vars;
+    for n in 0..count {
+        let name = format!(in alloc; "{letter}{n}")?;
+        more.push(VarInfo {
+            name: Text::from_slice(alloc, name.as_bytes())?,
+            kind,
+            form: Form::Declared,
+            compar: Compar {
+                elem: -1,
+                index: -1,
+            },
+        })?;
+    }
+    Ok(more)
+}
+
+fn name_at(vars: &[VarInfo], place: usize) -> &[u8] {
+    match vars.get(place) {
+        None => b"",
+        Some(var) => var.name.as_slice(),
+    }
+}
+
+#[test]
+#[tactic(auto, using(dk_derive::proofs::Numbers::few_are_derived))]
+fn many_variables_are_derived(rt: HostRuntime) -> Result<(), Fail> {
+    let sequences = some_vars(rt.alloc(), List::new(rt.alloc()), Kind::IntSeq, 's', 60)?;
+    let base = some_vars(rt.alloc(), sequences, Kind::Int, 'i', 60)?;
+    assert!(&rt; base.len() == 120);
+    let vars = derive(rt.alloc(), base.as_slice())?;
+    assert_eq!(&rt; vars.len(), 18300);
+    assert_eq!(&rt; name_at(vars.as_slice(), 119), b"i59".as_slice());
+    assert_eq!(&rt; name_at(vars.as_slice(), 120), b"size(s0)".as_slice());
+    assert_eq!(&rt; name_at(vars.as_slice(), 123), b"s0[i0]".as_slice());
+    assert_eq!(&rt; name_at(vars.as_slice(), 422), b"s0[i59+1..]".as_slice());
+    assert_eq!(&rt; name_at(vars.as_slice(), 423), b"size(s1)".as_slice());
+    assert_eq!(&rt; name_at(vars.as_slice(), 18299), b"s59[i59+1..]".as_slice());
+    derive_gives_derived();
+    derived_are_counted();
+    values_are_of_kinds();
+    values_are_within();
+    missing_bases_give_missing();
+    partners_are_alike();
+    Ok(())
+}

@@ -1,0 +1,24 @@
+//! Tests of the public calls that read a trace, from values and lines up to the session: each is run here with ample memory, and stands
+//! under its name and with its signature. No call is defined here.
+#![tactic(auto)]
+
+#[cfg(test)]
+mod base;
+#[cfg(test)]
+mod calls;
+#[cfg(test)]
+mod core;
+#[cfg(test)]
+mod decl;
+#[cfg(test)]
+mod derive;
+#[cfg(test)]
+mod graph;
+#[cfg(test)]
+mod io;
+#[cfg(test)]
+mod lines;
+#[cfg(test)]
+mod points;
+#[cfg(test)]
+mod trace;
