@@ -13,15 +13,16 @@ use Rattle.dk_graph.specs.Names.{place_of}
 use Rattle.dk_graph.specs.declared.nodes.Node.{Node}
 use Rattle.dk_points.proofs.Keeping.{entry-within}
 use Rattle.dk_points.proofs.KeptBy.{kept-implicit}
-use Rattle.dk_points.proofs.MorePoints.{IsMore, more}
 use Rattle.dk_points.proofs.PlacesOfNames.{place-push_new, place-push_other}
 use Rattle.dk_points.specs.Declaring.{has_many_vars}
 use Rattle.dk_points.specs.Kept.{IsKept, IsOwnBehind, IsPlaceBehind, point_at, seen}
 use Rattle.dk_points.specs.KeptEdges.{kept_by}
 use Rattle.dk_points.specs.Links.{edges_of_implicit, is_to, kept_edges, links_of, node_of, same_edge}
+use Rattle.dk_points.specs.Next.{IsNext}
 use Rattle.dk_points.specs.Names.{combined_name, entry_name, is_digit, is_exit, is_subexit, is_subexit_tag, method_len, method_of, role_of, tag_of}
 use Rattle.dk_points.specs.Table.{Point, declared_point, implicit_exit, makes_exit, name_of, names}
 use Rattle.dk_points.specs.Vars.{base_vars, declared_vars, entry_before, orig_vars, vars_of_entry}
+use Rattle.dk_points.specs.declared.growing.Added.{Added}
 use Rattle.dk_points.specs.declared.places.Own.{Own}
 use Rattle.dk_points.specs.declared.places.Place.{Place}
 use Rattle.dk_points.specs.declared.roles.Role.TheVariants.{Entry, Combined, Subexit, Plain}
@@ -167,32 +168,44 @@ module _ (ps : List Point) (d : PointDecl) where
 
 -- ---- both points
 
-pub both : (self : List Point) (graph : List Node) (places : List Place) → seen places ≡ self → IsKept graph places
-    → (o : Own) → makes_exit self o.decl ≡ true → IsOwnBehind self o → has_many_vars self o.decl ≡ false → length self < 65534
-    → (l m : Place) → l.own.value ≡ o → l.is_implicit ≡ true → m.own.value ≡ o → m.is_implicit ≡ false
-    → (combined name : List ℕ) (exit_links links : List (List ℕ)) → combined ≡ combined_name o.decl.name → name ≡ o.decl.name
-    → l.kept ≡ map (λ e. e.0) (kept_by (Some combined) [] o.decl.edges) → exit_links ≡ map (λ e. e.1.parent) (kept_by (Some combined) [] o.decl.edges)
-    → m.kept ≡ [] → links ≡ combined ∷ []
-    → IsMore (self ++ implicit_exit o.decl ∷ []) (graph ++ record { name = combined; links = exit_links } ∷ []) (places ++ l ∷ []) (declared_point o.decl) m (record { name = name; links = links })
-both self graph places is kept o makes own few_vars few l m lo li mo mi combined name exit_links links c n lk ls mk ms =
+pub exit-point : (o : Own) (l : Place) → l.own.value ≡ o → l.is_implicit ≡ true → point_at l ≡ implicit_exit o.decl
+exit-point o l lo li = λ i. record { decl = (lo i).decl; is_implicit = li i }
+
+pub exit-next : (self : List Point) (o : Own) → makes_exit self o.decl ≡ true → IsOwnBehind self o → has_many_vars self o.decl ≡ false
+    → (a : Added) → a.place.own.value ≡ o → a.place.is_implicit ≡ true → (combined : List ℕ) → combined ≡ combined_name o.decl.name → a.node.name ≡ combined
+    → a.place.kept ≡ map (λ e. e.0) (kept_by (Some combined) [] o.decl.edges) → a.node.links ≡ map (λ e. e.1.parent) (kept_by (Some combined) [] o.decl.edges)
+    → IsNext self a
+exit-next self o makes own few_vars a lo li combined c n lk ls =
     let d = o.decl in
+    let l = a.place in
     let kept-same : kept_by (Some combined) [] d.edges ≡ kept_edges self (implicit_exit d) = ap (λ x. kept_by (Some x) [] d.edges) c ∙ kept-implicit self d in
-    let exit-point : point_at l ≡ implicit_exit d = λ i. record { decl = (lo i).decl; is_implicit = li i } in
-    let exit-behind : IsPlaceBehind self l = record {
-      own = subst (IsOwnBehind self) (sym lo) own;
-      kept = ap (λ p. map (λ e. e.0) (kept_edges self p)) exit-point ∙ ap (map (λ e. e.0)) (sym kept-same) ∙ sym lk;
-      few_vars = ap (λ x. has_many_vars self x.decl) lo ∙ few_vars;
-    } in
-    let exit-links-are : exit_links ≡ links_of self (implicit_exit d) = ls ∙ ap (map (λ e. e.1.parent)) kept-same ∙ sym (exit-links self d makes) in
-    let exit-node : record { name = combined; links = exit_links } ≡ node_of self (implicit_exit d) = λ i. record { name = c i; links = exit-links-are i } in
-    let first = more self graph places is kept (implicit_exit d) l exit-point exit-behind (omega (arith, few)) (record { name = combined; links = exit_links }) exit-node in
+    let links-are : a.node.links ≡ links_of self (implicit_exit d) = ls ∙ ap (map (λ e. e.1.parent)) kept-same ∙ sym (exit-links self d makes) in
+    let name-is : a.node.name ≡ combined_name d.name = n ∙ c in
+    let node-is : a.node ≡ node_of self (implicit_exit d) = λ i. record { name = name-is i; links = links-are i } in
+    record {
+      node = node-is ∙ ap (node_of self) (sym (exit-point o l lo li));
+      place = record {
+        own = subst (IsOwnBehind self) (sym lo) own;
+        kept = ap (λ p. map (λ e. e.0) (kept_edges self p)) (exit-point o l lo li) ∙ ap (map (λ e. e.0)) (sym kept-same) ∙ sym lk;
+        few_vars = ap (λ x. has_many_vars self x.decl) lo ∙ few_vars;
+      };
+    }
+
+pub subexit-next : (self : List Point) (o : Own) → makes_exit self o.decl ≡ true → IsOwnBehind self o → has_many_vars self o.decl ≡ false
+    → (a : Added) → a.place.own.value ≡ o → a.place.is_implicit ≡ false → a.node.name ≡ o.decl.name → (combined : List ℕ) → combined ≡ combined_name o.decl.name
+    → a.place.kept ≡ [] → a.node.links ≡ combined ∷ [] → IsNext (self ++ implicit_exit o.decl ∷ []) a
+subexit-next self o makes own few_vars a mo mi n combined c mk ms =
+    let d = o.decl in
+    let m = a.place in
+    let behind = self ++ implicit_exit d ∷ [] in
     let point : point_at m ≡ declared_point d = λ i. record { decl = (mo i).decl; is_implicit = mi i } in
-    let behind : IsPlaceBehind (self ++ implicit_exit d ∷ []) m = record {
-      own = subst (IsOwnBehind (self ++ implicit_exit d ∷ [])) (sym mo) (own-same self d o refl own);
-      kept = ap (λ p. map (λ e. e.0) (kept_edges (self ++ implicit_exit d ∷ []) p)) point ∙ ap (map (λ e. e.0)) (no-edges self d makes) ∙ sym mk;
-      few_vars = ap (λ x. has_many_vars (self ++ implicit_exit d ∷ []) x.decl) mo ∙ many-same self d ∙ few_vars;
-    } in
-    let links-are : links ≡ links_of (self ++ implicit_exit d ∷ []) (declared_point d) = ms ∙ ap (λ x. x ∷ []) c ∙ sym (subexit-links self d makes) in
-    let node : record { name = name; links = links } ≡ node_of (self ++ implicit_exit d ∷ []) (declared_point d) = λ i. record { name = n i; links = links-are i } in
-    more (self ++ implicit_exit d ∷ []) (graph ++ record { name = combined; links = exit_links } ∷ []) (places ++ l ∷ []) first.sees first.kept (declared_point d) m point behind
-    (omega (arith, few, length-append self (implicit_exit d ∷ []))) (record { name = name; links = links }) node
+    let links-are : a.node.links ≡ links_of behind (declared_point d) = ms ∙ ap (λ x. x ∷ []) c ∙ sym (subexit-links self d makes) in
+    let node-is : a.node ≡ node_of behind (declared_point d) = λ i. record { name = n i; links = links-are i } in
+    record {
+      node = node-is ∙ ap (node_of behind) (sym point);
+      place = record {
+        own = subst (IsOwnBehind behind) (sym mo) (own-same self d o refl own);
+        kept = ap (λ p. map (λ e. e.0) (kept_edges behind p)) point ∙ ap (map (λ e. e.0)) (no-edges self d makes) ∙ sym mk;
+        few_vars = ap (λ x. has_many_vars behind x.decl) mo ∙ many-same self d ∙ few_vars;
+      };
+    }

@@ -9,8 +9,10 @@ use Rattle.dk_points.proofs.Nodes.{nodes-push}
 use Rattle.dk_points.specs.Declaring.{has_many_vars}
 use Rattle.dk_points.specs.Kept.{IsKept, IsOwnBehind, IsPlaceBehind, point_at, seen}
 use Rattle.dk_points.specs.Links.{kept_edges, links_of, node_of, nodes}
+use Rattle.dk_points.specs.Next.{IsNext}
 use Rattle.dk_points.specs.Names.{combined_name, combined_of, is_subexit, role_of}
 use Rattle.dk_points.specs.Table.{Point, declared_point}
+use Rattle.dk_points.specs.declared.growing.Added.{Added}
 use Rattle.dk_points.specs.declared.places.Own.{Own}
 use Rattle.dk_points.specs.declared.places.Place.{Place}
 
@@ -82,12 +84,17 @@ declared-node self d name links kept combined n ls k c =
     ∙ ap (λ x. map (λ e. e.1.parent) (kept_edges self (declared_point d)) ++ x) (option_list-if (is_subexit (role_of d.name)) (combined_name d.name)) in
     λ i. record { name = n i; links = all i }
 
-pub more-declared : (self : List Point) (graph : List Node) (places : List Place) → seen places ≡ self → IsKept graph places
-    → (o : Own) (l : Place) → l.own.value ≡ o → l.is_implicit ≡ false → IsOwnBehind self o → has_many_vars self o.decl ≡ false → length self < 65535
-    → l.kept ≡ map (λ e. e.0) (kept_edges self (declared_point o.decl))
-    → (name : List ℕ) (links kept : List (List ℕ)) (combined : Option (List ℕ)) → name ≡ o.decl.name
-    → links ≡ kept ++ option_to_list combined → kept ≡ map (λ e. e.1.parent) (kept_edges self (declared_point o.decl)) → combined ≡ combined_of o.decl.name
-    → IsMore self graph places (declared_point o.decl) l (record { name = name; links = links })
-more-declared self graph places is kept o l own plain behind few_vars few edges name links own_links combined n ls k c =
-    more self graph places is kept (declared_point o.decl) l (declared-point-at o l own plain) (declared-behind self o l own plain behind few_vars edges) few
-    (record { name = name; links = links }) (declared-node self o.decl name links own_links combined n ls k c)
+pub declared-next : (self : List Point) (o : Own) → IsOwnBehind self o → has_many_vars self o.decl ≡ false
+    → (a : Added) → a.place.own.value ≡ o → a.place.is_implicit ≡ false → a.node.name ≡ o.decl.name
+    → (kept : List (List ℕ)) (combined : Option (List ℕ)) → a.node.links ≡ kept ++ option_to_list combined
+    → kept ≡ map (λ e. e.1.parent) (kept_edges self (declared_point o.decl)) → combined ≡ combined_of o.decl.name
+    → a.place.kept ≡ map (λ e. e.0) (kept_edges self (declared_point o.decl)) → IsNext self a
+declared-next self o behind few_vars a own plain n kept combined ls k c edges = record {
+  node = declared-node self o.decl a.node.name a.node.links kept combined n ls k c ∙ ap (node_of self) (sym (declared-point-at o a.place own plain));
+  place = declared-behind self o a.place own plain behind few_vars edges;
+}
+
+-- the table with what comes next
+pub next-more : (self : List Point) (graph : List Node) (places : List Place) → seen places ≡ self → IsKept graph places → length self < 65535
+    → (a : Added) → IsNext self a → IsMore self graph places (point_at a.place) a.place a.node
+next-more self graph places is kept few a next = more self graph places is kept (point_at a.place) a.place refl next.place few a.node next.node

@@ -11,3 +11,4 @@ pub mod Ends
 pub mod KeptEdges
 pub mod Counts
 pub mod Kept
+pub mod Next

@@ -49,19 +49,6 @@ impl Points {
         Ok(own)
     }
 
-    // The table with the declared point behind it. None where the edges would have a cycle.
-    fn with_declared(self, own: Own, combined: Option<Text>) -> Result<Option<Points>, NoMemory>
-        requires new { place_of (names self) own.decl.name ≡ None }
-        requires few { length self < 65535 }
-        requires own { IsOwnBehind self own }
-        requires few_vars { has_many_vars self own.decl ≡ false }
-        requires combined { combined ≡ combined_of own.decl.name }
-        ensures { IfOk result (λ points. Grows points (self ++ declared_point own.decl ∷ [])) }
-    {
-        let kept = self.kept_edges(&own.decl, combined.as_ref())?;
-        self.with_point(own, kept, combined)
-    }
-
     // The table with the points that the declaration adds. None where the edges would have a cycle.
     fn with_added(
         self,
