@@ -7,18 +7,18 @@ mod base;
 #[cfg(test)]
 mod calls;
 #[cfg(test)]
-mod core;
-#[cfg(test)]
 mod decl;
 #[cfg(test)]
 mod derive;
 #[cfg(test)]
 mod graph;
 #[cfg(test)]
-mod io;
-#[cfg(test)]
 mod lines;
 #[cfg(test)]
+mod outside;
+#[cfg(test)]
 mod points;
+#[cfg(test)]
+mod session;
 #[cfg(test)]
 mod trace;
