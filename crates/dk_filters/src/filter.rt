@@ -40,10 +40,7 @@ impl<F: Fn(&Candidate) -> bool> Filter<F> {
 }
 
 /// The candidates that the filter keeps, in their order. It takes no memory.
-pub fn kept<F: Fn(&Candidate) -> bool>(
-    list: List<Candidate>,
-    filter: &Filter<F>,
-) -> List<Candidate>
+pub fn kept<F: Fn(&Candidate) -> bool>(list: List<Candidate>, filter: &Filter<F>) -> List<Candidate>
     requires { F.IsAlwaysCallable filter.now }
     ensures { (test : declared.Candidate → Bool) → AnswersBy (F.post filter.now) test → result ≡ kept_by test list }
 {
