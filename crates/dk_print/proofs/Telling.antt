@@ -82,17 +82,14 @@ no_var = record { 0 = 0 }
 abbrev var_at : List VarId → ℕ → VarId
 var_at vars i = slice_index_or vars i no_var
 
+first-again : (v : VarId) (vars : List VarId) (j : ℕ) → j < length vars → v ≡ var_at vars j → list_all (λ (w : VarId). not (v.0 == w.0)) vars ≡ false
+first-again v vars j lt is = list_all_at (λ (w : VarId). not (v.0 == w.0)) vars j no_var lt (ap not (eq-eqb v.0 (var_at vars j).0 (ap (λ (w : VarId). w.0) is)))
+
 distinct-at : (vars : List VarId) → are_distinct vars ≡ true → (i j : ℕ) → i < length vars → j < length vars → var_at vars i ≡ var_at vars j → i ≡ j
 distinct-at [] h i j p q e = absurd (omega arith)
 distinct-at (v ∷ vars) h zero zero p q e = refl
 distinct-at (v ∷ vars) h zero (suc j) p q e = absurd (false≢true (sym (first-again v vars j (omega arith) e) ∙ (and_parts _ (are_distinct vars) h).0))
-  where
-    first-again : (v : VarId) (vars : List VarId) (j : ℕ) → j < length vars → v ≡ var_at vars j → list_all (λ (w : VarId). not (v.0 == w.0)) vars ≡ false
-    first-again v vars j lt is = list_all_at (λ (w : VarId). not (v.0 == w.0)) vars j no_var lt (ap not (eq-eqb v.0 (var_at vars j).0 (ap (λ (w : VarId). w.0) is)))
 distinct-at (v ∷ vars) h (suc i) zero p q e = absurd (false≢true (sym (first-again v vars i (omega arith) (sym e)) ∙ (and_parts _ (are_distinct vars) h).0))
-  where
-    first-again : (v : VarId) (vars : List VarId) (j : ℕ) → j < length vars → v ≡ var_at vars j → list_all (λ (w : VarId). not (v.0 == w.0)) vars ≡ false
-    first-again v vars j lt is = list_all_at (λ (w : VarId). not (v.0 == w.0)) vars j no_var lt (ap not (eq-eqb v.0 (var_at vars j).0 (ap (λ (w : VarId). w.0) is)))
 distinct-at (v ∷ vars) h (suc i) (suc j) p q e = ap suc (distinct-at vars (and_parts _ (are_distinct vars) h).1 i j (omega arith) (omega arith) e)
 
 suited-kind : (role : Role) (infos : List VarInfo) (i : ℕ) → suits role (slice_get infos i) ≡ true → (slice_index_or infos i no_info).kind ≡ kind_of role
