@@ -1,5 +1,5 @@
 -- Agreement by a test.
-use Rattle.std.specs.Prelude.{◌≡◌, ◌&&◌, Bool, true, All, List, [], ◌∷◌, refl}
+use Rattle.std.specs.Prelude.{◌≡◌, Bool, true, All, List, [], ◌∷◌, refl}
 use Rattle.std.specs.Bool.{Decides}
 use Rattle.std.specs.List.{list_all}
 use Rattle.std.proofs.Common.{ap, ◌∙◌, sym}

@@ -1,20 +1,17 @@
 -- The candidates are the instances that hold, in order.
-use Rattle.std.specs.Prelude.{◌≡◌, ◌<◌, ℕ, zero, suc, Bool, true, Contains, IsTrue, List, [], ◌∷◌, filter, length, map, slice_get, slice_index_or, Some, option_map}
+use Rattle.std.specs.Prelude.{◌≡◌, ◌<◌, ℕ, zero, suc, Contains, List, [], ◌∷◌, filter, length, map, slice_get, slice_index_or, Some, option_map}
 use Rattle.std.specs.List.{AllPairs}
-use Rattle.std.proofs.Common.{◌∙◌, ap, arith, subst, sym}
+use Rattle.std.proofs.Common.{ap, arith, subst, sym}
 use Rattle.std.proofs.lemmas.List.{get_or-map, length-map}
 use Rattle.std.proofs.lemmas.List.Kept.{AllPairs-filter}
 use Rattle.dk_base.specs.declared.kinds.VarId.{VarId}
 use Rattle.dk_fits.proofs.Ascending.{instances_ascend}
 use Rattle.dk_fits.proofs.Listing.{instances_listed}
-use Rattle.dk_fits.specs.Instances.{ComesBefore, IsInstance, instances_of}
-use Rattle.dk_graph.proofs.Members.{Has, contained-has, filter-has, has-contained, has-filter, has-map}
-use Rattle.dk_template.specs.declared.grammar.Grammar.{Grammar}
+use Rattle.dk_fits.specs.Instances.{ComesBefore, instances_of}
+use Rattle.dk_graph.proofs.Members.{contained-has, filter-has, has-contained, has-filter, has-map}
 use Rattle.dk_template.specs.declared.grammar.RowId.{RowId}
-use Rattle.dk_filters.specs.Answers.{Answers, Parent}
-use Rattle.dk_filters.specs.Candidates.{candidate_of, candidates_of, it_holds, kept_by}
+use Rattle.dk_filters.specs.Candidates.{candidate_of, candidates_of, it_holds}
 use Rattle.dk_filters.specs.Laws.{CandidatesAreInstancesThatHold, CandidatesAscend, KeptCandidatesAscend, StandsBefore}
-use Rattle.dk_filters.specs.declared.candidate.Candidate.{Candidate}
 
 map-has : {A B : Type 0} (f : A → B) (xs : List A) (k : ℕ) (x : A) → slice_get xs k ≡ Some x → slice_get (map f xs) k ≡ Some (f x)
 map-has f [] k x at = absurd (cc)

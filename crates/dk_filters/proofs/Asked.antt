@@ -1,27 +1,26 @@
 -- Facts look at nothing but what may be asked.
-use Rattle.std.specs.Prelude.{◌≡◌, ◌<◌, ◌≤◌, ◌+◌, ◌&&◌, ◌||◌, ◌==◌, ℕ, zero, suc, nat_lt, Bool, true, false, not, All, IsTrue, List, [], ◌∷◌, ◌++◌, filter, find, flat_map, length, map, slice_get, slice_index_or, zip, Option, Some, None, unwrap_or, refl}
+use Rattle.std.specs.Prelude.{◌≡◌, ◌<◌, ◌≤◌, ◌+◌, ◌&&◌, ◌==◌, ℕ, zero, suc, nat_lt, Bool, true, false, not, All, IsTrue, List, [], ◌∷◌, filter, length, map, slice_get, slice_index_or, zip, Option, Some, None, unwrap_or, refl}
 use Rattle.std.specs.List.{AllZip, list_all, list_any, range_with_len}
 use Rattle.std.specs.Option.{option_map_or}
-use Rattle.std.proofs.Common.{inl, inr, ◌∙◌, ap, arith, cond, sym, subst}
-use Rattle.std.proofs.lemmas.Bool.{and_from, and_parts, eqb-true, false≢true, or_cases}
-use Rattle.std.proofs.lemmas.List.Elements.{All-append, All-cons, All-filter, All-from_recursion, All-head, All-map, All-nil, All-tail, filter_passes}
+use Rattle.std.proofs.Common.{◌∙◌, ap, arith, sym, subst}
+use Rattle.std.proofs.lemmas.Bool.{and_from, and_parts, eqb-true, false≢true}
+use Rattle.std.proofs.lemmas.List.Elements.{All-cons, All-filter, All-head, All-map, All-nil, All-tail, filter_passes}
 use Rattle.dk_base.specs.Shapes.{is_base_form}
 use Rattle.dk_base.specs.declared.kinds.Kind.{Kind}
 use Rattle.dk_base.specs.declared.kinds.Kind.TheVariants as kind
 use Rattle.dk_base.specs.declared.kinds.VarId.{VarId}
 use Rattle.dk_base.specs.declared.kinds.VarInfo.{VarInfo}
 use Rattle.dk_fits.specs.Instances.{all_vars, are_distinct}
-use Rattle.dk_template.specs.Admitted.{admits, suit, suits}
+use Rattle.dk_template.specs.Admitted.{admits, suits}
 use Rattle.dk_forms.specs.declared.states.State.{State}
 use Rattle.dk_points.specs.Sameness.{same_compar}
 use Rattle.dk_suppress.proofs.Usable.{premises_usable}
 use Rattle.dk_suppress.specs.Rules.{Rule, is_suppressed, rules}
 use Rattle.dk_template.specs.Premises.{AreThere, IsUsable, premise_fits, row_of, suffices, vars_of}
-use Rattle.dk_template.specs.Templates.{IsRowOf, is_base, kind_of, roles_of, rows, rows_in, template_of}
+use Rattle.dk_template.specs.Templates.{IsRowOf, roles_of, rows, template_of}
 use Rattle.dk_template.specs.Fitting.{fits}
 use Rattle.dk_template.specs.declared.answers.Premise.{Premise}
 use Rattle.dk_template.specs.declared.grammar.Grammar.{Grammar}
-use Rattle.dk_template.specs.declared.grammar.Grammar.TheVariants as grammar
 use Rattle.dk_template.specs.declared.grammar.RowId.{RowId}
 use Rattle.dk_template.specs.declared.templates.Role.{Role}
 use Rattle.dk_template.specs.declared.templates.Takes.{Takes}
@@ -31,9 +30,9 @@ use Rattle.dk_filters.proofs.Firsts.{constant-same, member-same}
 use Rattle.dk_filters.proofs.Lists.{all-flat_map, all-same, and-same, any-same, find-same, get-at}
 use Rattle.dk_filters.proofs.OneValues.{suits-any}
 use Rattle.dk_filters.proofs.Sharper.{IsAsked, row-of, same-row, same-takes, sharper-asked, sums-usable}
-use Rattle.dk_filters.specs.Facts.{compar_of, each_in_front, equalities, facts_of, first_like, has_one_value, has_partner, has_sharper, info_at, is_at_parent, is_constant, is_few, is_implied, is_incomparable, is_like, is_member, is_one_of, is_one_value, is_sum_plane, one_of_row, row, sharper_than, stands_there, sum_of, tells_member, with_partners}
+use Rattle.dk_filters.specs.Facts.{compar_of, each_in_front, facts_of, first_like, has_one_value, has_partner, has_sharper, info_at, is_constant, is_few, is_implied, is_incomparable, is_like, is_member, is_one_value, is_sum_plane, one_of_row, row, sharper_than, stands_there, sum_of, with_partners}
 use Rattle.dk_filters.specs.Sameness.{same_state}
-use Rattle.dk_filters.specs.Laws.{FactsAreOfWhatMayBeAsked, PartnersAreLike, ShowTheSame, TellTheSame}
+use Rattle.dk_filters.specs.Laws.{FactsAreOfWhatMayBeAsked, PartnersAreLike, ShowTheSame}
 
 -- ---- variables that are there
 in-range : (a n : ℕ) → All (λ k. k < a + n) (range_with_len a n)

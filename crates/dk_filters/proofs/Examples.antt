@@ -1,5 +1,5 @@
 -- Facts of small examples, computed from the definitions: for each clause of each fact where it drops and where it doesn't.
-use Rattle.std.specs.Prelude.{◌≡◌, ◌&&◌, ◌==◌, ℕ, ℤ, pos, negsuc, Bool, true, false, List, [], ◌∷◌, map, refl, Option, Some, None, if◌then◌else◌}
+use Rattle.std.specs.Prelude.{◌≡◌, ◌&&◌, ◌==◌, ℕ, ℤ, pos, negsuc, Bool, true, false, List, [], ◌∷◌, ◌++◌, codes, map, take, refl, Option, Some, None, if◌then◌else◌}
 use Rattle.std.specs.Cmp.Lexicographic.{pointwise}
 use Rattle.dk_arith.specs.Directions.{divisor}
 use Rattle.dk_arith.specs.Gcd.{gcd}
@@ -21,8 +21,9 @@ use Rattle.dk_suppress.specs.Rules.{rules}
 use Rattle.dk_template.specs.Templates.{rows}
 use Rattle.dk_template.specs.declared.grammar.RowId.{RowId}
 use Rattle.dk_filters.specs.Answers.{Answers, Parent}
-use Rattle.dk_filters.specs.Facts.{is_at_parent, is_constant, is_few, is_implied, is_incomparable, is_member, row}
+use Rattle.dk_filters.specs.Facts.{facts_of, has_one_value, is_at_parent, is_constant, is_few, is_implied, is_incomparable, is_member, row}
 use Rattle.dk_filters.specs.OfSamples.{told_by}
+use Rattle.dk_filters.specs.declared.facts.Facts.{Facts}
 
 abbrev of : Kind → Form → ℤ → ℤ → VarInfo
 of k f e i = record { name = []; kind = k; form = f; compar = record { elem = e; index = i } }
@@ -117,6 +118,14 @@ apart = refl
 one_missing : is_member (told_by (int (pos 1) ∷ int (pos 1) ∷ []) ((i 1 ∷ i 1 ∷ []) ∷ (i 2 ∷ value.Missing ∷ []) ∷ [])) (row 2) (y ∷ []) ≡ false
 one_missing = refl
 
+-- the equality of each kind is kept, and no other row
+abbrev alike : Kind → Answers
+alike k = record { infos = of k form.Declared (pos 1) (pos 1) ∷ of k form.Declared (pos 1) (pos 1) ∷ []; answered = λ r vars. state.Holds; counted = λ vars. 1; agreeing = λ v w. true }
+
+of_each_kind : all_of (is_member (alike kind.Int)) (map (λ r. at r (x ∷ y ∷ [])) (11 ∷ 18 ∷ 20 ∷ 22 ∷ 57 ∷ 58 ∷ 59 ∷ 60 ∷ [])) ++ all_of (is_member (alike kind.Int)) (map (λ r. at r (x ∷ y ∷ [])) (12 ∷ 14 ∷ 16 ∷ 62 ∷ 63 ∷ 66 ∷ 68 ∷ []))
+    ≡ (false ∷ false ∷ false ∷ false ∷ false ∷ false ∷ false ∷ false ∷ []) ++ (true ∷ true ∷ true ∷ true ∷ true ∷ true ∷ true ∷ [])
+of_each_kind = refl
+
 -- ---- implied
 -- z is only 7, so its bounds, its modulus and that it isn't 0 are implied; that x isn't 0 follows from x >= 1, and its bounds from nothing
 of_numbers : all_of (is_implied here) (at 2 (z ∷ []) ∷ at 3 (z ∷ []) ∷ at 4 (z ∷ []) ∷ at 1 (z ∷ []) ∷ at 4 (x ∷ []) ∷ at 3 (x ∷ []) ∷ []) ≡ true ∷ true ∷ true ∷ false ∷ true ∷ false ∷ []
@@ -156,6 +165,36 @@ no_sum : map (λ (e : ℕ × List VarId). is_implied (sum_alone e.1) (row e.0) (
 unfolding rules rows
 no_sum = refl
 
+-- the same of strings, and of the elements of sequences: one value says more than that it isn't null, few values than their bounds
+abbrev strings_of : List (List ℕ) → Answers
+strings_of values = told_by (of kind.Str form.Declared (pos 1) (negsuc 0) ∷ []) (map (λ t. value.Str t ∷ []) values)
+
+abbrev a_b_c_d : List (List ℕ)
+a_b_c_d = codes "\"a\"" ∷ codes "\"b\"" ∷ codes "\"c\"" ∷ codes "\"d\"" ∷ []
+
+of_strings : map (λ values. is_implied (strings_of values) (row 10) (x ∷ [])) (take 3 a_b_c_d ∷ a_b_c_d ∷ []) ≡ true ∷ false ∷ []
+unfolding fit state_of meanings rules put
+of_strings = refl
+
+abbrev sequence_of : Kind → Value → Answers
+sequence_of k s = told_by (of k form.Declared (pos 1) (pos 1) ∷ []) ((s ∷ []) ∷ [])
+
+abbrev elements : List ℕ → Answers
+elements values = sequence_of kind.IntSeq (value.IntSeq (map pos values))
+
+of_elements : map (λ values. all_of (is_implied (elements values)) (at 36 (x ∷ []) ∷ at 37 (x ∷ []) ∷ at 38 (x ∷ []) ∷ at 35 (x ∷ []) ∷ [])) ((0 ∷ 5 ∷ 6 ∷ []) ∷ (0 ∷ 5 ∷ 6 ∷ 7 ∷ []) ∷ [])
+    ≡ (true ∷ true ∷ true ∷ false ∷ []) ∷ (false ∷ false ∷ false ∷ false ∷ []) ∷ []
+unfolding fit state_of meanings rules put
+of_elements = refl
+
+of_element_codes : map (λ values. is_implied (sequence_of kind.HashSeq (value.HashSeq values)) (row 46) (x ∷ [])) ((5 ∷ 5 ∷ []) ∷ (5 ∷ 6 ∷ []) ∷ []) ≡ true ∷ false ∷ []
+unfolding fit state_of meanings rules
+of_element_codes = refl
+
+of_element_strings : map (λ values. is_implied (sequence_of kind.StrSeq (value.StrSeq values)) (row 48) (x ∷ [])) (take 3 a_b_c_d ∷ a_b_c_d ∷ []) ≡ true ∷ false ∷ []
+unfolding fit state_of meanings rules put
+of_element_strings = refl
+
 -- ---- constant
 -- z has one value: what is said of it and another variable is dropped, what is said of it alone isn't
 constants : all_of (is_constant here) (at 13 (x ∷ z ∷ []) ∷ at 13 (z ∷ x ∷ []) ∷ at 11 (x ∷ y ∷ []) ∷ at 1 (z ∷ []) ∷ []) ≡ true ∷ true ∷ false ∷ false ∷ []
@@ -166,6 +205,18 @@ constants = refl
 constant_equality : all_of (is_constant (told_by (int (pos 1) ∷ int (pos 1) ∷ []) ((i 7 ∷ i 7 ∷ []) ∷ []))) (at 11 (x ∷ y ∷ []) ∷ at 14 (x ∷ y ∷ []) ∷ []) ≡ false ∷ true ∷ []
 unfolding fit state_of meanings put
 constant_equality = refl
+
+-- a truth value, a code or a string that has one value is as constant as a number; it has not where it has two
+abbrev beside_number : Kind → List Value → Answers
+beside_number k values = told_by (of k form.Declared (pos 1) (pos 1) ∷ int (pos 1) ∷ []) (map (λ v. v ∷ i 1 ∷ []) values)
+
+abbrev of_kind : Kind → Value → Value → List Bool
+of_kind k v w = map (λ values. has_one_value (beside_number k values) x) ((v ∷ v ∷ []) ∷ (v ∷ w ∷ []) ∷ [])
+
+one_value_of_each_kind : of_kind kind.Bool (value.Bool true) (value.Bool false) ++ of_kind kind.Hash (value.Hash 5) (value.Hash 6) ++ of_kind kind.Str (value.Str (codes "\"a\"")) (value.Str (codes "\"b\""))
+    ≡ (true ∷ false ∷ []) ++ (true ∷ false ∷ []) ++ (true ∷ false ∷ [])
+unfolding fit state_of meanings put
+one_value_of_each_kind = refl
 
 -- a sequence is no scalar, also where it has one value
 sequence : is_constant (told_by (of kind.IntSeq form.Declared (pos 1) (pos 1) ∷ int (pos 1) ∷ []) ((value.IntSeq (pos 7 ∷ []) ∷ i 1 ∷ []) ∷ (value.IntSeq (pos 7 ∷ []) ∷ i 2 ∷ []) ∷ [])) (row 53) (x ∷ y ∷ []) ≡ false
@@ -208,3 +259,60 @@ choices : map (λ parents. is_at_parent child parents (row 13) (x ∷ y ∷ []))
     ∷ []) ≡ false ∷ true ∷ []
 unfolding fit state_of meanings
 choices = refl
+
+-- ---- all six
+-- x and y agree, z is 7 throughout, t is missing once, and u isn't comparable with the others; a parent has a variable like u.
+abbrev all_samples : List (List Value)
+all_samples =
+    (i 1 ∷ i 1 ∷ i 7 ∷ i 100 ∷ i 3 ∷ [])
+    ∷ (i 2 ∷ i 2 ∷ i 7 ∷ value.Missing ∷ i 9 ∷ [])
+    ∷ (i 4 ∷ i 4 ∷ i 7 ∷ i 300 ∷ i 8 ∷ [])
+    ∷ (i 5 ∷ i 5 ∷ i 7 ∷ i 500 ∷ i 20 ∷ [])
+    ∷ []
+
+abbrev point : Answers
+point = told_by (int (pos 1) ∷ int (pos 1) ∷ int (pos 1) ∷ int (pos 1) ∷ int (pos 2) ∷ []) all_samples
+
+abbrev parents : List Parent
+parents = parent_of (int (pos 2) ∷ []) ((i 3 ∷ []) ∷ (i 8 ∷ []) ∷ (i 9 ∷ []) ∷ (i 20 ∷ []) ∷ []) (Some (var 4) ∷ [])
+
+-- few, incomparable, member, implied, constant, parent
+abbrev six : Bool → Bool → Bool → Bool → Bool → Bool → Facts
+six f i m im c p = record { few = f; incomparable = i; member = m; implied = im; constant = c; parent = p }
+
+abbrev facts_by : List (ℕ × List VarId) → List Facts
+facts_by instances = map (λ (e : ℕ × List VarId). facts_of 4 point parents (row e.0) e.1) instances
+
+abbrev t : VarId
+t = var 3
+
+abbrev u : VarId
+u = var 4
+
+all_six : facts_by (
+    at 2 (x ∷ [])  -- x >= 1
+    ∷ at 11 (x ∷ y ∷ [])  -- x == y
+    ∷ at 1 (t ∷ [])  -- t one of { 100, 300, 500 }, in three samples of four
+    ∷ at 13 (x ∷ u ∷ [])  -- x < u
+    ∷ at 2 (y ∷ [])  -- y >= 1
+    ∷ at 4 (x ∷ [])  -- x != 0
+    ∷ at 13 (x ∷ z ∷ [])  -- x < z
+    ∷ at 2 (u ∷ [])  -- u >= 3
+    ∷ at 12 (x ∷ z ∷ [])  -- x != z, as x < z
+    ∷ at 2 (t ∷ [])  -- t >= 100
+    ∷ at 13 (y ∷ u ∷ [])  -- y < u
+    ∷ [])
+    ≡ six false false false false false false
+    ∷ six false false false false false false
+    ∷ six true false false false false false
+    ∷ six false true false false false false
+    ∷ six false false true false false false
+    ∷ six false false false true false false
+    ∷ six false false false false true false
+    ∷ six false false false false false true
+    ∷ six false false false true true false
+    ∷ six true false false true false false
+    ∷ six false true true false false false
+    ∷ []
+unfolding facts_of fit state_of meanings rules rows put
+all_six = refl

@@ -1,17 +1,14 @@
 -- All facts of an instance, from what is found once for its point.
-use Rattle.std.specs.Prelude.{◌≡◌, ◌==◌, ◌||◌, ℕ, Bool, true, false, List, ◌∷◌, [], refl}
-use Rattle.std.specs.List.{list_any}
+use Rattle.std.specs.Prelude.{◌≡◌, ℕ, Bool, true, List}
 use Rattle.std.proofs.Common.{ap, ◌∙◌}
 use Rattle.dk_base.specs.declared.kinds.VarId.{VarId}
 use Rattle.dk_template.specs.Admitted.{admits}
-use Rattle.dk_template.specs.Premises.{MayWantMemory as AnswerMayWantMemory}
 use Rattle.dk_template.specs.declared.grammar.RowId.{RowId}
 use Rattle.dk_filters.proofs.Asked.{admitted-there}
 use Rattle.dk_filters.proofs.FromFound.{constants_found, members_found}
 use Rattle.dk_filters.specs.Answers.{Answers, Parent}
 use Rattle.dk_filters.specs.Facts.{facts_of, is_at_parent, is_constant, is_constant_by, is_few, is_implied, is_incomparable, is_member, is_member_by}
 use Rattle.dk_filters.specs.Found.{first_in, found_of, one_value_in}
-use Rattle.dk_filters.specs.Memory.{MayWantMemory}
 use Rattle.dk_filters.specs.declared.found.PointFacts.{PointFacts}
 
 module _ (least : ℕ) (here : Answers) (parents : List Parent) (r : RowId) (vars : List VarId) (found : PointFacts) (is : found ≡ found_of here parents) (h : admits r here.infos vars ≡ true) where

@@ -1,5 +1,5 @@
 -- The row that says which values a scalar has admits it.
-use Rattle.std.specs.Prelude.{◌≡◌, ◌<◌, ◌&&◌, true, List, [], ◌∷◌, length, slice_get, Option, Some, None, refl}
+use Rattle.std.specs.Prelude.{◌≡◌, ◌<◌, ◌&&◌, true, List, [], ◌∷◌, length, slice_get, Some, refl}
 use Rattle.std.proofs.Common.{ap, arith, subst, ◌∙◌}
 use Rattle.dk_base.specs.declared.kinds.Kind.{Kind}
 use Rattle.dk_base.specs.declared.kinds.Kind.TheVariants as kind

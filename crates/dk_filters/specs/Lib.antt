@@ -2,6 +2,7 @@ pub mod Answers
 pub mod Sameness
 pub mod Facts
 pub mod Candidates
+pub mod Filters
 pub mod Choices
 pub mod Found
 pub mod Parents

@@ -1,5 +1,5 @@
 -- What samples tell of a point.
-use Rattle.std.specs.Prelude.{◌&&◌, ℕ, Bool, List}
+use Rattle.std.specs.Prelude.{◌&&◌, Bool, List}
 use Rattle.std.specs.List.{list_all}
 use Rattle.dk_base.specs.declared.kinds.VarId.{VarId}
 use Rattle.dk_base.specs.declared.kinds.VarInfo.{VarInfo}

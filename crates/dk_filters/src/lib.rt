@@ -4,6 +4,7 @@
 mod candidate;
 mod comparing;
 mod facts;
+mod filter;
 mod found;
 mod implied;
 mod judging;
@@ -12,6 +13,7 @@ mod parents;
 
 pub use candidate::Candidate;
 pub use facts::Facts;
+pub use filter::{Filter, kept};
 pub use found::PointFacts;
 pub use judging::{judge, judge_with};
 pub use parents::ParentView;

@@ -1,11 +1,12 @@
-// Facts of instances at a point of which least numbers alone are known.
-ghost use Rattle.std.specs.Prelude.{◌==◌, if◌then◌else◌};
+// Facts of instances at a point of which least numbers alone are known, and which candidates a filter keeps.
+ghost use Rattle.std.specs.Prelude.{◌≡◌, ◌==◌, if◌then◌else◌, nat_lt};
+ghost use Rattle.dk_filters.specs.Candidates.{kept_by};
 ghost use Rattle.dk_forms.specs.declared.states.State.TheVariants as state;
 ghost use Rattle.dk_template.specs.declared.grammar.Grammar.TheVariants as grammar;
 
 use super::*;
 use dk_base::{Compar, Form, Kind, List, NoMemory, Text, VarId, VarInfo};
-use dk_template::{Answers, Premise, RowId, State, admits};
+use dk_template::{Answers, Premise, RowId, State, Tuple, admits};
 use std::alloc::Global;
 use std::process::Abort;
 use std::test::Fail;
@@ -88,6 +89,41 @@ fn judges_each_instance_once(rt: HostRuntime) -> Result<(), Fail> {
         assert!(rt; facts.few && facts.incomparable && !facts.member && !facts.implied);
         let facts = judge(rt.alloc(), 5, vars, &here, &parents, RowId(2), &[VarId(0)])?;
         assert!(rt; !facts.few && !facts.incomparable && !facts.implied && !facts.parent);
+    }
+    Ok(())
+}
+
+// Those of several samples.
+fn of_several(list: List<Candidate>) -> List<Candidate>
+    ensures { result ≡ kept_by (λ c. nat_lt 1 c.count) list }
+{
+    let filter = Filter::new(|c: &Candidate| 1 < c.count);
+    kept(list, &filter)
+}
+
+#[test]
+fn keeps_in_order(rt: HostRuntime) -> Result<(), Fail> {
+    let mut list = List::new(rt.alloc());
+    for count in [3, 1, 2] {
+        list.push(Candidate {
+            row: RowId(4),
+            vars: Tuple::of(rt.alloc(), &[VarId(0)]),
+            state: State::Holds,
+            count,
+            facts: Facts {
+                few: false,
+                incomparable: false,
+                member: false,
+                implied: false,
+                constant: false,
+                parent: false,
+            },
+        })?;
+    }
+    let list = of_several(list);
+    match list.as_slice() {
+        [first, second] => assert!(rt; first.count == 3 && second.count == 2),
+        _ => assert!(rt; false),
     }
     Ok(())
 }

@@ -16,13 +16,13 @@ use Rattle.dk_print.specs.Laws.{RowsAlikeTakeOtherKinds}
 use Rattle.dk_print.specs.Parts.{Part, text_by}
 use Rattle.dk_print.specs.Texts.{parts_of, texts}
 
-abbrev row : ℕ → RowId
+abbrev pub row : ℕ → RowId
 row n = record { 0 = n }
 
-numbers : List ℕ
+unfoldable pub numbers : List ℕ
 numbers = map (λ n. n) (range_with_len 1 68)
 
-kind_number : Kind → ℕ
+unfoldable pub kind_number : Kind → ℕ
 kind_number kind.Bool = 0
 kind_number kind.Int = 1
 kind_number kind.Hash = 2
@@ -55,15 +55,15 @@ unfolding all_pairs differ entry numbers shown kind_number texts rows digits
 all_differ = refl
 
 -- ---- from the whole table to two rows
-length-numbers : length numbers ≡ 68
+pub length-numbers : length numbers ≡ 68
 unfolding numbers
 length-numbers = refl
 
-number_at : (n : ℕ) → 1 ≤ n → n ≤ 68 → get_or numbers (n - 1) 0 ≡ n
+pub number_at : (n : ℕ) → 1 ≤ n → n ≤ 68 → get_or numbers (n - 1) 0 ≡ n
 unfolding numbers
 number_at n low high = get_or-map-range_with_len (λ k. k) 1 68 (n - 1) n 0 (omega arith) (omega arith)
 
-passes : (p : ℕ → Bool) → list_all p numbers ≡ true → (n : ℕ) → 1 ≤ n → n ≤ 68 → p n ≡ true
+pub passes : (p : ℕ → Bool) → list_all p numbers ≡ true → (n : ℕ) → 1 ≤ n → n ≤ 68 → p n ≡ true
 passes p all n low high = by (p n) refl
   where
     by : (b : Bool) → p n ≡ b → p n ≡ true

@@ -10,6 +10,7 @@ use Rattle.dk_base.specs.declared.why.Why.TheVariants as why
 use Rattle.dk_forms.specs.declared.states.State.{State}
 use Rattle.dk_forms.specs.declared.states.State.TheVariants.{Holds, Least, Greatest, Ints, Truth, Code, Texts, Modulus, Straight, Plane, Offset}
 use Rattle.dk_template.specs.Templates.{rows}
+use Rattle.dk_print.specs.Names.{is_plain_name}
 use Rattle.dk_print.specs.Sections.{fault_line, heading, stats_line}
 use Rattle.dk_print.specs.Texts.{instance_text, row_text, texts}
 
@@ -39,6 +40,7 @@ cases =
     ∷ case 7 (Code 31) "x has only one value"
     ∷ case 8 Holds "x != null"
     ∷ case 9 (Texts (codes "\"a b\"" ∷ [])) "x == \"a b\""
+    ∷ case 9 (Texts (codes "null" ∷ [])) "x == null"
     ∷ case 9 (Texts (codes "\"a\\\"]\"" ∷ codes "\"b\"" ∷ codes "null" ∷ [])) "x one of { \"a\\\"]\", \"b\", null }"
     ∷ case 10 Holds "x != null"
     ∷ case 11 Holds "x == y"
@@ -49,6 +51,7 @@ cases =
     ∷ case 15 (Straight (pos 1) (pos 2) (pos 0)) "x + 2 * y == 0"
     ∷ case 15 (Straight (pos 1) (negsuc 2) (pos 5)) "x - 3 * y + 5 == 0"
     ∷ case 15 (Straight (pos 2) (pos 1) (negsuc 0)) "2 * x + y - 1 == 0"
+    ∷ case 15 (Straight (pos 9223372036854775808) (negsuc 9223372036854775806) (negsuc 85070591730234615865843651857942052863)) "9223372036854775808 * x - 9223372036854775807 * y - 85070591730234615865843651857942052864 == 0"
     ∷ case 16 Holds "x % y == 0"
     ∷ case 17 Holds "x == y * y"
     ∷ case 18 Holds "x == y"
@@ -107,6 +110,8 @@ cases =
     ∷ case 67 (Plane (pos 2) (pos 3) (negsuc 0) (pos 1)) "2 * x + 3 * y - z + 1 == 0"
     ∷ case 67 (Plane (pos 1) (negsuc 1) (pos 1) (pos 0)) "x - 2 * y + z == 0"
     ∷ case 67 (Plane (pos 1) (pos 1) (negsuc 3) (negsuc 8)) "x + y - 4 * z - 9 == 0"
+    ∷ case 67 (Plane (pos 1) (negsuc 0) (pos 1) (pos 39614081257132168796771975168)) "x - y + z + 39614081257132168796771975168 == 0"
+    ∷ case 68 (Offset (pos 18446744073709551615)) "y == x + 18446744073709551615 (elementwise)"
     ∷ case 68 (Offset (pos 3)) "y == x + 3 (elementwise)"
     ∷ case 68 (Offset (negsuc 2)) "y == x - 3 (elementwise)"
     ∷ []
@@ -147,3 +152,38 @@ sizes = refl
 refused : fault_line (codes "t") 9 why.Truncated ≡ codes "daikon: t:9: 12 Truncated\n"
 unfolding fault_line digits
 refused = refl
+
+-- ---- names that are plain, and names that aren't
+plain : map is_plain_name (codes "x" ∷ codes "this.items[..]" ∷ codes "size(a[0..i-1])" ∷ codes "nullable" ∷ codes "+" ∷ codes "elements" ∷ []) ≡ true ∷ true ∷ true ∷ true ∷ true ∷ true ∷ []
+plain = refl
+
+not_plain : map is_plain_name (codes "" ∷ codes "a b" ∷ codes "0" ∷ codes "-x" ∷ codes "\"a\"" ∷ codes "null" ∷ codes "true" ∷ codes "false" ∷ []) ≡ false ∷ false ∷ false ∷ false ∷ false ∷ false ∷ false ∷ false ∷ []
+not_plain = refl
+
+-- each of these is needed: one text for two instances, of rows 12 and 4, 1 and 11, 8 and 21, 6 and 18, 9 and 22, 11 and 24
+row_over : ℕ → List String → State → List ℕ
+row_over n names s = row_text (record { 0 = n }) (map (λ literal. codes literal) names) s
+
+digit_needed : row_over 12 ("x" ∷ "0" ∷ []) Holds ≡ text 4 Holds
+unfolding row_over row_text texts
+digit_needed = refl
+
+minus_needed : row_over 11 ("x" ∷ "-1" ∷ []) Holds ≡ text 1 (Ints (negsuc 0 ∷ []))
+unfolding row_over row_text texts digits
+minus_needed = refl
+
+null_needed : row_over 21 ("x" ∷ "null" ∷ []) Holds ≡ text 8 Holds
+unfolding row_over row_text texts
+null_needed = refl
+
+word_needed : row_over 18 ("x" ∷ "true" ∷ []) Holds ≡ text 6 (Truth true)
+unfolding row_over row_text texts
+word_needed = refl
+
+quote_needed : row_over 22 ("x" ∷ "\"a\"" ∷ []) Holds ≡ text 9 (Texts (codes "\"a\"" ∷ []))
+unfolding row_over row_text texts
+quote_needed = refl
+
+blank_needed : row_over 11 ("x" ∷ "y + z" ∷ []) Holds ≡ text 24 Holds
+unfolding row_over row_text texts
+blank_needed = refl

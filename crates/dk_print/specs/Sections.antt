@@ -4,6 +4,7 @@ use Rattle.std.specs.Fmt.{decimal}
 use Rattle.dk_base.specs.Refusals.{text_of}
 use Rattle.dk_base.specs.declared.kinds.VarInfo.{VarInfo}
 use Rattle.dk_base.specs.declared.why.Why.{Why}
+use Rattle.dk_engine.specs.declared.counts.Counts.{Counts}
 use Rattle.dk_filters.specs.declared.candidate.Candidate.{Candidate}
 use Rattle.dk_print.specs.Texts.{instance_text}
 
@@ -26,19 +27,7 @@ candidate_line infos c = counted_line (instance_text infos c.row c.vars c.state)
 unfoldable pub section_text : List ℕ → ℕ → List VarInfo → List Candidate → List ℕ
 section_text name samples infos candidates = heading name samples ++ flat_map (candidate_line infos) candidates
 
--- ---- sizes
--- how much an engine keeps of a point's samples
-pub record Sizes : Type 0 where
-  pub samples : ℕ
-  pub leaders : ℕ
-  pub constants : ℕ
-  pub patterns : ℕ
-  pub slots : ℕ
-
--- the sizes of these numbers
-abbrev pub sizes_from : ℕ → ℕ → ℕ → ℕ → ℕ → Sizes
-sizes_from s l c p k = record { samples = s; leaders = l; constants = c; patterns = p; slots = k }
-
+-- ---- what an engine keeps of a point's samples
 -- the leaders, and how many of them are constant
 abbrev pub variables_text : ℕ → ℕ → List ℕ
 variables_text leaders constants = codes ", leaders " ++ decimal leaders ++ codes ", constants " ++ decimal constants
@@ -50,9 +39,9 @@ samples_text patterns slots = codes ", patterns " ++ decimal patterns ++ codes "
 abbrev pub kept_text : ℕ → ℕ → ℕ → ℕ → List ℕ
 kept_text leaders constants patterns slots = variables_text leaders constants ++ samples_text patterns slots
 
-unfoldable pub stats_line : List ℕ → Sizes → List ℕ
-stats_line name kept =
-    codes "stats " ++ name ++ codes ": samples " ++ decimal kept.samples ++ kept_text kept.leaders kept.constants kept.patterns kept.slots
+unfoldable pub stats_line : List ℕ → Counts → List ℕ
+stats_line name counts =
+    codes "stats " ++ name ++ codes ": samples " ++ decimal counts.samples ++ kept_text counts.leaders counts.constants counts.patterns counts.slots
 
 -- ---- faults
 -- a line of this file is refused

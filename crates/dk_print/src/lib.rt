@@ -11,7 +11,7 @@ mod terms;
 mod values;
 
 pub use instances::{instance, push_instance};
-pub use sections::{fault, push_fault, push_section, push_stats, section};
+pub use sections::{fault, push_fault, push_section, push_stats, section, stats};
 
 #[cfg(test)]
 mod tests;

@@ -1,11 +1,12 @@
 // The texts of sections, and the lines round them.
 ghost use Rattle.std.specs.Prelude.{◌≡◌, ◌++◌, IfOk, OnOk, codes, flat_map};
 ghost use Rattle.dk_base.specs.Refusals.{text_of};
-ghost use Rattle.dk_print.specs.Sections.{candidate_line, count_text, fault_line, heading, kept_text, samples_text, section_text, sizes_from, stats_line, variables_text};
+ghost use Rattle.dk_print.specs.Sections.{candidate_line, count_text, fault_line, heading, kept_text, samples_text, section_text, stats_line, variables_text};
 
 use crate::instances::push_instance;
 use crate::numbers::push_number;
 use dk_base::{NoMemory, Text, VarInfo, Why};
+use dk_engine::Counts;
 use dk_filters::Candidate;
 use itoa::Integer;
 use std::alloc::Global;
@@ -91,53 +92,48 @@ fn push_size<I: Integer>(text: &mut Text, label: &[u8], size: I) -> Result<(), N
 }
 
 // How many leaders there are, and how many of them are constant.
-fn push_variables(text: &mut Text, leaders: u32, constants: u32) -> Result<(), NoMemory>
-    ensures { OnOk result (text.new ≡ text.old ++ variables_text leaders constants) }
+fn push_variables(text: &mut Text, counts: Counts) -> Result<(), NoMemory>
+    ensures { OnOk result (text.new ≡ text.old ++ variables_text counts.leaders counts.constants) }
 {
-    push_size(text, b", leaders ", leaders)?;
-    push_size(text, b", constants ", constants)
+    push_size(text, b", leaders ", counts.leaders)?;
+    push_size(text, b", constants ", counts.constants)
 }
 
 // How many patterns and slots there are, and the end of the line.
-fn push_samples(text: &mut Text, patterns: u64, slots: u64) -> Result<(), NoMemory>
-    ensures { OnOk result (text.new ≡ text.old ++ samples_text patterns slots) }
+fn push_samples(text: &mut Text, counts: Counts) -> Result<(), NoMemory>
+    ensures { OnOk result (text.new ≡ text.old ++ samples_text counts.patterns counts.slots) }
 {
-    push_size(text, b", patterns ", patterns)?;
-    push_size(text, b", slots ", slots)?;
+    push_size(text, b", patterns ", counts.patterns)?;
+    push_size(text, b", slots ", counts.slots)?;
     text.append(b"\n")
 }
 
 // The sizes behind the number of samples, and the end of the line.
-fn push_kept(
-    text: &mut Text,
-    leaders: u32,
-    constants: u32,
-    patterns: u64,
-    slots: u64,
-) -> Result<(), NoMemory>
-    ensures { OnOk result (text.new ≡ text.old ++ kept_text leaders constants patterns slots) }
+fn push_kept(text: &mut Text, counts: Counts) -> Result<(), NoMemory>
+    ensures { OnOk result (text.new ≡ text.old ++ kept_text counts.leaders counts.constants counts.patterns counts.slots) }
 {
-    push_variables(text, leaders, constants)?;
-    push_samples(text, patterns, slots)
+    push_variables(text, counts)?;
+    push_samples(text, counts)
 }
 
 /// The line of what an engine keeps of a point's samples, behind the text. After an error the text may hold a part of it.
 #[tactic(auto, unfolding(crate::specs::Sections::stats_line))]
-pub fn push_stats(
-    text: &mut Text,
-    name: &[u8],
-    samples: u64,
-    leaders: u32,
-    constants: u32,
-    patterns: u64,
-    slots: u64,
-) -> Result<(), NoMemory>
-    ensures { OnOk result (text.new ≡ text.old ++ stats_line name.now (sizes_from samples leaders constants patterns slots)) }
+pub fn push_stats(text: &mut Text, name: &[u8], counts: Counts) -> Result<(), NoMemory>
+    ensures { OnOk result (text.new ≡ text.old ++ stats_line name.now counts) }
 {
     text.append(b"stats ")?;
     text.append(name)?;
-    push_size(text, b": samples ", samples)?;
-    push_kept(text, leaders, constants, patterns, slots)
+    push_size(text, b": samples ", counts.samples)?;
+    push_kept(text, counts)
+}
+
+/// The line of what an engine keeps, as `push_stats` writes it.
+pub fn stats(alloc: Global, name: &[u8], counts: Counts) -> Result<Text, NoMemory>
+    ensures { IfOk result (λ text. text ≡ stats_line name.now counts) }
+{
+    let mut text = Text::new(alloc);
+    push_stats(&mut text, name, counts)?;
+    Ok(text)
 }
 
 // Why a line is refused, by number and name, and the end of the line.

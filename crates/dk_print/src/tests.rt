@@ -1,6 +1,7 @@
 // Each call once, with memory enough.
-use super::{fault, instance, push_fault, push_instance, push_section, push_stats, section};
+use super::{fault, instance, push_fault, push_instance, push_section, push_stats, section, stats};
 use dk_base::{Compar, Form, Kind, List, NoMemory, Text, VarId, VarInfo, Why};
+use dk_engine::Counts;
 use dk_filters::{Candidate, Facts};
 use dk_template::{Few, RowId, State, Tuple};
 use std::alloc::Global;
@@ -55,6 +56,14 @@ static SECTIONS: [Case; 3] = [
 
 const RULE: &[u8] =
     b"===========================================================================\n";
+
+const COUNTS: Counts = Counts {
+    samples: 4,
+    leaders: 1,
+    constants: 0,
+    patterns: 1,
+    slots: 4,
+};
 
 const NO_FACTS: Facts = Facts {
     few: false,
@@ -138,11 +147,16 @@ fn each_call_goes_behind_the_text(rt: HostRuntime) -> Result<(), Fail> {
     text.append(b"\n")?;
     push_instance(&mut text, RowId(7), vars.as_slice(), &pair, &State::Code(0))?;
     text.append(b"\n")?;
-    push_stats(&mut text, b"P", 4, 1, 0, 1, 4)?;
+    push_stats(&mut text, b"P", COUNTS)?;
     push_fault(&mut text, b"t", 9, Why::Truncated)?;
     assert!(rt;
         text.as_slice()
             == b"c == a b - 3 (elementwise)\na b == null\nstats P: samples 4, leaders 1, constants 0, patterns 1, slots 4\ndaikon: t:9: 12 Truncated\n".as_slice()
+    );
+    let line = stats(alloc, b"P", COUNTS)?;
+    assert!(rt;
+        line.as_slice()
+            == b"stats P: samples 4, leaders 1, constants 0, patterns 1, slots 4\n".as_slice()
     );
     let message = fault(alloc, b"a", 3, Why::TooManyVariables)?;
     assert!(rt; message.as_slice() == b"daikon: a:3: 16 TooManyVariables\n".as_slice());

@@ -5,6 +5,7 @@ use Rattle.dk_base.specs.declared.kinds.VarId.{VarId}
 use Rattle.dk_base.specs.declared.kinds.VarInfo.{VarInfo}
 use Rattle.dk_base.specs.declared.values.Value.{Value}
 use Rattle.dk_core.specs.History.{History}
+use Rattle.dk_engine.specs.declared.counts.Counts.{Counts}
 use Rattle.dk_filters.specs.OfSamples.{agrees}
 use Rattle.dk_fits.specs.Fits.{fit}
 use Rattle.dk_fits.specs.Instances.{all_vars, rows_of, tuples_over}
@@ -13,7 +14,6 @@ use Rattle.dk_forms.specs.declared.states.State.TheVariants as state
 use Rattle.dk_hierarchy.specs.Samples.{all_vars_of, own_samples_of}
 use Rattle.dk_base.specs.SameValues.{same_value}
 use Rattle.dk_presence.specs.Patterns.{capped, patterns_of, same_vars}
-use Rattle.dk_print.specs.Sections.{Sizes}
 use Rattle.dk_samples.specs.Samples.{value_in}
 use Rattle.dk_suppress.specs.Rules.{is_suppressed}
 use Rattle.dk_template.specs.Admitted.{admits, is_written}
@@ -61,7 +61,7 @@ slots_of grammar infos [] = []
 slots_of grammar infos (s ∷ samples) =
     flat_map (λ row. map (λ vars. (row, vars)) (slots_over infos (s ∷ samples) (leaders_of infos (s ∷ samples)) row)) (rows_of grammar)
 
-abbrev pub sizes_of : Grammar → List VarInfo → List (List Value) → Sizes
+abbrev pub sizes_of : Grammar → List VarInfo → List (List Value) → Counts
 sizes_of grammar infos samples = record {
   samples = capped (length samples);
   leaders = length (leaders_of infos samples);
@@ -71,5 +71,5 @@ sizes_of grammar infos samples = record {
 }
 
 -- the sizes of what is kept of a point's own samples
-unfoldable pub sizes_at : Grammar → History → ℕ → Sizes
+unfoldable pub sizes_at : Grammar → History → ℕ → Counts
 sizes_at grammar h p = sizes_of grammar (all_vars_of h.table p) (own_samples_of h.table h.samples p)

@@ -1,4 +1,4 @@
-use Rattle.std.specs.Prelude.{◌≡◌, ◌++◌, ◌∷◌, [], filter, if◌then◌else◌}
+use Rattle.std.specs.Prelude.{◌++◌, ◌∷◌, [], filter, if◌then◌else◌}
 use Rattle.std.proofs.Common.{ap, append-nil, sym, ◌∙◌}
 use Rattle.dk_base.specs.declared.kinds.VarId.{VarId}
 use Rattle.dk_filters.proofs.Listed.{filter_vars_more}

@@ -1,4 +1,3 @@
-use Rattle.std.specs.Prelude.{◌≡◌, map}
 use Rattle.std.proofs.Common.{sym, ◌∙◌}
 use Rattle.std.proofs.lemmas.Simd.{map-map}
 use Rattle.dk_filters.specs.Found.{by_partner}
