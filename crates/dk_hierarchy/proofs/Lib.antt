@@ -9,8 +9,14 @@ pub mod Levels
 pub mod Descending
 pub mod Going
 pub mod WayExamples
+mod HierarchyExamples
 pub mod Merging
 pub mod Standing
 pub mod Joining
 pub mod Adding
 pub mod Stepping
+pub mod OfPoint
+pub mod Following
+pub mod Answering
+pub mod TableEngines
+pub mod IntSamples

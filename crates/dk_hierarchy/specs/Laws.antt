@@ -1,8 +1,12 @@
 -- What the samples of a point come to.
-use Rattle.std.specs.Prelude.{◌≡◌, ◌≤◌, ◌++◌, ℕ, Bool, false, List, length, All, flat_map, map}
+use Rattle.std.specs.Prelude.{◌≡◌, ◌<◌, ◌≤◌, ◌^◌, ◌++◌, ℕ, Bool, false, List, length, All, flat_map, map}
+use Rattle.dk_base.specs.declared.kinds.VarInfo.{VarInfo}
 use Rattle.dk_base.specs.declared.values.Value.{Value}
+use Rattle.dk_derive.specs.Vars.{with_derived_vars}
+use Rattle.dk_engine.specs.Exact.{AreOfPoint}
 use Rattle.dk_fits.specs.Laws.{IsSample}
 use Rattle.dk_graph.specs.Graphs.{depth_of, edges_into, has_cycle}
+use Rattle.dk_points.specs.Laws.{IsBaseVar}
 use Rattle.dk_points.specs.Links.{nodes}
 use Rattle.dk_points.specs.Table.{Point}
 use Rattle.dk_hierarchy.specs.Samples.{OwnSamples, all_vars_of, mapped, own_samples_of, partners_of, samples_of, samples_within}
@@ -28,3 +32,7 @@ abbrev pub SamplesAreOfVariables : Type 0
 SamplesAreOfVariables =
     (ps : List Point) (own : OwnSamples) → ((p : ℕ) → All (IsSample (all_vars_of ps p)) (own_samples_of ps own p))
     → (p : ℕ) → All (IsSample (all_vars_of ps p)) (samples_of ps own p)
+
+-- Base variables with what is derived of them can be an engine's, if they are few.
+abbrev pub VariablesAreOfPoints : Type 0
+VariablesAreOfPoints = (base : List VarInfo) → All IsBaseVar base → length (with_derived_vars base) < 2 ^ 32 → AreOfPoint (with_derived_vars base)

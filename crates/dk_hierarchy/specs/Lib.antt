@@ -6,3 +6,4 @@ pub mod Laws
 pub mod WayLaws
 pub mod Merging
 pub mod Standing
+pub mod Numbers

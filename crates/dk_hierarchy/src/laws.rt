@@ -1,6 +1,6 @@
 //! What the samples of a point come to.
 ghost use Rattle.dk_hierarchy.specs.Edges.{AgreementThroughEdges, CountsThroughEdges, FitsThroughEdges};
-ghost use Rattle.dk_hierarchy.specs.Laws.{DepthsSuffice, SamplesAreOfVariables, SamplesAreOwnAndChildrens, SamplesHaveAllVariables};
+ghost use Rattle.dk_hierarchy.specs.Laws.{DepthsSuffice, SamplesAreOfVariables, SamplesAreOwnAndChildrens, SamplesHaveAllVariables, VariablesAreOfPoints};
 ghost use Rattle.dk_hierarchy.specs.Standing.{FollowedWaysStand, MergedStandForWhatIsBrought};
 ghost use Rattle.dk_hierarchy.specs.WayLaws.{DescentsBegin, DescentsEnd, DescentsGoOn, EqualWaysAreOne, SameSamplesSayTheSame, WaysGoOn};
 
@@ -49,4 +49,9 @@ pub fn descents_bring_all_samples()
 pub fn merged_stand_for_what_is_brought()
     ensures brought { MergedStandForWhatIsBrought }
     ensures all { FollowedWaysStand }
+{}
+
+/// Base variables with what is derived of them can be an engine's, if they are fewer than 2^32.
+pub fn variables_are_of_points()
+    ensures { VariablesAreOfPoints }
 {}

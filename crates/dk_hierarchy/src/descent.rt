@@ -1,0 +1,106 @@
+// Going down from a point, the deepest ways first.
+ghost use Rattle.std.specs.Prelude.{◌≡◌, ◌<◌, ◌≤◌, ◌++◌, [], ◌∷◌, IfOk, OnOk, length};
+ghost use Rattle.dk_graph.specs.Graphs.{ParentsAreDeeper, depth_of};
+ghost use Rattle.dk_hierarchy.specs.Descent.{IsDescent, with_ways_below};
+ghost use Rattle.dk_hierarchy.specs.Standing.{AreEnginesOf};
+ghost use Rattle.dk_hierarchy.specs.Ways.{way_below};
+ghost use Rattle.dk_points.specs.Links.{nodes};
+
+use crate::Way;
+use crate::depths::{add_way, first_levels};
+use crate::composing::{onward, partners_of};
+use dk_base::{List, NoMemory, PointId};
+use dk_engine::Engine;
+use dk_graph::Edge;
+use dk_points::Points;
+use std::alloc::Global;
+
+// A table, the engines of its points, and the point from which it goes down.
+#[derive(Clone, Copy)]
+struct Descent<'a> {
+    alloc: Global,
+    points: &'a Points,
+    engines: &'a [Engine],
+    top: PointId,
+}
+
+impl<'a> Descent<'a> {
+    // The way, and then down an edge into its lower point.
+    fn way_below(&self, way: &Way, edge: Edge) -> Result<Way, NoMemory>
+        requires engines { AreEnginesOf self.now.points.now self.now.engines.now }
+        requires child { edge.child.0 < length self.now.points.now }
+        requires parent { edge.parent.0 < length self.now.points.now }
+        ensures { IfOk result (λ below. below ≡ way_below self.now.points.now way.now edge) }
+    {
+        let parent = self.engines[edge.parent.0 as usize].vars();
+        let child = self.engines[edge.child.0 as usize].vars();
+        let below = partners_of(self.alloc, self.points, edge, parent, child)?;
+        Ok(Way {
+            point: edge.child,
+            partners: onward(self.alloc, below.as_slice(), way.partners.as_slice())?,
+            paths: way.paths,
+        })
+    }
+
+    // The ways that go on from a way, each in the level of its lower point.
+    fn add_ways_below(&self, levels: &mut Vec<List<Way>>, way: &Way) -> Result<(), NoMemory>
+        requires engines { AreEnginesOf self.now.points.now self.now.engines.now }
+        requires parents { ParentsAreDeeper (nodes self.now.points.now) }
+        requires point { way.now.point.0 < length self.now.points.now }
+        requires deep { depth_of (nodes self.now.points.now) way.now.point.0 ≤ length levels.old.items }
+        ensures { OnOk result (levels.new.items ≡ with_ways_below self.now.points.now levels.old.items way.now) }
+    {
+        for edge in self.points.into(way.point) {
+            let below = self.way_below(way, *edge)?;
+            add_way(self.alloc, self.points, levels, below)?;
+        }
+        Ok(())
+    }
+
+    // Follows each way of the deepest level.
+    fn follow(
+        &self,
+        ways: &mut List<Way>,
+        levels: &mut Vec<List<Way>>,
+        level: List<Way>,
+    ) -> Result<(), NoMemory>
+        requires engines { AreEnginesOf self.now.points.now self.now.engines.now }
+        requires parents { ParentsAreDeeper (nodes self.now.points.now) }
+        requires descent { IsDescent self.now.points.now self.now.top.0 ways.old (levels.old.items ++ level ∷ []) }
+        ensures descent { OnOk result (IsDescent self.now.points.now self.now.top.0 ways.new levels.new.items) }
+        ensures long { OnOk result (length levels.new.items ≡ length levels.old.items) }
+    {
+        let mut level = level.into_vec();
+        while let Some(way) = level.pop() {
+            self.add_ways_below(levels, &way)?;
+            ways.push(way)?;
+        }
+        Ok(())
+    }
+}
+
+/// The ways down from a point, the deepest first. They bring all its samples.
+pub(crate) fn ways_down(
+    alloc: Global,
+    points: &Points,
+    engines: &[Engine],
+    top: PointId,
+) -> Result<List<Way>, NoMemory>
+    requires point { top.0 < length points.now }
+    requires engines { AreEnginesOf points.now engines.now }
+    ensures { IfOk result (λ ways. IsDescent points.now top.0 ways []) }
+{
+    let descent = Descent {
+        alloc,
+        points,
+        engines,
+        top,
+    };
+    let number = engines[top.0 as usize].vars().len() as u32;
+    let mut levels = first_levels(alloc, top, number, points.depth(top))?;
+    let mut ways = List::new(alloc);
+    while let Some(level) = levels.pop() {
+        descent.follow(&mut ways, &mut levels, level)?;
+    }
+    Ok(ways)
+}
