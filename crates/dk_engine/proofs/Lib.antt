@@ -40,5 +40,9 @@ pub mod Narrowing
 pub mod Applying
 pub mod Leaving
 pub mod Settling
-pub mod Touched
+pub mod ReachedRows
+pub mod Freeing
+pub mod Numbering
+pub mod Swept
+pub mod Opened
 mod Examples

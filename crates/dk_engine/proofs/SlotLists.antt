@@ -105,13 +105,13 @@ module _ (g : Grammar) (infos : List VarInfo) (samples : List (List Value)) (som
   not_false true h = absurd (false≢true (sym h))
   not_false false h = refl
 
-  made_is_slot : (row : RowId) (vars : List VarId) → IsRowOf g row → IsIn vars (tuples_over (arity_of row) own) → has_slot infos known answered row vars ≡ true → IsSlot g infos samples leaders known (made row vars)
-  made_is_slot row vars of i h =
+  -- leaders that have a slot by these answers have this slot
+  pub has_is_slot : (row : RowId) (vars : List VarId) → IsRowOf g row → All (Contains own) vars → has_slot infos known answered row vars ≡ true → IsSlot g infos samples leaders known (made row vars)
+  has_is_slot row vars of lead h =
       let h1 = and_parts (admits row infos vars) _ h in
       let h2 = and_parts (is_written row vars) _ h1.1 in
       let h3 = and_parts (not (all_known known vars)) _ h2.1 in
       let h4 = and_parts (not (is_broken (answered row vars))) (not (is_suppressed answered row vars)) h3.1 in
-      let lead : All (Contains own) vars = All-weaker (λ v. IsIn v own) (Contains own) (λ v j. contained v own j) vars (of_tuples own (arity_of row) vars i).0 in
       record {
         some = some;
         over = record { of_grammar = of; admitted = h1.0; lead = lead };
@@ -121,6 +121,9 @@ module _ (g : Grammar) (infos : List VarInfo) (samples : List (List Value)) (som
         unbroken = not_broken (answered row vars) (not_true (is_broken (answered row vars)) h4.0);
         unsuppressed = sym (suppressed_same row vars h1.0 lead) ∙ not_true (is_suppressed answered row vars) h4.1;
       }
+
+  made_is_slot : (row : RowId) (vars : List VarId) → IsRowOf g row → IsIn vars (tuples_over (arity_of row) own) → has_slot infos known answered row vars ≡ true → IsSlot g infos samples leaders known (made row vars)
+  made_is_slot row vars of i h = has_is_slot row vars of (All-weaker (λ v. IsIn v own) (Contains own) (λ v j. contained v own j) vars (of_tuples own (arity_of row) vars i).0) h
 
   slot_of_member : (slot : Slot) → IsIn slot all → IsSlot g infos samples leaders known slot
   slot_of_member slot h =
@@ -132,21 +135,29 @@ module _ (g : Grammar) (infos : List VarInfo) (samples : List (List Value)) (som
   broken_not : (s : State) → (s ≢ Broken) → is_broken s ≡ false
   broken_not s n = elim (cases_Bool (is_broken s)) [ inl e ↦ absurd (n (broken_is s e)) | inr e ↦ e ]
 
+  -- a slot's state is what is answered, and its leaders have a slot
+  pub slot_answered : (slot : Slot) → IsSlot g infos samples leaders known slot → slot.state ≡ answered slot.row slot.leaders
+  slot_answered slot is = is.state ∙ sym (tells slot.row is.over.of_grammar slot.leaders is.over.admitted)
+
+  pub slot_has : (slot : Slot) → IsSlot g infos samples leaders known slot → has_slot infos known answered slot.row slot.leaders ≡ true
+  slot_has slot is =
+      let row = slot.row in
+      let vars = slot.leaders in
+      let same = slot_answered slot is in
+      let unbroken = not_false (is_broken (answered row vars)) (broken_not (answered row vars) (λ e. is.unbroken (same ∙ e))) in
+      let unsuppressed = not_false (is_suppressed answered row vars) (suppressed_same row vars is.over.admitted is.over.lead ∙ is.unsuppressed) in
+      and_from (admits row infos vars) _ is.over.admitted (and_from (is_written row vars) _ is.written (and_from (not (all_known known vars)) _ (not_false (all_known known vars) is.varies)
+      (and_from (not (is_broken (answered row vars))) (not (is_suppressed answered row vars)) unbroken unsuppressed)))
+
   member_of_slot : (slot : Slot) → IsSlot g infos samples leaders known slot → IsIn slot all
   member_of_slot slot is =
       let row = slot.row in
       let vars = slot.leaders in
-      let same : slot.state ≡ answered row vars = is.state ∙ sym (tells row is.over.of_grammar vars is.over.admitted) in
-      let unbroken = not_false (is_broken (answered row vars)) (broken_not (answered row vars) (λ e. is.unbroken (same ∙ e))) in
-      let unsuppressed = not_false (is_suppressed answered row vars) (suppressed_same row vars is.over.admitted is.over.lead ∙ is.unsuppressed) in
-      let has : has_slot infos known answered row vars ≡ true =
-      and_from (admits row infos vars) _ is.over.admitted (and_from (is_written row vars) _ is.written (and_from (not (all_known known vars)) _ (not_false (all_known known vars) is.varies)
-      (and_from (not (is_broken (answered row vars))) (not (is_suppressed answered row vars)) unbroken unsuppressed))) in
       let lead : All (λ v. IsIn v own) vars = All-weaker (Contains own) (λ v. IsIn v own) (λ v c. is_in v own c.0 c.1 c.2) vars is.over.lead in
       let tuple = in_tuples own (arity_of row) vars (admitted_arity row infos vars is.over.admitted) lead in
-      let kept_one = in_filter (has_slot infos known answered row) vars (tuples_over (arity_of row) own) tuple has in
+      let kept_one = in_filter (has_slot infos known answered row) vars (tuples_over (arity_of row) own) tuple (slot_has slot is) in
       let one = in_map {X = List VarId} {Y = Slot} (made row) vars (filter (has_slot infos known answered row) (tuples_over (arity_of row) own)) kept_one in
-      in_flat (slots_of_row infos own known answered) slot row (rows_of g) (subst (λ s. IsIn s (slots_of_row infos own known answered row)) (sym (ap (λ s. slot_with row vars s) same)) one) (row_in g row is.over.of_grammar)
+      in_flat (slots_of_row infos own known answered) slot row (rows_of g) (subst (λ s. IsIn s (slots_of_row infos own known answered row)) (sym (ap (λ s. slot_with row vars s) (slot_answered slot is))) one) (row_in g row is.over.of_grammar)
 
   pub slots_exact : AreSlots g infos samples leaders known (slots_of g infos own known answered)
   unfolding slots_of

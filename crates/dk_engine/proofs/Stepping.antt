@@ -35,20 +35,20 @@ use Rattle.dk_engine.specs.StepLaws.{SteppedSlotsAreExact}
 use Rattle.dk_engine.specs.declared.slot.Slot.{Slot}
 
 module _ {grammar : Grammar} {infos : List VarInfo} {samples : List (List Value)} {sample : List Value} {kept : Kept} {now : Now} (step : IsStep grammar infos samples sample kept now) where
-  abbrev more : List (List Value)
+  abbrev pub more : List (List Value)
   more = samples ++ sample ∷ []
 
-  written_now : All (λ s. All IsWritten s) more
+  pub written_now : All (λ s. All IsWritten s) more
   written_now k d l = (step.all k d l).written
 
   -- ---- an untouched tuple is over old leaders, and as constant as before
-  placed_before : (row : RowId) (vars : List VarId) → IsPlaced grammar infos now.leaders row vars → All (IsOld now) vars → IsPlaced grammar infos kept.leaders row vars
+  pub placed_before : (row : RowId) (vars : List VarId) → IsPlaced grammar infos now.leaders row vars → All (IsOld now) vars → IsPlaced grammar infos kept.leaders row vars
   placed_before row vars placed old = record {
     over = record { of_grammar = placed.over.of_grammar; admitted = placed.over.admitted; lead = lead_before step vars placed.over.lead old };
     written = placed.written;
   }
 
-  varies_before : (vars : List VarId) → All (IsOld now) vars → all_known now.known vars ≡ false → all_known kept.known vars ≡ false
+  pub varies_before : (vars : List VarId) → All (IsOld now) vars → all_known now.known vars ≡ false → all_known kept.known vars ≡ false
   varies_before vars old varies = false_from_ne_true (all_known kept.known vars) (λ e.
       true≢false (sym (all_known_still step vars (λ k d l. (old k d l).1) e) ∙ varies))
 
@@ -57,22 +57,22 @@ module _ {grammar : Grammar} {infos : List VarInfo} {samples : List (List Value)
       true≢false (sym (all_known_before step vars over.lead e) ∙ varies))
 
   -- one that a premise was content with before, and isn't now, varies
-  loses_so_varies : (row : RowId) → IsRow row → (vars : List VarId) → All (IsOld now) vars → (p : Premise) → suffices p (fit row vars samples) ≡ true → suffices p (fit row vars more) ≡ false
+  pub loses_so_varies : (row : RowId) → IsRow row → (vars : List VarId) → All (IsOld now) vars → (p : Premise) → suffices p (fit row vars samples) ≡ true → suffices p (fit row vars more) ≡ false
       → all_known kept.known vars ≡ false
   loses_so_varies row is vars old p sufficed fails = false_from_ne_true (all_known kept.known vars) (λ e.
       let same = constants_say_the_same step row is vars (all_known_still step vars (λ k d l. (old k d l).1) e) in
       true≢false (sym sufficed ∙ (ap (suffices p) (sym same) ∙ fails)))
 
   -- a tuple of leaders goes on being one
-  over_now : (row : RowId) (vars : List VarId) → IsOverLeaders grammar infos kept.leaders row vars → IsOverLeaders grammar infos now.leaders row vars
+  pub over_now : (row : RowId) (vars : List VarId) → IsOverLeaders grammar infos kept.leaders row vars → IsOverLeaders grammar infos now.leaders row vars
   over_now row vars over = record { of_grammar = over.of_grammar; admitted = over.admitted; lead = λ k d l. leads_on step (get_or vars k d) (over.lead k d l) }
 
-  long_more : 0 < length more
+  pub long_more : 0 < length more
   long_more = let n = length-append samples (sample ∷ []) in omega (arith, n)
 
   -- ---- an old slot
   -- no rule begins to suppress a slot that can't close
-  stays_open : (slot : Slot) → IsSlot grammar infos samples kept.leaders kept.known slot → can_close slot ≡ false → is_suppressed (fit_of more) slot.row slot.leaders ≡ false
+  pub stays_open : (slot : Slot) → IsSlot grammar infos samples kept.leaders kept.known slot → can_close slot ≡ false → is_suppressed (fit_of more) slot.row slot.leaders ≡ false
   stays_open slot had shut =
       let parts = or_parts (is_empty slot.state) (list_any (λ (r : Rule). r.0.0 == slot.row.0 && asks_elements r) rules) shut in
       false_from_ne_true (is_suppressed (fit_of more) slot.row slot.leaders) (λ closed.
@@ -100,6 +100,43 @@ module _ {grammar : Grammar} {infos : List VarInfo} {samples : List (List Value)
       }))
 
   -- ---- by what answers before and after the sample
+  module _ {after : Answer} (tells_after : Tells grammar infos more after) where
+    -- what is left of an old slot is a slot of now
+    pub left_is_slot : (old slot : Slot) → IsSlot grammar infos samples kept.leaders kept.known old → IsLeftOf after sample old slot → IsSlot grammar infos more now.leaders now.known slot
+    left_is_slot old slot had left =
+        let is = row_of_grammar grammar old.row had.over.of_grammar in
+        let there = over_now old.row old.leaders had.over in
+        let over = subst (λ r. IsOverLeaders grammar infos now.leaders r slot.leaders) (sym left.row) (subst (IsOverLeaders grammar infos now.leaders old.row) (sym left.vars) there) in
+        record {
+          some = long_more;
+          over = over;
+          written = subst (λ r. IsTrue (is_written r slot.leaders)) (sym left.row) (subst (λ vs. IsTrue (is_written old.row vs)) (sym left.vars) had.written);
+          varies = ap (all_known now.known) left.vars ∙ varies_now old.row old.leaders had.over had.varies;
+          state = left.state
+              ∙ (ap (with_sample old.row old.leaders sample) had.state
+              ∙ (sym (fit_push old.row is old.leaders samples sample) ∙ (ap (λ vs. fit old.row vs more) (sym left.vars) ∙ ap (λ r. fit r slot.leaders more) (sym left.row))));
+          unbroken = left.unbroken;
+          unsuppressed = elim (cases_Bool (can_close old)) [
+            | inl closes ↦ sym (suppressed_told tells_after slot.row slot.leaders over.admitted) ∙ left.unsuppressed closes
+            | inr shut ↦ ap (λ r. is_suppressed (fit_of more) r slot.leaders) left.row ∙ (ap (is_suppressed (fit_of more) old.row) left.vars ∙ stays_open old had shut)
+          ];
+        }
+
+    -- a slot of now that had a slot is left of it
+    pub slot_is_left : (slot : Slot) → IsSlot grammar infos more now.leaders now.known slot → (old : Slot) → Contains kept.slots old → old.row ≡ slot.row → old.leaders ≡ slot.leaders → IsLeftOf after sample old slot
+    slot_is_left slot has old there row vars =
+        let had = (step.before.slots.each old).0 there in
+        record {
+          row = sym row;
+          vars = sym vars;
+          state = has.state
+              ∙ (ap (λ r. fit r slot.leaders more) (sym row)
+              ∙ (ap (λ vs. fit old.row vs more) (sym vars)
+              ∙ (fit_push old.row (row_of_grammar grammar old.row had.over.of_grammar) old.leaders samples sample ∙ ap (with_sample old.row old.leaders sample) (sym had.state))));
+          unbroken = has.unbroken;
+          unsuppressed = λ closes. suppressed_told tells_after slot.row slot.leaders has.over.admitted ∙ has.unsuppressed;
+        }
+
   module _ {before after : Answer} (tells_before : Tells grammar infos samples before) (tells_after : Tells grammar infos more after) (candidates : List (RowId × List VarId))
       (are : AreCandidates grammar infos before after kept.slots now candidates) where
     -- an untouched tuple that a rule suppressed, and none does now, is a candidate: by induction on its rank
@@ -173,45 +210,8 @@ module _ {grammar : Grammar} {infos : List VarInfo} {samples : List (List Value)
         unbroken = has.unbroken;
         unsuppressed = suppressed_told tells_after slot.row slot.leaders has.over.admitted ∙ has.unsuppressed;
       })
-      | inr found ↦
-          let old = found.0 in
-          let had = (step.before.slots.each old).0 found.1 in
-          inl (
-            old,
-            found.1,
-            record {
-              row = sym found.2;
-              vars = sym found.3;
-              state = has.state
-                  ∙ (ap (λ r. fit r slot.leaders more) (sym found.2)
-                  ∙ (ap (λ vs. fit old.row vs more) (sym found.3)
-                  ∙ (fit_push old.row (row_of_grammar grammar old.row had.over.of_grammar) old.leaders samples sample ∙ ap (with_sample old.row old.leaders sample) (sym had.state))));
-              unbroken = has.unbroken;
-              unsuppressed = λ closes. suppressed_told tells_after slot.row slot.leaders has.over.admitted ∙ has.unsuppressed;
-            },
-          )
+      | inr found ↦ inl (found.0, found.1, slot_is_left tells_after slot has found.0 found.1 found.2 found.3)
     ]
-
-    -- what is left of an old slot is a slot of now
-    left_is_slot : (old slot : Slot) → IsSlot grammar infos samples kept.leaders kept.known old → IsLeftOf after sample old slot → IsSlot grammar infos more now.leaders now.known slot
-    left_is_slot old slot had left =
-        let is = row_of_grammar grammar old.row had.over.of_grammar in
-        let there = over_now old.row old.leaders had.over in
-        let over = subst (λ r. IsOverLeaders grammar infos now.leaders r slot.leaders) (sym left.row) (subst (IsOverLeaders grammar infos now.leaders old.row) (sym left.vars) there) in
-        record {
-          some = long_more;
-          over = over;
-          written = subst (λ r. IsTrue (is_written r slot.leaders)) (sym left.row) (subst (λ vs. IsTrue (is_written old.row vs)) (sym left.vars) had.written);
-          varies = ap (all_known now.known) left.vars ∙ varies_now old.row old.leaders had.over had.varies;
-          state = left.state
-              ∙ (ap (with_sample old.row old.leaders sample) had.state
-              ∙ (sym (fit_push old.row is old.leaders samples sample) ∙ (ap (λ vs. fit old.row vs more) (sym left.vars) ∙ ap (λ r. fit r slot.leaders more) (sym left.row))));
-          unbroken = left.unbroken;
-          unsuppressed = elim (cases_Bool (can_close old)) [
-            | inl closes ↦ sym (suppressed_told tells_after slot.row slot.leaders over.admitted) ∙ left.unsuppressed closes
-            | inr shut ↦ ap (λ r. is_suppressed (fit_of more) r slot.leaders) left.row ∙ (ap (is_suppressed (fit_of more) old.row) left.vars ∙ stays_open old had shut)
-          ];
-        }
 
     -- what a candidate gets is a slot of now
     opened_is_slot : (slot : Slot) → IsOpened after kept.slots now.known candidates slot → IsSlot grammar infos more now.leaders now.known slot
@@ -229,7 +229,7 @@ module _ {grammar : Grammar} {infos : List VarInfo} {samples : List (List Value)
 
     stepped_is_slot : (slot : Slot) → IsSteppedSlot after sample kept.slots now.known candidates slot → IsSlot grammar infos more now.leaders now.known slot
     stepped_is_slot slot from = elim from as (λ _. IsSlot grammar infos more now.leaders now.known slot) [
-      | inl left ↦ left_is_slot left.0 slot ((step.before.slots.each left.0).0 left.1) left.2
+      | inl left ↦ left_is_slot tells_after left.0 slot ((step.before.slots.each left.0).0 left.1) left.2
       | inr opened ↦ opened_is_slot slot opened
     ]
 

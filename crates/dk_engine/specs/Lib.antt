@@ -7,9 +7,11 @@ pub mod Feeding
 pub mod Memory
 pub mod Levels
 pub mod Numbers
+pub mod Reached
 pub mod Sweeps
+pub mod Merged
 pub mod Laws
 pub mod Step
-pub mod Narrow
 pub mod Choices
+pub mod Narrow
 pub mod StepLaws

@@ -1,26 +1,27 @@
 -- The parts of a narrow step: what its functions give, from the slots that are kept, without a sweep.
-use Rattle.std.specs.Prelude.{◌≡◌, ◌≢◌, ◌⊎◌, ◌↔◌, ◌<◌, ◌&&◌, ◌==◌, ◌++◌, ℕ, Bool, false, All, Contains, List, [], ◌∷◌, filter, flat_map, length, map, not, slice_index_or, slice_set, if◌then◌else◌}
+use Rattle.std.specs.Prelude.{◌≡◌, ◌≢◌, ◌⊎◌, ◌↔◌, ◌<◌, ◌&&◌, ◌==◌, ◌++◌, ℕ, Bool, true, false, All, Contains, List, [], filter, flat_map, length, map, not, slice_index_or, slice_set, if◌then◌else◌}
 use Rattle.std.specs.List.{AllPairs, list_any}
 use Rattle.dk_base.specs.declared.kinds.VarId.{VarId}
 use Rattle.dk_base.specs.declared.kinds.VarInfo.{VarInfo}
 use Rattle.dk_base.specs.declared.values.Value.{Value}
 use Rattle.dk_classes.specs.Leaders.{own_leaders}
 use Rattle.dk_constants.specs.Known.{Entries}
-use Rattle.dk_fits.specs.Instances.{rows_of}
 use Rattle.dk_forms.specs.declared.states.State.{State}
 use Rattle.dk_forms.specs.declared.states.State.TheVariants.{Broken, Empty}
 use Rattle.dk_presence.specs.Patterns.{held_at, present_in}
 use Rattle.dk_suppress.specs.Rules.{Rule, is_suppressed, rules}
-use Rattle.dk_template.specs.Admitted.{admits, is_written}
 use Rattle.dk_template.specs.Premises.{row_of, suffices}
-use Rattle.dk_template.specs.Templates.{arity_of}
 use Rattle.dk_template.specs.declared.grammar.Grammar.{Grammar}
 use Rattle.dk_template.specs.declared.grammar.RowId.{RowId}
+use Rattle.dk_engine.specs.Choices.{others, touching}
 use Rattle.dk_engine.specs.Exact.{SlotBefore}
-use Rattle.dk_engine.specs.Feeding.{is_broken, with_sample}
+use Rattle.dk_engine.specs.Feeding.{is_broken, parts_after, read_after, with_sample}
+use Rattle.dk_engine.specs.Merged.{AreTogether}
 use Rattle.dk_engine.specs.Step.{Answer, IsLeftOf, IsOpened, can_close, is_empty, is_of_elements}
 use Rattle.dk_engine.specs.declared.changes.Change.{Change}
+use Rattle.dk_engine.specs.Sweeps.{freed_slots, touched_slots}
 use Rattle.dk_engine.specs.declared.kept.Kept.{Kept}
+use Rattle.dk_engine.specs.declared.now.Now.{Now}
 use Rattle.dk_engine.specs.declared.slot.Slot.{Slot}
 
 -- what a place outside of the slots is read as
@@ -102,41 +103,23 @@ pub record AreMerged (left opened merged : List Slot) : Type 0 where
   pub ascend : AllPairs SlotBefore merged
   pub each : (slot : Slot) → Contains merged slot ↔ (Contains left slot ⊎ Contains opened slot)
 
--- ---- touched candidates
--- placed leaders whose state isn't Broken
-abbrev pub is_candidate : List VarInfo → Answer → RowId → List VarId → Bool
-is_candidate infos after row vars = admits row infos vars && (is_written row vars && not (is_broken (after row vars)))
+-- ---- what the sample opens
+-- the places of the slots by which a premise is lost
+abbrev pub lost_places : List Slot → List Change → List ℕ
+lost_places slots changes = map (λ (c : Change). c.place) (filter (loses_by slots) changes)
 
-module _ (infos : List VarInfo) (after : Answer) (row : RowId) where
-  abbrev pub chosen : List VarId → List (RowId × List VarId)
-  chosen vars = map (λ vs. (row, vs)) (filter (is_candidate infos after row) (vars ∷ []))
+-- those that the slots at these places free
+abbrev pub freed_by_all : List VarInfo → Entries → Answer → List VarId → List Slot → List ℕ → List Slot
+freed_by_all infos known after leaders slots lost = flat_map (λ k. freed_slots infos known after leaders (slot_in slots k).row (slot_in slots k).leaders) lost
 
-  -- those of one leader each; of two; and of three: one of each list
-  abbrev pub chosen_ones : List VarId → List (RowId × List VarId)
-  chosen_ones first = flat_map (λ v. chosen (v ∷ [])) first
+-- slots over tuples that the sample touches, and over those with the leaders of a slot by which a premise is lost
+unfoldable pub opened_slots : Grammar → List VarInfo → Answer → List Slot → Now → List ℕ → List Slot
+opened_slots grammar infos after slots now lost =
+    let leaders = own_leaders now.leaders in
+    touched_slots grammar infos now.known after (touching now) (others now) leaders ++ freed_by_all infos now.known after leaders slots lost
 
-  abbrev pub chosen_with : VarId → List VarId → List (RowId × List VarId)
-  chosen_with v second = flat_map (λ w. chosen (v ∷ w ∷ [])) second
-
-  abbrev pub chosen_twos : List VarId → List VarId → List (RowId × List VarId)
-  chosen_twos first second = flat_map (λ v. chosen_with v second) first
-
-  abbrev pub chosen_with_two : VarId → VarId → List VarId → List (RowId × List VarId)
-  chosen_with_two v w third = flat_map (λ x. chosen (v ∷ w ∷ x ∷ [])) third
-
-  abbrev pub chosen_behind : VarId → List VarId → List VarId → List (RowId × List VarId)
-  chosen_behind v second third = flat_map (λ w. chosen_with_two v w third) second
-
-  abbrev pub chosen_threes : List VarId → List VarId → List VarId → List (RowId × List VarId)
-  chosen_threes first second third = flat_map (λ v. chosen_behind v second third) first
-
-  -- those of the row that a leader touches: the first that does stands at each role in turn
-  abbrev pub chosen_touched : List VarId → List VarId → List VarId → List (RowId × List VarId)
-  chosen_touched touching others leaders =
-      if arity_of row == 1 then chosen_ones touching
-      else if arity_of row == 2 then chosen_twos touching leaders ++ chosen_twos others touching
-      else (chosen_threes touching leaders leaders ++ chosen_threes others touching leaders) ++ chosen_threes others others touching
-
--- of all rows
-unfoldable pub touched_candidates : Grammar → List VarInfo → Answer → List VarId → List VarId → List VarId → List (RowId × List VarId)
-touched_candidates grammar infos after touching others leaders = flat_map (λ row. chosen_touched infos after row touching others leaders) (rows_of grammar)
+-- the parts with what the sample leaves of the slots and what it opens
+pub record IsMergedStep (grammar : Grammar) (infos : List VarInfo) (kept : Kept) (sample : List Value) (now : Now) (lost : List ℕ) (after : Kept) : Type 0 where
+  pub slots : List Slot
+  pub together : AreTogether (left_of (outcome true (read_after kept sample) sample) kept.slots ++ opened_slots grammar infos (read_after kept sample) kept.slots now lost) slots
+  pub parts : after ≡ parts_after kept.samples kept.held sample now slots

@@ -15,7 +15,7 @@ use Rattle.dk_presence.specs.Patterns.{held_at, present_in}
 use Rattle.dk_suppress.specs.Rules.{Rule, asks, is_suppressed, rules}
 use Rattle.dk_template.specs.Admitted.{admits, is_written}
 use Rattle.dk_template.specs.Exchange.{written}
-use Rattle.dk_template.specs.Premises.{premise_fits, row_of, vars_of}
+use Rattle.dk_template.specs.Premises.{premise_fits, row_of, suffices, vars_of}
 use Rattle.dk_template.specs.Templates.{IsRowOf, rank_of}
 use Rattle.dk_template.specs.declared.answers.Premise.{Premise}
 use Rattle.dk_template.specs.declared.grammar.Grammar.{Grammar}
@@ -23,6 +23,7 @@ use Rattle.dk_template.specs.declared.grammar.RowId.{RowId}
 use Rattle.dk_engine.specs.Exact.{AreSamples, IsKeptOf, IsOverLeaders, SlotBefore}
 use Rattle.dk_engine.specs.Feeding.{with_sample}
 use Rattle.dk_engine.specs.Parts.{all_known, slot_at}
+use Rattle.dk_engine.specs.Reached.{has_row, reached}
 use Rattle.dk_engine.specs.declared.kept.Kept.{Kept}
 use Rattle.dk_engine.specs.declared.now.Now.{Now}
 use Rattle.dk_engine.specs.declared.slot.Slot.{Slot}
@@ -110,6 +111,19 @@ module _ (grammar : Grammar) (infos : List VarInfo) (before after : Answer) (slo
     pub placed : All (λ (c : RowId × List VarId). IsPlaced grammar infos now.leaders c.0 c.1) candidates
     pub touched : (row : RowId) (vars : List VarId) → IsPlaced grammar infos now.leaders row vars → IsTrue (is_touched now vars) → after row vars ≢ Broken → Contains candidates (row, vars)
     pub freed : (row : RowId) (vars : List VarId) → IsFreed row vars → Contains candidates (row, vars)
+
+-- An old slot by which a premise is lost: the premise is content with its state, and not with that after the sample. Its row reaches
+-- the row, and its leaders are among the variables.
+pub record IsFreedBy (sample : List Value) (slots : List Slot) (row : RowId) (vars : List VarId) (old : Slot) : Type 0 where
+  pub kept : Contains slots old
+  pub conclusion : RowId
+  pub premise : Premise
+  pub of_row : IsPremiseOf conclusion premise
+  pub same : old.row ≡ row_of premise
+  pub was : IsTrue (suffices premise old.state)
+  pub isnt : suffices premise (with_sample old.row old.leaders sample old.state) ≡ false
+  pub reaches : IsTrue (has_row (reached old.row) row)
+  pub among : All (Contains vars) old.leaders
 
 -- ---- slots
 abbrev pub is_empty : State → Bool

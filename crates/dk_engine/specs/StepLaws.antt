@@ -1,5 +1,5 @@
 -- The step is exact.
-use Rattle.std.specs.Prelude.{◌≡◌, ◌⊎◌, ◌↔◌, ◌+◌, ◌<◌, ℕ, suc, true, false, All, Contains, IsTrue, List, [], ◌∷◌, ◌++◌, length}
+use Rattle.std.specs.Prelude.{◌≡◌, ◌⊎◌, ◌↔◌, ◌+◌, ◌<◌, ℕ, None, suc, true, false, All, Contains, IsTrue, List, [], ◌∷◌, ◌++◌, length}
 use Rattle.dk_base.specs.declared.kinds.VarId.{VarId}
 use Rattle.dk_base.specs.declared.kinds.VarInfo.{VarInfo}
 use Rattle.dk_base.specs.declared.values.Value.{Value}
@@ -22,11 +22,12 @@ use Rattle.dk_template.specs.declared.answers.Premise.{Premise}
 use Rattle.dk_template.specs.declared.grammar.Grammar.{Grammar}
 use Rattle.dk_template.specs.declared.grammar.RowId.{RowId}
 use Rattle.dk_engine.specs.Choices.{freed_choices, touched_choices, tuples_from}
-use Rattle.dk_engine.specs.Exact.{AreOfPoint, ArePatterns, AreSlots, IsKeptOf, Lead}
+use Rattle.dk_engine.specs.Exact.{AreOfPoint, ArePatterns, AreSlots, IsKeptOf, IsSlot, Lead}
 use Rattle.dk_engine.specs.Feeding.{read_after}
+use Rattle.dk_engine.specs.Parts.{slot_at}
 use Rattle.dk_engine.specs.declared.kept.Kept.{Kept}
 use Rattle.dk_engine.specs.Reading.{ranks, read}
-use Rattle.dk_engine.specs.Step.{Answer, AreCandidates, ChangesNothing, HaveFreedBelow, IsBegunBound, IsFreed, IsPremiseOf, IsStep, IsStepped, Tells, is_touched, slot_vars}
+use Rattle.dk_engine.specs.Step.{Answer, AreCandidates, ChangesNothing, HaveFreedBelow, IsBegunBound, IsFreed, IsFreedBy, IsPremiseOf, IsStep, IsStepped, Tells, is_touched, slot_vars}
 use Rattle.dk_engine.specs.declared.now.Now.{Now}
 use Rattle.dk_engine.specs.declared.slot.Slot.{Slot}
 
@@ -82,6 +83,11 @@ pub record FreedByRank (grammar : Grammar) (infos : List VarInfo) (before after 
 
 abbrev pub FreedTuplesComeByRank : Type 0
 FreedTuplesComeByRank = (grammar : Grammar) (infos : List VarInfo) (before after : Answer) (slots : List Slot) (now : Now) → FreedByRank grammar infos before after slots now
+
+-- A tuple that has a slot now and had none, and isn't touched, has the leaders of an old slot by which a premise is lost, of a row that reaches its row.
+abbrev pub OpenedTuplesAreFreed : Type 0
+OpenedTuplesAreFreed = OfStep (λ grammar infos samples sample kept now. (slot : Slot) → IsSlot grammar infos (samples ++ sample ∷ []) now.leaders now.known slot
+    → slot_at kept.slots slot.row slot.leaders ≡ None → is_touched now slot.leaders ≡ false → (old : Slot) × IsFreedBy sample kept.slots slot.row slot.leaders old)
 
 -- A touched tuple of leaders is one of those with a first leader that touches; and a freed one is one of those with the variables of the
 -- lost premise's slot at the roles that the premise reads.

@@ -5,7 +5,7 @@ ghost use Rattle.dk_template.specs.Premises.{row_of, suffices};
 ghost use Rattle.dk_template.specs.Proper.{IsProper};
 ghost use Rattle.dk_template.specs.Templates.{form_of};
 ghost use Rattle.dk_engine.specs.Feeding.{read_after};
-ghost use Rattle.dk_engine.specs.Narrow.{AreChanges, Stays, closes, loses, loses_by, may_begin, outcome};
+ghost use Rattle.dk_engine.specs.Narrow.{AreChanges, Stays, closes, loses, loses_by, lost_places, may_begin, outcome};
 ghost use Rattle.dk_engine.specs.Step.{IsPlaced, can_close, is_empty, is_of_elements};
 
 use crate::Slot;
@@ -164,4 +164,22 @@ pub(crate) fn some_may_begin(slots: &[Slot], changes: &[Change]) -> bool
         }
     }
     false
+}
+
+/// The places of the slots by which a premise is lost.
+pub(crate) fn lost_places(
+    alloc: Global,
+    slots: &[Slot],
+    changes: &[Change],
+) -> Result<List<usize>, NoMemory>
+    requires { All (λ c. c.place < length slots.now) changes.now }
+    ensures { IfOk result (λ lost. lost ≡ lost_places slots.now changes.now) }
+{
+    let mut lost = List::new(alloc);
+    for change in changes {
+        if loses_by(slots, change) {
+            lost.push(change.place)?;
+        }
+    }
+    Ok(lost)
 }

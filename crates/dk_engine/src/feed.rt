@@ -1,5 +1,5 @@
 // One sample more.
-ghost use Rattle.std.specs.Prelude.{◌≡◌, ◌<◌, [], ◌∷◌, ◌++◌, false, IfOk, IsTrue, List};
+ghost use Rattle.std.specs.Prelude.{◌≡◌, ◌<◌, [], ◌∷◌, ◌++◌, true, false, All, IfOk, IsTrue, List, length};
 ghost use Rattle.dk_base.specs.Values.{values_of};
 ghost use Rattle.dk_base.specs.declared.values.Value.{Value as SampleValue};
 ghost use Rattle.dk_classes.specs.Leaders.{own_leaders};
@@ -8,12 +8,15 @@ ghost use Rattle.dk_presence.specs.Steps.{AreUnheld, Differ};
 ghost use Rattle.dk_engine.specs.Conditions.{AreFormed};
 ghost use Rattle.dk_engine.specs.Exact.{AreSamples, IsKeptOf};
 ghost use Rattle.dk_engine.specs.Feeding.{IsTurned, parts_after, read_after, slots_of, unturned};
-ghost use Rattle.dk_engine.specs.Narrow.{AreChanges, IsShut, left_of, outcome};
+ghost use Rattle.dk_engine.specs.Narrow.{AreChanges, IsMergedStep, IsShut, left_of, opened_slots, outcome};
 
 use crate::after::After;
-use crate::changes::{Change, changes, lose_some, some_may_begin};
+use crate::changes::{Change, changes, lose_some, lost_places, some_may_begin};
 use crate::changing::changed;
+use crate::counting::are_many;
+use crate::merging::merged;
 use crate::sweeps::Sweep;
+use crate::touching::{others, touching};
 use crate::{Engine, Kept, Now, Slots};
 use dk_base::{List, NoMemory, View};
 use dk_constants::Constants;
@@ -169,6 +172,81 @@ impl Engine {
         sweep.all(self.grammar, now.leaders.leaders())
     }
 
+    // What the sample makes of the slots, where it is asked of all that can close whether they do.
+    fn all_changes(&self, sample: &[View<'_>]) -> Result<List<Change>, NoMemory>
+        requires { IsSample self.now.infos (values_of sample.now) }
+        ensures { IfOk result (AreChanges (outcome true (read_after self.now.kept (values_of sample.now)) (values_of sample.now)) self.now.kept.slots) }
+    {
+        let after = After::of(self.alloc, self, sample);
+        changes(self.alloc, &after, true, self.kept.slots.as_slice())
+    }
+
+    // The slots that the sample opens: over tuples that it touches, and over those with the leaders of a slot by which a premise is lost.
+    fn opened(&self, sample: &[View<'_>], now: &Now, lost: &[usize]) -> Result<Slots, NoMemory>
+        requires sampled { IsSample self.now.infos (values_of sample.now) }
+        requires within { All (λ k. k < length self.now.kept.slots) lost.now }
+        ensures { IfOk result (λ slots. slots ≡ opened_slots self.now.grammar self.now.infos (read_after self.now.kept (values_of sample.now)) self.now.kept.slots now.now lost.now) }
+    {
+        let after = After::of(self.alloc, self, sample);
+        let sweep = Sweep {
+            alloc: self.alloc,
+            infos: self.infos.as_slice(),
+            known: &now.known,
+            answers: &after,
+        };
+        let touching = touching(self.alloc, now)?;
+        let others = others(self.alloc, now)?;
+        let leaders = now.leaders.leaders();
+        let touched = sweep.touched(
+            self.grammar,
+            touching.as_slice(),
+            others.as_slice(),
+            leaders,
+        )?;
+        sweep.freed_by_all(self.kept.slots.as_slice(), lost, leaders, touched)
+    }
+
+    // With what the sample leaves of the slots, and what it opens.
+    fn stepped(
+        self,
+        sample: &[View<'_>],
+        now: Now,
+        changes: List<Change>,
+        lost: &[usize],
+        opened: Slots,
+    ) -> Result<Engine, NoMemory>
+        requires sampled { IsSample self.infos (values_of sample.now) }
+        requires turned { IsTurned self.kept (values_of sample.now) now }
+        requires changes { AreChanges (outcome true (read_after self.kept (values_of sample.now)) (values_of sample.now)) self.kept.slots changes }
+        requires opened { opened ≡ opened_slots self.grammar self.infos (read_after self.kept (values_of sample.now)) self.kept.slots now lost.now }
+        requires within { All (λ k. k < length self.kept.slots) lost.now }
+        ensures grammar { IfOk result (λ e. e.grammar ≡ self.grammar) }
+        ensures infos { IfOk result (λ e. e.infos ≡ self.infos) }
+        ensures kept { IfOk result (λ e. IsMergedStep self.grammar self.infos self.kept (values_of sample.now) now lost.now e.kept) }
+    {
+        let Engine {
+            alloc,
+            grammar,
+            infos,
+            kept,
+        } = self;
+        let Kept {
+            samples,
+            held,
+            slots,
+            ..
+        } = kept;
+        let left = changed(slots, changes);
+        let slots = merged(left, opened)?;
+        let kept = parts_with(alloc, samples, held, sample, now, slots)?;
+        Ok(Engine {
+            alloc,
+            grammar,
+            infos,
+            kept,
+        })
+    }
+
     // With these parts, and the pattern of the sample.
     fn with_parts(self, sample: &[View<'_>], now: Now, slots: Slots) -> Result<Engine, NoMemory>
         requires sampled { IsSample self.infos (values_of sample.now) }
@@ -208,7 +286,14 @@ impl Engine {
             }
         }
         let now = self.turn(sample)?;
-        let slots = self.swept(sample, &now)?;
-        self.with_parts(sample, now, slots)
+        let changes = self.all_changes(sample)?;
+        let slots = self.kept.slots.as_slice();
+        let lost = lost_places(self.alloc, slots, changes.as_slice())?;
+        if self.kept.samples == 0 || are_many(&now, slots, lost.as_slice()) {
+            let slots = self.swept(sample, &now)?;
+            return self.with_parts(sample, now, slots);
+        }
+        let opened = self.opened(sample, &now, lost.as_slice())?;
+        self.stepped(sample, now, changes, lost.as_slice(), opened)
     }
 }

@@ -1,5 +1,5 @@
 //! One sample more: the step is exact.
-ghost use Rattle.dk_engine.specs.StepLaws.{FedPartsAreKept, FirstPartsAreKept, FirstSampleHasNoSlots, FreedPremisesAreUntouched, FreedTuplesAreChosen, FreedTuplesComeByRank, OwnLeadersAscend, PremisesAskTheirSlots, ReadingTells, RolesReadTheSlot, FewSlotsClose, SteppedSlotsAreExact, TouchedTuplesAreChosen, UnchangedSlotsAreExact, UnsatisfiedRowsBreak, UnsplitLeadersStay};
+ghost use Rattle.dk_engine.specs.StepLaws.{FedPartsAreKept, FirstPartsAreKept, FirstSampleHasNoSlots, FreedPremisesAreUntouched, FreedTuplesAreChosen, FreedTuplesComeByRank, OpenedTuplesAreFreed, OwnLeadersAscend, PremisesAskTheirSlots, ReadingTells, RolesReadTheSlot, FewSlotsClose, SteppedSlotsAreExact, TouchedTuplesAreChosen, UnchangedSlotsAreExact, UnsatisfiedRowsBreak, UnsplitLeadersStay};
 
 /// Slots are those of the samples with one more exactly where they are stepped: what the sample leaves of the old ones, and what the
 /// candidates open.
@@ -13,6 +13,11 @@ pub fn freed_tuples_come_by_rank()
     ensures untouched { FreedPremisesAreUntouched }
     ensures roles { RolesReadTheSlot }
     ensures chosen { FreedTuplesAreChosen }
+{}
+
+/// What the sample opens besides has the leaders of a slot by which a premise is lost.
+pub fn opened_tuples_are_freed()
+    ensures { OpenedTuplesAreFreed }
 {}
 
 /// Touched tuples can be had from the leaders that touch them.

@@ -1,11 +1,13 @@
 // The slots that answers give, over all tuples of leaders.
-ghost use Rattle.std.specs.Prelude.{◌≡◌, ◌≤◌, ◌∷◌, [], ◌++◌, IfOk, List, flat_map, length};
+ghost use Rattle.std.specs.Prelude.{◌≡◌, ◌<◌, ◌≤◌, ◌∷◌, [], ◌++◌, All, IfOk, List, length};
 ghost use Rattle.dk_base.specs.declared.kinds.VarId.{VarId};
 ghost use Rattle.dk_template.specs.Templates.{IsRowOf, arity_of};
 ghost use Rattle.dk_engine.specs.Feeding.{slots_of, slots_of_row};
-ghost use Rattle.dk_engine.specs.Sweeps.{considered, firsts, seconds, thirds};
+ghost use Rattle.dk_engine.specs.Narrow.{freed_by_all};
+ghost use Rattle.dk_engine.specs.Sweeps.{behind, considered, firsts, freed_slots, pairs, seconds, thirds, threes_with_one, threes_with_two, touched_slots, triples, twos_with_one, with_both, with_ends, with_one, with_two};
 
 use crate::constant::are_known;
+use crate::reaching::reached;
 use crate::{Slot, Slots};
 use dk_base::{NoMemory, VarId, VarInfo};
 use dk_constants::Constants;
@@ -46,93 +48,107 @@ impl<'a, A: Answers> Sweep<'a, A> {
         Ok(slots)
     }
 
-    // Those of each leader.
-    fn firsts(&self, row: RowId, leaders: &[VarId], slots: Slots) -> Result<Slots, NoMemory>
+    // Those of one leader each.
+    fn firsts(&self, row: RowId, first: &[VarId], slots: Slots) -> Result<Slots, NoMemory>
         requires { IsRowOf (A.grammar self.now.answers.now) row }
-        ensures { IfOk result (λ more. more ≡ slots ++ firsts self.now.infos.now self.now.known.now (A.answered self.now.answers.now) row leaders.now) }
+        ensures { IfOk result (λ more. more ≡ slots ++ firsts self.now.infos.now self.now.known.now (A.answered self.now.answers.now) row first.now) }
     {
         let mut slots = slots;
-        for v in leaders {
+        for v in first {
             slots = self.consider(row, &[*v], slots)?;
         }
         Ok(slots)
     }
 
-    // Those of a leader and each second one.
+    // Those of a leader and one of the list.
     fn seconds(
         &self,
         row: RowId,
         v: VarId,
-        leaders: &[VarId],
+        second: &[VarId],
         slots: Slots,
     ) -> Result<Slots, NoMemory>
         requires { IsRowOf (A.grammar self.now.answers.now) row }
-        ensures { IfOk result (λ more. more ≡ slots ++ seconds self.now.infos.now self.now.known.now (A.answered self.now.answers.now) row v leaders.now) }
+        ensures { IfOk result (λ more. more ≡ slots ++ seconds self.now.infos.now self.now.known.now (A.answered self.now.answers.now) row v second.now) }
     {
         let mut slots = slots;
-        for w in leaders {
+        for w in second {
             slots = self.consider(row, &[v, *w], slots)?;
         }
         Ok(slots)
     }
 
-    // Those of two leaders and each third one.
+    // Those of two leaders and one of the list.
     fn thirds(
         &self,
         row: RowId,
         v: VarId,
         w: VarId,
-        leaders: &[VarId],
+        third: &[VarId],
         slots: Slots,
     ) -> Result<Slots, NoMemory>
         requires { IsRowOf (A.grammar self.now.answers.now) row }
-        ensures { IfOk result (λ more. more ≡ slots ++ thirds self.now.infos.now self.now.known.now (A.answered self.now.answers.now) row v w leaders.now) }
+        ensures { IfOk result (λ more. more ≡ slots ++ thirds self.now.infos.now self.now.known.now (A.answered self.now.answers.now) row v w third.now) }
     {
         let mut slots = slots;
-        for x in leaders {
+        for x in third {
             slots = self.consider(row, &[v, w, *x], slots)?;
         }
         Ok(slots)
     }
 
-    // Those of each two leaders.
-    fn pairs(&self, row: RowId, leaders: &[VarId], slots: Slots) -> Result<Slots, NoMemory>
-        requires { IsRowOf (A.grammar self.now.answers.now) row }
-        ensures { IfOk result (λ more. more ≡ slots ++ flat_map (λ v. seconds self.now.infos.now self.now.known.now (A.answered self.now.answers.now) row v leaders.now) leaders.now) }
-    {
-        let mut slots = slots;
-        for v in leaders {
-            slots = self.seconds(row, *v, leaders, slots)?;
-        }
-        Ok(slots)
-    }
-
-    // Those of a leader, and each second and third one.
-    fn after_first(
+    // Those of two leaders, one of each list.
+    fn pairs(
         &self,
         row: RowId,
-        v: VarId,
-        leaders: &[VarId],
+        first: &[VarId],
+        second: &[VarId],
         slots: Slots,
     ) -> Result<Slots, NoMemory>
         requires { IsRowOf (A.grammar self.now.answers.now) row }
-        ensures { IfOk result (λ more. more ≡ slots ++ flat_map (λ w. thirds self.now.infos.now self.now.known.now (A.answered self.now.answers.now) row v w leaders.now) leaders.now) }
+        ensures { IfOk result (λ more. more ≡ slots ++ pairs self.now.infos.now self.now.known.now (A.answered self.now.answers.now) row first.now second.now) }
     {
         let mut slots = slots;
-        for w in leaders {
-            slots = self.thirds(row, v, *w, leaders, slots)?;
+        for v in first {
+            slots = self.seconds(row, *v, second, slots)?;
         }
         Ok(slots)
     }
 
-    // Those of each three leaders.
-    fn triples(&self, row: RowId, leaders: &[VarId], slots: Slots) -> Result<Slots, NoMemory>
+    // Those of a leader and two more, one of each list.
+    fn behind(
+        &self,
+        row: RowId,
+        v: VarId,
+        second: &[VarId],
+        third: &[VarId],
+        slots: Slots,
+    ) -> Result<Slots, NoMemory>
         requires { IsRowOf (A.grammar self.now.answers.now) row }
-        ensures { IfOk result (λ more. more ≡ slots ++ flat_map (λ v. flat_map (λ w. thirds self.now.infos.now self.now.known.now (A.answered self.now.answers.now) row v w leaders.now) leaders.now) leaders.now) }
+        ensures { IfOk result (λ more. more ≡ slots ++ behind self.now.infos.now self.now.known.now (A.answered self.now.answers.now) row v second.now third.now) }
     {
         let mut slots = slots;
-        for v in leaders {
-            slots = self.after_first(row, *v, leaders, slots)?;
+        for w in second {
+            slots = self.thirds(row, v, *w, third, slots)?;
+        }
+        Ok(slots)
+    }
+
+    // Those of three leaders, one of each list.
+    fn triples(
+        &self,
+        row: RowId,
+        first: &[VarId],
+        second: &[VarId],
+        third: &[VarId],
+        slots: Slots,
+    ) -> Result<Slots, NoMemory>
+        requires { IsRowOf (A.grammar self.now.answers.now) row }
+        ensures { IfOk result (λ more. more ≡ slots ++ triples self.now.infos.now self.now.known.now (A.answered self.now.answers.now) row first.now second.now third.now) }
+    {
+        let mut slots = slots;
+        for v in first {
+            slots = self.behind(row, *v, second, third, slots)?;
         }
         Ok(slots)
     }
@@ -146,9 +162,9 @@ impl<'a, A: Answers> Sweep<'a, A> {
         if arity == 1 {
             self.firsts(row, leaders, slots)
         } else if arity == 2 {
-            self.pairs(row, leaders, slots)
+            self.pairs(row, leaders, leaders, slots)
         } else {
-            self.triples(row, leaders, slots)
+            self.triples(row, leaders, leaders, leaders, slots)
         }
     }
 
@@ -160,6 +176,193 @@ impl<'a, A: Answers> Sweep<'a, A> {
         let mut slots = Slots::new(self.alloc);
         for n in 0..grammar.rows() {
             slots = self.of_row(RowId(n + 1), leaders, slots)?;
+        }
+        Ok(slots)
+    }
+
+    // Those of two roles with a leader of one list: it stands at each role in turn, one of a second list before it, and any behind it.
+    fn twos_with_one(
+        &self,
+        row: RowId,
+        of: &[VarId],
+        before: &[VarId],
+        leaders: &[VarId],
+        slots: Slots,
+    ) -> Result<Slots, NoMemory>
+        requires { IsRowOf (A.grammar self.now.answers.now) row }
+        ensures { IfOk result (λ more. more ≡ slots ++ twos_with_one self.now.infos.now self.now.known.now (A.answered self.now.answers.now) row of.now before.now leaders.now) }
+    {
+        let first = self.pairs(row, of, leaders, slots)?;
+        self.pairs(row, before, of, first)
+    }
+
+    // The same of three roles.
+    fn threes_with_one(
+        &self,
+        row: RowId,
+        of: &[VarId],
+        before: &[VarId],
+        leaders: &[VarId],
+        slots: Slots,
+    ) -> Result<Slots, NoMemory>
+        requires { IsRowOf (A.grammar self.now.answers.now) row }
+        ensures { IfOk result (λ more. more ≡ slots ++ threes_with_one self.now.infos.now self.now.known.now (A.answered self.now.answers.now) row of.now before.now leaders.now) }
+    {
+        let first = self.triples(row, of, leaders, leaders, slots)?;
+        let second = self.triples(row, before, of, leaders, first)?;
+        self.triples(row, before, before, of, second)
+    }
+
+    // The same of a row's roles.
+    fn with_one(
+        &self,
+        row: RowId,
+        of: &[VarId],
+        before: &[VarId],
+        leaders: &[VarId],
+        slots: Slots,
+    ) -> Result<Slots, NoMemory>
+        requires { IsRowOf (A.grammar self.now.answers.now) row }
+        ensures { IfOk result (λ more. more ≡ slots ++ with_one self.now.infos.now self.now.known.now (A.answered self.now.answers.now) row of.now before.now leaders.now) }
+    {
+        let arity = info(row).arity;
+        if arity == 1 {
+            self.firsts(row, of, slots)
+        } else if arity == 2 {
+            self.twos_with_one(row, of, before, leaders, slots)
+        } else {
+            self.threes_with_one(row, of, before, leaders, slots)
+        }
+    }
+
+    // Those of three roles with two leaders, in this order, at any two of them.
+    fn threes_with_two(
+        &self,
+        row: RowId,
+        v: VarId,
+        w: VarId,
+        leaders: &[VarId],
+        slots: Slots,
+    ) -> Result<Slots, NoMemory>
+        requires { IsRowOf (A.grammar self.now.answers.now) row }
+        ensures { IfOk result (λ more. more ≡ slots ++ threes_with_two self.now.infos.now self.now.known.now (A.answered self.now.answers.now) row v w leaders.now) }
+    {
+        let first = self.triples(row, &[v], &[w], leaders, slots)?;
+        let second = self.triples(row, &[v], leaders, &[w], first)?;
+        self.triples(row, leaders, &[v], &[w], second)
+    }
+
+    // The same of a row's roles.
+    fn with_two(
+        &self,
+        row: RowId,
+        v: VarId,
+        w: VarId,
+        leaders: &[VarId],
+        slots: Slots,
+    ) -> Result<Slots, NoMemory>
+        requires { IsRowOf (A.grammar self.now.answers.now) row }
+        ensures { IfOk result (λ more. more ≡ slots ++ with_two self.now.infos.now self.now.known.now (A.answered self.now.answers.now) row v w leaders.now) }
+    {
+        let arity = info(row).arity;
+        if arity == 1 {
+            Ok(slots)
+        } else if arity == 2 {
+            self.pairs(row, &[v], &[w], slots)
+        } else {
+            self.threes_with_two(row, v, w, leaders, slots)
+        }
+    }
+
+    // Those of a row with two leaders, which may be one.
+    fn with_ends(
+        &self,
+        row: RowId,
+        v: VarId,
+        w: VarId,
+        leaders: &[VarId],
+        slots: Slots,
+    ) -> Result<Slots, NoMemory>
+        requires { IsRowOf (A.grammar self.now.answers.now) row }
+        ensures { IfOk result (λ more. more ≡ slots ++ with_ends self.now.infos.now self.now.known.now (A.answered self.now.answers.now) row v w leaders.now) }
+    {
+        if v.0 == w.0 {
+            return self.with_one(row, &[v], leaders, leaders, slots);
+        }
+        let first = self.with_two(row, v, w, leaders, slots)?;
+        self.with_two(row, w, v, leaders, first)
+    }
+
+    // Those of a row with the first and the last of some leaders.
+    fn with_both(
+        &self,
+        row: RowId,
+        lost: &[VarId],
+        leaders: &[VarId],
+        slots: Slots,
+    ) -> Result<Slots, NoMemory>
+        requires row { IsRowOf (A.grammar self.now.answers.now) row }
+        requires some { 0 < length lost.now }
+        ensures { IfOk result (λ more. more ≡ slots ++ with_both self.now.infos.now self.now.known.now (A.answered self.now.answers.now) row lost.now leaders.now) }
+    {
+        self.with_ends(row, lost[0], lost[lost.len() - 1], leaders, slots)
+    }
+
+    /// Those of all rows with a leader that touches them, by the first one that does.
+    pub(crate) fn touched(
+        &self,
+        grammar: Grammar,
+        touching: &[VarId],
+        others: &[VarId],
+        leaders: &[VarId],
+    ) -> Result<Slots, NoMemory>
+        requires { A.grammar self.now.answers.now ≡ grammar }
+        ensures { IfOk result (λ slots. slots ≡ touched_slots grammar self.now.infos.now self.now.known.now (A.answered self.now.answers.now) touching.now others.now leaders.now) }
+    {
+        let mut slots = Slots::new(self.alloc);
+        if touching.is_empty() {
+            return Ok(slots);
+        }
+        for n in 0..grammar.rows() {
+            slots = self.with_one(RowId(n + 1), touching, others, leaders, slots)?;
+        }
+        Ok(slots)
+    }
+
+    /// Those of the rows that a row frees, with the leaders of its lost slot.
+    pub(crate) fn freed(
+        &self,
+        row: RowId,
+        lost: &[VarId],
+        leaders: &[VarId],
+        slots: Slots,
+    ) -> Result<Slots, NoMemory>
+        requires { 0 < length lost.now }
+        ensures { IfOk result (λ more. more ≡ slots ++ freed_slots self.now.infos.now self.now.known.now (A.answered self.now.answers.now) leaders.now row lost.now) }
+    {
+        let mut slots = slots;
+        for freed in reached(row) {
+            slots = self.with_both(*freed, lost, leaders, slots)?;
+        }
+        Ok(slots)
+    }
+
+    /// Those that the slots at these places free.
+    pub(crate) fn freed_by_all(
+        &self,
+        kept: &[Slot],
+        lost: &[usize],
+        leaders: &[VarId],
+        slots: Slots,
+    ) -> Result<Slots, NoMemory>
+        requires within { All (λ k. k < length kept.now) lost.now }
+        requires some { All (λ s. 0 < length s.leaders) kept.now }
+        ensures { IfOk result (λ more. more ≡ slots ++ freed_by_all self.now.infos.now self.now.known.now (A.answered self.now.answers.now) leaders.now kept.now lost.now) }
+    {
+        let mut slots = slots;
+        for place in lost {
+            let slot = &kept[*place];
+            slots = self.freed(slot.row, slot.leaders.as_slice(), leaders, slots)?;
         }
         Ok(slots)
     }

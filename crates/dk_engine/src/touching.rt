@@ -2,7 +2,7 @@
 ghost use Rattle.std.specs.Prelude.{◌≡◌, IfOk, is_some};
 ghost use Rattle.dk_constants.specs.Known.{known_at};
 ghost use Rattle.dk_engine.specs.Choices.{others, touching};
-ghost use Rattle.dk_engine.specs.Step.{is_new, is_touched, touches};
+ghost use Rattle.dk_engine.specs.Step.{is_new, touches};
 
 use crate::Now;
 use dk_base::{List, NoMemory, Value, VarId};
@@ -37,18 +37,6 @@ pub(crate) fn touches(now: &Now, v: VarId) -> bool
     ensures { result ≡ touches now.now v }
 {
     is_new(now.new.as_slice(), v) || has_ended(now.ended.as_slice(), v)
-}
-
-/// Whether one of the leaders touches the tuple.
-pub(crate) fn is_touched(now: &Now, vars: &[VarId]) -> bool
-    ensures { result ≡ is_touched now.now vars.now }
-{
-    for v in vars {
-        if touches(now, *v) {
-            return true;
-        }
-    }
-    false
 }
 
 /// The leaders that touch a tuple.

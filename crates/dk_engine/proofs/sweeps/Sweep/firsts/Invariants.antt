@@ -3,4 +3,4 @@ use Rattle.dk_engine.specs.Sweeps.{firsts}
 use Rattle.dk_engine.proofs.sweeps.Sweep.firsts.Given as goal
 
 abbrev pub invariant-loop-v : goal.invariant-loop-v
-invariant-loop-v g l = l.slots ≡ l.initial.slots ++ firsts l.self.infos.now l.self.known.now (g.A.Answers.answered l.self.answers.now) l.row (take l.v-index l.leaders)
+invariant-loop-v g l = l.slots ≡ l.initial.slots ++ firsts l.self.infos.now l.self.known.now (g.A.Answers.answered l.self.answers.now) l.row (take l.v-index l.first)

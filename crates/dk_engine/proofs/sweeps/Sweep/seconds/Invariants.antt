@@ -3,4 +3,4 @@ use Rattle.dk_engine.specs.Sweeps.{seconds}
 use Rattle.dk_engine.proofs.sweeps.Sweep.seconds.Given as goal
 
 abbrev pub invariant-loop-w : goal.invariant-loop-w
-invariant-loop-w g l = l.slots ≡ l.initial.slots ++ seconds l.self.infos.now l.self.known.now (g.A.Answers.answered l.self.answers.now) l.row l.v (take l.w-index l.leaders)
+invariant-loop-w g l = l.slots ≡ l.initial.slots ++ seconds l.self.infos.now l.self.known.now (g.A.Answers.answered l.self.answers.now) l.row l.v (take l.w-index l.second)

@@ -1,0 +1,122 @@
+-- The rows that a row reaches: those that it frees, and those that these reach.
+use Rattle.std.specs.Prelude.{◌≡◌, ◌<◌, ◌≤◌, ◌==◌, ℕ, Bool, true, All, Contains, List, [], length, map, nat_le, refl, slice_index_or}
+use Rattle.std.specs.List.{list_all}
+use Rattle.std.proofs.Common.{ap, ◌∙◌, arith, get_or, inl, inr, subst, sym, Bor}
+use Rattle.std.proofs.lemmas.Bool.{cases_lt, eqb-true, leb-true}
+use Rattle.std.proofs.lemmas.List.{get_or-map, get_or_past, length-map}
+use Rattle.std.proofs.lemmas.List.Elements.{All-contains, Contains-get_or}
+use Rattle.std.proofs.lemmas.List.Folds.{Any-from_list_any}
+use Rattle.std.proofs.lemmas.List.Sums.{AllPass-from_list_all}
+use Rattle.dk_suppress.specs.Rules.{Rule, freed, rules}
+use Rattle.dk_template.specs.Premises.{row_of}
+use Rattle.dk_template.specs.Templates.{IsRowOf}
+use Rattle.dk_template.specs.declared.answers.Premise.{Premise}
+use Rattle.dk_template.specs.declared.grammar.Grammar.{Grammar}
+use Rattle.dk_template.specs.declared.grammar.Grammar.TheVariants as grammar
+use Rattle.dk_template.specs.declared.grammar.RowId.{RowId}
+use Rattle.dk_engine.proofs.PremiseSlots.{passes}
+use Rattle.dk_engine.specs.Reached.{has_row, reached, reached_by_number, reached_from}
+use Rattle.dk_engine.specs.Step.{IsPremiseOf}
+
+-- ---- tests of a table
+abbrev at : List (List RowId) → ℕ → List RowId
+at table n = slice_index_or table n []
+
+-- each premise's row reaches its conclusion
+abbrev has_conclusions : List (List RowId) → Bool
+has_conclusions table = list_all (λ (r : Rule). list_all (λ p. has_row (at table (row_of p).0) r.0) r.1) rules
+
+-- what a row of a list reaches stands in it
+abbrev is_closed : List (List RowId) → List RowId → Bool
+is_closed table rows = list_all (λ (q : RowId). list_all (has_row rows) (at table q.0)) rows
+
+abbrev are_closed : List (List RowId) → Bool
+are_closed table = list_all (is_closed table) table
+
+abbrev is_row : RowId → Bool
+is_row r = nat_le 1 r.0
+
+abbrev is_low : RowId → Bool
+is_low r = nat_le r.0 66
+
+abbrev are_rows : List (List RowId) → Bool
+are_rows table = list_all (list_all is_row) table
+
+abbrev are_low : List (List RowId) → Bool
+are_low table = list_all (list_all is_low) table
+
+-- ---- the table passes them
+conclusions_there : has_conclusions reached_by_number ≡ true
+unfolding reached_by_number reached_from freed rules
+conclusions_there = refl
+
+all_closed : are_closed reached_by_number ≡ true
+unfolding reached_by_number reached_from freed rules
+all_closed = refl
+
+all_rows : are_rows reached_by_number ≡ true
+unfolding reached_by_number reached_from freed rules
+all_rows = refl
+
+all_low : are_low reached_by_number ≡ true
+unfolding reached_by_number reached_from freed rules
+all_low = refl
+
+-- ---- what is read of it
+-- a test that all lists of the table pass
+read_passes : (test : List RowId → Bool) → test [] ≡ true → list_all test reached_by_number ≡ true → (row : RowId) → test (reached row) ≡ true
+unfolding reached
+read_passes test empty all row = elim (cases_lt row.0 (length reached_by_number)) [
+  | inl l ↦
+      let there = Contains-get_or reached_by_number row.0 [] l in
+      All-contains (λ rows. test rows ≡ true) reached_by_number (get_or reached_by_number row.0 []) (AllPass-from_list_all test reached_by_number all) there
+  | inr past ↦ ap test (get_or_past reached_by_number row.0 [] past) ∙ empty
+]
+
+pub reached_directly : (row : RowId) (p : Premise) → IsPremiseOf row p → has_row (reached (row_of p)) row ≡ true
+unfolding reached
+reached_directly row p of = subst (λ (r : RowId). has_row (at reached_by_number (row_of p).0) r ≡ true) of.concludes (passes (λ r q. has_row (at reached_by_number (row_of q).0) r.0) conclusions_there row p of)
+
+-- a row that is there is one of the list
+listed : (rows : List RowId) (row : RowId) → has_row rows row ≡ true → Contains rows row
+listed rows row h =
+    let found = Any-from_list_any (λ (r : RowId). r.0 == row.0) rows h in
+    let same : found.1 ≡ row = ap (λ (n : ℕ). record { 0 = n }) (eqb-true found.1.0 row.0 found.4) in
+    subst (Contains rows) same (found.0, found.2, found.3)
+
+pub reached_listed : (row other : RowId) → has_row (reached row) other ≡ true → Contains (reached row) other
+reached_listed row other h = listed (reached row) other h
+
+closed_at : (row : RowId) → is_closed reached_by_number (reached row) ≡ true
+closed_at row = read_passes (is_closed reached_by_number) refl all_closed row
+
+pub reached_further : (p q r : RowId) → has_row (reached p) q ≡ true → has_row (reached q) r ≡ true → has_row (reached p) r ≡ true
+unfolding reached
+reached_further p q r there further =
+    let here = listed (reached p) q there in
+    let each = All-contains (λ (s : RowId). list_all (has_row (reached p)) (at reached_by_number s.0) ≡ true) (reached p) q (AllPass-from_list_all (λ (s : RowId). list_all (has_row (reached p)) (at reached_by_number s.0)) (reached p) (closed_at p)) here in
+    let behind = listed (reached q) r further in
+    All-contains (λ s. has_row (reached p) s ≡ true) (reached q) r (AllPass-from_list_all (has_row (reached p)) (reached q) each) behind
+
+-- all of them are rows of either grammar
+pub reached_rows : (g : Grammar) (row : RowId) → All (IsRowOf g) (reached row)
+reached_rows g row k d l =
+    let low = AllPass-from_list_all is_row (reached row) (read_passes (list_all is_row) refl all_rows row) k d l in
+    let high = AllPass-from_list_all is_low (reached row) (read_passes (list_all is_low) refl all_low row) k d l in
+    let r : RowId = get_or (reached row) k d in
+    of_either g r (leb-true 1 r.0 low) (leb-true r.0 66 high)
+  where
+    of_either : (h : Grammar) (r : RowId) → 1 ≤ r.0 → r.0 ≤ 66 → IsRowOf h r
+    of_either grammar.One r low high = (low, high)
+    of_either grammar.Two r low high = (low, omega (arith, high))
+
+-- ---- the code's table
+module _ (items : List (Bor (List RowId))) (known : map (λ r. r.now) items ≡ reached_by_number) (row : RowId) where
+  pub reached_found : (found : Bor (List RowId)) → row.0 < length items → found ≡ slice_index_or items row.0 found → found.now ≡ reached row
+  unfolding reached
+  reached_found found within is =
+      ap (λ (r : Bor (List RowId)). r.now) is ∙ (sym (get_or-map (λ (r : Bor (List RowId)). r.now) items row.0 found [] within) ∙ ap (λ l. slice_index_or l row.0 []) known)
+
+  pub reached_past : length items ≤ row.0 → reached row ≡ []
+  unfolding reached
+  reached_past past = get_or_past reached_by_number row.0 [] (subst (λ n. n ≤ row.0) (sym (length-map items (λ (r : Bor (List RowId)). r.now)) ∙ ap length known) past)

@@ -1,0 +1,19 @@
+use Rattle.std.specs.Prelude.{◌≡◌, ◌++◌, ◌∷◌, []}
+use Rattle.std.proofs.Common.{ap, ◌∙◌, append_assoc}
+use Rattle.std.proofs.lemmas.Result.{IfOk-weaker}
+use Rattle.dk_engine.specs.Sweeps.{threes_with_two, triples}
+use Rattle.dk_engine.proofs.sweeps.Sweep.threes_with_two.Goals as goal
+
+pub returns : goal.returns
+returns g c =
+    let s = c.args.self.now in
+    let answered = g.A.Answers.answered s.answers.now in
+    let row = c.args.row in
+    let v = c.args.v in
+    let w = c.args.w in
+    let leaders = c.args.leaders.now in
+    let t = triples s.infos.now s.known.now answered row (v ∷ []) (w ∷ []) leaders in
+    let u = triples s.infos.now s.known.now answered row (v ∷ []) leaders (w ∷ []) in
+    let x = triples s.infos.now s.known.now answered row leaders (v ∷ []) (w ∷ []) in
+    IfOk-weaker c.triples-3.result (λ more. more ≡ c.in_ok-second.second ++ x) (λ more. more ≡ c.args.slots ++ threes_with_two s.infos.now s.known.now answered row v w leaders)
+    (λ more e. e ∙ (ap (λ ss. ss ++ x) (c.in_ok-second.ensures ∙ ap (λ ss. ss ++ u) c.in_ok-first.ensures) ∙ (ap (λ ss. ss ++ x) (append_assoc c.args.slots t u) ∙ append_assoc c.args.slots (t ++ u) x))) c.triples-3.ensures
