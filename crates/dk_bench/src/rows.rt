@@ -1,8 +1,8 @@
 // What a sample costs for each row of the grammar: where it changes no slot of a run, and where each slot is joined with it.
-ghost use Rattle.std.specs.Prelude.{◌≡◌, ◌≤◌, IfOk, true};
+ghost use Rattle.std.specs.Prelude.{◌≡◌, ◌≤◌, IfOk, IfSome, length, true};
 ghost use Rattle.dk_base.specs.Values.{values_of};
 ghost use Rattle.dk_bench.specs.Slots.{AreOver};
-ghost use Rattle.dk_fits.specs.Fits.{is_whole, tuple_in};
+ghost use Rattle.dk_fits.specs.Fits.{is_whole};
 ghost use Rattle.dk_fits.specs.Laws.{IsSample};
 ghost use Rattle.dk_grammar.specs.Runs.{IsSlot};
 ghost use Rattle.dk_template.specs.Admitted.{admits as are_admitted};
@@ -10,7 +10,7 @@ ghost use Rattle.dk_template.specs.Proper.{IsProper};
 ghost use Rattle.dk_template.specs.Rows.{IsTuple};
 ghost use Rattle.dk_template.specs.Templates.{IsRow, form_of, kinds_of};
 
-use crate::samples::{VARIABLES, sample_at, variables};
+use crate::samples::{sample_at, variables};
 use crate::slot::RowSlot;
 use crate::timing::nanos_each;
 use bumpalo::Bump;
@@ -110,7 +110,35 @@ fn state_over(
     with_sample(alloc, row, vars, &two, c)
 }
 
-// Slots over tuples of the variables that the row admits, which fit in three samples.
+// A slot over a tuple of the variables, where the row admits it and fits in three samples.
+fn slot_over(
+    alloc: Global,
+    row: RowId,
+    infos: &[VarInfo],
+    vars: &[VarId],
+    a: &[View<'_>],
+    b: &[View<'_>],
+    c: &[View<'_>],
+) -> Result<Option<RowSlot>, NoMemory>
+    requires row { IsRow row }
+    requires few { length vars.now ≤ 3 }
+    requires a { IsSample infos.now (values_of a.now) }
+    requires b { IsSample infos.now (values_of b.now) }
+    requires c { IsSample infos.now (values_of c.now) }
+    ensures { IfOk result (λ found. IfSome found (λ slot. (are_admitted row infos.now slot.vars ≡ true) × IsProper (form_of row) slot.state)) }
+{
+    if !admits(row, infos, vars) {
+        return Ok(None);
+    }
+    let state = state_over(alloc, row, infos, vars, a, b, c)?;
+    if !fits(&state) {
+        return Ok(None);
+    }
+    let vars = Tuple::of(alloc, vars);
+    Ok(Some(RowSlot { vars, state }))
+}
+
+// Slots over tuples of the variables.
 fn slots_of(
     alloc: Global,
     row: RowId,
@@ -126,22 +154,16 @@ fn slots_of(
     ensures a { IfOk result (λ slots. AreOver row (values_of a.now) slots.items) }
     ensures b { IfOk result (λ slots. AreOver row (values_of b.now) slots.items) }
 {
-    let arity = info(row).arity as usize;
+    let arity = (info(row).arity as usize).min(3);
     let mut slots = Vec::new(alloc);
     for n in 0..20_000u32 {
         if slots.len() == SLOTS {
             return Ok(slots);
         }
         let all = [VarId(n % 10), VarId(n / 10 % 10), VarId(n / 100 % 10)];
-        let vars = &all[..arity];
-        if admits(row, infos, vars) {
-            let state = state_over(alloc, row, infos, vars, a, b, c)?;
-            if fits(&state) {
-                slots.push(RowSlot {
-                    vars: Tuple::of(alloc, vars),
-                    state,
-                })?;
-            }
+        match slot_over(alloc, row, infos, &all[..arity], a, b, c)? {
+            Some(slot) => slots.push(slot)?,
+            None => continue,
         }
     }
     Ok(slots)
@@ -218,32 +240,80 @@ fn plain_nanos(rt: &(impl Clock + AllocGlobal)) -> io::Result<f64> {
     nanos_each(rt, || plain(&a, &b, &pairs), 200.0 * f64::from(TURNS))
 }
 
-// One line of the table: the plain loop, and for each slot of the row a sample that changes none, and a point and a join.
+// The nanoseconds for each slot, of a sample that changes none.
+fn unchanged_nanos(
+    rt: &impl Clock,
+    row: RowId,
+    run: &[RowSlot],
+    a: &[View<'_>],
+    b: &[View<'_>],
+    looks: f64,
+) -> io::Result<f64>
+    requires row { IsRow row }
+    requires a { AreOver row (values_of a.now) run.now }
+    requires b { AreOver row (values_of b.now) run.now }
+{
+    nanos_each(rt, || unchanged(row, run, a, b), looks)
+}
+
+// The nanoseconds for each slot, of a point and a join.
+fn joined_nanos(
+    rt: &(impl Clock + AllocGlobal),
+    row: RowId,
+    run: &[RowSlot],
+    a: &[View<'_>],
+    looks: f64,
+) -> io::Result<f64>
+    requires row { IsRow row }
+    requires a { AreOver row (values_of a.now) run.now }
+{
+    let alloc = rt.alloc();
+    nanos_each(rt, || joined(alloc, row, run, a).unwrap_or(0), looks)
+}
+
+// One line of the table, for slots of the row: the plain loop, a sample that changes none, and a point and a join.
+fn print_run(
+    rt: &(impl Print + Clock + AllocGlobal),
+    row: RowId,
+    run: &[RowSlot],
+    a: &[View<'_>],
+    b: &[View<'_>],
+) -> io::Result<()>
+    requires row { IsRow row }
+    requires a { AreOver row (values_of a.now) run.now }
+    requires b { AreOver row (values_of b.now) run.now }
+{
+    let slots = run.len().min(SLOTS) as u32;
+    let looks = f64::from(slots) * f64::from(TURNS);
+    let plain = plain_nanos(rt)?;
+    let stays = unchanged_nanos(rt, row, run, a, b, looks)?;
+    let joins = joined_nanos(rt, row, run, a, looks)?;
+    println!(rt;
+        "{:>3} {slots:>6} {plain:>8.2} {stays:>8.2} {joins:>8.1}",
+        row.0
+    )
+}
+
+// One line of the table.
 fn print_line(rt: &(impl Print + Clock + AllocGlobal), row: RowId) -> io::Result<()>
     requires { IsRow row }
 {
     let alloc = rt.alloc();
     let arena = Bump::new(alloc);
     let infos = variables(alloc, row)?;
-    let (Ok(a), Ok(b), Ok(c)) = (
-        sample_at(alloc, &arena, row, &infos, 0),
-        sample_at(alloc, &arena, row, &infos, 1),
-        sample_at(alloc, &arena, row, &infos, 2),
-    ) else {
+    let Ok(a) = sample_at(alloc, &arena, row, &infos, 0) else {
         return Err(AllocError.into());
     };
-    let Ok(run) = slots_of(alloc, row, &infos, &a, &b, &c) else {
+    let Ok(b) = sample_at(alloc, &arena, row, &infos, 1) else {
         return Err(AllocError.into());
     };
-    let slots = run.len() as u32;
-    let things = f64::from(slots) * f64::from(TURNS);
-    let loops = plain_nanos(rt)?;
-    let stays = nanos_each(rt, || unchanged(row, &run, &a, &b), things)?;
-    let joins = nanos_each(rt, || joined(alloc, row, &run, &a).unwrap_or(0), things)?;
-    println!(rt;
-        "{:>3} {slots:>6} {loops:>8.2} {stays:>8.2} {joins:>8.1}",
-        row.0
-    )
+    let Ok(c) = sample_at(alloc, &arena, row, &infos, 2) else {
+        return Err(AllocError.into());
+    };
+    match slots_of(alloc, row, &infos, &a, &b, &c) {
+        Ok(run) => print_run(rt, row, &run, &a, &b),
+        Err(_) => Err(AllocError.into()),
+    }
 }
 
 /// Prints the table.

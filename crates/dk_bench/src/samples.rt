@@ -49,12 +49,23 @@ fn number(row: RowId, place: u8, time: u8) -> i64
         17 => 1,
         26 | 29 => 1 << place,
         49..=56 => place + 2,
-        67 => place + place * time + (10 - place) * time * time,
-        _ => (place + 1) * (time + 1),
+        67 => place
+            .wrapping_mul(time.wrapping_add(1))
+            .wrapping_add((10 - place).wrapping_mul(time).wrapping_mul(time)),
+        _ => (place + 1).wrapping_mul(time + 1),
     }
 }
 
-// The numbers of a sequence: equal, falling or rising.
+// Eight numbers with one step between them.
+fn terms(first: i64, step: i64) -> [i64; 8] {
+    let mut terms = [first; 8];
+    for place in 1..8usize {
+        terms[place] = terms[place - 1].wrapping_add(step);
+    }
+    terms
+}
+
+// The first number of a sequence, and the step to the next: equal numbers, falling or rising ones.
 fn numbers(row: RowId, place: u8, time: u8) -> (i64, i64)
     requires place { place < 10 }
     requires time { time < 3 }
@@ -82,16 +93,9 @@ fn text_of(alloc: Global, row: RowId, kind: Kind, place: u8, time: u8) -> Result
         Kind::HashSeq => format!(in alloc; "[7 7 7 7 7 7 7 7]"),
         Kind::StrSeq => format!(in alloc; "[\"word 1\" \"word 1\" \"word 1\"]"),
         Kind::IntSeq => {
-            let (a, d) = numbers(row, place, time);
-            let (b, c) = (a + d, a + 2 * d);
-            format!(in alloc;
-                "[{a} {b} {c} {} {} {} {} {}]",
-                b + 2 * d,
-                c + 2 * d,
-                b + 4 * d,
-                c + 4 * d,
-                b + 6 * d
-            )
+            let (first, step) = numbers(row, place, time);
+            let [a, b, c, d, e, f, g, h] = terms(first, step);
+            format!(in alloc; "[{a} {b} {c} {d} {e} {f} {g} {h}]")
         }
     }
 }
@@ -109,7 +113,13 @@ pub fn sample_at<'a>(
 {
     let mut sample = Vec::new(alloc);
     for (place, info) in infos.iter().enumerate() {
-        let text = text_of(alloc, row, info.kind, place as u8 % VARIABLES, time)?;
+        let text = text_of(
+            alloc,
+            row,
+            info.kind,
+            (place % VARIABLES as usize) as u8,
+            time,
+        )?;
         match parse_value(arena, info.kind, text.as_bytes()) {
             Ok(value) => sample.push(value)?,
             Err(_) => return Err(NoMemory),

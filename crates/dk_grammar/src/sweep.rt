@@ -1,12 +1,13 @@
 // The first slot of a run that a sample changes, of a row in its own type.
-ghost use Rattle.std.specs.Prelude.{◌≡◌, ◌↔◌, All, IsTrue};
-ghost use Rattle.dk_base.specs.Values.{values_of};
+ghost use Rattle.std.specs.Prelude.{◌≡◌, ◌<◌, ◌↔◌, All, IsTrue, length};
+ghost use Rattle.dk_base.specs.Values.{value_of, values_of};
 ghost use Rattle.dk_fits.specs.Fits.{is_whole, tuple_in};
 ghost use Rattle.dk_grammar.specs.Runs.{IsFirstWithout, IsSlot, Stays};
+ghost use Rattle.dk_samples.specs.Samples.{value_in};
 
 use crate::Slot;
 use dk_base::{VarId, View};
-use dk_samples::{is_present, value_at};
+use dk_samples::is_present;
 use dk_template::{Row, State};
 
 // Whether no value of the tuple is missing.
@@ -20,6 +21,15 @@ fn is_whole(tuple: &[View<'_>]) -> bool
         }
     }
     true
+}
+
+// The value of a variable that is there.
+#[inline(always)]
+fn view_at<'a>(sample: &[View<'a>], v: VarId) -> View<'a>
+    requires { v.0 < length sample.now }
+    ensures { value_of result ≡ value_in (values_of sample.now) v }
+{
+    sample[v.0 as usize]
 }
 
 // Whether a sample, in which the variables have the values of the tuple, leaves a state of theirs as it is.
@@ -49,16 +59,16 @@ fn stays_over<R: Row>(row: &R, vars: &[VarId], state: &State, sample: &[View<'_>
     ensures { IsTrue result ↔ Stays (R.form row.now) (R.state_of row.now) (values_of sample.now) vars.now state.now }
 {
     match vars {
-        [v] => tuple_stays(row, vars, state, sample, &[value_at(sample, *v)]),
+        [v] => tuple_stays(row, vars, state, sample, &[view_at(sample, *v)]),
         [v, w] => {
-            let tuple = [value_at(sample, *v), value_at(sample, *w)];
+            let tuple = [view_at(sample, *v), view_at(sample, *w)];
             tuple_stays(row, vars, state, sample, &tuple)
         }
         [u, v, w] => {
             let tuple = [
-                value_at(sample, *u),
-                value_at(sample, *v),
-                value_at(sample, *w),
+                view_at(sample, *u),
+                view_at(sample, *v),
+                view_at(sample, *w),
             ];
             tuple_stays(row, vars, state, sample, &tuple)
         }
@@ -66,7 +76,9 @@ fn stays_over<R: Row>(row: &R, vars: &[VarId], state: &State, sample: &[View<'_>
     }
 }
 
-/// The first slot of a run of slots of one row that a sample changes.
+/// The first slot of a run of slots of one row that a sample changes. It is built into each place that calls it, so that no slot asks
+/// again which row it is.
+#[inline(always)]
 pub(crate) fn first_changed_by<R: Row, S: Slot>(
     row: &R,
     run: &[S],
