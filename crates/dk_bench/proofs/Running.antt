@@ -5,7 +5,7 @@ use Rattle.std.proofs.lemmas.List.Elements.{All-append, All-cons, All-nil}
 use Rattle.dk_base.specs.declared.kinds.VarId.{VarId}
 use Rattle.dk_base.specs.declared.kinds.VarInfo.{VarInfo}
 use Rattle.dk_base.specs.declared.values.Value.{Value}
-use Rattle.dk_bench.specs.Slots.{AreOver}
+use Rattle.dk_bench.specs.Slots.{AreOver, vars_of}
 use Rattle.dk_bench.specs.declared.slot.RowSlot.{RowSlot}
 use Rattle.dk_fits.specs.Fits.{is_whole, tuple_in}
 use Rattle.dk_fits.specs.Laws.{IsSample}
@@ -32,23 +32,12 @@ point_is_proper row is tuple of state e =
     subst (IsProper (form_of row)) (sym e) ((laws_of row is).proper (tuple ∷ []) (All-cons (IsTuple (kinds_of row)) tuple [] of (All-nil (IsTuple (kinds_of row)))))
 
 -- ---- slots
-pub tuple_of : (row : RowId) (sample : List Value) (vars : List VarId) (state : State) → IsSlot (kinds_of row) (form_of row) sample vars state
-    → (tuple : List Value) → tuple ≡ tuple_in vars sample → is_whole tuple ≡ true → IsTuple (kinds_of row) tuple
-tuple_of row sample vars state slot tuple e w = subst (IsTuple (kinds_of row)) (sym e) (slot.tuple (ap is_whole (sym e) ∙ w))
-
 pub one_more : (row : RowId) (sample : List Value) (slots : List RowSlot) (slot : RowSlot) → AreOver row sample slots
-    → IsSlot (kinds_of row) (form_of row) sample slot.vars slot.state → AreOver row sample (slots ++ slot ∷ [])
+    → IsSlot (kinds_of row) (form_of row) sample (vars_of slot) slot.state → AreOver row sample (slots ++ slot ∷ [])
 one_more row sample slots slot before is =
-    let P : RowSlot → Type 0 = λ s. IsSlot (kinds_of row) (form_of row) sample s.vars s.state in
+    let P : RowSlot → Type 0 = λ s. IsSlot (kinds_of row) (form_of row) sample (vars_of s) s.state in
     All-append P slots (slot ∷ []) before (All-cons P slot [] is (All-nil P))
 
-pub slot_over : (row : RowId) (infos : List VarInfo) (sample : List Value) → IsSample infos sample → (slots : List RowSlot) (slot : RowSlot) → admits row infos slot.vars ≡ true → IsProper (form_of row) slot.state
+pub slot_over : (row : RowId) (infos : List VarInfo) (sample : List Value) → IsSample infos sample → (slots : List RowSlot) (slot : RowSlot) → admits row infos (vars_of slot) ≡ true → IsProper (form_of row) slot.state
     → AreOver row sample slots → AreOver row sample (slots ++ slot ∷ [])
-slot_over row infos sample is slots slot a proper before = one_more row sample slots slot before (slot_of row infos sample is slot.vars a slot.state proper)
-
--- one that is read from the run
-pub slot_read : (row : RowId) (sample : List Value) (run : List RowSlot) (n : ℕ) (slot : RowSlot) → n < length run → slot ≡ get_or run n slot → AreOver row sample run
-    → (vars : List VarId) → vars ≡ slot.vars → IsSlot (kinds_of row) (form_of row) sample vars slot.state
-slot_read row sample run n slot within is all vars v =
-    subst (λ (w : List VarId). IsSlot (kinds_of row) (form_of row) sample w slot.state) (sym v)
-    (subst (λ (s : RowSlot). IsSlot (kinds_of row) (form_of row) sample s.vars s.state) (sym is) (all n slot within))
+slot_over row infos sample is slots slot a proper before = one_more row sample slots slot before (slot_of row infos sample is (vars_of slot) a slot.state proper)

@@ -1,6 +1,7 @@
 //! A benchmark: how long the scans of sequences and the rows take, beside plain loops; and traces for measuring how fast they are read.
 #![tactic(auto)]
 
+mod lending;
 mod rows;
 mod samples;
 mod scans;

@@ -1,7 +1,7 @@
 // What a sample costs for each row of the grammar: where it changes no slot of a run, and where each slot is joined with it.
 ghost use Rattle.std.specs.Prelude.{◌≡◌, ◌≤◌, IfOk, IfSome, length, true};
 ghost use Rattle.dk_base.specs.Values.{values_of};
-ghost use Rattle.dk_bench.specs.Slots.{AreOver};
+ghost use Rattle.dk_bench.specs.Slots.{AreOver, vars_of};
 ghost use Rattle.dk_fits.specs.Fits.{is_whole};
 ghost use Rattle.dk_fits.specs.Laws.{IsSample};
 ghost use Rattle.dk_grammar.specs.Runs.{IsSlot};
@@ -10,14 +10,15 @@ ghost use Rattle.dk_template.specs.Proper.{IsProper};
 ghost use Rattle.dk_template.specs.Rows.{IsTuple};
 ghost use Rattle.dk_template.specs.Templates.{IsRow, form_of, kinds_of};
 
+use crate::lending::slot_of;
 use crate::samples::{sample_at, variables};
 use crate::slot::RowSlot;
 use crate::timing::nanos_each;
 use bumpalo::Bump;
 use dk_base::{NoMemory, VarId, VarInfo, View};
-use dk_grammar::{first_changed, join, point};
+use dk_grammar::{Slot, first_changed, join, point};
 use dk_samples::{is_present, value_at};
-use dk_template::{RowId, State, Tuple, admits, fits, info};
+use dk_template::{RowId, State, admits, fits, info};
 use std::alloc::{AllocError, Global};
 use std::io;
 use std::time::Clock;
@@ -125,7 +126,7 @@ fn slot_over(
     requires a { IsSample infos.now (values_of a.now) }
     requires b { IsSample infos.now (values_of b.now) }
     requires c { IsSample infos.now (values_of c.now) }
-    ensures { IfOk result (λ found. IfSome found (λ slot. (are_admitted row infos.now slot.vars ≡ true) × IsProper (form_of row) slot.state)) }
+    ensures { IfOk result (λ found. IfSome found (λ slot. (are_admitted row infos.now (vars_of slot) ≡ true) × IsProper (form_of row) slot.state)) }
 {
     if !admits(row, infos, vars) {
         return Ok(None);
@@ -134,8 +135,7 @@ fn slot_over(
     if !fits(&state) {
         return Ok(None);
     }
-    let vars = Tuple::of(alloc, vars);
-    Ok(Some(RowSlot { vars, state }))
+    Ok(Some(slot_of(vars, state)))
 }
 
 // Slots over tuples of the variables.
@@ -207,7 +207,7 @@ fn joined(alloc: Global, row: RowId, run: &[RowSlot], a: &[View<'_>]) -> Result<
     let mut found = 0u64;
     for _ in 0..TURNS {
         for slot in run {
-            let state = with_sample(alloc, row, slot.vars.as_slice(), &slot.state, a)?;
+            let state = with_sample(alloc, row, slot.vars(), &slot.state, a)?;
             found = found.wrapping_add(fits(&state) as u64);
         }
     }

@@ -1,25 +1,14 @@
 // Slots of a row.
-use dk_base::VarId;
-use dk_grammar::Slot;
-use dk_template::{State, Tuple};
+ghost use Rattle.std.specs.Prelude.{◌≤◌};
 
-/// Variables and a row's state over them.
+use dk_base::VarId;
+use dk_template::State;
+
+/// Up to three variables, and a row's state over them.
 #[derive(Drop)]
 pub struct RowSlot {
-    pub vars: Tuple,
+    pub vars: [VarId; 3],
+    pub count: usize,
     pub state: State,
-}
-
-impl Slot for RowSlot {
-    ghost vars = { λ slot. slot.vars };
-
-    ghost state = { λ slot. slot.state };
-
-    fn vars(&self) -> &[VarId] {
-        self.vars.as_slice()
-    }
-
-    fn state(&self) -> &State {
-        &self.state
-    }
+    pub ghost few: { count ≤ 3 },
 }
