@@ -54,7 +54,7 @@ fn tuple_stays<R: Row>(
 
 // Whether a sample leaves a state over variables as it is.
 #[inline(always)]
-fn stays_over<R: Row>(row: &R, vars: &[VarId], state: &State, sample: &[View<'_>]) -> bool
+fn stays_over_any<R: Row>(row: &R, vars: &[VarId], state: &State, sample: &[View<'_>]) -> bool
     requires { IsSlot (R.kinds row.now) (R.form row.now) (values_of sample.now) vars.now state.now }
     ensures { IsTrue result ↔ Stays (R.form row.now) (R.state_of row.now) (values_of sample.now) vars.now state.now }
 {
@@ -76,10 +76,87 @@ fn stays_over<R: Row>(row: &R, vars: &[VarId], state: &State, sample: &[View<'_>
     }
 }
 
+// The same where it is seldom asked.
+#[cold]
+#[inline(never)]
+fn stays_over_others<R: Row>(row: &R, vars: &[VarId], state: &State, sample: &[View<'_>]) -> bool
+    requires { IsSlot (R.kinds row.now) (R.form row.now) (values_of sample.now) vars.now state.now }
+    ensures { IsTrue result ↔ Stays (R.form row.now) (R.state_of row.now) (values_of sample.now) vars.now state.now }
+{
+    stays_over_any(row, vars, state, sample)
+}
+
+// The same of a state that is mostly over one variable.
+#[inline(always)]
+fn stays_over_one<R: Row>(row: &R, vars: &[VarId], state: &State, sample: &[View<'_>]) -> bool
+    requires { IsSlot (R.kinds row.now) (R.form row.now) (values_of sample.now) vars.now state.now }
+    ensures { IsTrue result ↔ Stays (R.form row.now) (R.state_of row.now) (values_of sample.now) vars.now state.now }
+{
+    match vars {
+        [v] => tuple_stays(row, vars, state, sample, &[view_at(sample, *v)]),
+        _ => stays_over_others(row, vars, state, sample),
+    }
+}
+
+// The same of a state that is mostly over two variables.
+#[inline(always)]
+fn stays_over_two<R: Row>(row: &R, vars: &[VarId], state: &State, sample: &[View<'_>]) -> bool
+    requires { IsSlot (R.kinds row.now) (R.form row.now) (values_of sample.now) vars.now state.now }
+    ensures { IsTrue result ↔ Stays (R.form row.now) (R.state_of row.now) (values_of sample.now) vars.now state.now }
+{
+    match vars {
+        [v, w] => {
+            let tuple = [view_at(sample, *v), view_at(sample, *w)];
+            tuple_stays(row, vars, state, sample, &tuple)
+        }
+        _ => stays_over_others(row, vars, state, sample),
+    }
+}
+
+// The same of a state that is mostly over three variables.
+#[inline(always)]
+fn stays_over_three<R: Row>(row: &R, vars: &[VarId], state: &State, sample: &[View<'_>]) -> bool
+    requires { IsSlot (R.kinds row.now) (R.form row.now) (values_of sample.now) vars.now state.now }
+    ensures { IsTrue result ↔ Stays (R.form row.now) (R.state_of row.now) (values_of sample.now) vars.now state.now }
+{
+    match vars {
+        [u, v, w] => {
+            let tuple = [
+                view_at(sample, *u),
+                view_at(sample, *v),
+                view_at(sample, *w),
+            ];
+            tuple_stays(row, vars, state, sample, &tuple)
+        }
+        _ => stays_over_others(row, vars, state, sample),
+    }
+}
+
+// The same of a state that is mostly over so many variables, or of any where that is 0.
+#[inline(always)]
+fn stays_over<R: Row>(
+    arity: u8,
+    row: &R,
+    vars: &[VarId],
+    state: &State,
+    sample: &[View<'_>],
+) -> bool
+    requires { IsSlot (R.kinds row.now) (R.form row.now) (values_of sample.now) vars.now state.now }
+    ensures { IsTrue result ↔ Stays (R.form row.now) (R.state_of row.now) (values_of sample.now) vars.now state.now }
+{
+    match arity {
+        1 => stays_over_one(row, vars, state, sample),
+        2 => stays_over_two(row, vars, state, sample),
+        3 => stays_over_three(row, vars, state, sample),
+        _ => stays_over_any(row, vars, state, sample),
+    }
+}
+
 /// The first slot of a run of slots of one row that a sample changes. It is built into each place that calls it, so that no slot asks
-/// again which row it is.
+/// again which row it is. So many variables are looked for first, or any number where that is 0.
 #[inline(always)]
 pub(crate) fn first_changed_by<R: Row, S: Slot>(
+    arity: u8,
     row: &R,
     run: &[S],
     sample: &[View<'_>],
@@ -89,7 +166,7 @@ pub(crate) fn first_changed_by<R: Row, S: Slot>(
 {
     for place in 0..run.len() {
         let slot = &run[place];
-        if !stays_over(row, slot.vars(), slot.state(), sample) {
+        if !stays_over(arity, row, slot.vars(), slot.state(), sample) {
             return Some(place);
         }
     }
