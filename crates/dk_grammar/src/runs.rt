@@ -51,7 +51,7 @@ fn element_run<S: Slot>(row: RowId, run: &[S], sample: &[View<'_>]) -> Option<us
     requires run { AreSlots S.vars S.state row (values_of sample.now) run.now }
     ensures { IsFirstChanged S.vars S.state row (values_of sample.now) run.now result }
 {
-    element_row!(row, row => first_changed_by(0, &row, run, sample))
+    element_row!(row, row => first_changed_by(1, &row, run, sample))
 }
 
 // A row of a value and a sequence or of two sequences.

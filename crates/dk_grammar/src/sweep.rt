@@ -86,18 +86,6 @@ fn stays_over_others<R: Row>(row: &R, vars: &[VarId], state: &State, sample: &[V
     stays_over_any(row, vars, state, sample)
 }
 
-// The same of a state that is mostly over one variable.
-#[inline(always)]
-fn stays_over_one<R: Row>(row: &R, vars: &[VarId], state: &State, sample: &[View<'_>]) -> bool
-    requires { IsSlot (R.kinds row.now) (R.form row.now) (values_of sample.now) vars.now state.now }
-    ensures { IsTrue result ↔ Stays (R.form row.now) (R.state_of row.now) (values_of sample.now) vars.now state.now }
-{
-    match vars {
-        [v] => tuple_stays(row, vars, state, sample, &[view_at(sample, *v)]),
-        _ => stays_over_others(row, vars, state, sample),
-    }
-}
-
 // The same of a state that is mostly over two variables.
 #[inline(always)]
 fn stays_over_two<R: Row>(row: &R, vars: &[VarId], state: &State, sample: &[View<'_>]) -> bool
@@ -132,7 +120,7 @@ fn stays_over_three<R: Row>(row: &R, vars: &[VarId], state: &State, sample: &[Vi
     }
 }
 
-// The same of a state that is mostly over so many variables, or of any where that is 0.
+// The same of a state that is mostly over so many variables, where these are two or three.
 #[inline(always)]
 fn stays_over<R: Row>(
     arity: u8,
@@ -145,7 +133,6 @@ fn stays_over<R: Row>(
     ensures { IsTrue result ↔ Stays (R.form row.now) (R.state_of row.now) (values_of sample.now) vars.now state.now }
 {
     match arity {
-        1 => stays_over_one(row, vars, state, sample),
         2 => stays_over_two(row, vars, state, sample),
         3 => stays_over_three(row, vars, state, sample),
         _ => stays_over_any(row, vars, state, sample),
@@ -153,7 +140,7 @@ fn stays_over<R: Row>(
 }
 
 /// The first slot of a run of slots of one row that a sample changes. It is built into each place that calls it, so that no slot asks
-/// again which row it is. So many variables are looked for first, or any number where that is 0.
+/// again which row it is. Where a row takes two or three variables, so many are looked for first.
 #[inline(always)]
 pub(crate) fn first_changed_by<R: Row, S: Slot>(
     arity: u8,
