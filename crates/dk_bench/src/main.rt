@@ -1,21 +1,65 @@
-//! A benchmark: how long the scans of sequences take, beside plain loops, and the rows.
+//! A benchmark: how long the scans of sequences and the rows take, beside plain loops; and traces for measuring how fast they are read.
 #![tactic(auto)]
 
+mod lending;
 mod rows;
+mod samples;
 mod scans;
+mod slot;
 mod timing;
+mod traces;
 
 use std::{env, io};
+use traces::{Records, write_trace};
 
-const USAGE: &str = "usage: dk_bench scans | rows
-  scans  nanoseconds for each number, of the plain loop and of the scan
-  rows   nanoseconds for each tuple, of its point and of a join
+const USAGE: &str = "usage: dk_bench scans | rows | traces KIND COUNT
+  scans   nanoseconds for each number, of a plain loop and of the scan
+  rows    nanoseconds for each slot, of a plain loop, of a sample that changes none, and of a point and a join
+  traces  writes a trace of COUNT records: numbers, short, calls or sequences
 ";
 
+// The records that a word names.
+fn records_of(word: &str) -> Option<Records> {
+    match word {
+        "numbers" => Some(Records::Numbers),
+        "short" => Some(Records::ShortNumbers),
+        "calls" => Some(Records::Calls),
+        "sequences" => Some(Records::Sequences),
+        _ => None,
+    }
+}
+
+// Writes the trace that the words name; false where they name none.
+fn traced(
+    rt: &(impl Print + AllocGlobal),
+    kind: Option<String>,
+    count: Option<String>,
+) -> io::Result<bool> {
+    let (Some(kind), Some(count)) = (kind, count) else {
+        return Ok(false);
+    };
+    let (Some(records), Ok(count)) = (records_of(kind.as_str()), count.as_str().parse::<u64>())
+    else {
+        return Ok(false);
+    };
+    write_trace(rt, records, count)?;
+    Ok(true)
+}
+
 fn main(rt: HostRuntime) -> io::Result<()> {
-    match env::args(&rt)?.nth(1) {
+    let mut words = env::args(&rt)?;
+    match words.nth(1) {
         Some(word) if word.as_str() == "scans" => scans::print_table(&rt),
         Some(word) if word.as_str() == "rows" => rows::print_table(&rt),
+        Some(word) if word.as_str() == "traces" => {
+            let kind = words.next();
+            let count = words.next();
+            if traced(&rt, kind, count)? {
+                Ok(())
+            } else {
+                print!(rt; "{USAGE}")
+            }
+        }
         _ => print!(rt; "{USAGE}"),
     }
 }

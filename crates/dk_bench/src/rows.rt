@@ -1,584 +1,326 @@
-// Points of rows, and joins of their states.
-ghost use Rattle.std.specs.Prelude.{◌≡◌, ◌≤◌, All, IfOk, IsTrue, replicate};
-ghost use Rattle.dk_base.specs.Items.{is_text};
-ghost use Rattle.dk_base.specs.declared.kinds.Kind.TheVariants as kind;
-ghost use Rattle.dk_bench.specs.Tuples.{IsOf, IsScalar, IsTaken};
+// What a sample costs for each row of the grammar: where it changes no slot of a run, and where each slot is joined with it.
+ghost use Rattle.std.specs.Prelude.{◌≡◌, ◌≤◌, IfOk, IfSome, length, true};
+ghost use Rattle.dk_base.specs.Values.{values_of};
+ghost use Rattle.dk_bench.specs.Slots.{AreOver, vars_of};
+ghost use Rattle.dk_fits.specs.Fits.{is_whole};
+ghost use Rattle.dk_fits.specs.Laws.{IsSample};
+ghost use Rattle.dk_grammar.specs.Runs.{IsSlot};
+ghost use Rattle.dk_template.specs.Admitted.{admits as are_admitted};
 ghost use Rattle.dk_template.specs.Proper.{IsProper};
+ghost use Rattle.dk_template.specs.Rows.{IsTuple};
+ghost use Rattle.dk_template.specs.Templates.{IsRow, form_of, kinds_of};
 
+use crate::lending::slot_of;
+use crate::samples::{sample_at, variables};
+use crate::slot::RowSlot;
 use crate::timing::nanos_each;
-use dk_base::{Kind, NoMemory, View};
-use dk_binary::{Compare, Equality, Linear, Scalar};
-use dk_template::laws::state_of_list;
-use dk_template::{Row, State, fits, point_of};
-use dk_ternary::{LinearTernary, Operation};
-use dk_unary::{Bound, Modulus, NonNull, OneOf};
+use bumpalo::Bump;
+use dk_base::{NoMemory, VarId, VarInfo, View};
+use dk_grammar::{Slot, first_changed, join, point};
+use dk_samples::{is_present, value_at};
+use dk_template::{RowId, State, admits, fits, info};
 use std::alloc::{AllocError, Global};
 use std::io;
 use std::time::Clock;
 
-// How many tuples there are, and how often each is taken in a round.
-const TUPLES: u8 = 64;
+// How many slots there are, and how often each is looked at in a round.
+const SLOTS: usize = 200;
 
-const TURNS: u32 = 1024;
+const TURNS: u32 = 128;
 
-// Three values of one kind, of which a row takes the first one, two or three.
-type Tuple = [View<'static>; 3];
-
-// A string for a number: there are three of them.
-#[tactic(auto, unfolding(dk_base::specs::Items::is_text, dk_base::specs::Items::is_quoted))]
-fn text_of(number: i64) -> &'static [u8]
-    ensures { IsTrue (is_text result.now) }
+// Whether no value of the tuple is missing.
+fn is_whole(tuple: &[View<'_>]) -> bool
+    ensures { result ≡ is_whole (values_of tuple.now) }
 {
-    match number {
-        0 => b"\"nothing\"",
-        1 => b"\"one\"",
-        _ => b"\"more than one\"",
+    for value in tuple {
+        if !is_present(*value) {
+            return false;
+        }
     }
+    true
 }
 
-// Numbers, and truth values, hash codes and strings for numbers.
-fn ints(numbers: [i64; 3]) -> Tuple
-    ensures { IsOf kind.Int result }
-{
-    let [a, b, c] = numbers;
-    [View::Int(a), View::Int(b), View::Int(c)]
-}
-
-fn truths(numbers: [i64; 3]) -> Tuple
-    ensures { IsOf kind.Bool result }
-{
-    let [a, b, c] = numbers;
-    [View::Bool(a != 0), View::Bool(b != 0), View::Bool(c != 0)]
-}
-
-fn hashes(numbers: [i64; 3]) -> Tuple
-    ensures { IsOf kind.Hash result }
-{
-    let [a, b, c] = numbers;
-    [
-        View::Hash(a.unsigned_abs()),
-        View::Hash(b.unsigned_abs()),
-        View::Hash(c.unsigned_abs()),
-    ]
-}
-
-fn texts(numbers: [i64; 3]) -> Tuple
-    ensures { IsOf kind.Str result }
-{
-    let [a, b, c] = numbers;
-    [
-        View::Str(text_of(a)),
-        View::Str(text_of(b)),
-        View::Str(text_of(c)),
-    ]
-}
-
-// Values of the kind, one for each number.
-fn views(kind: Kind, numbers: [i64; 3]) -> Tuple
-    requires { IsScalar kind }
-    ensures { IsOf kind result }
-{
-    match kind {
-        Kind::Bool => truths(numbers),
-        Kind::Hash => hashes(numbers),
-        Kind::Str => texts(numbers),
-        _ => ints(numbers),
-    }
-}
-
-// Values of the kind for what the closure makes of 0, 1, 2 and so on.
-fn tuples_of<F: Fn(u8) -> [i64; 3] + Drop>(
+// The state with a tuple more.
+fn with_tuple(
     alloc: Global,
-    kind: Kind,
-    arity: usize,
-    numbers: F,
-) -> Result<Vec<Tuple>, AllocError>
-    requires kind { IsScalar kind }
-    requires arity { arity ≤ 3 }
-    requires numbers { F.IsAlwaysCallable numbers }
-    ensures { IfOk result (λ tuples. All (IsTaken (replicate arity kind) arity) tuples.items) }
+    row: RowId,
+    before: &State,
+    tuple: &[View<'_>],
+) -> Result<State, NoMemory>
+    requires row { IsRow row }
+    requires before { IsProper (form_of row) before.now }
+    requires tuple { is_whole (values_of tuple.now) ≡ true → IsTuple (kinds_of row) (values_of tuple.now) }
+    ensures { IfOk result (λ state. IsProper (form_of row) state) }
 {
-    let mut tuples = Vec::new(alloc);
-    for i in 0..TUPLES {
-        tuples.push(views(kind, numbers(i)))?;
+    if is_whole(tuple) {
+        join(alloc, row, point(alloc, row, tuple)?, before)
+    } else {
+        before.copy(alloc)
     }
-    Ok(tuples)
 }
 
-// The points of all tuples, so often.
-#[inline(never)]
-fn points<R: Row>(row: &R, alloc: Global, tuples: &[Tuple], arity: usize) -> Result<u64, NoMemory>
-    requires arity { arity ≤ 3 }
-    requires tuples { All (IsTaken (R.kinds row.now) arity) tuples.now }
-{
-    let mut found = 0u64;
-    for _ in 0..TURNS {
-        for tuple in tuples {
-            let point = row.point(alloc, &tuple[..arity])?;
-            found = found.wrapping_add(fits(&point) as u64);
-        }
-    }
-    Ok(found)
-}
-
-// The same, each joined with a state.
-#[inline(never)]
-fn joins<R: Row>(
-    row: &R,
+// The state over variables with a sample more.
+fn with_sample(
     alloc: Global,
-    tuples: &[Tuple],
-    arity: usize,
-    state: &State,
-) -> Result<u64, NoMemory>
-    requires arity { arity ≤ 3 }
-    requires tuples { All (IsTaken (R.kinds row.now) arity) tuples.now }
-    requires proper { IsProper (R.form row.now) state.now }
+    row: RowId,
+    vars: &[VarId],
+    before: &State,
+    sample: &[View<'_>],
+) -> Result<State, NoMemory>
+    requires row { IsRow row }
+    requires slot { IsSlot (kinds_of row) (form_of row) (values_of sample.now) vars.now before.now }
+    ensures { IfOk result (λ state. IsProper (form_of row) state) }
 {
-    let mut found = 0u64;
-    for _ in 0..TURNS {
-        for tuple in tuples {
-            let point = point_of(row, alloc, &tuple[..arity])?;
-            let both = row.join(alloc, point, state)?;
-            found = found.wrapping_add(fits(&both) as u64);
+    match vars {
+        [v] => with_tuple(alloc, row, before, &[value_at(sample, *v)]),
+        [v, w] => {
+            let tuple = [value_at(sample, *v), value_at(sample, *w)];
+            with_tuple(alloc, row, before, &tuple)
         }
+        [u, v, w] => {
+            let tuple = [
+                value_at(sample, *u),
+                value_at(sample, *v),
+                value_at(sample, *w),
+            ];
+            with_tuple(alloc, row, before, &tuple)
+        }
+        _ => unreachable!(),
     }
-    Ok(found)
 }
 
-// How often a tuple leaves a state as it is.
+// The state over variables in three samples.
+fn state_over(
+    alloc: Global,
+    row: RowId,
+    infos: &[VarInfo],
+    vars: &[VarId],
+    a: &[View<'_>],
+    b: &[View<'_>],
+    c: &[View<'_>],
+) -> Result<State, NoMemory>
+    requires row { IsRow row }
+    requires admitted { are_admitted row infos.now vars.now ≡ true }
+    requires a { IsSample infos.now (values_of a.now) }
+    requires b { IsSample infos.now (values_of b.now) }
+    requires c { IsSample infos.now (values_of c.now) }
+    ensures { IfOk result (λ state. IsProper (form_of row) state) }
+{
+    let one = with_sample(alloc, row, vars, &State::Empty, a)?;
+    let two = with_sample(alloc, row, vars, &one, b)?;
+    with_sample(alloc, row, vars, &two, c)
+}
+
+// A slot over a tuple of the variables, where the row admits it and fits in three samples.
+fn slot_over(
+    alloc: Global,
+    row: RowId,
+    infos: &[VarInfo],
+    vars: &[VarId],
+    a: &[View<'_>],
+    b: &[View<'_>],
+    c: &[View<'_>],
+) -> Result<Option<RowSlot>, NoMemory>
+    requires row { IsRow row }
+    requires few { length vars.now ≤ 3 }
+    requires a { IsSample infos.now (values_of a.now) }
+    requires b { IsSample infos.now (values_of b.now) }
+    requires c { IsSample infos.now (values_of c.now) }
+    ensures { IfOk result (λ found. IfSome found (λ slot. (are_admitted row infos.now (vars_of slot) ≡ true) × IsProper (form_of row) slot.state)) }
+{
+    if !admits(row, infos, vars) {
+        return Ok(None);
+    }
+    let state = state_over(alloc, row, infos, vars, a, b, c)?;
+    if !fits(&state) {
+        return Ok(None);
+    }
+    Ok(Some(slot_of(vars, state)))
+}
+
+// Slots over tuples of the variables.
+fn slots_of(
+    alloc: Global,
+    row: RowId,
+    infos: &[VarInfo],
+    a: &[View<'_>],
+    b: &[View<'_>],
+    c: &[View<'_>],
+) -> Result<Vec<RowSlot>, NoMemory>
+    requires row { IsRow row }
+    requires a { IsSample infos.now (values_of a.now) }
+    requires b { IsSample infos.now (values_of b.now) }
+    requires c { IsSample infos.now (values_of c.now) }
+    ensures a { IfOk result (λ slots. AreOver row (values_of a.now) slots.items) }
+    ensures b { IfOk result (λ slots. AreOver row (values_of b.now) slots.items) }
+{
+    let arity = (info(row).arity as usize).min(3);
+    let mut slots = Vec::new(alloc);
+    for n in 0..20_000u32 {
+        if slots.len() == SLOTS {
+            return Ok(slots);
+        }
+        let all = [VarId(n % 10), VarId(n / 10 % 10), VarId(n / 100 % 10)];
+        match slot_over(alloc, row, infos, &all[..arity], a, b, c)? {
+            Some(slot) => slots.push(slot)?,
+            None => continue,
+        }
+    }
+    Ok(slots)
+}
+
+// A number of which no pattern is known.
+fn next_noise(noise: u64) -> u64 {
+    let mut next = noise;
+    next ^= next << 13;
+    next ^= next >> 7;
+    next ^ next << 17
+}
+
+// How often one of two samples changes no slot.
 #[inline(never)]
-fn stayings<R: Row>(row: &R, tuples: &[Tuple], arity: usize, state: &State) -> u64
-    requires arity { arity ≤ 3 }
-    requires tuples { All (IsTaken (R.kinds row.now) arity) tuples.now }
-    requires proper { IsProper (R.form row.now) state.now }
+fn unchanged(row: RowId, run: &[RowSlot], a: &[View<'_>], b: &[View<'_>]) -> u64
+    requires row { IsRow row }
+    requires a { AreOver row (values_of a.now) run.now }
+    requires b { AreOver row (values_of b.now) run.now }
 {
     let mut found = 0u64;
+    let mut noise = 1;
     for _ in 0..TURNS {
-        for tuple in tuples {
-            found = found.wrapping_add(row.stays(state, &tuple[..arity]) as u64);
-        }
+        noise = next_noise(noise);
+        let changed = if noise % 2 == 0 {
+            first_changed(row, run, a)
+        } else {
+            first_changed(row, run, b)
+        };
+        found = found.wrapping_add(changed.is_none() as u64);
     }
     found
 }
 
-// The state of the first n tuples.
-fn state_of_first<R: Row>(
-    row: &R,
-    alloc: Global,
-    tuples: &[Tuple],
-    arity: usize,
-    n: usize,
-) -> Result<State, NoMemory>
-    requires arity { arity ≤ 3 }
-    requires tuples { All (IsTaken (R.kinds row.now) arity) tuples.now }
-    requires few { n ≤ 3 }
-    ensures { IfOk result (λ state. IsProper (R.form row.now) state) }
+// How many slots fit with a sample more, each of them joined with it so often.
+#[inline(never)]
+fn joined(alloc: Global, row: RowId, run: &[RowSlot], a: &[View<'_>]) -> Result<u64, NoMemory>
+    requires row { IsRow row }
+    requires a { AreOver row (values_of a.now) run.now }
 {
-    match tuples {
-        [a, b, c, ..] => {
-            let all = [&a[..arity], &b[..arity], &c[..arity]];
-            state_of_list(row, alloc, &all[..n])
+    let mut found = 0u64;
+    for _ in 0..TURNS {
+        for slot in run {
+            let state = with_sample(alloc, row, slot.vars(), &slot.state, a)?;
+            found = found.wrapping_add(fits(&state) as u64);
         }
-        _ => Ok(row.empty()),
     }
+    Ok(found)
 }
 
-// The nanoseconds for each tuple, of its point, and of its point and a join.
-fn point_nanos<R: Row>(
-    rt: &(impl Clock + AllocGlobal),
-    row: &R,
-    tuples: &[Tuple],
-    arity: usize,
-) -> io::Result<f64>
-    requires arity { arity ≤ 3 }
-    requires tuples { All (IsTaken (R.kinds row.now) arity) tuples.now }
-{
-    let alloc = rt.alloc();
-    let calls = f64::from(TUPLES) * f64::from(TURNS);
-    nanos_each(rt, || points(row, alloc, tuples, arity).unwrap_or(0), calls)
+// A plain loop: whether the first of two numbers is at most the second, of all pairs, so often.
+#[inline(never)]
+fn plain(a: &[i64; 16], b: &[i64; 16], pairs: &[[u8; 2]]) -> u64 {
+    let mut found = 0u64;
+    let mut noise = 1;
+    for _ in 0..TURNS {
+        noise = next_noise(noise);
+        let numbers = if noise % 2 == 0 { a } else { b };
+        let ascend = pairs.iter().all(|[v, w]| numbers[*v as usize % 16]
+            <= numbers[*w as usize % 16]);
+        found = found.wrapping_add(ascend as u64);
+    }
+    found
 }
 
-fn join_nanos<R: Row>(
-    rt: &(impl Clock + AllocGlobal),
-    row: &R,
-    tuples: &[Tuple],
-    arity: usize,
-    state: &State,
-) -> io::Result<f64>
-    requires arity { arity ≤ 3 }
-    requires tuples { All (IsTaken (R.kinds row.now) arity) tuples.now }
-    requires proper { IsProper (R.form row.now) state.now }
-{
-    let alloc = rt.alloc();
-    let calls = f64::from(TUPLES) * f64::from(TURNS);
-    nanos_each(
-        rt,
-        || joins(row, alloc, tuples, arity, state).unwrap_or(0),
-        calls,
-    )
+// The nanoseconds for each pair of the plain loop.
+fn plain_nanos(rt: &(impl Clock + AllocGlobal)) -> io::Result<f64> {
+    let a = [0, 1, 2, 3, 4, 5, 6, 7, 8, 9, 10, 11, 12, 13, 14, 15];
+    let b = [1, 3, 4, 5, 6, 7, 8, 9, 10, 11, 12, 13, 14, 15, 16, 17];
+    let mut pairs = Vec::new(rt.alloc());
+    for n in 0..200u8 {
+        pairs.push([n % 10, (n % 10).max(n / 10 % 10)])?;
+    }
+    nanos_each(rt, || plain(&a, &b, &pairs), 200.0 * f64::from(TURNS))
 }
 
-fn stay_nanos<R: Row>(
+// The nanoseconds for each slot, of a sample that changes none.
+fn unchanged_nanos(
     rt: &impl Clock,
-    row: &R,
-    tuples: &[Tuple],
-    arity: usize,
-    state: &State,
+    row: RowId,
+    run: &[RowSlot],
+    a: &[View<'_>],
+    b: &[View<'_>],
+    looks: f64,
 ) -> io::Result<f64>
-    requires arity { arity ≤ 3 }
-    requires tuples { All (IsTaken (R.kinds row.now) arity) tuples.now }
-    requires proper { IsProper (R.form row.now) state.now }
+    requires row { IsRow row }
+    requires a { AreOver row (values_of a.now) run.now }
+    requires b { AreOver row (values_of b.now) run.now }
 {
-    let calls = f64::from(TUPLES) * f64::from(TURNS);
-    nanos_each(rt, || stayings(row, tuples, arity, state), calls)
+    nanos_each(rt, || unchanged(row, run, a, b), looks)
+}
+
+// The nanoseconds for each slot, of a point and a join.
+fn joined_nanos(
+    rt: &(impl Clock + AllocGlobal),
+    row: RowId,
+    run: &[RowSlot],
+    a: &[View<'_>],
+    looks: f64,
+) -> io::Result<f64>
+    requires row { IsRow row }
+    requires a { AreOver row (values_of a.now) run.now }
+{
+    let alloc = rt.alloc();
+    nanos_each(rt, || joined(alloc, row, run, a).unwrap_or(0), looks)
+}
+
+// One line of the table, for slots of the row: the plain loop, a sample that changes none, and a point and a join.
+fn print_run(
+    rt: &(impl Print + Clock + AllocGlobal),
+    row: RowId,
+    run: &[RowSlot],
+    a: &[View<'_>],
+    b: &[View<'_>],
+) -> io::Result<()>
+    requires row { IsRow row }
+    requires a { AreOver row (values_of a.now) run.now }
+    requires b { AreOver row (values_of b.now) run.now }
+{
+    let slots = run.len().min(SLOTS) as u32;
+    let looks = f64::from(slots) * f64::from(TURNS);
+    let plain = plain_nanos(rt)?;
+    let stays = unchanged_nanos(rt, row, run, a, b, looks)?;
+    let joins = joined_nanos(rt, row, run, a, looks)?;
+    println!(rt;
+        "{:>3} {slots:>6} {plain:>8.2} {stays:>8.2} {joins:>8.1}",
+        row.0
+    )
 }
 
 // One line of the table.
-fn print_line<R: Row + Drop, F: Fn(u8) -> [i64; 3] + Drop>(
-    rt: &(impl Print + Clock + AllocGlobal),
-    name: &str,
-    row: R,
-    kind: Kind,
-    arity: usize,
-    numbers: F,
-) -> io::Result<()>
-    requires scalar { IsScalar kind }
-    requires arity { arity ≤ 3 }
-    requires kinds { R.kinds row ≡ replicate arity kind }
-    requires numbers { F.IsAlwaysCallable numbers }
+fn print_line(rt: &(impl Print + Clock + AllocGlobal), row: RowId) -> io::Result<()>
+    requires { IsRow row }
 {
-    let tuples = tuples_of(rt.alloc(), kind, arity, numbers)?;
-    let point = point_nanos(rt, &row, &tuples, arity)?;
-    print!(rt; "{name:<14} {point:>7.1}")?;
-    for n in 1..4 {
-        let Ok(state) = state_of_first(&row, rt.alloc(), &tuples, arity, n) else {
-            return Err(AllocError.into());
-        };
-        let both = join_nanos(rt, &row, &tuples, arity, &state)?;
-        let stays = stay_nanos(rt, &row, &tuples, arity, &state)?;
-        print!(rt; " {:>7.1} {stays:>7.2}", both - point)?;
+    let alloc = rt.alloc();
+    let arena = Bump::new(alloc);
+    let infos = variables(alloc, row)?;
+    let Ok(a) = sample_at(alloc, &arena, row, &infos, 0) else {
+        return Err(AllocError.into());
+    };
+    let Ok(b) = sample_at(alloc, &arena, row, &infos, 1) else {
+        return Err(AllocError.into());
+    };
+    let Ok(c) = sample_at(alloc, &arena, row, &infos, 2) else {
+        return Err(AllocError.into());
+    };
+    match slots_of(alloc, row, &infos, &a, &b, &c) {
+        Ok(run) => print_run(rt, row, &run, &a, &b),
+        Err(_) => Err(AllocError.into()),
     }
-    println!(rt;)
-}
-
-#[tactic(auto, unfolding(dk_template::specs::Templates::rows))]
-fn print_single_numbers(rt: &(impl Print + Clock + AllocGlobal)) -> io::Result<()> {
-    print_line(
-        rt,
-        "OneOfInt",
-        OneOf::Int,
-        Kind::Int,
-        1,
-        |i| [i as i64 % 3, 0, 0],
-    )?;
-    print_line(
-        rt,
-        "LowerBound",
-        Bound::Lower,
-        Kind::Int,
-        1,
-        |i| [i as i64, 0, 0],
-    )?;
-    print_line(
-        rt,
-        "UpperBound",
-        Bound::Upper,
-        Kind::Int,
-        1,
-        |i| [i as i64, 0, 0],
-    )?;
-    print_line(
-        rt,
-        "NonZero",
-        NonNull::Int,
-        Kind::Int,
-        1,
-        |i| [i as i64 + 1, 0, 0],
-    )?;
-    print_line(
-        rt,
-        "Modulus",
-        Modulus,
-        Kind::Int,
-        1,
-        |i| [i as i64 * 4 + 3, 0, 0],
-    )
-}
-
-#[tactic(auto, unfolding(dk_template::specs::Templates::rows))]
-fn print_comparisons(rt: &(impl Print + Clock + AllocGlobal)) -> io::Result<()> {
-    print_line(
-        rt,
-        "Equal",
-        Compare::Equal,
-        Kind::Int,
-        2,
-        |i| [i as i64, i as i64, 0],
-    )?;
-    print_line(
-        rt,
-        "Different",
-        Compare::Different,
-        Kind::Int,
-        2,
-        |i| [i as i64, 99, 0],
-    )?;
-    print_line(
-        rt,
-        "Less",
-        Compare::Less,
-        Kind::Int,
-        2,
-        |i| [i as i64, 99, 0],
-    )?;
-    print_line(
-        rt,
-        "AtMost",
-        Compare::AtMost,
-        Kind::Int,
-        2,
-        |i| [i as i64, 99, 0],
-    )?;
-    print_line(
-        rt,
-        "Divides",
-        Compare::Multiple,
-        Kind::Int,
-        2,
-        |i| [i as i64 * 6, 6, 0],
-    )?;
-    print_line(
-        rt,
-        "Square",
-        Compare::Square,
-        Kind::Int,
-        2,
-        |i| [i as i64 * i as i64, i as i64, 0],
-    )
-}
-
-#[tactic(auto, unfolding(dk_template::specs::Templates::rows))]
-fn print_arithmetic(rt: &(impl Print + Clock + AllocGlobal)) -> io::Result<()> {
-    print_line(
-        rt,
-        "Sum",
-        Operation::Sum,
-        Kind::Int,
-        3,
-        |i| [i as i64 + 5, i as i64, 5],
-    )?;
-    print_line(
-        rt,
-        "Difference",
-        Operation::Difference,
-        Kind::Int,
-        3,
-        |i| [i as i64 - 5, i as i64, 5],
-    )?;
-    print_line(
-        rt,
-        "Product",
-        Operation::Product,
-        Kind::Int,
-        3,
-        |i| [i as i64 * 5, i as i64, 5],
-    )?;
-    print_line(
-        rt,
-        "Quotient",
-        Operation::Quotient,
-        Kind::Int,
-        3,
-        |i| [i as i64 / 5, i as i64, 5],
-    )?;
-    print_line(
-        rt,
-        "Remainder",
-        Operation::Remainder,
-        Kind::Int,
-        3,
-        |i| [i as i64 % 5, i as i64, 5],
-    )?;
-    print_line(
-        rt,
-        "Gcd",
-        Operation::Gcd,
-        Kind::Int,
-        3,
-        |i| [6, 6 * i as i64, 6],
-    )
-}
-
-#[tactic(auto, unfolding(dk_template::specs::Templates::rows))]
-fn print_choices(rt: &(impl Print + Clock + AllocGlobal)) -> io::Result<()> {
-    print_line(
-        rt,
-        "Minimum",
-        Operation::Minimum,
-        Kind::Int,
-        3,
-        |i| [-1, i as i64, -1],
-    )?;
-    print_line(
-        rt,
-        "Maximum",
-        Operation::Maximum,
-        Kind::Int,
-        3,
-        |i| [99, i as i64, 99],
-    )?;
-    print_line(
-        rt,
-        "And",
-        Operation::And,
-        Kind::Int,
-        3,
-        |i| [i as i64 & 5, i as i64, 5],
-    )?;
-    print_line(
-        rt,
-        "Or",
-        Operation::Or,
-        Kind::Int,
-        3,
-        |i| [i as i64 | 5, i as i64, 5],
-    )?;
-    print_line(
-        rt,
-        "Xor",
-        Operation::Xor,
-        Kind::Int,
-        3,
-        |i| [i as i64 ^ 5, i as i64, 5],
-    )
-}
-
-#[tactic(auto, unfolding(dk_template::specs::Templates::rows))]
-fn print_lines_and_planes(rt: &(impl Print + Clock + AllocGlobal)) -> io::Result<()> {
-    print_line(
-        rt,
-        "Linear",
-        Linear,
-        Kind::Int,
-        2,
-        |i| [i as i64, i as i64 * 7 + 1, 0],
-    )?;
-    print_line(rt, "LinearTernary", LinearTernary, Kind::Int, 3, |i| {
-        let x = i as i64;
-        [x, x * x, 2 * x + 3 * x * x + 1]
-    })
-}
-
-#[tactic(auto, unfolding(dk_template::specs::Templates::rows))]
-fn print_other_single_values(rt: &(impl Print + Clock + AllocGlobal)) -> io::Result<()> {
-    print_line(rt, "OneOfBool", OneOf::Bool, Kind::Bool, 1, |_| [1, 0, 0])?;
-    print_line(rt, "OneOfHash", OneOf::Hash, Kind::Hash, 1, |_| [7, 0, 0])?;
-    print_line(
-        rt,
-        "NonNullHash",
-        NonNull::Hash,
-        Kind::Hash,
-        1,
-        |i| [i as i64 + 1, 0, 0],
-    )?;
-    print_line(
-        rt,
-        "OneOfStr",
-        OneOf::Str,
-        Kind::Str,
-        1,
-        |i| [i as i64 % 3, 0, 0],
-    )?;
-    print_line(
-        rt,
-        "NonNullStr",
-        NonNull::Str,
-        Kind::Str,
-        1,
-        |i| [i as i64 % 3, 0, 0],
-    )
-}
-
-#[tactic(auto, unfolding(dk_template::specs::Templates::rows))]
-fn print_equalities(rt: &(impl Print + Clock + AllocGlobal)) -> io::Result<()> {
-    print_line(
-        rt,
-        "EqualBools",
-        Equality {
-            kind: Scalar::Bool,
-            equal: true,
-        },
-        Kind::Bool,
-        2,
-        |i| [i as i64 % 2, i as i64 % 2, 0],
-    )?;
-    print_line(
-        rt,
-        "DifferBools",
-        Equality {
-            kind: Scalar::Bool,
-            equal: false,
-        },
-        Kind::Bool,
-        2,
-        |_| [0, 1, 0],
-    )?;
-    print_line(
-        rt,
-        "EqualHashes",
-        Equality {
-            kind: Scalar::Hash,
-            equal: true,
-        },
-        Kind::Hash,
-        2,
-        |i| [i as i64, i as i64, 0],
-    )?;
-    print_line(
-        rt,
-        "DifferHashes",
-        Equality {
-            kind: Scalar::Hash,
-            equal: false,
-        },
-        Kind::Hash,
-        2,
-        |i| [i as i64, 99, 0],
-    )?;
-    print_line(
-        rt,
-        "EqualStrs",
-        Equality {
-            kind: Scalar::Str,
-            equal: true,
-        },
-        Kind::Str,
-        2,
-        |i| [i as i64 % 3, i as i64 % 3, 0],
-    )?;
-    print_line(
-        rt,
-        "DifferStrs",
-        Equality {
-            kind: Scalar::Str,
-            equal: false,
-        },
-        Kind::Str,
-        2,
-        |_| [0, 1, 0],
-    )
 }
 
 /// Prints the table.
 pub fn print_table(rt: &(impl Print + Clock + AllocGlobal)) -> io::Result<()> {
-    println!(rt;
-        "row              point   join, stays with the state of one, of two and of three tuples"
-    )?;
-    print_single_numbers(rt)?;
-    print_other_single_values(rt)?;
-    print_comparisons(rt)?;
-    print_arithmetic(rt)?;
-    print_choices(rt)?;
-    print_lines_and_planes(rt)?;
-    print_equalities(rt)
+    println!(rt; "row  slots     loop   stays    join")?;
+    for row in 1..69u8 {
+        print_line(rt, RowId(row))?;
+    }
+    Ok(())
 }

@@ -1,8 +1,10 @@
 -- A state over variables that its row admits is a slot of the row.
-use Rattle.std.specs.Prelude.{◌≡◌, ◌==◌, ◌≤◌, true, List, length, slice_get, zip}
-use Rattle.std.specs.List.{list_all}
+use Rattle.std.specs.Prelude.{◌≡◌, ◌==◌, ◌<◌, ◌≤◌, ℕ, zero, suc, true, All, List, [], ◌∷◌, length, slice_get, zip}
+use Rattle.std.specs.List.{AllZip, list_all}
 use Rattle.std.proofs.Common.{arith}
-use Rattle.std.proofs.lemmas.Bool.{and_parts, eqb-true}
+use Rattle.std.proofs.lemmas.Bool.{and_parts, eqb-true, false≢true}
+use Rattle.std.proofs.lemmas.List.Elements.{All-cons, All-nil}
+use Rattle.dk_base.specs.Values.{IsOfKind}
 use Rattle.dk_base.specs.declared.kinds.VarId.{VarId}
 use Rattle.dk_base.specs.declared.kinds.VarInfo.{VarInfo}
 use Rattle.dk_base.specs.declared.values.Value.{Value}
@@ -29,6 +31,22 @@ few_roles (One a) = omega arith
 few_roles (Two a b) = omega arith
 few_roles (Three a b c) = omega arith
 
+-- a variable that suits a role has a value in a sample
+there : (role : Role) (infos : List VarInfo) (sample : List Value) (n : ℕ) → AllZip (λ (info : VarInfo) x. IsOfKind info.kind x) infos sample → suits role (slice_get infos n) ≡ true → n < length sample
+there role [] sample n h s = absurd (false≢true s)
+there role (info ∷ infos) [] n h s = absurd h
+there role (info ∷ infos) (x ∷ sample) zero h s = omega arith
+there role (info ∷ infos) (x ∷ sample) (suc n) h s = let l = there role infos sample n h.1 s in omega (arith, l)
+
+are_there : (infos : List VarInfo) (sample : List Value) → AllZip (λ (info : VarInfo) x. IsOfKind info.kind x) infos sample → (roles : List Role) (vars : List VarId) → length vars ≡ length roles
+    → list_all (λ (p : Role × VarId). suits p.0 (slice_get infos p.1.0)) (zip roles vars) ≡ true → All (λ v. v.0 < length sample) vars
+are_there infos sample h [] [] e s = All-nil (λ v. v.0 < length sample)
+are_there infos sample h [] (v ∷ vars) e s = absurd (omega (arith, e))
+are_there infos sample h (r ∷ roles) [] e s = absurd (omega (arith, e))
+are_there infos sample h (r ∷ roles) (v ∷ vars) e s =
+    let s0 = and_parts (suits r (slice_get infos v.0)) (list_all (λ (p : Role × VarId). suits p.0 (slice_get infos p.1.0)) (zip roles vars)) s in
+    All-cons (λ (w : VarId). w.0 < length sample) v vars (there r infos sample v.0 h s0.0) (are_there infos sample h roles vars (omega (arith, e)) s0.1)
+
 pub slot_of : (row : RowId) (infos : List VarInfo) (sample : List Value) → IsSample infos sample → (vars : List VarId) → admits row infos vars ≡ true → (state : State) → IsProper (form_of row) state
     → IsSlot (kinds_of row) (form_of row) sample vars state
 slot_of row infos sample is vars a state proper =
@@ -41,5 +59,6 @@ slot_of row infos sample is vars a state proper =
       proper = proper;
       some = omega (arith, long, some);
       few = omega (arith, long, few);
+      there = are_there infos sample is.kinds roles vars long parts.1;
       tuple = is_tuple infos sample is row vars a;
     }

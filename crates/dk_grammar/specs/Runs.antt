@@ -1,5 +1,5 @@
 -- What a sample changes in a run of slots of one row.
-use Rattle.std.specs.Prelude.{◌≡◌, ◌≤◌, ℕ, true, All, IsSomeAnd, List, [], ◌∷◌, Option, Some, None, if◌then◌else◌, length, slice_get, take}
+use Rattle.std.specs.Prelude.{◌≡◌, ◌<◌, ◌≤◌, ℕ, true, All, IsSomeAnd, List, [], ◌∷◌, Option, Some, None, if◌then◌else◌, length, slice_get, take}
 use Rattle.dk_base.specs.declared.kinds.Kind.{Kind}
 use Rattle.dk_base.specs.declared.kinds.VarId.{VarId}
 use Rattle.dk_base.specs.declared.values.Value.{Value}
@@ -26,12 +26,13 @@ Stays form state_of sample vars s = with_tuple form state_of (tuple_in vars samp
 abbrev pub with_sample : RowId → List VarId → List Value → State → State
 with_sample row vars sample s = with_tuple (form_of row) (state_of row) (tuple_in vars sample) s
 
--- A proper state of the form over one to three variables; if none of them is missing in the sample, their values are a tuple of these
--- kinds.
+-- A proper state of the form over one to three variables of the sample; if none of them is missing in it, their values are a tuple of
+-- these kinds.
 pub record IsSlot (kinds : List Kind) (form : StateForm) (sample : List Value) (vars : List VarId) (state : State) : Type 0 where
   pub proper : IsProper form state
   pub some : 1 ≤ length vars
   pub few : length vars ≤ 3
+  pub there : All (λ v. v.0 < length sample) vars
   pub tuple : is_whole (tuple_in vars sample) ≡ true → IsTuple kinds (tuple_in vars sample)
 
 -- what is found is the place of the first item of which the fact doesn't hold; nothing is, where it holds of all
