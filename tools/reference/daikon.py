@@ -1,0 +1,238 @@
+#!/usr/bin/env python3
+"""An independent reading of the product's specification, for comparison with the built program.
+
+The words are those of the product. In front of them `--stage bounds` may stand: then the program
+is the one of the stage that reads one FILE and reports bounds alone.
+"""
+
+import os
+import re
+import sys
+from dataclasses import dataclass, field
+
+from generated import generated
+from input_language import TOTAL_LIMIT, WHY, Fault, blocks_of, lines_of
+from points import History, effect_of
+from report import FILTERS, bounds_report, report
+from state_file import BadState, load, state_file
+
+USAGE = (b"usage: daikon [--min-samples N] [--every N] [--select PREFIX] [--keep-implied] "
+         b"[--keep-incomparable] [--keep-members] [--keep-constant] [--keep-parent] "
+         b"[--ignore-missing-entry] [--stats] [--save] [--resume NAME] [--generate N] [FILE]...\n")
+BOUNDS_USAGE = b"usage: daikon FILE\n"
+
+DONE, REFUSED, USAGE_STATUS, READ = 0, 1, 2, 3
+MOST_PERIOD = 1_000_000_000
+KEEP = {"--keep-implied": "implied", "--keep-incomparable": "incomparable",
+        "--keep-members": "member", "--keep-constant": "constant", "--keep-parent": "parent"}
+FLAGS = list(KEEP) + ["--ignore-missing-entry", "--stats", "--save"]
+WITH_VALUE = ["--min-samples", "--every", "--select", "--resume", "--generate"]
+
+
+class Usage(Exception):
+    """The words are refused."""
+
+
+@dataclass
+class Words:
+    flags: set = field(default_factory=set)
+    values: dict = field(default_factory=dict)
+    files: list = field(default_factory=list)
+
+
+def words_of_command(words):
+    """Options and FILEs in any order. A flag or option that is given twice, an unknown word, a
+    short option, a prefix of a word, a flag with a value and an option without one are refused.
+    After `--` every word is a FILE; `-` is one too."""
+    found = Words()
+    ahead = list(words)
+    while ahead:
+        word = ahead.pop(0)
+        if word == "--":
+            found.files += ahead
+            break
+        if not word.startswith("-") or word == "-":
+            found.files.append(word)
+            continue
+        name, equals, value = word.partition("=")
+        if name in found.flags or name in found.values:
+            raise Usage
+        if name in FLAGS and not equals:
+            found.flags.add(name)
+        elif name in WITH_VALUE:
+            if not equals:
+                if not ahead or (ahead[0].startswith("-") and ahead[0] != "-"):
+                    raise Usage
+                value = ahead.pop(0)
+            found.values[name] = value
+        else:
+            raise Usage
+    return found
+
+
+def number_between(text, low, high):
+    """One `+` in front and leading zeros pass."""
+    if not re.fullmatch(r"\+?[0-9]+", text, re.ASCII) or not low <= int(text) <= high:
+        raise Usage
+    return int(text)
+
+
+@dataclass
+class Options:
+    least: int = 5
+    every: object = None
+    prefix: bytes = b""
+    filters_on: list = field(default_factory=list)
+    ignore_missing_entry: bool = False
+    stats: bool = False
+    save: bool = False
+    resume: object = None
+    generate: object = None
+    files: list = field(default_factory=list)
+    bounds: bool = False
+
+
+def options_of(words):
+    for word in words:
+        demand_text(word)
+    found = words_of_command(words)
+    options = Options(files=found.files)
+    values = found.values
+    if "--min-samples" in values:
+        options.least = number_between(values["--min-samples"], 1, MOST_PERIOD)
+    if "--every" in values:
+        options.every = number_between(values["--every"], 1, MOST_PERIOD)
+    if "--generate" in values:
+        options.generate = number_between(values["--generate"], 0, (1 << 64) - 1)
+    options.prefix = values.get("--select", "").encode()
+    options.resume = values.get("--resume")
+    kept = {KEEP[flag] for flag in found.flags if flag in KEEP}
+    options.filters_on = [name for name in FILTERS if name not in kept]
+    options.ignore_missing_entry = "--ignore-missing-entry" in found.flags
+    options.stats = "--stats" in found.flags
+    options.save = "--save" in found.flags
+    return options
+
+
+def bounds_options_of(words):
+    if len(words) != 1:
+        raise Usage
+    demand_text(words[0])
+    return Options(files=words, bounds=True)
+
+
+def demand_text(word):
+    """A word that isn't UTF-8 is refused."""
+    try:
+        word.encode()
+    except UnicodeEncodeError:
+        raise Usage from None
+
+
+class Ended(Exception):
+    """The run ends early, with a status and a message."""
+
+    def __init__(self, status, message):
+        super().__init__(status)
+        self.status = status
+        self.message = message
+
+
+def bytes_of_file(name):
+    try:
+        with open(name, "rb") as file:
+            return file.read()
+    except (OSError, ValueError):
+        raise Ended(READ, b"daikon: cannot read %s\n" % os.fsencode(name)) from None
+
+
+def refused(name, fault):
+    place = b"daikon: %s:%d: " % (os.fsencode(name), fault.line)
+    return Ended(REFUSED, place + b"%d %s\n" % (fault.why, WHY[fault.why].encode()))
+
+
+class Run:
+    def __init__(self, options):
+        self.options = options
+        self.history = History()
+        self.bytes_before = 0
+        self.blocks = 0
+
+    def whole(self):
+        """The state file, the generated text, the FILEs, the last report, the state."""
+        options = self.options
+        if options.resume is not None:
+            self.resume(options.resume)
+        if options.generate is not None:
+            write(2, b"generated 20000 records\n")
+            self.read_file("generated", generated(options.generate))
+        for name in options.files:
+            self.read_file(name, bytes_of_file(name))
+        self.last_report()
+        if options.save:
+            with open("daikon.state", "wb") as file:
+                file.write(state_file(self.history))
+
+    def resume(self, name):
+        data = bytes_of_file(name)
+        if len(data) > TOTAL_LIMIT:
+            raise refused(name, Fault(17, 0))
+        try:
+            self.history = load(data)
+        except BadState:
+            raise refused(name, Fault(18, 0)) from None
+        self.bytes_before = len(data)
+
+    def read_file(self, name, data):
+        """Entries wait within their file."""
+        waiting = []
+        lines, cut = lines_of(data, self.bytes_before)
+        try:
+            for block in blocks_of(lines, cut):
+                if effect_of(block, self.history, waiting, self.options.ignore_missing_entry):
+                    self.blocks += 1
+                    self.periodic_report()
+        except Fault as fault:
+            raise refused(name, fault) from None
+        self.bytes_before += len(data)
+
+    def periodic_report(self):
+        if self.options.every is not None and self.blocks % self.options.every == 0:
+            write(1, b"--- after %d blocks\n" % self.blocks)
+            write(1, self.report())
+
+    def last_report(self):
+        if self.options.every is not None:
+            write(1, b"--- end after %d blocks\n" % self.blocks)
+        write(1, self.report())
+
+    def report(self):
+        options = self.options
+        if options.bounds:
+            return bounds_report(self.history)
+        return report(self.history, options.least, options.prefix, options.filters_on,
+                      options.stats)
+
+
+def write(stream, text):
+    while text:
+        text = text[os.write(stream, text):]
+
+
+def main(words):
+    bounds = words[:2] == ["--stage", "bounds"]
+    try:
+        options = bounds_options_of(words[2:]) if bounds else options_of(words)
+    except Usage:
+        write(2, BOUNDS_USAGE if bounds else USAGE)
+        return USAGE_STATUS
+    try:
+        Run(options).whole()
+    except Ended as ended:
+        write(2, ended.message)
+        return ended.status
+    return DONE
+
+
+if __name__ == "__main__":
+    sys.exit(main(sys.argv[1:]))
