@@ -1,8 +1,10 @@
 #!/usr/bin/env python3
 """An independent reading of the product's specification, for comparison with the built program.
 
-The words are those of the product. In front of them `--stage bounds` may stand: then the program
-is the one of the stage that reads one FILE and reports bounds alone.
+The words are those of the product. In front of them `--stage NAME` may stand: then the program is
+the one of an earlier stage. `bounds` reads one FILE and reports bounds alone; `first-form-bounds`
+does so and knows no second declaration form; `grammar1` has all words, but neither the rows of the
+second grammar nor the second declaration form.
 """
 
 import os
@@ -12,7 +14,7 @@ from dataclasses import dataclass, field
 
 from generated import generated
 from input_language import TOTAL_LIMIT, WHY, Fault, blocks_of, lines_of
-from points import History, effect_of
+from points import History, Table, effect_of
 from report import FILTERS, bounds_report, report
 from state_file import BadState, load, state_file
 
@@ -90,6 +92,7 @@ class Options:
     generate: object = None
     files: list = field(default_factory=list)
     bounds: bool = False
+    second_form: bool = True
 
 
 def options_of(words):
@@ -115,6 +118,7 @@ def options_of(words):
 
 
 def bounds_options_of(words):
+    """Exactly one word, which is the FILE, whatever it is."""
     if len(words) != 1:
         raise Usage
     demand_text(words[0])
@@ -154,7 +158,8 @@ def refused(name, fault):
 class Run:
     def __init__(self, options):
         self.options = options
-        self.history = History()
+        grammar = 2 if options.second_form else 1
+        self.history = History(Table(options.second_form), grammar=grammar)
         self.bytes_before = 0
         self.blocks = 0
 
@@ -178,7 +183,7 @@ class Run:
         if len(data) > TOTAL_LIMIT:
             raise refused(name, Fault(17, 0))
         try:
-            self.history = load(data)
+            self.history = load(data, self.options.second_form)
         except BadState:
             raise refused(name, Fault(18, 0)) from None
         self.bytes_before = len(data)
@@ -219,10 +224,21 @@ def write(stream, text):
         text = text[os.write(stream, text):]
 
 
+STAGES = ("bounds", "first-form-bounds", "grammar1")
+
+
+def stage_and_words(words):
+    if words[:1] == ["--stage"] and words[1:2] and words[1] in STAGES:
+        return words[1], words[2:]
+    return None, words
+
+
 def main(words):
-    bounds = words[:2] == ["--stage", "bounds"]
+    stage, words = stage_and_words(words)
+    bounds = stage in ("bounds", "first-form-bounds")
     try:
-        options = bounds_options_of(words[2:]) if bounds else options_of(words)
+        options = bounds_options_of(words) if bounds else options_of(words)
+        options.second_form = stage in (None, "bounds")
     except Usage:
         write(2, BOUNDS_USAGE if bounds else USAGE)
         return USAGE_STATUS

@@ -208,7 +208,7 @@ def read_headers(lines, history):
         if awaited_since is not None:
             set_comparability(history, line, number)
             awaited_since = None
-        elif line == b"VarComparability":
+        elif line == b"VarComparability" and history.table.second_form:
             awaited_since = number
         elif word == b"decl-version":
             if rest != b"2.0":

@@ -73,7 +73,10 @@ def is_subexit(name):
 
 
 class Table:
-    def __init__(self):
+    """`second_form` tells whether declarations of format 1.0 are read at all."""
+
+    def __init__(self, second_form=True):
+        self.second_form = second_form
         self.points = []
         self.by_name = {}
 
@@ -106,7 +109,7 @@ class Table:
         """The points that a new declaration brings."""
         name = declaration.name
         entry = self.entry_of_exit(name)
-        variables = variables_of(declaration, entry)
+        variables = variables_of(declaration, entry, self.second_form)
         declared = [Edge(parent, declaration, position)
                     for position, (parent, _) in enumerate(declaration.edges)]
         index = len(self.points)
@@ -205,7 +208,7 @@ def position_of(point, condition):
 
 # ---------------------------------------------------------------- variables
 
-def variables_of(declaration, entry):
+def variables_of(declaration, entry, second_form):
     """Declared variables that aren't opaque, orig variables, then derived ones. Where there would
     be too many, the list is one longer than allowed and has no derived ones."""
     base = [VarInfo(v.name, v.kind, ("declared",), v.comparability, v.name, False)
@@ -217,7 +220,7 @@ def variables_of(declaration, entry):
                                     now.comparability, now.name, True))
     if number_of_variables(base) > VARIABLES_LIMIT:
         return [None] * (VARIABLES_LIMIT + 1)
-    return base + derived_variables(base)
+    return base + derived_variables(base, second_form)
 
 
 def number_of_variables(base):
@@ -229,14 +232,14 @@ def number_of_variables(base):
     return total
 
 
-def derived_variables(base):
+def derived_variables(base, second_form):
     found = []
     for s, sequence in enumerate(base):
         if sequence.kind not in ELEMENT:
             continue
         element = ELEMENT[sequence.kind]
         elem, index = sequence.comparability
-        name = short_name(sequence.plain)
+        name = short_name(sequence.plain, second_form)
 
         def add(form, kind, text, comparability):
             printed = b"orig(" + text + b")" if sequence.orig else text
@@ -257,9 +260,9 @@ def derived_variables(base):
     return found
 
 
-def short_name(name):
+def short_name(name, second_form):
     """The name without a final `[..]` or, where it has none, without a final `[]`."""
-    for ending in (b"[..]", b"[]"):
+    for ending in (b"[..]", b"[]") if second_form else (b"[..]",):
         if name.endswith(ending):
             return name[:-len(ending)]
     return name
@@ -341,7 +344,7 @@ def effect_of(block, history, waiting, ignore_missing_entry):
     word, rest = first_word_and_rest(line)
     if word == b"ppt":
         history.table.declare(read_ppt_block(number, rest, lines, history.implicit), number)
-    elif line == b"DECLARE":
+    elif line == b"DECLARE" and history.table.second_form:
         history.table.declare(read_declare_block(number, lines, history.implicit), number)
     elif line == b"ListImplementors":
         for _ in lines:

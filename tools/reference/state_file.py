@@ -8,7 +8,7 @@ import re
 
 from input_language import (ELEMENT, MISSING, REP_TYPES, Declaration, Fault, NoValue, Variable,
                             escape, fits_i64, fits_u64, items_between_blanks, unescape, value_of)
-from points import History
+from points import History, Table
 from rows import BROKEN, EMPTY, ROWS, admits, is_proper, is_suppressed, is_written, rows_of
 from samples import Compact, at_most, own_samples
 
@@ -155,10 +155,10 @@ def fields(text, most):
     return found
 
 
-def load(data):
+def load(data, second_grammar=True):
     """The history that the bytes stand for, or BadState."""
     try:
-        history, forms = read_state(data)
+        history, forms = read_state(data, second_grammar)
     except (Fault, NoValue, IndexError):
         raise BadState from None
     demand(written(history, forms) == data)
@@ -166,11 +166,11 @@ def load(data):
     return history
 
 
-def read_state(data):
+def read_state(data, second_grammar):
     lines = Lines(data)
-    history = History()
+    history = History(Table(second_grammar))
     version = lines.rest_of(b"daikon-state")
-    demand(version in (b"1", b"2"))
+    demand(version == b"1" or (version == b"2" and second_grammar))
     history.grammar = int(version)
     word = lines.rest_of(b"comparability")
     demand(word in (b"implicit", b"none"))
