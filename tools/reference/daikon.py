@@ -23,7 +23,7 @@ USAGE = (b"usage: daikon [--min-samples N] [--every N] [--select PREFIX] [--keep
          b"[--ignore-missing-entry] [--stats] [--save] [--resume NAME] [--generate N] [FILE]...\n")
 BOUNDS_USAGE = b"usage: daikon FILE\n"
 
-DONE, REFUSED, USAGE_STATUS, READ = 0, 1, 2, 3
+DONE, REFUSED, USAGE_STATUS, READ, WRITE = 0, 1, 2, 3, 4
 MOST_PERIOD = 1_000_000_000
 KEEP = {"--keep-implied": "implied", "--keep-incomparable": "incomparable",
         "--keep-members": "member", "--keep-constant": "constant", "--keep-parent": "parent"}
@@ -175,8 +175,7 @@ class Run:
             self.read_file(name, bytes_of_file(name))
         self.last_report()
         if options.save:
-            with open("daikon.state", "wb") as file:
-                file.write(state_file(self.history))
+            write_state(state_file(self.history))
 
     def resume(self, name):
         data = bytes_of_file(name)
@@ -220,8 +219,20 @@ class Run:
 
 
 def write(stream, text):
-    while text:
-        text = text[os.write(stream, text):]
+    try:
+        while text:
+            text = text[os.write(stream, text):]
+    except OSError:
+        raise Ended(WRITE, b"") from None
+
+
+def write_state(text):
+    """The file is made anew."""
+    try:
+        with open("daikon.state", "wb") as file:
+            file.write(text)
+    except OSError:
+        raise Ended(WRITE, b"") from None
 
 
 STAGES = ("bounds", "first-form-bounds", "grammar1")
@@ -240,14 +251,20 @@ def main(words):
         options = bounds_options_of(words) if bounds else options_of(words)
         options.second_form = stage in (None, "bounds")
     except Usage:
-        write(2, BOUNDS_USAGE if bounds else USAGE)
-        return USAGE_STATUS
+        return ended_with(USAGE_STATUS, BOUNDS_USAGE if bounds else USAGE)
     try:
         Run(options).whole()
     except Ended as ended:
-        write(2, ended.message)
-        return ended.status
+        return ended_with(ended.status, ended.message)
     return DONE
+
+
+def ended_with(status, message):
+    try:
+        write(2, message)
+    except Ended as ended:
+        return ended.status
+    return status
 
 
 if __name__ == "__main__":

@@ -12,6 +12,11 @@ import random
 import re
 import sys
 from dataclasses import dataclass, field
+from math import gcd
+
+from input_language import Fault, blocks_of, lines_of
+from points import History, Table, effect_of
+from state_file import state_file
 
 VARIABLES = [
     (b"x", b"int"), (b"y", b"int"), (b"z", b"int"), (b"w", b"int"), (b"my\\_x", b"int"),
@@ -31,7 +36,10 @@ COMPARABILITIES = [b"-1", b"1", b"2", b"0", b"1[2]", b"2[1]", b"3[-1]", b"1[1]",
 WORDS_WITHOUT_EFFECT = [b"var-kind variable", b"flags is_param", b"dec-type int", b"array 1",
                         b"enclosing-var this", b"function-args x", b"valid-values 1", b"#no comment"]
 INTEGER_STYLES = ["constant", "latent", "latent plus", "latent times", "square", "small", "index",
-                  "wide", "edge", "negative", "bit", "sum", "length"]
+                  "wide", "edge", "negative", "bit", "sum", "length", "element"]
+ARITHMETIC_STYLES = ["one", "one", "other", "other", "constant", "zero", "unit", "sum of both",
+                     "difference", "product", "least", "greatest", "quotient", "remainder", "and",
+                     "or", "xor", "divisor", "square", "combination", "root"]
 SEQUENCE_STYLES = ["latent", "shifted", "backwards", "part", "sorted", "small", "same", "zeros",
                    "constant", "long"]
 EDGES = [-(1 << 63), (1 << 63) - 1, -(1 << 62), (1 << 62), (1 << 62) + 1, -(1 << 30), 1 << 30,
@@ -64,6 +72,10 @@ class Maker:
         self.styles = {}
         self.latent = 0
         self.latent_list = []
+        self.pair = (0, 0)
+        self.theme = self.random.choice(["mixed", "mixed", "arithmetic", "lists"])
+        self.unit = self.random.choice([1, -1])
+        self.pair_range = self.random.choice([(0, 6), (1, 12), (-8, 8), (0, 1), (1, 3)])
         self.points = []
         self.waiting = []
         self.nonce = 0
@@ -84,7 +96,9 @@ class Maker:
     # ------------------------------------------------------------ points
 
     def plan_points(self):
-        variables = self.some(VARIABLES, self.random.choice([2, 3, 4, 6]))
+        variables = self.some(self.themed(), self.random.choice([2, 3, 4, 6]))
+        if self.theme == "arithmetic" and self.chance(0.8):
+            variables = [(name, b"int") for name in (b"x", b"y", b"z", b"w")]
         names = self.some(PLAIN_NAMES, 3) if self.chance(0.7) else []
         for method in self.some(METHODS, 2) if self.chance(0.6) or not names else []:
             tags = self.some(TAGS, 4)
@@ -95,6 +109,12 @@ class Maker:
             self.random.shuffle(names)
         for name in names:
             self.points.append(self.plan_point(name, variables, names))
+
+    def themed(self):
+        if self.theme == "lists":
+            kinds = self.random.choice([b"int", b"hashcode", b"String", b"int"])
+            return [(name, rep) for name, rep in VARIABLES if rep.endswith((kinds, kinds + b"[]"))]
+        return VARIABLES
 
     def plan_point(self, name, variables, names):
         mine = self.some(variables, 6) if self.chance(0.5) else list(variables)
@@ -178,6 +198,7 @@ class Maker:
         self.latent = self.random.randint(-2, 12)
         length = self.random.choice([0, 1, 2, 3, 3, 4])
         self.latent_list = [self.random.randint(-1, 6) for _ in range(length)]
+        self.pair = (self.random.randint(*self.pair_range), self.random.randint(*self.pair_range))
 
     def style(self, variable, styles):
         key = (variable, len(styles))
@@ -185,7 +206,24 @@ class Maker:
             self.styles[key] = (self.random.choice(styles), self.random.randint(-3, 5))
         return self.styles[key]
 
+    def arithmetic(self, variable):
+        """A number made of the two numbers of the record."""
+        style, k = self.style(variable, ARITHMETIC_STYLES)
+        x, y = self.pair
+        divisor = y if y != 0 else self.unit
+        numbers = {
+            "one": x, "other": y, "constant": k, "zero": 0, "unit": self.unit,
+            "sum of both": x + y, "difference": x - y, "product": x * y, "least": min(x, y),
+            "greatest": max(x, y), "quotient": int(x / divisor),
+            "remainder": x - divisor * int(x / divisor), "and": x & y, "or": x | y, "xor": x ^ y,
+            "divisor": gcd(x, y), "square": x * x, "combination": 2 * x - 3 * y + k,
+            "root": x * abs(self.unit + y),
+        }
+        return numbers[style]
+
     def integer(self, variable):
+        if self.theme == "arithmetic":
+            return self.arithmetic(variable)
         style, k = self.style(variable, INTEGER_STYLES)
         n = self.latent
         numbers = {
@@ -194,6 +232,7 @@ class Maker:
             "index": self.random.randint(-1, 4), "wide": self.random.getrandbits(63),
             "edge": self.random.choice(EDGES), "negative": -n - 20, "bit": n & 5,
             "sum": n + sum(self.latent_list), "length": len(self.latent_list) - 1,
+            "element": self.latent_list[-1] if self.latent_list else n,
         }
         return numbers[style]
 
@@ -479,6 +518,8 @@ def full_case(seed, second_form=True):
         maker.waiting = []
         text = maker.text(maker.blocks(maker.random.choice([3, 6, 12, 25])))
         case.files[name] = maker.mutated(text) if maker.chance(0.1) else text
+    if maker.chance(0.15):
+        return state_case(maker, case)
     options = random_options(maker)
     if maker.chance(0.5):
         case.runs.append(mixed(maker, options, names))
@@ -487,6 +528,24 @@ def full_case(seed, second_form=True):
     case.runs.append(mixed(maker, options + ["--save"], names[:split]))
     resume = ["--resume", "daikon.state"]
     case.runs.append(mixed(maker, random_options(maker) + ["--save"] + resume, names[split:]))
+    return case
+
+
+def state_case(maker, case):
+    """A run that resumes the state of the first file, in most cases with faults put in, and
+    saves it again. Without more files nothing but the state file is asked."""
+    history = History(Table(maker.second_form), grammar=2 if maker.second_form else 1)
+    waiting = []
+    try:
+        for block in blocks_of(*lines_of(case.files["t"])):
+            effect_of(block, history, waiting, True)
+    except Fault:
+        pass
+    text = state_file(history)
+    if maker.chance(0.9):
+        text = maker.mutated(text)
+    case.files = {"s": text}
+    case.runs.append(["--resume", "s", "--save", "--min-samples", "1", "--stats"])
     return case
 
 
