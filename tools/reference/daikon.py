@@ -142,12 +142,29 @@ class Ended(Exception):
         self.message = message
 
 
-def bytes_of_file(name):
-    try:
-        with open(name, "rb") as file:
-            return file.read()
-    except (OSError, ValueError):
-        raise Ended(READ, b"daikon: cannot read %s\n" % os.fsencode(name)) from None
+class HostSinks:
+    """Standard output, standard error and the file `daikon.state`, which is made anew."""
+
+    def report(self, text):
+        self.write(1, text)
+
+    def message(self, text):
+        self.write(2, text)
+
+    def state(self, text):
+        try:
+            with open("daikon.state", "wb") as file:
+                file.write(text)
+        except OSError:
+            raise Ended(WRITE, b"") from None
+
+    @staticmethod
+    def write(stream, text):
+        try:
+            while text:
+                text = text[os.write(stream, text):]
+        except OSError:
+            raise Ended(WRITE, b"") from None
 
 
 def refused(name, fault):
@@ -156,8 +173,12 @@ def refused(name, fault):
 
 
 class Run:
-    def __init__(self, options):
+    """A run over the files of a folder."""
+
+    def __init__(self, options, sinks, folder):
         self.options = options
+        self.sinks = sinks
+        self.folder = folder
         grammar = 2 if options.second_form else 1
         self.history = History(Table(options.second_form), grammar=grammar)
         self.bytes_before = 0
@@ -169,16 +190,23 @@ class Run:
         if options.resume is not None:
             self.resume(options.resume)
         if options.generate is not None:
-            write(2, b"generated 20000 records\n")
+            self.sinks.message(b"generated 20000 records\n")
             self.read_file("generated", generated(options.generate))
         for name in options.files:
-            self.read_file(name, bytes_of_file(name))
+            self.read_file(name, self.bytes_of_file(name))
         self.last_report()
         if options.save:
-            write_state(state_file(self.history))
+            self.sinks.state(state_file(self.history))
+
+    def bytes_of_file(self, name):
+        try:
+            with open(os.path.join(self.folder, name) if name else name, "rb") as file:
+                return file.read()
+        except (OSError, ValueError):
+            raise Ended(READ, b"daikon: cannot read %s\n" % os.fsencode(name)) from None
 
     def resume(self, name):
-        data = bytes_of_file(name)
+        data = self.bytes_of_file(name)
         if len(data) > TOTAL_LIMIT:
             raise refused(name, Fault(17, 0))
         try:
@@ -202,13 +230,13 @@ class Run:
 
     def periodic_report(self):
         if self.options.every is not None and self.blocks % self.options.every == 0:
-            write(1, b"--- after %d blocks\n" % self.blocks)
-            write(1, self.report())
+            self.sinks.report(b"--- after %d blocks\n" % self.blocks)
+            self.sinks.report(self.report())
 
     def last_report(self):
         if self.options.every is not None:
-            write(1, b"--- end after %d blocks\n" % self.blocks)
-        write(1, self.report())
+            self.sinks.report(b"--- end after %d blocks\n" % self.blocks)
+        self.sinks.report(self.report())
 
     def report(self):
         options = self.options
@@ -216,23 +244,6 @@ class Run:
             return bounds_report(self.history)
         return report(self.history, options.least, options.prefix, options.filters_on,
                       options.stats)
-
-
-def write(stream, text):
-    try:
-        while text:
-            text = text[os.write(stream, text):]
-    except OSError:
-        raise Ended(WRITE, b"") from None
-
-
-def write_state(text):
-    """The file is made anew."""
-    try:
-        with open("daikon.state", "wb") as file:
-            file.write(text)
-    except OSError:
-        raise Ended(WRITE, b"") from None
 
 
 STAGES = ("bounds", "first-form-bounds", "grammar1")
@@ -244,27 +255,28 @@ def stage_and_words(words):
     return None, words
 
 
-def main(words):
+def status_of(words, sinks, folder):
+    """Runs the words and gives the status."""
     stage, words = stage_and_words(words)
     bounds = stage in ("bounds", "first-form-bounds")
     try:
         options = bounds_options_of(words) if bounds else options_of(words)
         options.second_form = stage in (None, "bounds")
+        Run(options, sinks, folder).whole()
     except Usage:
-        return ended_with(USAGE_STATUS, BOUNDS_USAGE if bounds else USAGE)
-    try:
-        Run(options).whole()
+        sinks.message(BOUNDS_USAGE if bounds else USAGE)
+        return USAGE_STATUS
     except Ended as ended:
-        return ended_with(ended.status, ended.message)
+        sinks.message(ended.message)
+        return ended.status
     return DONE
 
 
-def ended_with(status, message):
+def main(words):
     try:
-        write(2, message)
+        return status_of(words, HostSinks(), "")
     except Ended as ended:
         return ended.status
-    return status
 
 
 if __name__ == "__main__":
