@@ -487,7 +487,69 @@ def odd_number(random_, lines, at):
     lines[at] = re.sub(rb"-?[0-9]+", random_.choice(numbers), lines[at], count=1)
 
 
-MUTATIONS = [delete_line, double_line, odd_line, odd_line, insert_odd_line, insert_odd_line,
+def odd_sibling(random_, lines, at):
+    """Another line with the first word of one that has such; in place of a value another one."""
+    for k in list(range(at, len(lines))) + list(range(at)):
+        first = lines[k].split()[:1]
+        siblings = [odd for odd in ODD_LINES if odd.split()[:1] == first]
+        if len(siblings) > 1:
+            lines[k] = random_.choice(siblings)
+            return
+
+
+def odd_header(random_, lines, at):
+    """A header line in front of a block."""
+    starts = [k + 1 for k, line in enumerate(lines[:-1]) if line.strip() == b""] + [0]
+    lines.insert(random_.choice(starts), random_.choice(ODD_HEADERS))
+
+
+def odd_nonce(random_, lines, at):
+    places = [k + 1 for k, line in enumerate(lines[:-1]) if line.strip() == b"this_invocation_nonce"]
+    if places:
+        lines[random_.choice(places)] = random_.choice(ODD_NONCES)
+
+
+def odd_in_declare(random_, lines, at):
+    """Another line within a declaration of the second form."""
+    starts = [k for k, line in enumerate(lines) if line.strip() == b"DECLARE"]
+    if starts:
+        start = random_.choice(starts)
+        place = min(start + random_.randint(1, 9), len(lines) - 1)
+        change = random_.choice([delete_line, double_line, None, None, None])
+        if change:
+            change(random_, lines, place)
+        else:
+            lines[place] = random_.choice(SECOND_FORM_LINES + ODD_LINES)
+
+
+def odd_value(random_, lines, at):
+    """Another text in place of one that looks like a value or a mark."""
+    places = [k for k, line in enumerate(lines)
+              if line.strip()[:1] in (b"[", b'"', b"-", b"0", b"1", b"2", b"n", b"t", b"f")
+              and b" " not in line.strip() or line.strip()[:1] == b"["]
+    if places:
+        lines[random_.choice(places)] = random_.choice(ODD_VALUES)
+
+
+ODD_HEADERS = [b"decl-version 3.0", b"decl-version", b"decl-version 2.0 x", b"decl-version 2.0",
+               b"var-comparability", b"var-comparability some", b"var-comparability none",
+               b"var-comparability none x", b"VarComparability", b"VarComparability\nsome",
+               b"VarComparability\nVarComparability", b"VarComparability\n\n",
+               b"VarComparability\n//x\nnone", b"VarComparability x", b"input-language",
+               b"ListImplementors", b"DECLARE", b"ppt"]
+ODD_NONCES = [b"", b"x", b"1.5", b"9223372036854775808", b"-9223372036854775808", b"007", b"-0",
+              b"+1", b"1 2", b"nonsensical"]
+ODD_VALUES = [line for line in ODD_LINES if line.split()[:1] and line.split()[0] not in (
+    b"ppt", b"ppt-type", b"parent", b"variable", b"rep-type", b"comparability", b"constant")] + [
+    b"[1  2 ]", b"[ 1]", b"[1,2]", b"[null]", b"[null null]", b"[true 1]", b"[0x1 0x2]",
+    b"[missing]", b'[nonsensical "a"]', b'["a]', b'["a]"]', b'["a\\"]', b'[ "a"  null ]', b"[[1]]",
+    b"]", b"[", b"TRUE", b"False", b"NULL", b"1 2", b"18446744073709551615",
+    b"18446744073709551616", b"-9223372036854775808", b"9223372036854775807", b"0xffffffffffffffff",
+    b"0x10000000000000000", b"0xG", b"-0x1", b'"\\"', b'"\\\\"', b"''"]
+
+
+MUTATIONS = [odd_sibling, odd_sibling, odd_header, odd_nonce, odd_in_declare, odd_in_declare,
+             odd_value, odd_value, odd_value, delete_line, double_line, odd_line, odd_line, insert_odd_line, insert_odd_line,
              exchange_lines, line_of_elsewhere, odd_byte, odd_byte, delete_byte, cut_after,
              cut_within, delete_block_end, odd_number, odd_number]
 
@@ -497,15 +559,78 @@ MUTATIONS = [delete_line, double_line, odd_line, odd_line, insert_odd_line, inse
 def bounds_case(seed, second_form=True):
     """One file of one run; in about half of the cases with faults put in."""
     maker = Maker(seed, second_form)
+    if maker.chance(0.02):
+        return Case({"t": maker.random.choice(LIMITS)(maker.random)}, [["t"]])
     maker.plan_points()
     text = maker.text(maker.blocks(maker.random.choice([3, 8, 20, 40])))
     if maker.chance(0.5):
         text = maker.mutated(text)
-    if second_form and maker.chance(0.05):
+    if maker.chance(0.02):
         lines = text.split(b"\n")
         second_form_line(maker.random, lines, maker.random.randrange(len(lines)))
         text = b"\n".join(lines)
     return Case({"t": text}, [["t"]])
+
+
+# ---------------------------------------------------------------- limits
+
+def block(lines):
+    return b"".join(line + b"\n" for line in lines) + b"\n"
+
+
+def plain_point(name, variables):
+    lines = [b"ppt " + name]
+    for variable, rep_type in variables:
+        lines += [b"variable " + variable, b"rep-type " + rep_type]
+    return block(lines)
+
+
+def many_points(random_):
+    """As many points as there may be, or one more; at the end a subexit counts twice."""
+    number = 65_535 + random_.choice([-1, 0, 1])
+    names = [b"p%d" % k for k in range(number)]
+    if random_.random() < 0.5:
+        names[-1] = b"M:::EXIT1"
+    return b"".join(block([b"ppt " + name]) for name in names)
+
+
+def many_variables(random_):
+    """As many declared variables as there may be, or one more."""
+    number = 1_024 + random_.choice([0, 1])
+    rep_type = random_.choice([b"int", b"double"])
+    return plain_point(b"P", [(b"x%d" % k, rep_type) for k in range(number)])
+
+
+def many_derived(random_):
+    """As many variables in all as there may be, or a few more."""
+    variables = [(b"a%d[..]" % k, b"int[]") for k in range(40)]
+    variables += [(b"i%d" % k, b"int") for k in range(80)]
+    variables += [(b"h%d" % k, b"hashcode") for k in range(144 + random_.choice([-1, 0, 1]))]
+    variables += [(b"d%d" % k, b"double") for k in range(10)]
+    return plain_point(b"P", variables)
+
+
+def many_orig(random_):
+    """The same with orig variables."""
+    variables = [(b"a%d[..]" % k, b"int[]") for k in range(20)]
+    variables += [(b"i%d" % k, b"int") for k in range(80)]
+    variables += [(b"h%d" % k, b"hashcode") for k in range(32 + random_.choice([-1, 0, 1]))]
+    tag = random_.choice([b"EXIT", b"EXIT1"])
+    return plain_point(b"M:::ENTER", variables) + plain_point(b"M:::" + tag, variables)
+
+
+def long_line(random_):
+    """A line of the greatest length, or one byte more."""
+    length = 16_777_216 + random_.choice([0, 1, 1])
+    filler = random_.choice([b"x", b"#", b" ", b"\t"])
+    line = filler * length
+    if random_.random() < 0.3:
+        line = line[:-1] + b"\r"
+    before = random_.choice([b"", b"ppt P\n", b"ppt P\nvariable x\n", b"ppt P\n\n", b"# x\n"])
+    return before + line + random_.choice([b"", b"\n", b"\nppt\n"])
+
+
+LIMITS = [many_points, many_variables, many_derived, many_orig, long_line, long_line]
 
 
 def full_case(seed, second_form=True):
