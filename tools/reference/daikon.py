@@ -1,10 +1,12 @@
 #!/usr/bin/env python3
 """An independent reading of the product's specification, for comparison with the built program.
 
-The words are those of the product. In front of them `--stage NAME` may stand: then the program is
-the one of an earlier stage. `bounds` reads one FILE and reports bounds alone; `first-form-bounds`
-does so and knows no second declaration form; `grammar1` has all words, but neither the rows of the
-second grammar nor the second declaration form.
+The words are those of the product. In front of them `--stage CUT,CUT...` may stand: then the program
+is the one of an earlier stage. The cuts are
+  one-file       the only word is one FILE; the least number is 5 and all filters are on
+  bounds         as one-file, and the report has the bounds of each point's own samples alone
+  first-grammar  rows 1 to 66 and state files of version 1 alone
+  first-form     the second declaration form isn't known
 """
 
 import os
@@ -21,7 +23,7 @@ from state_file import BadState, load, state_file
 USAGE = (b"usage: daikon [--min-samples N] [--every N] [--select PREFIX] [--keep-implied] "
          b"[--keep-incomparable] [--keep-members] [--keep-constant] [--keep-parent] "
          b"[--ignore-missing-entry] [--stats] [--save] [--resume NAME] [--generate N] [FILE]...\n")
-BOUNDS_USAGE = b"usage: daikon FILE\n"
+ONE_FILE_USAGE = b"usage: daikon FILE\n"
 
 DONE, REFUSED, USAGE_STATUS, READ, WRITE = 0, 1, 2, 3, 4
 MOST_PERIOD = 1_000_000_000
@@ -91,15 +93,14 @@ class Options:
     resume: object = None
     generate: object = None
     files: list = field(default_factory=list)
-    bounds: bool = False
-    second_form: bool = True
+    cuts: tuple = ()
 
 
 def options_of(words):
     for word in words:
         demand_text(word)
     found = words_of_command(words)
-    options = Options(files=found.files)
+    options = Options(files=found.files, filters_on=list(FILTERS))
     values = found.values
     if "--min-samples" in values:
         options.least = number_between(values["--min-samples"], 1, MOST_PERIOD)
@@ -117,12 +118,12 @@ def options_of(words):
     return options
 
 
-def bounds_options_of(words):
+def one_file_options_of(words):
     """Exactly one word, which is the FILE, whatever it is."""
     if len(words) != 1:
         raise Usage
     demand_text(words[0])
-    return Options(files=words, bounds=True)
+    return Options(files=words, filters_on=list(FILTERS))
 
 
 def demand_text(word):
@@ -179,8 +180,9 @@ class Run:
         self.options = options
         self.sinks = sinks
         self.folder = folder
-        grammar = 2 if options.second_form else 1
-        self.history = History(Table(options.second_form), grammar=grammar)
+        self.second_form = "first-form" not in options.cuts
+        self.second_grammar = "first-grammar" not in options.cuts
+        self.history = History(Table(self.second_form), grammar=2 if self.second_grammar else 1)
         self.bytes_before = 0
         self.blocks = 0
 
@@ -210,7 +212,7 @@ class Run:
         if len(data) > TOTAL_LIMIT:
             raise refused(name, Fault(17, 0))
         try:
-            self.history = load(data, self.options.second_form)
+            self.history = load(data, self.second_grammar, self.second_form)
         except BadState:
             raise refused(name, Fault(18, 0)) from None
         self.bytes_before = len(data)
@@ -240,31 +242,31 @@ class Run:
 
     def report(self):
         options = self.options
-        if options.bounds:
+        if "bounds" in options.cuts:
             return bounds_report(self.history)
         return report(self.history, options.least, options.prefix, options.filters_on,
                       options.stats)
 
 
-STAGES = ("bounds", "first-form-bounds", "grammar1")
+CUTS = {"one-file", "bounds", "first-grammar", "first-form"}
 
 
-def stage_and_words(words):
-    if words[:1] == ["--stage"] and words[1:2] and words[1] in STAGES:
-        return words[1], words[2:]
-    return None, words
+def cuts_and_words(words):
+    if len(words) >= 2 and words[0] == "--stage" and set(words[1].split(",")) <= CUTS:
+        return tuple(words[1].split(",")), words[2:]
+    return (), words
 
 
 def status_of(words, sinks, folder):
     """Runs the words and gives the status."""
-    stage, words = stage_and_words(words)
-    bounds = stage in ("bounds", "first-form-bounds")
+    cuts, words = cuts_and_words(words)
+    one_file = "one-file" in cuts or "bounds" in cuts
     try:
-        options = bounds_options_of(words) if bounds else options_of(words)
-        options.second_form = stage in (None, "bounds")
+        options = one_file_options_of(words) if one_file else options_of(words)
+        options.cuts = cuts
         Run(options, sinks, folder).whole()
     except Usage:
-        sinks.message(BOUNDS_USAGE if bounds else USAGE)
+        sinks.message(ONE_FILE_USAGE if one_file else USAGE)
         return USAGE_STATUS
     except Ended as ended:
         sinks.message(ended.message)

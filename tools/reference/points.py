@@ -147,14 +147,14 @@ class Table:
 
     def has_cycle_through(self, point):
         """Whether the edges of the table lead from the point back to it."""
-        reached = []
+        reached = set()
         ahead = [parent for _, parent in self.edges_from(point)]
         while ahead:
             here = ahead.pop()
             if here is point:
                 return True
             if here not in reached:
-                reached.append(here)
+                reached.add(here)
                 ahead += [parent for _, parent in self.edges_from(here)]
         return False
 

@@ -155,10 +155,10 @@ def fields(text, most):
     return found
 
 
-def load(data, second_grammar=True):
+def load(data, second_grammar=True, second_form=True):
     """The history that the bytes stand for, or BadState."""
     try:
-        history, forms = read_state(data, second_grammar)
+        history, forms = read_state(data, second_grammar, second_form)
     except (Fault, NoValue, IndexError):
         raise BadState from None
     demand(written(history, forms) == data)
@@ -166,9 +166,9 @@ def load(data, second_grammar=True):
     return history
 
 
-def read_state(data, second_grammar):
+def read_state(data, second_grammar, second_form):
     lines = Lines(data)
-    history = History(Table(second_grammar))
+    history = History(Table(second_form))
     version = lines.rest_of(b"daikon-state")
     demand(version == b"1" or (version == b"2" and second_grammar))
     history.grammar = int(version)

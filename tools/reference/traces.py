@@ -1,10 +1,11 @@
 #!/usr/bin/env python3
 """Random declarations and traces by a seed.
 
-usage: traces.py [--bounds] [--first-form] SEED FOLDER
+usage: traces.py [--one-file] [--first-form] [--first-grammar] SEED FOLDER
 
 Writes the files of the seed's case into FOLDER and prints its runs, one a line. A case is a list
-of runs in one folder; a run is a list of words. With `--bounds` it is one run with one word.
+of runs in one folder; a run is a list of words. With `--one-file` it is one run with one word.
+`--first-form` leaves the second declaration form out, `--first-grammar` states of version 2.
 """
 
 import os
@@ -556,7 +557,7 @@ MUTATIONS = [odd_sibling, odd_sibling, odd_header, odd_nonce, odd_in_declare, od
 
 # ---------------------------------------------------------------- cases
 
-def bounds_case(seed, second_form=True):
+def one_file_case(seed, second_form=True):
     """One file of one run; in about half of the cases with faults put in."""
     maker = Maker(seed, second_form)
     if maker.chance(0.02):
@@ -633,7 +634,7 @@ def long_line(random_):
 LIMITS = [many_points, many_variables, many_derived, many_orig, long_line, long_line]
 
 
-def full_case(seed, second_form=True):
+def full_case(seed, second_form=True, grammar=2):
     """Several files, runs with all words, states saved, changed and resumed."""
     maker = Maker(seed, second_form)
     maker.plan_points()
@@ -644,7 +645,7 @@ def full_case(seed, second_form=True):
         text = maker.text(maker.blocks(maker.random.choice([3, 6, 12, 25])))
         case.files[name] = maker.mutated(text) if maker.chance(0.1) else text
     if maker.chance(0.15):
-        return state_case(maker, case)
+        return state_case(maker, case, grammar)
     options = random_options(maker)
     if maker.chance(0.5):
         case.runs.append(mixed(maker, options, names))
@@ -656,10 +657,10 @@ def full_case(seed, second_form=True):
     return case
 
 
-def state_case(maker, case):
-    """A run that resumes the state of the first file, in most cases with faults put in, and
-    saves it again. Without more files nothing but the state file is asked."""
-    history = History(Table(maker.second_form), grammar=2 if maker.second_form else 1)
+def state_case(maker, case, grammar):
+    """A run that resumes the state of the first file and saves it again. With faults put in it
+    reads no more files: what comes of a state that no samples give is promised only until then."""
+    history = History(Table(maker.second_form), grammar=maker.random.randint(1, grammar))
     waiting = []
     try:
         for block in blocks_of(*lines_of(case.files["t"])):
@@ -667,10 +668,13 @@ def state_case(maker, case):
     except Fault:
         pass
     text = state_file(history)
-    if maker.chance(0.9):
-        text = maker.mutated(text)
-    case.files = {"s": text}
-    case.runs.append(["--resume", "s", "--save", "--min-samples", "1", "--stats"])
+    words = ["--resume", "s", "--save", "--min-samples", "1", "--stats"]
+    if maker.chance(0.7):
+        case.files = {"s": maker.mutated(text)}
+    else:
+        case.files["s"] = text
+        words += sorted(set(case.files) - {"s", "t"})
+    case.runs.append(words)
     return case
 
 
@@ -700,8 +704,10 @@ def mixed(maker, options, names):
     return options + names if maker.chance(0.8) else names + options
 
 
-def case_of(seed, bounds, second_form):
-    return bounds_case(seed, second_form) if bounds else full_case(seed, second_form)
+def case_of(seed, one_file=False, second_form=True, grammar=2):
+    if one_file:
+        return one_file_case(seed, second_form)
+    return full_case(seed, second_form, grammar)
 
 
 def write_files(case, folder):
@@ -713,7 +719,8 @@ def write_files(case, folder):
 def main(words):
     options = [word for word in words if word.startswith("--")]
     seed, folder = [word for word in words if not word.startswith("--")]
-    case = case_of(int(seed), "--bounds" in options, "--first-form" not in options)
+    case = case_of(int(seed), "--one-file" in options, "--first-form" not in options,
+                   1 if "--first-grammar" in options else 2)
     write_files(case, folder)
     for run in case.runs:
         print(" ".join(run))
