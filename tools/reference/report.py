@@ -4,7 +4,7 @@ from itertools import product
 
 from input_language import ELEMENT
 from rows import (EQUALITIES, ONE_OF_BESIDE, ONE_OF_SCALAR, fits, is_suppressed, rows_of, text_of)
-from samples import AllSamples, at_most, instances
+from samples import AllSamples, capped, instances
 
 FILTERS = ("few", "incomparable", "member", "implied", "constant", "parent")
 SLICES_AND_ELEMENTS = ("at", "upto", "before", "since", "after")
@@ -133,7 +133,7 @@ def kept_instances(facts, filters_on):
 
 
 def heading(point, number):
-    return b"=" * 75 + b"\n" + b"%s  [%d]\n" % (point.name, at_most(number))
+    return b"=" * 75 + b"\n" + b"%s  [%d]\n" % (point.name, capped(number))
 
 
 def section(all_samples, point, least_number, filters_on):
@@ -149,7 +149,7 @@ def section(all_samples, point, least_number, filters_on):
 def stats_line(all_samples, point):
     """The sizes of the compact form of the point's own samples."""
     form = all_samples.own(point).compact_form()
-    sizes = (at_most(form.number), len(form.classes), len(form.known), len(form.patterns),
+    sizes = (capped(form.number), len(form.classes), len(form.known), len(form.patterns),
              len(form.slots))
     return (b"stats %s: samples %d, leaders %d, constants %d, patterns %d, slots %d\n"
             % ((point.name,) + sizes))

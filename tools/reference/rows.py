@@ -483,11 +483,12 @@ def join_plane(a, b):
 
 
 def exchanged(number, state, order):
-    """The state of the tuples in another order of roles: the new role k is the old role order[k]."""
+    """The state of the tuples in another order of roles, in which role k is the old role
+    order[k]."""
     def moved(numbers):
         return tuple(numbers[role] for role in order)
 
-    if state[0] in ("spot",):
+    if state[0] == "spot":
         return (state[0],) + moved(state[1:])
     if state[0] in ("straight", "plane"):
         return (state[0],) + signed(moved(state[1:-1]), state[-1])

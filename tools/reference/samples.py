@@ -11,13 +11,13 @@ from dataclasses import dataclass
 from itertools import product
 
 from input_language import MISSING
-from rows import (BROKEN, EMPTY, HOLDS, ROWS, admits, exchanged, is_suppressed, is_written, join,
-                  rows_of, state_of, written_order)
+from rows import (BROKEN, EMPTY, HOLDS, ROWS, exchanged, is_suppressed, is_written, join, rows_of,
+                  state_of, written_order)
 
 MOST = (1 << 64) - 1
 
 
-def at_most(number):
+def capped(number):
     """Numbers of samples and blocks end at 2^64 - 1 when they are answered."""
     return min(number, MOST)
 
@@ -144,7 +144,7 @@ class Samples:
             moved = [positions[place] for place in places]
             if None not in moved:
                 total += times * compact.count(moved)
-        return at_most(total)
+        return capped(total)
 
     def agree(self, v, w):
         """Whether two variables of one kind have equal values in each sample."""

@@ -7,10 +7,10 @@ same bytes.
 import re
 
 from input_language import (ELEMENT, MISSING, REP_TYPES, Declaration, Fault, NoValue, Variable,
-                            escape, fits_i64, fits_u64, items_between_blanks, unescape, value_of)
+                            escape, fits_i64, items_between_blanks, unescape, value_of)
 from points import History, Table
 from rows import BROKEN, EMPTY, ROWS, admits, is_proper, is_suppressed, is_written, rows_of
-from samples import Compact, at_most, own_samples
+from samples import Compact, capped, own_samples
 
 SAMPLES_LIMIT = 1 << 40
 REP_OF_KIND = {"Bool": b"boolean", "Int": b"int", "Hash": b"hashcode", "Str": b"java.lang.String",
@@ -76,13 +76,13 @@ def declaration_lines(declaration):
 
 
 def compact_lines(index, form):
-    yield b"samples %d %d" % (index, at_most(form.number))
+    yield b"samples %d %d" % (index, capped(form.number))
     for group in sorted(sorted(group) for group in form.classes):
         yield b"class " + spelled_numbers(group)
     bits = {b"".join(b"1" if bit else b"0" for bit in pattern): count
             for pattern, count in form.patterns.items()}
     for text in sorted(bits):
-        yield b"pattern %d" % at_most(bits[text]) + (b" " + text if text else b"")
+        yield b"pattern %d" % capped(bits[text]) + (b" " + text if text else b"")
     for leader in sorted(form.known):
         yield b"known %d %s" % (leader, spelled(form.variables[leader].kind, form.known[leader]))
     for number, places in sorted(form.slots):

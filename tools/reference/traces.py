@@ -35,7 +35,8 @@ POINT_TYPES = [b"point", b"class", b"object", b"enter", b"exit", b"subexit", b"P
 COMPARABILITIES = [b"-1", b"1", b"2", b"0", b"1[2]", b"2[1]", b"3[-1]", b"1[1]", b"2[2][5]",
                    b"-3[2]", b"007", b"-0"]
 WORDS_WITHOUT_EFFECT = [b"var-kind variable", b"flags is_param", b"dec-type int", b"array 1",
-                        b"enclosing-var this", b"function-args x", b"valid-values 1", b"#no comment"]
+                        b"enclosing-var this", b"function-args x", b"valid-values 1",
+                        b"#no comment"]
 INTEGER_STYLES = ["constant", "latent", "latent plus", "latent times", "square", "small", "index",
                   "wide", "edge", "negative", "bit", "sum", "length", "element"]
 ARITHMETIC_STYLES = ["one", "one", "other", "other", "constant", "zero", "unit", "sum of both",
@@ -505,7 +506,8 @@ def odd_header(random_, lines, at):
 
 
 def odd_nonce(random_, lines, at):
-    places = [k + 1 for k, line in enumerate(lines[:-1]) if line.strip() == b"this_invocation_nonce"]
+    places = [k + 1 for k, line in enumerate(lines[:-1])
+              if line.strip() == b"this_invocation_nonce"]
     if places:
         lines[random_.choice(places)] = random_.choice(ODD_NONCES)
 
@@ -550,9 +552,10 @@ ODD_VALUES = [line for line in ODD_LINES if line.split()[:1] and line.split()[0]
 
 
 MUTATIONS = [odd_sibling, odd_sibling, odd_header, odd_nonce, odd_in_declare, odd_in_declare,
-             odd_value, odd_value, odd_value, delete_line, double_line, odd_line, odd_line, insert_odd_line, insert_odd_line,
-             exchange_lines, line_of_elsewhere, odd_byte, odd_byte, delete_byte, cut_after,
-             cut_within, delete_block_end, odd_number, odd_number]
+             odd_value, odd_value, odd_value, delete_line, double_line, odd_line, odd_line,
+             insert_odd_line, insert_odd_line, exchange_lines, line_of_elsewhere, odd_byte,
+             odd_byte, delete_byte, cut_after, cut_within, delete_block_end, odd_number,
+             odd_number]
 
 
 # ---------------------------------------------------------------- cases
