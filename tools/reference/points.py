@@ -1,0 +1,380 @@
+"""Table of points, edges, partners, derived variables, matching entries, history.
+
+The table holds each point with its declaration (an implicit exit has none), its variables, its
+entry and its edges. The history adds the comparability word, the grammar and the samples.
+"""
+
+import re
+from dataclasses import dataclass, field
+
+from input_language import (ELEMENT, MISSING, Fault, read_declare_block, read_headers,
+                            read_ppt_block, read_record, first_word_and_rest)
+
+POINTS_LIMIT = 65_535
+DECLARED_LIMIT = 1_024
+VARIABLES_LIMIT = 16_384
+
+
+@dataclass(frozen=True)
+class VarInfo:
+    """A variable of a point. The form is its word, for a derived one with the positions of its
+    bases. `plain` is the name without `orig( )` around it; `orig` tells whether it stands for the
+    value at the entry."""
+    name: bytes
+    kind: str
+    form: tuple
+    comparability: tuple
+    plain: bytes
+    orig: bool
+
+    def is_base(self):
+        return self.form[0] in ("declared", "orig")
+
+
+@dataclass
+class Edge:
+    """An edge of a point to a parent of that name. `source` is the declaration whose parent lines
+    name the partners, and `position` the edge's place there; both are None for a made edge."""
+    parent: bytes
+    source: object = None
+    position: object = None
+
+
+@dataclass(eq=False)
+class Point:
+    index: int
+    name: bytes
+    declaration: object
+    variables: list
+    entry: object
+    edges: list
+
+    def base(self):
+        return [variable for variable in self.variables if variable.is_base()]
+
+
+def method_and_tag(name):
+    """The method is what stands before the last `:::`, the tag what follows."""
+    method, colons, tag = name.rpartition(b":::")
+    return (method, tag) if colons else (None, None)
+
+
+def is_entry(name):
+    return method_and_tag(name)[1] == b"ENTER"
+
+
+def is_combined_exit(name):
+    return method_and_tag(name)[1] == b"EXIT"
+
+
+def is_subexit(name):
+    tag = method_and_tag(name)[1]
+    return tag is not None and re.fullmatch(rb"EXIT[0-9]+", tag) is not None
+
+
+class Table:
+    """`second_form` tells whether declarations of format 1.0 are read at all."""
+
+    def __init__(self, second_form=True):
+        self.second_form = second_form
+        self.points = []
+        self.by_name = {}
+
+    def find(self, name):
+        return self.by_name.get(name)
+
+    def declare(self, declaration, line):
+        """Adds the declared point, in front of it an implicit exit where one is made. Gives False
+        where the same block was there before."""
+        known = self.find(declaration.name)
+        if known is not None:
+            if known.declaration == declaration:
+                return False
+            raise Fault(5, line)
+        added = self.points_of(declaration)
+        if len(self.points) + len(added) > POINTS_LIMIT:
+            raise Fault(15, line)
+        if (len(declaration.variables) > DECLARED_LIMIT
+                or len(added[-1].variables) > VARIABLES_LIMIT):
+            raise Fault(16, line)
+        for point in added:
+            self.points.append(point)
+            self.by_name[point.name] = point
+        # There was no cycle before, so a cycle goes through a point that was added.
+        if any(self.has_cycle_through(point) for point in added):
+            raise Fault(6, line)
+        return True
+
+    def points_of(self, declaration):
+        """The points that a new declaration brings."""
+        name = declaration.name
+        entry = self.entry_of_exit(name)
+        variables = variables_of(declaration, entry, self.second_form)
+        declared = [Edge(parent, declaration, position)
+                    for position, (parent, _) in enumerate(declaration.edges)]
+        index = len(self.points)
+        if not is_subexit(name):
+            return [Point(index, name, declaration, variables, entry, declared)]
+        combined = method_and_tag(name)[0] + b":::EXIT"
+        exit_point = self.find(combined)
+        added = []
+        if exit_point is None:
+            taken_over = [edge for edge in declared if edge.parent != combined]
+            exit_point = Point(index, combined, None, variables, None, taken_over)
+            added.append(exit_point)
+            index += 1
+        kept = [edge for edge in declared
+                if edge.parent != combined and not is_taken_over(exit_point, edge)]
+        kept.append(Edge(combined))
+        added.append(Point(index, name, declaration, variables, entry, kept))
+        return added
+
+    def entry_of_exit(self, name):
+        """The entry of an exit, where it was declared before."""
+        if not (is_combined_exit(name) or is_subexit(name)):
+            return None
+        return self.find(method_and_tag(name)[0] + b":::ENTER")
+
+    def edges_from(self, point):
+        """The point's edges to points of the table, as (edge, parent)."""
+        found = [(edge, self.find(edge.parent)) for edge in point.edges]
+        return [(edge, parent) for edge, parent in found if parent is not None]
+
+    def edges_into(self, point):
+        """The edges into the point, as (edge, child)."""
+        return [(edge, child) for child in self.points for edge in child.edges
+                if edge.parent == point.name]
+
+    def has_cycle_through(self, point):
+        """Whether the edges of the table lead from the point back to it."""
+        reached = set()
+        ahead = [parent for _, parent in self.edges_from(point)]
+        while ahead:
+            here = ahead.pop()
+            if here is point:
+                return True
+            if here not in reached:
+                reached.add(here)
+                ahead += [parent for _, parent in self.edges_from(here)]
+        return False
+
+    def partners(self, edge, child, parent):
+        """For each variable of the parent the position of its partner in the child, or None."""
+        found = {}
+        for position, variable in enumerate(parent.variables):
+            found[position] = partner(edge, child, parent, variable, found)
+        return [found[position] for position in range(len(parent.variables))]
+
+
+def is_taken_over(exit_point, edge):
+    """Whether the implicit exit has an edge with this PPT and ID."""
+    if exit_point.declaration is not None:
+        return False
+    named = edge.source.edges[edge.position]
+    return any(named == other.source.edges[other.position] for other in exit_point.edges)
+
+
+def partner(edge, child, parent, variable, found):
+    """`found` holds the partners of the parent's earlier variables."""
+    if not variable.is_base():
+        bases = tuple(found[base] for base in variable.form[1:])
+        if None in bases:
+            return None
+        return position_of(child, lambda v: v.form == (variable.form[0],) + bases)
+    if edge.source is None:
+        return position_of(child, lambda v: (v.name, v.kind, v.form)
+                           == (variable.name, variable.kind, variable.form))
+    named = first_with_line(edge, variable.plain)
+    if named is None or named.kind != variable.kind:
+        return None
+    return position_of(child, lambda v: v.is_base() and v.plain == named.name
+                       and v.kind == named.kind and v.orig == variable.orig)
+
+
+def first_with_line(edge, name):
+    """The first declared variable with a counting parent line of the edge that gives the name."""
+    for variable in edge.source.variables:
+        if (edge.position, name) in variable.parents:
+            return variable
+    return None
+
+
+def position_of(point, condition):
+    for position, variable in enumerate(point.variables):
+        if condition(variable):
+            return position
+    return None
+
+
+# ---------------------------------------------------------------- variables
+
+def variables_of(declaration, entry, second_form):
+    """Declared variables that aren't opaque, orig variables, then derived ones. Where there would
+    be too many, the list is one longer than allowed and has no derived ones."""
+    base = [VarInfo(v.name, v.kind, ("declared",), v.comparability, v.name, False)
+            for v in declaration.variables if v.kind is not None]
+    for old in entry.base() if entry is not None else []:
+        for now in list(base):
+            if not now.orig and (now.name, now.kind) == (old.name, old.kind):
+                base.append(VarInfo(b"orig(" + now.name + b")", now.kind, ("orig",),
+                                    now.comparability, now.name, True))
+    if number_of_variables(base) > VARIABLES_LIMIT:
+        return [None] * (VARIABLES_LIMIT + 1)
+    return base + derived_variables(base, second_form)
+
+
+def number_of_variables(base):
+    total = len(base)
+    for orig in (False, True):
+        sequences = sum(v.kind in ELEMENT and v.orig == orig for v in base)
+        numbers = sum(v.kind == "Int" and v.orig == orig for v in base)
+        total += 3 * sequences + 5 * sequences * numbers
+    return total
+
+
+def derived_variables(base, second_form):
+    found = []
+    for s, sequence in enumerate(base):
+        if sequence.kind not in ELEMENT:
+            continue
+        element = ELEMENT[sequence.kind]
+        elem, index = sequence.comparability
+        name = short_name(sequence.plain, second_form)
+
+        def add(form, kind, text, comparability):
+            printed = b"orig(" + text + b")" if sequence.orig else text
+            found.append(VarInfo(printed, kind, form, comparability, text, sequence.orig))
+
+        add(("size", s), "Int", b"size(" + sequence.plain + b")", (index, -1))
+        add(("first", s), element, name + b"[0]", (elem, -1))
+        add(("last", s), element, name + b"[-1]", (elem, -1))
+        for i, number in enumerate(base):
+            if number.kind != "Int" or number.orig != sequence.orig:
+                continue
+            at = number.plain
+            add(("at", s, i), element, name + b"[" + at + b"]", (elem, -1))
+            add(("upto", s, i), sequence.kind, name + b"[0.." + at + b"]", (elem, index))
+            add(("before", s, i), sequence.kind, name + b"[0.." + at + b"-1]", (elem, index))
+            add(("since", s, i), sequence.kind, name + b"[" + at + b"..]", (elem, index))
+            add(("after", s, i), sequence.kind, name + b"[" + at + b"+1..]", (elem, index))
+    return found
+
+
+def short_name(name, second_form):
+    """The name without a final `[..]` or, where it has none, without a final `[]`."""
+    for ending in (b"[..]", b"[]") if second_form else (b"[..]",):
+        if name.endswith(ending):
+            return name[:-len(ending)]
+    return name
+
+
+def derived_value(form, values):
+    """The value of a derived form over the values of its bases; a missing base makes it missing."""
+    bases = [values[base] for base in form[1:]]
+    if any(base is MISSING for base in bases):
+        return MISSING
+    s = bases[0]
+    n = len(s)
+    i = bases[1] if len(bases) > 1 else None
+    if form[0] == "size":
+        return n
+    if form[0] == "first":
+        return s[0] if n > 0 else MISSING
+    if form[0] == "last":
+        return s[n - 1] if n > 0 else MISSING
+    if form[0] == "at":
+        return s[i] if 0 <= i < n else MISSING
+    if form[0] == "upto":
+        return s[:i + 1] if -1 <= i < n else MISSING
+    if form[0] == "before":
+        return s[:i] if 0 <= i <= n else MISSING
+    if form[0] == "since":
+        return s[i:] if 0 <= i <= n else MISSING
+    return s[i + 1:] if -1 <= i < n else MISSING
+
+
+def with_derived(variables, base_values):
+    values = list(base_values)
+    for variable in variables[len(base_values):]:
+        values.append(derived_value(variable.form, base_values))
+    return tuple(values)
+
+
+# ---------------------------------------------------------------- history
+
+@dataclass
+class History:
+    """A table, the comparability word in force, a grammar, and for each point its own samples:
+    those that a state file stands for, and the list of those that were read. A sample holds base
+    and derived values."""
+    table: Table = field(default_factory=Table)
+    implicit: bool = True
+    grammar: int = 2
+    loaded: dict = field(default_factory=dict)
+    own: dict = field(default_factory=dict)
+
+
+@dataclass
+class Entry:
+    method: bytes
+    nonce: object
+    values: list
+
+
+def taken_by(waiting, method, nonce):
+    """The positions of the waiting entries that an exit takes, the latest of its method first."""
+    of_method = [k for k, entry in enumerate(waiting)
+                 if entry.method == method and entry.nonce == nonce]
+    if not of_method:
+        return []
+    latest = of_method[-1]
+    if nonce is not None:
+        return [latest]
+    return [latest] + [k for k in range(latest + 1, len(waiting)) if waiting[k].nonce is None]
+
+
+def effect_of(block, history, waiting, ignore_missing_entry):
+    """Adds the effect of a block to the history. Gives False where it is no block. `waiting` is
+    the list of the file's entries that wait before it."""
+    lines = block.each_line()
+    anything, first = read_headers(lines, history)
+    if first is None:
+        return anything
+    number, line = first
+    word, rest = first_word_and_rest(line)
+    if word == b"ppt":
+        history.table.declare(read_ppt_block(number, rest, lines, history.implicit), number)
+    elif line == b"DECLARE" and history.table.second_form:
+        history.table.declare(read_declare_block(number, lines, history.implicit), number)
+    elif line == b"ListImplementors":
+        for _ in lines:
+            pass
+    else:
+        record = read_record(number, line, lines, history.table, block.end)
+        add_record(record, history, waiting, ignore_missing_entry)
+    return True
+
+
+def add_record(record, history, waiting, ignore_missing_entry):
+    point = record.point
+    method = method_and_tag(point.name)[0]
+    values = list(record.values)
+    if point.entry is not None:
+        taken = taken_by(waiting, method, record.nonce)
+        if not taken:
+            if ignore_missing_entry:
+                return
+            raise Fault(14, record.line)
+        values += orig_values(point, waiting[taken[0]])
+        waiting[:] = [entry for k, entry in enumerate(waiting) if k not in taken]
+    if is_entry(point.name):
+        waiting.append(Entry(method, record.nonce, list(record.values)))
+    sample = with_derived(point.variables, values)
+    history.own.setdefault(point.index, []).append(sample)
+
+
+def orig_values(point, entry):
+    """The entry's values of the exit's orig variables."""
+    names = [variable.name for variable in point.entry.base()]
+    return [entry.values[names.index(variable.plain)]
+            for variable in point.base() if variable.orig]

@@ -1,0 +1,298 @@
+"""Samples of a point, and what is asked of them: states, counts, agreement, the compact form.
+
+`Samples` stands for a list of samples in which order doesn't matter. It holds each different
+sample with the number of times that it stands in the list, and besides the compact forms that
+state files hold, each with the position of its variable for each variable here (or None, where
+the variable is missing in all those samples) and the number of times that it counts.
+"""
+
+from collections import Counter
+from dataclasses import dataclass
+from itertools import product
+
+from input_language import MISSING
+from rows import (BROKEN, EMPTY, HOLDS, ROWS, exchanged, is_suppressed, is_written, join, rows_of,
+                  state_of, written_order)
+
+MOST = (1 << 64) - 1
+
+
+def capped(number):
+    """Numbers of samples and blocks end at 2^64 - 1 when they are answered."""
+    return min(number, MOST)
+
+
+# ---------------------------------------------------------------- compact form
+
+@dataclass
+class Compact:
+    """The compact form of a nonempty list of samples: its number, the classes of variables that
+    agree, the patterns of present leaders with their counts, the values of the constant leaders,
+    and the kept slots with their states."""
+    variables: list
+    grammar: int
+    number: int
+    classes: list
+    patterns: dict
+    known: dict
+    slots: dict
+
+    def prepare(self):
+        self.leader = {place: group[0] for group in self.classes for place in group}
+        self.rank = {group[0]: k for k, group in enumerate(self.classes)}
+        self.cache = {}
+
+    def is_present(self, bits, place):
+        return bits[self.rank[self.leader[place]]]
+
+    def count(self, places):
+        return sum(count for bits, count in self.patterns.items()
+                   if all(self.is_present(bits, place) for place in places))
+
+    def agree(self, v, w):
+        return self.leader[v] == self.leader[w]
+
+    def fit(self, number, places):
+        """The state of a row over any variables that it admits: each variable's leader stands for
+        it, and the roles are exchanged where the leaders aren't in written order."""
+        leaders = [self.leader[place] for place in places]
+        order = written_order(number, leaders)
+        written = tuple(leaders[role] for role in order)
+        back = [order.index(role) for role in range(len(order))]
+        return exchanged(number, self.written_fit(number, written), back)
+
+    def written_fit(self, number, leaders):
+        key = (number, leaders)
+        if key not in self.cache:
+            self.cache[key] = self.find_fit(number, leaders)
+        return self.cache[key]
+
+    def find_fit(self, number, leaders):
+        if all(leader in self.known for leader in leaders):
+            values = tuple(self.known[leader] for leader in leaders)
+            return state_of(number, set() if MISSING in values else {values})
+        if (number, leaders) in self.slots:
+            return self.slots[number, leaders]
+        if is_suppressed(self, number, leaders):
+            return HOLDS if self.count(leaders) > 0 else EMPTY
+        return BROKEN
+
+
+# ---------------------------------------------------------------- samples
+
+class Samples:
+    def __init__(self, variables, grammar, samples, compacts):
+        """`samples` counts each different sample; `compacts` lists (compact form, positions,
+        times)."""
+        self.variables = variables
+        self.grammar = grammar
+        self.samples = samples
+        self.compacts = compacts
+        self.cache = {}
+        self.tuple_cache = {}
+        self.times = list(samples.values())
+        self.number_columns()
+        self.present = Counter()
+        for sample, times in samples.items():
+            self.present[presence(sample)] += times
+
+    def number_columns(self):
+        """Each different value of a kind gets a number, so that columns compare quickly."""
+        numbers = {}
+        self.values = {}
+        self.columns = []
+        for place, variable in enumerate(self.variables):
+            of_kind = numbers.setdefault(variable.kind, {})
+            column = [of_kind.setdefault(sample[place], len(of_kind)) for sample in self.samples]
+            self.columns.append(column)
+        for kind, of_kind in numbers.items():
+            self.values[kind] = list(of_kind)
+
+    def number(self):
+        return sum(self.times) + sum(times * compact.number
+                                     for compact, _, times in self.compacts)
+
+    def tuples(self, places):
+        """The set of tuples that the variables have in the samples in which none is missing."""
+        if places not in self.tuple_cache:
+            values = [self.values.get(self.variables[place].kind, []) for place in places]
+            found = set()
+            for numbers in set(zip(*[self.columns[place] for place in places])):
+                tuple_here = tuple(of_kind[k] for of_kind, k in zip(values, numbers))
+                if all(value is not MISSING for value in tuple_here):
+                    found.add(tuple_here)
+            self.tuple_cache[places] = found
+        return self.tuple_cache[places]
+
+    def fit(self, number, places):
+        """The row's state of the tuples of the variables, repeats and any order allowed."""
+        key = (number, places)
+        if key not in self.cache:
+            state = state_of(number, self.tuples(places))
+            for compact, positions, _ in self.compacts:
+                moved = tuple(positions[place] for place in places)
+                if state != BROKEN and None not in moved:
+                    state = join(number, state, compact.fit(number, moved))
+            self.cache[key] = state
+        return self.cache[key]
+
+    def count(self, places):
+        """The number of samples in which none of the variables is missing."""
+        total = sum(times for present, times in self.present.items()
+                    if all(present[place] for place in places))
+        for compact, positions, times in self.compacts:
+            moved = [positions[place] for place in places]
+            if None not in moved:
+                total += times * compact.count(moved)
+        return capped(total)
+
+    def agree(self, v, w):
+        """Whether two variables of one kind have equal values in each sample."""
+        return (self.variables[v].kind == self.variables[w].kind
+                and self.columns[v] == self.columns[w]
+                and all(self.agree_in(compact, positions[v], positions[w])
+                        for compact, positions, _ in self.compacts))
+
+    @staticmethod
+    def agree_in(compact, v, w):
+        if v is None and w is None:
+            return True
+        if v is None or w is None:
+            return compact.count([w if v is None else v]) == 0
+        return compact.agree(v, w)
+
+    def leaders(self):
+        """For each variable the first one that agrees with it."""
+        return [next(w for w in range(v + 1) if self.agree(w, v))
+                for v in range(len(self.variables))]
+
+    def constant(self, v):
+        """A list of the one value that the variable has in all samples, Missing counted; or no
+        value."""
+        kind = self.variables[v].kind
+        found = {self.values[kind][number] for number in set(self.columns[v])}
+        for compact, positions, _ in self.compacts:
+            if positions[v] is None:
+                found.add(MISSING)
+            elif compact.leader[positions[v]] in compact.known:
+                found.add(compact.known[compact.leader[positions[v]]])
+            else:
+                return []
+        return list(found) if len(found) == 1 else []
+
+    # ------------------------------------------------------------ compact form
+
+    def compact_form(self):
+        """Asks that there are samples."""
+        leaders = self.leaders()
+        classes = [[v for v, leader in enumerate(leaders) if leader == first]
+                   for first in sorted(set(leaders))]
+        firsts = [group[0] for group in classes]
+        known = {}
+        for leader in firsts:
+            for value in self.constant(leader):
+                known[leader] = value
+        return Compact(self.variables, self.grammar, self.number(), classes,
+                       self.patterns(firsts), known, self.slots(firsts, known))
+
+    def patterns(self, firsts):
+        patterns = Counter()
+        for present, times in self.present.items():
+            patterns[tuple(present[leader] for leader in firsts)] += times
+        for compact, positions, times in self.compacts:
+            for bits, count in compact.patterns.items():
+                patterns[tuple(positions[leader] is not None
+                               and compact.is_present(bits, positions[leader])
+                               for leader in firsts)] += times * count
+        return dict(patterns)
+
+    def slots(self, firsts, known):
+        slots = {}
+        for number in rows_of(self.grammar):
+            for places in tuples_for(number, self.variables, firsts):
+                if not is_written(number, places) or all(place in known for place in places):
+                    continue
+                state = self.fit(number, places)
+                if state != BROKEN and not is_suppressed(self, number, places):
+                    slots[number, places] = state
+        return slots
+
+
+def presence(sample):
+    return tuple(value is not MISSING for value in sample)
+
+
+def tuples_for(number, variables, places):
+    """The tuples over these variables that the row admits, repeats included, ascending."""
+    choices = [[place for place in places if variables[place].kind == kind
+                and (which == "any" or variables[place].is_base())]
+               for kind, which in ROWS[number].takes]
+    return product(*choices)
+
+
+def instances(number, variables):
+    """The admitted, written tuples of distinct variables, by the variables in order of roles."""
+    for places in tuples_for(number, variables, range(len(variables))):
+        if len(set(places)) == len(places) and is_written(number, places):
+            yield places
+
+
+# ---------------------------------------------------------------- samples of a point
+
+def own_samples(history, point):
+    compacts = []
+    if point.index in history.loaded:
+        compact = history.loaded[point.index]
+        compacts.append((compact, list(range(len(point.variables))), 1))
+    samples = Counter(history.own.get(point.index, []))
+    return Samples(point.variables, history.grammar, samples, compacts)
+
+
+class AllSamples:
+    """The samples of each point: its own, then for each edge into it the child's, mapped."""
+
+    def __init__(self, history):
+        self.history = history
+        self.table = history.table
+        self.found = {}
+        self.own_found = {}
+
+    def own(self, point):
+        if point.index not in self.own_found:
+            self.own_found[point.index] = own_samples(self.history, point)
+        return self.own_found[point.index]
+
+    def of(self, point):
+        if point.index not in self.found:
+            self.found[point.index] = self.merged(point)
+        return self.found[point.index]
+
+    def merged(self, point):
+        edges = self.table.edges_into(point)
+        if not edges:
+            return self.own(point)
+        samples = Counter(self.own(point).samples)
+        compacts = list(self.own(point).compacts)
+        for edge, child in edges:
+            below = self.of(child)
+            partners = self.table.partners(edge, child, point)
+            for sample, times in below.samples.items():
+                samples[moved(sample, partners)] += times
+            for compact, positions, times in below.compacts:
+                compacts.append((compact, moved(positions, partners), times))
+        return Samples(point.variables, self.history.grammar, samples, together(compacts))
+
+
+def moved(items, partners):
+    """Each item moved to the variable whose partner holds it; nothing without a partner."""
+    return tuple(None if partner is None else items[partner] for partner in partners)
+
+
+def together(compacts):
+    """Equal compact forms with equal positions count as many times as they stand there."""
+    found = {}
+    for compact, positions, times in compacts:
+        key = (id(compact), tuple(positions))
+        _, _, before = found.get(key, (compact, positions, 0))
+        found[key] = (compact, positions, before + times)
+    return list(found.values())

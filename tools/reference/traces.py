@@ -1,0 +1,733 @@
+#!/usr/bin/env python3
+"""Random declarations and traces by a seed.
+
+usage: traces.py [--one-file] [--first-form] [--first-grammar] SEED FOLDER
+
+Writes the files of the seed's case into FOLDER and prints its runs, one a line. A case is a list
+of runs in one folder; a run is a list of words. With `--one-file` it is one run with one word.
+`--first-form` leaves the second declaration form out, `--first-grammar` states of version 2.
+"""
+
+import os
+import random
+import re
+import sys
+from dataclasses import dataclass, field
+from math import gcd
+
+from input_language import Fault, blocks_of, lines_of
+from points import History, Table, effect_of
+from state_file import state_file
+
+VARIABLES = [
+    (b"x", b"int"), (b"y", b"int"), (b"z", b"int"), (b"w", b"int"), (b"my\\_x", b"int"),
+    (b"k\\\\l", b"int"), (b"b", b"boolean"), (b"c", b"boolean"), (b"h", b"hashcode"),
+    (b"g", b"hashcode"), (b"s", b"java.lang.String"), (b"u", b"String"), (b"a[..]", b"int[]"),
+    (b"e[]", b"int[]"), (b"m[..]", b"int[]"), (b"q[..]", b"hashcode[]"), (b"r[..]", b"hashcode[]"),
+    (b"t[..]", b"String[]"), (b"v[..]", b"java.lang.String[]"), (b"f[..]", b"boolean[]"),
+    (b"d", b"double"), (b"dd[..]", b"double[]"),
+]
+PLAIN_NAMES = [b"P", b"Q", b"R", b"a\\_b", b"C\\\\D", b"S x", b"O:::OBJECT", b"O:::CLASS",
+               b"PQ", b"E:::EXIT1x", b"F:::ENTERS"]
+METHODS = [b"M", b"N", b"O.m(int)", b"X:::Y", b"n\\_n"]
+TAGS = [b"ENTER", b"EXIT", b"EXIT1", b"EXIT2", b"EXIT007"]
+POINT_TYPES = [b"point", b"class", b"object", b"enter", b"exit", b"subexit", b"POINT", b"SubExit"]
+COMPARABILITIES = [b"-1", b"1", b"2", b"0", b"1[2]", b"2[1]", b"3[-1]", b"1[1]", b"2[2][5]",
+                   b"-3[2]", b"007", b"-0"]
+WORDS_WITHOUT_EFFECT = [b"var-kind variable", b"flags is_param", b"dec-type int", b"array 1",
+                        b"enclosing-var this", b"function-args x", b"valid-values 1",
+                        b"#no comment"]
+INTEGER_STYLES = ["constant", "latent", "latent plus", "latent times", "square", "small", "index",
+                  "wide", "edge", "negative", "bit", "sum", "length", "element"]
+ARITHMETIC_STYLES = ["one", "one", "other", "other", "constant", "zero", "unit", "sum of both",
+                     "difference", "product", "least", "greatest", "quotient", "remainder", "and",
+                     "or", "xor", "divisor", "square", "combination", "root"]
+SEQUENCE_STYLES = ["latent", "shifted", "backwards", "part", "sorted", "small", "same", "zeros",
+                   "constant", "long"]
+EDGES = [-(1 << 63), (1 << 63) - 1, -(1 << 62), (1 << 62), (1 << 62) + 1, -(1 << 30), 1 << 30,
+         (1 << 30) + 1, 0, 1, -1]
+STRINGS = [b'"a"', b'"b c"', b'"a\\"]"', b"null", b'""', b'"\\\\"', b'"#"', b'"1"', b'"\xff"',
+           b'"a\tb"']
+MISSING_WORDS = [b"nonsensical", b"uninit", b"missing"]
+
+
+@dataclass
+class PointPlan:
+    """A point as the generator means it: its spelled name, its variables as (name, rep-type,
+    whether a constant stands there), and its block's lines."""
+    name: bytes
+    variables: list
+    block: list
+    declared: bool = False
+
+
+@dataclass
+class Case:
+    files: dict = field(default_factory=dict)
+    runs: list = field(default_factory=list)
+
+
+class Maker:
+    def __init__(self, seed, second_form=True):
+        self.random = random.Random(seed)
+        self.second_form = second_form
+        self.styles = {}
+        self.latent = 0
+        self.latent_list = []
+        self.pair = (0, 0)
+        self.theme = self.random.choice(["mixed", "mixed", "arithmetic", "lists"])
+        self.unit = self.random.choice([1, -1])
+        self.pair_range = self.random.choice([(0, 6), (1, 12), (-8, 8), (0, 1), (1, 3)])
+        self.points = []
+        self.waiting = []
+        self.nonce = 0
+        self.use_comparability = self.chance(0.5)
+        self.missing_rate = self.random.choice([0, 0, 0.05, 0.3])
+        self.bad_rate = self.random.choice([0, 0, 0, 0.01])
+        self.with_nonces = self.random.choice([0, 0.5, 1])
+
+    def chance(self, rate):
+        return self.random.random() < rate
+
+    def some(self, items, most):
+        """A few of the items, in their order."""
+        number = self.random.randint(1, min(most, len(items)))
+        chosen = self.random.sample(range(len(items)), number)
+        return [items[k] for k in sorted(chosen)]
+
+    # ------------------------------------------------------------ points
+
+    def plan_points(self):
+        variables = self.some(self.themed(), self.random.choice([2, 3, 4, 6]))
+        if self.theme == "arithmetic" and self.chance(0.8):
+            variables = [(name, b"int") for name in (b"x", b"y", b"z", b"w")]
+        names = self.some(PLAIN_NAMES, 3) if self.chance(0.7) else []
+        for method in self.some(METHODS, 2) if self.chance(0.6) or not names else []:
+            tags = self.some(TAGS, 4)
+            if self.chance(0.1):
+                self.random.shuffle(tags)
+            names += [method + b":::" + tag for tag in tags]
+        if self.chance(0.2):
+            self.random.shuffle(names)
+        for name in names:
+            self.points.append(self.plan_point(name, variables, names))
+
+    def themed(self):
+        if self.theme == "lists":
+            kinds = self.random.choice([b"int", b"hashcode", b"String", b"int"])
+            return [(name, rep) for name, rep in VARIABLES if rep.endswith((kinds, kinds + b"[]"))]
+        return VARIABLES
+
+    def plan_point(self, name, variables, names):
+        mine = self.some(variables, 6) if self.chance(0.5) else list(variables)
+        if self.chance(0.1):
+            self.random.shuffle(mine)
+        if self.chance(0.1):
+            mine = [(v, self.random.choice(VARIABLES)[1] if self.chance(0.3) else rep)
+                    for v, rep in mine]
+        if self.chance(0.03):
+            mine = []
+        if self.second_form and self.chance(0.15):
+            return self.plan_declare(name, mine)
+        return self.plan_ppt(name, mine, names)
+
+    def plan_ppt(self, name, mine, names):
+        lines = [b"ppt " + name]
+        if self.chance(0.9):
+            lines.append(b"ppt-type " + self.random.choice(POINT_TYPES))
+        edges = self.edges_for(name, names)
+        for relation, parent, number in edges:
+            lines.append(b"parent %s %s %d" % (relation, parent, number))
+        if self.chance(0.1):
+            lines.append(self.random.choice(WORDS_WITHOUT_EFFECT))
+        planned = []
+        for variable, rep_type in mine:
+            constant = self.chance(0.05)
+            planned.append((variable, rep_type, constant))
+            lines += self.variable_lines(variable, rep_type, constant, edges, mine)
+        return PointPlan(name, planned, lines)
+
+    def edges_for(self, name, names):
+        """Mostly to later points, so that there is no cycle."""
+        others = names[names.index(name) + 1:] if self.chance(0.98) else names
+        if self.chance(0.95):
+            others = [other for other in others if b":::EXIT" not in other]
+        if not others or self.chance(0.4):
+            return []
+        edges = []
+        for _ in range(self.random.choice([1, 1, 2, 3])):
+            relation = b"parent" if self.chance(0.9) else b"user"
+            parent = b"Nowhere" if self.chance(0.05) else self.random.choice(others)
+            if b" " not in parent:
+                edge = (relation, parent, self.random.choice([0, 1, 1, 2, 4294967295]))
+                if edge not in edges:
+                    edges.append(edge)
+        return edges
+
+    def variable_lines(self, variable, rep_type, constant, edges, mine):
+        lines = [b"variable " + variable]
+        more = [b"rep-type " + rep_type]
+        if self.use_comparability and self.chance(0.8):
+            more.append(b"comparability " + self.random.choice(COMPARABILITIES))
+        if constant:
+            more.append(b"constant " + self.text_of(variable, rep_type))
+        for _, parent, number in edges:
+            if self.chance(0.8):
+                more.append(b"parent %s %d" % (parent, number))
+                if self.chance(0.3):
+                    more[-1] += b" " + self.random.choice(mine)[0].replace(b" ", b"\\_")
+        if self.chance(0.1):
+            more.append(self.random.choice(WORDS_WITHOUT_EFFECT))
+        if self.chance(0.2):
+            self.random.shuffle(more)
+        return lines + more
+
+    def plan_declare(self, name, mine):
+        lines = [b"DECLARE", name]
+        planned = []
+        for variable, rep_type in mine:
+            constant = self.chance(0.1)
+            planned.append((variable, rep_type, constant))
+            representation = rep_type
+            if constant:
+                representation += b" = " + self.text_of(variable, rep_type)
+            lines += [variable, b"int", representation, self.random.choice(COMPARABILITIES)]
+        return PointPlan(name, planned, lines)
+
+    # ------------------------------------------------------------ values
+
+    def new_latent(self):
+        self.latent = self.random.randint(-2, 12)
+        length = self.random.choice([0, 1, 2, 3, 3, 4])
+        self.latent_list = [self.random.randint(-1, 6) for _ in range(length)]
+        self.pair = (self.random.randint(*self.pair_range), self.random.randint(*self.pair_range))
+
+    def style(self, variable, styles):
+        key = (variable, len(styles))
+        if key not in self.styles:
+            self.styles[key] = (self.random.choice(styles), self.random.randint(-3, 5))
+        return self.styles[key]
+
+    def arithmetic(self, variable):
+        """A number made of the two numbers of the record."""
+        style, k = self.style(variable, ARITHMETIC_STYLES)
+        x, y = self.pair
+        divisor = y if y != 0 else self.unit
+        numbers = {
+            "one": x, "other": y, "constant": k, "zero": 0, "unit": self.unit,
+            "sum of both": x + y, "difference": x - y, "product": x * y, "least": min(x, y),
+            "greatest": max(x, y), "quotient": int(x / divisor),
+            "remainder": x - divisor * int(x / divisor), "and": x & y, "or": x | y, "xor": x ^ y,
+            "divisor": gcd(x, y), "square": x * x, "combination": 2 * x - 3 * y + k,
+            "root": x * abs(self.unit + y),
+        }
+        return numbers[style]
+
+    def integer(self, variable):
+        if self.theme == "arithmetic":
+            return self.arithmetic(variable)
+        style, k = self.style(variable, INTEGER_STYLES)
+        n = self.latent
+        numbers = {
+            "constant": k, "latent": n, "latent plus": n + k, "latent times": n * k + 1,
+            "square": n * n, "small": self.random.randint(-1, 2),
+            "index": self.random.randint(-1, 4), "wide": self.random.getrandbits(63),
+            "edge": self.random.choice(EDGES), "negative": -n - 20, "bit": n & 5,
+            "sum": n + sum(self.latent_list), "length": len(self.latent_list) - 1,
+            "element": self.latent_list[-1] if self.latent_list else n,
+        }
+        return numbers[style]
+
+    def integers(self, variable):
+        style, k = self.style(variable, SEQUENCE_STYLES)
+        latent = self.latent_list
+        lists = {
+            "latent": latent, "shifted": [item + k for item in latent],
+            "backwards": latent[::-1], "part": latent[1:], "sorted": sorted(set(latent)),
+            "small": [self.random.randint(0, 2) for _ in range(self.random.randint(0, 4))],
+            "same": [self.latent] * len(latent), "zeros": [0] * len(latent),
+            "constant": [k, k + 1, k + 5], "long": latent * 6,
+        }
+        return lists[style]
+
+    def scalar_text(self, element, number):
+        """A text of the scalar kind that stands for the number."""
+        if element == b"int":
+            if number in (0, 1) and self.chance(0.05):
+                return b"true" if number else b"false"
+            return b"%s%d" % (b"0" if number >= 0 and self.chance(0.03) else b"", number)
+        if element == b"boolean":
+            return self.random.choice([b"true", b"1"] if number % 2 else [b"false", b"0"])
+        if element == b"hashcode":
+            number %= 4
+            spelled = [b"null", b"0", b"0x0"] if number == 0 else [b"%d" % number, b"0x%x" % number,
+                                                                    b"0x0%X" % number]
+            return self.random.choice(spelled)
+        if element == b"double":
+            return b"1.5"
+        return STRINGS[number % len(STRINGS)]
+
+    def text_of(self, variable, rep_type):
+        if rep_type.endswith(b"[]"):
+            element = rep_type[:-2]
+            items = [self.scalar_text(element, item) for item in self.integers(variable)]
+            if self.chance(0.03) and items:
+                items[0] = self.random.choice(MISSING_WORDS)
+            blanks = b"  " if self.chance(0.1) else b" "
+            inner = blanks.join(items)
+            return b"[ " + inner + b" ]" if self.chance(0.1) else b"[" + inner + b"]"
+        return self.scalar_text(rep_type, self.integer(variable))
+
+    def value_lines(self, variable, rep_type):
+        text = self.text_of(variable, rep_type)
+        mark = self.random.choice([b"1", b"1", b"0"])
+        if self.chance(self.missing_rate):
+            text = self.random.choice(MISSING_WORDS)
+            if self.chance(0.8):
+                text = self.random.choice([text, b"null", b"3.5", b"[1"])
+                mark = b"2"
+        if rep_type in (b"int", b"hashcode") and self.chance(0.02):
+            text = self.random.choice([b"99999999999999999999", b"-9223372036854775809"])
+        return [variable, text, mark]
+
+    # ------------------------------------------------------------ blocks
+
+    def record(self, point):
+        self.new_latent()
+        lines = [point.name]
+        method, _, tag = point.name.rpartition(b":::")
+        nonce = self.nonce_for(method, tag)
+        if nonce is not None:
+            lines += [b"this_invocation_nonce", b"%d" % nonce]
+        for variable, rep_type, constant in point.variables:
+            if not constant:
+                lines += self.value_lines(variable, rep_type)
+        return lines
+
+    def nonce_for(self, method, tag):
+        """Mostly a nonce that fits the entries that wait."""
+        if tag == b"ENTER":
+            self.nonce += 1
+            nonce = self.nonce if self.chance(self.with_nonces) else None
+            self.waiting.append((method, nonce))
+            return nonce
+        of_method = [nonce for name, nonce in self.waiting if name == method]
+        if tag.startswith(b"EXIT") and of_method:
+            nonce = self.random.choice(of_method) if self.chance(0.3) else of_method[-1]
+            self.waiting.remove((method, nonce))
+            return nonce
+        return self.random.randint(-3, 3) if self.chance(0.05) else None
+
+    def may_have_record(self, point):
+        """Exits without a waiting entry mostly wait for one."""
+        if not point.declared:
+            return self.chance(0.002)
+        method, _, tag = point.name.rpartition(b":::")
+        entry = method + b":::ENTER"
+        has_entry = any(other.name == entry and other.declared for other in self.points)
+        if not tag.startswith(b"EXIT") or not has_entry:
+            return True
+        return any(name == method for name, _ in self.waiting) or self.chance(0.01)
+
+    def blocks(self, records):
+        """Declarations, most of them first, and sample records."""
+        blocks = [self.odd_block()] if self.chance(0.3) else []
+        for point in self.points:
+            if self.chance(0.95):
+                blocks.append(self.declare(point))
+        for _ in range(records):
+            point = self.random.choice(self.points)
+            if self.chance(0.03):
+                blocks.append(self.declare(point))
+            elif self.chance(0.02):
+                blocks.append(self.odd_block())
+            elif self.may_have_record(point):
+                blocks.append(self.record(point))
+        return blocks
+
+    def declare(self, point):
+        point.declared = True
+        return list(point.block)
+
+    def odd_block(self):
+        headers = [[b"decl-version 2.0"], [b"var-comparability none"], [b"ListImplementors", b"x"],
+                   [b"var-comparability implicit"], [b"input-language C"], [b"# comment"],
+                   [b"// comment", b"decl-version \t2.0"]]
+        if self.second_form:
+            headers += [[b"VarComparability", b"none"], [b"VarComparability", b"# x", b"implicit"]]
+        return list(self.random.choice(headers))
+
+    # ------------------------------------------------------------ text
+
+    def text(self, blocks):
+        dressed = self.chance(0.3)
+        ending = b"\r\n" if self.chance(0.1) else b"\n"
+        text = b""
+        for k, block in enumerate(blocks):
+            if dressed and self.chance(0.1):
+                block = self.random.choice([[b"# note"], [b"//note"], [b"decl-version 2.0"],
+                                            [b"input-language"]]) + block
+            for line in block:
+                text += self.dressed(line) if dressed else line
+                text += ending
+            text += ending if not dressed else self.blank_lines(ending)
+        if self.chance(0.2):
+            text = text.rstrip(b"\r\n")
+        return text
+
+    def dressed(self, line):
+        if self.chance(0.05):
+            line = self.random.choice([b" ", b"\t", b"  \t"]) + line
+        if self.chance(0.05):
+            line += self.random.choice([b" ", b"\t", b"\r", b" \r"])
+        if self.chance(0.02):
+            line = line.replace(b" ", b" \t", 1)
+        return line
+
+    def blank_lines(self, ending):
+        return b"".join(self.random.choice([b"", b"", b" ", b"\t ", b"\r"]) + ending
+                        for _ in range(self.random.choice([1, 1, 1, 2])))
+
+    # ------------------------------------------------------------ faults
+
+    def mutated(self, text):
+        lines = text.split(b"\n")
+        for _ in range(self.random.choice([1, 1, 2, 4])):
+            at = self.random.randrange(len(lines))
+            self.random.choice(MUTATIONS)(self.random, lines, at)
+            if not lines:
+                lines = [b""]
+        return b"\n".join(lines)
+
+
+ODD_LINES = [
+    b"", b" ", b"#", b"//x", b"ppt", b"ppt P", b"ppt-type", b"ppt-type method", b"ppt-type a b",
+    b"ppt-type ENTER", b"parent parent P", b"parent parent P 1", b"parent parent P 4294967296",
+    b"parent user P 01", b"parent parent P +1", b"parent P 1", b"parent P x", b"parent P 1 x y",
+    b"parent parent P 01", b"variable", b"variable x", b"variable y", b"rep-type", b"rep-type int",
+    b"rep-type float", b"rep-type int x", b"rep-type double", b"rep-type boolean",
+    b"rep-type INT", b"comparability", b"comparability 1", b"comparability 1[", b"comparability x",
+    b"comparability 1[2]", b"comparability 1 [2]", b"comparability [2]", b"comparability 1[2]x",
+    b"comparability 1[]", b"comparability +1", b"comparability 9223372036854775808",
+    b"comparability 1[2][9223372036854775808]", b"constant", b"constant 5", b"constant x",
+    b"constant nonsensical", b"constant 99999999999999999999", b'constant "a"', b"constant [1 2]",
+    b"decl-version 2.0", b"decl-version 3.0", b"decl-version", b"decl-version 2.0 x",
+    b"var-comparability none", b"var-comparability", b"var-comparability some",
+    b"input-language", b"ListImplementors", b"ListImplementors x", b"pptx", b"P", b"Q", b"x", b"1",
+    b"0", b"2", b"3", b"-1", b"true", b"null", b"nonsensical", b"this_invocation_nonce", b"+1",
+    b"0x1f", b"0X1f", b"0x", b"-0", b"[1 2", b"[1 2]", b"[ ]", b"[]", b"[\t]", b"[1 nonsensical x]",
+    b'["a" "b"]', b'["a""b"]', b'"a', b'"a"b"', b"9223372036854775808", b"a b", b"\\_", b"\\",
+    b"\r", b"M:::ENTER", b"M:::EXIT1", b"M:::EXIT", b"1\xff",
+]
+SECOND_FORM_LINES = [b"DECLARE", b"DECLARE x", b"VarComparability", b"VarComparability x", b"none",
+                     b"implicit", b"int", b"int = 4", b"int = a", b"int =", b"int x", b"int =4",
+                     b"double =", b"float", b"String = \"a b\""]
+ODD_BYTES = [b" ", b"\t", b"\r", b"\\", b'"', b"[", b"]", b"0", b"-", b"\xff", b"#", b"\n", b"x",
+             b"_", b"."]
+
+
+def delete_line(random_, lines, at):
+    del lines[at]
+
+
+def double_line(random_, lines, at):
+    lines.insert(at, lines[at])
+
+
+def odd_line(random_, lines, at):
+    lines[at] = random_.choice(ODD_LINES)
+
+
+def insert_odd_line(random_, lines, at):
+    lines.insert(at, random_.choice(ODD_LINES))
+
+
+def second_form_line(random_, lines, at):
+    lines.insert(at, random_.choice(SECOND_FORM_LINES))
+
+
+def exchange_lines(random_, lines, at):
+    other = random_.randrange(len(lines))
+    lines[at], lines[other] = lines[other], lines[at]
+
+
+def line_of_elsewhere(random_, lines, at):
+    lines[at] = random_.choice(lines)
+
+
+def odd_byte(random_, lines, at):
+    k = random_.randint(0, len(lines[at]))
+    keep = k if random_.random() < 0.5 else k + 1
+    lines[at] = lines[at][:k] + random_.choice(ODD_BYTES) + lines[at][keep:]
+
+
+def delete_byte(random_, lines, at):
+    k = random_.randint(0, len(lines[at]))
+    lines[at] = lines[at][:k] + lines[at][k + 1:]
+
+
+def cut_after(random_, lines, at):
+    del lines[at + 1:]
+
+
+def cut_within(random_, lines, at):
+    del lines[at + 1:]
+    lines[at] = lines[at][:random_.randint(0, len(lines[at]))]
+
+
+def delete_block_end(random_, lines, at):
+    """Joins the block with the next one."""
+    for k in range(at, len(lines)):
+        if lines[k].strip() == b"":
+            del lines[k]
+            return
+
+
+def odd_number(random_, lines, at):
+    """Another number in the line's place of one."""
+    numbers = [b"0", b"-1", b"1", b"2", b"99999999999999999999", b"4294967296", b"007", b"-0"]
+    lines[at] = re.sub(rb"-?[0-9]+", random_.choice(numbers), lines[at], count=1)
+
+
+def odd_sibling(random_, lines, at):
+    """Another line with the first word of one that has such; in place of a value another one."""
+    for k in list(range(at, len(lines))) + list(range(at)):
+        first = lines[k].split()[:1]
+        siblings = [odd for odd in ODD_LINES if odd.split()[:1] == first]
+        if len(siblings) > 1:
+            lines[k] = random_.choice(siblings)
+            return
+
+
+def odd_header(random_, lines, at):
+    """A header line in front of a block."""
+    starts = [k + 1 for k, line in enumerate(lines[:-1]) if line.strip() == b""] + [0]
+    lines.insert(random_.choice(starts), random_.choice(ODD_HEADERS))
+
+
+def odd_nonce(random_, lines, at):
+    places = [k + 1 for k, line in enumerate(lines[:-1])
+              if line.strip() == b"this_invocation_nonce"]
+    if places:
+        lines[random_.choice(places)] = random_.choice(ODD_NONCES)
+
+
+def odd_in_declare(random_, lines, at):
+    """Another line within a declaration of the second form."""
+    starts = [k for k, line in enumerate(lines) if line.strip() == b"DECLARE"]
+    if starts:
+        start = random_.choice(starts)
+        place = min(start + random_.randint(1, 9), len(lines) - 1)
+        change = random_.choice([delete_line, double_line, None, None, None])
+        if change:
+            change(random_, lines, place)
+        else:
+            lines[place] = random_.choice(SECOND_FORM_LINES + ODD_LINES)
+
+
+def odd_value(random_, lines, at):
+    """Another text in place of one that looks like a value or a mark."""
+    places = [k for k, line in enumerate(lines)
+              if line.strip()[:1] in (b"[", b'"', b"-", b"0", b"1", b"2", b"n", b"t", b"f")
+              and b" " not in line.strip() or line.strip()[:1] == b"["]
+    if places:
+        lines[random_.choice(places)] = random_.choice(ODD_VALUES)
+
+
+ODD_HEADERS = [b"decl-version 3.0", b"decl-version", b"decl-version 2.0 x", b"decl-version 2.0",
+               b"var-comparability", b"var-comparability some", b"var-comparability none",
+               b"var-comparability none x", b"VarComparability", b"VarComparability\nsome",
+               b"VarComparability\nVarComparability", b"VarComparability\n\n",
+               b"VarComparability\n//x\nnone", b"VarComparability x", b"input-language",
+               b"ListImplementors", b"DECLARE", b"ppt"]
+ODD_NONCES = [b"", b"x", b"1.5", b"9223372036854775808", b"-9223372036854775808", b"007", b"-0",
+              b"+1", b"1 2", b"nonsensical"]
+ODD_VALUES = [line for line in ODD_LINES if line.split()[:1] and line.split()[0] not in (
+    b"ppt", b"ppt-type", b"parent", b"variable", b"rep-type", b"comparability", b"constant")] + [
+    b"[1  2 ]", b"[ 1]", b"[1,2]", b"[null]", b"[null null]", b"[true 1]", b"[0x1 0x2]",
+    b"[missing]", b'[nonsensical "a"]', b'["a]', b'["a]"]', b'["a\\"]', b'[ "a"  null ]', b"[[1]]",
+    b"]", b"[", b"TRUE", b"False", b"NULL", b"1 2", b"18446744073709551615",
+    b"18446744073709551616", b"-9223372036854775808", b"9223372036854775807", b"0xffffffffffffffff",
+    b"0x10000000000000000", b"0xG", b"-0x1", b'"\\"', b'"\\\\"', b"''"]
+
+
+MUTATIONS = [odd_sibling, odd_sibling, odd_header, odd_nonce, odd_in_declare, odd_in_declare,
+             odd_value, odd_value, odd_value, delete_line, double_line, odd_line, odd_line,
+             insert_odd_line, insert_odd_line, exchange_lines, line_of_elsewhere, odd_byte,
+             odd_byte, delete_byte, cut_after, cut_within, delete_block_end, odd_number,
+             odd_number]
+
+
+# ---------------------------------------------------------------- cases
+
+def one_file_case(seed, second_form=True):
+    """One file of one run; in about half of the cases with faults put in."""
+    maker = Maker(seed, second_form)
+    if maker.chance(0.02):
+        return Case({"t": maker.random.choice(LIMITS)(maker.random)}, [["t"]])
+    maker.plan_points()
+    text = maker.text(maker.blocks(maker.random.choice([3, 8, 20, 40])))
+    if maker.chance(0.5):
+        text = maker.mutated(text)
+    if maker.chance(0.02):
+        lines = text.split(b"\n")
+        second_form_line(maker.random, lines, maker.random.randrange(len(lines)))
+        text = b"\n".join(lines)
+    return Case({"t": text}, [["t"]])
+
+
+# ---------------------------------------------------------------- limits
+
+def block(lines):
+    return b"".join(line + b"\n" for line in lines) + b"\n"
+
+
+def plain_point(name, variables):
+    lines = [b"ppt " + name]
+    for variable, rep_type in variables:
+        lines += [b"variable " + variable, b"rep-type " + rep_type]
+    return block(lines)
+
+
+def many_points(random_):
+    """As many points as there may be, or one more; at the end a subexit counts twice."""
+    number = 65_535 + random_.choice([-1, 0, 1])
+    names = [b"p%d" % k for k in range(number)]
+    if random_.random() < 0.5:
+        names[-1] = b"M:::EXIT1"
+    return b"".join(block([b"ppt " + name]) for name in names)
+
+
+def many_variables(random_):
+    """As many declared variables as there may be, or one more."""
+    number = 1_024 + random_.choice([0, 1])
+    rep_type = random_.choice([b"int", b"double"])
+    return plain_point(b"P", [(b"x%d" % k, rep_type) for k in range(number)])
+
+
+def many_derived(random_):
+    """As many variables in all as there may be, or a few more."""
+    variables = [(b"a%d[..]" % k, b"int[]") for k in range(40)]
+    variables += [(b"i%d" % k, b"int") for k in range(80)]
+    variables += [(b"h%d" % k, b"hashcode") for k in range(144 + random_.choice([-1, 0, 1]))]
+    variables += [(b"d%d" % k, b"double") for k in range(10)]
+    return plain_point(b"P", variables)
+
+
+def many_orig(random_):
+    """The same with orig variables."""
+    variables = [(b"a%d[..]" % k, b"int[]") for k in range(20)]
+    variables += [(b"i%d" % k, b"int") for k in range(80)]
+    variables += [(b"h%d" % k, b"hashcode") for k in range(32 + random_.choice([-1, 0, 1]))]
+    tag = random_.choice([b"EXIT", b"EXIT1"])
+    return plain_point(b"M:::ENTER", variables) + plain_point(b"M:::" + tag, variables)
+
+
+def long_line(random_):
+    """A line of the greatest length, or one byte more."""
+    length = 16_777_216 + random_.choice([0, 1, 1])
+    filler = random_.choice([b"x", b"#", b" ", b"\t"])
+    line = filler * length
+    if random_.random() < 0.3:
+        line = line[:-1] + b"\r"
+    before = random_.choice([b"", b"ppt P\n", b"ppt P\nvariable x\n", b"ppt P\n\n", b"# x\n"])
+    return before + line + random_.choice([b"", b"\n", b"\nppt\n"])
+
+
+LIMITS = [many_points, many_variables, many_derived, many_orig, long_line, long_line]
+
+
+def full_case(seed, second_form=True, grammar=2):
+    """Several files, runs with all words, states saved, changed and resumed."""
+    maker = Maker(seed, second_form)
+    maker.plan_points()
+    case = Case()
+    names = ["t", "u", "v"][:maker.random.choice([1, 1, 2, 3])]
+    for name in names:
+        maker.waiting = []
+        text = maker.text(maker.blocks(maker.random.choice([3, 6, 12, 25])))
+        case.files[name] = maker.mutated(text) if maker.chance(0.1) else text
+    if maker.chance(0.15):
+        return state_case(maker, case, grammar)
+    options = random_options(maker)
+    if maker.chance(0.5):
+        case.runs.append(mixed(maker, options, names))
+        return case
+    split = maker.random.randint(0, len(names))
+    case.runs.append(mixed(maker, options + ["--save"], names[:split]))
+    resume = ["--resume", "daikon.state"]
+    case.runs.append(mixed(maker, random_options(maker) + ["--save"] + resume, names[split:]))
+    return case
+
+
+def state_case(maker, case, grammar):
+    """A run that resumes the state of the first file and saves it again. With faults put in it
+    reads no more files: what comes of a state that no samples give is promised only until then."""
+    history = History(Table(maker.second_form), grammar=maker.random.randint(1, grammar))
+    waiting = []
+    try:
+        for block in blocks_of(*lines_of(case.files["t"])):
+            effect_of(block, history, waiting, True)
+    except Fault:
+        pass
+    text = state_file(history)
+    words = ["--resume", "s", "--save", "--min-samples", "1", "--stats"]
+    if maker.chance(0.7):
+        case.files = {"s": maker.mutated(text)}
+    else:
+        case.files["s"] = text
+        words += sorted(set(case.files) - {"s", "t"})
+    case.runs.append(words)
+    return case
+
+
+def random_options(maker):
+    chosen = []
+    if maker.chance(0.85):
+        chosen += ["--min-samples", maker.random.choice(["1", "1", "1", "2", "+3", "004", "0", "x"]
+                                                        if maker.chance(0.1) else ["1", "1", "2"])]
+    for flag in ["--keep-implied", "--keep-incomparable", "--keep-members", "--keep-constant",
+                 "--keep-parent", "--stats"]:
+        if maker.chance(0.3):
+            chosen.append(flag)
+    if maker.chance(0.7):
+        chosen.append("--ignore-missing-entry")
+    if maker.chance(0.1):
+        chosen += ["--every", maker.random.choice(["1", "3", "7"])]
+    if maker.chance(0.1):
+        chosen += [maker.random.choice(["--select=P", "--select=M", "--select=", "--select=a b"])]
+    return chosen
+
+
+def mixed(maker, options, names):
+    """FILEs may stand between the options."""
+    if maker.chance(0.02):
+        options = options + [maker.random.choice(["--stats", "--min", "-x", "--stats=1", "--save=",
+                                                  "nowhere", "--select", "--generate=-1"])]
+    return options + names if maker.chance(0.8) else names + options
+
+
+def case_of(seed, one_file=False, second_form=True, grammar=2):
+    if one_file:
+        return one_file_case(seed, second_form)
+    return full_case(seed, second_form, grammar)
+
+
+def write_files(case, folder):
+    for name, text in case.files.items():
+        with open(os.path.join(folder, name), "wb") as file:
+            file.write(text)
+
+
+def main(words):
+    options = [word for word in words if word.startswith("--")]
+    seed, folder = [word for word in words if not word.startswith("--")]
+    case = case_of(int(seed), "--one-file" in options, "--first-form" not in options,
+                   1 if "--first-grammar" in options else 2)
+    write_files(case, folder)
+    for run in case.runs:
+        print(" ".join(run))
+
+
+if __name__ == "__main__":
+    main(sys.argv[1:])
