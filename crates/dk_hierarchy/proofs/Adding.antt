@@ -1,5 +1,5 @@
 -- Adding a way where one of the ways may be like it.
-use Rattle.std.specs.Prelude.{◌≡◌, ◌<◌, ◌≤◌, ◌+◌, ◌++◌, ℕ, zero, suc, true, false, List, [], ◌∷◌, drop, length, refl, take, slice_index_or, slice_set, if◌then◌else◌}
+use Rattle.std.specs.Prelude.{◌≡◌, ◌<◌, ◌≤◌, ◌+◌, ◌++◌, ℕ, zero, suc, true, false, List, [], ◌∷◌, drop, length, refl, take, slice_set, if◌then◌else◌}
 use Rattle.std.proofs.Common.{◌∙◌, ap, arith, get_or, sym}
 use Rattle.std.proofs.lemmas.List.{append_assoc, at_drop_all, at_drop_more, take_more}
 use Rattle.dk_hierarchy.specs.Ways.{same_way, with_paths, with_way}

@@ -1,19 +1,17 @@
 -- Going down from a point, way by way.
-use Rattle.std.specs.Prelude.{◌≡◌, ◌<◌, ◌≤◌, ◌+◌, ◌++◌, ℕ, zero, suc, All, List, [], ◌∷◌, flat_map, fold, length, map, refl, replicate, slice_index_or, slice_set, Some}
+use Rattle.std.specs.Prelude.{◌≡◌, ◌<◌, ◌++◌, ℕ, zero, suc, All, List, [], ◌∷◌, flat_map, fold, length, map, refl, replicate, slice_index_or}
 use Rattle.std.proofs.Common.{◌∙◌, ap, arith, subst, sym}
 use Rattle.std.proofs.lemmas.List.{append-nil, append_assoc, length-set}
 use Rattle.std.proofs.lemmas.List.Elements.{All-append, All-cons, All-head, All-nil, All-tail, All-weaker}
-use Rattle.dk_base.specs.declared.values.Value.{Value}
 use Rattle.dk_graph.specs.Graphs.{ParentsAreDeeper, depth_of, edges_into}
 use Rattle.dk_graph.specs.declared.nodes.Edge.{Edge}
 use Rattle.dk_points.specs.Links.{nodes}
 use Rattle.dk_points.specs.Table.{Point}
-use Rattle.dk_presence.specs.Patterns.{capped}
 use Rattle.dk_hierarchy.proofs.Deeper.{IsFromBelow, into-from-below}
 use Rattle.dk_hierarchy.proofs.Levels.{ByPlace, all_with_way, at_push, at_set, before_push, ways_below_added}
 use Rattle.dk_hierarchy.proofs.Onward.{all_mapped_own, brought_below, edge_partners, own_are_partners, partners_onward}
 use Rattle.dk_hierarchy.proofs.Samples.{all_variables}
-use Rattle.dk_hierarchy.proofs.Telling.{Samples, same_across, same_append, same_as, same_behind, same_inner, same_refl, same_swap, same_sym, same_trans}
+use Rattle.dk_hierarchy.proofs.Telling.{Samples, same_append, same_as, same_behind, same_refl, same_swap, same_sym, same_trans}
 use Rattle.dk_hierarchy.specs.Edges.{ArePartners}
 use Rattle.dk_hierarchy.specs.Descent.{IsDescent, IsWayDown, first_levels, first_way, own_partners, with_way_at, with_ways_below}
 use Rattle.dk_hierarchy.specs.Samples.{OwnSamples, all_vars_of, mapped, own_samples_of, partners_of, samples_of}

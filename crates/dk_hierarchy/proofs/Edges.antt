@@ -13,8 +13,6 @@ use Rattle.dk_base.specs.SameValues.{same_value}
 use Rattle.dk_presence.specs.Patterns.{capped, count_of}
 use Rattle.dk_rows.specs.Meanings.{state_of}
 use Rattle.dk_samples.specs.Samples.{is_present, value_in}
-use Rattle.dk_template.specs.Templates.{IsRow}
-use Rattle.dk_template.specs.declared.grammar.RowId.{RowId}
 use Rattle.dk_hierarchy.specs.Edges.{AgreementThroughEdges, CountsThroughEdges, FitsThroughEdges, partner_at, partners_at, same_through}
 use Rattle.dk_hierarchy.specs.Samples.{mapped}
 

@@ -1,14 +1,14 @@
 -- What a function needs that follows the ways of a level.
 use Rattle.std.specs.Prelude.{◌≡◌, ◌<◌, ◌≤◌, ◌+◌, ◌++◌, ℕ, All, List, [], ◌∷◌, fold, length, refl, take}
 use Rattle.std.proofs.Common.{◌∙◌, ap, arith, get_or, subst, sym}
-use Rattle.std.proofs.lemmas.List.{length-set, take_more}
+use Rattle.std.proofs.lemmas.List.{take_more}
 use Rattle.dk_graph.specs.Graphs.{ParentsAreDeeper, depth_of, edges_into}
 use Rattle.dk_graph.specs.declared.nodes.Edge.{Edge}
 use Rattle.dk_points.proofs.EndsOfEdges.{edges-into}
 use Rattle.dk_points.proofs.Nodes.{length-nodes}
 use Rattle.dk_points.specs.Links.{nodes}
 use Rattle.dk_points.specs.Table.{Point}
-use Rattle.dk_hierarchy.proofs.Deeper.{IsFromBelow, into-from-below}
+use Rattle.dk_hierarchy.proofs.Deeper.{into-from-below}
 use Rattle.dk_hierarchy.proofs.Descending.{way_deep, way_done, way_is, ways_below_long}
 use Rattle.dk_hierarchy.specs.Descent.{IsDescent, with_way_at, with_ways_below}
 use Rattle.dk_hierarchy.specs.Ways.{way_below}

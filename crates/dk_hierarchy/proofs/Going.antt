@@ -1,5 +1,4 @@
 -- The laws of ways.
-use Rattle.std.specs.Prelude.{[], ◌≡◌}
 use Rattle.std.proofs.Common.{subst}
 use Rattle.std.proofs.lemmas.List.{append-nil}
 use Rattle.dk_fits.proofs.Fitting.{fit_of_set}

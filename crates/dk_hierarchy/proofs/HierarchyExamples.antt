@@ -6,7 +6,6 @@ use Rattle.dk_base.specs.SameValues.{same_value}
 use Rattle.dk_base.specs.declared.kinds.Kind.TheVariants as kind
 use Rattle.dk_base.specs.declared.values.Value.{Value}
 use Rattle.dk_base.specs.declared.values.Value.TheVariants as value
-use Rattle.dk_decl.specs.declared.decls.EdgeDecl.{EdgeDecl}
 use Rattle.dk_decl.specs.declared.decls.ParentVar.{ParentVar}
 use Rattle.dk_decl.specs.declared.decls.VarDecl.{VarDecl}
 use Rattle.dk_derive.specs.Partners.{partner_with_derived}

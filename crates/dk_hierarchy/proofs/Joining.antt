@@ -1,11 +1,10 @@
 -- The states that ways bring, one after another.
-use Rattle.std.specs.Prelude.{◌≡◌, ◌<◌, ◌+◌, ◌&&◌, ℕ, true, false, All, List, drop, fold, length, min, sum_by, take, ◌^◌, ◌-◌}
+use Rattle.std.specs.Prelude.{◌≡◌, ◌<◌, ◌+◌, ◌&&◌, ℕ, true, false, All, List, length, min, sum_by, take, ◌^◌, ◌-◌}
 use Rattle.std.proofs.Common.{◌∙◌, ap, arith, get_or, subst, sym}
 use Rattle.std.specs.List.{list_all}
 use Rattle.std.proofs.lemmas.List.Folds.{fold_stays, list_all_at, list_all_more}
 use Rattle.std.proofs.lemmas.List.Sums.{sum_by_more}
 use Rattle.dk_base.specs.declared.kinds.VarId.{VarId}
-use Rattle.dk_forms.specs.declared.states.State.{State}
 use Rattle.dk_forms.specs.declared.states.State.TheVariants.{Broken}
 use Rattle.dk_presence.specs.Patterns.{capped}
 use Rattle.dk_template.proofs.Absorbing.{broken_absorbs}

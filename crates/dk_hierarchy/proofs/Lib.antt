@@ -19,4 +19,3 @@ pub mod OfPoint
 pub mod Following
 pub mod Answering
 pub mod TableEngines
-pub mod IntSamples

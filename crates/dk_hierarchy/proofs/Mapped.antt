@@ -1,7 +1,6 @@
 -- Mapped samples are samples of the parent's variables.
-use Rattle.std.specs.Prelude.{◌≡◌, ◌<◌, ◌+◌, ◌++◌, ℕ, zero, suc, All, List, [], ◌∷◌, flat_map, length, map, slice_get, slice_index_or, Option, Some, None, IsSomeAnd, option_map, refl}
+use Rattle.std.specs.Prelude.{◌≡◌, ◌+◌, ℕ, zero, suc, All, List, [], ◌∷◌, flat_map, length, map, slice_get, slice_index_or, Option, Some, None, IsSomeAnd, option_map, refl}
 use Rattle.std.specs.List.{AllZip, enumerate_from}
-use Rattle.std.specs.Option.{option_map_or}
 use Rattle.std.proofs.Common.{◌∙◌, ap, arith, sym, subst}
 use Rattle.std.proofs.lemmas.List.Elements.{All-append, All-map}
 use Rattle.dk_base.specs.Shapes.{var}

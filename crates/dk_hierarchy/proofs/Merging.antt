@@ -1,8 +1,8 @@
 -- What engines say through ways is what the samples say that the ways bring.
-use Rattle.std.specs.Prelude.{◌≡◌, ◌↔◌, ◌<◌, ◌+◌, ◌*◌, ◌==◌, ◌++◌, ℕ, zero, suc, Bool, true, false, ◌&&◌, All, IsTrue, List, [], ◌∷◌, cond, count_by, flat_map, fold, length, map, refl, slice_index_or, sum_by, Option, Some, None}
+use Rattle.std.specs.Prelude.{◌≡◌, ◌↔◌, ◌<◌, ◌+◌, ◌*◌, ◌==◌, ◌++◌, ℕ, zero, suc, Bool, true, false, ◌&&◌, All, IsTrue, List, [], ◌∷◌, cond, count_by, length, map, refl, sum_by, Option, Some, None}
 use Rattle.std.specs.List.{list_all}
 use Rattle.std.specs.Option.{option_map_or}
-use Rattle.std.proofs.Common.{◌∙◌, ap, arith, get_or, inl, inr, subst, sym}
+use Rattle.std.proofs.Common.{◌∙◌, ap, arith, get_or, subst, sym}
 use Rattle.std.proofs.lemmas.Bool.{and_from, and_parts, eq-eqb, eqb-true, false≢true}
 use Rattle.std.proofs.lemmas.List.{append-nil, append_assoc}
 use Rattle.std.proofs.lemmas.List.Elements.{All-append, All-cons, All-head, All-nil, All-tail}
@@ -16,17 +16,15 @@ use Rattle.dk_base.specs.declared.values.Value.TheVariants as value
 use Rattle.dk_classes.specs.Classes.{kind_at, kinds_of}
 use Rattle.dk_engine.proofs.Readings.{agreement_read, counts_read, read_fits, row_is}
 use Rattle.dk_engine.specs.Levels.{Whole}
-use Rattle.dk_engine.specs.Reading.{agree_read, count_read, read}
+use Rattle.dk_engine.specs.Reading.{count_read, read}
 use Rattle.dk_fits.proofs.Fitting.{count_of_both, fit_of_both, fit_of_none, fit_of_set}
 use Rattle.dk_fits.proofs.Whole.{kind_alike}
 use Rattle.dk_fits.specs.Fits.{fit}
-use Rattle.dk_forms.specs.declared.states.State.{State}
 use Rattle.dk_forms.specs.declared.states.State.TheVariants.{Empty}
 use Rattle.dk_presence.specs.Patterns.{capped, count_of}
 use Rattle.dk_samples.specs.Samples.{Agree, is_present, value_in}
 use Rattle.dk_template.specs.Admitted.{admits, same_kind}
 use Rattle.dk_template.specs.Joins.{joined}
-use Rattle.dk_template.specs.Premises.{AreThere}
 use Rattle.dk_template.specs.Templates.{IsRowOf, form_of}
 use Rattle.dk_template.specs.declared.grammar.RowId.{RowId}
 use Rattle.dk_hierarchy.proofs.Edges.{counts, fits_through, of_partner, value-through}

@@ -1,15 +1,13 @@
 -- The variables of a point, base and derived, can be an engine's.
-use Rattle.std.specs.Prelude.{◌≡◌, ◌<◌, ◌≤◌, ◌+◌, ◌-◌, ◌^◌, ◌++◌, ℕ, true, false, All, List, flat_map, length, map, refl}
+use Rattle.std.specs.Prelude.{◌≡◌, ◌<◌, ◌-◌, ◌++◌, ℕ, true, All, List, flat_map, length, map, refl}
 use Rattle.std.specs.List.{enumerate_from}
 use Rattle.std.proofs.Common.{◌∙◌, ap, arith, get_or, inl, inr, subst, sym}
 use Rattle.std.proofs.lemmas.Bool.{cases_lt, false≢true}
 use Rattle.std.proofs.lemmas.List.{get_or-append_right, get_or_append_left, length-append, length-map}
 use Rattle.std.proofs.lemmas.List.Elements.{All-map, All-weaker}
 use Rattle.dk_base.specs.Shapes.{Shape, is_base_form, of_sequence, shape_of}
-use Rattle.dk_base.specs.declared.kinds.VarInfo.{VarInfo}
 use Rattle.dk_derive.proofs.Deriving.{IsBase, IsDerived, base_form, given_derived, shapes_with_derived}
 use Rattle.dk_derive.specs.Vars.{with_derived_vars}
-use Rattle.dk_engine.specs.Exact.{AreOfPoint}
 use Rattle.dk_points.specs.Laws.{IsBaseVar}
 use Rattle.dk_hierarchy.proofs.Edges.{index-map}
 use Rattle.dk_hierarchy.specs.Laws.{VariablesAreOfPoints}

@@ -1,5 +1,5 @@
 -- Ways that go on down an edge.
-use Rattle.std.specs.Prelude.{◌≡◌, ◌<◌, ◌≤◌, ◌+◌, ◌++◌, ℕ, zero, suc, All, IsSomeAnd, List, [], ◌∷◌, flat_map, length, map, refl, slice_get, slice_index_or, Option, Some, None, option_and_then, option_map}
+use Rattle.std.specs.Prelude.{◌≡◌, ◌<◌, ◌≤◌, ◌++◌, ℕ, zero, suc, All, IsSomeAnd, List, [], ◌∷◌, flat_map, length, map, refl, slice_get, slice_index_or, Option, Some, None, option_and_then, option_map}
 use Rattle.std.specs.List.{enumerate_from, range_with_len}
 use Rattle.std.proofs.Common.{◌∙◌, ap, arith, inl, inr, subst, sym}
 use Rattle.std.proofs.lemmas.Bool.{cases_lt}
@@ -22,7 +22,7 @@ use Rattle.dk_points.specs.Links.{nodes}
 use Rattle.dk_points.specs.Table.{Point}
 use Rattle.dk_samples.specs.Samples.{value_in}
 use Rattle.dk_hierarchy.proofs.Edges.{index-map, of_partner, value-through}
-use Rattle.dk_hierarchy.proofs.Mapped.{found, partner-at}
+use Rattle.dk_hierarchy.proofs.Mapped.{partner-at}
 use Rattle.dk_hierarchy.proofs.Partners.{both}
 use Rattle.dk_hierarchy.proofs.Samples.{over, own-and-childrens}
 use Rattle.dk_hierarchy.proofs.Telling.{Samples, repeated_both, repeated_each, same_as, same_behind, same_trans}

@@ -1,7 +1,7 @@
 -- What a row takes of variables it takes of their partners.
-use Rattle.std.specs.Prelude.{◌≡◌, ◌<◌, ◌==◌, ◌&&◌, ◌||◌, ℕ, zero, suc, Bool, true, not, IsSomeAnd, List, [], ◌∷◌, length, refl, slice_get, zip, Option, Some, None, option_and_then, option_map}
+use Rattle.std.specs.Prelude.{◌≡◌, ◌<◌, ◌==◌, ◌&&◌, ◌||◌, ℕ, zero, suc, true, not, IsSomeAnd, List, [], ◌∷◌, length, refl, slice_get, zip, Option, Some, None, option_and_then, option_map}
 use Rattle.std.specs.List.{list_all}
-use Rattle.std.proofs.Common.{◌∙◌, ap, arith, subst, sym}
+use Rattle.std.proofs.Common.{◌∙◌, ap, subst, sym}
 use Rattle.std.proofs.lemmas.Bool.{and_from, and_parts}
 use Rattle.std.proofs.lemmas.List.Elements.{All-cons, All-nil}
 use Rattle.std.proofs.lemmas.Option.{slice_get_within}

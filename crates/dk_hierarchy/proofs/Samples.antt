@@ -1,5 +1,5 @@
 -- The samples of a point are its own and its children's.
-use Rattle.std.specs.Prelude.{◌≡◌, ◌<◌, ◌≤◌, ◌+◌, ◌-◌, ◌++◌, ◌==◌, ℕ, zero, suc, All, List, [], ◌∷◌, flat_map, length, map, slice_index_or, refl, option_map}
+use Rattle.std.specs.Prelude.{◌≡◌, ◌≤◌, ◌+◌, ◌-◌, ◌++◌, ◌==◌, ℕ, zero, suc, All, List, [], ◌∷◌, flat_map, length, map, slice_index_or, refl, option_map}
 use Rattle.std.specs.List.{enumerate_from}
 use Rattle.std.proofs.Common.{◌∙◌, ap, arith, sym}
 use Rattle.std.proofs.lemmas.List.{append-nil, length-map}

@@ -1,11 +1,9 @@
 -- What is merged at a point stands for all its samples.
-use Rattle.std.specs.Prelude.{◌≡◌, ◌<◌, ◌++◌, ℕ, All, List, [], ◌∷◌, flat_map, length, refl, slice_get, slice_index_or, Some}
-use Rattle.std.proofs.Common.{◌∙◌, ap, arith, get_or, subst, sym}
+use Rattle.std.specs.Prelude.{◌≡◌, ◌<◌, ℕ, All, List, [], length, slice_get, Some}
+use Rattle.std.proofs.Common.{◌∙◌, arith, get_or, subst, sym}
 use Rattle.std.proofs.lemmas.List.{append-nil}
 use Rattle.std.proofs.lemmas.List.Elements.{All-contains, All-contains_itself, All-weaker}
 use Rattle.std.proofs.lemmas.Option.{slice_get-get_or}
-use Rattle.dk_base.specs.declared.kinds.VarId.{VarId}
-use Rattle.dk_base.specs.declared.kinds.VarInfo.{VarInfo}
 use Rattle.dk_base.specs.declared.values.Value.{Value}
 use Rattle.dk_engine.proofs.Readings.{row_is}
 use Rattle.dk_engine.specs.Levels.{Whole}
@@ -13,7 +11,7 @@ use Rattle.dk_fits.proofs.Fitting.{fit_of_set}
 use Rattle.dk_fits.proofs.Members.{contained, is_in}
 use Rattle.dk_forms.specs.Laws.{IsIn}
 use Rattle.dk_points.specs.Table.{Point}
-use Rattle.dk_samples.specs.Samples.{Agree, value_in}
+use Rattle.dk_samples.specs.Samples.{value_in}
 use Rattle.dk_hierarchy.proofs.Merging.{merged_stand}
 use Rattle.dk_hierarchy.proofs.Telling.{Samples}
 use Rattle.dk_hierarchy.specs.Descent.{IsDescent, IsWayDown}

@@ -1,6 +1,6 @@
 -- One partner after another, down an edge.
-use Rattle.std.specs.Prelude.{◌≡◌, ◌<◌, ◌+◌, ◌++◌, ℕ, zero, suc, IfSome, List, [], ◌∷◌, length, map, refl, slice_get, slice_index_or, take, Option, Some, None, option_map}
-use Rattle.std.proofs.Common.{◌∙◌, ap, arith, get_or, inl, inr, subst, sym}
+use Rattle.std.specs.Prelude.{◌≡◌, ◌<◌, ◌+◌, ◌++◌, ℕ, zero, suc, IfSome, List, [], ◌∷◌, length, map, refl, slice_index_or, take, Option, Some, None, option_map}
+use Rattle.std.proofs.Common.{◌∙◌, ap, arith, get_or, inl, inr, sym}
 use Rattle.std.proofs.lemmas.List.{map-append, take_more}
 use Rattle.std.proofs.lemmas.Option.{slice_get_cases}
 use Rattle.dk_base.specs.Shapes.{var}

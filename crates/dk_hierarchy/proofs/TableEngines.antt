@@ -1,15 +1,12 @@
 -- The engines of a table's points, one point more at a time.
-use Rattle.std.specs.Prelude.{◌≡◌, ◌<◌, ◌≤◌, ◌^◌, ◌++◌, ◌⊎◌, ℕ, zero, suc, List, [], ◌∷◌, length, refl, slice_get, Some}
-use Rattle.std.proofs.Common.{◌∙◌, ap, arith, get_or, inl, inr, subst, sym}
+use Rattle.std.specs.Prelude.{◌≡◌, ◌<◌, ◌^◌, ◌++◌, ◌⊎◌, ℕ, zero, suc, List, [], ◌∷◌, length, refl, slice_get, Some}
+use Rattle.std.proofs.Common.{◌∙◌, ap, get_or, inl, inr, subst, sym}
 use Rattle.std.proofs.lemmas.Option.{slice_get_read}
 use Rattle.dk_engine.specs.Exact.{AreOfPoint}
 use Rattle.dk_engine.specs.Levels.{Whole}
 use Rattle.dk_graph.proofs.Places.{some-injective}
 use Rattle.dk_points.specs.Table.{Point}
-use Rattle.dk_template.specs.Templates.{IsRowOf}
 use Rattle.dk_template.specs.declared.grammar.Grammar.{Grammar}
-use Rattle.dk_template.specs.declared.grammar.Grammar.TheVariants as grammar
-use Rattle.dk_template.specs.declared.grammar.RowId.{RowId}
 use Rattle.dk_hierarchy.specs.Samples.{all_vars_of}
 use Rattle.dk_hierarchy.specs.Standing.{AreEnginesOf}
 
@@ -47,11 +44,6 @@ all_engines ps grammar engines first long = record {
   variables = λ i engine at. let is = first.each i engine at in (is.0, is.1);
   grammar = λ i j engine other at there. (first.each i engine at).2 ∙ sym (first.each j other there).2;
 }
-
--- a row of the first grammar is one of each
-pub row_of_each : (g : Grammar) (row : RowId) → 1 ≤ row.0 → row.0 ≤ 66 → IsRowOf g row
-row_of_each grammar.One row low high = (low, high)
-row_of_each grammar.Two row low high = (low, omega arith)
 
 -- ---- the engine of a point
 module _ (ps : List Point) (engines : List Whole) (are : AreEnginesOf ps engines) (p : ℕ) (engine : Whole) (within : p < length ps) (is : engine ≡ get_or engines p engine) where

@@ -1,7 +1,6 @@
 -- Small ways, by computing.
-use Rattle.std.specs.Prelude.{◌≡◌, ℕ, pos, List, [], ◌∷◌, Option, Some, None, refl}
+use Rattle.std.specs.Prelude.{◌≡◌, ℕ, pos, [], ◌∷◌, Some, None, refl}
 use Rattle.dk_base.specs.Shapes.{var}
-use Rattle.dk_base.specs.declared.values.Value.{Value}
 use Rattle.dk_base.specs.declared.values.Value.TheVariants as value
 use Rattle.dk_hierarchy.specs.Ways.{brought, onward, repeated, with_way}
 use Rattle.dk_hierarchy.specs.declared.way.Way.{Way}

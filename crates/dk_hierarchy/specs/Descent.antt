@@ -4,7 +4,6 @@ use Rattle.std.specs.List.{range_with_len}
 use Rattle.dk_base.specs.Shapes.{var}
 use Rattle.dk_base.specs.declared.kinds.VarId.{VarId}
 use Rattle.dk_graph.specs.Graphs.{depth_of, edges_into}
-use Rattle.dk_graph.specs.declared.nodes.Edge.{Edge}
 use Rattle.dk_points.specs.Links.{nodes}
 use Rattle.dk_points.specs.Table.{Point}
 use Rattle.dk_hierarchy.specs.Edges.{ArePartners}

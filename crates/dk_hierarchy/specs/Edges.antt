@@ -1,5 +1,5 @@
 -- What a child's samples tell of a parent's variables, through an edge with these partners.
-use Rattle.std.specs.Prelude.{◌≡◌, ℕ, Bool, true, not, IsSomeAnd, List, [], ◌∷◌, length, map, slice_get, slice_index_or, Option, Some, None, option_and_then, option_map}
+use Rattle.std.specs.Prelude.{◌≡◌, Bool, true, not, IsSomeAnd, List, [], ◌∷◌, length, map, slice_get, slice_index_or, Option, Some, None, option_and_then, option_map}
 use Rattle.std.specs.List.{list_all}
 use Rattle.std.specs.Option.{option_map_or}
 use Rattle.dk_base.specs.declared.kinds.VarId.{VarId}

@@ -1,7 +1,6 @@
 -- What the samples of a point come to.
-use Rattle.std.specs.Prelude.{◌≡◌, ◌<◌, ◌≤◌, ◌^◌, ◌++◌, ℕ, Bool, false, List, length, All, flat_map, map}
+use Rattle.std.specs.Prelude.{◌≡◌, ◌<◌, ◌≤◌, ◌^◌, ◌++◌, ℕ, false, List, length, All, flat_map, map}
 use Rattle.dk_base.specs.declared.kinds.VarInfo.{VarInfo}
-use Rattle.dk_base.specs.declared.values.Value.{Value}
 use Rattle.dk_derive.specs.Vars.{with_derived_vars}
 use Rattle.dk_engine.specs.Exact.{AreOfPoint}
 use Rattle.dk_fits.specs.Laws.{IsSample}

@@ -6,4 +6,3 @@ pub mod Laws
 pub mod WayLaws
 pub mod Merging
 pub mod Standing
-pub mod Numbers

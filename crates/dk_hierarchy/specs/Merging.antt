@@ -1,5 +1,5 @@
 -- What the engines of points say of a point's variables, through the ways down from it.
-use Rattle.std.specs.Prelude.{◌≡◌, ◌==◌, ◌&&◌, ◌*◌, ◌<◌, ℕ, Bool, true, All, IsSomeAnd, List, [], ◌∷◌, fold, length, slice_get, slice_index_or, sum_by, Option, Some, None}
+use Rattle.std.specs.Prelude.{◌≡◌, ◌==◌, ◌&&◌, ◌*◌, ◌<◌, ℕ, Bool, true, All, List, [], ◌∷◌, fold, length, slice_index_or, sum_by, Option, Some, None}
 use Rattle.std.specs.List.{list_all}
 use Rattle.std.specs.Option.{option_map_or}
 use Rattle.dk_base.specs.declared.kinds.VarId.{VarId}

@@ -7,8 +7,8 @@ ghost use Rattle.dk_hierarchy.specs.Ways.{way_below};
 ghost use Rattle.dk_points.specs.Links.{nodes};
 
 use crate::Way;
-use crate::depths::{add_way, first_levels};
 use crate::composing::{onward, partners_of};
+use crate::depths::{add_way, first_levels};
 use dk_base::{List, NoMemory, PointId};
 use dk_engine::Engine;
 use dk_graph::Edge;

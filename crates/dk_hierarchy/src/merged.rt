@@ -1,5 +1,6 @@
 // What answers for all samples of a point.
-ghost use Rattle.std.specs.Prelude.{◌≡◌, ◌<◌, ◌≤◌, IfOk, IsTrue, OnErr, Some, length, slice_get};
+ghost use Rattle.std.specs.Prelude.{◌≡◌, ◌<◌, ◌≤◌, [], IfOk, IsTrue, OnErr, Some, length, slice_get};
+ghost use Rattle.dk_hierarchy.specs.Descent.{IsDescent};
 ghost use Rattle.dk_hierarchy.specs.Merging.{AreWays, IsWay, agree_through, count_through, engine_at, merged_agree, merged_count, merged_state, same_kinds, state_through};
 ghost use Rattle.dk_hierarchy.specs.Standing.{AreEnginesOf, IsMergedAt};
 ghost use Rattle.dk_presence.specs.Patterns.{capped};
@@ -178,6 +179,7 @@ pub fn merge<'e>(
     requires engines { AreEnginesOf points.now engines.now }
     ensures here { IfOk result (λ merged. slice_get engines.now p.0 ≡ Some merged.here) }
     ensures engines { IfOk result (λ merged. merged.engines ≡ engines.now) }
+    ensures ways { IfOk result (λ merged. IsDescent points.now p.0 merged.ways []) }
     ensures stands { IfOk result (IsMergedAt points.now engines.now p.0) }
 {
     let ways = ways_down(alloc, points, engines, p)?;

@@ -1,4 +1,4 @@
-use Rattle.std.specs.Prelude.{◌≡◌, ◌<◌, [], List, length, slice_index_or, slice_set}
+use Rattle.std.specs.Prelude.{◌<◌, [], List, length, slice_index_or, slice_set}
 use Rattle.std.proofs.Common.{◌∙◌, ap, arith}
 use Rattle.std.proofs.lemmas.List.{get_or_read, set-set}
 use Rattle.dk_hierarchy.specs.Ways.{with_way}

@@ -1,8 +1,8 @@
 use Rattle.std.specs.Prelude.{◌≡◌, ◌<◌, ◌+◌, ◌≤◌, ◌++◌, [], ◌∷◌, List, false, length, min, slice_index_or, slice_set, true}
-use Rattle.std.proofs.Common.{◌∙◌, ap, arith, get_or, subst, sym}
+use Rattle.std.proofs.Common.{◌∙◌, ap, arith, get_or, sym}
 use Rattle.std.proofs.lemmas.List.{get_or_read, take_all}
 use Rattle.dk_hierarchy.proofs.Adding.{like_found, none_like, unlike_stays}
-use Rattle.dk_hierarchy.specs.Ways.{same_way, with_paths}
+use Rattle.dk_hierarchy.specs.Ways.{same_way}
 use Rattle.dk_hierarchy.specs.declared.way.Way.{Way}
 use Rattle.dk_hierarchy.proofs.depths.with_way.Goals as goal
 
@@ -20,9 +20,9 @@ returns-then-same_way c =
     let like : same_way (get_or ways i d) way ≡ true = ap (λ (w : Way). same_way w way) (sym (at d c.index.ensures)) ∙ sym c.if-same_way.ensures in
     let paths = c.saturating_add.ensures ∙ ap (λ (w : Way). min (w.paths + way.paths) 18446744073709551615) (at c.index-then-same_way.result.now c.index-then-same_way.ensures) in
     c.from_vec.ensures
-    ∙ (ap (λ (ws : List Way). slice_set ws i (record {point = c.index_mut.result.now.point; partners = c.index_mut.result.now.partners; paths = c.saturating_add.result})) same
-    ∙ (ap (λ (w : Way). slice_set ways i (record {point = w.point; partners = w.partners; paths = c.saturating_add.result})) (at c.index_mut.result.now c.index_mut.ensures.value)
-    ∙ (ap (λ n. slice_set ways i (record {point = (get_or ways i d).point; partners = (get_or ways i d).partners; paths = n})) paths
+    ∙ (ap (λ (ws : List Way). slice_set ws i (record { point = c.index_mut.result.now.point; partners = c.index_mut.result.now.partners; paths = c.saturating_add.result })) same
+    ∙ (ap (λ (w : Way). slice_set ways i (record { point = w.point; partners = w.partners; paths = c.saturating_add.result })) (at c.index_mut.result.now c.index_mut.ensures.value)
+    ∙ (ap (λ n. slice_set ways i (record { point = (get_or ways i d).point; partners = (get_or ways i d).partners; paths = n })) paths
     ∙ like_found ways way i d within like c.loop-i.invariant.1)))
 
 pub loop-i-preserved : goal.loop-i-preserved

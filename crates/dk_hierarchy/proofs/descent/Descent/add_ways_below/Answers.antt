@@ -1,5 +1,5 @@
 use Rattle.std.specs.Prelude.{◌≡◌, ◌<◌, List, length, take}
-use Rattle.std.proofs.Common.{◌∙◌, ap, arith, get_or, subst}
+use Rattle.std.proofs.Common.{◌∙◌, ap, arith, get_or}
 use Rattle.std.proofs.lemmas.List.{get_or_default}
 use Rattle.dk_graph.specs.Graphs.{depth_of, edges_into}
 use Rattle.dk_graph.specs.declared.nodes.Edge.{Edge}

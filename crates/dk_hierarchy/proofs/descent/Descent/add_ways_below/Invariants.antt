@@ -1,4 +1,4 @@
-use Rattle.std.specs.Prelude.{◌≡◌, fold, length, take}
+use Rattle.std.specs.Prelude.{◌≡◌, fold, take}
 use Rattle.dk_hierarchy.specs.Descent.{with_way_at}
 use Rattle.dk_hierarchy.specs.Ways.{way_below}
 use Rattle.dk_hierarchy.proofs.descent.Descent.add_ways_below.Given as goal

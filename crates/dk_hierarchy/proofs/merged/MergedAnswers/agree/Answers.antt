@@ -1,4 +1,4 @@
-use Rattle.std.specs.Prelude.{◌≡◌, ◌<◌, ◌&&◌, List, false, length, take, true}
+use Rattle.std.specs.Prelude.{◌≡◌, ◌<◌, ◌&&◌, List, false, length, true}
 use Rattle.std.specs.List.{list_all}
 use Rattle.std.proofs.Common.{◌∙◌, ap, arith, get_or, sym}
 use Rattle.std.proofs.lemmas.List.{take_all}
