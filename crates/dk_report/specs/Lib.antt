@@ -1,8 +1,9 @@
 pub mod Keeping
 pub mod Reports
 pub mod Sizes
-pub mod Files
-pub mod Effects
-pub mod Courses
-pub mod Outputs
+pub mod Engines
+pub mod Sweeps
+pub mod Listing
+pub mod Asked
+pub mod Parents
 pub mod Laws
