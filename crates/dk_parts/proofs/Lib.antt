@@ -1,0 +1,4 @@
+pub mod Sorted
+pub mod Grouping
+pub mod Present
+pub mod PatternOrder

@@ -1,0 +1,3 @@
+pub mod Pieces
+pub mod Declared
+pub mod Engines

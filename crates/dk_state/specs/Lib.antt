@@ -1,0 +1,5 @@
+pub mod Lines
+pub mod Declarations
+pub mod States
+pub mod Kept
+pub mod Saved
