@@ -2,3 +2,4 @@ pub mod Sorted
 pub mod Grouping
 pub mod Present
 pub mod PatternOrder
+pub mod Weights

@@ -1,5 +1,5 @@
 -- The order of patterns: total, and equal patterns alone are alike in it.
-use Rattle.std.specs.Prelude.{◌≡◌, ◌<◌, ◌≤◌, ◌+◌, ℕ, Bool, true, false, List, [], ◌∷◌, length, map, refl}
+use Rattle.std.specs.Prelude.{◌≡◌, ◌<◌, ◌≤◌, ◌+◌, ℕ, Bool, true, false, List, [], ◌∷◌, length, map, refl, sum_by}
 use Rattle.std.specs.Cmp.{IsTotalOrder, bool_cmp_total, nat_cmp_total, on_total, then_total}
 use Rattle.std.specs.Cmp.Lexicographic.{lists_total, slice_cmp}
 use Rattle.std.specs.Global.{Vec}
@@ -12,10 +12,13 @@ use Rattle.std.proofs.lemmas.Bool.{true≢false}
 use Rattle.std.proofs.lemmas.Cmp.{ranked}
 use Rattle.std.proofs.lemmas.List.{get_or-map, length-map}
 use Rattle.std.proofs.lemmas.List.Sorted.{IsPermutation-map}
-use Rattle.dk_parts.specs.Patterns.{pattern_cmp, seen}
+use Rattle.std.proofs.lemmas.List.Sums.{sum_by-cons}
+use Rattle.dk_base.specs.declared.kinds.VarId.{VarId}
+use Rattle.dk_parts.specs.Patterns.{pattern_cmp, pattern_of, patterns_of, seen}
+use Rattle.dk_presence.specs.declared.held.Held.{Held}
 use Rattle.dk_parts.specs.Sorting.{ascending}
 use Rattle.dk_parts.specs.declared.pattern.Pattern.{Pattern}
-use Rattle.dk_parts.proofs.Sorted.{sorted_is_ascending}
+use Rattle.dk_parts.proofs.Sorted.{same_ascending, sorted_is_ascending}
 
 total : IsTotalOrder pattern_cmp
 total = then_total (on_total (λ (p : Pattern). p.present) (lists_total bool_cmp_total)) (on_total (λ (p : Pattern). p.count) nat_cmp_total)
@@ -63,3 +66,13 @@ pub sorted_patterns : (all sorted : List (Vec Bool × ℕ)) → IsPermutation al
 sorted_patterns all sorted moved up =
     sorted_is_ascending pattern_cmp total alike_are_one (map seen all) (map seen sorted) (IsPermutation-map seen all sorted moved)
     (sorted_map seen (λ a b. is_lt (pattern_cmp a b)) sorted up)
+
+weighs_mapped : {X Y : Type 0} (f : Y → ℕ) (g : X → Y) (xs : List X) → sum_by f (map g xs) ≡ sum_by (λ x. f (g x)) xs
+weighs_mapped f g [] = refl
+weighs_mapped f g (x ∷ xs) = sum_by-cons f (g x) (map g xs) ∙ (ap (λ n. f (g x) + n) (weighs_mapped f g xs) ∙ sym (sum_by-cons (λ y. f (g y)) x xs))
+
+-- the same patterns, each as often, are one list in order
+pub same_patterns : (leaders : List VarId) (held others : List Held) → ((f : Held → ℕ) → sum_by f held ≡ sum_by f others) → patterns_of leaders held ≡ patterns_of leaders others
+same_patterns leaders held others alike =
+    same_ascending pattern_cmp total alike_are_one (map (pattern_of leaders) held) (map (pattern_of leaders) others)
+    (λ f. weighs_mapped f (pattern_of leaders) held ∙ (alike (λ h. f (pattern_of leaders h)) ∙ sym (weighs_mapped f (pattern_of leaders) others)))

@@ -117,3 +117,8 @@ module _ {X : Type 0} (R : X → X → Ordering) (o : IsTotalOrder R) where
     sorted_is_ascending xs ys moved up =
         one_list ys (ascending R xs) (rises_from ys (sorted_far (λ x y. is_lt (R x y)) (ranks_by o (λ x. x)) ys up)) (ascending_rises xs)
         (λ f. sum_by-IsPermutation f xs ys moved ∙ sym (ascending_weighs f xs))
+
+    -- lists that have the same items, each as often, are one in order
+    pub same_ascending : (xs ys : List X) → ((f : X → ℕ) → sum_by f xs ≡ sum_by f ys) → ascending R xs ≡ ascending R ys
+    same_ascending xs ys alike =
+        one_list (ascending R xs) (ascending R ys) (ascending_rises xs) (ascending_rises ys) (λ f. ascending_weighs f xs ∙ (alike f ∙ sym (ascending_weighs f ys)))
