@@ -28,10 +28,10 @@ mod taking;
 mod touching;
 
 pub use counts::Counts;
+pub use dk_parts::{Known, Pattern};
 pub use engine::Engine;
 pub use kept::Kept;
 pub use now::Now;
-pub use dk_parts::{Known, Pattern};
 pub use parts::Parts;
 pub use points::point;
 pub use slot::Slot;

@@ -50,8 +50,7 @@ impl Engine {
     {
         let kept = &self.kept;
         let classes = classes_in_order(self.alloc, &kept.leaders, self.infos.len())?;
-        let patterns =
-            patterns_in_order(self.alloc, kept.leaders.leaders(), kept.held.held())?;
+        let patterns = patterns_in_order(self.alloc, kept.leaders.leaders(), kept.held.held())?;
         let known = known_in_order(self.alloc, kept.known.entries())?;
         let slots = copy_slots(self.alloc, kept.slots.as_slice())?;
         Ok(Parts {

@@ -1,5 +1,5 @@
 -- Members of classes, one variable after another; and which lists of members are empty.
-use Rattle.std.specs.Prelude.{◌≡◌, ◌<◌, ◌+◌, ◌++◌, ℕ, zero, suc, Bool, true, false, not, List, [], ◌∷◌, filter, length, map, take, refl}
+use Rattle.std.specs.Prelude.{◌≡◌, ◌<◌, ◌+◌, ◌++◌, ℕ, zero, suc, true, false, not, List, [], ◌∷◌, filter, length, map, take, refl}
 use Rattle.std.specs.List.{enumerate_from}
 use Rattle.std.proofs.Common.{◌∙◌, ap, arith, cond, eqb, get_or, inl, inr, set, subst, sym}
 use Rattle.std.proofs.lemmas.Bool.{cases_Bool, eq-eqb, eqb-true, true≢false}
@@ -89,7 +89,7 @@ classes_behind leaders n (x ∷ xs) (g ∷ groups) long each which =
     let leads : not (is_empty g) ≡ eqb x.0 n = ap (λ ms. not (is_empty ms)) here ∙ subst (λ k. not (is_empty (members_of leaders k)) ≡ eqb x.0 k) at (which 0 (omega arith)) in
     let next : (k : ℕ) → n + suc k ≡ n + 1 + k = λ k. omega arith in
     let rest = classes_behind leaders (n + 1) xs groups (omega (arith, long)) (λ k l. each (suc k) (omega (arith, l)) ∙ ap (members_of leaders) (next k))
-        (λ k l. subst (λ j. not (is_empty (members_of leaders j)) ≡ eqb (leader_at xs k) j) (next k) (which (suc k) (omega (arith, l))))
+    (λ k l. subst (λ j. not (is_empty (members_of leaders j)) ≡ eqb (leader_at xs k) j) (next k) (which (suc k) (omega (arith, l))))
     in
     let tail : List (ℕ × VarId) = filter (λ p. eqb p.1.0 p.0) (enumerate_from (n + 1) xs) in
     elim (cases_Bool (eqb x.0 n)) [

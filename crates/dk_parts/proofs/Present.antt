@@ -1,7 +1,6 @@
 -- Which of ascending variables are present, by a walk along the present ones.
-use Rattle.std.specs.Prelude.{◌≡◌, ◌<◌, ◌≤◌, ◌+◌, ◌||◌, ℕ, zero, suc, Bool, true, false, List, [], ◌∷◌, length, nat_lt, if◌then◌else◌, refl}
-use Rattle.std.specs.List.{AllPairs, list_any}
-use Rattle.std.proofs.Common.{◌∙◌, ap, arith, cond, eqb, get_or, inl, inr, ltb, subst, sym}
+use Rattle.std.specs.Prelude.{◌≡◌, ◌<◌, ◌≤◌, ◌+◌, ◌||◌, ℕ, suc, true, false, List, [], ◌∷◌, length, nat_lt, if◌then◌else◌, refl}
+use Rattle.std.proofs.Common.{◌∙◌, ap, arith, eqb, get_or, inl, inr, sym}
 use Rattle.std.proofs.lemmas.Bool.{cases_Bool, eqb-true, ltb-false, ltb-true}
 use Rattle.dk_base.specs.declared.kinds.VarId.{VarId}
 use Rattle.dk_presence.specs.Patterns.{has}

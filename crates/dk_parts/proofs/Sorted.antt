@@ -1,11 +1,11 @@
 -- A list in ascending order is the only one that has the items, each as often, and ascends.
-use Rattle.std.specs.Prelude.{◌≡◌, ◌<◌, ◌≤◌, ◌+◌, ℕ, suc, Bool, true, false, All, List, [], ◌∷◌, if◌then◌else◌, length, refl, sum_by}
+use Rattle.std.specs.Prelude.{◌≡◌, ◌<◌, ◌≤◌, ◌+◌, ℕ, suc, true, false, All, List, [], ◌∷◌, if◌then◌else◌, length, refl, sum_by}
 use Rattle.std.specs.Cmp.{IsTotalOrder}
 use Rattle.std.specs.List.Sorted.{IsPermutation, IsSorted}
 use Rattle.std.specs.Ordering.{is_eq, is_gt, is_lt, ordering_reverse}
 use Rattle.std.specs.declared.cmp.Ordering.{Ordering}
 use Rattle.std.specs.declared.cmp.Ordering.TheVariants.{Less, Equal, Greater}
-use Rattle.std.proofs.Common.{◌∙◌, ap, arith, cond, get_or, inl, inr, subst, sym}
+use Rattle.std.proofs.Common.{◌∙◌, ap, arith, get_or, inl, inr, subst, sym}
 use Rattle.std.proofs.lemmas.Bool.{cases_Bool, true≢false}
 use Rattle.std.proofs.lemmas.Cmp.{tied_itself, upto}
 use Rattle.std.proofs.lemmas.List.Elements.{All-cons, All-from_get_or, All-head, All-nil, All-tail, All-weaker}
@@ -72,9 +72,10 @@ module _ {X : Type 0} (R : X → X → Ordering) (o : IsTotalOrder R) where
 
   rises_from : (ys : List X) → ((i j : ℕ) (d : X) → i ≤ j → j < length ys → is_lt (R (get_or ys j d) (get_or ys i d)) ≡ false) → Rises ys
   rises_from [] far = tt
-  rises_from (y ∷ ys) far =
-      (All-from_get_or (λ z. is_gt (R y z) ≡ false) ys y (λ i l. not_greater (R y (get_or ys i y)) (R (get_or ys i y) y) (o.antisymm y (get_or ys i y)) (far 0 (suc i) y (omega arith) (omega (arith, l)))),
-      rises_from ys (λ i j d l m. far (suc i) (suc j) d (omega (arith, l)) (omega (arith, m))))
+  rises_from (y ∷ ys) far = (
+    All-from_get_or (λ z. is_gt (R y z) ≡ false) ys y (λ i l. not_greater (R y (get_or ys i y)) (R (get_or ys i y) y) (o.antisymm y (get_or ys i y)) (far 0 (suc i) y (omega arith) (omega (arith, l)))),
+    rises_from ys (λ i j d l m. far (suc i) (suc j) d (omega (arith, l)) (omega (arith, m))),
+  )
 
   -- ---- one list
   module _ (same : (x y : X) → R x y ≡ Equal → x ≡ y) where
@@ -86,7 +87,7 @@ module _ {X : Type 0} (R : X → X → Ordering) (o : IsTotalOrder R) where
     none_past x y [] less all = refl
     none_past x y (z ∷ zs) less all =
         let apart : R x z ≡ Equal → ⊥ = λ e.
-            true≢false (sym (ap is_gt (ap (R y) (sym (same x z e)) ∙ (o.antisymm y x ∙ ap ordering_reverse less))) ∙ All-head (λ z. is_gt (R y z) ≡ false) z zs all)
+        true≢false (sym (ap is_gt (ap (R y) (sym (same x z e)) ∙ (o.antisymm y x ∙ ap ordering_reverse less))) ∙ All-head (λ z. is_gt (R y z) ≡ false) z zs all)
         in
         let here : one x z ≡ 0 = ap (λ b. if b then 1 else 0) (not_equal (R x z) apart) in
         let there = none_past x y zs less (All-tail (λ z. is_gt (R y z) ≡ false) z zs all) in

@@ -70,7 +70,7 @@ module _ {X : Type 0} where
   same_weights (x ∷ xs) ys apart also to from f =
       let h : In x ys = to x (inl refl) in
       let rest : sum_by f xs ≡ sum_by f (without x ys h) =
-          same_weights xs (without x ys h) apart.1 (apart_without x ys h also) (λ z i. stays z x ys h (apart.0 z i) (to z (inr i))) (λ z i. left z h i (from z (was z x ys h i))) f
+      same_weights xs (without x ys h) apart.1 (apart_without x ys h also) (λ z i. stays z x ys h (apart.0 z i) (to z (inr i))) (λ z i. left z h i (from z (was z x ys h i))) f
       in
       omega (arith, sum_by-cons f x xs, rest, weighs_without f x ys h)
     where

@@ -1,5 +1,5 @@
 -- Classes, each as the list of its members.
-use Rattle.std.specs.Prelude.{◌≡◌, ◌<◌, ◌==◌, ℕ, Bool, not, List, [], ◌∷◌, filter, length, map, slice_index_or}
+use Rattle.std.specs.Prelude.{◌≡◌, ◌<◌, ◌==◌, ℕ, not, List, [], filter, length, map, slice_index_or}
 use Rattle.std.specs.List.{enumerate_from}
 use Rattle.dk_base.specs.Pieces.{is_empty}
 use Rattle.dk_base.specs.declared.kinds.VarId.{VarId}

@@ -41,11 +41,7 @@ fn is_first(vars: &[VarId], v: VarId) -> bool
 }
 
 // For each leader whether it is one of the present ones.
-fn presence_of(
-    alloc: Global,
-    leaders: &[VarId],
-    present: &[VarId],
-) -> Result<Vec<bool>, NoMemory>
+fn presence_of(alloc: Global, leaders: &[VarId], present: &[VarId]) -> Result<Vec<bool>, NoMemory>
     requires leaders { Ascend leaders.now }
     requires present { Ascend present.now }
     ensures { IfOk result (λ truths. truths.items ≡ map (has present.now) leaders.now) }

@@ -1,7 +1,7 @@
 -- The declarations of the points so far.
-use Rattle.std.specs.Prelude.{◌≡◌, ◌<◌, ◌+◌, ◌++◌, ◌∷◌, [], ℕ, true, false, List, Option, Some, None, filter_map, flat_map, is_some, length, option_map, option_to_list, slice_get, take, refl}
+use Rattle.std.specs.Prelude.{◌≡◌, ◌<◌, ◌+◌, ◌++◌, ◌∷◌, [], ℕ, true, false, List, Option, Some, None, filter_map, flat_map, is_some, length, option_map, option_to_list, take, refl}
 use Rattle.std.specs.Borrow.{Bor}
-use Rattle.std.proofs.Common.{◌∙◌, ap, append_assoc, arith, get_or, option_and_then, subst, sym}
+use Rattle.std.proofs.Common.{◌∙◌, ap, append_assoc, arith, get_or, option_and_then, sym}
 use Rattle.std.proofs.lemmas.Bool.{true≢false}
 use Rattle.std.proofs.lemmas.List.{take_more}
 use Rattle.std.proofs.lemmas.List.Concat.{flat_map-append}

@@ -1,5 +1,5 @@
 -- A text that grows by pieces.
-use Rattle.std.specs.Prelude.{◌≡◌, ◌<◌, ◌+◌, ◌++◌, ◌∷◌, [], ℕ, List, Result, OnOk, flat_map, length, map, take}
+use Rattle.std.specs.Prelude.{◌≡◌, ◌<◌, ◌+◌, ◌++◌, ◌∷◌, [], ℕ, List, Result, Ok, Err, OnOk, flat_map, length, map, take}
 use Rattle.dk_base.specs.declared.memory.NoMemory.{NoMemory}
 use Rattle.std.proofs.Common.{◌∙◌, ap, append_assoc, get_or, subst, sym}
 use Rattle.std.proofs.lemmas.List.{append-nil, flat_map_more, get_or_default, map_more, take_more}
@@ -46,3 +46,7 @@ three_and_three start word a b c d e f = simp (append_assoc, append-nil)
 -- a head of three parts, and a body
 pub head_and_body : (start a b c body : List ℕ) → start ++ (a ++ (b ++ c)) ++ body ≡ start ++ (a ++ (b ++ (c ++ body)))
 head_and_body start a b c body = simp append_assoc
+
+pub on_ok_weaker : {P Q : Type 0} (r : Result (Unit {0}) NoMemory) → (P → Q) → OnOk r P → OnOk r Q
+on_ok_weaker (Ok x) f h = f h
+on_ok_weaker (Err e) f h = h

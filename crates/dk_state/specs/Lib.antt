@@ -3,3 +3,6 @@ pub mod Declarations
 pub mod States
 pub mod Kept
 pub mod Saved
+pub mod Compact
+pub mod StateFile
+pub mod Laws

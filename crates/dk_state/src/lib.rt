@@ -4,6 +4,7 @@
 mod declarations;
 mod fields;
 mod kept;
+pub mod laws;
 mod saving;
 mod states;
 

@@ -5,7 +5,9 @@ ghost use Rattle.std.specs.List.{enumerate_from};
 ghost use Rattle.dk_engine.specs.declared.kept.Kept.{Kept};
 ghost use Rattle.dk_state.specs.Declarations.{decls_of, point_lines};
 ghost use Rattle.dk_state.specs.Lines.{line};
+ghost use Rattle.dk_hierarchy.specs.Samples.{OwnSamples};
 ghost use Rattle.dk_state.specs.Saved.{kept_lines, saved_text, version_of, word_of};
+ghost use Rattle.dk_state.specs.StateFile.{StandForHistory, state_file_of};
 
 use crate::declarations::{declared_count, push_points};
 use crate::fields::{end_line, push_field, push_number};
@@ -116,7 +118,8 @@ pub fn push_saved(
     implicit: bool,
     grammar: Grammar,
 ) -> Result<(), NoMemory>
-    ensures { OnOk result (text.new ≡ text.old ++ saved_text grammar points.now implicit (map (λ engine. engine.kept) engines.now)) }
+    ensures text { OnOk result (text.new ≡ text.old ++ saved_text grammar points.now implicit (map (λ engine. engine.kept) engines.now)) }
+    ensures stands { OnOk result ((own : OwnSamples) → StandForHistory grammar points.now engines.now own → text.new ≡ text.old ++ state_file_of grammar points.now implicit own) }
 {
     push_head(text, points, implicit, grammar)?;
     push_body(alloc, text, points, engines)
@@ -130,7 +133,8 @@ pub fn save(
     implicit: bool,
     grammar: Grammar,
 ) -> Result<Text, NoMemory>
-    ensures { IfOk result (λ text. text ≡ saved_text grammar points.now implicit (map (λ engine. engine.kept) engines.now)) }
+    ensures text { IfOk result (λ text. text ≡ saved_text grammar points.now implicit (map (λ engine. engine.kept) engines.now)) }
+    ensures stands { IfOk result (λ text. (own : OwnSamples) → StandForHistory grammar points.now engines.now own → text ≡ state_file_of grammar points.now implicit own) }
 {
     let mut text = Text::new(alloc);
     push_saved(alloc, &mut text, points, engines, implicit, grammar)?;

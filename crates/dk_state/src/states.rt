@@ -64,13 +64,7 @@ fn push_span(
 }
 
 // The fields of a plane.
-fn push_plane(
-    text: &mut Text,
-    a: i128,
-    b: i128,
-    c: i128,
-    d: i128,
-) -> Result<(), NoMemory>
+fn push_plane(text: &mut Text, a: i128, b: i128, c: i128, d: i128) -> Result<(), NoMemory>
     ensures { OnOk result (text.new ≡ text.old ++ fields_text (state_fields (State.Plane a b c d))) }
 {
     text.append(b" plane")?;

@@ -1,7 +1,7 @@
-use Rattle.std.specs.Prelude.{◌≡◌, ◌<◌, ◌≤◌, ◌++◌, ◌∷◌, [], length}
-use Rattle.std.proofs.Common.{◌∙◌, ap, arith, get_or, subst, sym}
+use Rattle.std.specs.Prelude.{◌≡◌, ◌<◌, ◌++◌, ◌∷◌, [], length}
+use Rattle.std.proofs.Common.{◌∙◌, ap, arith, get_or}
 use Rattle.std.proofs.lemmas.List.{get_or_default, length-set}
-use Rattle.dk_classes.specs.Leaders.{leader_at, var}
+use Rattle.dk_classes.specs.Leaders.{var}
 use Rattle.dk_parts.proofs.Grouping.{grouped_more}
 use Rattle.dk_parts.proofs.classes.grouped.Goals as goal
 
@@ -16,7 +16,7 @@ loop-v-preserved c =
     let led = c.leader-leader.ensures in
     let within : leader < length groups = omega (arith, all, before, led, c.loop-v.invariant.long) in
     let grown : c.push.new.self ≡ get_or groups leader [] ++ var i ∷ [] =
-        c.in_ok-push.ensures.ok ∙ ap (λ ms. ms ++ var i ∷ []) (c.index_mut-group.ensures.value ∙ get_or_default groups leader c.index_mut-group.result.now [] within)
+    c.in_ok-push.ensures.ok ∙ ap (λ ms. ms ++ var i ∷ []) (c.index_mut-group.ensures.value ∙ get_or_default groups leader c.index_mut-group.result.now [] within)
     in
     record {
       long = length-set groups leader c.push.new.self ∙ c.loop-v.invariant.long;

@@ -1,11 +1,11 @@
-use Rattle.std.specs.Prelude.{◌≡◌, ◌<◌, ◌≤◌, ℕ, length, map, take, ◌++◌, ◌∷◌, [], List}
+use Rattle.std.specs.Prelude.{◌≡◌, map, take, ◌++◌, ◌∷◌, [], List}
 use Rattle.std.proofs.Common.{◌∙◌, ap, arith, get_or, subst, sym}
 use Rattle.std.proofs.lemmas.List.{map_more}
 use Rattle.dk_base.specs.declared.kinds.VarId.{VarId}
 use Rattle.dk_classes.specs.Leaders.{var}
 use Rattle.dk_presence.specs.Patterns.{has}
 use Rattle.dk_samples.specs.Leaders.{Ascend}
-use Rattle.dk_parts.specs.Patterns.{from_var, is_first}
+use Rattle.dk_parts.specs.Patterns.{is_first}
 use Rattle.dk_parts.proofs.Present.{first_if_there, from_ascends, step}
 use Rattle.dk_parts.proofs.pattern.presence_of.Goals as goal
 
@@ -19,7 +19,7 @@ loop-leader-preserved c =
     let next = c.from_var-left.ensures in
     let within = c.loop-leader-test.true in
     let told : c.is_first.result ≡ has present leader =
-        c.is_first.ensures ∙ (ap (is_first leader) next ∙ (first_if_there leader left c.loop-leader.invariant.ascend ∙ c.loop-leader.invariant.same i (omega arith) within))
+    c.is_first.ensures ∙ (ap (is_first leader) next ∙ (first_if_there leader left c.loop-leader.invariant.ascend ∙ c.loop-leader.invariant.same i (omega arith) within))
     in
     record {
       so_far =

@@ -1,7 +1,5 @@
-use Rattle.std.specs.Prelude.{◌≡◌, ◌+◌, length, option_map, option_to_list, take}
-use Rattle.std.specs.Borrow.{Bor}
+use Rattle.std.specs.Prelude.{length, option_to_list, take}
 use Rattle.std.proofs.Common.{◌∙◌, ap, arith, length-append, sym}
-use Rattle.dk_decl.specs.declared.decls.PointDecl.{PointDecl}
 use Rattle.dk_points.specs.Table.{decl_of}
 use Rattle.dk_state.specs.Declarations.{decls_of}
 use Rattle.dk_state.proofs.Declared.{counted_none, counted_some, decls_more}

@@ -1,4 +1,4 @@
-use Rattle.std.specs.Prelude.{◌≡◌, ◌<◌, ◌++◌, length, None, Some}
+use Rattle.std.specs.Prelude.{◌<◌, ◌++◌, length, None, Some}
 use Rattle.std.proofs.Common.{◌∙◌, ap, arith, sym}
 use Rattle.std.proofs.lemmas.List.{append-nil}
 use Rattle.dk_state.specs.Declarations.{point_lines}
