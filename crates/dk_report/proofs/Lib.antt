@@ -16,3 +16,6 @@ pub mod Reported
 pub mod Swept
 pub mod Considered
 pub mod Stated
+pub mod Left
+pub mod Narrowed
+pub mod Alone

@@ -1,5 +1,5 @@
 -- The report of a point that is merged is the report of its samples.
-use Rattle.std.specs.Prelude.{◌≡◌, ◌<◌, ◌^◌, ℕ, false, All, List, [], ◌∷◌, if◌then◌else◌, length, map, slice_get, Option, Some, refl}
+use Rattle.std.specs.Prelude.{◌≡◌, ◌<◌, ◌^◌, ℕ, false, All, List, [], ◌∷◌, if◌then◌else◌, length, map, slice_get, Option, Some, refl, IfOk, Result, Ok, Err}
 use Rattle.std.specs.List.{AllZip}
 use Rattle.std.specs.Option.{option_map_or}
 use Rattle.std.proofs.Common.{◌∙◌, ap, arith, sym}
@@ -93,3 +93,8 @@ same_section name other count number infos vars list candidates n c i l =
     ∙ (ap (λ (k : ℕ). section_text other k infos list) c
     ∙ (ap (λ (vs : List VarInfo). section_text other number vs list) i
     ∙ ap (λ (cs : List Candidate). section_text other number vars cs) l))
+
+-- what follows from what an answer that is there comes to
+pub if_ok : {A E : Type 0} (r : Result A E) (P Q : A → Type 0) → ((x : A) → P x → Q x) → IfOk r P → IfOk r Q
+if_ok (Ok x) P Q f h = f x h
+if_ok (Err e) P Q f h = tt

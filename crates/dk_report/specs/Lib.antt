@@ -5,5 +5,6 @@ pub mod Engines
 pub mod Sweeps
 pub mod Listing
 pub mod Asked
+pub mod Narrowing
 pub mod Parents
 pub mod Laws

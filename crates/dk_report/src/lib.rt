@@ -4,6 +4,7 @@
 mod asking;
 mod keeping;
 pub mod laws;
+mod narrowing;
 mod options;
 mod parents;
 mod sections;

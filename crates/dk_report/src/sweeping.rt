@@ -48,8 +48,8 @@ fn suited(
     Ok(list)
 }
 
-// Whether the row says that two variables are the same.
-fn is_equality(row: RowId) -> bool
+/// Whether the row says that two variables are the same.
+pub(crate) fn is_equality(row: RowId) -> bool
     ensures { result ≡ is_equality row }
 {
     [11, 18, 20, 22, 57, 58, 59, 60].iter().any(|n| row.0 == *n)
@@ -99,14 +99,14 @@ fn all_vars(alloc: Global, infos: &[VarInfo]) -> Result<List<VarId>, NoMemory>
 /// The variables of a point: all of them, and those that may stand in an instance of one variable, and in one of several.
 #[derive(Drop)]
 pub(crate) struct Standing {
-    all: List<VarId>,
-    single: List<VarId>,
-    several: List<VarId>,
+    pub(crate) all: List<VarId>,
+    pub(crate) single: List<VarId>,
+    pub(crate) several: List<VarId>,
 }
 
 impl Standing {
-    // Those over which a row is asked about. An equality may tell of a variable that isn't the first of those like it.
-    fn of(&self, row: RowId) -> &[VarId]
+    /// Those over which a row is asked about. An equality may tell of a variable that isn't the first of those like it.
+    pub(crate) fn of(&self, row: RowId) -> &[VarId]
         requires { IsRow row }
         ensures { result.now ≡ standing_of self.now row }
     {
@@ -328,8 +328,8 @@ impl<'a, 'e> Asking<'a, 'e> {
         )
     }
 
-    // With those of a row over these variables.
-    fn over(
+    /// The candidates with those of a row over these variables.
+    pub(crate) fn over(
         &self,
         row: RowId,
         of: &[VarId],

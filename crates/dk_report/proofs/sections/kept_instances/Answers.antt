@@ -1,4 +1,4 @@
-use Rattle.std.specs.Prelude.{◌≡◌, ◌<◌, ◌^◌, IfOk, List, length, map, Result, Ok, Err}
+use Rattle.std.specs.Prelude.{◌≡◌, ◌<◌, ◌^◌, List, length, map}
 use Rattle.std.specs.List.{AllZip}
 use Rattle.std.proofs.Common.{◌∙◌, ap, arith, subst, sym}
 use Rattle.std.proofs.lemmas.List.Elements.{All-same}
@@ -6,23 +6,23 @@ use Rattle.dk_base.specs.declared.kinds.VarInfo.{VarInfo}
 use Rattle.dk_engine.specs.Levels.{Whole}
 use Rattle.dk_filters.specs.Candidates.{candidates_of, kept_by}
 use Rattle.dk_filters.specs.Found.{found_of}
+use Rattle.dk_filters.specs.Laws.{ShowTheSame}
 use Rattle.dk_filters.specs.Parents.{IsViewOf, told}
 use Rattle.dk_filters.specs.declared.parents.ParentView.{ParentView}
 use Rattle.dk_graph.proofs.Places.{some-injective}
 use Rattle.dk_graph.specs.Graphs.{edges_from}
 use Rattle.dk_hierarchy.proofs.TableEngines.{engine_got}
 use Rattle.dk_hierarchy.specs.Merging.{Joint, merged_agree, merged_count, merged_state}
+use Rattle.dk_hierarchy.specs.Samples.{OwnSamples, own_samples_of}
+use Rattle.dk_hierarchy.specs.Standing.{EnginesStandFor}
 use Rattle.dk_points.specs.Links.{nodes}
-use Rattle.dk_report.proofs.Reported.{reported, small_views, views_can_show}
+use Rattle.dk_report.proofs.Reported.{if_ok, reported, small_views, views_can_show, views_show}
 use Rattle.dk_report.specs.Asked.{shown_by, told_by_joint}
 use Rattle.dk_report.specs.Keeping.{keeps}
 use Rattle.dk_report.specs.Parents.{IsParentBy}
+use Rattle.dk_report.specs.Reports.{parents_of}
 use Rattle.dk_report.specs.declared.parents.MergedParent.{MergedParent}
 use Rattle.dk_report.proofs.sections.kept_instances.Goals as goal
-
-if_ok : {A E : Type 0} (r : Result A E) (P Q : A → Type 0) → ((x : A) → P x → Q x) → IfOk r P → IfOk r Q
-if_ok (Ok x) P Q f h = f x h
-if_ok (Err e) P Q f h = tt
 
 pub of-requires-clause-small : goal.of-requires-clause-small
 of-requires-clause-small c =
@@ -40,13 +40,8 @@ of-requires-clause-parents c =
     All-same (λ (view : ParentView Joint). length view.vars.now < 2 ^ 32) c.as_slice-2.result.now c.in_ok-views.views.items c.as_slice-2.ensures.value
     (small_views ps es c.requires.engines c.args.p.0 joint c.in_ok-here.ensures.here c.in_ok-here.ensures.stands c.in_ok-views.views.items c.as_slice.result.now c.in_ok-views.ensures by)
 
-pub all_standing-requires : goal.all_standing-requires
-all_standing-requires c =
-    let joint : Joint = c.in_ok-here.here in
-    (c.requires.engines.variables c.args.p.0 joint.here c.in_ok-here.ensures.here).1.few
-
-pub swept-requires-clause-asked : goal.swept-requires-clause-asked
-swept-requires-clause-asked c =
+pub listed-requires-clause-asked : goal.listed-requires-clause-asked
+listed-requires-clause-asked c =
     let ps = c.args.points.now in
     let es = c.args.engines.now in
     let p = c.args.p.0 in
@@ -68,6 +63,16 @@ swept-requires-clause-asked c =
           ∙ ap (λ (views : List (ParentView Joint)). found_of (told_by_joint joint) (map shown_by views)) slices);
     }
 
+pub listed-requires-clause-parents : goal.listed-requires-clause-parents
+listed-requires-clause-parents c = λ own stand.
+    let ps = c.args.points.now in
+    let es = c.args.engines.now in
+    let p = c.args.p.0 in
+    let joint : Joint = c.in_ok-here.here in
+    let by = subst (λ (qs : List MergedParent). AllZip (IsParentBy ps es) qs (edges_from (nodes ps) p)) (sym c.as_slice.ensures.value) c.in_ok-parents.ensures in
+    subst (λ (views : List (ParentView Joint)). AllZip (ShowTheSame joint.here.grammar joint.here.infos) (map shown_by views) (parents_of ps own p)) (sym c.as_slice-3.ensures.value)
+    (views_show ps es c.requires.engines p joint c.in_ok-here.ensures.here c.in_ok-here.ensures.stands c.in_ok-views.views.items c.as_slice.result.now c.in_ok-views.ensures by own stand)
+
 pub returns : goal.returns
 returns c =
     let ps = c.args.points.now in
@@ -77,6 +82,6 @@ returns c =
     let joint : Joint = c.in_ok-here.here in
     let by = subst (λ (qs : List MergedParent). AllZip (IsParentBy ps es) qs (edges_from (nodes ps) p)) (sym c.as_slice.ensures.value) c.in_ok-parents.ensures in
     let lists = λ (views : List (ParentView Joint)). kept_by (keeps options) (candidates_of joint.here.grammar options.least (told_by_joint joint) (map shown_by views)) in
-    if_ok c.swept.result (λ list. list ≡ lists c.as_slice-3.result.now) _
-    (λ list is. reported ps es c.requires.engines p joint c.in_ok-here.ensures.here c.in_ok-here.ensures.stands c.in_ok-views.views.items c.as_slice.result.now c.in_ok-views.ensures by options list
-    (is ∙ ap lists c.as_slice-3.ensures.value)) c.swept.ensures
+    if_ok c.listed.result (λ list. (own : OwnSamples) → EnginesStandFor es (own_samples_of ps own) → list ≡ lists c.as_slice-3.result.now) _
+    (λ list is own stand. reported ps es c.requires.engines p joint c.in_ok-here.ensures.here c.in_ok-here.ensures.stands c.in_ok-views.views.items c.as_slice.result.now c.in_ok-views.ensures by options list
+    (is own stand ∙ ap lists c.as_slice-3.ensures.value) own stand) c.listed.ensures
