@@ -23,6 +23,7 @@ mod slot;
 mod slots;
 pub mod step_laws;
 mod sweeps;
+mod taking;
 mod touching;
 
 pub use counts::Counts;
@@ -32,6 +33,3 @@ pub use now::Now;
 pub use points::point;
 pub use slot::Slot;
 pub use slots::Slots;
-
-#[cfg(test)]
-mod tests;

@@ -1,0 +1,5 @@
+pub mod Calls
+pub mod Draws
+pub mod Generated
+pub mod Records
+pub mod Texts

@@ -1,0 +1,4 @@
+pub mod Answering
+pub mod Faults
+pub mod Numbers
+pub mod Examples

@@ -1,0 +1,68 @@
+-- What the words of the command ask for.
+use Rattle.std.specs.Prelude.{◌≡◌, ◌≢◌, ◌∷◌, [], ℕ, Bool, List, Option, Some, None, Result, Ok, Err, codes, false, option_and_then, unwrap_or}
+use Rattle.std.specs.Option.{option_map_or}
+use Rattle.std.specs.Str.{bytes_eq}
+use Rattle.std.specs.Str.Parse.{without_leading_plus}
+use Rattle.clap.specs.Words.{Kinds, Row, Text, all_of, first_of, one_of}
+use Rattle.clap.specs.declared.error.kind.ErrorKind.{ErrorKind}
+use Rattle.clap.specs.declared.error.kind.ErrorKind.TheVariants as kind
+use Rattle.dk_base.specs.Numbers.{natural_of}
+use Rattle.dk_words.specs.Accepted.{faults_at, matches_at, named}
+use Rattle.dk_words.specs.declared.command.Command.{Command}
+use Rattle.dk_words.specs.declared.fault.WordsFault.{WordsFault}
+use Rattle.dk_words.specs.declared.fault.WordsFault.TheVariants.{Refused, NoMemory}
+use Rattle.dk_words.specs.declared.request.Request.{Request}
+use Rattle.dk_words.specs.declared.request.Request.TheVariants.{Run, Help, Version}
+
+-- the word that stands alone is given
+abbrev pub is_given : Text → List Row → Bool
+is_given name rows = option_map_or (λ text. bytes_eq text (codes "true")) (first_of name rows) false
+
+-- the number under the name; it may have a plus in front
+abbrev pub number_at : Text → List Row → Option ℕ
+number_at name rows = option_and_then (λ text. natural_of (without_leading_plus text)) (one_of name rows)
+
+-- what the rows of the accepted words say
+abbrev pub command_of : List Row → Command
+command_of rows = record {
+  least = unwrap_or (number_at (codes "min-samples") rows) 5;
+  every = number_at (codes "every") rows;
+  select = first_of (codes "select") rows;
+  keep_implied = is_given (codes "keep-implied") rows;
+  keep_incomparable = is_given (codes "keep-incomparable") rows;
+  keep_members = is_given (codes "keep-members") rows;
+  keep_constant = is_given (codes "keep-constant") rows;
+  keep_parent = is_given (codes "keep-parent") rows;
+  ignore_missing_entry = is_given (codes "ignore-missing-entry") rows;
+  stats = is_given (codes "stats") rows;
+  generate = number_at (codes "generate") rows;
+  files = unwrap_or (all_of (codes "file") rows) [];
+}
+
+-- what a fault asks for; most ask for nothing
+abbrev pub request_for : ErrorKind → Option Request
+request_for kind.DisplayHelp = Some Help
+request_for kind.DisplayVersion = Some Version
+request_for _ = None
+
+-- a run where there is no fault, and else what the only fault asks for
+abbrev pub request_by : Kinds → List Row → Option Request
+request_by [] rows = Some (Run (command_of rows))
+request_by (k ∷ []) rows = request_for k
+request_by (k ∷ _) rows = None
+
+-- the answer to a fault of this kind; want of memory asks for nothing
+abbrev pub AnswersFault : ErrorKind → Result Request WordsFault → Type 0
+AnswersFault k (Ok request) = request_for k ≡ Some request
+AnswersFault k (Err Refused) = (request_for k ≡ None) × (k ≢ kind.OutOfMemory)
+AnswersFault k (Err NoMemory) = Unit {0}
+
+-- the answer where the words ask for this, or for nothing; memory may be wanting at any words
+abbrev pub Answers : Option Request → Result Request WordsFault → Type 0
+Answers asked (Ok request) = asked ≡ Some request
+Answers asked (Err Refused) = asked ≡ None
+Answers asked (Err NoMemory) = Unit {0}
+
+-- what the words behind the program's name ask for
+unfoldable pub request_of : List Text → Option Request
+request_of words = request_by (faults_at (named words)) (matches_at (named words))
