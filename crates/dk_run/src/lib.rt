@@ -1,0 +1,13 @@
+//! The run behind the command `daikon`: it reads files of declarations and records, and reports what holds of the variables of their
+//! points.
+#![tactic(auto)]
+
+mod messages;
+mod reading;
+mod status;
+mod top;
+mod words;
+
+pub use status::Status;
+pub use top::{run, tell_usage};
+pub use words::words_of;
