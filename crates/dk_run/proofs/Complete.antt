@@ -1,112 +1,122 @@
 -- A run over files that are held comes to its end.
-use Rattle.std.proofs.Common.{◌≡◌, ◌≤◌, ◌<◌, ◌⊎◌, ◌+◌, ◌-◌, inl, inr, ℕ, zero, suc, List, [], ◌∷◌, map, take, length, Option, Some, None, IfSome, Result, Ok, Err, refl, sym, ◌∙◌, ap, subst, arith}
+use Rattle.std.proofs.Common.{◌≡◌, ◌≤◌, ◌<◌, ◌+◌, ◌-◌, inl, inr, Bool, ℕ, zero, suc, List, [], ◌∷◌, map, take, length, Option, Some, None, Result, Ok, Err, refl, sym, ◌∙◌, ap, subst, arith}
 use Rattle.std.proofs.lemmas.Bool.{cases_lt}
-use Rattle.std.proofs.lemmas.List.{take_all, take-take, take-map, length-take}
+use Rattle.std.proofs.lemmas.List.{length-take, take-map, take-take, take_all}
 use Rattle.dk_base.specs.Reading.{LineFault}
 use Rattle.dk_io.specs.Outside.{Held, Absent, Holds, Rose}
-use Rattle.dk_core.specs.History.{History, no_history, file_ended}
-use Rattle.dk_run.specs.Files.{File, whole, AreHeld}
-use Rattle.dk_run.specs.Words.{name_at}
-use Rattle.dk_run.proofs.Running.{name-take}
-use Rattle.dk_run.specs.Ending.{FileFault, total_limit, then_files, after_file, after_files, history_after, fault_in, first_fault}
-use Rattle.dk_run.specs.Output.{Output, output_at, output_of, followed}
-use Rattle.dk_run.specs.Statuses.{AtStart, Break, HasBroken, Outside, Says, IsCalm, AreClean, IsComplete, IsRefused, Within}
+use Rattle.dk_core.specs.History.{History, file_ended, no_history}
+use Rattle.dk_words.specs.declared.command.Command.{Command}
+use Rattle.dk_words.specs.declared.request.Request.{Request}
+use Rattle.dk_words.specs.declared.request.Request.TheVariants.{Run, Help, Version}
+use Rattle.dk_run.specs.Commands.{helds_of, names_of}
+use Rattle.dk_run.specs.Courses.{Course, course_of, course_of_file, course_of_files, ends, fault_in, first_fault, onto, then_files, total_limit}
+use Rattle.dk_run.specs.Files.{AreHeld, File, FileFault, whole}
+use Rattle.dk_run.specs.Outputs.{Output, followed, output_along, output_of}
+use Rattle.dk_run.specs.Statuses.{AreClean, AtStart, Break, CompletesCalmly, HasBroken, IsCalm, IsComplete, IsRefused, Outside, Says, Within, held_at}
 use Rattle.dk_run.specs.declared.status.Status.{Status}
 use Rattle.dk_run.specs.declared.status.Status.TheVariants.{Done, Refused, Usage, Read, Write, NoMemory}
+use Rattle.dk_run.proofs.Saying.{held-take, same_length}
 
--- later files don't change the first fault
-fault_front : (room : ℕ) (h : History) (place : ℕ) (k : ℕ) (fs : List File) (f : FileFault) → after_files room h place (take k fs) ≡ Err f → after_files room h place fs ≡ Err f
-fault_front room h place zero fs f e = absurd (cc (e))
-fault_front room h place (suc k) [] f e = e
-fault_front room h place (suc k) (x ∷ xs) f e = go (after_file room h x) (λ next. fault_front (room - length x.bytes) (file_ended next) (place + 1) k xs f) e where
-  go : (r : Result History LineFault)
-      → ((next : History) → after_files (room - length x.bytes) (file_ended next) (place + 1) (take k xs) ≡ Err f → after_files (room - length x.bytes) (file_ended next) (place + 1) xs ≡ Err f)
-      → then_files place r (λ next. after_files (room - length x.bytes) (file_ended next) (place + 1) (take k xs)) ≡ Err f
-      → then_files place r (λ next. after_files (room - length x.bytes) (file_ended next) (place + 1) xs) ≡ Err f
-  go (Ok next) more e = more next e
-  go (Err l) more e = e
+-- ---- later files don't change a course that has ended with a fault
+then_same : (place : ℕ) (r : Result History LineFault) (more other : History → Course FileFault) (f : FileFault)
+    → ((h : History) → (more h).end ≡ Err f → more h ≡ other h) → (then_files place r more).end ≡ Err f → then_files place r more ≡ then_files place r other
+then_same place (Ok h) more other f same e = same h e
+then_same place (Err l) more other f same e = refl
+
+course_front : (ignores : Bool) (room : ℕ) (h : History) (place : ℕ) (k : ℕ) (fs : List File) (f : FileFault) → (course_of_files ignores room h place (take k fs)).end ≡ Err f
+    → course_of_files ignores room h place (take k fs) ≡ course_of_files ignores room h place fs
+course_front ignores room h place zero fs f e = absurd (cc (e))
+course_front ignores room h place (suc k) [] f e = refl
+course_front ignores room h place (suc k) (x ∷ xs) f e =
+    ap (onto (course_of_file ignores room h x).after) (then_same place (course_of_file ignores room h x).end
+    (λ next. course_of_files ignores (room - length x.bytes) (file_ended next) (place + 1) (take k xs)) (λ next. course_of_files ignores (room - length x.bytes) (file_ended next) (place + 1) xs) f
+    (λ next. course_front ignores (room - length x.bytes) (file_ended next) (place + 1) k xs f) e)
 
 fault_is : (r : Result History FileFault) (f : FileFault) → fault_in r ≡ Some f → r ≡ Err f
 fault_is (Ok h) f e = absurd (cc (e))
 fault_is (Err g) f e = cc (e)
 
--- the fault of a front of the files is that of all of them
-first_front : (k : ℕ) (fs : List File) (f : FileFault) → first_fault (take k fs) ≡ Some f → history_after fs ≡ Err f
-unfolding history_after
-first_front k fs f e = fault_front total_limit no_history 0 k fs f (fault_is (after_files total_limit no_history 0 (take k fs)) f e)
+-- the course over a front of the files that ends with a fault is that over all of them
+first_front : (ignores : Bool) (k : ℕ) (fs : List File) (f : FileFault) → first_fault ignores (take k fs) ≡ Some f → course_of ignores (take k fs) ≡ course_of ignores fs
+unfolding course_of
+first_front ignores k fs f e = course_front ignores total_limit no_history 0 k fs f (fault_is (course_of_files ignores total_limit no_history 0 (take k fs)).end f e)
 
-held_take : (file : List ℕ → Held) (k : ℕ) (names contents : List (List ℕ)) → AreHeld file names contents → AreHeld file (take k names) (take k contents)
-held_take file k names contents held = sym (take-map file k names) ∙ ap (λ (l : List Held). take k l) held ∙ take-map Holds k contents
+-- ---- files that are held
+held_take : (k : ℕ) (helds : List Held) (contents : List (List ℕ)) → AreHeld helds contents → AreHeld (take k helds) (take k contents)
+held_take k helds contents held = ap (λ (l : List Held). take k l) held ∙ take-map Holds k contents
 
-held_all : (file : List ℕ → Held) (names contents : List (List ℕ)) → AreHeld file names contents → AreHeld file (take (length names) names) contents
-held_all file names contents held = subst (λ (l : List (List ℕ)). AreHeld file l contents) (sym (take_all (length names) names (omega arith))) held
+held_whole : (helds : List Held) (contents : List (List ℕ)) → AreHeld helds contents → AreHeld (take (length helds) helds) contents
+held_whole helds contents held = subst (λ (l : List Held). AreHeld l contents) (sym (take_all (length helds) helds (omega arith))) held
 
-held_there : (file : List ℕ → Held) (names contents : List (List ℕ)) (k : ℕ) → AreHeld file names contents → k < length names → (xs : List ℕ) × (file (name_at names k) ≡ Holds xs)
-held_there file [] contents k held h = absurd (omega arith)
-held_there file (n ∷ ns) [] k held h = absurd (cc (held))
-held_there file (n ∷ ns) (c ∷ cs) zero held h = (c, cc (held))
-held_there file (n ∷ ns) (c ∷ cs) (suc k) held h = held_there file ns cs k (cc (held)) (omega arith)
-
--- of the first n names the files are held, and they have a first fault: so the faulty one stands behind the clean ones
-not_clean : (file : List ℕ → Held) (names : List (List ℕ)) (k n : ℕ) (contents : List (List ℕ)) (fault : FileFault) → AreClean file (take k names)
-    → AreHeld file (take n names) contents → first_fault (map whole contents) ≡ Some fault → n ≤ k → ⊥
-not_clean file names k n contents fault clean held first h =
-    let none = clean n contents (subst (λ (l : List (List ℕ)). AreHeld file l contents) (sym (take-take n k names h)) held) in cc (none, first)
+held_there : (helds : List Held) (contents : List (List ℕ)) (k : ℕ) → AreHeld helds contents → k < length helds → (xs : List ℕ) × (held_at helds k ≡ Holds xs)
+held_there [] contents k held h = absurd (omega arith)
+held_there (n ∷ ns) [] k held h = absurd (cc (held))
+held_there (n ∷ ns) (c ∷ cs) zero held h = (c, cc (held))
+held_there (n ∷ ns) (c ∷ cs) (suc k) held h = held_there ns cs k (cc (held)) (omega arith)
 
 -- no file that is held was left unread
-not_unread : (names : List (List ℕ)) (before after : Outside) (by : Break) (place n : ℕ) (contents : List (List ℕ)) → IsCalm before after → AreHeld before.file (take n names) contents → place < n → place < length names
-    → HasBroken by (before.file (name_at names place)) (Rose before.read_faults after.read_faults) → ⊥
-not_unread names before after Within place n contents calm held below named cause = calm.read cause.1
-not_unread names before after AtStart place n contents calm held below named (inr rose) = calm.read rose
-not_unread names before after AtStart place n contents calm held below named (inl absent) =
-    let there = held_there before.file (take n names) contents place held (omega (arith, length-take n names)) in
-    let same = ap before.file (name-take names n place below) in
+not_unread : (command : Command) (before after : Outside) (by : Break) (place n : ℕ) (contents : List (List ℕ)) → IsCalm before after → AreHeld (take n (helds_of command before.file)) contents → place < n → place < length (names_of command)
+    → HasBroken by (held_at (helds_of command before.file) place) (Rose before.read_faults after.read_faults) → ⊥
+not_unread command before after Within place n contents calm held below named cause = calm.read cause.1
+not_unread command before after AtStart place n contents calm held below named (inr rose) = calm.read rose
+not_unread command before after AtStart place n contents calm held below named (inl absent) =
+    let there = held_there (take n (helds_of command before.file)) contents place held (omega (arith, named, same_length command before.file, length-take n (helds_of command before.file))) in
+    let same = held-take (helds_of command before.file) n place below in
     cc (absent, same, there.1)
 
--- the files up to a refused one, of those that are held
-held_front : (file : List ℕ → Held) (names : List (List ℕ)) (k n : ℕ) (contents : List (List ℕ)) → k < n → AreHeld file (take n names) contents → AreHeld file (take (k + 1) names) (take (k + 1) contents)
-held_front file names k n contents h held =
-    subst (λ (l : List (List ℕ)). AreHeld file l (take (k + 1) contents)) (take-take (k + 1) n names (omega arith)) (held_take file (k + 1) (take n names) contents held)
+-- of the first n files the contents are held, and they have a first fault: so the faulty one stands behind the clean ones
+not_clean : (ignores : Bool) (helds : List Held) (k n : ℕ) (contents : List (List ℕ)) (fault : FileFault) → AreClean ignores helds k
+    → AreHeld (take n helds) contents → first_fault ignores (map whole contents) ≡ Some fault → n ≤ k → ⊥
+not_clean ignores helds k n contents fault clean held first h = let none = clean n contents h held in cc (none, first)
 
 -- what was told of a refused file holds of all files that are held
-told_refused : (names : List (List ℕ)) (before after : Outside) (output : Output) (comes : IsRefused names before after output) (n : ℕ) (contents : List (List ℕ))
-    → comes.fault.file < n → AreHeld before.file (take n names) contents
-    → (first_fault (map whole contents) ≡ Some comes.fault) × (output ≡ output_of names (map whole contents))
-told_refused names before after output comes n contents h held =
+told_refused : (command : Command) (before after : Outside) (output : Output) (comes : IsRefused command before after output) (n : ℕ) (contents : List (List ℕ))
+    → comes.fault.file < n → AreHeld (take n (helds_of command before.file)) contents
+    → (first_fault command.ignore_missing_entry (map whole contents) ≡ Some comes.fault) × (output ≡ output_of command (map whole contents))
+unfolding output_of
+told_refused command before after output comes n contents h held =
     let k = comes.fault.file in
-    let front = held_front before.file names k n contents h held in
+    let front : AreHeld (take (k + 1) (helds_of command before.file)) (take (k + 1) contents) =
+        subst (λ (l : List Held). AreHeld l (take (k + 1) contents)) (take-take (k + 1) n (helds_of command before.file) (omega arith)) (held_take (k + 1) (take n (helds_of command before.file)) contents held) in
     let first = comes.first (take (k + 1) contents) front in
-    let all = first_front (k + 1) (map whole contents) comes.fault (ap first_fault (take-map whole (k + 1) contents) ∙ first) in
-    let part = fault_is (history_after (map whole (take (k + 1) contents))) comes.fault first in
-    (ap fault_in all, comes.defined (take (k + 1) contents) front ∙ ap (output_at names) (part ∙ sym all))
+    let same : course_of command.ignore_missing_entry (map whole (take (k + 1) contents)) ≡ course_of command.ignore_missing_entry (map whole contents) =
+        ap (course_of command.ignore_missing_entry) (sym (take-map whole (k + 1) contents))
+        ∙ first_front command.ignore_missing_entry (k + 1) (map whole contents) comes.fault (ap (first_fault command.ignore_missing_entry) (take-map whole (k + 1) contents) ∙ first) in
+    (ap (λ (c : Course FileFault). fault_in c.end) (sym same) ∙ first, comes.defined (take (k + 1) contents) front ∙ ap (output_along command) same)
 
-pub complete_of : (names : List (List ℕ)) (before after : Outside) (result : Status) → Says result (Some names) before after → IsCalm before after → IsComplete names before after result
-complete_of names before after Done (output, comes, written) calm = record {
+pub complete_of : (command : Command) (before after : Outside) (result : Status) → Says result (Some (Run command)) before after → IsCalm before after → IsComplete command before after result
+complete_of command before after Done (output, comes, written) calm = record {
   done = λ contents held none. inl (refl, written.0 ∙ ap (followed before.written) (comes.defined contents held));
-  refused = λ n contents fault held first. let none = comes.clean n contents held in absurd (cc (none, first));
+  refused = λ n contents fault held first. elim (cases_lt n (length (helds_of command before.file))) [
+    | inl below ↦ absurd (not_clean command.ignore_missing_entry (helds_of command before.file) (length (helds_of command before.file)) n contents fault comes.read.clean held first (omega arith))
+    | inr above ↦
+        let all = take_all n (helds_of command before.file) (omega arith) in
+        let whole_held : AreHeld (take (length (helds_of command before.file)) (helds_of command before.file)) contents =
+            held_whole (helds_of command before.file) contents (subst (λ (l : List Held). AreHeld l contents) all held) in
+        absurd (not_clean command.ignore_missing_entry (helds_of command before.file) (length (helds_of command before.file)) (length (helds_of command before.file)) contents fault comes.read.clean whole_held first (omega arith))
+  ];
 }
-complete_of names before after Refused (output, comes, written) calm = record {
+complete_of command before after Refused (output, comes, written) calm = record {
   done = λ contents held none.
-      let told = told_refused names before after output comes (length names) contents comes.named (held_all before.file names contents held) in
+      let told = told_refused command before after output comes (length (helds_of command before.file)) contents (omega (arith, comes.named, same_length command before.file)) (held_whole (helds_of command before.file) contents held) in
       absurd (cc (none, told.0));
   refused = λ n contents fault held first. elim (cases_lt comes.fault.file n) [
-    | inl below ↦ inl (refl, written.0 ∙ ap (followed before.written) (told_refused names before after output comes n contents below held).1)
-    | inr above ↦ absurd (not_clean before.file names comes.fault.file n contents fault comes.clean_before held first above)
+    | inl below ↦ inl (refl, written.0 ∙ ap (followed before.written) (told_refused command before after output comes n contents below held).1)
+    | inr above ↦ absurd (not_clean command.ignore_missing_entry (helds_of command before.file) comes.fault.file n contents fault comes.clean_before held first above)
   ];
 }
-complete_of names before after Usage (output, comes, written) calm = absurd comes
-complete_of names before after Read (output, comes, written) calm = record {
-  done = λ contents held none. absurd (not_unread names before after comes.by comes.place (length names) contents calm (held_all before.file names contents held) comes.named comes.named comes.cause);
+complete_of command before after Usage (output, comes, written) calm = absurd comes
+complete_of command before after Read (output, comes, written) calm = record {
+  done = λ contents held none. absurd (not_unread command before after comes.by comes.place (length (helds_of command before.file)) contents calm (held_whole (helds_of command before.file) contents held)
+      (omega (arith, comes.named, same_length command before.file)) comes.named comes.cause);
   refused = λ n contents fault held first. elim (cases_lt comes.place n) [
-    | inl below ↦ absurd (not_unread names before after comes.by comes.place n contents calm held below comes.named comes.cause)
-    | inr above ↦ absurd (not_clean before.file names comes.place n contents fault comes.clean_before held first above)
+    | inl below ↦ absurd (not_unread command before after comes.by comes.place n contents calm held below comes.named comes.cause)
+    | inr above ↦ absurd (not_clean command.ignore_missing_entry (helds_of command before.file) comes.place n contents fault comes.clean_before held first above)
   ];
 }
-complete_of names before after Write (rose, cut) calm = absurd (calm.write rose)
-complete_of names before after NoMemory cut calm = record { done = λ contents held none. inr refl; refused = λ n contents fault held first. inr refl }
+complete_of command before after Write (rose, cut) calm = absurd (calm.write rose)
+complete_of command before after NoMemory cut calm = record { done = λ contents held none. inr refl; refused = λ n contents fault held first. inr refl }
 
-pub complete_says : (words : Option (List (List ℕ))) (names : List (List ℕ)) (before after : Outside) (result : Status) → Some names ≡ words → Says result (Some names) before after
-    → IfSome words (λ names. IsCalm before after → IsComplete names before after result)
-complete_says None names before after result is says = tt
-complete_says (Some all) names before after result is says = let same : names ≡ all = cc in
-    subst (λ (l : List (List ℕ)). IsCalm before after → IsComplete l before after result) same (complete_of names before after result says)
+pub complete_says : (asked : Option Request) (command : Command) (before after : Outside) (result : Status) → asked ≡ Some (Run command) → Says result (Some (Run command)) before after
+    → CompletesCalmly asked before after result
+complete_says asked command before after result is says = subst (λ (r : Option Request). CompletesCalmly r before after result) (sym is) (complete_of command before after result says)

@@ -1,221 +1,301 @@
 -- Reading file after file.
-use Rattle.std.proofs.Common.{All, ◌≡◌, ◌≢◌, ◌≤◌, ◌<◌, ◌⊎◌, ◌+◌, ◌-◌, ◌^◌, min, ℕ, zero, suc, List, [], ◌∷◌, ◌++◌, map, take, length, get_or, inl, inr, Bool, true, false, Option, Some, None, Result, Ok, Err, refl, sym, ◌∙◌, ap, subst, arith}
-use Rattle.std.proofs.lemmas.List.{append-nil, take_all, take-take, length-take}
-use Rattle.std.proofs.lemmas.List.Elements.{All-take}
+use Rattle.std.proofs.Common.{◌≡◌, ◌≢◌, ◌≤◌, ◌<◌, ◌⊎◌, ◌+◌, ◌-◌, ◌^◌, min, ℕ, zero, suc, List, [], ◌∷◌, ◌++◌, map, take, length, get_or, inl, inr, Bool, true, false, Option, Some, None, Result, Ok, Err, refl, sym, ◌∙◌, ap, subst, arith, append_assoc, length-append}
 use Rattle.std.proofs.lemmas.Bool.{cases_lt}
-use Rattle.std.specs.Result.{IsOk}
-use Rattle.dk_base.specs.Reading.{LineFault, ◌>>=◌}
+use Rattle.std.proofs.lemmas.List.{append-nil, length-take, take_all, take-take}
+use Rattle.std.specs.Io.{StartsWith}
+use Rattle.std.specs.Option.{option_map_or}
+use Rattle.dk_base.specs.Reading.{LineFault}
+use Rattle.dk_base.specs.declared.why.Why.{Why}
+use Rattle.dk_generate.specs.Generated.{generated_text}
+use Rattle.dk_generate.specs.Texts.{generated_name}
 use Rattle.dk_io.specs.Outside.{Held, Absent, Holds, Rose}
 use Rattle.dk_lines.proofs.Lined.{at_break}
-use Rattle.dk_lines.specs.Left.{Left, lined}
+use Rattle.dk_lines.specs.Left.{Broken, Left, lined}
 use Rattle.dk_lines.specs.Reading.{Reading, room_of}
 use Rattle.dk_lines.specs.declared.lines.Limits.{Limits}
-use Rattle.dk_core.proofs.BlockLaws.{no_lines}
-use Rattle.dk_core.specs.Blocks.{grouped}
-use Rattle.dk_core.specs.History.{History, Taken, effect_of, file_ended, no_history}
-use Rattle.dk_core.specs.Reading.{after_all}
-use Rattle.dk_core.specs.Standing.{StandsFor}
+use Rattle.dk_core.specs.Blocks.{Last, grouped}
+use Rattle.dk_core.specs.History.{History, effect_of, file_ended, no_history}
+use Rattle.dk_core.specs.Standing.{StandsFor, blocks_of}
 use Rattle.dk_core.specs.Steps.{groups_left}
 use Rattle.dk_core.specs.declared.session.Session.{Session}
-use Rattle.dk_run.specs.Files.{File, whole, cut_off, AreHeld}
-use Rattle.dk_run.specs.Words.{name_at}
-use Rattle.dk_run.specs.Ending.{line_limit, total_limit, then_files, after_file, after_files, history_after, fault_in, first_fault}
-use Rattle.dk_run.specs.Statuses.{rest_behind, AreClean}
-use Rattle.dk_run.specs.WholeFile.{FileGives, TroubleGives, fresh}
-use Rattle.dk_run.specs.AllFiles.{AreThere, RunsOnHeld, FilesGive, FilesTroubleGives, IsCaused, placed}
+use Rattle.dk_words.specs.declared.command.Command.{Command}
+use Rattle.dk_run.specs.AllFiles.{AreReadTo, FilesTroubleGives, HasBrokenAt, IsRefusedAt, IsShortTo, IsUnreadAt, RunsOn, placed}
+use Rattle.dk_run.specs.Commands.{generated_count, helds_of, names_of}
+use Rattle.dk_run.specs.Courses.{Course, course_of, course_of_file, course_of_files, ends, fault_in, first_fault, goes_on, onto, standard, then_files, total_limit}
+use Rattle.dk_run.specs.Files.{AreHeld, File, FileFault, cut_off, name_at, whole}
+use Rattle.dk_run.specs.Reports.{capped, due_from, due_reports}
+use Rattle.dk_run.specs.Statuses.{AreClean, AtStart, Break, HasBroken, IsDelivered, Within, held_at, rest_behind}
+use Rattle.dk_run.specs.WholeFile.{ComesToEnd, FileTroubleGives, HasFault, IsBroken, IsCalmUnless, IsShort, course_behind, fresh}
 use Rattle.dk_run.specs.declared.reading.Trouble.{Trouble}
 use Rattle.dk_run.specs.declared.reading.Trouble.TheVariants as t
+use Rattle.dk_run.proofs.Courses.{no_lines, onto_more}
+use Rattle.dk_run.proofs.Filing.{due_append, due_none}
+use Rattle.dk_run.proofs.Writing.{front_behind, front_more}
 
-abbrev standard : Limits
-standard = record { line = line_limit; total = total_limit }
-
-pub name_there : {X : Type 0} (f : X → List ℕ) (ws : List X) (k : ℕ) (w : X) → k < length ws → w ≡ get_or ws k w → name_at (map f ws) k ≡ f w
-name_there f [] k w h e = absurd (omega arith)
-name_there f (v ∷ vs) zero w h e = ap f (sym e)
-name_there f (v ∷ vs) (suc k) w h e = name_there f vs k w (omega arith) e
-
--- ---- one name more
-
-record OneMore (file : List ℕ → Held) (names contents : List (List ℕ)) (k : ℕ) : Type 0 where
+-- ---- one file more, of those that are held
+record OneMore (helds : List Held) (contents : List (List ℕ)) (k : ℕ) : Type 0 where
   front : List (List ℕ)
   bytes : List ℕ
   split : contents ≡ front ++ bytes ∷ []
-  held : AreHeld file (take k names) front
-  there : file (name_at names k) ≡ Holds bytes
+  held : AreHeld (take k helds) front
+  there : held_at helds k ≡ Holds bytes
 
-first_and_more : (file : List ℕ → Held) (n c : List ℕ) (ns cs : List (List ℕ)) (k : ℕ) → file n ≡ Holds c → OneMore file ns cs k → OneMore file (n ∷ ns) (c ∷ cs) (suc k)
-first_and_more file n c ns cs k first m = let more = m.held in
+first_and_more : (n : Held) (c : List ℕ) (ns : List Held) (cs : List (List ℕ)) (k : ℕ) → n ≡ Holds c → OneMore ns cs k → OneMore (n ∷ ns) (c ∷ cs) (suc k)
+first_and_more n c ns cs k first m = let more = m.held in
     record { front = c ∷ m.front; bytes = m.bytes; split = ap (λ (l : List (List ℕ)). c ∷ l) m.split; held = cc (first, more); there = m.there }
 
-one_more_suc : (file : List ℕ → Held) (names contents : List (List ℕ)) (k : ℕ) → k < length names → AreHeld file (take (suc k) names) contents → OneMore file names contents k
-one_more_suc file [] contents k h held = absurd (omega arith)
-one_more_suc file (n ∷ ns) [] k h held = absurd (cc (held))
-one_more_suc file (n ∷ ns) (c ∷ []) zero h held = record { front = []; bytes = c; split = refl; held = refl; there = cc (held) }
-one_more_suc file (n ∷ ns) (c ∷ d ∷ cs) zero h held = absurd (cc (held))
-one_more_suc file (n ∷ ns) (c ∷ cs) (suc k) h held =
-    first_and_more file n c ns cs k (cc (held)) (one_more_suc file ns cs k (omega arith) (cc (held)))
+one_more_suc : (helds : List Held) (contents : List (List ℕ)) (k : ℕ) → k < length helds → AreHeld (take (suc k) helds) contents → OneMore helds contents k
+one_more_suc [] contents k h held = absurd (omega arith)
+one_more_suc (n ∷ ns) [] k h held = absurd (cc (held))
+one_more_suc (n ∷ ns) (c ∷ []) zero h held = record { front = []; bytes = c; split = refl; held = refl; there = cc (held) }
+one_more_suc (n ∷ ns) (c ∷ d ∷ cs) zero h held = absurd (cc (held))
+one_more_suc (n ∷ ns) (c ∷ cs) (suc k) h held = first_and_more n c ns cs k (cc (held)) (one_more_suc ns cs k (omega arith) (cc (held)))
 
-one_more : (file : List ℕ → Held) (names contents : List (List ℕ)) (k : ℕ) → k < length names → AreHeld file (take (k + 1) names) contents → OneMore file names contents k
-one_more file names contents k h held =
+one_more : (helds : List Held) (contents : List (List ℕ)) (k : ℕ) → k < length helds → AreHeld (take (k + 1) helds) contents → OneMore helds contents k
+one_more helds contents k h held =
     let next : k + 1 ≡ suc k = omega arith in
-    one_more_suc file names contents k h (subst (λ (n : ℕ). AreHeld file (take n names) contents) next held)
+    one_more_suc helds contents k h (subst (λ (n : ℕ). AreHeld (take n helds) contents) next held)
 
 files_of : (front : List (List ℕ)) (x : List ℕ) (fs : List File) → map whole (front ++ x ∷ []) ++ fs ≡ map whole front ++ (whole x ∷ fs)
 files_of [] x fs = refl
 files_of (c ∷ cs) x fs = ap (λ (l : List File). whole c ∷ l) (files_of cs x fs)
 
+-- ---- the course over one file more
 -- the groups of a started file are those of its bytes
-started_file : (r : Reading) (h : History) (is_ended : Bool) (xs : List ℕ) → r.limits ≡ standard
-    → after_file (room_of r) h (record { bytes = xs; is_ended = is_ended }) ≡ after_all (effect_of h) (groups_left false (fresh r) is_ended xs)
-started_file r h is_ended xs limits = ap (λ (l : Limits). after_all (effect_of h) (grouped (lined l.line (room_of r) 0 is_ended xs))) (sym limits)
+started_file : (ignores : Bool) (r : Reading) (h : History) (is_ended : Bool) (xs : List ℕ) → r.limits ≡ standard
+    → course_of_file ignores (room_of r) h (record { bytes = xs; is_ended = is_ended }) ≡ course_behind ignores h (groups_left false (fresh r) is_ended xs)
+started_file ignores r h is_ended xs limits = ap (λ (l : Limits). course_behind ignores h (grouped (lined l.line (room_of r) 0 is_ended xs))) (sym limits)
 
-next_rest : (k : ℕ) (before after : Option (List ℕ)) → after ≡ Some [] → after ≡ rest_behind (k + 1) before
-next_rest k before after e = let next : suc k ≡ k + 1 = omega arith in subst (λ (n : ℕ). after ≡ rest_behind n before) next e
+abbrev then_course : ℕ → Course LineFault → (History → Course FileFault) → Course FileFault
+then_course place c more = onto c.after (then_files place c.end more)
 
--- no file was read yet
-pub runs_none : (file : List ℕ → Held) (names : List (List ℕ)) (before : Option (List ℕ)) (s : Session) (r : Reading) → StandsFor s no_history → room_of r ≡ total_limit
-    → RunsOnHeld file names 0 before s r before
-unfolding history_after
-runs_none file names before s r stands room [] held = record { history = no_history; stands = stands; rest = refl; goes = λ fs. ap (λ (m : ℕ). after_files m no_history 0 fs) (sym room) }
-runs_none file names before s r stands room (c ∷ cs) held = absurd (cc (held))
+-- the run goes on behind a file
+course_more : (ignores : Bool) (r last : Reading) (h next : History) (after : List History) (place : ℕ) (xs : List ℕ) (fs : List File) → r.limits ≡ standard → room_of last ≡ room_of (fresh r) - length xs
+    → course_behind ignores h (groups_left false (fresh r) true xs) ≡ record { after = after; end = Ok next }
+    → course_of_files ignores (room_of r) h place (whole xs ∷ fs) ≡ onto after (course_of_files ignores (room_of last) (file_ended next) (place + 1) fs)
+course_more ignores r last h next after place xs fs limits room all =
+    ap (λ (c : Course LineFault). then_course place c (λ n. course_of_files ignores (room_of r - length xs) (file_ended n) (place + 1) fs)) (started_file ignores r h true xs limits ∙ all)
+    ∙ ap (λ (m : ℕ). onto after (course_of_files ignores m (file_ended next) (place + 1) fs)) (sym room)
+
+-- the run ends with a file's fault
+course_refused : (ignores : Bool) (r : Reading) (h : History) (after : List History) (place : ℕ) (xs : List ℕ) (fs : List File) (fault : LineFault) → r.limits ≡ standard
+    → course_behind ignores h (groups_left false (fresh r) true xs) ≡ record { after = after; end = Err fault }
+    → course_of_files ignores (room_of r) h place (whole xs ∷ fs) ≡ record { after = after; end = Err (record { file = place; line = fault.line; why = fault.why }) }
+course_refused ignores r h after place xs fs fault limits all =
+    ap (λ (c : Course LineFault). then_course place c (λ n. course_of_files ignores (room_of r - length xs) (file_ended n) (place + 1) fs)) (started_file ignores r h true xs limits ∙ all)
+    ∙ ap (λ (l : List History). record { after = l; end = Err (record { file = place; line = fault.line; why = fault.why }) }) (append-nil after)
+
+-- the run up to a part of a file
+course_part : (ignores : Bool) (r : Reading) (h next : History) (after : List History) (place : ℕ) (is_ended : Bool) (xs : List ℕ) → r.limits ≡ standard
+    → course_behind ignores h (groups_left false (fresh r) is_ended xs) ≡ record { after = after; end = Ok next }
+    → course_of_files ignores (room_of r) h place (record { bytes = xs; is_ended = is_ended } ∷ []) ≡ record { after = after; end = Ok (file_ended next) }
+course_part ignores r h next after place is_ended xs limits all =
+    ap (λ (c : Course LineFault). then_course place c (λ n. ends (Ok (file_ended n)))) (started_file ignores r h is_ended xs limits ∙ all)
+    ∙ ap (λ (l : List History). record { after = l; end = Ok (file_ended next) }) (append-nil after)
+
+-- ---- reading on
+there_more : (helds : List Held) (place : ℕ) → ((k : ℕ) → k < place → held_at helds k ≢ Absent) → held_at helds place ≢ Absent → (k : ℕ) → k < place + 1 → held_at helds k ≢ Absent
+there_more helds place below here k h = elim (cases_lt k place) [
+  | inl l ↦ below k l
+  | inr g ↦ let same : place ≡ k = omega (arith, g, h) in subst (λ (i : ℕ). held_at helds i ≢ Absent) same here
+]
+
+-- what the run over the files so far comes to
+pub alone : (command : Command) (before rest : Option (List ℕ)) (Stands : History → Type 0) (blocks room place : ℕ) (text : List ℕ) (contents : List (List ℕ))
+    → (on : RunsOn command before rest Stands blocks room place text contents) → course_of command.ignore_missing_entry (map whole contents) ≡ record { after = on.after; end = Ok on.history }
+alone command before rest Stands blocks room place text contents on =
+    ap (course_of command.ignore_missing_entry) (sym (append-nil (map whole contents))) ∙ on.goes [] ∙ ap (λ (l : List History). record { after = l; end = Ok on.history }) (append-nil on.after)
+
+pub alone_clean : (command : Command) (before rest : Option (List ℕ)) (Stands : History → Type 0) (blocks room place : ℕ) (text : List ℕ) (contents : List (List ℕ))
+    → RunsOn command before rest Stands blocks room place text contents → first_fault command.ignore_missing_entry (map whole contents) ≡ None
+alone_clean command before rest Stands blocks room place text contents on =
+    ap (λ (c : Course FileFault). fault_in c.end) (alone command before rest Stands blocks room place text contents on)
+
+clean_more : (ignores : Bool) (helds : List Held) (place : ℕ) → AreClean ignores helds place
+    → ((contents : List (List ℕ)) → AreHeld (take (place + 1) helds) contents → first_fault ignores (map whole contents) ≡ None) → AreClean ignores helds (place + 1)
+clean_more ignores helds place clean here k contents h held = elim (cases_lt place k) [
+  | inl more ↦ let same : k ≡ place + 1 = omega (arith, more, h) in here contents (subst (λ (n : ℕ). AreHeld (take n helds) contents) same held)
+  | inr less ↦ clean k contents less held
+]
 
 -- one file more was read
-pub runs_on : (file : List ℕ → Held) (names : List (List ℕ)) (k : ℕ) (before mid after : Option (List ℕ)) (s next : Session) (r last : Reading) (name : List ℕ)
-    → k < length names → name ≡ name_at names k → r.limits ≡ standard
-    → RunsOnHeld file names k before s r mid → FileGives s (file name) mid r (Ok next) last after → RunsOnHeld file names (k + 1) before next last after
-runs_on file names k before mid after s next r last name h is limits runs gives contents held =
-    let m = one_more file names contents k h held in
+runs_on : (command : Command) (helds : List Held) (before mid after left : Option (List ℕ)) (Stands Next : History → Type 0) (blocks more place : ℕ) (r last : Reading) (told text : List ℕ) (contents : List (List ℕ))
+    → r.limits ≡ standard → place < length helds
+    → ((mid ≡ rest_behind (place - generated_count command) before) → left ≡ Some [] → after ≡ rest_behind (place + 1 - generated_count command) before)
+    → ((contents : List (List ℕ)) → AreHeld (take place helds) contents → RunsOn command before mid Stands blocks (room_of r) place told contents)
+    → ((h : History) (n : ℕ) → Stands h → blocks ≡ capped n → (xs : List ℕ) → held_at helds place ≡ Holds xs → ComesToEnd command n h (fresh r) xs text Next more last left)
+    → AreHeld (take (place + 1) helds) contents → RunsOn command before after Next more (room_of last) (place + 1) (told ++ text) contents
+runs_on command helds before mid after left Stands Next blocks more place r last told text contents limits within rest runs gives held =
+    let m = one_more helds contents place within held in
     let on = runs m.front m.held in
-    let (h2, stands2, rest, room, all) = gives on.history on.stands m.bytes (ap file is ∙ m.there) in record {
-      history = file_ended h2;
-      stands = stands2;
-      rest = next_rest k before after rest;
+    let e = gives on.history (length on.after) on.stands on.counts m.bytes m.there in
+    let number : length on.after + 1 ≡ 1 + length on.after = omega arith in
+    record {
+      after = on.after ++ e.after;
+      history = file_ended e.next;
+      stands = e.stands;
+      counts = e.counts ∙ ap capped (sym (length-append on.after e.after));
+      told = ap (λ (l : List ℕ). l ++ text) on.told ∙ ap (λ (l : List ℕ). due_reports command on.after ++ l) (e.told ∙ ap (λ (n : ℕ). due_from command n e.after) number) ∙ sym (due_append command 1 on.after e.after);
+      rest_is = rest on.rest_is e.nothing_left;
       goes = λ fs.
-          ap (λ (cs : List (List ℕ)). history_after (map whole cs ++ fs)) m.split ∙ ap history_after (files_of m.front m.bytes fs) ∙ on.goes (whole m.bytes ∷ fs)
-          ∙ ap (λ (e : Result History LineFault). then_files k e (λ n. after_files (room_of r - length m.bytes) (file_ended n) (k + 1) fs)) (started_file r on.history true m.bytes limits ∙ all)
-          ∙ ap (λ (n : ℕ). after_files n (file_ended h2) (k + 1) fs) (sym room);
+          ap (λ (cs : List (List ℕ)). course_of command.ignore_missing_entry (map whole cs ++ fs)) m.split
+          ∙ ap (course_of command.ignore_missing_entry) (files_of m.front m.bytes fs)
+          ∙ on.goes (whole m.bytes ∷ fs)
+          ∙ ap (onto on.after) (course_more command.ignore_missing_entry r last on.history e.next e.after place m.bytes fs limits e.room e.all)
+          ∙ onto_more on.after e.after (course_of_files command.ignore_missing_entry (room_of last) (file_ended e.next) (place + 1) fs);
     }
 
--- what the run over these files alone comes to
-alone : (file : List ℕ → Held) (names : List (List ℕ)) (k : ℕ) (before after : Option (List ℕ)) (s : Session) (r : Reading) → RunsOnHeld file names k before s r after
-    → (contents : List (List ℕ)) → AreHeld file (take k names) contents
-    → (h : History) × StandsFor s h × (history_after (map whole contents) ≡ Ok h) × (after ≡ rest_behind k before)
-alone file names k before after s r runs contents held =
-    let on = runs contents held in
-    (on.history, on.stands, ap history_after (sym (append-nil (map whole contents))) ∙ on.goes [], on.rest)
+pub read_on : (command : Command) (file : List ℕ → Held) (before mid after left : Option (List ℕ)) (Stands Next : History → Type 0) (blocks more place : ℕ) (r last : Reading) (told text : List ℕ)
+    → r.limits ≡ standard → place < length (helds_of command file) → held_at (helds_of command file) place ≢ Absent
+    → ((mid ≡ rest_behind (place - generated_count command) before) → left ≡ Some [] → after ≡ rest_behind (place + 1 - generated_count command) before)
+    → AreReadTo command file before mid Stands blocks (room_of r) place told
+    → ((h : History) (n : ℕ) → Stands h → blocks ≡ capped n → (xs : List ℕ) → held_at (helds_of command file) place ≡ Holds xs → ComesToEnd command n h (fresh r) xs text Next more last left)
+    → AreReadTo command file before after Next more (room_of last) (place + 1) (told ++ text)
+read_on command file before mid after left Stands Next blocks more place r last told text limits within there rest read gives =
+    let runs = runs_on command (helds_of command file) before mid after left Stands Next blocks more place r last told text in
+    record {
+      there = there_more (helds_of command file) place read.there there;
+      clean = clean_more command.ignore_missing_entry (helds_of command file) place read.clean
+          (λ contents held. alone_clean command before after Next more (room_of last) (place + 1) (told ++ text) contents (runs contents limits within rest read.runs gives held));
+      runs = λ contents held. runs contents limits within rest read.runs gives held;
+    }
 
-pub runs_end : (file : List ℕ → Held) (names : List (List ℕ)) (k : ℕ) (before after : Option (List ℕ)) (s : Session) (r : Reading) → k ≡ length names
-    → RunsOnHeld file names k before s r after → FilesGive file names before (Ok s) after
-runs_end file names k before after s r h runs contents held =
-    subst (λ (n : ℕ). (h : History) × StandsFor s h × (history_after (map whole contents) ≡ Ok h) × (after ≡ rest_behind n before)) h
-    (alone file names k before after s r runs contents (subst (λ (l : List (List ℕ)). AreHeld file l contents) (sym (take_all k names (omega arith))) held))
+-- a file is refused
+pub refused_on : (command : Command) (file : List ℕ → Held) (before mid : Option (List ℕ)) (Stands : History → Type 0) (blocks place line : ℕ) (why : Why) (r : Reading) (told text : List ℕ)
+    → r.limits ≡ standard → place < length (helds_of command file) → held_at (helds_of command file) place ≢ Absent
+    → AreReadTo command file before mid Stands blocks (room_of r) place told
+    → ((h : History) (n : ℕ) → Stands h → blocks ≡ capped n → (xs : List ℕ) → held_at (helds_of command file) place ≡ Holds xs → HasFault command n h (fresh r) xs text (record { line = line; why = why }))
+    → IsRefusedAt command file (told ++ text) place line why
+refused_on command file before mid Stands blocks place line why r told text limits within there read gives = record {
+  named = within;
+  there = there_more (helds_of command file) place read.there there;
+  clean = read.clean;
+  gives = λ contents held.
+      let m = one_more (helds_of command file) contents place within held in
+      let on = read.runs m.front m.held in
+      let e = gives on.history (length on.after) on.stands on.counts m.bytes m.there in
+      let number : length on.after + 1 ≡ 1 + length on.after = omega arith in (
+        on.after ++ e.after,
+        ap (λ (l : List ℕ). l ++ text) on.told ∙ ap (λ (l : List ℕ). due_reports command on.after ++ l) (e.told ∙ ap (λ (n : ℕ). due_from command n e.after) number) ∙ sym (due_append command 1 on.after e.after),
+        ap (λ (cs : List (List ℕ)). course_of command.ignore_missing_entry (map whole cs)) m.split
+            ∙ ap (course_of command.ignore_missing_entry) (sym (append-nil (map whole (m.front ++ m.bytes ∷ []))) ∙ files_of m.front m.bytes [])
+            ∙ on.goes (whole m.bytes ∷ [])
+            ∙ ap (onto on.after) (course_refused command.ignore_missing_entry r on.history e.after place m.bytes [] (record { line = line; why = why }) limits e.all),
+      );
+}
 
-pub clean_none : (file : List ℕ → Held) (names : List (List ℕ)) → AreClean file (take 0 names)
-unfolding history_after
-clean_none file names zero [] held = refl
-clean_none file names (suc n) [] held = refl
-clean_none file names zero (c ∷ cs) held = absurd (cc (held))
-clean_none file names (suc n) (c ∷ cs) held = absurd (cc (held))
+-- a part of the next file, behind those that were read
+part_fine : (command : Command) (before mid : Option (List ℕ)) (Stands : History → Type 0) (blocks place : ℕ) (r : Reading) (told text : List ℕ) (contents : List (List ℕ)) (is_ended : Bool) (xs : List ℕ) (after : List History) (next : History)
+    → r.limits ≡ standard → (on : RunsOn command before mid Stands blocks (room_of r) place told contents)
+    → text ≡ due_from command (length on.after + 1) after
+    → course_behind command.ignore_missing_entry on.history (groups_left false (fresh r) is_ended xs) ≡ record { after = after; end = Ok next }
+    → (first_fault command.ignore_missing_entry (map whole contents ++ record { bytes = xs; is_ended = is_ended } ∷ []) ≡ None)
+    × (told ++ text ≡ due_reports command (course_of command.ignore_missing_entry (map whole contents ++ record { bytes = xs; is_ended = is_ended } ∷ [])).after)
+part_fine command before mid Stands blocks place r told text contents is_ended xs after next limits on due all =
+    let course = on.goes (record { bytes = xs; is_ended = is_ended } ∷ []) ∙ ap (onto on.after) (course_part command.ignore_missing_entry r on.history next after place is_ended xs limits all) in
+    let number : length on.after + 1 ≡ 1 + length on.after = omega arith in (
+      ap (λ (c : Course FileFault). fault_in c.end) course,
+      ap (λ (l : List ℕ). l ++ text) on.told ∙ ap (λ (l : List ℕ). due_reports command on.after ++ l) (due ∙ ap (λ (n : ℕ). due_from command n after) number) ∙ sym (due_append command 1 on.after after)
+          ∙ ap (λ (c : Course FileFault). due_reports command c.after) (sym course),
+    )
 
--- one file more was read, and it holds no fault
-pub clean_on : (file : List ℕ → Held) (names : List (List ℕ)) (k : ℕ) (before after : Option (List ℕ)) (s : Session) (r : Reading)
-    → AreClean file (take k names) → RunsOnHeld file names (k + 1) before s r after → AreClean file (take (k + 1) names)
-clean_on file names k before after s r clean runs n contents held = elim (cases_lt k n) [
-  | inl more ↦ let all : take n (take (k + 1) names) ≡ take (k + 1) names = take_all n (take (k + 1) names) (omega (arith, length-take (k + 1) names)) in
-      ap fault_in (alone file names (k + 1) before after s r runs contents (subst (λ (l : List (List ℕ)). AreHeld file l contents) all held)).2
-  | inr less ↦ let short : take n (take (k + 1) names) ≡ take n (take k names) = take-take n (k + 1) names (omega arith) ∙ sym (take-take n k names less) in
-      clean n contents (subst (λ (l : List (List ℕ)). AreHeld file l contents) short held)
-]
+-- a file could not be started
+pub unstarted_on : (command : Command) (file : List ℕ → Held) (before mid rest : Option (List ℕ)) (Stands : History → Type 0) (blocks place : ℕ) (r : Reading) (told text : List ℕ)
+    → generated_count command ≤ place → place < length (helds_of command file)
+    → AreReadTo command file before mid Stands blocks (room_of r) place told
+    → text ≡ [] → rest ≡ mid
+    → IsUnreadAt AtStart command file before rest (told ++ text) place
+unstarted_on command file before mid rest Stands blocks place r told text behind within read nothing same = record {
+  behind = behind;
+  named = within;
+  there = read.there;
+  clean = read.clean;
+  gives = λ contents held.
+      let on = read.runs contents held in (
+        same ∙ on.rest_is,
+        ap (λ (l : List ℕ). told ++ l) nothing ∙ append-nil told ∙ on.told
+        ∙ ap (λ (c : Course FileFault). due_reports command c.after) (sym (alone command before mid Stands blocks (room_of r) place told contents on)),
+      );
+}
 
-no_fault_at : (place : ℕ) (e : Result History LineFault) (more : History → History) → IsOk e → fault_in (then_files place e (λ n. Ok (more n))) ≡ None
-no_fault_at place (Ok h) more f = refl
-no_fault_at place (Err e) more f = cc (f)
+-- a read of a file failed
+pub unread_on : (command : Command) (file : List ℕ → Held) (before mid rest : Option (List ℕ)) (Stands : History → Type 0) (blocks place : ℕ) (r : Reading) (told text : List ℕ)
+    → r.limits ≡ standard → generated_count command ≤ place → place < length (helds_of command file)
+    → AreReadTo command file before mid Stands blocks (room_of r) place told
+    → ((h : History) (n : ℕ) → Stands h → blocks ≡ capped n → (xs : List ℕ) → held_at (helds_of command file) place ≡ Holds xs → IsBroken command n h (fresh r) xs text rest)
+    → IsUnreadAt Within command file before rest (told ++ text) place
+unread_on command file before mid rest Stands blocks place r told text limits behind within read gives = record {
+  behind = behind;
+  named = within;
+  there = read.there;
+  clean = read.clean;
+  gives = λ contents held xs holds.
+      let on = read.runs contents held in
+      let e = gives on.history (length on.after) on.stands on.counts xs holds in
+      let fine = part_fine command before mid Stands blocks place r told text contents e.is_ended e.front e.after e.next limits on e.told e.all in
+      (record { bytes = e.front; is_ended = e.is_ended }, (e.rest, e.left_is, e.split, e.ended), fine.0, fine.1);
+}
 
-fine_nothing : (r : Reading) (h : History) → IsOk (after_all (effect_of h) (groups_left false (fresh r) false []))
-fine_nothing r h = subst (λ (l : Left). IsOk (after_all (effect_of h) (grouped l))) (sym (at_break (fresh r)))
-    (subst (λ (e : Result Taken LineFault). IsOk (e >>= λ t. Ok t.history)) (sym (no_lines h None)) refl)
+-- a report by the way was not written whole
+pub short_on : (command : Command) (file : List ℕ → Held) (before mid : Option (List ℕ)) (Stands : History → Type 0) (blocks place : ℕ) (r : Reading) (told text : List ℕ)
+    → r.limits ≡ standard → place < length (helds_of command file) → held_at (helds_of command file) place ≢ Absent
+    → AreReadTo command file before mid Stands blocks (room_of r) place told
+    → ((h : History) (n : ℕ) → Stands h → blocks ≡ capped n → (xs : List ℕ) → held_at (helds_of command file) place ≡ Holds xs → IsShort command n h (fresh r) xs text)
+    → IsShortTo command file (told ++ text)
+short_on command file before mid Stands blocks place r told text limits within there read gives = record {
+  place = place + 1;
+  there = there_more (helds_of command file) place read.there there;
+  due = λ contents held fs.
+      let m = one_more (helds_of command file) contents place within held in
+      let on = read.runs m.front m.held in
+      let e = gives on.history (length on.after) on.stands on.counts m.bytes m.there in
+      let ignores = command.ignore_missing_entry in
+      let number : length on.after + 1 ≡ 1 + length on.after = omega arith in
+      let behind = (then_files place (course_of_file ignores (room_of r) on.history (whole m.bytes)).end (λ n. course_of_files ignores (room_of r - length m.bytes) (file_ended n) (place + 1) fs)).after in
+      let here : (course_of_file ignores (room_of r) on.history (whole m.bytes)).after ≡ e.after ++ e.more = ap (λ (c : Course LineFault). c.after) (started_file ignores r on.history true m.bytes limits) ∙ e.all in
+      let course : (course_of ignores (map whole contents ++ fs)).after ≡ on.after ++ (e.after ++ (e.more ++ behind)) =
+      ap (λ (cs : List (List ℕ)). (course_of ignores (map whole cs ++ fs)).after) m.split
+      ∙ ap (λ (l : List File). (course_of ignores l).after) (files_of m.front m.bytes fs)
+      ∙ ap (λ (c : Course FileFault). c.after) (on.goes (whole m.bytes ∷ fs))
+      ∙ ap (λ (l : List History). on.after ++ (l ++ behind)) here
+      ∙ ap (λ (l : List History). on.after ++ l) (append_assoc e.after e.more behind) in
+      let due : due_reports command (course_of ignores (map whole contents ++ fs)).after
+      ≡ due_reports command on.after ++ (due_from command (1 + length on.after) e.after ++ due_from command (1 + length on.after + length e.after) (e.more ++ behind)) =
+      ap (due_reports command) course ∙ due_append command 1 on.after (e.after ++ (e.more ++ behind))
+      ∙ ap (λ (l : List ℕ). due_reports command on.after ++ l) (due_append command (1 + length on.after) e.after (e.more ++ behind)) in
+      let short : StartsWith (due_from command (1 + length on.after) e.after) text = subst (λ (n : ℕ). StartsWith (due_from command n e.after) text) number e.told in
+      subst (λ (l : List ℕ). StartsWith l (told ++ text)) (sym due)
+      (subst (λ (l : List ℕ). StartsWith (due_reports command on.after ++ (due_from command (1 + length on.after) e.after ++ due_from command (1 + length on.after + length e.after) (e.more ++ behind))) (l ++ text)) (sym on.told)
+      (front_behind (due_reports command on.after) (due_from command (1 + length on.after) e.after ++ due_from command (1 + length on.after + length e.after) (e.more ++ behind)) text
+      (front_more (due_from command (1 + length on.after) e.after) (due_from command (1 + length on.after + length e.after) (e.more ++ behind)) text short)));
+}
 
--- a file that was cut off without a fault, behind the others
-clean_cut : (r : Reading) (h : History) (k : ℕ) (contents : List (List ℕ)) (bytes : List ℕ) → r.limits ≡ standard
-    → ((fs : List File) → history_after (map whole contents ++ fs) ≡ after_files (room_of r) h k fs)
-    → IsOk (after_all (effect_of h) (groups_left false (fresh r) false bytes))
-    → first_fault (map whole contents ++ cut_off bytes ∷ []) ≡ None
-clean_cut r h k contents bytes limits goes fine =
-    ap fault_in (goes (cut_off bytes ∷ [])) ∙ no_fault_at k (after_file (room_of r) h (cut_off bytes)) file_ended
-    (subst IsOk (sym (started_file r h false bytes limits)) fine)
+-- nothing is told yet
+pub short_none : (command : Command) (file : List ℕ → Held) → IsShortTo command file []
+short_none command file = record { place = 0; there = λ k h. absurd (omega arith); due = λ contents held fs. refl }
 
-pub runs_trouble : (file : List ℕ → Held) (names : List (List ℕ)) (k : ℕ) (before mid after : Option (List ℕ)) (s : Session) (r : Reading) (name : List ℕ) (trouble : Trouble)
-    → k < length names → name ≡ name_at names k → r.limits ≡ standard → RunsOnHeld file names k before s r mid
-    → ((h : History) → StandsFor s h → (xs : List ℕ) → file name ≡ Holds xs → TroubleGives h r xs mid trouble after)
-    → FilesTroubleGives file names before (placed k trouble) after
-runs_trouble file names k before mid after s r name (t.Refused line why) h is limits runs gives = λ contents held.
-    let m = one_more file names contents k h held in
-    let on = runs m.front m.held in
-    ap (λ (cs : List (List ℕ)). history_after (map whole cs)) m.split
-    ∙ ap history_after (sym (append-nil (map whole (m.front ++ m.bytes ∷ []))) ∙ files_of m.front m.bytes [])
-    ∙ on.goes (whole m.bytes ∷ [])
-    ∙ ap (λ (e : Result History LineFault). then_files k e (λ n. Ok (file_ended n))) (started_file r on.history true m.bytes limits ∙ gives on.history on.stands m.bytes (ap file is ∙ m.there))
-runs_trouble file names k before mid after s r name t.Start h is limits runs gives = λ contents xs held holds.
-    let on = runs contents held in
-    ([], (refl, gives on.history on.stands xs (ap file is ∙ holds) ∙ on.rest), clean_cut r on.history k contents [] limits on.goes (fine_nothing r on.history))
-runs_trouble file names k before mid after s r name t.Read h is limits runs gives = λ contents xs held holds.
-    let on = runs contents held in
-    let (front, (rest, now, split, fine)) = gives on.history on.stands xs (ap file is ∙ holds) in
-    (front, (rest, now, split), clean_cut r on.history k contents front limits on.goes fine)
-runs_trouble file names k before mid after s r name t.NoMemory h is limits runs gives = tt
+-- no file was read yet
+pub read_none : (command : Command) (file : List ℕ → Held) (before : Option (List ℕ)) (Stands : History → Type 0) (blocks room : ℕ) → Stands no_history → blocks ≡ 0 → room ≡ total_limit
+    → AreReadTo command file before before Stands blocks room 0 []
+unfolding course_of
+read_none command file before Stands blocks room stands none all = record {
+  there = λ k h. absurd (omega arith);
+  clean = λ k contents h held. nothing_clean k contents h held;
+  runs = λ contents held. nothing_read contents held;
+} where
+  nothing_clean : (k : ℕ) (contents : List (List ℕ)) → k ≤ 0 → AreHeld (take k (helds_of command file)) contents → first_fault command.ignore_missing_entry (map whole contents) ≡ None
+  nothing_clean zero [] h held = refl
+  nothing_clean zero (c ∷ cs) h held = absurd (cc (held))
+  nothing_clean (suc k) contents h held = absurd (omega arith)
 
-pub there_more : (file : List ℕ → Held) (names : List (List ℕ)) (k : ℕ) (name : List ℕ) → name ≡ name_at names k → ((j : ℕ) → j < k → file (name_at names j) ≢ Absent) → file name ≢ Absent
-    → (j : ℕ) → j < k + 1 → file (name_at names j) ≢ Absent
-there_more file names k name is below here j h = elim (cases_lt j k) [
-  | inl l ↦ below j l
-  | inr g ↦ let same : k ≡ j = omega (arith, g, h) in subst (λ (i : ℕ). file (name_at names i) ≢ Absent) same (subst (λ (n : List ℕ). file n ≢ Absent) is here)
-]
-
--- no file of the names is absent
-pub all_there : (file : List ℕ → Held) (names : List (List ℕ)) → ((k : ℕ) → k < length names → file (name_at names k) ≢ Absent) → All (λ n. file n ≢ Absent) names
-all_there file names there = λ k d h. subst (λ (n : List ℕ). file n ≢ Absent) (at names k d h) (there k h) where
-  at : (names : List (List ℕ)) (k : ℕ) (d : List ℕ) → k < length names → name_at names k ≡ get_or names k d
-  at [] k d h = absurd (omega arith)
-  at (n ∷ ns) zero d h = refl
-  at (n ∷ ns) (suc k) d h = at ns k d (omega arith)
-
-pub name-take : (names : List (List ℕ)) (n k : ℕ) → k < n → name_at (take n names) k ≡ name_at names k
-name-take names zero k h = absurd (omega arith)
-name-take [] (suc n) k h = refl
-name-take (x ∷ xs) (suc n) zero h = refl
-name-take (x ∷ xs) (suc n) (suc k) h = name-take xs n k (omega arith)
-
--- no file of the first names is absent
-pub front_there : (file : List ℕ → Held) (names : List (List ℕ)) (n : ℕ) → n ≤ length names → ((k : ℕ) → k < n → file (name_at names k) ≢ Absent) → All (λ n. file n ≢ Absent) (take n names)
-front_there file names n h there = all_there file (take n names) (λ k below. at k (omega (arith, length-take n names))) where
-  at : (k : ℕ) → k < n → file (name_at (take n names) k) ≢ Absent
-  at k below = subst (λ (w : List ℕ). file w ≢ Absent) (sym (name-take names n k below)) (there k below)
-
--- where a trouble with a file leaves the files in front of it, and itself
-pub trouble_there : (file : List ℕ → Held) (names : List (List ℕ)) (k : ℕ) (name : List ℕ) (r : Result Session Trouble) (trouble : Trouble) → r ≡ Err trouble → k < length names → name ≡ name_at names k
-    → ((j : ℕ) → j < k → file (name_at names j) ≢ Absent) → (r ≢ Err t.Start → file name ≢ Absent) → AreThere file names (Err (placed k trouble))
-trouble_there file names k name r (t.Refused line why) e h is below here = front_there file names (k + 1) (omega arith) (there_more file names k name is below (here (λ s. cc (e, s))))
-trouble_there file names k name r t.Start e h is below here = front_there file names k (omega arith) below
-trouble_there file names k name r t.Read e h is below here = front_there file names (k + 1) (omega arith) (there_more file names k name is below (here (λ s. cc (e, s))))
-trouble_there file names k name r t.NoMemory e h is below here = tt
-
-rose_within : (a b c limit : ℕ) → a ≤ b → min (b + 1) limit ≤ c → min (a + 1) limit ≤ c
-rose_within a b c limit h r = omega arith
-
--- faults that rose in a later call rose in the run
-rose_since : (a b c : ℕ) → a ≤ b → Rose b c → Rose a c
-rose_since a b c h r = rose_within a b c (2 ^ 64 - 1) h r
-
-pub trouble_caused : (file : List ℕ → Held) (names : List (List ℕ)) (k : ℕ) (name : List ℕ) (r : Result Session Trouble) (trouble : Trouble) (a b c : ℕ) → r ≡ Err trouble → name ≡ name_at names k
-    → a ≤ b → (r ≢ Err t.Start → file name ≢ Absent) → (r ≡ Err t.Start → (file name ≡ Absent) ⊎ Rose b c) → (r ≡ Err t.Read → Rose b c) → IsCaused file names (Rose a c) (placed k trouble)
-trouble_caused file names k name r (t.Refused line why) a b c e is h there start read = tt
-trouble_caused file names k name r t.Start a b c e is h there start read = elim (start e) [
-  | inl absent ↦ inl (subst (λ (n : List ℕ). file n ≡ Absent) is absent)
-  | inr rose ↦ inr (rose_since a b c h rose)
-]
-trouble_caused file names k name r t.Read a b c e is h there start read = (subst (λ (n : List ℕ). file n ≢ Absent) is (there (λ s. cc (e, s))), rose_since a b c h (read e))
-trouble_caused file names k name r t.NoMemory a b c e is h there start read = tt
-
-pub front_of_there : (file : List ℕ → Held) (names : List (List ℕ)) (k : ℕ) → All (λ n. file n ≢ Absent) (take (k + 1) names) → All (λ n. file n ≢ Absent) (take k names)
-front_of_there file names k there =
-    subst (All (λ (n : List ℕ). file n ≢ Absent)) (take-take k (k + 1) names (omega arith)) (All-take (λ (n : List ℕ). file n ≢ Absent) k (take (k + 1) names) there)
+  nothing_read : (contents : List (List ℕ)) → AreHeld (take 0 (helds_of command file)) contents → RunsOn command before before Stands blocks room 0 [] contents
+  nothing_read [] held = record {
+    after = [];
+    history = no_history;
+    stands = stands;
+    counts = none;
+    told = sym (due_none command 1);
+    rest_is = let none : 0 ≡ 0 - generated_count command = omega arith in ap (λ (n : ℕ). rest_behind n before) none;
+    goes = λ fs. ap (λ (m : ℕ). course_of_files command.ignore_missing_entry m no_history 0 fs) (sym all);
+  }
+  nothing_read (c ∷ cs) held = absurd (cc (held))

@@ -2,8 +2,10 @@
 //! points.
 #![tactic(auto)]
 
+mod choosing;
 mod messages;
 mod reading;
+mod reporting;
 mod status;
 mod top;
 mod words;

@@ -1,12 +1,9 @@
-// The messages of the command.
-ghost use Rattle.std.specs.Prelude.{◌≡◌, ◌∷◌, [], IfOk, string_bytes};
-ghost use Rattle.dk_run.specs.Messages.{fault_line, unread_line};
+// The messages of the command, and the lines between its reports.
+ghost use Rattle.std.specs.Prelude.{◌≡◌, IfOk, string_bytes};
+ghost use Rattle.dk_print.specs.Sections.{after_blocks_line, end_line};
+ghost use Rattle.dk_run.specs.Messages.{unread_line};
 
-use dk_base::Why;
 use std::alloc::{AllocError, Global};
-
-/// The words are refused.
-pub(crate) const USAGE_LINE: &str = "usage: daikon FILE\n";
 
 /// A file can't be read.
 pub(crate) fn unread_line(alloc: Global, name: &str) -> Result<String, AllocError>
@@ -15,14 +12,16 @@ pub(crate) fn unread_line(alloc: Global, name: &str) -> Result<String, AllocErro
     format!(in alloc; "daikon: cannot read {name}\n")
 }
 
-/// A line of a file is refused.
-pub(crate) fn fault_line(
-    alloc: Global,
-    name: &str,
-    line: u64,
-    why: Why,
-) -> Result<String, AllocError>
-    ensures { IfOk result (λ text. string_bytes text ≡ fault_line name.now line why) }
+/// In front of a report by the way.
+pub(crate) fn after_blocks_line(alloc: Global, blocks: u64) -> Result<String, AllocError>
+    ensures { IfOk result (λ text. string_bytes text ≡ after_blocks_line blocks) }
 {
-    format!(in alloc; "daikon: {name}:{line}: {why}\n")
+    format!(in alloc; "--- after {blocks} blocks\n")
+}
+
+/// In front of the last report, where there are reports by the way.
+pub(crate) fn end_line(alloc: Global, blocks: u64) -> Result<String, AllocError>
+    ensures { IfOk result (λ text. string_bytes text ≡ end_line blocks) }
+{
+    format!(in alloc; "--- end after {blocks} blocks\n")
 }

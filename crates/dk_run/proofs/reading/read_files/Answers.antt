@@ -1,78 +1,99 @@
-use Rattle.std.proofs.Common.{rules, arith, ap, subst, sym, refl, ℕ, List, map, string_bytes, Ok, Err}
-use Rattle.std.proofs.lemmas.List.{length-map, take_all}
-use Rattle.dk_io.specs.Outside.{Held, Rose}
+use Rattle.std.proofs.Common.{rules, arith, ap, subst, sym, refl, ◌∙◌, ◌≡◌, ◌≢◌, ◌≤◌, ◌++◌, ◌+◌, ℕ, List, [], length, append_assoc, Ok, Err}
+use Rattle.dk_io.specs.Outside.{Held, Absent, Holds, Rose}
+use Rattle.dk_io.specs.declared.outside.Stream.TheVariants.{Report}
 use Rattle.dk_lines.specs.Reading.{room_of}
-use Rattle.dk_run.specs.WholeFile.{FileGives}
-use Rattle.dk_run.specs.Statuses.{AreClean}
-use Rattle.dk_run.specs.AllFiles.{AreThere, FilesTroubleGives, IsCaused}
+use Rattle.dk_core.specs.Selecting.{SelectsBy}
+use Rattle.dk_core.specs.Standing.{StandsFor, blocks_of}
+use Rattle.dk_run.specs.AllFiles.{AreReadTo, FilesTroubleGives, HasBrokenAt, placed}
+use Rattle.dk_run.specs.Commands.{generated_count, helds_of, is_selected, names_of}
+use Rattle.dk_run.specs.Files.{name_at}
 use Rattle.dk_run.specs.declared.reading.FilesTrouble.{FilesTrouble}
-use Rattle.dk_run.proofs.Running.{runs_none, runs_on, runs_end, runs_trouble, there_more, clean_none, clean_on, all_there, trouble_there, trouble_caused}
+use Rattle.dk_run.proofs.Filing.{alike_on, alike_same, reports_on}
+use Rattle.dk_run.proofs.Placing.{named_cause, named_on, named_trouble, names_length, nothing_told}
+use Rattle.dk_run.proofs.Writing.{added_nothing, written_behind}
 use Rattle.dk_run.proofs.reading.read_files.Goals as goal
 
-pub loop-place-init : goal.loop-place-init
-loop-place-init g c = record {
+pub loop-index-init : goal.loop-index-init
+loop-index-init g c = record {
   begins = search rules;
   limits = search rules;
   files = search rules;
   later = search rules;
-  there = λ k h. absurd (omega arith);
-  clean = clean_none (g.I.Inputs.file c.args.inputs.now) (map string_bytes c.args.names.now);
-  runs = runs_none (g.I.Inputs.file c.args.inputs.now) (map string_bytes c.args.names.now) _ c.in-Ok-new.session c.in-Ok.lines c.in-Ok-new.ensures.0 (ap room_of c.in-Ok.ensures);
+  calm = search rules;
+  alike = alike_same c.args.session;
+  reports = c.requires.reports;
+  callable = c.requires.callable;
+  selects = c.requires.selects;
+  goes = record {
+    text = [];
+    written = sym (added_nothing _ Report);
+    holds = λ told read. nothing_told c.args.command.now _ _ _ (StandsFor c.args.session) _ _ _ told read;
+  };
 }
 
-pub loop-place-preserved : goal.loop-place-preserved
-loop-place-preserved g c =
-    let names : List (List ℕ) = map string_bytes c.args.names.now in
-    let there = rw c.loop-place.invariant.files at (c.in-Ok-read_file.ensures.there (λ e. cc e)) in
-    let gives = subst (λ (f : List ℕ → Held). FileGives c.loop-place.session (f c.name_at.result.now) (g.I.Inputs.rest c.loop-place.inputs) c.loop-place.lines (Ok c.in-Ok-read_file.next) c.read_file.new.lines (g.I.Inputs.rest c.read_file.new.inputs))
-    c.loop-place.invariant.files c.in-Ok-read_file.ensures.gives in
-    let runs = runs_on (g.I.Inputs.file c.args.inputs.now) names c.loop-place.place _ _ _ c.loop-place.session c.in-Ok-read_file.next c.loop-place.lines c.read_file.new.lines c.name_at.result.now
-    (omega (arith, length-map c.args.names.now string_bytes)) c.name_at.ensures c.loop-place.invariant.limits c.loop-place.invariant.runs gives in
+pub loop-index-preserved : goal.loop-index-preserved
+loop-index-preserved g c =
+    let files = c.loop-index.invariant.files in
+    let old = c.loop-index.invariant.goes in
+    let new = c.in-Ok.ensures.gives in
+    let there = rw files at (c.in-Ok.ensures.there (λ e. cc e)) in
     record {
       begins = search rules;
       limits = search rules;
       files = search rules;
       later = search rules;
-      there = there_more (g.I.Inputs.file c.args.inputs.now) names c.loop-place.place c.name_at.result.now c.name_at.ensures c.loop-place.invariant.there there;
-      clean = clean_on (g.I.Inputs.file c.args.inputs.now) names c.loop-place.place _ _ c.in-Ok-read_file.next c.read_file.new.lines c.loop-place.invariant.clean runs;
-      runs = runs;
+      calm = search rules;
+      alike = alike_on c.args.session c.loop-index.session c.in-Ok.next c.loop-index.invariant.alike c.in-Ok.ensures.alike;
+      reports = reports_on c.args.command.now c.loop-index.session c.in-Ok.next c.in-Ok.ensures.alike c.loop-index.invariant.reports;
+      callable = subst (λ f. goal.F-IsAlwaysCallable g f) (sym c.in-Ok.ensures.alike.select) c.loop-index.invariant.callable;
+      selects = subst (λ f. SelectsBy (goal.F-post g f) (is_selected c.args.command.now)) (sym c.in-Ok.ensures.alike.select) c.loop-index.invariant.selects;
+      goes = record {
+        text = old.text ++ new.text;
+        written = written_behind _ _ _ old.text new.text old.written new.written;
+        holds = λ told read. subst (λ (l : List ℕ). AreReadTo c.args.command.now (g.I.Inputs.file c.args.inputs.now) (g.I.Inputs.rest c.args.inputs.now) (g.I.Inputs.rest c.read_file.new.inputs) (StandsFor c.in-Ok.next) (blocks_of c.in-Ok.next) (room_of c.read_file.new.lines) (generated_count c.args.command.now + (c.loop-index.index + 1)) l)
+            (append_assoc told old.text new.text)
+            (named_on c.args.command.now (g.I.Inputs.file c.args.inputs.now) _ _ _ c.loop-index.session c.in-Ok.next c.loop-index.index c.loop-index.lines c.read_file.new.lines (told ++ old.text) new.text c.word_at.result.now
+            (c.word_at.ensures ∙ ap (λ (l : List (List ℕ)). name_at l c.loop-index.index) c.as_slice-words.ensures) (omega (arith, ap length c.as_slice-words.ensures)) c.loop-index.invariant.limits there (old.holds told read)
+            (λ h n stands counts xs holds. new.holds.1 h n stands counts xs (ap (λ (f : List ℕ → Held). f c.word_at.result.now) files ∙ holds)));
+      };
     }
 
-pub returns-in-Err-read_file-clause-gives : goal.returns-in-Err-read_file-clause-gives
-returns-in-Err-read_file-clause-gives g c =
-    let names : List (List ℕ) = map string_bytes c.args.names.now in
-    let gives = subst (λ (f : List ℕ → Held). FileGives c.loop-place.session (f c.name_at.result.now) (g.I.Inputs.rest c.loop-place.inputs) c.loop-place.lines (Err c.in-Err-read_file.trouble) c.read_file.new.lines (g.I.Inputs.rest c.read_file.new.inputs))
-    c.loop-place.invariant.files c.in-Err-read_file.ensures.gives in
-    subst (λ (t : FilesTrouble). FilesTroubleGives (g.I.Inputs.file c.args.inputs.now) names (g.I.Inputs.rest c.args.inputs.now) t (g.I.Inputs.rest c.read_file.new.inputs)) (sym c.at_place.ensures)
-    (runs_trouble (g.I.Inputs.file c.args.inputs.now) names c.loop-place.place _ _ _ c.loop-place.session c.loop-place.lines c.name_at.result.now c.in-Err-read_file.trouble
-    (omega (arith, length-map c.args.names.now string_bytes)) c.name_at.ensures c.loop-place.invariant.limits c.loop-place.invariant.runs gives)
+pub returns-in-Err-clause-gives : goal.returns-in-Err-clause-gives
+returns-in-Err-clause-gives g c =
+    let files = c.loop-index.invariant.files in
+    let old = c.loop-index.invariant.goes in
+    let new = c.in-Err.ensures.gives in
+    let place : placed (c.generated_count-first.result + c.loop-index.index) c.in-Err.trouble ≡ placed (generated_count c.args.command.now + c.loop-index.index) c.in-Err.trouble =
+    ap (λ (n : ℕ). placed (n + c.loop-index.index) c.in-Err.trouble) c.generated_count-first.ensures in
+    record {
+      text = old.text ++ new.text;
+      written = written_behind _ _ _ old.text new.text old.written new.written;
+      holds = λ told read. subst (λ (t : FilesTrouble). FilesTroubleGives c.args.command.now (g.I.Inputs.file c.args.inputs.now) (g.I.Inputs.rest c.args.inputs.now) (told ++ (old.text ++ new.text)) t (g.I.Inputs.rest c.read_file.new.inputs)) (sym (c.at_place.ensures ∙ place))
+          (subst (λ (l : List ℕ). FilesTroubleGives c.args.command.now (g.I.Inputs.file c.args.inputs.now) (g.I.Inputs.rest c.args.inputs.now) l (placed (generated_count c.args.command.now + c.loop-index.index) c.in-Err.trouble) (g.I.Inputs.rest c.read_file.new.inputs)) (append_assoc told old.text new.text)
+          (named_trouble c.args.command.now (g.I.Inputs.file c.args.inputs.now) (g.I.Inputs.rest c.args.inputs.now) _ _ c.loop-index.session c.loop-index.index c.loop-index.lines (told ++ old.text) new.text c.word_at.result.now c.in-Err.trouble
+          (c.word_at.ensures ∙ ap (λ (l : List (List ℕ)). name_at l c.loop-index.index) c.as_slice-words.ensures) (omega (arith, ap length c.as_slice-words.ensures)) c.loop-index.invariant.limits
+          (λ started. rw files at (c.in-Err.ensures.there (λ e. started (cc (e)))))
+          (λ start. (new.holds.0 (ap Err start), (c.in-Err.ensures.unstarted (ap Err start)).1)) (old.holds told read)
+          (λ h n stands counts xs holds. new.holds.1 h n stands counts xs (ap (λ (f : List ℕ → Held). f c.word_at.result.now) files ∙ holds))));
+    }
 
-pub returns-in-Err-read_file-clause-there : goal.returns-in-Err-read_file-clause-there
-returns-in-Err-read_file-clause-there g c =
-    let names : List (List ℕ) = map string_bytes c.args.names.now in
-    subst (λ (t : FilesTrouble). AreThere (g.I.Inputs.file c.args.inputs.now) names (Err t)) (sym c.at_place.ensures)
-    (trouble_there (g.I.Inputs.file c.args.inputs.now) names c.loop-place.place c.name_at.result.now (Err c.in-Err-read_file.trouble) c.in-Err-read_file.trouble refl
-    (omega (arith, length-map c.args.names.now string_bytes)) c.name_at.ensures c.loop-place.invariant.there (rw c.loop-place.invariant.files at c.in-Err-read_file.ensures.there))
-
-pub returns-in-Err-read_file-clause-cause : goal.returns-in-Err-read_file-clause-cause
-returns-in-Err-read_file-clause-cause g c =
-    let names : List (List ℕ) = map string_bytes c.args.names.now in
-    let file = g.I.Inputs.file c.args.inputs.now in
-    let a = g.I.Inputs.faults c.args.inputs.now in
-    let z = g.I.Inputs.faults c.read_file.new.inputs in
-    subst (λ (t : FilesTrouble). IsCaused file names (Rose a z) t) (sym c.at_place.ensures)
-    (trouble_caused file names c.loop-place.place c.name_at.result.now (Err c.in-Err-read_file.trouble) c.in-Err-read_file.trouble a (g.I.Inputs.faults c.loop-place.inputs) z refl c.name_at.ensures
-    c.loop-place.invariant.later (rw c.loop-place.invariant.files at c.in-Err-read_file.ensures.there) (rw c.loop-place.invariant.files at c.in-Err-read_file.ensures.start) c.in-Err-read_file.ensures.read)
+pub returns-in-Err-clause-cause : goal.returns-in-Err-clause-cause
+returns-in-Err-clause-cause g c =
+    let files = c.loop-index.invariant.files in
+    let e = c.in-Err.ensures in
+    let place : placed (c.generated_count-first.result + c.loop-index.index) c.in-Err.trouble ≡ placed (generated_count c.args.command.now + c.loop-index.index) c.in-Err.trouble =
+    ap (λ (n : ℕ). placed (n + c.loop-index.index) c.in-Err.trouble) c.generated_count-first.ensures in
+    subst (λ (t : FilesTrouble). HasBrokenAt (helds_of c.args.command.now (g.I.Inputs.file c.args.inputs.now)) (Rose (g.I.Inputs.faults c.args.inputs.now) (g.I.Inputs.faults c.read_file.new.inputs)) t) (sym (c.at_place.ensures ∙ place))
+    (named_cause c.args.command.now (g.I.Inputs.file c.args.inputs.now) c.loop-index.index c.word_at.result.now (Err c.in-Err.trouble) c.in-Err.trouble (g.I.Inputs.faults c.args.inputs.now) (g.I.Inputs.faults c.loop-index.inputs) (g.I.Inputs.faults c.read_file.new.inputs) refl
+    (c.word_at.ensures ∙ ap (λ (l : List (List ℕ)). name_at l c.loop-index.index) c.as_slice-words.ensures) (omega (arith, ap length c.as_slice-words.ensures)) c.loop-index.invariant.later
+    (rw files at e.there) (rw files at e.start) e.read)
 
 pub returns-clause-gives : goal.returns-clause-gives
 returns-clause-gives g c =
-    runs_end (g.I.Inputs.file c.args.inputs.now) (map string_bytes c.args.names.now) c.loop-place.place _ _ c.loop-place.session c.loop-place.lines
-    (omega (arith, length-map c.args.names.now string_bytes)) c.loop-place.invariant.runs
-
-pub returns-clause-there : goal.returns-clause-there
-returns-clause-there g c = all_there (g.I.Inputs.file c.args.inputs.now) (map string_bytes c.args.names.now) (λ k h. c.loop-place.invariant.there k (omega (arith, length-map c.args.names.now string_bytes)))
-
-pub returns-clause-clean : goal.returns-clause-clean
-returns-clause-clean g c =
-    let names : List (List ℕ) = map string_bytes c.args.names.now in
-    subst (λ (l : List (List ℕ)). AreClean (g.I.Inputs.file c.args.inputs.now) l) (take_all c.loop-place.place names (omega (arith, length-map c.args.names.now string_bytes))) c.loop-place.invariant.clean
+    let old = c.loop-index.invariant.goes in
+    let place : generated_count c.args.command.now + c.loop-index.index ≡ length (names_of c.args.command.now) = omega (arith, names_length c.args.command.now, ap length c.as_slice-words.ensures) in
+    record {
+      text = old.text;
+      written = old.written;
+      holds = λ told read. subst (λ (n : ℕ). AreReadTo c.args.command.now (g.I.Inputs.file c.args.inputs.now) (g.I.Inputs.rest c.args.inputs.now) (g.I.Inputs.rest c.loop-index.inputs) (StandsFor c.loop-index.session) (blocks_of c.loop-index.session) (room_of c.loop-index.lines) n (told ++ old.text)) place (old.holds told read);
+    }

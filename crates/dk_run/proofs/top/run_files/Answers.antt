@@ -1,35 +1,22 @@
-use Rattle.std.proofs.Common.{arith, map, string_bytes, length, ◌<◌}
-use Rattle.std.proofs.lemmas.List.{length-map}
-use Rattle.dk_run.specs.Statuses.{AtStart, Within}
-use Rattle.dk_run.proofs.Running.{front_of_there}
-use Rattle.dk_run.proofs.Saying.{report_says, refused_says, unread_says}
+use Rattle.std.proofs.Common.{refl, sym, subst, ◌∙◌}
+use Rattle.dk_core.specs.Standing.{StandsFor, blocks_of}
+use Rattle.dk_run.proofs.Saying.{cut_says, done_says, trouble_placed, trouble_says}
 use Rattle.dk_run.proofs.top.run_files.Goals as goal
 
+pub returns-in-Ok-tell_last-clause-says : goal.returns-in-Ok-tell_last-clause-says
+returns-in-Ok-tell_last-clause-says g c first e =
+    let read = c.in-Ok.ensures.gives in
+    done_says c.args.command.now _ _ (StandsFor c.in-Ok.session) (blocks_of c.in-Ok.session) read.holds.0 _ _ _ read.text e read.written c.in-Ok.ensures.calm read.holds.1 c.in-Ok-tell_last.ensures
+
 pub returns-in-Ok-clause-says : goal.returns-in-Ok-clause-says
-returns-in-Ok-clause-says g c =
-    report_says (map string_bytes c.args.names.now) _ _ c.in-Ok.session c.tell_report.result c.in-Ok.ensures.gives c.in-Ok.ensures.clean c.in-Ok.ensures.there c.tell_report.ensures
+returns-in-Ok-clause-says g c first e =
+    let read = c.in-Ok.ensures.gives in
+    rw c.status_of.ensures (cut_says c.args.command.now _ _ (StandsFor c.in-Ok.session) (blocks_of c.in-Ok.session) read.holds.0 _ _ _ read.text c.in-Err-tell_last.halt e read.written c.in-Ok.ensures.calm read.holds.1 c.in-Err-tell_last.ensures)
 
-pub returns-in-Err-Refused-clause-says : goal.returns-in-Err-Refused-clause-says
-returns-in-Err-Refused-clause-says g c =
-    let e = c.in-Err-Refused.ensures in
-    let is = c.in-Err-Refused.field-0-is in
-    let place : c.in-Err-Refused.place < length c.args.names.now = rw is at e.place in
-    refused_says (map string_bytes c.args.names.now) _ _ c.in-Err-Refused.place c.in-Err-Refused.line c.in-Err-Refused.why c.name_at.result.now c.tell_fault.result c.name_at.ensures
-    (omega (arith, length-map c.args.names.now string_bytes)) (rw is at e.gives) (rw is at e.clean_before) (rw is at e.there) c.tell_fault.ensures
+pub tell_trouble-requires : goal.tell_trouble-requires
+tell_trouble-requires g c = trouble_placed c.args.command.now (g.I.Inputs.file c.args.inputs.now) (g.I.Inputs.rest c.args.inputs.now) (g.I.Inputs.rest c.read_all.new.inputs) c.in-Err.ensures.gives.text c.in-Err.trouble c.in-Err.ensures.gives.holds
 
-pub returns-in-Err-Start-clause-says : goal.returns-in-Err-Start-clause-says
-returns-in-Err-Start-clause-says g c =
-    let e = c.in-Err-Start.ensures in
-    let is = c.in-Err-Start.field-0-is in
-    let place : c.in-Err-Start.place < length c.args.names.now = rw is at e.place in
-    unread_says (map string_bytes c.args.names.now) _ _ AtStart c.in-Err-Start.place c.name_at-in-Err-Start.result.now c.tell_unread.result c.name_at-in-Err-Start.ensures
-    (omega (arith, length-map c.args.names.now string_bytes)) (rw is at e.gives) (rw is at e.clean_before) (rw is at e.there) (rw is at e.cause) c.tell_unread.ensures
-
-pub returns-in-Err-Read-clause-says : goal.returns-in-Err-Read-clause-says
-returns-in-Err-Read-clause-says g c =
-    let e = c.in-Err-Read.ensures in
-    let is = c.in-Err-Read.field-0-is in
-    let place : c.in-Err-Read.place < length c.args.names.now = rw is at e.place in
-    unread_says (map string_bytes c.args.names.now) _ _ Within c.in-Err-Read.place c.name_at-in-Err-Read.result.now c.tell_unread-in-Err-Read.result c.name_at-in-Err-Read.ensures
-    (omega (arith, length-map c.args.names.now string_bytes)) (rw is at e.gives) (rw is at e.clean_before)
-    (front_of_there (g.I.Inputs.file c.args.inputs.now) (map string_bytes c.args.names.now) c.in-Err-Read.place (rw is at e.there)) (rw is at e.cause) c.tell_unread-in-Err-Read.ensures
+pub returns-clause-says : goal.returns-clause-says
+returns-clause-says g c first e =
+    let read = c.in-Err.ensures.gives in
+    trouble_says c.args.command.now _ _ _ _ _ read.text c.in-Err.trouble c.tell_trouble.result e read.written read.holds c.in-Err.ensures.calm c.in-Err.ensures.cause c.tell_trouble.ensures
