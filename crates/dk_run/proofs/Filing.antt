@@ -368,3 +368,52 @@ told_started command n h r mid last held xs text before rest after (Err t.Write)
     told (λ m ys. IsShort command n h m ys text) r mid held xs rest is starts holds gives
 told_started command n h r mid last held xs text before rest after (Err t.NoMemory) started is starts holds emptied gives =
     told (λ m ys. IsShort command n h m ys text) r mid held xs rest is starts holds gives
+
+-- ---- which troubles come
+halted_not_start : (halt : Halt) → halted halt ≡ t.Start → ⊥
+halted_not_start w.Write e = cc (e)
+halted_not_start w.NoMemory e = cc (e)
+
+halted_not_read : (halt : Halt) → halted halt ≡ t.Read → ⊥
+halted_not_read w.Write e = cc (e)
+halted_not_read w.NoMemory e = cc (e)
+
+pub halted_started : (halt : Halt) (trouble : Trouble) → trouble ≡ halted halt → trouble ≡ t.Start → ⊥
+halted_started halt trouble is e = halted_not_start halt (sym is ∙ e)
+
+pub halted_read : (halt : Halt) (trouble : Trouble) → trouble ≡ halted halt → trouble ≡ t.Read → ⊥
+halted_read halt trouble is e = halted_not_read halt (sym is ∙ e)
+
+faulted_not_start : (fault : Fault) → faulted fault ≡ t.Start → ⊥
+faulted_not_start (f.Refused file line why) e = cc (e)
+faulted_not_start (f.Read file) e = cc (e)
+faulted_not_start f.NoMemory e = cc (e)
+
+pub faulted_started : (fault : Fault) (trouble : Trouble) → trouble ≡ faulted fault → trouble ≡ t.Start → ⊥
+faulted_started fault trouble is e = faulted_not_start fault (sym is ∙ e)
+
+read_of : (fault : Fault) → faulted fault ≡ t.Read → (file : ℕ) × (fault ≡ f.Read file)
+read_of (f.Refused file line why) e = absurd (cc (e))
+read_of (f.Read file) e = (file, refl)
+read_of f.NoMemory e = absurd (cc (e))
+
+pub faulted_read : (fault : Fault) (trouble : Trouble) → trouble ≡ faulted fault → trouble ≡ t.Read → (file : ℕ) × (fault ≡ f.Read file)
+faulted_read fault trouble is e = read_of fault (sym is ∙ e)
+
+calm_of : (fault : Fault) (before after : ℕ) → after ≡ before → IsCalmUnless before after (faulted fault)
+calm_of (f.Refused file line why) before after calm = calm
+calm_of (f.Read file) before after calm = calm
+calm_of f.NoMemory before after calm = calm
+
+pub faulted_calm : (fault : Fault) (trouble : Trouble) (before after : ℕ) → trouble ≡ faulted fault → after ≡ before → IsCalmUnless before after trouble
+faulted_calm fault trouble before after is calm = subst (λ (t : Trouble). IsCalmUnless before after t) (sym is) (calm_of fault before after calm)
+
+pub halted_calm : (halt : Halt) (trouble : Trouble) (before between after : ℕ) → trouble ≡ halted halt → between ≡ before → HasCause between after halt → IsCalmUnless before after trouble
+halted_calm halt trouble before between after is same cause = subst (λ (t : Trouble). IsCalmUnless before after t) (sym is) (calm_but before between after halt same cause)
+
+pub same_trouble : {A : Type 0} (a b : Trouble) (r : Result A Trouble) → r ≡ Err a → r ≡ Err b → a ≡ b
+same_trouble a b r first more = let e = sym first ∙ more in cc (e)
+
+-- nothing is told
+pub none_short : (command : Command) (n : ℕ) (h : History) (r : Reading) (xs : List ℕ) → IsShort command n h r xs []
+none_short command n h r xs = record { after = []; more = (course_behind command.ignore_missing_entry h (groups_left false r true xs)).after; all = refl; told = refl }

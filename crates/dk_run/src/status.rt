@@ -5,7 +5,7 @@ ghost use Rattle.dk_run.specs.Statuses.{code_of};
 /// How a run ends.
 #[derive(Clone, Copy, Debug, PartialEq, Eq)]
 pub enum Status {
-    /// All files were read to their ends, none holds a fault, and all was written.
+    /// All files were read to their ends, none holds a fault, and all was written; or the text was written that the words ask for.
     Done = 0,
     /// A line of a file is refused.
     Refused = 1,

@@ -346,7 +346,7 @@ static EXAMPLES: [Example; 40] = [
 ];
 
 // The report with its lines of `=`.
-fn ruled(alloc: Global, report: &str) -> Result<Text, NoMemory> {
+pub(crate) fn ruled(alloc: Global, report: &str) -> Result<Text, NoMemory> {
     let mut text = Text::new(alloc);
     for byte in report.as_bytes() {
         if *byte == b'@' {

@@ -9,7 +9,7 @@ use std::test::Fail;
 
 const RULE: &str = "===========================================================================\n";
 
-/// What a run with the words `t` comes to.
+/// What a run over the file `t` comes to.
 pub(crate) enum Outcome {
     /// Done, with a report of these sections, each without its line of `=`.
     Sections(&'static [&'static str]),
@@ -66,6 +66,32 @@ pub(crate) fn steady(piece: usize) -> Calls<'static>
     }
 }
 
+/// The status of a run over files of these names and bytes, and its sinks.
+pub(crate) fn ran_over(
+    alloc: Global,
+    named: &[(&str, &[u8])],
+    words: &[&str],
+    calls: Calls<'_>,
+) -> Result<(Status, MemorySinks), Fail>
+    requires { 0 < calls.piece }
+{
+    let mut files = List::new(alloc);
+    for (name, bytes) in named {
+        let name = Text::from_slice(alloc, name.as_bytes())?;
+        files.push((name, Text::from_slice(alloc, bytes)?))?;
+    }
+    let failing_reads = List::from_slice(alloc, calls.failing_reads)?;
+    let failing_writes = List::from_slice(alloc, calls.failing_writes)?;
+    let mut inputs = MemoryInputs::new(files, failing_reads, calls.piece);
+    let mut sinks = MemorySinks::new(alloc, failing_writes, calls.piece, 65_536)?;
+    let mut names = Vec::new(alloc);
+    for word in words {
+        names.push(String::from_str(alloc, word)?)?;
+    }
+    let status = run(alloc, names.as_slice(), &mut inputs, &mut sinks);
+    Ok((status, sinks))
+}
+
 /// The status of a run where the file `t` has these bytes, and its sinks.
 pub(crate) fn ran(
     alloc: Global,
@@ -75,19 +101,5 @@ pub(crate) fn ran(
 ) -> Result<(Status, MemorySinks), Fail>
     requires { 0 < calls.piece }
 {
-    let mut files = List::new(alloc);
-    files.push((
-        Text::from_slice(alloc, b"t")?,
-        Text::from_slice(alloc, bytes)?,
-    ))?;
-    let failing_reads = List::from_slice(alloc, calls.failing_reads)?;
-    let failing_writes = List::from_slice(alloc, calls.failing_writes)?;
-    let mut inputs = MemoryInputs::new(files, failing_reads, calls.piece);
-    let mut sinks = MemorySinks::new(alloc, failing_writes, calls.piece, 4096)?;
-    let mut names = Vec::new(alloc);
-    for word in words {
-        names.push(String::from_str(alloc, word)?)?;
-    }
-    let status = run(alloc, names.as_slice(), &mut inputs, &mut sinks);
-    Ok((status, sinks))
+    ran_over(alloc, &[("t", bytes)], words, calls)
 }

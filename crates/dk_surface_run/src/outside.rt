@@ -1,7 +1,8 @@
-// Words that are refused, names of no file, and calls that fail.
+// Words that are refused or ask for help, names of no file, and calls that fail.
 use crate::outcomes::{Calls, ran};
 use dk_io::Stream;
 use dk_run::Status;
+use dk_words::{help_text, version_text};
 use std::test::Fail;
 
 const POINT: &str = "ppt P\nppt-type point\nvariable x\nrep-type int\n\nP\nx\n1\n1\n";
@@ -17,24 +18,44 @@ struct Case {
     messages: &'static str,
 }
 
-static CASES: [Case; 7] = [
+const USAGE: &str = "usage: daikon [--min-samples N] [--every N] [--select PREFIX] [--keep-implied] [--keep-incomparable] [--keep-members] [--keep-constant] [--keep-parent] [--ignore-missing-entry] [--stats] [--generate N] [FILE]...\n";
+
+static CASES: [Case; 9] = [
     Case {
-        name: "no words",
+        name: "an unknown word",
         text: POINT,
-        words: &[],
+        words: &["--colour", "t"],
         failing_reads: &[],
         failing_writes: &[],
         status: Status::Usage,
-        messages: "usage: daikon FILE\n",
+        messages: USAGE,
     },
     Case {
-        name: "two words",
+        name: "a second file that is not there",
         text: POINT,
-        words: &["t", "t"],
+        words: &["t", "u"],
         failing_reads: &[],
         failing_writes: &[],
-        status: Status::Usage,
-        messages: "usage: daikon FILE\n",
+        status: Status::Read,
+        messages: "daikon: cannot read u\n",
+    },
+    Case {
+        name: "a generated file, and one that is not there",
+        text: POINT,
+        words: &["--generate", "7", "u"],
+        failing_reads: &[],
+        failing_writes: &[],
+        status: Status::Read,
+        messages: "generated 20000 records\ndaikon: cannot read u\n",
+    },
+    Case {
+        name: "a second start that fails",
+        text: POINT,
+        words: &["t", "t"],
+        failing_reads: &[17],
+        failing_writes: &[],
+        status: Status::Read,
+        messages: "daikon: cannot read t\n",
     },
     Case {
         name: "a name that is not there",
@@ -75,7 +96,7 @@ static CASES: [Case; 7] = [
     Case {
         name: "the usage line is not taken",
         text: POINT,
-        words: &[],
+        words: &["--colour"],
         failing_reads: &[],
         failing_writes: &[1],
         status: Status::Write,
@@ -102,6 +123,29 @@ fn words_and_calls_come_to_their_statuses(rt: HostRuntime) -> Result<(), Fail> {
             sinks.written(Stream::Messages) == case.messages.as_bytes(),
             "the messages at {name}"
         );
+    }
+    Ok(())
+}
+
+#[test]
+fn help_and_version_read_nothing(rt: HostRuntime) -> Result<(), Fail> {
+    let asked = [
+        ("--help", help_text()),
+        ("-h", help_text()),
+        ("--version", version_text()),
+        ("-V", version_text()),
+    ];
+    for (word, text) in &asked {
+        // A read would fail.
+        let calls = Calls {
+            piece: 4,
+            failing_reads: &[1],
+            failing_writes: &[],
+        };
+        let (status, sinks) = ran(rt.alloc(), POINT.as_bytes(), &["t", word], calls)?;
+        assert_eq!(rt; status, Status::Done, "at {word}");
+        assert!(rt; sinks.written(Stream::Report) == text.as_bytes(), "at {word}");
+        assert!(rt; sinks.written(Stream::Messages).is_empty(), "at {word}");
     }
     Ok(())
 }

@@ -7,6 +7,8 @@ use dk_run::Status;
 use std::alloc::Global;
 use std::test::Fail;
 
+const WORDS: [&str; 3] = ["--min-samples", "1", "t"];
+
 // Declarations of an object and of a method's entry and exit, and the records of two calls.
 const TRACE: &str = "// Declarations for StackAr
 decl-version 2.0
@@ -165,10 +167,12 @@ x
 # EOF
 ";
 
-// The report: the object and the combined exit have no samples of their own.
+// The report, by an independent implementation.
 static WHOLE: Outcome = Sections(&[
-    "StackAr.push(java.lang.Object):::ENTER  [2]\nthis.topOfStack >= -1  [2]\nthis.topOfStack <= 0  [2]\n",
-    "StackAr.push(java.lang.Object):::EXIT28  [2]\nthis.topOfStack >= 0  [2]\norig(this.topOfStack) >= -1  [2]\nthis.topOfStack <= 1  [2]\norig(this.topOfStack) <= 0  [2]\n",
+    "StackAr:::OBJECT  [4]\nthis.topOfStack one of { -1, 0, 1 }  [4]\nsize(this.theArray[..]) == 3  [4]\nthis has only one value  [4]\nthis.theArray[-1] == null  [4]\nthis.theArray[this.topOfStack] != null  [3]\nthis.theArray[0..this.topOfStack-1] elements have only one value  [3]\nthis.theArray[this.topOfStack+1..] elements == null  [4]\nthis.theArray[0..this.topOfStack] elements != null  [4]\n",
+    "StackAr.push(java.lang.Object):::ENTER  [2]\nthis.topOfStack one of { -1, 0 }  [2]\nthis.theArray[this.topOfStack] has only one value  [1]\nx != null  [2]\nx != this.theArray[0]  [2]\nthis.theArray[0..this.topOfStack] elements have only one value  [2]\nthis.theArray[..] == this.theArray[this.topOfStack..]  [1]\n",
+    "StackAr.push(java.lang.Object):::EXIT  [2]\nthis.topOfStack one of { 0, 1 }  [2]\norig(this.topOfStack) one of { -1, 0 }  [2]\nthis.theArray[0] has only one value  [2]\norig(this.theArray[this.topOfStack]) has only one value  [1]\nx != null  [2]\nsize(this.theArray[..]) == orig(size(this.theArray[..]))  [2]\norig(this.topOfStack) < this.topOfStack  [2]\nthis.topOfStack - orig(this.topOfStack) - 1 == 0  [2]\nthis == orig(this)  [2]\nx == orig(x)  [2]\nx == this.theArray[this.topOfStack]  [2]\nthis.theArray[-1] == orig(this.theArray[-1])  [2]\nx != orig(this.theArray[0])  [2]\norig(this.theArray[this.topOfStack+1..]) elements == null  [2]\norig(this.theArray[0..this.topOfStack-1]) elements != null  [1]\nx in this.theArray[..]  [2]\norig(this.theArray[..]) == orig(this.theArray[this.topOfStack..])  [1]\nthis.theArray[0..this.topOfStack-1] == orig(this.theArray[0..this.topOfStack])  [2]\norig(this.theArray[..]) is a subset of this.theArray[..]  [2]\n",
+    "StackAr.push(java.lang.Object):::EXIT28  [2]\n",
 ]);
 
 // What a run comes to on the lines that were kept.
@@ -257,7 +261,7 @@ fn a_cut_file_is_told_where_it_ends_too_early(rt: HostRuntime) -> Result<(), Fai
         kept.push(b'\n')?;
         let count = place.saturating_add(1);
         let cut = cut_of(&lines[..count], next);
-        let (status, sinks) = ran(rt.alloc(), kept.as_slice(), &["t"], steady(64))?;
+        let (status, sinks) = ran(rt.alloc(), kept.as_slice(), &WORDS, steady(64))?;
         assert_eq!(rt; status, cut.status(), "behind line {count}");
         assert!(rt;
             sinks.written(Stream::Messages) == message(rt.alloc(), cut, count)?.as_slice(),
@@ -279,7 +283,7 @@ fn each_read_that_fails_is_told(rt: HostRuntime) -> Result<(), Fail> {
             failing_reads: &[call],
             failing_writes: &[],
         };
-        let (status, sinks) = ran(rt.alloc(), TRACE.as_bytes(), &["t"], calls)?;
+        let (status, sinks) = ran(rt.alloc(), TRACE.as_bytes(), &WORDS, calls)?;
         if call <= count {
             assert_eq!(rt; status, Status::Read, "at call {call}");
             assert!(rt;
@@ -295,17 +299,29 @@ fn each_read_that_fails_is_told(rt: HostRuntime) -> Result<(), Fail> {
     Ok(())
 }
 
+// How many writes the report takes: those of each of its sections.
+fn writes() -> u64 {
+    let mut count = 0u64;
+    if let Sections(sections) = &WHOLE {
+        for section in *sections {
+            let len = section.len().saturating_add(76);
+            count = count.saturating_add(len.div_ceil(PIECE) as u64);
+        }
+    }
+    count
+}
+
 #[test]
 fn each_write_that_fails_leaves_a_front(rt: HostRuntime) -> Result<(), Fail> {
     let report = WHOLE.report(rt.alloc())?;
-    let count = report.as_slice().len().div_ceil(PIECE) as u64;
+    let count = writes();
     for call in 1..count.saturating_add(2) {
         let calls = Calls {
             piece: PIECE,
             failing_reads: &[],
             failing_writes: &[call],
         };
-        let (status, sinks) = ran(rt.alloc(), TRACE.as_bytes(), &["t"], calls)?;
+        let (status, sinks) = ran(rt.alloc(), TRACE.as_bytes(), &WORDS, calls)?;
         let written = sinks.written(Stream::Report);
         assert!(rt; report.as_slice().starts_with(written), "at call {call}");
         if call <= count {

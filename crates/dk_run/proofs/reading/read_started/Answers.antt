@@ -9,7 +9,9 @@ use Rattle.dk_io.specs.declared.outside.Stream.TheVariants.{Report}
 use Rattle.dk_run.specs.Commands.{is_selected}
 use Rattle.dk_run.specs.WholeFile.{TroubleGives, faulted, halted}
 use Rattle.dk_run.specs.declared.reading.Trouble.{Trouble}
-use Rattle.dk_run.proofs.Filing.{alike_on, alike_same, counted_end, counted_on, file_end, file_fault, file_on, file_short, ignores_by, not_begun, reports_on, short_gives}
+use Rattle.dk_run.specs.declared.reading.Trouble.TheVariants as t
+use Rattle.dk_run.proofs.Filing.{alike_on, alike_same, counted_end, counted_on, faulted_calm, faulted_read, faulted_started, file_end, file_fault, file_on, file_short, halted_calm, halted_read, halted_started, ignores_by, not_begun, reports_on, same_trouble, short_gives}
+use Rattle.dk_run.proofs.Placing.{rose_since}
 use Rattle.dk_run.proofs.Writing.{added_nothing, written_behind}
 use Rattle.dk_run.proofs.reading.read_started.Goals as goal
 
@@ -94,3 +96,30 @@ returns-in-Err-clause-gives g c =
           (file_fault c.args.command.now n h c.args.lines.now c.steps.lines c.block.new.lines _ _ _ c.steps.invariant.goes.text c.steps.session c.in-Err.fault
           (ignores_by c.args.command.now c.steps.session c.steps.invariant.reports) (c.steps.invariant.goes.holds h n stands counts) c.in-Err.ensures.gives);
     }
+
+pub returns-in-Err-tell_by_the_way-clause-calm : goal.returns-in-Err-tell_by_the_way-clause-calm
+returns-in-Err-tell_by_the_way-clause-calm g c =
+    halted_calm c.in-Err-tell_by_the_way.halt c.halted.result (g.S.Sinks.faults c.args.sinks.now) (g.S.Sinks.faults c.steps.sinks) (g.S.Sinks.faults c.tell_by_the_way.new.sinks)
+    c.halted.ensures c.steps.invariant.calm c.in-Err-tell_by_the_way.ensures.cause
+
+pub returns-in-Err-tell_by_the_way-clause-started : goal.returns-in-Err-tell_by_the_way-clause-started
+returns-in-Err-tell_by_the_way-clause-started g c = λ e. halted_started c.in-Err-tell_by_the_way.halt c.halted.result c.halted.ensures (same_trouble c.halted.result t.Start _ refl e)
+
+pub returns-in-Err-tell_by_the_way-clause-emptied : goal.returns-in-Err-tell_by_the_way-clause-emptied
+returns-in-Err-tell_by_the_way-clause-emptied g c = λ e. absurd (halted_read c.in-Err-tell_by_the_way.halt c.halted.result c.halted.ensures (same_trouble c.halted.result t.Read _ refl e))
+
+pub returns-in-Err-tell_by_the_way-clause-cause : goal.returns-in-Err-tell_by_the_way-clause-cause
+returns-in-Err-tell_by_the_way-clause-cause g c = λ e. absurd (halted_read c.in-Err-tell_by_the_way.halt c.halted.result c.halted.ensures (same_trouble c.halted.result t.Read _ refl e))
+
+pub returns-in-Err-clause-calm : goal.returns-in-Err-clause-calm
+returns-in-Err-clause-calm g c = faulted_calm c.in-Err.fault c.faulted.result (g.S.Sinks.faults c.args.sinks.now) (g.S.Sinks.faults c.steps.sinks) c.faulted.ensures c.steps.invariant.calm
+
+pub returns-in-Err-clause-started : goal.returns-in-Err-clause-started
+returns-in-Err-clause-started g c = λ e. faulted_started c.in-Err.fault c.faulted.result c.faulted.ensures (same_trouble c.faulted.result t.Start _ refl e)
+
+pub returns-in-Err-clause-emptied : goal.returns-in-Err-clause-emptied
+returns-in-Err-clause-emptied g c = λ e. let (file, is) = faulted_read c.in-Err.fault c.faulted.result c.faulted.ensures (same_trouble c.faulted.result t.Read _ refl e) in c.in-Err.ensures.emptied file (ap (λ (f : Fault). Err f) is)
+
+pub returns-in-Err-clause-cause : goal.returns-in-Err-clause-cause
+returns-in-Err-clause-cause g c = λ e. let (file, is) = faulted_read c.in-Err.fault c.faulted.result c.faulted.ensures (same_trouble c.faulted.result t.Read _ refl e) in
+    rose_since (g.I.Inputs.faults c.args.inputs.now) (g.I.Inputs.faults c.steps.inputs) (g.I.Inputs.faults c.block.new.inputs) c.steps.invariant.later (c.in-Err.ensures.cause file (ap (λ (f : Fault). Err f) is))

@@ -20,3 +20,9 @@ pub returns-clause-says : goal.returns-clause-says
 returns-clause-says g c first e =
     let read = c.in-Err.ensures.gives in
     trouble_says c.args.command.now _ _ _ _ _ read.text c.in-Err.trouble c.tell_trouble.result e read.written read.holds c.in-Err.ensures.calm c.in-Err.ensures.cause c.tell_trouble.ensures
+
+pub returns-in-Ok-tell_last-clause-files : goal.returns-in-Ok-tell_last-clause-files
+returns-in-Ok-tell_last-clause-files g c = c.in-Ok.ensures.files
+
+pub returns-in-Ok-clause-files : goal.returns-in-Ok-clause-files
+returns-in-Ok-clause-files g c = c.in-Ok.ensures.files
