@@ -77,11 +77,11 @@ unfolding output_of
 told_refused command before after output comes n contents h held =
     let k = comes.fault.file in
     let front : AreHeld (take (k + 1) (helds_of command before.file)) (take (k + 1) contents) =
-        subst (λ (l : List Held). AreHeld l (take (k + 1) contents)) (take-take (k + 1) n (helds_of command before.file) (omega arith)) (held_take (k + 1) (take n (helds_of command before.file)) contents held) in
+    subst (λ (l : List Held). AreHeld l (take (k + 1) contents)) (take-take (k + 1) n (helds_of command before.file) (omega arith)) (held_take (k + 1) (take n (helds_of command before.file)) contents held) in
     let first = comes.first (take (k + 1) contents) front in
     let same : course_of command.ignore_missing_entry (map whole (take (k + 1) contents)) ≡ course_of command.ignore_missing_entry (map whole contents) =
-        ap (course_of command.ignore_missing_entry) (sym (take-map whole (k + 1) contents))
-        ∙ first_front command.ignore_missing_entry (k + 1) (map whole contents) comes.fault (ap (first_fault command.ignore_missing_entry) (take-map whole (k + 1) contents) ∙ first) in
+    ap (course_of command.ignore_missing_entry) (sym (take-map whole (k + 1) contents))
+    ∙ first_front command.ignore_missing_entry (k + 1) (map whole contents) comes.fault (ap (first_fault command.ignore_missing_entry) (take-map whole (k + 1) contents) ∙ first) in
     (ap (λ (c : Course FileFault). fault_in c.end) (sym same) ∙ first, comes.defined (take (k + 1) contents) front ∙ ap (output_along command) same)
 
 pub complete_of : (command : Command) (before after : Outside) (result : Status) → Says result (Some (Run command)) before after → IsCalm before after → IsComplete command before after result
@@ -92,7 +92,7 @@ complete_of command before after Done (output, comes, written) calm = record {
     | inr above ↦
         let all = take_all n (helds_of command before.file) (omega arith) in
         let whole_held : AreHeld (take (length (helds_of command before.file)) (helds_of command before.file)) contents =
-            held_whole (helds_of command before.file) contents (subst (λ (l : List Held). AreHeld l contents) all held) in
+        held_whole (helds_of command before.file) contents (subst (λ (l : List Held). AreHeld l contents) all held) in
         absurd (not_clean command.ignore_missing_entry (helds_of command before.file) (length (helds_of command before.file)) (length (helds_of command before.file)) contents fault comes.read.clean whole_held first (omega arith))
   ];
 }

@@ -214,7 +214,7 @@ unstarted_on command file before mid rest Stands blocks place r told text behind
       let on = read.runs contents held in (
         same ∙ on.rest_is,
         ap (λ (l : List ℕ). told ++ l) nothing ∙ append-nil told ∙ on.told
-        ∙ ap (λ (c : Course FileFault). due_reports command c.after) (sym (alone command before mid Stands blocks (room_of r) place told contents on)),
+            ∙ ap (λ (c : Course FileFault). due_reports command c.after) (sym (alone command before mid Stands blocks (room_of r) place told contents on)),
       );
 }
 

@@ -109,17 +109,19 @@ message_says status request before after line report text mid between result com
       )),
     )
 message_says status request before after line report text mid between result comes is calm (inr (inr (same, e, unfailed))) =
-    subst (λ (s : Status). Says s request before after) (sym same)
-    (unfailed ∙ calm, inr (inr (
-      status,
-      so_far (line ++ text) report,
-      comes,
-      record {
-        front = so_far line report;
-        is_front = record { report = front_all report; messages = front_more line text line (front_all line); state = refl };
-        written = e ∙ is ∙ followed_first before.written line report;
-      },
-    )))
+    subst (λ (s : Status). Says s request before after) (sym same) (
+      unfailed ∙ calm,
+      inr (inr (
+        status,
+        so_far (line ++ text) report,
+        comes,
+        record {
+          front = so_far line report;
+          is_front = record { report = front_all report; messages = front_more line text line (front_all line); state = refl };
+          written = e ∙ is ∙ followed_first before.written line report;
+        },
+      )),
+    )
 
 -- ---- files that are there
 at_get : (helds : List Held) (k : ℕ) (d : Held) → k < length helds → held_at helds k ≡ get_or helds k d
@@ -173,8 +175,8 @@ ended_output command before after Stands blocks room text read contents held =
       on.history,
       on.stands,
       ap (output_along command) (alone command before.rest after.rest Stands blocks room (length (names_of command)) text contents on)
-      ∙ ap (λ (n : ℕ). so_far (first_line command) (due_reports command on.after ++ last_due command n on.history)) (sym on.counts)
-      ∙ ap (λ (l : List ℕ). so_far (first_line command) (l ++ last_due command blocks on.history)) (sym on.told),
+          ∙ ap (λ (n : ℕ). so_far (first_line command) (due_reports command on.after ++ last_due command n on.history)) (sym on.counts)
+          ∙ ap (λ (l : List ℕ). so_far (first_line command) (l ++ last_due command blocks on.history)) (sym on.told),
     )
 
 pub done_says : (command : Command) (before after : Outside) (Stands : History → Type 0) (blocks room : ℕ) (mid mid2 : Texts) (between : ℕ) (text : List ℕ)
@@ -193,7 +195,7 @@ done_says command before after Stands blocks room mid mid2 between text first re
   },
   (
     last.written ∙ ap (λ (t : Texts). added t Report last.text) (reported ∙ ap (λ (t : Texts). added t Report text) first)
-    ∙ added_more (added before.written Messages (first_line command)) Report text last.text ∙ followed_first before.written (first_line command) (text ++ last.text),
+        ∙ added_more (added before.written Messages (first_line command)) Report text last.text ∙ followed_first before.written (first_line command) (text ++ last.text),
     last.calm ∙ calm,
   ),
 )

@@ -17,10 +17,10 @@ struct Example {
     messages: &'static str,
 }
 
-const USAGE: &str = "usage: daikon [--min-samples N] [--every N] [--select PREFIX] [--keep-implied] [--keep-incomparable] [--keep-members] [--keep-constant] [--keep-parent] [--ignore-missing-entry] [--stats] [--generate N] [FILE]...\n";
+const USAGE: &str =
+    "usage: daikon [--min-samples N] [--every N] [--select PREFIX] [--keep-implied] [--keep-incomparable] [--keep-members] [--keep-constant] [--keep-parent] [--ignore-missing-entry] [--stats] [--generate N] [FILE]...\n";
 
-const RULE: &[u8] =
-    b"===========================================================================";
+const RULE: &[u8] = b"===========================================================================";
 
 static EXAMPLES: [Example; 40] = [
     Example {
@@ -65,7 +65,16 @@ static EXAMPLES: [Example; 40] = [
     },
     Example {
         name: "two variables, all filters off",
-        words: &["--min-samples", "1", "--keep-implied", "--keep-incomparable", "--keep-members", "--keep-constant", "--keep-parent", "t"],
+        words: &[
+            "--min-samples",
+            "1",
+            "--keep-implied",
+            "--keep-incomparable",
+            "--keep-members",
+            "--keep-constant",
+            "--keep-parent",
+            "t",
+        ],
         text: "ppt P\nppt-type point\nvariable x\nrep-type int\nvariable y\nrep-type int\n\nP\nx\n1\n1\ny\n4\n1\n\nP\nx\n7\n1\ny\n2\n1\n\n",
         status: Status::Done,
         report: "@\nP  [2]\nx one of { 1, 7 }  [2]\ny one of { 2, 4 }  [2]\nx >= 1  [2]\ny >= 2  [2]\nx <= 7  [2]\ny <= 4  [2]\nx != 0  [2]\ny != 0  [2]\nx == 1 (mod 6)  [2]\ny == 0 (mod 2)  [2]\nx != y  [2]\nx + 3 * y - 13 == 0  [2]\n",
@@ -97,7 +106,14 @@ static EXAMPLES: [Example; 40] = [
     },
     Example {
         name: "an exit alone, with what its parent says",
-        words: &["--min-samples", "1", "--select", "M:::EXIT1", "--keep-parent", "t"],
+        words: &[
+            "--min-samples",
+            "1",
+            "--select",
+            "M:::EXIT1",
+            "--keep-parent",
+            "t",
+        ],
         text: "ppt M:::ENTER\nppt-type point\nvariable x\nrep-type int\n\nppt M:::EXIT1\nppt-type point\nvariable x\nrep-type int\n\nM:::ENTER\nx\n1\n1\n\nM:::ENTER\nx\n2\n1\n\nM:::EXIT1\nx\n3\n1\n\nM:::EXIT1\nx\n4\n1\n\n",
         status: Status::Done,
         report: "@\nM:::EXIT1  [2]\nx one of { 3, 4 }  [2]\norig(x) one of { 1, 2 }  [2]\norig(x) < x  [2]\nx + orig(x) - 5 == 0  [2]\n",
@@ -105,7 +121,16 @@ static EXAMPLES: [Example; 40] = [
     },
     Example {
         name: "one value, all filters off",
-        words: &["--min-samples", "1", "--keep-implied", "--keep-incomparable", "--keep-members", "--keep-constant", "--keep-parent", "t"],
+        words: &[
+            "--min-samples",
+            "1",
+            "--keep-implied",
+            "--keep-incomparable",
+            "--keep-members",
+            "--keep-constant",
+            "--keep-parent",
+            "t",
+        ],
         text: "ppt P\nppt-type point\nvariable x\nrep-type int\n\nP\nx\n5\n1\n\nP\nx\n5\n1\n\nP\nx\n5\n1\n\n",
         status: Status::Done,
         report: "@\nP  [3]\nx == 5  [3]\nx >= 5  [3]\nx <= 5  [3]\nx != 0  [3]\n",
@@ -113,7 +138,16 @@ static EXAMPLES: [Example; 40] = [
     },
     Example {
         name: "a sequence without elements, all filters off",
-        words: &["--min-samples", "1", "--keep-implied", "--keep-incomparable", "--keep-members", "--keep-constant", "--keep-parent", "t"],
+        words: &[
+            "--min-samples",
+            "1",
+            "--keep-implied",
+            "--keep-incomparable",
+            "--keep-members",
+            "--keep-constant",
+            "--keep-parent",
+            "t",
+        ],
         text: "ppt P\nppt-type point\nvariable a[..]\nrep-type int[]\n\nP\na[..]\n[]\n1\n\nP\na[..]\n[]\n1\n\nP\na[..]\n[]\n1\n\n",
         status: Status::Done,
         report: "@\nP  [3]\nsize(a[..]) == 0  [3]\nsize(a[..]) >= 0  [3]\nsize(a[..]) <= 0  [3]\na[..] elements != 0  [3]\na[..] sorted by <  [3]\na[..] sorted by <=  [3]\na[..] sorted by >  [3]\na[..] sorted by >=  [3]\na[..] elements are equal  [3]\n",
@@ -121,7 +155,18 @@ static EXAMPLES: [Example; 40] = [
     },
     Example {
         name: "a parent with two edges, all filters off",
-        words: &["--min-samples", "1", "--select", "Q", "--keep-implied", "--keep-incomparable", "--keep-members", "--keep-constant", "--keep-parent", "t"],
+        words: &[
+            "--min-samples",
+            "1",
+            "--select",
+            "Q",
+            "--keep-implied",
+            "--keep-incomparable",
+            "--keep-members",
+            "--keep-constant",
+            "--keep-parent",
+            "t",
+        ],
         text: "ppt C\nppt-type point\nparent parent Q 1\nparent parent Q 2\nvariable a\nrep-type int\nparent Q 1 n\nvariable b\nrep-type int\nparent Q 2 n\n\nppt Q\nppt-type point\nvariable n\nrep-type int\n\nC\na\n1\n1\nb\n4\n1\n\nC\na\n2\n1\nb\n8\n1\n\nC\na\n3\n1\nb\n9\n1\n\n",
         status: Status::Done,
         report: "@\nQ  [6]\nn >= 1  [6]\nn <= 9  [6]\nn != 0  [6]\n",
@@ -381,7 +426,10 @@ fn runs_come_to_their_outputs(rt: HostRuntime) -> Result<(), Fail> {
                 sinks.written(Stream::Messages) == example.messages.as_bytes(),
                 "the messages at {name}"
             );
-            assert!(rt; sinks.written(Stream::State).is_empty(), "the state at {name}");
+            assert!(rt;
+                sinks.written(Stream::State).is_empty(),
+                "the state at {name}"
+            );
         }
     }
     Ok(())

@@ -18,7 +18,8 @@ struct Case {
     messages: &'static str,
 }
 
-const USAGE: &str = "usage: daikon [--min-samples N] [--every N] [--select PREFIX] [--keep-implied] [--keep-incomparable] [--keep-members] [--keep-constant] [--keep-parent] [--ignore-missing-entry] [--stats] [--generate N] [FILE]...\n";
+const USAGE: &str =
+    "usage: daikon [--min-samples N] [--every N] [--select PREFIX] [--keep-implied] [--keep-incomparable] [--keep-members] [--keep-constant] [--keep-parent] [--ignore-missing-entry] [--stats] [--generate N] [FILE]...\n";
 
 static CASES: [Case; 9] = [
     Case {
@@ -144,7 +145,10 @@ fn help_and_version_read_nothing(rt: HostRuntime) -> Result<(), Fail> {
         };
         let (status, sinks) = ran(rt.alloc(), POINT.as_bytes(), &["t", word], calls)?;
         assert_eq!(rt; status, Status::Done, "at {word}");
-        assert!(rt; sinks.written(Stream::Report) == text.as_bytes(), "at {word}");
+        assert!(rt;
+            sinks.written(Stream::Report) == text.as_bytes(),
+            "at {word}"
+        );
         assert!(rt; sinks.written(Stream::Messages).is_empty(), "at {word}");
     }
     Ok(())

@@ -36,7 +36,9 @@ static REPORTS: [Case; 4] = [
         &[
             "ppt P\nppt-type point\nvariable x\nrep-type int\nvariable y\nrep-type int\n\nP\nx\n1\n1\ny\n4\n1\n\nP\nx\n7\n1\ny\n2\n1\n",
         ],
-        Sections(&["P  [2]\nx one of { 1, 7 }  [2]\ny one of { 2, 4 }  [2]\nx != y  [2]\nx + 3 * y - 13 == 0  [2]\n"]),
+        Sections(&[
+            "P  [2]\nx one of { 1, 7 }  [2]\ny one of { 2, 4 }  [2]\nx != y  [2]\nx + 3 * y - 13 == 0  [2]\n",
+        ]),
     ),
     ("a point without samples", &[POINT], Sections(&[])),
     (
@@ -47,7 +49,10 @@ static REPORTS: [Case; 4] = [
             THREE,
             "B\ny\n-9223372036854775808\n1\n\n",
         ],
-        Sections(&["B  [1]\ny == -9223372036854775808  [1]\n", "P  [1]\nx == 3  [1]\n"]),
+        Sections(&[
+            "B  [1]\ny == -9223372036854775808  [1]\n",
+            "P  [1]\nx == 3  [1]\n",
+        ]),
     ),
 ];
 
@@ -74,7 +79,9 @@ static HEADERS: [Case; 8] = [
             "variable s[..]\r\nrep-type java.lang.String[]\r\nvariable d\r\nrep-type double\r\n\r\n",
             "P\r\ns[..]\r\n[\"a\\\"]\" null \"b\"]\r\n1\r\nd\r\n1.5\r\n1\r\n\r\n# EOF\r\n",
         ],
-        Sections(&["P  [1]\nsize(s[..]) == 3  [1]\ns[0] == \"a\\\"]\"  [1]\ns[-1] == \"b\"  [1]\ns[..] elements one of { \"a\\\"]\", \"b\", null }  [1]\n"]),
+        Sections(&[
+            "P  [1]\nsize(s[..]) == 3  [1]\ns[0] == \"a\\\"]\"  [1]\ns[-1] == \"b\"  [1]\ns[..] elements one of { \"a\\\"]\", \"b\", null }  [1]\n",
+        ]),
     ),
     (
         "implementors",
@@ -202,7 +209,9 @@ static VALUES: [Case; 7] = [
             "P\nh\n0x1f\n1\nb\ntrue\n1\ns\n\"u v\"\n1\na[..]\n[1 -2 3]\n1\nx\n8\n1\n\n",
             "P\nh\n31\n1\nb\n1\n1\ns\nnull\n1\na[..]\n[]\n1\nx\n-8\n1\n\n",
         ],
-        Sections(&["P  [2]\nx one of { -8, 8 }  [2]\nsize(a[..]) one of { 0, 3 }  [2]\na[0] == 1  [1]\na[-1] == 3  [1]\nb == true  [2]\nh has only one value  [2]\ns one of { \"u v\", null }  [2]\nx != size(a[..])  [2]\n3 * x - 16 * size(a[..]) + 24 == 0  [2]\na[..] elements one of { -2, 1, 3 }  [2]\na[..] elements < x  [2]\n"]),
+        Sections(&[
+            "P  [2]\nx one of { -8, 8 }  [2]\nsize(a[..]) one of { 0, 3 }  [2]\na[0] == 1  [1]\na[-1] == 3  [1]\nb == true  [2]\nh has only one value  [2]\ns one of { \"u v\", null }  [2]\nx != size(a[..])  [2]\n3 * x - 16 * size(a[..]) + 24 == 0  [2]\na[..] elements one of { -2, 1, 3 }  [2]\na[..] elements < x  [2]\n",
+        ]),
     ),
     (
         "values that are read past",
@@ -274,7 +283,11 @@ static CALLS: [Case; 7] = [
             "M:::ENTER\nthis_invocation_nonce\n1\nx\n10\n1\n\nM:::ENTER\nthis_invocation_nonce\n2\nx\n20\n1\n\n",
             "M:::EXIT1\nthis_invocation_nonce\n1\nx\n11\n1\n\nM:::EXIT1\nthis_invocation_nonce\n2\nx\n21\n1\n\n",
         ],
-        Sections(&["M:::ENTER  [2]\nx one of { 10, 20 }  [2]\n", "M:::EXIT  [2]\nx one of { 11, 21 }  [2]\norig(x) one of { 10, 20 }  [2]\norig(x) < x  [2]\nx - orig(x) - 1 == 0  [2]\n", "M:::EXIT1  [2]\n"]),
+        Sections(&[
+            "M:::ENTER  [2]\nx one of { 10, 20 }  [2]\n",
+            "M:::EXIT  [2]\nx one of { 11, 21 }  [2]\norig(x) one of { 10, 20 }  [2]\norig(x) < x  [2]\nx - orig(x) - 1 == 0  [2]\n",
+            "M:::EXIT1  [2]\n",
+        ]),
     ),
     (
         "calls without nonces",
@@ -283,7 +296,11 @@ static CALLS: [Case; 7] = [
             "M:::ENTER\nx\n1\n1\n\nM:::ENTER\nx\n2\n1\n\n",
             "M:::EXIT1\nx\n3\n1\n\nM:::EXIT1\nx\n4\n1\n\n",
         ],
-        Sections(&["M:::ENTER  [2]\nx one of { 1, 2 }  [2]\n", "M:::EXIT  [2]\nx one of { 3, 4 }  [2]\norig(x) one of { 1, 2 }  [2]\norig(x) < x  [2]\nx + orig(x) - 5 == 0  [2]\n", "M:::EXIT1  [2]\n"]),
+        Sections(&[
+            "M:::ENTER  [2]\nx one of { 1, 2 }  [2]\n",
+            "M:::EXIT  [2]\nx one of { 3, 4 }  [2]\norig(x) one of { 1, 2 }  [2]\norig(x) < x  [2]\nx + orig(x) - 5 == 0  [2]\n",
+            "M:::EXIT1  [2]\n",
+        ]),
     ),
     (
         "the latest entry is taken",
@@ -292,7 +309,11 @@ static CALLS: [Case; 7] = [
             "M:::ENTER\nx\n1\n1\n\nM:::ENTER\nx\n2\n1\n\n",
             "M:::EXIT1\nx\n3\n1\n\n",
         ],
-        Sections(&["M:::ENTER  [2]\nx one of { 1, 2 }  [2]\n", "M:::EXIT  [1]\nx == 3  [1]\norig(x) == 2  [1]\n", "M:::EXIT1  [1]\n"]),
+        Sections(&[
+            "M:::ENTER  [2]\nx one of { 1, 2 }  [2]\n",
+            "M:::EXIT  [1]\nx == 3  [1]\norig(x) == 2  [1]\n",
+            "M:::EXIT1  [1]\n",
+        ]),
     ),
     (
         "an exit without an entry",
@@ -332,7 +353,12 @@ fn come_to_their_outcomes(rt: &impl Abort, alloc: Global, cases: &[Case]) -> Res
         }
         for piece in [1usize, 7, 65536] {
             assert!(rt; piece > 0);
-            let (status, sinks) = ran(alloc, bytes.as_slice(), &["--min-samples", "1", "t"], steady(piece))?;
+            let (status, sinks) = ran(
+                alloc,
+                bytes.as_slice(),
+                &["--min-samples", "1", "t"],
+                steady(piece),
+            )?;
             assert_eq!(rt; status, outcome.status(), "at {shows}");
             assert!(rt;
                 sinks.written(Stream::Report) == outcome.report(alloc)?.as_slice(),

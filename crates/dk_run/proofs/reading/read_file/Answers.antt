@@ -12,8 +12,11 @@ returns-in-Ok-clause-gives g c =
     record {
       text = told.text;
       written = told.written;
-      holds = (λ e. absurd (c.read_started.ensures.started e), λ h n stands counts xs holds. told_started c.args.command.now n h c.args.lines.now c.start.new.self c.read_started.new.lines _ xs told.text (g.I.Inputs.rest c.args.inputs.now) _ _ c.read_started.result
-          c.read_started.ensures.started started c.in-Ok.ensures.rest holds c.read_started.ensures.emptied (told.holds h n stands counts));
+      holds = (
+        λ e. absurd (c.read_started.ensures.started e),
+        λ h n stands counts xs holds. told_started c.args.command.now n h c.args.lines.now c.start.new.self c.read_started.new.lines _ xs told.text (g.I.Inputs.rest c.args.inputs.now) _ _ c.read_started.result
+            c.read_started.ensures.started started c.in-Ok.ensures.rest holds c.read_started.ensures.emptied (told.holds h n stands counts),
+      );
     }
 
 pub returns-in-Err-clause-gives : goal.returns-in-Err-clause-gives
