@@ -1,8 +1,8 @@
 -- The two laws of reading a block that the session rests on.
-use Rattle.std.proofs.Common.{◌≡◌, ℕ, [], Option, Some, None, Result, Ok, Err, refl}
+use Rattle.std.proofs.Common.{◌≡◌, ℕ, [], Bool, false, Option, Some, None, Result, Ok, Err, refl}
 use Rattle.std.specs.Result.{IsOk}
 use Rattle.dk_base.specs.Reading.{LineFault, ◌>>=◌}
-use Rattle.dk_core.specs.History.{History, no_block, effect_of}
+use Rattle.dk_core.specs.History.{History, Taken, no_block, effect_of}
 use Rattle.dk_core.specs.Standing.{resumed, resumed_by}
 use Rattle.dk_core.specs.declared.block.Block.{Block}
 use Rattle.dk_core.specs.declared.block.State.{State}
@@ -10,27 +10,32 @@ use Rattle.dk_core.specs.declared.block.State.TheVariants as state
 use Rattle.dk_decl.proofs.Unfaulted.{no_fault_yet as no_fault_in_declaration}
 use Rattle.dk_trace.proofs.Unfaulted.{no_fault_yet as no_fault_in_record}
 
--- what is only judged where a block ends has no fault before
-not_judged : {A : Type 0} (read : Result A LineFault) (h : History) → IsOk read → IsOk (read >>= λ x. Ok (no_block h))
+-- what is read is no block, and holds no fault
+abbrev pub IsNone : Result Taken LineFault → Type 0
+IsNone (Ok t) = t.counts ≡ false
+IsNone (Err e) = ⊥
+
+-- what is only judged where a block ends is no block before, and has no fault
+not_judged : {A : Type 0} (read : Result A LineFault) (h : History) → IsOk read → IsNone (read >>= λ x. Ok (no_block h))
 not_judged (Ok x) h ok = refl
-not_judged (Err e) h ok = ok
+not_judged (Err e) h ok = cc (ok)
 
-no_fault_in_front : (h : History) (last : Option ℕ) → IsOk (resumed_by h (state.Front last) [] None)
-no_fault_in_front h None = refl
-no_fault_in_front h (Some line) = refl
+none_in_front : (ignores : Bool) (h : History) (last : Option ℕ) → IsNone (resumed_by ignores h (state.Front last) [] None)
+none_in_front ignores h None = refl
+none_in_front ignores h (Some line) = refl
 
-no_fault_in : (h : History) (s : State) → IsOk (resumed_by h s [] None)
-no_fault_in h (state.Front last) = no_fault_in_front h last
-no_fault_in h (state.Declaration line reader) = not_judged _ h (no_fault_in_declaration reader)
-no_fault_in h state.Implementors = refl
-no_fault_in h (state.Record reader) = not_judged _ h (no_fault_in_record h.table reader)
+none_in : (ignores : Bool) (h : History) (s : State) → IsNone (resumed_by ignores h s [] None)
+none_in ignores h (state.Front last) = none_in_front ignores h last
+none_in ignores h (state.Declaration line reader) = not_judged _ h (no_fault_in_declaration reader)
+none_in ignores h state.Implementors = refl
+none_in ignores h (state.Record reader) = not_judged _ h (no_fault_in_record h.table reader)
 
--- a block that is being read holds no fault
-pub no_fault_yet : (h : History) (b : Block) → IsOk (resumed h b [] None)
+-- a block that is being read is none before its end, and holds no fault
+pub no_block_yet : (ignores : Bool) (h : History) (b : Block) → IsNone (resumed ignores h b [] None)
 unfolding resumed
-no_fault_yet h b = no_fault_in (record h { header = b.header }) b.state
+no_block_yet ignores h b = none_in ignores (record h { header = b.header }) b.state
 
 -- no lines are no block
-pub no_lines : (h : History) (close : Option ℕ) → effect_of h [] close ≡ Ok (no_block h)
+pub no_lines : (ignores : Bool) (h : History) (close : Option ℕ) → effect_of ignores h [] close ≡ Ok (no_block h)
 unfolding effect_of
-no_lines h close = refl
+no_lines ignores h close = refl

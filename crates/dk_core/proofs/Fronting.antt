@@ -16,6 +16,7 @@ use Rattle.dk_trace.specs.Records.{Sample}
 use Rattle.dk_trace.specs.RecordsResumed.{resumed as record_resumed}
 use Rattle.dk_trace.specs.declared.reader.RecordReader.{RecordReader}
 use Rattle.dk_core.specs.Standing.{Closes, GoesOn, ToldOn, carried, resumed, resumed_by}
+use Rattle.dk_core.specs.Steps.{WordsGive, stopped}
 use Rattle.dk_core.specs.declared.block.Block.{Block}
 use Rattle.dk_core.specs.declared.block.State.{State}
 use Rattle.dk_core.specs.declared.block.State.TheVariants as state
@@ -23,10 +24,10 @@ use Rattle.dk_core.specs.declared.block.State.TheVariants as state
 -- ---- the front of a block
 
 -- nothing was read yet
-pub begun : (h : History) (header : Header) (ls : List Line) (close : Option ℕ) → header ≡ h.header
-    → (front_of header None ls >>= λ front. after_front (record h { header = header }) front close) ≡ effect_of h ls close
+pub begun : (ignores : Bool) (h : History) (header : Header) (ls : List Line) (close : Option ℕ) → header ≡ h.header
+    → (front_of header None ls >>= λ front. after_front ignores (record h { header = header }) front close) ≡ effect_of ignores h ls close
 unfolding effect_of
-begun h header ls close is = ap (λ (x : Header). front_of x None ls >>= λ front. after_front (record h { header = x }) front close) is
+begun ignores h header ls close is = ap (λ (x : Header). front_of x None ls >>= λ front. after_front ignores (record h { header = x }) front close) is
 
 front_comment : (header : Header) (last : Option ℕ) (l : Line) (ls : List Line) → is_comment l.bytes ≡ true → front_of header last (l ∷ ls) ≡ front_of header last ls
 front_comment header last l ls is =
@@ -39,9 +40,9 @@ front_header header last l ls o is at =
     ∙ ap (λ (p : Option (Result Header Why)). at_header_line p l.number (record { header = header; last = last; lines = l ∷ ls }) (λ next. front_of next (Some l.number) ls)) at
 
 -- a comment
-pub past_comment : (h : History) (last : Option ℕ) (l : Line) (ls : List Line) (close : Option ℕ) → is_comment l.bytes ≡ true
-    → (front_of h.header last (l ∷ ls) >>= λ front. after_front h front close) ≡ (front_of h.header last ls >>= λ front. after_front h front close)
-past_comment h last l ls close is = ap (λ (r : Result Front LineFault). r >>= λ front. after_front h front close) (front_comment h.header last l ls is)
+pub past_comment : (ignores : Bool) (h : History) (last : Option ℕ) (l : Line) (ls : List Line) (close : Option ℕ) → is_comment l.bytes ≡ true
+    → (front_of h.header last (l ∷ ls) >>= λ front. after_front ignores h front close) ≡ (front_of h.header last ls >>= λ front. after_front ignores h front close)
+past_comment ignores h last l ls close is = ap (λ (r : Result Front LineFault). r >>= λ front. after_front ignores h front close) (front_comment h.header last l ls is)
 
 -- what an answer of a header says of the line
 answered_true : (o : Option (Result Header Why)) (h h' : Header) → Answers o h (Ok true) h' → o ≡ Some (Ok h')
@@ -60,30 +61,30 @@ answered_fault (Some (Ok next)) h h' why a = let e = a.0 in absurd (cc (e))
 answered_fault (Some (Err w)) h h' why a = let e = a.0 in let same : w ≡ why = cc in ap (λ (x : Why). let r : Result Header Why = Err x in Some r) same
 
 -- a header line, behind which this header is in force
-pub past_header : (h : History) (header : Header) (last : Option ℕ) (l : Line) (ls : List Line) (close : Option ℕ) → is_comment l.bytes ≡ false
+pub past_header : (ignores : Bool) (h : History) (header : Header) (last : Option ℕ) (l : Line) (ls : List Line) (close : Option ℕ) → is_comment l.bytes ≡ false
     → Answers (header_line h.header l.bytes) h.header (Ok true) header
-    → (front_of h.header last (l ∷ ls) >>= λ front. after_front h front close)
-    ≡ (front_of header (Some l.number) ls >>= λ front. after_front (record h { header = header }) front close)
-past_header h header last l ls close is answers =
-    ap (λ (r : Result Front LineFault). r >>= λ front. after_front h front close)
+    → (front_of h.header last (l ∷ ls) >>= λ front. after_front ignores h front close)
+    ≡ (front_of header (Some l.number) ls >>= λ front. after_front ignores (record h { header = header }) front close)
+past_header ignores h header last l ls close is answers =
+    ap (λ (r : Result Front LineFault). r >>= λ front. after_front ignores h front close)
     (front_header h.header last l ls (Some (Ok header)) is (answered_true (header_line h.header l.bytes) h.header header answers))
 
 -- a header line that is refused
-pub bad_header : (h : History) (header : Header) (last : Option ℕ) (l : Line) (why : Why) (ls : List Line) (close : Option ℕ) → is_comment l.bytes ≡ false
+pub bad_header : (ignores : Bool) (h : History) (header : Header) (last : Option ℕ) (l : Line) (why : Why) (ls : List Line) (close : Option ℕ) → is_comment l.bytes ≡ false
     → Answers (header_line h.header l.bytes) h.header (Err why) header
-    → (front_of h.header last (l ∷ ls) >>= λ front. after_front h front close) ≡ Err (record { line = l.number; why = why })
-bad_header h header last l why ls close is answers =
-    ap (λ (r : Result Front LineFault). r >>= λ front. after_front h front close)
+    → (front_of h.header last (l ∷ ls) >>= λ front. after_front ignores h front close) ≡ Err (record { line = l.number; why = why })
+bad_header ignores h header last l why ls close is answers =
+    ap (λ (r : Result Front LineFault). r >>= λ front. after_front ignores h front close)
     (front_header h.header last l ls (Some (Err why)) is (answered_fault (header_line h.header l.bytes) h.header header why answers))
 
 -- the first line of the record
-pub at_record : (h : History) (header : Header) (last : Option ℕ) (l : Line) (ls : List Line) (close : Option ℕ) → is_comment l.bytes ≡ false
+pub at_record : (ignores : Bool) (h : History) (header : Header) (last : Option ℕ) (l : Line) (ls : List Line) (close : Option ℕ) → is_comment l.bytes ≡ false
     → Answers (header_line h.header l.bytes) h.header (Ok false) header
-    → (front_of h.header last (l ∷ ls) >>= λ front. after_front h front close) ≡ after_record (record h { header = header }) l ls close
-at_record h header last l ls close is answers =
+    → (front_of h.header last (l ∷ ls) >>= λ front. after_front ignores h front close) ≡ after_record ignores (record h { header = header }) l ls close
+at_record ignores h header last l ls close is answers =
     let both = answered_false (header_line h.header l.bytes) h.header header answers in
-    ap (λ (r : Result Front LineFault). r >>= λ front. after_front h front close) (front_header h.header last l ls None is both.0)
-    ∙ ap (λ (x : Header). after_record (record h { header = x }) l ls close) (sym both.1)
+    ap (λ (r : Result Front LineFault). r >>= λ front. after_front ignores h front close) (front_header h.header last l ls None is both.0)
+    ∙ ap (λ (x : Header). after_record ignores (record h { header = x }) l ls close) (sym both.1)
 
 -- ---- one reader behind another
 
@@ -99,47 +100,47 @@ told_at NoMemory read f told = tt
 
 -- ---- the first line of a record
 
-pub declares : (h : History) (l : Line) (ls : List Line) (close : Option ℕ) → is_declaration l.bytes ≡ true → after_record h l ls close ≡ after_declaration h l ls close
-declares h l ls close is =
-    ap (λ b. if b then after_declaration h l ls close else if is_list_of_implementors l.bytes then where_it_ends close h (Ok (block h)) else after_sample h l ls close) is
+pub declares : (ignores : Bool) (h : History) (l : Line) (ls : List Line) (close : Option ℕ) → is_declaration l.bytes ≡ true → after_record ignores h l ls close ≡ after_declaration h l ls close
+declares ignores h l ls close is =
+    ap (λ b. if b then after_declaration h l ls close else if is_list_of_implementors l.bytes then where_it_ends close h (Ok (block h)) else after_sample ignores h l ls close) is
 
-pub lists : (h : History) (l : Line) (ls : List Line) (close : Option ℕ) → is_declaration l.bytes ≡ false → is_list_of_implementors l.bytes ≡ true
-    → after_record h l ls close ≡ where_it_ends close h (Ok (block h))
-lists h l ls close is list =
-    ap (λ b. if b then after_declaration h l ls close else if is_list_of_implementors l.bytes then where_it_ends close h (Ok (block h)) else after_sample h l ls close) is
-    ∙ ap (λ b. if b then where_it_ends close h (Ok (block h)) else after_sample h l ls close) list
+pub lists : (ignores : Bool) (h : History) (l : Line) (ls : List Line) (close : Option ℕ) → is_declaration l.bytes ≡ false → is_list_of_implementors l.bytes ≡ true
+    → after_record ignores h l ls close ≡ where_it_ends close h (Ok (block h))
+lists ignores h l ls close is list =
+    ap (λ b. if b then after_declaration h l ls close else if is_list_of_implementors l.bytes then where_it_ends close h (Ok (block h)) else after_sample ignores h l ls close) is
+    ∙ ap (λ b. if b then where_it_ends close h (Ok (block h)) else after_sample ignores h l ls close) list
 
-pub samples : (h : History) (l : Line) (ls : List Line) (close : Option ℕ) → is_declaration l.bytes ≡ false → is_list_of_implementors l.bytes ≡ false
-    → after_record h l ls close ≡ after_sample h l ls close
-samples h l ls close is list =
-    ap (λ b. if b then after_declaration h l ls close else if is_list_of_implementors l.bytes then where_it_ends close h (Ok (block h)) else after_sample h l ls close) is
-    ∙ ap (λ b. if b then where_it_ends close h (Ok (block h)) else after_sample h l ls close) list
+pub samples : (ignores : Bool) (h : History) (l : Line) (ls : List Line) (close : Option ℕ) → is_declaration l.bytes ≡ false → is_list_of_implementors l.bytes ≡ false
+    → after_record ignores h l ls close ≡ after_sample ignores h l ls close
+samples ignores h l ls close is list =
+    ap (λ b. if b then after_declaration h l ls close else if is_list_of_implementors l.bytes then where_it_ends close h (Ok (block h)) else after_sample ignores h l ls close) is
+    ∙ ap (λ b. if b then where_it_ends close h (Ok (block h)) else after_sample ignores h l ls close) list
 
 -- ---- what goes on as one reader goes on as another that reads the same
 
-pub goes_as : (h : History) (result : Result Block BlockFault) (read more : Reads Taken) → ((ls : List Line) (close : Option ℕ) → read ls close ≡ more ls close) → GoesOn h result more → GoesOn h result read
-goes_as h (Ok b) read more same goes = λ ls close. same ls close ∙ goes ls close
-goes_as h (Err (Refused line why)) read more same told = λ ls close. same ls close ∙ told ls close
-goes_as h (Err NoMemory) read more same told = tt
+pub goes_as : (ignores : Bool) (h : History) (result : Result Block BlockFault) (read more : Reads Taken) → ((ls : List Line) (close : Option ℕ) → read ls close ≡ more ls close) → GoesOn ignores h result more → GoesOn ignores h result read
+goes_as ignores h (Ok b) read more same goes = λ ls close. same ls close ∙ goes ls close
+goes_as ignores h (Err (Refused line why)) read more same told = λ ls close. same ls close ∙ told ls close
+goes_as ignores h (Err NoMemory) read more same told = tt
 
 pub if_ok : {A E : Type 0} (result : Result A E) (P : Type 0) → P → OnOk result P
 if_ok (Ok x) P p = p
 if_ok (Err e) P p = tt
 
 -- a record that goes on in place
-pub record_goes : {A : Type 0} (h : History) (ps : List Point) (b : Block) (r r' : RecordReader) (l : Line) (result : Result A BlockFault)
+pub record_goes : {A : Type 0} (ignores : Bool) (h : History) (ps : List Point) (b : Block) (r r' : RecordReader) (l : Line) (result : Result A BlockFault)
     → b.state ≡ state.Record r → ps ≡ h.table → DeclGoesOn (λ (x : A). record_resumed ps r') result (λ ls. record_resumed ps r (l ∷ ls))
-    → GoesOn h (carried (record b { state = state.Record r' }) result) (λ ls close. resumed h b (l ∷ ls) close)
+    → GoesOn ignores h (carried (record b { state = state.Record r' }) result) (λ ls close. resumed ignores h b (l ∷ ls) close)
 unfolding resumed
-record_goes h ps b r r' l (Ok x) is table goes = λ ls close.
+record_goes ignores h ps b r r' l (Ok x) is table goes = λ ls close.
     let now : History = record h { header = b.header } in
-    ap (λ (s : State). resumed_by now s (l ∷ ls) close) is
-    ∙ ap (λ (o : Result Sample LineFault). o >>= λ s. where_it_ends close now (with_record now s))
+    ap (λ (s : State). resumed_by ignores now s (l ∷ ls) close) is
+    ∙ ap (λ (o : Result Sample LineFault). o >>= λ s. where_it_ends close now (with_record ignores now s))
     (ap (λ (qs : List Point). record_resumed qs r (l ∷ ls) close) (sym table) ∙ goes ls close ∙ ap (λ (qs : List Point). record_resumed qs r' ls close) table)
-record_goes h ps b r r' l (Err e) is table told =
+record_goes ignores h ps b r r' l (Err e) is table told =
     let now : History = record h { header = b.header } in
-    goes_as h (Err e) _ _ (λ ls close. ap (λ (s : State). resumed_by now s (l ∷ ls) close) is)
-    (told_then e (λ ls. record_resumed h.table r (l ∷ ls)) (λ s close. where_it_ends close now (with_record now s))
+    goes_as ignores h (Err e) _ _ (λ ls close. ap (λ (s : State). resumed_by ignores now s (l ∷ ls) close) is)
+    (told_then e (λ ls. record_resumed h.table r (l ∷ ls)) (λ s close. where_it_ends close now (with_record ignores now s))
     (subst (λ (qs : List Point). DeclToldOn e (λ ls. record_resumed qs r (l ∷ ls))) table told))
 
 -- ---- the end of a block
@@ -147,6 +148,11 @@ record_goes h ps b r r' l (Err e) is table told =
 pub told_closes : (e : BlockFault) (read : Result Taken LineFault) → Told e read → Closes (Err e) read
 told_closes (Refused line why) read told = told
 told_closes NoMemory read told = tt
+
+-- a line's fault
+pub told_words : (ignores : Bool) (e : BlockFault) (read : Reads Taken) (l : Line) → ToldOn e (λ ls close. read (l ∷ ls) close) → WordsGive ignores read l (Err (stopped e))
+told_words ignores (Refused line why) read l told = told
+told_words ignores NoMemory read l told = tt
 
 -- a word that is not awaited, and one that is
 pub no_word : (b : Bool) (line : ℕ) (h : History) (r : Result Unit Why) → r ≡ (if b then Err BadHeader else Ok tt) → r ≡ Ok tt → (if b then refused BadHeader line else Ok (block h)) ≡ Ok (block h)

@@ -1,7 +1,12 @@
 -- The table of points as it grows.
-use Rattle.std.proofs.Common.{◌≡◌, ◌∙◌, ◌<◌, ◌≤◌, ◌-◌, ℕ, zero, suc, ◌∷◌, Bool, true, false, List, [], ◌++◌, length, take, slice_get, if◌then◌else◌, Option, Some, None, Result, Ok, Err, refl, ap, arith, length-append}
+use Rattle.std.proofs.Common.{◌≡◌, ◌∙◌, ◌<◌, ◌≤◌, ◌-◌, ℕ, zero, suc, ◌∷◌, All, Bool, true, false, List, [], ◌++◌, length, take, slice_get, if◌then◌else◌, Option, Some, None, Result, Ok, Err, refl, sym, ap, subst, arith, length-append}
+use Rattle.std.proofs.lemmas.List.Elements.{All-append, All-cons, All-nil, All-weaker}
 use Rattle.std.proofs.lemmas.List.{take-append-le}
 use Rattle.std.specs.Option.{option_map_or}
+use Rattle.dk_base.specs.declared.values.Value.{Value}
+use Rattle.dk_core.specs.Fitting.{ConstantsFit, FitAt, HasFittingConstants}
+use Rattle.dk_derive.specs.Laws.{all_vars_of}
+use Rattle.dk_derive.specs.Vars.{with_derived_vars}
 use Rattle.dk_base.specs.declared.why.Why.{Why}
 use Rattle.dk_base.specs.declared.why.Why.TheVariants.{CyclicParents, DuplicatePoint, TooManyPoints, TooManyVariables}
 use Rattle.dk_decl.specs.declared.decls.PointDecl.{PointDecl}
@@ -10,7 +15,7 @@ use Rattle.dk_graph.specs.Names.{place_of}
 use Rattle.dk_points.specs.Declaring.{at_line, declared, declared_again, declared_at, declared_new, grown, has_many_points, has_many_vars}
 use Rattle.dk_points.specs.Links.{nodes}
 use Rattle.dk_points.specs.Sameness.{same_decl}
-use Rattle.dk_points.specs.Table.{Point, added, decl_of, names}
+use Rattle.dk_points.specs.Table.{Point, added, decl_of, declared_point, implicit_exit, makes_exit, names}
 use Rattle.dk_points.specs.Vars.{base_vars, vars_of}
 use Rattle.dk_points.specs.declared.declared.Declared.{Declared}
 use Rattle.dk_points.specs.declared.declared.Declared.TheVariants.{New, Same}
@@ -44,22 +49,46 @@ again_points ps ps' d i x (Some own) e = ap (λ (t : List Point × Declared). t.
 abbrev pub Extends : List Point → List Point → Type 0
 Extends ps ps' = (more : List Point) × (ps' ≡ ps ++ more)
 
+-- all of these points are by one declaration
+abbrev AreBy : PointDecl → List Point → Type 0
+AreBy d more = All (λ (p : Point). p.decl ≡ d) more
+
 append-nil : {X : Type 0} (xs : List X) → xs ≡ xs ++ []
 append-nil [] = refl
 append-nil (x ∷ xs) = ap (λ (l : List _). x ∷ l) (append-nil xs)
 
-at_points : (ps ps' : List Point) (d : PointDecl) (x : Declared) (o : Option ℕ) → declared_at ps d o ≡ Ok (ps', x) → Extends ps ps'
-at_points ps ps' d x None e = (added ps d, new_points ps ps' d x e)
-at_points ps ps' d x (Some i) e = ([], again_points ps ps' d i x (decl_of ps i) e ∙ append-nil ps)
+added_by : (ps : List Point) (d : PointDecl) → AreBy d (added ps d)
+added_by ps d = by (makes_exit ps d)
+  where
+    by : (b : Bool) → AreBy d (if b then implicit_exit d ∷ declared_point d ∷ [] else declared_point d ∷ [])
+    by true = All-cons (λ (p : Point). p.decl ≡ d) (implicit_exit d) (declared_point d ∷ []) refl (All-cons (λ (p : Point). p.decl ≡ d) (declared_point d) [] refl (All-nil (λ (p : Point). p.decl ≡ d)))
+    by false = All-cons (λ (p : Point). p.decl ≡ d) (declared_point d) [] refl (All-nil (λ (p : Point). p.decl ≡ d))
+
+abbrev ExtendsBy : PointDecl → List Point → List Point → Type 0
+ExtendsBy d ps ps' = (more : List Point) × (ps' ≡ ps ++ more) × AreBy d more
+
+at_points : (ps ps' : List Point) (d : PointDecl) (x : Declared) (o : Option ℕ) → declared_at ps d o ≡ Ok (ps', x) → ExtendsBy d ps ps'
+at_points ps ps' d x None e = (added ps d, new_points ps ps' d x e, added_by ps d)
+at_points ps ps' d x (Some i) e = ([], again_points ps ps' d i x (decl_of ps i) e ∙ append-nil ps, All-nil (λ (p : Point). p.decl ≡ d))
 
 not_refused : {A : Type 0} (line : ℕ) (r : Result A Why) (x : A) → at_line line r ≡ Ok x → r ≡ Ok x
 not_refused line (Ok y) x e = let same : y ≡ x = cc in ap (λ z. Ok z) same
 not_refused line (Err why) x e = absurd (cc (e))
 
+extends_by : (ps ps' : List Point) (d : PointDecl) (line : ℕ) (x : Declared) → at_line line (declared ps d) ≡ Ok (ps', x) → ExtendsBy d ps ps'
+unfolding declared
+extends_by ps ps' d line x e = at_points ps ps' d x (place_of (names ps) d.name) (not_refused line (declared ps d) (ps', x) e)
+
 -- a declaration that is taken leaves the points as they are, and adds some behind them
 pub declared_points : (ps ps' : List Point) (d : PointDecl) (line : ℕ) (x : Declared) → at_line line (declared ps d) ≡ Ok (ps', x) → Extends ps ps'
-unfolding declared
-declared_points ps ps' d line x e = at_points ps ps' d x (place_of (names ps) d.name) (not_refused line (declared ps d) (ps', x) e)
+declared_points ps ps' d line x e = let by = extends_by ps ps' d line x e in (by.0, by.1)
+
+-- whose constants are those of the declaration
+pub constants_still : (ps ps' : List Point) (d : PointDecl) (line : ℕ) (x : Declared) → at_line line (declared ps d) ≡ Ok (ps', x) → ConstantsFit ps → HasFittingConstants d → ConstantsFit ps'
+constants_still ps ps' d line x e all own =
+    let by = extends_by ps ps' d line x e in
+    let P : Point → Type 0 = λ p. HasFittingConstants p.decl in
+    subst ConstantsFit (sym by.1) (All-append P ps by.0 all (All-weaker (λ (p : Point). p.decl ≡ d) P (λ p same. subst HasFittingConstants (sym same) own) by.0 by.2))
 
 pub more_points : (ps ps' : List Point) → Extends ps ps' → length ps ≤ length ps'
 more_points ps ps' (more, is) = omega (arith, ap length is, length-append ps more)
@@ -75,3 +104,14 @@ same_vars ps ps' p (more, is) there =
       same_point [] more p there = absurd (omega arith)
       same_point (q ∷ ps) more zero there = refl
       same_point (q ∷ ps) more (suc p) there = same_point ps more p (omega arith)
+
+pub same_all_vars : (ps ps' : List Point) (p : ℕ) → Extends ps ps' → p < length ps → all_vars_of ps' p ≡ all_vars_of ps p
+same_all_vars ps ps' p extends there = ap with_derived_vars (same_vars ps ps' p extends there)
+
+-- so do declarations, and with them what fits them
+pub still_fits : (ps ps' : List Point) (p : ℕ) (values : List Value) → Extends ps ps' → FitAt ps p values → FitAt ps' p values
+still_fits ps ps' p values (more, is) (d, own, fits) = (d, ap (λ qs. decl_of qs p) is ∙ same_decl_of ps more p d own, fits) where
+  same_decl_of : (ps more : List Point) (p : ℕ) (d : PointDecl) → decl_of ps p ≡ Some d → decl_of (ps ++ more) p ≡ Some d
+  same_decl_of [] more p d own = absurd (cc own)
+  same_decl_of (q ∷ ps) more zero d own = own
+  same_decl_of (q ∷ ps) more (suc p) d own = same_decl_of ps more p d own

@@ -1,144 +1,255 @@
 -- What is kept from block to block, block after block.
-use Rattle.std.proofs.Common.{◌≡◌, ◌∙◌, ◌<◌, ◌≤◌, ◌+◌, ◌-◌, ℕ, zero, suc, false, is_some, if◌then◌else◌, List, [], ◌∷◌, ◌++◌, length, take, map, get_or, slice_set, replicate, Option, Some, None, Result, Ok, Err, refl, sym, ap, subst, arith, length-append, append_assoc}
-use Rattle.std.proofs.lemmas.List.{flat_map_more, length-map, length-replicate, take_all}
-use Rattle.std.proofs.lemmas.List.FromFn.{length-enumerate_from}
+use Rattle.std.proofs.Common.{◌≡◌, ◌≢◌, ◌∙◌, ◌<◌, ◌≤◌, ◌+◌, ◌-◌, ◌⊎◌, inl, inr, ⊎_elim, ℕ, zero, suc, true, false, All, Bool, is_some, if◌then◌else◌, List, [], ◌∷◌, ◌++◌, length, map, get_or, slice_get, slice_set, replicate, Option, Some, None, Result, Ok, Err, refl, sym, ap, subst, arith, append_assoc, length-append}
+use Rattle.std.proofs.lemmas.List.{append-nil, get_or-set_other, get_or-set_same, length-replicate, length-set, map-append}
+use Rattle.std.proofs.lemmas.List.Elements.{All-append, All-cons, All-head, All-nil, All-tail, All-weaker}
 use Rattle.std.specs.Prelude.{slice_index_or}
-use Rattle.std.specs.List.{enumerate_from, flat_map}
-use Rattle.dk_base.specs.declared.kinds.VarInfo.{VarInfo}
-use Rattle.dk_base.specs.declared.values.Value.{Value}
-use Rattle.dk_bounds.specs.Sections.{section_of}
-use Rattle.dk_bounds.specs.Summaries.{Summarized, summary_of}
-use Rattle.dk_points.specs.Table.{Point, names}
-use Rattle.dk_points.specs.Vars.{entry_of, vars_of}
-use Rattle.dk_core.specs.Summaries.{new_summaries, summaries_of, summary_at}
-use Rattle.dk_core.proofs.Growing.{Extends, same_vars}
-use Rattle.dk_core.proofs.Fronting.{told_at, told_closes}
-use Rattle.dk_core.specs.History.{History, base_values, block, with_declaration, with_record, with_sample, with_table}
-use Rattle.dk_calls.specs.Standing.{StandsFor as CallsStandFor}
-use Rattle.dk_calls.specs.declared.calls.Calls.{Calls}
-use Rattle.dk_core.specs.Standing.{Closes, Stands}
-use Rattle.dk_core.specs.declared.kept.Kept.{Kept}
-use Rattle.dk_decl.specs.declared.header.Header.{Header}
+use Rattle.std.specs.Option.{option_map_or}
 use Rattle.dk_base.specs.Reading.{LineFault, ◌>>=◌}
 use Rattle.dk_base.specs.declared.faults.BlockFault.{BlockFault}
+use Rattle.dk_base.specs.declared.kinds.VarInfo.{VarInfo}
+use Rattle.dk_base.specs.declared.values.Value.{Value}
+use Rattle.dk_calls.specs.Records.{call_of, entry_with, is_entry_at}
+use Rattle.dk_calls.specs.Standing.{StandsFor as CallsStandFor, WaitAlike}
+use Rattle.dk_calls.specs.Waiting.{Call, enters, exits, other}
+use Rattle.dk_calls.specs.declared.calls.Calls.{Calls}
 use Rattle.dk_decl.specs.Outcomes.{Told}
 use Rattle.dk_decl.specs.declared.decls.PointDecl.{PointDecl}
+use Rattle.dk_decl.specs.declared.header.Header.{Header}
+use Rattle.dk_derive.specs.Values.{values_by_form}
+use Rattle.dk_engine.specs.Exact.{AreOfPoint, AreSamples, IsKeptOf}
+use Rattle.dk_engine.specs.Levels.{Whole}
+use Rattle.dk_fits.specs.Laws.{IsSample}
+use Rattle.dk_hierarchy.specs.Samples.{OwnSamples, all_vars_of, own_samples_of}
+use Rattle.dk_hierarchy.specs.Standing.{AreEnginesOf, EngineStandsFor, EnginesStandFor}
 use Rattle.dk_points.specs.Declaring.{at_line, declared}
+use Rattle.dk_points.specs.Table.{Point}
+use Rattle.dk_points.specs.Vars.{entry_of}
 use Rattle.dk_points.specs.declared.declared.Declared.{Declared}
+use Rattle.dk_template.specs.declared.grammar.Grammar.{Grammar}
 use Rattle.dk_trace.specs.Records.{Sample}
-use Rattle.dk_calls.specs.Records.{call_of, entry_with, is_entry_at}
-use Rattle.dk_calls.specs.Waiting.{enters, exits, other}
-use Rattle.std.specs.Option.{option_map_or}
+use Rattle.dk_core.proofs.Fronting.{told_at, told_closes}
+use Rattle.dk_core.proofs.Growing.{Extends, more_points, same_all_vars, still_fits}
+use Rattle.dk_core.proofs.Values.{call_fits}
+use Rattle.dk_core.specs.Fitting.{CallFits, ConstantsFit, FitAt, WaitingFit}
+use Rattle.dk_core.specs.Growing.{AreGrown, IsNewAt}
+use Rattle.dk_core.specs.History.{History, Taken, base_values, block, or_left_out, with_declaration, with_record, with_sample, with_table, with_values}
+use Rattle.dk_core.specs.Keeping.{IsSound, Keeping}
+use Rattle.dk_core.specs.Standing.{Closes, Stands}
+use Rattle.dk_core.specs.declared.kept.Kept.{Kept}
 
--- ---- lists with their places
+-- ---- lists by their places
 
-abbrev Placed : Type 0 → Type 0
-Placed X = ℕ × X
+get_push : {X : Type 0} (xs ys : List X) (i : ℕ) (x : X) → slice_get (xs ++ ys) i ≡ Some x → (slice_get xs i ≡ Some x) ⊎ (length xs ≤ i)
+get_push [] ys i x at = inr (omega arith)
+get_push (y ∷ xs) ys zero x at = inl at
+get_push (y ∷ xs) ys (suc i) x at = ⊎_elim (λ h. inl h) (λ h. inr (omega (arith, h))) (get_push xs ys i x at)
 
-map-enumerate-set : {X Y : Type 0} (f : Placed X → Y) (n i m : ℕ) (xs : List X) (x : X) → m ≡ n + i → map f (enumerate_from n (slice_set xs i x)) ≡ slice_set (map f (enumerate_from n xs)) i (f (m, x))
-map-enumerate-set f n i m [] x at = refl
-map-enumerate-set f n zero m (y ∷ ys) x at = let same : n ≡ m = omega arith in ap (λ k. f (k, x) ∷ map f (enumerate_from (n + 1) ys)) same
-map-enumerate-set f n (suc i) m (y ∷ ys) x at = ap (λ l. f (n, y) ∷ l) (map-enumerate-set f (n + 1) i m ys x (omega arith))
+get_within : {X : Type 0} (xs : List X) (i : ℕ) (x : X) → slice_get xs i ≡ Some x → i < length xs
+get_within [] i x at = absurd (cc at)
+get_within (y ∷ xs) zero x at = omega arith
+get_within (y ∷ xs) (suc i) x at = let more = get_within xs i x at in omega (arith, more)
 
-get_or-map-enumerate : {X Y : Type 0} (f : Placed X → Y) (n i m : ℕ) (xs : List X) (d : Y) (e : X) → i < length xs → m ≡ n + i → get_or (map f (enumerate_from n xs)) i d ≡ f (m, get_or xs i e)
-get_or-map-enumerate f n i m [] d e there at = absurd (omega arith)
-get_or-map-enumerate f n zero m (x ∷ xs) d e there at = let same : n ≡ m = omega arith in ap (λ k. f (k, x)) same
-get_or-map-enumerate f n (suc i) m (x ∷ xs) d e there at = get_or-map-enumerate f (n + 1) i m xs d e (omega arith) (omega arith)
+get_set : {X : Type 0} (xs : List X) (p i : ℕ) (new x : X) → slice_get (slice_set xs p new) i ≡ Some x → ((i ≡ p) × (new ≡ x)) ⊎ ((i ≢ p) × (slice_get xs i ≡ Some x))
+get_set [] p i new x at = absurd (cc at)
+get_set (y ∷ xs) zero zero new x at = inl (refl, cc at)
+get_set (y ∷ xs) zero (suc i) new x at = inr (omega arith, at)
+get_set (y ∷ xs) (suc p) zero new x at = inr (omega arith, at)
+get_set (y ∷ xs) (suc p) (suc i) new x at = ⊎_elim (λ h. inl (ap suc h.0, h.1)) (λ h. inr (λ e. h.0 (omega (arith, e)), h.1)) (get_set xs p i new x at)
 
-get_or-enumerate : {X : Type 0} (n i m : ℕ) (xs : List X) (d : Placed X) (e : X) → i < length xs → m ≡ n + i → get_or (enumerate_from n xs) i d ≡ (m, get_or xs i e)
-get_or-enumerate n i m [] d e there at = absurd (omega arith)
-get_or-enumerate n zero m (x ∷ xs) d e there at = let same : n ≡ m = omega arith in ap (λ k. (k, x)) same
-get_or-enumerate n (suc i) m (x ∷ xs) d e there at = get_or-enumerate (n + 1) i m xs d e (omega arith) (omega arith)
+all_at : {X : Type 0} (P : X → Type 0) (xs : List X) → ((i : ℕ) (x : X) → slice_get xs i ≡ Some x → P x) → All P xs
+all_at P [] each = All-nil P
+all_at P (x ∷ xs) each = All-cons P x xs (each 0 x refl) (all_at P xs (λ i y at. each (suc i) y at))
 
-map-enumerate-append : {X Y : Type 0} (f g : Placed X → Y) (n m : ℕ) (xs ys : List X) → m ≡ n + length xs → ((p : ℕ) (x : X) → p < m → g (p, x) ≡ f (p, x))
-    → map g (enumerate_from n (xs ++ ys)) ≡ map f (enumerate_from n xs) ++ map g (enumerate_from m ys)
-map-enumerate-append f g n m [] ys at same = let is : n ≡ m = omega arith in ap (λ k. map g (enumerate_from k ys)) is
-map-enumerate-append f g n m (x ∷ xs) ys at same =
-    ap (λ y. y ∷ map g (enumerate_from (n + 1) (xs ++ ys))) (same n x (omega arith))
-    ∙ ap (λ l. f (n, x) ∷ l) (map-enumerate-append f g (n + 1) m xs ys (omega arith) same)
+pub all_get : {X : Type 0} (P : X → Type 0) (xs : List X) (i : ℕ) (x : X) → All P xs → slice_get xs i ≡ Some x → P x
+all_get P [] i x all at = absurd (cc at)
+all_get P (y ∷ xs) zero x all at = let same : y ≡ x = cc at in subst P same (All-head P y xs all)
+all_get P (y ∷ xs) (suc i) x all at = all_get P xs i x (All-tail P y xs all) at
 
--- ---- summaries
+get_or_append : {X : Type 0} (xs ys : List X) (i : ℕ) (d : X) → i < length xs → get_or (xs ++ ys) i d ≡ get_or xs i d
+get_or_append [] ys i d there = absurd (omega arith)
+get_or_append (x ∷ xs) ys zero d there = refl
+get_or_append (x ∷ xs) ys (suc i) d there = get_or_append xs ys i d (omega arith)
 
--- a point has other samples
-pub set_summary : (ps : List Point) (samples : List (List (List Value))) (summaries : List Summarized) (p : ℕ) (own : List (List Value)) (s : Summarized)
-    → summaries ≡ summaries_of ps samples → s ≡ summary_at ps (p, own) → slice_set summaries p s ≡ summaries_of ps (slice_set samples p own)
-set_summary ps samples summaries p own s are is =
-    ap (λ l. slice_set l p s) are
-    ∙ ap (λ t. slice_set (summaries_of ps samples) p t) is
-    ∙ sym (map-enumerate-set (summary_at ps) 0 p p samples own (omega arith))
+get_or_none : {X : Type 0} (n i : ℕ) (d : X) → get_or (replicate n d) i d ≡ d
+get_or_none zero i d = refl
+get_or_none (suc n) zero d = refl
+get_or_none (suc n) (suc i) d = get_or_none n i d
 
--- the summary at a place is that of the point's samples
-pub summary_found : (ps : List Point) (samples : List (List (List Value))) (summaries : List Summarized) (p : ℕ) (s : Summarized) → summaries ≡ summaries_of ps samples
-    → p < length samples → s ≡ get_or summaries p s → s ≡ summary_at ps (p, get_or samples p [])
-summary_found ps samples summaries p s are there at =
-    at ∙ ap (λ l. get_or l p s) are ∙ get_or-map-enumerate (summary_at ps) 0 p p samples s [] there (omega arith)
+get_or_behind : {X : Type 0} (xs : List X) (n i : ℕ) (d : X) → length xs ≤ i → get_or (xs ++ replicate n d) i d ≡ d
+get_or_behind [] n i d past = get_or_none n i d
+get_or_behind (x ∷ xs) n zero d past = absurd (omega arith)
+get_or_behind (x ∷ xs) n (suc i) d past = get_or_behind xs n i d (omega arith)
 
--- new points have no samples
-pub more_summaries : (ps ps' : List Point) (samples : List (List (List Value))) (summaries all : List Summarized) → Extends ps ps' → length samples ≡ length ps
-    → summaries ≡ summaries_of ps samples → all ≡ summaries ++ new_summaries ps' (length summaries)
-    → all ≡ summaries_of ps' (samples ++ replicate (length ps' - length ps) [])
-more_summaries ps ps' samples summaries all extends many are is =
-    let long : length summaries ≡ length samples =
-    ap length are ∙ length-map (enumerate_from 0 samples) (summary_at ps) ∙ length-enumerate_from 0 samples in
-    is
-    ∙ ap (λ n. summaries ++ new_summaries ps' n) long
-    ∙ ap (λ l. l ++ new_summaries ps' (length samples)) are
-    ∙ ap (λ n. summaries_of ps samples ++ map (summary_at ps') (enumerate_from (length samples) (replicate (length ps' - n) []))) many
-    ∙ sym (map-enumerate-append (summary_at ps) (summary_at ps') 0 (length samples) samples (replicate (length ps' - length ps) []) (omega arith)
-    (λ p own there. ap (λ vs. summary_of (length vs) own) (same_vars ps ps' p extends (omega arith))))
+-- ---- the samples of a point
 
-pub many_samples : (ps ps' : List Point) (samples : List (List (List Value))) → length ps ≤ length ps' → length samples ≡ length ps
-    → length (samples ++ replicate (length ps' - length ps) []) ≡ length ps'
+-- one more at the point
+own_here : (ps : List Point) (own : OwnSamples) (p : ℕ) (values : List Value) → p < length own
+    → own_samples_of ps (with_sample own p values) p ≡ own_samples_of ps own p ++ values_by_form (all_vars_of ps p) values ∷ []
+own_here ps own p values there =
+    let f : List Value → List Value = values_by_form (all_vars_of ps p) in
+    ap (map f) (get_or-set_same own p (get_or own p [] ++ values ∷ []) [] there) ∙ map-append f (get_or own p []) (values ∷ [])
+
+-- and none at the others
+own_elsewhere : (ps : List Point) (own : OwnSamples) (p i : ℕ) (values : List Value) → i ≢ p → own_samples_of ps (with_sample own p values) i ≡ own_samples_of ps own i
+own_elsewhere ps own p i values away = ap (map (values_by_form (all_vars_of ps i))) (get_or-set_other own p i (get_or own p [] ++ values ∷ []) [] away)
+
+-- a point of the table as it was has the samples that it had
+own_still : (ps ps' : List Point) (own : OwnSamples) (n i : ℕ) → Extends ps ps' → length own ≡ length ps → i < length ps
+    → own_samples_of ps' (own ++ replicate n []) i ≡ own_samples_of ps own i
+own_still ps ps' own n i extends many there =
+    ap (λ (vars : List VarInfo). map (values_by_form vars) (get_or (own ++ replicate n []) i [])) (same_all_vars ps ps' i extends there)
+    ∙ ap (map (values_by_form (all_vars_of ps i))) (get_or_append own (replicate n []) i [] (omega (arith, there, many)))
+
+-- and a new one has none
+own_new : (ps' : List Point) (own : OwnSamples) (n i : ℕ) → length own ≤ i → own_samples_of ps' (own ++ replicate n []) i ≡ []
+own_new ps' own n i past = ap (map (values_by_form (all_vars_of ps' i))) (get_or_behind own n i [] past)
+
+-- ---- engines
+
+-- an engine has one sample more
+pub engine_fed : (old new : Whole) (samples : List (List Value)) (sample : List Value) → new.grammar ≡ old.grammar → new.infos ≡ old.infos → IsSample old.infos sample
+    → (AreSamples old.infos samples → IsKeptOf old.grammar old.infos samples old.kept → IsKeptOf old.grammar old.infos (samples ++ sample ∷ []) new.kept)
+    → EngineStandsFor old samples → EngineStandsFor new (samples ++ sample ∷ [])
+engine_fed old new samples sample grammar infos is fed stands =
+    let P : List VarInfo → Type 0 = λ vars. AreSamples vars (samples ++ sample ∷ []) in
+    let Q : Grammar → Type 0 = λ g. IsKeptOf g new.infos (samples ++ sample ∷ []) new.kept in
+    let R : List VarInfo → Type 0 = λ vars. IsKeptOf old.grammar vars (samples ++ sample ∷ []) new.kept in
+    record {
+      variables = subst AreOfPoint (sym infos) stands.variables;
+      samples_are = subst P (sym infos) (All-append (IsSample old.infos) samples (sample ∷ []) stands.samples_are (All-cons (IsSample old.infos) sample [] is (All-nil (IsSample old.infos))));
+      kept_is = subst Q (sym grammar) (subst R (sym infos) (fed stands.samples_are stands.kept_is));
+    }
+
+-- one of the engines has
+pub engines_fed : (ps : List Point) (engines : List Whole) (own : OwnSamples) (p : ℕ) (old new : Whole) (values : List Value) → p < length own → slice_get engines p ≡ Some old
+    → ((samples : List (List Value)) → EngineStandsFor old samples → EngineStandsFor new (samples ++ values_by_form (all_vars_of ps p) values ∷ []))
+    → EnginesStandFor engines (own_samples_of ps own) → EnginesStandFor (slice_set engines p new) (own_samples_of ps (with_sample own p values))
+engines_fed ps engines own p old new values there at fed stands = λ i engine is.
+    let S : ℕ → Type 0 = λ k. EngineStandsFor engine (own_samples_of ps (with_sample own p values) k) in
+    ⊎_elim
+    (λ h. subst S (sym h.0) (subst (λ (e : Whole). EngineStandsFor e (own_samples_of ps (with_sample own p values) p)) h.1
+    (subst (EngineStandsFor new) (sym (own_here ps own p values there)) (fed (own_samples_of ps own p) (stands p old at)))))
+    (λ h. subst (EngineStandsFor engine) (sym (own_elsewhere ps own p i values h.0)) (stands i engine h.1))
+    (get_set engines p i new engine is)
+
+-- they are still those of the points
+pub engines_still : (ps : List Point) (engines : List Whole) (p : ℕ) (old new : Whole) → slice_get engines p ≡ Some old → new.grammar ≡ old.grammar → new.infos ≡ old.infos
+    → AreEnginesOf ps engines → AreEnginesOf ps (slice_set engines p new)
+engines_still ps engines p old new at grammar infos are = record {
+  long = length-set engines p new ∙ are.long;
+  variables = λ i engine is. ⊎_elim
+      (λ h. let was = are.variables p old at in
+      let same : engine.infos ≡ old.infos = ap (λ (e : Whole). e.infos) (sym h.1) ∙ infos in
+      (same ∙ was.0 ∙ ap (all_vars_of ps) (sym h.0), subst AreOfPoint (sym same) was.1))
+      (λ h. are.variables i engine h.1)
+      (get_set engines p i new engine is);
+  grammar = λ i j engine other is there. by_old i engine is ∙ sym (by_old j other there);
+}
+  where
+    by_old : (i : ℕ) (engine : Whole) → slice_get (slice_set engines p new) i ≡ Some engine → engine.grammar ≡ old.grammar
+    by_old i engine is = ⊎_elim
+        (λ h. ap (λ (e : Whole). e.grammar) (sym h.1) ∙ grammar)
+        (λ h. are.grammar i p engine old h.1 at)
+        (get_set engines p i new engine is)
+
+-- new ones stand behind the others
+pub engines_grown : (ps ps' : List Point) (grammar : Grammar) (engines all : List Whole) → Extends ps ps' → AreEnginesOf ps engines → All (λ (e : Whole). e.grammar ≡ grammar) engines
+    → AreGrown ps' grammar engines all → AreEnginesOf ps' all × All (λ (e : Whole). e.grammar ≡ grammar) all
+engines_grown ps ps' grammar engines all extends are by_grammar grown = (
+  record {
+    long = grown.long;
+    variables = λ i engine is. ⊎_elim
+        (λ h. let was = are.variables i engine h in (was.0 ∙ sym (same_all_vars ps ps' i extends (there i engine h)), was.1))
+        (λ h. let new = grown.new i engine h is in (new.infos, new.point))
+        (old_or_new i engine is);
+    grammar = λ i j engine other is there. by_one i engine is ∙ sym (by_one j other there);
+  },
+  all_at (λ (e : Whole). e.grammar ≡ grammar) all by_one,
+)
+  where
+    old_or_new : (i : ℕ) (engine : Whole) → slice_get all i ≡ Some engine → (slice_get engines i ≡ Some engine) ⊎ (length engines ≤ i)
+    old_or_new i engine is = get_push engines grown.more i engine (sym (ap (λ (l : List Whole). slice_get l i) grown.split) ∙ is)
+
+    there : (i : ℕ) (engine : Whole) → slice_get engines i ≡ Some engine → i < length ps
+    there i engine is = let within = get_within engines i engine is in omega (arith, within, are.long)
+
+    by_one : (i : ℕ) (engine : Whole) → slice_get all i ≡ Some engine → engine.grammar ≡ grammar
+    by_one i engine is = ⊎_elim (λ h. all_get (λ (e : Whole). e.grammar ≡ grammar) engines i engine by_grammar h) (λ h. (grown.new i engine h is).by_grammar) (old_or_new i engine is)
+
+-- one new engine after the other, up to this place
+pub record AreGrowing (ps : List Point) (grammar : Grammar) (engines all : List Whole) (place : ℕ) : Type 0 where
+  pub long : length all ≡ place
+  pub more : List Whole
+  pub split : all ≡ engines ++ more
+  pub new : (i : ℕ) (engine : Whole) → length engines ≤ i → slice_get all i ≡ Some engine → IsNewAt ps grammar i engine
+
+pub growing_none : (ps : List Point) (grammar : Grammar) (engines : List Whole) → AreGrowing ps grammar engines engines (length engines)
+growing_none ps grammar engines = record {
+  long = refl;
+  more = [];
+  split = sym (append-nil engines);
+  new = λ i engine past at. absurd (let within = get_within engines i engine at in omega (arith, past, within));
+}
+
+get_last : {X : Type 0} (xs : List X) (y : X) (i : ℕ) (x : X) → slice_get (xs ++ y ∷ []) i ≡ Some x → (slice_get xs i ≡ Some x) ⊎ ((i ≡ length xs) × (y ≡ x))
+get_last [] y zero x at = inr (refl, cc at)
+get_last [] y (suc i) x at = absurd (cc at)
+get_last (z ∷ xs) y zero x at = inl at
+get_last (z ∷ xs) y (suc i) x at = ⊎_elim (λ h. inl h) (λ h. inr (ap suc h.0, h.1)) (get_last xs y i x at)
+
+pub growing_more : (ps : List Point) (grammar : Grammar) (engines all : List Whole) (place : ℕ) (e : Whole) → IsNewAt ps grammar place e
+    → AreGrowing ps grammar engines all place → AreGrowing ps grammar engines (all ++ e ∷ []) (place + 1)
+growing_more ps grammar engines all place e is growing = record {
+  long = let n = length-append all (e ∷ []) in omega (arith, n, growing.long);
+  more = growing.more ++ e ∷ [];
+  split = ap (λ (l : List Whole). l ++ e ∷ []) growing.split ∙ append_assoc engines growing.more (e ∷ []);
+  new = λ i engine past at. ⊎_elim
+      (λ h. growing.new i engine past h)
+      (λ h. let P : ℕ → Type 0 = λ k. IsNewAt ps grammar k engine in subst P (sym (h.0 ∙ growing.long)) (subst (IsNewAt ps grammar place) h.1 is))
+      (get_last all e i engine at);
+}
+
+pub growing_all : (ps : List Point) (grammar : Grammar) (engines all : List Whole) (place : ℕ) → place ≡ length ps → AreGrowing ps grammar engines all place → AreGrown ps grammar engines all
+growing_all ps grammar engines all place ends growing = record { long = growing.long ∙ ends; more = growing.more; split = growing.split; new = growing.new }
+
+pub stand_grown : (ps ps' : List Point) (grammar : Grammar) (engines all : List Whole) (own : OwnSamples) (n : ℕ) → Extends ps ps' → length own ≡ length ps → length engines ≡ length ps
+    → AreGrown ps' grammar engines all → EnginesStandFor engines (own_samples_of ps own) → EnginesStandFor all (own_samples_of ps' (own ++ replicate n []))
+stand_grown ps ps' grammar engines all own n extends many long grown stands = λ i engine is.
+    ⊎_elim
+    (λ h. let within = get_within engines i engine h in
+    subst (EngineStandsFor engine) (sym (own_still ps ps' own n i extends many (omega (arith, within, long)))) (stands i engine h))
+    (λ h. let new = grown.new i engine h is in
+    subst (EngineStandsFor engine) (sym (own_new ps' own n i (omega (arith, h, long, many))))
+    (record { variables = new.point; samples_are = All-nil (IsSample engine.infos); kept_is = subst (λ (g : Grammar). IsKeptOf g engine.infos [] engine.kept) (sym new.by_grammar) new.stands }))
+    (get_push engines grown.more i engine (sym (ap (λ (l : List Whole). slice_get l i) grown.split) ∙ is))
+
+pub many_samples : (ps ps' : List Point) (samples : OwnSamples) → length ps ≤ length ps' → length samples ≡ length ps → length (samples ++ replicate (length ps' - length ps) []) ≡ length ps'
 many_samples ps ps' samples most many =
     let none : List (List Value) = [] in
     omega (arith, length-append samples (replicate (length ps' - length ps) none), length-replicate (length ps' - length ps) none)
 
--- the summary of one new point more
-pub next_new : (ps : List Point) (p : ℕ) → p < length ps → new_summaries ps p ≡ summary_at ps (p, []) ∷ new_summaries ps (p + 1)
-next_new ps p there =
-    let one : length ps - p ≡ suc (length ps - (p + 1)) = omega arith in
-    ap (λ k. map (summary_at ps) (enumerate_from p (replicate k []))) one
+-- ---- calls
 
-pub no_new : (ps : List Point) (p : ℕ) → length ps ≤ p → new_summaries ps p ≡ []
-no_new ps p past =
-    let none : length ps - p ≡ 0 = omega arith in
-    ap (λ k. map (summary_at ps) (enumerate_from p (replicate k []))) none
+-- what waits is the same
+pub stand_alike : (old new : Calls) (earlier : List Call) → WaitAlike old new → CallsStandFor old earlier → CallsStandFor new earlier
+stand_alike old new earlier alike stands = record { plain = alike.plain ∙ stands.plain; nonces = λ point n. alike.nonces point n ∙ stands.nonces point n }
 
--- ---- the report
+pub waiting_alike : (ps : List Point) (old new : Calls) → WaitAlike old new → WaitingFit ps old → WaitingFit ps new
+waiting_alike ps old new alike (earlier, stands, fit) = (earlier, stand_alike old new earlier alike stands, fit)
 
-take-next : {X : Type 0} (xs : List X) (i : ℕ) (d : X) → i < length xs → take (suc i) xs ≡ take i xs ++ get_or xs i d ∷ []
-take-next [] i d there = absurd (omega arith)
-take-next (x ∷ xs) zero d there = refl
-take-next (x ∷ xs) (suc i) d there = ap (λ l. x ∷ l) (take-next xs i d (omega arith))
+-- a record more
+pub waiting_more : (ps : List Point) (s : Sample) (old new : Calls) → FitAt ps s.point s.values
+    → ((earlier : List Call) → CallsStandFor old earlier → CallsStandFor new (call_of ps s ∷ earlier)) → WaitingFit ps old → WaitingFit ps new
+waiting_more ps s old new fits more (earlier, stands, fit) = (call_of ps s ∷ earlier, more earlier stands, All-cons (CallFits ps) (call_of ps s) earlier (call_fits ps s fits) fit)
 
--- the section of a point, by its place
-abbrev pub section_at : List Point → ℕ × List (List Value) → List ℕ
-section_at ps e = section_of (slice_index_or (names ps) e.0 []) (vars_of ps e.0) e.1
-
--- the sections of the first points
-abbrev pub first_sections : List Point → List (List (List Value)) → ℕ → List ℕ
-first_sections ps samples place = flat_map (section_at ps) (take place (enumerate_from 0 samples))
-
-pub next_section : (ps : List Point) (samples : List (List (List Value))) (place : ℕ) → place < length samples
-    → first_sections ps samples place ++ section_of (slice_index_or (names ps) place []) (vars_of ps place) (get_or samples place []) ≡ first_sections ps samples (place + 1)
-next_section ps samples place there =
-    let e : ℕ × List (List Value) = (place, get_or samples place []) in
-    let next : suc place ≡ place + 1 = omega arith in
-    let last : get_or (enumerate_from 0 samples) place e ≡ e = get_or-enumerate 0 place place samples e [] there (omega arith) in
-    flat_map_more (section_at ps) [] (take place (enumerate_from 0 samples)) e
-    ∙ ap (λ l. flat_map (section_at ps) l)
-    (ap (λ x. take place (enumerate_from 0 samples) ++ x ∷ []) (sym last)
-    ∙ sym (take-next (enumerate_from 0 samples) place e (omega (arith, length-enumerate_from 0 samples)))
-    ∙ ap (λ n. take n (enumerate_from 0 samples)) next)
-
-pub all_sections : (ps : List Point) (samples : List (List (List Value))) (place : ℕ) → length samples ≤ place → first_sections ps samples place ≡ flat_map (section_at ps) (enumerate_from 0 samples)
-all_sections ps samples place past =
-    ap (λ l. flat_map (section_at ps) l) (take_all place (enumerate_from 0 samples) (omega (arith, length-enumerate_from 0 samples)))
-
-pub section_like : (name own : List ℕ) (vars mine : List VarInfo) (samples : List (List Value)) → name ≡ own → vars ≡ mine → section_of name vars samples ≡ section_of own mine samples
-section_like name own vars mine samples named are = ap (λ n. section_of n vars samples) named ∙ ap (λ vs. section_of own vs samples) are
-
--- ---- records
+-- a table with more points
+pub waiting_still : (ps ps' : List Point) (calls : Calls) → Extends ps ps' → WaitingFit ps calls → WaitingFit ps' calls
+waiting_still ps ps' calls extends (earlier, stands, fit) = (earlier, stands, All-weaker (CallFits ps) (CallFits ps') call_still earlier fit)
+  where
+    call_still : (call : Call) → CallFits ps call → CallFits ps' call
+    call_still (enters w) h = still_fits ps ps' w.point w.values extends h
+    call_still (exits point n) h = tt
+    call_still other h = tt
 
 -- a record that is neither an exit that must match an entry, nor an entry
 pub other_call : (ps : List Point) (s : Sample) → is_some (entry_of ps s.point) ≡ false → is_entry_at ps s.point ≡ false → call_of ps s ≡ other
@@ -147,6 +258,8 @@ other_call ps s no_exit no_entry = by_entry (entry_of ps s.point) no_exit ∙ ap
   by_entry : (e : Option ℕ) → is_some e ≡ false → option_map_or (λ e. exits e s.nonce) e (if is_entry_at ps s.point then enters (entry_with s) else other) ≡ (if is_entry_at ps s.point then enters (entry_with s) else other)
   by_entry None lacks = refl
   by_entry (Some e) lacks = absurd (cc (lacks))
+
+-- ---- declarations
 
 -- a declaration that is taken, and one that is refused
 pub declared_ok : (h : History) (ps ps' : List Point) (line : ℕ) (d : PointDecl) (x : Declared) → ps ≡ h.table → at_line line (declared ps d) ≡ Ok (ps', x)
@@ -159,42 +272,43 @@ declared_told h ps line d e table told =
     told_closes e (with_declaration h line d)
     (told_at e (at_line line (declared h.table d)) (λ t. Ok (block (with_table h t.0))) (subst (λ (qs : List Point). Told e (at_line line (declared qs d))) table told))
 
--- a record whose values are there, and one that is refused
-pub recorded_ok : (h : History) (ps : List Point) (s : Sample) (values : List Value) → ps ≡ h.table → base_values ps s h.calls ≡ Ok values
-    → with_record h s ≡ Ok (block (record h { samples = with_sample h.samples s.point values; calls = call_of h.table s ∷ h.calls }))
-recorded_ok h ps s values table is =
-    ap (λ (r : Result (List Value) LineFault). r >>= λ vs. Ok (block (record h { samples = with_sample h.samples s.point vs; calls = call_of h.table s ∷ h.calls })))
-    (ap (λ (qs : List Point). base_values qs s h.calls) (sym table) ∙ is)
+-- ---- records
 
-pub recorded_told : (h : History) (ps : List Point) (s : Sample) (e : BlockFault) → ps ≡ h.table → Told e (base_values ps s h.calls) → Closes (Err e) (with_record h s)
+taken_whole : (ignores : Bool) (h : History) (t : Taken) → or_left_out ignores h (Ok t) ≡ Ok t
+taken_whole true h t = refl
+taken_whole false h t = refl
+
+refused_whole : (h : History) (r : Result Taken LineFault) → or_left_out false h r ≡ r
+refused_whole h (Ok t) = refl
+refused_whole h (Err e) = refl
+
+-- a record whose values are there, one that is refused, and one that is left out
+pub recorded_ok : (ignores : Bool) (h : History) (ps : List Point) (s : Sample) (values : List Value) → ps ≡ h.table → base_values ps s h.calls ≡ Ok values
+    → with_record ignores h s ≡ Ok (with_values h s values)
+recorded_ok ignores h ps s values table is =
+    ap (λ (r : Result (List Value) LineFault). or_left_out ignores h (r >>= λ vs. Ok (with_values h s vs))) (ap (λ (qs : List Point). base_values qs s h.calls) (sym table) ∙ is)
+    ∙ taken_whole ignores h (with_values h s values)
+
+pub recorded_told : (h : History) (ps : List Point) (s : Sample) (e : BlockFault) → ps ≡ h.table → Told e (base_values ps s h.calls) → Closes (Err e) (with_record false h s)
 recorded_told h ps s e table told =
-    told_closes e (with_record h s)
-    (told_at e (base_values h.table s h.calls) (λ vs. Ok (block (record h { samples = with_sample h.samples s.point vs; calls = call_of h.table s ∷ h.calls })))
-    (subst (λ (qs : List Point). Told e (base_values qs s h.calls)) table told))
+    told_closes e (with_record false h s)
+    (subst (Told e) (sym (refused_whole h (base_values h.table s h.calls >>= λ vs. Ok (with_values h s vs))))
+    (told_at e (base_values h.table s h.calls) (λ vs. Ok (with_values h s vs)) (subst (λ (qs : List Point). Told e (base_values qs s h.calls)) table told)))
 
-pub paired_more : (ps : List Point) (summaries all : List Summarized) → length summaries ≤ length ps → all ≡ summaries ++ new_summaries ps (length summaries) → length all ≡ length ps
-paired_more ps summaries all most is =
-    let none : List (List Value) = [] in
-    let more : length (new_summaries ps (length summaries)) ≡ length ps - length summaries =
-    length-map (enumerate_from (length summaries) (replicate (length ps - length summaries) none)) (summary_at ps)
-    ∙ length-enumerate_from (length summaries) (replicate (length ps - length summaries) none) ∙ length-replicate (length ps - length summaries) none in
-    omega (arith, ap length is, length-append summaries (new_summaries ps (length summaries)))
+pub recorded_left : (h : History) (ps : List Point) (s : Sample) (fault : LineFault) → ps ≡ h.table → base_values ps s h.calls ≡ Err fault → with_record true h s ≡ Ok (block h)
+recorded_left h ps s fault table is =
+    ap (λ (r : Result (List Value) LineFault). or_left_out true h (r >>= λ vs. Ok (with_values h s vs))) (ap (λ (qs : List Point). base_values qs s h.calls) (sym table) ∙ is)
 
--- one new summary more is put behind the others
-pub put_new : (ps : List Point) (place : ℕ) (front all : List Summarized) (s : Summarized) (whole : List Summarized) → place < length ps → s ≡ summary_at ps (place, [])
-    → all ≡ front ++ s ∷ [] → front ++ new_summaries ps place ≡ whole → all ++ new_summaries ps (place + 1) ≡ whole
-put_new ps place front all s whole there is put was =
-    ap (λ l. l ++ new_summaries ps (place + 1)) put ∙ append_assoc front (s ∷ []) (new_summaries ps (place + 1))
-    ∙ ap (λ t. front ++ t ∷ new_summaries ps (place + 1)) is ∙ ap (λ l. front ++ l) (sym (next_new ps place there)) ∙ was
+-- ---- what a history is kept as
 
 -- another header is in force
 pub with_header : (kept kept' : Kept) (h : History) (header : Header) → Stands kept h → kept'.points ≡ kept.points → kept'.header ≡ header → kept'.calls ≡ kept.calls
-    → kept'.summaries.items ≡ kept.summaries.items → Stands kept' (record h { header = header })
+    → kept'.engines ≡ kept.engines → Stands kept' (record h { header = header })
 unfolding Stands
-with_header kept kept' h header stands points is calls summaries = record {
+with_header kept kept' h header stands points is calls engines = record {
   table = points ∙ stands.table;
   header = is;
   calls = subst (λ (cs : Calls). CallsStandFor cs h.calls) (sym calls) stands.calls;
   many = stands.many;
-  summaries = summaries ∙ stands.summaries;
+  engines = subst (λ (es : List Whole). EnginesStandFor es (own_samples_of h.table h.samples)) (sym engines) stands.engines;
 }

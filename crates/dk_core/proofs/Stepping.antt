@@ -1,7 +1,6 @@
 -- Steps of a session.
 use Rattle.std.proofs.Common.{◌≡◌, ◌≤◌, ◌<◌, ◌+◌, ◌-◌, ℕ, List, [], ◌∷◌, ◌++◌, length, inl, inr, Bool, true, false, Option, Some, None, Result, Ok, Err, if◌then◌else◌, IfSome, IsErrOf, not, refl, sym, ◌∙◌, ap, subst, arith, length-append, append_assoc}
 use Rattle.dk_base.specs.Reading.{Line, LineFault, Reads, ◌>>=◌}
-use Rattle.std.specs.Result.{IsOk}
 use Rattle.dk_lines.specs.Left.{Left, End, Over, Broken, LongLine, TooLong, Ends, Next, lines_left, OneLine}
 use Rattle.dk_lines.specs.Reading.{Reading, room_of}
 use Rattle.dk_lines.specs.Answers.{IsNext, Gives}
@@ -16,9 +15,9 @@ use Rattle.std.proofs.Math.Dec.{eqb-suc-zero}
 use Rattle.dk_core.specs.Blocks.{Groups, Group, Last, onto_group, is_blank_line, taken, grouped}
 use Rattle.dk_core.specs.History.{History, Taken, effect_of}
 use Rattle.dk_core.specs.Reading.{after_last, after_all, after_next, stop_or, Stepped}
-use Rattle.dk_core.specs.Standing.{Fits, Stands, resumed}
-use Rattle.dk_core.proofs.BlockLaws.{no_fault_yet, no_lines}
-use Rattle.dk_core.specs.Steps.{Moves, Steps, Stops, groups_left, LineGives, EndGives, BlankGives, WordsGive, TurnGives}
+use Rattle.dk_core.specs.Standing.{Fits, Stands, ignores_of, resumed}
+use Rattle.dk_core.proofs.BlockLaws.{IsNone, no_block_yet, no_lines}
+use Rattle.dk_core.specs.Steps.{IsCutAlike, IsNoBlock, Moves, Steps, Stops, groups_left, LineGives, EndGives, BlankGives, WordsGive, TurnGives}
 use Rattle.dk_base.specs.declared.why.Why.{Why}
 use Rattle.dk_base.specs.declared.why.Why.TheVariants.{LongLine as WhyLong, TooLong as WhyMany}
 use Rattle.dk_core.specs.declared.session.Step.{Step}
@@ -34,36 +33,20 @@ use Rattle.dk_core.specs.declared.session.Session.{Session}
 
 -- ---- the first line of a group
 
-pub next_onto : (read : Reads Taken) (l : Line) (gs : Groups) → after_next read (onto_group l gs) ≡ after_next (λ ls close. read (l ∷ ls) close) gs
-next_onto read l (Group ls close rest) = refl
-next_onto read l (Last ls (Over n)) = refl
-next_onto read l (Last ls Broken) = refl
-next_onto read l (Last ls (LongLine n)) = refl
-next_onto read l (Last ls (TooLong n)) = refl
-
-pub all_onto : (read : Reads Taken) (l : Line) (gs : Groups) → after_all read (onto_group l gs) ≡ after_all (λ ls close. read (l ∷ ls) close) gs
-all_onto read l (Group ls close rest) = refl
-all_onto read l (Last ls (Over n)) = refl
-all_onto read l (Last ls Broken) = refl
-all_onto read l (Last ls (LongLine n)) = refl
-all_onto read l (Last ls (TooLong n)) = refl
+pub next_onto : (ignores : Bool) (read : Reads Taken) (l : Line) (gs : Groups) → after_next ignores read (onto_group l gs) ≡ after_next ignores (λ ls close. read (l ∷ ls) close) gs
+next_onto ignores read l (Group ls close rest) = refl
+next_onto ignores read l (Last ls (Over n)) = refl
+next_onto ignores read l (Last ls Broken) = refl
+next_onto ignores read l (Last ls (LongLine n)) = refl
+next_onto ignores read l (Last ls (TooLong n)) = refl
 
 abbrev then_fault : ℕ → Why → Result Taken LineFault → Result Taken LineFault
 then_fault n why r = r >>= λ _. Err (record { line = n; why = why })
 
 -- two that read the same
-pub next_same : (read more : Reads Taken) (gs : Groups) → ((ls : List Line) (close : Option ℕ) → read ls close ≡ more ls close) → after_next read gs ≡ after_next more gs
-next_same read more (Group ls close rest) e = ap (λ (r : Result Taken LineFault). r >>= λ t. stop_or t rest (after_next (effect_of t.history) rest)) (e ls (Some close))
-next_same read more (Last ls end) e = ap (λ (r : Result Taken LineFault). r >>= λ t. Ok (record { found = t.counts; history = t.history; left = Last [] end })) (last_same end) where
-  last_same : (end : End) → after_last read ls end ≡ after_last more ls end
-  last_same (Over n) = e ls (Some n)
-  last_same Broken = e ls None
-  last_same (LongLine n) = ap (λ (r : Result Taken LineFault). then_fault n WhyLong r) (e ls None)
-  last_same (TooLong n) = ap (λ (r : Result Taken LineFault). then_fault n WhyMany r) (e ls None)
-
-pub all_same : (read more : Reads Taken) (gs : Groups) → ((ls : List Line) (close : Option ℕ) → read ls close ≡ more ls close) → after_all read gs ≡ after_all more gs
-all_same read more (Group ls close rest) e = ap (λ (r : Result Taken LineFault). r >>= λ t. after_all (effect_of t.history) rest) (e ls (Some close))
-all_same read more (Last ls end) e = ap (λ (r : Result Taken LineFault). r >>= λ t. Ok t.history) (last_same end) where
+pub next_same : (ignores : Bool) (read more : Reads Taken) (gs : Groups) → ((ls : List Line) (close : Option ℕ) → read ls close ≡ more ls close) → after_next ignores read gs ≡ after_next ignores more gs
+next_same ignores read more (Group ls close rest) e = ap (λ (r : Result Taken LineFault). r >>= λ t. stop_or t rest (after_next ignores (effect_of ignores t.history) rest)) (e ls (Some close))
+next_same ignores read more (Last ls end) e = ap (λ (r : Result Taken LineFault). r >>= λ t. Ok (record { found = t.counts; history = t.history; left = Last [] end })) (last_same end) where
   last_same : (end : End) → after_last read ls end ≡ after_last more ls end
   last_same (Over n) = e ls (Some n)
   last_same Broken = e ls None
@@ -78,67 +61,55 @@ grouped_blank line rest e = ap (λ (b : Bool). if b then Group [] line.number (g
 grouped_words : (line : Line) (rest : Left) → is_blank_line line ≡ false → grouped (Next line rest) ≡ onto_group (taken line) (grouped rest)
 grouped_words line rest e = ap (λ (b : Bool). if b then Group [] line.number (grouped rest) else onto_group (taken line) (grouped rest)) e
 
-abbrev next_from : Groups → Result Taken LineFault → Result Stepped LineFault
-next_from rest r = r >>= λ t. stop_or t rest (after_next (effect_of t.history) rest)
+abbrev next_from : Bool → Groups → Result Taken LineFault → Result Stepped LineFault
+next_from ignores rest r = r >>= λ t. stop_or t rest (after_next ignores (effect_of ignores t.history) rest)
 
-abbrev all_from : Groups → Result Taken LineFault → Result History LineFault
-all_from rest r = r >>= λ t. after_all (effect_of t.history) rest
-
-pub blank_line : (read : Reads Taken) (line : Line) (result : Result Turn Stop) → is_blank_line line ≡ true → BlankGives read line.number result → LineGives read line result
-blank_line read line (Ok (Goes kept block)) blank (h, stands, closes, begins) = (
+pub blank_line : (ignores : Bool) (read : Reads Taken) (line : Line) (result : Result Turn Stop) → is_blank_line line ≡ true → BlankGives ignores read line.number result → LineGives ignores read line result
+blank_line ignores read line (Ok (Goes kept block)) blank (h, stands, closes, begins) = (
   h,
   stands,
-  λ rest. (
-    ap (after_next read) (grouped_blank line rest blank) ∙ ap (next_from (grouped rest)) closes ∙ sym (next_same (resumed h block) (effect_of h) (grouped rest) begins),
-    ap (after_all read) (grouped_blank line rest blank) ∙ ap (all_from (grouped rest)) closes ∙ sym (all_same (resumed h block) (effect_of h) (grouped rest) begins),
-  ),
+  λ rest. ap (after_next ignores read) (grouped_blank line rest blank) ∙ ap (next_from ignores (grouped rest)) closes ∙ sym (next_same ignores (resumed ignores h block) (effect_of ignores h) (grouped rest) begins),
 )
-blank_line read line (Ok (Stands_end end)) blank (h, stands, over, found, closes) = (
+blank_line ignores read line (Ok (Stands_end end)) blank (h, stands, over, found, closes) = (
   h,
   stands,
   over,
-  λ rest. (
-    ap (after_next read) (grouped_blank line rest blank) ∙ ap (next_from (grouped rest)) closes ∙ ap (λ (b : Bool). Ok (record { found = b; history = h; left = grouped rest })) (sym found),
-    ap (after_all read) (grouped_blank line rest blank) ∙ ap (all_from (grouped rest)) closes,
-  ),
+  λ rest. ap (after_next ignores read) (grouped_blank line rest blank) ∙ ap (next_from ignores (grouped rest)) closes ∙ ap (λ (b : Bool). Ok (record { found = b; history = h; left = grouped rest })) (sym found),
 )
-blank_line read line (Err (Refused n why)) blank closes = λ rest. ap (after_next read) (grouped_blank line rest blank) ∙ ap (next_from (grouped rest)) closes
-blank_line read line (Err Read) blank gives = absurd gives
-blank_line read line (Err NoMemory) blank gives = tt
+blank_line ignores read line (Err (Refused n why)) blank closes = λ rest. ap (after_next ignores read) (grouped_blank line rest blank) ∙ ap (next_from ignores (grouped rest)) closes
+blank_line ignores read line (Err Read) blank gives = absurd gives
+blank_line ignores read line (Err NoMemory) blank gives = tt
 
-pub words_line : (read : Reads Taken) (line : Line) (result : Result Turn Stop) → is_blank_line line ≡ false → WordsGive read (taken line) result → LineGives read line result
-words_line read line (Ok (Goes kept block)) words (h, stands, goes) = (
+pub words_line : (ignores : Bool) (read : Reads Taken) (line : Line) (result : Result Turn Stop) → is_blank_line line ≡ false → WordsGive ignores read (taken line) result → LineGives ignores read line result
+words_line ignores read line (Ok (Goes kept block)) words (h, stands, goes) = (
   h,
   stands,
-  λ rest. (
-    ap (after_next read) (grouped_words line rest words) ∙ next_onto read (taken line) (grouped rest) ∙ next_same (λ ls close. read (taken line ∷ ls) close) (resumed h block) (grouped rest) goes,
-    ap (after_all read) (grouped_words line rest words) ∙ all_onto read (taken line) (grouped rest) ∙ all_same (λ ls close. read (taken line ∷ ls) close) (resumed h block) (grouped rest) goes,
-  ),
+  λ rest. ap (after_next ignores read) (grouped_words line rest words) ∙ next_onto ignores read (taken line) (grouped rest) ∙ next_same ignores (λ ls close. read (taken line ∷ ls) close) (resumed ignores h block) (grouped rest) goes,
 )
-words_line read line (Ok (Stands_end end)) words gives = absurd gives
-words_line read line (Err (Refused n why)) words gives = λ rest. ap (after_next read) (grouped_words line rest words) ∙ next_onto read (taken line) (grouped rest)
-    ∙ next_same (λ ls close. read (taken line ∷ ls) close) (λ ls close. Err (record { line = n; why = why })) (grouped rest) gives ∙ refused (grouped rest) where
-      refused : (gs : Groups) → after_next (λ ls close. Err (record { line = n; why = why })) gs ≡ Err (record { line = n; why = why })
+words_line ignores read line (Ok (Stands_end end)) words gives = absurd gives
+words_line ignores read line (Err (Refused n why)) words gives = λ rest. ap (after_next ignores read) (grouped_words line rest words) ∙ next_onto ignores read (taken line) (grouped rest)
+    ∙ next_same ignores (λ ls close. read (taken line ∷ ls) close) (λ ls close. Err (record { line = n; why = why })) (grouped rest) gives ∙ refused (grouped rest) where
+      refused : (gs : Groups) → after_next ignores (λ ls close. Err (record { line = n; why = why })) gs ≡ Err (record { line = n; why = why })
       refused (Group ls close rest) = refl
       refused (Last ls (Over m)) = refl
       refused (Last ls Broken) = refl
       refused (Last ls (LongLine m)) = refl
       refused (Last ls (TooLong m)) = refl
-words_line read line (Err Read) words gives = absurd gives
-words_line read line (Err NoMemory) words gives = tt
+words_line ignores read line (Err Read) words gives = absurd gives
+words_line ignores read line (Err NoMemory) words gives = tt
 
 -- ---- one line of the bytes that are left
 
--- the groups that a broken line leaves have no fault
-fine_broken : (h : History) (b : Block) → IsOk (after_all (resumed h b) (grouped (Ends Broken)))
-fine_broken h b = go (resumed h b [] None) (no_fault_yet h b) where
-  go : (r : Result Taken LineFault) → IsOk r → IsOk (r >>= λ t. Ok t.history)
-  go (Ok t) f = refl
-  go (Err e) f = f
+-- the groups that a broken line leaves are no block, and have no fault
+none_broken : (ignores : Bool) (h : History) (b : Block) → IsNoBlock (after_next ignores (resumed ignores h b) (grouped (Ends Broken)))
+none_broken ignores h b = go (resumed ignores h b [] None) (no_block_yet ignores h b) where
+  go : (r : Result Taken LineFault) → IsNone r → IsNoBlock (r >>= λ t. Ok (record { found = t.counts; history = t.history; left = Last [] Broken }))
+  go (Ok t) none = none
+  go (Err e) none = none
 
-pub turn_line : (h : History) (b : Block) (old new : Reading) (xs ys : List ℕ) (line : Line) (result : Result Turn Stop) (left : Option (List ℕ))
-    → left ≡ Some ys → OneLine old xs line new ys → LineGives (resumed h b) line result → TurnGives (resumed h b) old xs result new left
-turn_line h b old new xs ys line (Ok (Goes kept block)) left is one (h', stands, gives) = (
+pub turn_line : (ignores : Bool) (h : History) (b : Block) (old new : Reading) (xs ys : List ℕ) (line : Line) (result : Result Turn Stop) (left : Option (List ℕ))
+    → left ≡ Some ys → OneLine old xs line new ys → LineGives ignores (resumed ignores h b) line result → TurnGives ignores (resumed ignores h b) old xs result new left
+turn_line ignores h b old new xs ys line (Ok (Goes kept block)) left is one (h', stands, gives) = (
   h',
   stands,
   (
@@ -148,15 +119,15 @@ turn_line h b old new xs ys line (Ok (Goes kept block)) left is one (h', stands,
       front = one.front;
       split = one.split;
       room = one.room;
-      same = ap (λ (l : Left). after_next (resumed h b) (grouped l)) one.ended ∙ (gives (lines_left new true ys)).0;
-      cut = λ d rest e fine. elim (one.cut d rest e) [
-        | inl s ↦ subst (λ (l : Left). IsOk (after_all (resumed h b) (grouped l))) (sym s) (subst IsOk (sym (gives (lines_left new false d)).1) fine)
-        | inr s ↦ subst (λ (l : Left). IsOk (after_all (resumed h b) (grouped l))) (sym s.1) (fine_broken h b)
+      same = ap (λ (l : Left). after_next ignores (resumed ignores h b) (grouped l)) one.ended ∙ gives (lines_left new true ys);
+      cut = λ d rest e. elim (one.cut d rest e) [
+        | inl s ↦ inl (ap (λ (l : Left). after_next ignores (resumed ignores h b) (grouped l)) s ∙ gives (lines_left new false d))
+        | inr s ↦ inr (s.0, subst (λ (l : Left). IsNoBlock (after_next ignores (resumed ignores h b) (grouped l))) (sym s.1) (none_broken ignores h b))
       ];
     },
   ),
 )
-turn_line h b old new xs ys line (Ok (Stands_end end)) left is one (h', stands, over, gives) = (
+turn_line ignores h b old new xs ys line (Ok (Stands_end end)) left is one (h', stands, over, gives) = (
   h',
   stands,
   (
@@ -167,29 +138,33 @@ turn_line h b old new xs ys line (Ok (Stands_end end)) left is one (h', stands, 
       split = one.split;
       room = one.room;
       nothing = λ first last. absurd (cc (last, over));
-      takes = ap (λ (l : Left). after_next (resumed h b) (grouped l)) one.ended ∙ (gives (lines_left new true ys)).0
+      takes = ap (λ (l : Left). after_next ignores (resumed ignores h b) (grouped l)) one.ended ∙ gives (lines_left new true ys)
           ∙ ap (λ (o : Bool). Ok (record { found = end.found; history = h'; left = groups_left o new true ys })) (sym over);
-      cut = λ d rest e fine. elim (one.cut d rest e) [
-        | inl s ↦ subst (λ (l : Left). IsOk (after_all (resumed h b) (grouped l))) (sym s)
-            (subst IsOk (sym (gives (lines_left new false d)).1) (subst (λ (o : Bool). IsOk (after_all (effect_of h') (groups_left o new false d))) over fine))
-        | inr s ↦ subst (λ (l : Left). IsOk (after_all (resumed h b) (grouped l))) (sym s.1) (fine_broken h b)
+      cut = λ d rest e. elim (one.cut d rest e) [
+        | inl s ↦ inl (ap (λ (l : Left). after_next ignores (resumed ignores h b) (grouped l)) s ∙ gives (lines_left new false d)
+            ∙ ap (λ (o : Bool). Ok (record { found = end.found; history = h'; left = groups_left o new false d })) (sym over))
+        | inr s ↦ inr (s.0, subst (λ (l : Left). IsNoBlock (after_next ignores (resumed ignores h b) (grouped l))) (sym s.1) (none_broken ignores h b))
       ];
     },
   ),
 )
-turn_line h b old new xs ys line (Err (Refused n why)) left is one gives = ap (λ (l : Left). after_next (resumed h b) (grouped l)) one.ended ∙ gives (lines_left new true ys)
-turn_line h b old new xs ys line (Err Read) left is one gives = absurd gives
-turn_line h b old new xs ys line (Err NoMemory) left is one gives = tt
+turn_line ignores h b old new xs ys line (Err (Refused n why)) left is one gives = ap (λ (l : Left). after_next ignores (resumed ignores h b) (grouped l)) one.ended ∙ gives (lines_left new true ys)
+turn_line ignores h b old new xs ys line (Err Read) left is one gives = absurd gives
+turn_line ignores h b old new xs ys line (Err NoMemory) left is one gives = tt
 
 nothing_left : (d rest : List ℕ) → [] ≡ d ++ rest → d ≡ []
 nothing_left [] rest e = refl
 nothing_left (b ∷ bs) rest e = absurd (cc (e))
 
-pub turn_end : (h : History) (b : Block) (old new : Reading) (xs : List ℕ) (result : Result Turn Stop) (left : Option (List ℕ))
+nothing_behind : (front zs : List ℕ) → [] ≡ front ++ zs → zs ≡ []
+nothing_behind [] zs e = sym e
+nothing_behind (b ∷ bs) zs e = absurd (cc (e))
+
+pub turn_end : (ignores : Bool) (h : History) (b : Block) (old new : Reading) (xs : List ℕ) (result : Result Turn Stop) (left : Option (List ℕ))
     → left ≡ Some [] → xs ≡ [] → lines_left old true xs ≡ Ends (Over (old.number + 1)) → new.number ≡ old.number → room_of new ≡ room_of old
-    → EndGives (resumed h b) (old.number + 1) result → TurnGives (resumed h b) old xs result new left
-turn_end h b old new xs (Ok (Goes kept block)) left is none over number room gives = absurd gives
-turn_end h b old new xs (Ok (Stands_end end)) left is none over number room (h', stands, ends, gives) = (
+    → EndGives ignores (resumed ignores h b) (old.number + 1) result → TurnGives ignores (resumed ignores h b) old xs result new left
+turn_end ignores h b old new xs (Ok (Goes kept block)) left is none over number room gives = absurd gives
+turn_end ignores h b old new xs (Ok (Stands_end end)) left is none over number room (h', stands, ends, gives) = (
   h',
   stands,
   (
@@ -200,61 +175,65 @@ turn_end h b old new xs (Ok (Stands_end end)) left is none over number room (h',
       split = none;
       room = room ∙ omega arith;
       nothing = λ first last. refl;
-      takes = ap (λ (l : Left). after_next (resumed h b) (grouped l)) over ∙ gives
+      takes = ap (λ (l : Left). after_next ignores (resumed ignores h b) (grouped l)) over ∙ gives
           ∙ ap (λ (n : ℕ). Ok (record { found = end.found; history = h'; left = Last [] (Over (n + 1)) })) (sym number)
           ∙ ap (λ (o : Bool). Ok (record { found = end.found; history = h'; left = groups_left o new true [] })) (sym ends);
-      cut = λ d rest e fine. subst (λ (l : List ℕ). IsOk (after_all (resumed h b) (grouped (lines_left old false l)))) (sym (nothing_left d rest e))
-          (subst (λ (l : Left). IsOk (after_all (resumed h b) (grouped l))) (sym (at_break old)) (fine_broken h b));
+      cut = λ d rest e. let none = nothing_left d rest e in
+          inr (
+            refl,
+            subst (λ (l : List ℕ). IsNoBlock (after_next ignores (resumed ignores h b) (grouped (lines_left old false l)))) (sym none)
+                (subst (λ (l : Left). IsNoBlock (after_next ignores (resumed ignores h b) (grouped l))) (sym (at_break old)) (none_broken ignores h b)),
+          );
     },
   ),
 )
-turn_end h b old new xs (Err (Refused n why)) left is none over number room gives = ap (λ (l : Left). after_next (resumed h b) (grouped l)) over ∙ gives
-turn_end h b old new xs (Err Read) left is none over number room gives = absurd gives
-turn_end h b old new xs (Err NoMemory) left is none over number room gives = tt
+turn_end ignores h b old new xs (Err (Refused n why)) left is none over number room gives = ap (λ (l : Left). after_next ignores (resumed ignores h b) (grouped l)) over ∙ gives
+turn_end ignores h b old new xs (Err Read) left is none over number room gives = absurd gives
+turn_end ignores h b old new xs (Err NoMemory) left is none over number room gives = tt
 
 -- the fault of a line that is too long, behind a block that holds none
-faulty : (h : History) (b : Block) (n : ℕ) (why : Why) → then_fault n why (resumed h b [] None) ≡ Err (record { line = n; why = why })
-faulty h b n why = go (resumed h b [] None) (no_fault_yet h b) where
-  go : (r : Result Taken LineFault) → IsOk r → then_fault n why r ≡ Err (record { line = n; why = why })
-  go (Ok t) f = refl
-  go (Err e) f = cc
+faulty : (ignores : Bool) (h : History) (b : Block) (n : ℕ) (why : Why) → then_fault n why (resumed ignores h b [] None) ≡ Err (record { line = n; why = why })
+faulty ignores h b n why = go (resumed ignores h b [] None) (no_block_yet ignores h b) where
+  go : (r : Result Taken LineFault) → IsNone r → then_fault n why r ≡ Err (record { line = n; why = why })
+  go (Ok t) none = refl
+  go (Err e) none = absurd none
 
-pub turn_fault : (h : History) (b : Block) (old new : Reading) (xs : List ℕ) (left : Option (List ℕ)) (fault : fault.LineFault)
-    → Gives old xs (Err fault) new left → TurnGives (resumed h b) old xs (Err (unread fault)) new left
-turn_fault h b old new xs left line.Read gives = record {
+pub turn_fault : (ignores : Bool) (h : History) (b : Block) (old new : Reading) (xs : List ℕ) (left : Option (List ℕ)) (fault : fault.LineFault)
+    → Gives old xs (Err fault) new left → TurnGives ignores (resumed ignores h b) old xs (Err (unread fault)) new left
+turn_fault ignores h b old new xs left line.Read gives = record {
   front = gives.0;
   rest = gives.1.0;
   split = gives.1.1;
   left_is = gives.1.2;
-  fine = subst (λ (l : Left). IsOk (after_all (resumed h b) (grouped l))) (sym gives.1.3) (fine_broken h b);
+  fine = subst (λ (l : Left). IsNoBlock (after_next ignores (resumed ignores h b) (grouped l))) (sym gives.1.3) (none_broken ignores h b);
 }
-turn_fault h b old new xs left (line.LongLine n) gives =
-    ap (λ (l : Left). after_next (resumed h b) (grouped l)) (gives true)
-    ∙ ap (λ (r : Result Taken LineFault). r >>= λ t. Ok (record { found = t.counts; history = t.history; left = Last [] (LongLine n) })) (faulty h b n WhyLong)
-turn_fault h b old new xs left (line.TooLong n) gives =
-    ap (λ (l : Left). after_next (resumed h b) (grouped l)) (gives true)
-    ∙ ap (λ (r : Result Taken LineFault). r >>= λ t. Ok (record { found = t.counts; history = t.history; left = Last [] (TooLong n) })) (faulty h b n WhyMany)
-turn_fault h b old new xs left line.NoMemory gives = tt
+turn_fault ignores h b old new xs left (line.LongLine n) gives =
+    ap (λ (l : Left). after_next ignores (resumed ignores h b) (grouped l)) (gives true)
+    ∙ ap (λ (r : Result Taken LineFault). r >>= λ t. Ok (record { found = t.counts; history = t.history; left = Last [] (LongLine n) })) (faulty ignores h b n WhyLong)
+turn_fault ignores h b old new xs left (line.TooLong n) gives =
+    ap (λ (l : Left). after_next ignores (resumed ignores h b) (grouped l)) (gives true)
+    ∙ ap (λ (r : Result Taken LineFault). r >>= λ t. Ok (record { found = t.counts; history = t.history; left = Last [] (TooLong n) })) (faulty ignores h b n WhyMany)
+turn_fault ignores h b old new xs left line.NoMemory gives = tt
 
 -- ---- what one call of `next` tells
 
-pub told_line : (h : History) (b : Block) (old new : Reading) (o left : Option (List ℕ)) (line : Line) (result : Result Turn Stop)
-    → IsNext old o (Ok (Some line)) new left → LineGives (resumed h b) line result → IfSome o (λ xs. TurnGives (resumed h b) old xs result new left)
-told_line h b old new None left line result next does = tt
-told_line h b old new (Some xs) left line result next does =
-    turn_line h b old new xs next.gives.0 line result left next.gives.1 next.gives.2 does
+pub told_line : (ignores : Bool) (h : History) (b : Block) (old new : Reading) (o left : Option (List ℕ)) (line : Line) (result : Result Turn Stop)
+    → IsNext old o (Ok (Some line)) new left → LineGives ignores (resumed ignores h b) line result → IfSome o (λ xs. TurnGives ignores (resumed ignores h b) old xs result new left)
+told_line ignores h b old new None left line result next does = tt
+told_line ignores h b old new (Some xs) left line result next does =
+    turn_line ignores h b old new xs next.gives.0 line result left next.gives.1 next.gives.2 does
 
-pub told_end : (h : History) (b : Block) (old new : Reading) (o left : Option (List ℕ)) (result : Result Turn Stop)
-    → IsNext old o (Ok None) new left → EndGives (resumed h b) (old.number + 1) result → IfSome o (λ xs. TurnGives (resumed h b) old xs result new left)
-told_end h b old new None left result next does = tt
-told_end h b old new (Some xs) left result next does =
+pub told_end : (ignores : Bool) (h : History) (b : Block) (old new : Reading) (o left : Option (List ℕ)) (result : Result Turn Stop)
+    → IsNext old o (Ok None) new left → EndGives ignores (resumed ignores h b) (old.number + 1) result → IfSome o (λ xs. TurnGives ignores (resumed ignores h b) old xs result new left)
+told_end ignores h b old new None left result next does = tt
+told_end ignores h b old new (Some xs) left result next does =
     let room : room_of new ≡ room_of old = ap (λ (l : Limits). l.total - new.total) next.limits_stay ∙ ap (λ (t : ℕ). old.limits.total - t) next.counts.1 in
-    turn_end h b old new xs result left next.gives.1 next.gives.0 (ap (lines_left old true) next.gives.0 ∙ at_end old) next.counts.2 room does
+    turn_end ignores h b old new xs result left next.gives.1 next.gives.0 (ap (lines_left old true) next.gives.0 ∙ at_end old) next.counts.2 room does
 
-pub told_fault : (h : History) (b : Block) (old new : Reading) (o left : Option (List ℕ)) (fault : fault.LineFault)
-    → IsNext old o (Err fault) new left → IfSome o (λ xs. TurnGives (resumed h b) old xs (Err (unread fault)) new left)
-told_fault h b old new None left fault next = tt
-told_fault h b old new (Some xs) left fault next = turn_fault h b old new xs left fault next.gives
+pub told_fault : (ignores : Bool) (h : History) (b : Block) (old new : Reading) (o left : Option (List ℕ)) (fault : fault.LineFault)
+    → IsNext old o (Err fault) new left → IfSome o (λ xs. TurnGives ignores (resumed ignores h b) old xs (Err (unread fault)) new left)
+told_fault ignores h b old new None left fault next = tt
+told_fault ignores h b old new (Some xs) left fault next = turn_fault ignores h b old new xs left fault next.gives
 
 -- ---- counts
 
@@ -292,14 +271,14 @@ never_read_end (Err NoMemory) shape e = cc (e)
 
 -- ---- line after line
 
-abbrev pub Goes_to : Reads Taken → Reading → List ℕ → Kept → Block → Reading → Option (List ℕ) → Type 0
-Goes_to read r xs kept block new left = TurnGives read r xs (Ok (Goes kept block)) new left
+abbrev pub Goes_to : Bool → Reads Taken → Reading → List ℕ → Kept → Block → Reading → Option (List ℕ) → Type 0
+Goes_to ignores read r xs kept block new left = TurnGives ignores read r xs (Ok (Goes kept block)) new left
 
 -- no line was read yet
-pub begun : (h : History) (kept : Kept) (block : Block) (r : Reading) (o : Option (List ℕ)) → Stands kept h
-    → ((ls : List Line) (close : Option ℕ) → resumed h block ls close ≡ effect_of h ls close) → IfSome o (λ xs. Goes_to (effect_of h) r xs kept block r o)
-begun h kept block r None stands begins = tt
-begun h kept block r (Some xs) stands begins = (
+pub begun : (ignores : Bool) (h : History) (kept : Kept) (block : Block) (r : Reading) (o : Option (List ℕ)) → Stands kept h
+    → ((ls : List Line) (close : Option ℕ) → resumed ignores h block ls close ≡ effect_of ignores h ls close) → IfSome o (λ xs. Goes_to ignores (effect_of ignores h) r xs kept block r o)
+begun ignores h kept block r None stands begins = tt
+begun ignores h kept block r (Some xs) stands begins = (
   h,
   stands,
   (
@@ -309,8 +288,8 @@ begun h kept block r (Some xs) stands begins = (
       front = [];
       split = refl;
       room = omega arith;
-      same = sym (next_same (resumed h block) (effect_of h) (groups_left false r true xs) begins);
-      cut = λ d rest e fine. subst IsOk (all_same (resumed h block) (effect_of h) (groups_left false r false d) begins) fine;
+      same = sym (next_same ignores (resumed ignores h block) (effect_of ignores h) (groups_left false r true xs) begins);
+      cut = λ d rest e. inl (sym (next_same ignores (resumed ignores h block) (effect_of ignores h) (groups_left false r false d) begins));
     },
   ),
 )
@@ -321,63 +300,69 @@ split_on xs front ys more zs e f = e ∙ ap (λ (l : List ℕ). front ++ l) f �
 pub room_on : (a b c : ℕ) (front more : List ℕ) → b ≡ a - length front → c ≡ b - length more → c ≡ a - length (front ++ more)
 room_on a b c front more e f = omega (arith, e, f, length-append front more)
 
-moves_on : (read mid read' : Reads Taken) (r new last : Reading) (xs ys zs : List ℕ) → Moves read r xs mid new ys → Moves mid new ys read' last zs → Moves read r xs read' last zs
-moves_on read mid read' r new last xs ys zs a b = record {
+-- a cut behind one step is a cut behind two
+cut_on : (first mid last : Result Stepped LineFault) (ys front zs : List ℕ) → ys ≡ front ++ zs → IsCutAlike first mid ys → IsCutAlike mid last zs → IsCutAlike first last zs
+cut_on first mid last ys front zs e (inl same) (inl more) = inl (same ∙ more)
+cut_on first mid last ys front zs e (inl same) (inr none) = inr (none.0, subst IsNoBlock (sym same) none.1)
+cut_on first mid last ys front zs e (inr none) more = inr (nothing_behind front zs (sym none.0 ∙ e), none.1)
+
+moves_on : (ignores : Bool) (read mid read' : Reads Taken) (r new last : Reading) (xs ys zs : List ℕ) → Moves ignores read r xs mid new ys → Moves ignores mid new ys read' last zs → Moves ignores read r xs read' last zs
+moves_on ignores read mid read' r new last xs ys zs a b = record {
   front = a.front ++ b.front;
   split = split_on xs a.front ys b.front zs a.split b.split;
   room = room_on (room_of r) (room_of new) (room_of last) a.front b.front a.room b.room;
   same = a.same ∙ b.same;
-  cut = λ d rest e fine. subst (λ (l : List ℕ). IsOk (after_all read (groups_left false r false l))) (sym (append_assoc a.front b.front d))
-      (a.cut (b.front ++ d) rest (split_on ys b.front zs d rest b.split e) (b.cut d rest e fine));
+  cut = λ d rest e. subst (λ (l : List ℕ). IsCutAlike (after_next ignores read (groups_left false r false l)) (after_next ignores read' (groups_left false last false d)) zs) (sym (append_assoc a.front b.front d))
+      (cut_on _ _ _ ys b.front zs b.split (a.cut (b.front ++ d) rest (split_on ys b.front zs d rest b.split e)) (b.cut d rest e));
 }
 
-steps_on : (read mid : Reads Taken) (r new last : Reading) (xs ys zs : List ℕ) (found over : Bool) (h : History) → Moves read r xs mid new ys → Steps mid false new ys found h over last zs → Steps read false r xs found h over last zs
-steps_on read mid r new last xs ys zs found over h a b = record {
+steps_on : (ignores : Bool) (read mid : Reads Taken) (r new last : Reading) (xs ys zs : List ℕ) (found over : Bool) (h : History) → Moves ignores read r xs mid new ys → Steps ignores mid false new ys found h over last zs → Steps ignores read false r xs found h over last zs
+steps_on ignores read mid r new last xs ys zs found over h a b = record {
   front = a.front ++ b.front;
   split = split_on xs a.front ys b.front zs a.split b.split;
   room = room_on (room_of r) (room_of new) (room_of last) a.front b.front a.room b.room;
   nothing = λ first. b.nothing (λ e. absurd (cc (e)));
   takes = a.same ∙ b.takes;
-  cut = λ d rest e fine. subst (λ (l : List ℕ). IsOk (after_all read (groups_left false r false l))) (sym (append_assoc a.front b.front d))
-      (a.cut (b.front ++ d) rest (split_on ys b.front zs d rest b.split e) (b.cut d rest e fine));
+  cut = λ d rest e. subst (λ (l : List ℕ). IsCutAlike (after_next ignores read (groups_left false r false l)) (Ok (record { found = found; history = h; left = groups_left over last false d })) zs) (sym (append_assoc a.front b.front d))
+      (cut_on _ _ _ ys b.front zs b.split (a.cut (b.front ++ d) rest (split_on ys b.front zs d rest b.split e)) (b.cut d rest e));
 }
 
-stops_on : (read mid : Reads Taken) (r new : Reading) (xs ys : List ℕ) (left : Option (List ℕ)) → Moves read r xs mid new ys → Stops mid false new ys left → Stops read false r xs left
-stops_on read mid r new xs ys left a b = record {
+stops_on : (ignores : Bool) (read mid : Reads Taken) (r new : Reading) (xs ys : List ℕ) (left : Option (List ℕ)) → Moves ignores read r xs mid new ys → Stops ignores mid false new ys left → Stops ignores read false r xs left
+stops_on ignores read mid r new xs ys left a b = record {
   front = a.front ++ b.front;
   rest = b.rest;
   split = split_on xs a.front ys b.front b.rest a.split b.split;
   left_is = b.left_is;
-  fine = subst (λ (l : List ℕ). IsOk (after_all read (groups_left false r false l))) refl (a.cut b.front b.rest b.split b.fine);
+  fine = elim (a.cut b.front b.rest b.split) [ inl same ↦ subst IsNoBlock (sym same) b.fine | inr none ↦ none.1 ];
 }
 
-pub turn_on : (read : Reads Taken) (r new last : Reading) (xs : List ℕ) (kept : Kept) (block : Block) (mid left : Option (List ℕ)) (result : Result Turn Stop)
-    → Goes_to read r xs kept block new mid
-    → ((h : History) → Stands kept h → IfSome mid (λ ys. TurnGives (resumed h block) new ys result last left))
-    → TurnGives read r xs result last left
-turn_on read r new last xs kept block mid left result (h, stands, (ys, is, moves)) turn = go result (subst (λ (o : Option (List ℕ)). IfSome o (λ ys. TurnGives (resumed h block) new ys result last left)) is (turn h stands)) where
-  go : (result : Result Turn Stop) → TurnGives (resumed h block) new ys result last left → TurnGives read r xs result last left
-  go (Ok (Goes k b)) (h', s, (zs, e, m)) = (h', s, (zs, e, moves_on read (resumed h block) (resumed h' b) r new last xs ys zs moves m))
-  go (Ok (Stands_end end)) (h', s, (zs, e, m)) = (h', s, (zs, e, steps_on read (resumed h block) r new last xs ys zs end.found end.is_over h' moves m))
+pub turn_on : (ignores : Bool) (read : Reads Taken) (r new last : Reading) (xs : List ℕ) (kept : Kept) (block : Block) (mid left : Option (List ℕ)) (result : Result Turn Stop)
+    → Goes_to ignores read r xs kept block new mid
+    → ((h : History) → Stands kept h → IfSome mid (λ ys. TurnGives ignores (resumed ignores h block) new ys result last left))
+    → TurnGives ignores read r xs result last left
+turn_on ignores read r new last xs kept block mid left result (h, stands, (ys, is, moves)) turn = go result (subst (λ (o : Option (List ℕ)). IfSome o (λ ys. TurnGives ignores (resumed ignores h block) new ys result last left)) is (turn h stands)) where
+  go : (result : Result Turn Stop) → TurnGives ignores (resumed ignores h block) new ys result last left → TurnGives ignores read r xs result last left
+  go (Ok (Goes k b)) (h', s, (zs, e, m)) = (h', s, (zs, e, moves_on ignores read (resumed ignores h block) (resumed ignores h' b) r new last xs ys zs moves m))
+  go (Ok (Stands_end end)) (h', s, (zs, e, m)) = (h', s, (zs, e, steps_on ignores read (resumed ignores h block) r new last xs ys zs end.found end.is_over h' moves m))
   go (Err (Refused line why)) gives = moves.same ∙ gives
-  go (Err Read) gives = stops_on read (resumed h block) r new xs ys left moves gives
+  go (Err Read) gives = stops_on ignores read (resumed ignores h block) r new xs ys left moves gives
   go (Err NoMemory) gives = tt
 
-pub told_on : (read : Reads Taken) (r new last : Reading) (o mid left : Option (List ℕ)) (kept : Kept) (block : Block) (result : Result Turn Stop)
-    → IfSome o (λ xs. Goes_to read r xs kept block new mid)
-    → ((h : History) → Stands kept h → IfSome mid (λ ys. TurnGives (resumed h block) new ys result last left))
-    → IfSome o (λ xs. TurnGives read r xs result last left)
-told_on read r new last None mid left kept block result goes turn = tt
-told_on read r new last (Some xs) mid left kept block result goes turn = turn_on read r new last xs kept block mid left result goes turn
+pub told_on : (ignores : Bool) (read : Reads Taken) (r new last : Reading) (o mid left : Option (List ℕ)) (kept : Kept) (block : Block) (result : Result Turn Stop)
+    → IfSome o (λ xs. Goes_to ignores read r xs kept block new mid)
+    → ((h : History) → Stands kept h → IfSome mid (λ ys. TurnGives ignores (resumed ignores h block) new ys result last left))
+    → IfSome o (λ xs. TurnGives ignores read r xs result last left)
+told_on ignores read r new last None mid left kept block result goes turn = tt
+told_on ignores read r new last (Some xs) mid left kept block result goes turn = turn_on ignores read r new last xs kept block mid left result goes turn
 
-pub told_stop : (read : Reads Taken) (r last : Reading) (o left : Option (List ℕ)) (stop : Stop) → IfSome o (λ xs. TurnGives read r xs (Err stop) last left) → IfSome o (λ xs. BlockGives read false r xs (Err stop) last left)
-told_stop read r last None left stop gives = tt
-told_stop read r last (Some xs) left (Refused line why) gives = gives
-told_stop read r last (Some xs) left Read gives = gives
-told_stop read r last (Some xs) left NoMemory gives = gives
+pub told_stop : (ignores : Bool) (read : Reads Taken) (r last : Reading) (o left : Option (List ℕ)) (stop : Stop) → IfSome o (λ xs. TurnGives ignores read r xs (Err stop) last left) → IfSome o (λ xs. BlockGives ignores read false r xs (Err stop) last left)
+told_stop ignores read r last None left stop gives = tt
+told_stop ignores read r last (Some xs) left (Refused line why) gives = gives
+told_stop ignores read r last (Some xs) left Read gives = gives
+told_stop ignores read r last (Some xs) left NoMemory gives = gives
 
 -- at the file's end nothing is read
-pub still_over : (s : Session) (h : History) (r : Reading) (o : Option (List ℕ)) → s.is_over ≡ true → Stands s.kept h → IfSome o (λ xs. Answers s h r xs (Ok (s, false)) r o)
+pub still_over : {F : Type 0} (s : Session F) (h : History) (r : Reading) (o : Option (List ℕ)) → s.is_over ≡ true → Stands s.kept h → IfSome o (λ xs. Answers s h r xs (Ok (s, false)) r o)
 still_over s h r None over stands = tt
 still_over s h r (Some xs) over stands = (
   h,
@@ -390,49 +375,50 @@ still_over s h r (Some xs) over stands = (
       split = refl;
       room = omega arith;
       nothing = λ first last. first last;
-      takes = subst (λ (o : Bool). after_next (effect_of h) (groups_left o r true xs) ≡ Ok (record { found = false; history = h; left = groups_left o r true xs })) (sym over)
-          (ap (λ (t : Result Taken LineFault). t >>= λ t. Ok (record { found = t.counts; history = t.history; left = Last [] (Over (r.number + 1)) })) (no_lines h (Some (r.number + 1))));
-      cut = λ d rest e fine. fine;
+      takes = subst (λ (o : Bool). after_next (ignores_of s) (effect_of (ignores_of s) h) (groups_left o r true xs) ≡ Ok (record { found = false; history = h; left = groups_left o r true xs })) (sym over)
+          (ap (λ (t : Result Taken LineFault). t >>= λ t. Ok (record { found = t.counts; history = t.history; left = Last [] (Over (r.number + 1)) })) (no_lines (ignores_of s) h (Some (r.number + 1))));
+      cut = λ d rest e. inl (subst (λ (o : Bool). after_next (ignores_of s) (effect_of (ignores_of s) h) (groups_left o r false d) ≡ Ok (record { found = false; history = h; left = groups_left o r false d })) (sym over)
+          (ap (λ (t : Result Taken LineFault). t >>= λ t. Ok (record { found = t.counts; history = t.history; left = Last [] (Over (r.number + 1)) })) (no_lines (ignores_of s) h (Some (r.number + 1)))));
     },
   ),
 )
 
 -- ---- block after block
 
-abbrev then_all : Groups → Result Taken LineFault → Result History LineFault
-then_all rest r = r >>= λ t. after_all (effect_of t.history) rest
+abbrev then_all : Bool → Groups → Result Taken LineFault → Result History LineFault
+then_all ignores rest r = r >>= λ t. after_all ignores (effect_of ignores t.history) rest
 
 never : (n : ℕ) (why : Why) (r : Result Taken LineFault) (t : Taken) → then_fault n why r ≡ Ok t → ⊥
 never n why (Ok u) t e = cc (e)
 never n why (Err f) t e = cc (e)
 
 -- what a step through the groups says of all of them
-abbrev pub Follows : Reads Taken → Groups → Result Stepped LineFault → Type 0
-Follows read gs (Ok step) = (after_all read gs ≡ after_all (effect_of step.history) step.left) × (step.found ≡ false → after_all read gs ≡ Ok step.history)
-Follows read gs (Err e) = after_all read gs ≡ Err e
+abbrev pub Follows : Bool → Reads Taken → Groups → Result Stepped LineFault → Type 0
+Follows ignores read gs (Ok step) = (after_all ignores read gs ≡ after_all ignores (effect_of ignores step.history) step.left) × (step.found ≡ false → after_all ignores read gs ≡ Ok step.history)
+Follows ignores read gs (Err e) = after_all ignores read gs ≡ Err e
 
-pub follows : (read : Reads Taken) (gs : Groups) → Follows read gs (after_next read gs)
-follows read (Group ls close rest) = go (read ls (Some close)) (λ h. follows (effect_of h) rest) refl where
-  counted : (t : Taken) (c : Bool) → t.counts ≡ c → read ls (Some close) ≡ Ok t → Follows (effect_of t.history) rest (after_next (effect_of t.history) rest)
-      → Follows read (Group ls close rest) (if c then Ok (record { found = true; history = t.history; left = rest }) else after_next (effect_of t.history) rest)
-  counted t true e is more = (ap (then_all rest) is, λ f. absurd (cc (f)))
-  counted t false e is more = on (after_next (effect_of t.history) rest) more where
-    on : (r : Result Stepped LineFault) → Follows (effect_of t.history) rest r → Follows read (Group ls close rest) r
-    on (Ok step) f = (ap (then_all rest) is ∙ f.0, λ n. ap (then_all rest) is ∙ f.1 n)
-    on (Err e) f = ap (then_all rest) is ∙ f
+pub follows : (ignores : Bool) (read : Reads Taken) (gs : Groups) → Follows ignores read gs (after_next ignores read gs)
+follows ignores read (Group ls close rest) = go (read ls (Some close)) (λ h. follows ignores (effect_of ignores h) rest) refl where
+  counted : (t : Taken) (c : Bool) → t.counts ≡ c → read ls (Some close) ≡ Ok t → Follows ignores (effect_of ignores t.history) rest (after_next ignores (effect_of ignores t.history) rest)
+      → Follows ignores read (Group ls close rest) (if c then Ok (record { found = true; history = t.history; left = rest }) else after_next ignores (effect_of ignores t.history) rest)
+  counted t true e is more = (ap (then_all ignores rest) is, λ f. absurd (cc (f)))
+  counted t false e is more = on (after_next ignores (effect_of ignores t.history) rest) more where
+    on : (r : Result Stepped LineFault) → Follows ignores (effect_of ignores t.history) rest r → Follows ignores read (Group ls close rest) r
+    on (Ok step) f = (ap (then_all ignores rest) is ∙ f.0, λ n. ap (then_all ignores rest) is ∙ f.1 n)
+    on (Err e) f = ap (then_all ignores rest) is ∙ f
 
-  go : (r : Result Taken LineFault) → ((h : History) → Follows (effect_of h) rest (after_next (effect_of h) rest)) → read ls (Some close) ≡ r
-      → Follows read (Group ls close rest) (r >>= λ t. stop_or t rest (after_next (effect_of t.history) rest))
-  go (Err e) more is = ap (then_all rest) is
+  go : (r : Result Taken LineFault) → ((h : History) → Follows ignores (effect_of ignores h) rest (after_next ignores (effect_of ignores h) rest)) → read ls (Some close) ≡ r
+      → Follows ignores read (Group ls close rest) (r >>= λ t. stop_or t rest (after_next ignores (effect_of ignores t.history) rest))
+  go (Err e) more is = ap (then_all ignores rest) is
   go (Ok t) more is = counted t t.counts refl is (more t.history)
-follows read (Last ls end) = go (after_last read ls end) refl where
-  empty : (h : History) (end : End) → (t : Taken) → after_last read ls end ≡ Ok t → after_all (effect_of h) (Last [] end) ≡ Ok h
-  empty h (Over n) t e = ap (λ (r : Result Taken LineFault). r >>= λ t. Ok t.history) (no_lines h (Some n))
-  empty h Broken t e = ap (λ (r : Result Taken LineFault). r >>= λ t. Ok t.history) (no_lines h None)
+follows ignores read (Last ls end) = go (after_last read ls end) refl where
+  empty : (h : History) (end : End) → (t : Taken) → after_last read ls end ≡ Ok t → after_all ignores (effect_of ignores h) (Last [] end) ≡ Ok h
+  empty h (Over n) t e = ap (λ (r : Result Taken LineFault). r >>= λ t. Ok t.history) (no_lines ignores h (Some n))
+  empty h Broken t e = ap (λ (r : Result Taken LineFault). r >>= λ t. Ok t.history) (no_lines ignores h None)
   empty h (LongLine n) t e = absurd (never n WhyLong (read ls None) t e)
   empty h (TooLong n) t e = absurd (never n WhyMany (read ls None) t e)
 
-  go : (r : Result Taken LineFault) → after_last read ls end ≡ r → Follows read (Last ls end) (r >>= λ t. Ok (record { found = t.counts; history = t.history; left = Last [] end }))
+  go : (r : Result Taken LineFault) → after_last read ls end ≡ r → Follows ignores read (Last ls end) (r >>= λ t. Ok (record { found = t.counts; history = t.history; left = Last [] end }))
   go (Err e) is = ap (λ (r : Result Taken LineFault). r >>= λ t. Ok t.history) is
   go (Ok t) is = let all = ap (λ (r : Result Taken LineFault). r >>= λ t. Ok t.history) is in (all ∙ sym (empty t.history end t is), λ n. all)
 
@@ -442,32 +428,32 @@ empty_len (b ∷ bs) = eqb-suc-zero (length bs)
 
 -- ---- one line, whose end of a block is made apart
 
-pub words_step : (kept : Kept) (read : Reads Taken) (line : Line) (block : Block) → is_blank_line line ≡ false → WordsGive read (taken line) (Ok (Goes kept block)) → LineStep kept block read line (Ok More)
-words_step kept read line block words gives = words_line read line (Ok (Goes kept block)) words gives
+pub words_step : (ignores : Bool) (kept : Kept) (read : Reads Taken) (line : Line) (block : Block) → is_blank_line line ≡ false → WordsGive ignores read (taken line) (Ok (Goes kept block)) → LineStep ignores kept block read line (Ok More)
+words_step ignores kept read line block words gives = words_line ignores read line (Ok (Goes kept block)) words gives
 
-pub words_fault : (kept : Kept) (block : Block) (read : Reads Taken) (line : Line) (stop : Stop) → is_blank_line line ≡ false → WordsGive read (taken line) (Err stop) → LineStep kept block read line (Err stop)
-words_fault kept block read line stop words gives = words_line read line (Err stop) words gives
+pub words_fault : (ignores : Bool) (kept : Kept) (block : Block) (read : Reads Taken) (line : Line) (stop : Stop) → is_blank_line line ≡ false → WordsGive ignores read (taken line) (Err stop) → LineStep ignores kept block read line (Err stop)
+words_fault ignores kept block read line stop words gives = words_line ignores read line (Err stop) words gives
 
-pub blank_step : (kept : Kept) (read : Reads Taken) (line : Line) (block : Block) → is_blank_line line ≡ true → LineStep kept block read line (Ok (Ended line.number false))
-blank_step kept read line block blank turn gives = blank_line read line turn blank gives
+pub blank_step : (ignores : Bool) (kept : Kept) (read : Reads Taken) (line : Line) (block : Block) → is_blank_line line ≡ true → LineStep ignores kept block read line (Ok (Ended line.number false))
+blank_step ignores kept read line block blank turn gives = blank_line ignores read line turn blank gives
 
-pub step_line : (h : History) (kept : Kept) (b block : Block) (old new : Reading) (o left : Option (List ℕ)) (line : Line) (result : Result Step Stop)
-    → IsNext old o (Ok (Some line)) new left → LineStep kept block (resumed h b) line result → IfSome o (λ xs. StepGives kept block (resumed h b) old xs result new left)
-step_line h kept b block old new None left line result next does = tt
-step_line h kept b block old new (Some xs) left line (Ok More) next does = told_line h b old new (Some xs) left line (Ok (Goes kept block)) next does
-step_line h kept b block old new (Some xs) left line (Ok (Ended number over)) next does = λ turn closes. told_line h b old new (Some xs) left line turn next (does turn closes)
-step_line h kept b block old new (Some xs) left line (Err stop) next does = told_line h b old new (Some xs) left line (Err stop) next does
+pub step_line : (ignores : Bool) (h : History) (kept : Kept) (b block : Block) (old new : Reading) (o left : Option (List ℕ)) (line : Line) (result : Result Step Stop)
+    → IsNext old o (Ok (Some line)) new left → LineStep ignores kept block (resumed ignores h b) line result → IfSome o (λ xs. StepGives ignores kept block (resumed ignores h b) old xs result new left)
+step_line ignores h kept b block old new None left line result next does = tt
+step_line ignores h kept b block old new (Some xs) left line (Ok More) next does = told_line ignores h b old new (Some xs) left line (Ok (Goes kept block)) next does
+step_line ignores h kept b block old new (Some xs) left line (Ok (Ended number over)) next does = λ turn closes. told_line ignores h b old new (Some xs) left line turn next (does turn closes)
+step_line ignores h kept b block old new (Some xs) left line (Err stop) next does = told_line ignores h b old new (Some xs) left line (Err stop) next does
 
-pub step_end : (h : History) (kept : Kept) (b block : Block) (old new : Reading) (o left : Option (List ℕ)) (number : ℕ) → number ≡ old.number + 1
-    → IsNext old o (Ok None) new left → IfSome o (λ xs. StepGives kept block (resumed h b) old xs (Ok (Ended number true)) new left)
-step_end h kept b block old new None left number is next = tt
-step_end h kept b block old new (Some xs) left number is next =
-    λ turn closes. told_end h b old new (Some xs) left turn next (subst (λ (n : ℕ). EndGives (resumed h b) n turn) is closes)
+pub step_end : (ignores : Bool) (h : History) (kept : Kept) (b block : Block) (old new : Reading) (o left : Option (List ℕ)) (number : ℕ) → number ≡ old.number + 1
+    → IsNext old o (Ok None) new left → IfSome o (λ xs. StepGives ignores kept block (resumed ignores h b) old xs (Ok (Ended number true)) new left)
+step_end ignores h kept b block old new None left number is next = tt
+step_end ignores h kept b block old new (Some xs) left number is next =
+    λ turn closes. told_end ignores h b old new (Some xs) left turn next (subst (λ (n : ℕ). EndGives ignores (resumed ignores h b) n turn) is closes)
 
-pub step_fault : (h : History) (kept : Kept) (b block : Block) (old new : Reading) (o left : Option (List ℕ)) (fault : fault.LineFault)
-    → IsNext old o (Err fault) new left → IfSome o (λ xs. StepGives kept block (resumed h b) old xs (Err (unread fault)) new left)
-step_fault h kept b block old new None left fault next = tt
-step_fault h kept b block old new (Some xs) left fault next = told_fault h b old new (Some xs) left fault next
+pub step_fault : (ignores : Bool) (h : History) (kept : Kept) (b block : Block) (old new : Reading) (o left : Option (List ℕ)) (fault : fault.LineFault)
+    → IsNext old o (Err fault) new left → IfSome o (λ xs. StepGives ignores kept block (resumed ignores h b) old xs (Err (unread fault)) new left)
+step_fault ignores h kept b block old new None left fault next = tt
+step_fault ignores h kept b block old new (Some xs) left fault next = told_fault ignores h b old new (Some xs) left fault next
 
 pub step_counts : (kept : Kept) (b block : Block) (old new : Reading) (o left : Option (List ℕ)) (line : Line) (result : Result Step Stop)
     → IsNext old o (Ok (Some line)) new left → LineStepShape kept b block result → StepCounts old result new
@@ -501,17 +487,17 @@ fits_at true kept block shape = absurd shape
 fits_at false kept block shape = shape
 
 -- the turn that a line and the end of its block make
-pub closed_on : (h : History) (kept : Kept) (b block : Block) (r new : Reading) (number : ℕ) (over : Bool) (o left : Option (List ℕ)) (turn : Result Turn Stop)
-    → block ≡ b → IfSome o (λ xs. StepGives kept block (resumed h b) r xs (Ok (Ended number over)) new left) → ClosesAt over (resumed h block) number turn
-    → IfSome o (λ xs. TurnGives (resumed h b) r xs turn new left)
-closed_on h kept b block r new number over None left turn same gives closes = tt
-closed_on h kept b block r new number over (Some xs) left turn same gives closes = gives turn (subst (λ (c : Block). ClosesAt over (resumed h c) number turn) same closes)
+pub closed_on : (ignores : Bool) (h : History) (kept : Kept) (b block : Block) (r new : Reading) (number : ℕ) (over : Bool) (o left : Option (List ℕ)) (turn : Result Turn Stop)
+    → block ≡ b → IfSome o (λ xs. StepGives ignores kept block (resumed ignores h b) r xs (Ok (Ended number over)) new left) → ClosesAt ignores over (resumed ignores h block) number turn
+    → IfSome o (λ xs. TurnGives ignores (resumed ignores h b) r xs turn new left)
+closed_on ignores h kept b block r new number over None left turn same gives closes = tt
+closed_on ignores h kept b block r new number over (Some xs) left turn same gives closes = gives turn (subst (λ (c : Block). ClosesAt ignores over (resumed ignores h c) number turn) same closes)
 
 -- ---- the session behind the end of a block
 
-pub block_answers : (s : Session) (h : History) (r new : Reading) (o left : Option (List ℕ)) (end : Ending) (a : Session × Bool) → s.is_over ≡ false
+pub block_answers : {F : Type 0} (s : Session F) (h : History) (r new : Reading) (o left : Option (List ℕ)) (end : Ending) (a : Session F × Bool) → s.is_over ≡ false
     → a.0.kept ≡ end.kept → a.0.is_over ≡ end.is_over → a.1 ≡ end.found
-    → IfSome o (λ xs. BlockGives (effect_of h) false r xs (Ok end) new left) → IfSome o (λ xs. Answers s h r xs (Ok a) new left)
+    → IfSome o (λ xs. BlockGives (ignores_of s) (effect_of (ignores_of s) h) false r xs (Ok end) new left) → IfSome o (λ xs. Answers s h r xs (Ok a) new left)
 block_answers s h r new None left end a begun kept over found gives = tt
 block_answers s h r new (Some xs) left end a begun kept over found (h', stands, (ys, is, steps)) = (
   h',
@@ -519,9 +505,9 @@ block_answers s h r new (Some xs) left end a begun kept over found (h', stands, 
   (
     ys,
     is,
-    subst (λ (b : Bool). Steps (effect_of h) b r xs a.1 h' a.0.is_over new ys) (sym begun)
-        (subst (λ (b : Bool). Steps (effect_of h) false r xs b h' a.0.is_over new ys) (sym found)
-        (subst (λ (b : Bool). Steps (effect_of h) false r xs end.found h' b new ys) (sym over) steps)),
+    subst (λ (b : Bool). Steps (ignores_of s) (effect_of (ignores_of s) h) b r xs a.1 h' a.0.is_over new ys) (sym begun)
+        (subst (λ (b : Bool). Steps (ignores_of s) (effect_of (ignores_of s) h) false r xs b h' a.0.is_over new ys) (sym found)
+        (subst (λ (b : Bool). Steps (ignores_of s) (effect_of (ignores_of s) h) false r xs end.found h' b new ys) (sym over) steps)),
   ),
 )
 

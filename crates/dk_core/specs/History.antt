@@ -1,5 +1,5 @@
 -- What a history is, and what a block does to it. The layers above know these words by their names alone.
-use Rattle.std.specs.Prelude.{◌-◌, ◌||◌, ℕ, Bool, true, false, List, [], ◌∷◌, ◌++◌, codes, is_some, length, replicate, slice_index_or, slice_set, Option, Some, None, Result, Ok, if◌then◌else◌}
+use Rattle.std.specs.Prelude.{◌-◌, ◌||◌, ℕ, Bool, true, false, List, [], ◌∷◌, ◌++◌, codes, is_some, length, replicate, slice_index_or, slice_set, Option, Some, None, Result, Ok, Err, if◌then◌else◌}
 use Rattle.std.specs.Str.{bytes_eq}
 use Rattle.dk_base.specs.Reading.{Line, LineFault, Reads, ◌>>=◌}
 use Rattle.dk_base.specs.Words.{first_word}
@@ -66,10 +66,18 @@ base_values ps s earlier = if is_some (entry_of ps s.point) then values_at_exit 
 abbrev pub with_sample : List (List (List Value)) → ℕ → List Value → List (List (List Value))
 with_sample samples p values = slice_set samples p (slice_index_or samples p [] ++ values ∷ [])
 
--- a record gives its point one sample more
-abbrev pub with_record : History → Sample → Result Taken LineFault
-with_record h s = base_values h.table s h.calls >>= λ values.
-    Ok (block (record h { samples = with_sample h.samples s.point values; calls = call_of h.table s ∷ h.calls }))
+-- a record's base values give its point one sample more
+abbrev pub with_values : History → Sample → List Value → Taken
+with_values h s values = block (record h { samples = with_sample h.samples s.point values; calls = call_of h.table s ∷ h.calls })
+
+-- Where exits without an entry are left out, such a record changes nothing, and its block counts.
+abbrev pub or_left_out : Bool → History → Result Taken LineFault → Result Taken LineFault
+or_left_out true h (Err unmatched) = Ok (block h)
+or_left_out ignores h taken = taken
+
+-- what a record does; its one fault is that it is an exit without an entry
+abbrev pub with_record : Bool → History → Sample → Result Taken LineFault
+with_record ignores h s = or_left_out ignores h (base_values h.table s h.calls >>= λ values. Ok (with_values h s values))
 
 -- ---- blocks
 
@@ -86,32 +94,32 @@ abbrev pub after_declaration : History → Line → Reads Taken
 after_declaration h first ls close = decl_of (is_implicit h.header) first ls close >>= λ d. where_it_ends close h (with_declaration h first.number d)
 
 -- what the lines of a sample record do, behind its first line
-abbrev pub after_sample : History → Line → Reads Taken
-after_sample h first ls close = sample_of h.table first ls close >>= λ s. where_it_ends close h (with_record h s)
+abbrev pub after_sample : Bool → History → Line → Reads Taken
+after_sample ignores h first ls close = sample_of h.table first ls close >>= λ s. where_it_ends close h (with_record ignores h s)
 
 -- what the lines of a record of any kind do, behind its first line
-abbrev pub after_record : History → Line → Reads Taken
-after_record h first ls close =
+abbrev pub after_record : Bool → History → Line → Reads Taken
+after_record ignores h first ls close =
     if is_declaration first.bytes then after_declaration h first ls close
     else if is_list_of_implementors first.bytes then where_it_ends close h (Ok (block h))
-    else after_sample h first ls close
+    else after_sample ignores h first ls close
 
 -- A block without a record, whose last header line has this number. It must not end where a word is awaited. Without header lines, too, it is none.
 abbrev pub without_record : History → Option ℕ → Option ℕ → Result Taken LineFault
 without_record h None close = Ok (no_block h)
 without_record h (Some last) close = where_it_ends close h (if awaits_word h.header then refused BadHeader last else Ok (block h))
 
-abbrev pub after_lines : History → Option ℕ → Reads Taken
-after_lines h last [] close = without_record h last close
-after_lines h last (l ∷ ls) close = after_record h l ls close
+abbrev pub after_lines : Bool → History → Option ℕ → Reads Taken
+after_lines ignores h last [] close = without_record h last close
+after_lines ignores h last (l ∷ ls) close = after_record ignores h l ls close
 
-abbrev pub after_front : History → Front → Option ℕ → Result Taken LineFault
-after_front h front close = after_lines (record h { header = front.header }) front.last front.lines close
+abbrev pub after_front : Bool → History → Front → Option ℕ → Result Taken LineFault
+after_front ignores h front close = after_lines ignores (record h { header = front.header }) front.last front.lines close
 
 -- The effect of a block on a history: of its header lines, and then of its record. A line's fault is found at the line; the rest is judged
--- where the block ends.
-unfoldable pub effect_of : History → Reads Taken
-effect_of h ls close = front_of h.header None ls >>= λ front. after_front h front close
+-- where the block ends. It takes whether exits without an entry are left out, and not refused.
+unfoldable pub effect_of : Bool → History → Reads Taken
+effect_of ignores h ls close = front_of h.header None ls >>= λ front. after_front ignores h front close
 
 -- ---- files
 

@@ -3,7 +3,11 @@ pub mod Runs
 pub mod Fronts
 pub mod History
 pub mod Sections
-pub mod Summaries
+pub mod Selecting
+pub mod Fitting
+pub mod Keeping
+pub mod Growing
+pub mod Refusing
 pub mod Reading
 pub mod Standing
 pub mod Steps

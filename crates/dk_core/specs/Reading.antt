@@ -14,9 +14,9 @@ after_last read ls (LongLine line) = read ls None >>= λ _. Err (record { line =
 after_last read ls (TooLong line) = read ls None >>= λ _. Err (record { line = line; why = WhyMany })
 
 -- the history after all groups, the first of which is read by `read`; or the first fault
-abbrev pub after_all : Reads Taken → Groups → Result History LineFault
-after_all read (Group ls close rest) = read ls (Some close) >>= λ t. after_all (effect_of t.history) rest
-after_all read (Last ls end) = after_last read ls end >>= λ t. Ok t.history
+abbrev pub after_all : Bool → Reads Taken → Groups → Result History LineFault
+after_all ignores read (Group ls close rest) = read ls (Some close) >>= λ t. after_all ignores (effect_of ignores t.history) rest
+after_all ignores read (Last ls end) = after_last read ls end >>= λ t. Ok t.history
 
 -- the history after the next block, whether there was one, and the groups behind it
 pub record Stepped : Type 0 where
@@ -28,6 +28,6 @@ abbrev pub stop_or : Taken → Groups → Result Stepped LineFault → Result St
 stop_or t rest more = if t.counts then Ok (record { found = true; history = t.history; left = rest }) else more
 
 -- The next block: groups that are none are passed over.
-abbrev pub after_next : Reads Taken → Groups → Result Stepped LineFault
-after_next read (Group ls close rest) = read ls (Some close) >>= λ t. stop_or t rest (after_next (effect_of t.history) rest)
-after_next read (Last ls end) = after_last read ls end >>= λ t. Ok (record { found = t.counts; history = t.history; left = Last [] end })
+abbrev pub after_next : Bool → Reads Taken → Groups → Result Stepped LineFault
+after_next ignores read (Group ls close rest) = read ls (Some close) >>= λ t. stop_or t rest (after_next ignores (effect_of ignores t.history) rest)
+after_next ignores read (Last ls end) = after_last read ls end >>= λ t. Ok (record { found = t.counts; history = t.history; left = Last [] end })

@@ -1,11 +1,43 @@
--- The report of a history.
-use Rattle.std.specs.Prelude.{ℕ, List, [], flat_map, slice_index_or}
+-- The report of a history: the sections of its points, and their sizes.
+use Rattle.std.specs.Prelude.{◌&&◌, ℕ, Bool, List, [], flat_map, Option, Some, None, if◌then◌else◌}
 use Rattle.std.specs.List.{enumerate_from}
-use Rattle.dk_points.specs.Table.{names}
-use Rattle.dk_points.specs.Vars.{vars_of}
-use Rattle.dk_bounds.specs.Sections.{section_of}
+use Rattle.dk_report.specs.Reports.{has_samples as has_samples_in, name_of as name_in, section_of as section_in}
+use Rattle.dk_report.specs.Sizes.{has_own_samples as has_own_samples_in, stats_of as stats_in}
+use Rattle.dk_report.specs.declared.options.Options.{Options}
+use Rattle.dk_template.specs.declared.grammar.Grammar.{Grammar}
 use Rattle.dk_core.specs.History.{History}
 
--- the section of each point, over its own samples, in the order of the table
-unfoldable pub report_of : History → List ℕ
-report_of h = flat_map (λ e. section_of (slice_index_or (names h.table) e.0 []) (vars_of h.table e.0) e.1) (enumerate_from 0 h.samples)
+abbrev pub name_of : History → ℕ → List ℕ
+name_of h p = name_in h.table p
+
+-- a text where there is one
+abbrev pub some_if : Bool → List ℕ → Option (List ℕ)
+some_if has text = if has then Some text else None
+
+-- ---- sections
+-- a point has samples, its own or its children's
+abbrev pub has_samples : History → ℕ → Bool
+has_samples h p = has_samples_in h.table h.samples p
+
+-- it has a section if its name is selected and it has samples
+abbrev pub has_section : (List ℕ → Bool) → History → ℕ → Bool
+has_section selects h p = selects (name_of h p) && has_samples h p
+
+unfoldable pub section_of : Grammar → Options → (List ℕ → Bool) → History → ℕ → List ℕ
+section_of grammar options selects h p = if selects (name_of h p) then section_in grammar options h.table h.samples p else []
+
+-- the sections of all points, in the order of the table
+unfoldable pub report_of : Grammar → Options → (List ℕ → Bool) → History → List ℕ
+report_of grammar options selects h = flat_map (λ e. section_of grammar options selects h e.0) (enumerate_from 0 h.table)
+
+-- ---- sizes
+abbrev pub has_own_samples : History → ℕ → Bool
+has_own_samples h p = has_own_samples_in h.samples p
+
+-- the line of a point's sizes; a point without own samples has none
+abbrev pub stats_of : Grammar → History → ℕ → List ℕ
+stats_of grammar h p = stats_in grammar h.table h.samples p
+
+-- those of all points, in the order of the table
+unfoldable pub all_stats_of : Grammar → History → List ℕ
+all_stats_of grammar h = flat_map (λ e. stats_of grammar h e.0) (enumerate_from 0 h.table)

@@ -1,47 +1,76 @@
 // What a session keeps from block to block.
-ghost use Rattle.std.specs.Prelude.{◌≡◌, ◌<◌, ◌≤◌, ◌∷◌, ◌++◌, [], IfOk, OnOk, List, ℕ, Option, Some, false, is_some, length};
+ghost use Rattle.std.specs.Prelude.{◌≡◌, ◌<◌, ◌≤◌, ◌∷◌, ◌++◌, [], IfOk, OnErr, OnOk, Bool, List, ℕ, Option, Some, false, is_some, length, slice_get};
 ghost use Rattle.dk_base.specs.Reading.{Line};
+ghost use Rattle.dk_base.specs.Shapes.{AreWithDerived};
 ghost use Rattle.dk_base.specs.Values.{values_of};
+ghost use Rattle.dk_base.specs.declared.values.Value.{Value};
 ghost use Rattle.dk_calls.specs.Records.{call_of};
-ghost use Rattle.dk_calls.specs.Standing.{StandsFor as CallsStandFor};
+ghost use Rattle.dk_calls.specs.Standing.{StandsFor as CallsStandFor, WaitAlike};
 ghost use Rattle.dk_calls.specs.Waiting.{Call};
-ghost use Rattle.dk_points.specs.Table.{Point};
+ghost use Rattle.dk_derive.specs.Laws.{base_of, kinds_of};
+ghost use Rattle.dk_derive.specs.Values.{values_by_form};
+ghost use Rattle.dk_hierarchy.specs.Samples.{own_samples_of};
+ghost use Rattle.dk_hierarchy.specs.Standing.{EngineStandsFor};
 ghost use Rattle.dk_points.specs.Vars.{entry_of};
+ghost use Rattle.dk_report.specs.Reports.{section_of as section_in};
 ghost use Rattle.dk_trace.specs.Answers.{Shows};
-ghost use Rattle.dk_trace.specs.RecordsResumed.{IsOf, shown};
+ghost use Rattle.dk_trace.specs.Fitting.{FitKinds};
+ghost use Rattle.dk_trace.specs.RecordsResumed.{shown};
+ghost use Rattle.dk_core.specs.Fitting.{FitAt, HasFittingConstants};
+ghost use Rattle.dk_core.specs.Growing.{AreGrown};
 ghost use Rattle.dk_core.specs.History.{History, after_declaration, after_record, after_sample, base_values, effect_of, file_ended, no_history, with_declaration, with_record, without_record};
-ghost use Rattle.dk_core.specs.Sections.{report_of};
-ghost use Rattle.dk_core.specs.Summaries.{new_summaries};
+ghost use Rattle.dk_core.specs.Sections.{has_own_samples, has_samples, stats_of};
+ghost use Rattle.dk_core.specs.Refusing.{answered};
 
 use crate::block::{Block, State, is_comment, is_declaration, is_list_of_implementors};
 use crate::first_lines::is_plainly_sample;
 use bumpalo::Bump;
 use dk_base::{BlockFault, NoMemory, PointId, Text, View};
-use dk_bounds::{Summary, push_section};
 use dk_calls::{Calls, is_entry};
 use dk_decl::{DeclBlock, Header, PointDecl};
+use dk_derive::extend;
+use dk_engine::Engine;
+use dk_hierarchy::engine_of;
 use dk_points::Points;
+use dk_report::{Options, push_section, push_stats};
+use dk_template::Grammar;
 use dk_trace::{BaseSample, RecordReader};
 use std::alloc::Global;
+use std::marker::Model;
 use std::mem::replace;
 
 /// What a session keeps from block to block: the table of points, what the header lines have put in force, the entries of the file that
-/// wait, and a summary of each point's own samples.
+/// wait, and the engine of each point's own samples.
 #[derive(Drop)]
 pub(crate) struct Kept {
-    pub(crate) alloc: Global,
-    pub(crate) points: Points,
-    pub(crate) header: Header,
-    pub(crate) calls: Calls,
-    pub(crate) summaries: Vec<Summary>,
-    pub ghost paired: { length summaries.items ≡ length points },
+    alloc: Global,
+    points: Points,
+    header: Header,
+    calls: Calls,
+    grammar: Grammar,
+    engines: Vec<Engine>,
+}
+
+impl Model for Kept {
+    ghost use Rattle.std.specs.Coded.{codes};
+    ghost use Rattle.dk_calls.specs.contracts.calls.Calls as waiting;
+    ghost use Rattle.dk_core.specs.Keeping.{IsSound, Keeping};
+
+    ghost Value = { Keeping };
+
+    ghost coded = { Prim.hlevel (codes, waiting.the_row.coded) };
+
+    ghost view = { λ k. record { points = k.points; header = k.header; calls = k.calls; grammar = k.grammar; engines = k.engines.items } };
+
+    ghost invariant = { λ k. IsSound (record { points = k.points; header = k.header; calls = k.calls; grammar = k.grammar; engines = k.engines.items }) };
 }
 
 // An entry waits from here on. A record that is neither an entry nor an exit that must match one changes nothing.
 fn wait(points: &Points, calls: &mut Calls, sample: &BaseSample<'_>) -> Result<(), NoMemory>
     requires within { sample.now.point.0 < length points.now }
     requires no_exit { is_some (entry_of points.now sample.now.point.0) ≡ false }
-    ensures { OnOk result ((earlier : List Call) → CallsStandFor calls.old earlier → CallsStandFor calls.new (call_of points.now (shown sample.now) ∷ earlier)) }
+    ensures ok { OnOk result ((earlier : List Call) → CallsStandFor calls.old earlier → CallsStandFor calls.new (call_of points.now (shown sample.now) ∷ earlier)) }
+    ensures err { OnErr result (WaitAlike calls.old calls.new) }
 {
     if is_entry(points, sample.point) {
         return calls.enter(points, sample);
@@ -61,6 +90,7 @@ fn base_values<'a>(
     ensures values { (earlier : List Call) → CallsStandFor calls.old earlier
         → Shows (λ views. values_of views.now) result (base_values points.now (shown sample.now) earlier) }
     ensures ok { OnOk result ((earlier : List Call) → CallsStandFor calls.old earlier → CallsStandFor calls.new (call_of points.now (shown sample.now) ∷ earlier)) }
+    ensures err { OnErr result (WaitAlike calls.old calls.new) }
 {
     if points.entry(sample.point).is_some() {
         return calls.exit(points, arena, sample);
@@ -69,27 +99,51 @@ fn base_values<'a>(
     Ok(sample.values)
 }
 
+// One sample more for an engine, from the values of its base variables.
+fn feed<'a>(arena: &'a Bump, engine: &mut Engine, base: &[View<'a>]) -> Result<(), NoMemory>
+    requires derived { AreWithDerived engine.old.infos }
+    requires fits { FitKinds (kinds_of (base_of engine.old.infos)) (values_of base.now) }
+    ensures grammar { engine.new.grammar ≡ engine.old.grammar }
+    ensures infos { engine.new.infos ≡ engine.old.infos }
+    ensures stands { OnOk result ((samples : List (List Value)) → EngineStandsFor engine.old samples → EngineStandsFor engine.new (samples ++ values_by_form engine.old.infos (values_of base.now) ∷ [])) }
+{
+    let sample = extend(arena, engine.vars(), base)?;
+    engine.feed(sample)
+}
+
+// What a record comes to that is refused, as an exit without an entry: where those are left out, its block counts.
+fn or_left_out(ignores: bool, fault: BlockFault) -> Result<bool, BlockFault>
+    ensures { result ≡ answered ignores fault }
+{
+    match fault {
+        BlockFault::Refused { .. } if ignores => Ok(true),
+        fault => Err(fault),
+    }
+}
+
 impl Kept {
-    ghost use Rattle.dk_core.specs.Standing.{Stands, Fits, GoesOn, Closes, IsDeclared, carried, paired, resumed, resumed_by};
+    ghost use Rattle.dk_core.specs.Standing.{Stands, Fits, GoesOn, Closes, IsDeclared, as_block, carried, paired, resumed, resumed_by};
 
     /// No points.
     #[tactic(auto, unfolding(crate::specs::Standing::Stands, crate::specs::History::no_history))]
-    pub(crate) fn new(alloc: Global) -> Result<Kept, NoMemory>
-        ensures { IfOk result (λ kept. Stands kept no_history) }
+    pub(crate) fn new(alloc: Global, grammar: Grammar) -> Result<Kept, NoMemory>
+        ensures stands { IfOk result (λ kept. Stands kept no_history) }
+        ensures grammar { IfOk result (λ kept. kept.grammar ≡ grammar) }
     {
         Ok(Kept {
             alloc,
             points: Points::new(alloc)?,
             header: Header::new(),
             calls: Calls::new(alloc)?,
-            summaries: Vec::new(alloc),
+            grammar,
+            engines: Vec::new(alloc),
         })
     }
 
     /// A block of which no line was read.
     #[tactic(auto, unfolding(crate::specs::Standing::resumed, crate::specs::Standing::Stands, crate::specs::Standing::Fits, crate::specs::History::effect_of))]
     pub(crate) fn begin<'a>(&self, arena: &'a Bump) -> Block<'a>
-        ensures resumes { (h : History) → Stands self.now h → (ls : List Line) (close : Option ℕ) → resumed h result ls close ≡ effect_of h ls close }
+        ensures resumes { (ignores : Bool) (h : History) → Stands self.now h → (ls : List Line) (close : Option ℕ) → resumed ignores h result ls close ≡ effect_of ignores h ls close }
         ensures fits { Fits self.now result }
     {
         Block {
@@ -102,7 +156,7 @@ impl Kept {
     /// The next block begins in place of this one.
     #[tactic(auto, unfolding(crate::specs::Standing::resumed, crate::specs::Standing::Stands, crate::specs::Standing::Fits, crate::specs::History::effect_of))]
     pub(crate) fn begin_again<'a>(&self, block: &mut Block<'a>)
-        ensures resumes { (h : History) → Stands self.now h → (ls : List Line) (close : Option ℕ) → resumed h block.new ls close ≡ effect_of h ls close }
+        ensures resumes { (ignores : Bool) (h : History) → Stands self.now h → (ls : List Line) (close : Option ℕ) → resumed ignores h block.new ls close ≡ effect_of ignores h ls close }
         ensures fits { Fits self.now block.new }
     {
         block.header = self.header;
@@ -117,7 +171,7 @@ impl Kept {
         bytes: &[u8],
     ) -> Result<(), BlockFault>
         requires { Fits self.now block.old }
-        ensures goes_on { (h : History) → Stands self.now h → GoesOn h (carried block.new result) (λ ls close. resumed h block.old (record { number = number; bytes = bytes.now } ∷ ls) close) }
+        ensures goes_on { (ignores : Bool) (h : History) → Stands self.now h → GoesOn ignores h (carried block.new result) (λ ls close. resumed ignores h block.old (record { number = number; bytes = bytes.now } ∷ ls) close) }
         ensures fits { OnOk result (Fits self.now block.new) }
     {
         match &mut block.state {
@@ -141,7 +195,7 @@ impl Kept {
         number: u64,
         bytes: &[u8],
     ) -> Result<(), BlockFault>
-        ensures goes_on { (h : History) → Stands self.now h → GoesOn h (carried block.new result) (λ ls close. resumed_by (record h { header = block.old.header }) (State.Front last) (record { number = number; bytes = bytes.now } ∷ ls) close) }
+        ensures goes_on { (ignores : Bool) (h : History) → Stands self.now h → GoesOn ignores h (carried block.new result) (λ ls close. resumed_by ignores (record h { header = block.old.header }) (State.Front last) (record { number = number; bytes = bytes.now } ∷ ls) close) }
         ensures fits { OnOk result (Fits self.now block.new) }
     {
         if is_comment(bytes) {
@@ -168,7 +222,7 @@ impl Kept {
         number: u64,
         bytes: &[u8],
     ) -> Result<(), BlockFault>
-        ensures goes_on { (h : History) → Stands self.now h → GoesOn h (carried block.new result) (λ ls close. after_record (record h { header = block.old.header }) (record { number = number; bytes = bytes.now }) ls close) }
+        ensures goes_on { (ignores : Bool) (h : History) → Stands self.now h → GoesOn ignores h (carried block.new result) (λ ls close. after_record ignores (record h { header = block.old.header }) (record { number = number; bytes = bytes.now }) ls close) }
         ensures fits { OnOk result (Fits self.now block.new) }
     {
         if is_declaration(bytes) {
@@ -189,7 +243,7 @@ impl Kept {
         number: u64,
         bytes: &[u8],
     ) -> Result<(), BlockFault>
-        ensures goes_on { (h : History) → GoesOn h (carried block.new result) (λ ls close. after_declaration (record h { header = block.old.header }) (record { number = number; bytes = bytes.now }) ls close) }
+        ensures goes_on { (ignores : Bool) (h : History) → GoesOn ignores h (carried block.new result) (λ ls close. after_declaration (record h { header = block.old.header }) (record { number = number; bytes = bytes.now }) ls close) }
         ensures fits { OnOk result (Fits self.now block.new) }
     {
         match DeclBlock::begin(self.alloc, number, bytes, block.header.implicit()) {
@@ -211,7 +265,7 @@ impl Kept {
         number: u64,
         bytes: &[u8],
     ) -> Result<(), BlockFault>
-        ensures goes_on { (h : History) → Stands self.now h → GoesOn h (carried block.new result) (λ ls close. after_sample (record h { header = block.old.header }) (record { number = number; bytes = bytes.now }) ls close) }
+        ensures goes_on { (ignores : Bool) (h : History) → Stands self.now h → GoesOn ignores h (carried block.new result) (λ ls close. after_sample ignores (record h { header = block.old.header }) (record { number = number; bytes = bytes.now }) ls close) }
         ensures fits { OnOk result (Fits self.now block.new) }
     {
         match RecordReader::begin(self.alloc, &self.points, block.arena, number, bytes) {
@@ -231,8 +285,9 @@ impl Kept {
         number: u64,
         bytes: &[u8],
     ) -> Result<(), BlockFault>
-        requires { IsDeclared block.old.state }
-        ensures goes_on { (h : History) → GoesOn h (carried block.new result) (λ ls close. resumed h block.old (record { number = number; bytes = bytes.now } ∷ ls) close) }
+        requires declared { IsDeclared block.old.state }
+        requires fits { Fits self.now block.old }
+        ensures goes_on { (ignores : Bool) (h : History) → GoesOn ignores h (carried block.new result) (λ ls close. resumed ignores h block.old (record { number = number; bytes = bytes.now } ∷ ls) close) }
         ensures fits { OnOk result (Fits self.now block.new) }
     {
         match replace(&mut block.state, State::Implementors) {
@@ -247,20 +302,23 @@ impl Kept {
         }
     }
 
-    /// Takes the block, which ends here: whether it is one. The line of this number ends it, or the file ends in front of that line. Nothing
-    /// is said of the block behind it; after a fault nothing is said of what is kept.
+    /// Takes the block, which ends here: whether it is one. The line of this number ends it, or the file ends in front of that line. An
+    /// exit without an entry is left out, or refused. Nothing is said of the block behind it; after a fault nothing is said of the
+    /// history.
     pub(crate) fn close<'a>(
         &mut self,
         block: &mut Block<'a>,
         number: u64,
+        ignores: bool,
     ) -> Result<bool, BlockFault>
         requires { Fits self.old block.old }
-        ensures { (h : History) → Stands self.old h → Closes (paired self.new result) (resumed h block.old [] (Some number)) }
+        ensures closes { (h : History) → Stands self.old h → Closes (paired self.new result) (resumed ignores h block.old [] (Some number)) }
+        ensures grammar { self.new.grammar ≡ self.old.grammar }
     {
         self.header = block.header;
         match &mut block.state {
             State::Record { reader } => match reader.end(&self.points, number) {
-                Ok(sample) => self.with_record(block.arena, &sample),
+                Ok(sample) => self.with_record(block.arena, &sample, ignores),
                 Err(fault) => Err(fault),
             },
             State::Front { last } => {
@@ -293,8 +351,10 @@ impl Kept {
         block: &mut Block<'a>,
         number: u64,
     ) -> Result<bool, BlockFault>
-        requires { IsDeclared block.old.state }
-        ensures { (h : History) → Stands self.old h → Closes (paired self.new result) (resumed_by h block.old.state [] (Some number)) }
+        requires declared { IsDeclared block.old.state }
+        requires fits { Fits self.old block.old }
+        ensures closes { (ignores : Bool) (h : History) → Stands self.old h → Closes (paired self.new result) (resumed_by ignores h block.old.state [] (Some number)) }
+        ensures grammar { self.new.grammar ≡ self.old.grammar }
     {
         match replace(&mut block.state, State::Implementors) {
             State::Declaration { line, reader } => match reader.end() {
@@ -307,28 +367,44 @@ impl Kept {
 
     // With a declaration, whose block begins at this line.
     fn with_declaration(&mut self, line: u64, decl: PointDecl) -> Result<bool, BlockFault>
-        ensures { (h : History) → Stands self.old h → Closes (paired self.new result) (with_declaration h line decl) }
+        requires { HasFittingConstants decl }
+        ensures closes { (h : History) → Stands self.old h → Closes (paired self.new result) (with_declaration h line decl) }
+        ensures grammar { self.new.grammar ≡ self.old.grammar }
     {
-        let none = Kept::new(self.alloc)?;
+        let none = Kept::new(self.alloc, self.grammar)?;
+        match replace(self, none).declared(line, decl) {
+            Ok(kept) => {
+                *self = kept;
+                Ok(true)
+            }
+            Err(fault) => Err(fault),
+        }
+    }
+
+    // The same, where what is kept is taken apart: nothing is left of it if the declaration is refused.
+    fn declared(self, line: u64, decl: PointDecl) -> Result<Kept, BlockFault>
+        requires { HasFittingConstants decl }
+        ensures closes { (h : History) → Stands self h → Closes (as_block result) (with_declaration h line decl) }
+        ensures grammar { IfOk result (λ kept. kept.grammar ≡ self.grammar) }
+    {
         let Kept {
             alloc,
             points,
             header,
             calls,
-            summaries,
-        } = replace(self, none);
+            grammar,
+            engines,
+        } = self;
         match points.declare(decl, line) {
-            Ok((points, _)) => match with_new(alloc, summaries, &points) {
-                Ok(summaries) => {
-                    *self = Kept {
-                        alloc,
-                        points,
-                        header,
-                        calls,
-                        summaries,
-                    };
-                    Ok(true)
-                }
+            Ok((points, _)) => match with_new(alloc, engines, &points, grammar) {
+                Ok(engines) => Ok(Kept {
+                    alloc,
+                    points,
+                    header,
+                    calls,
+                    grammar,
+                    engines,
+                }),
                 Err(NoMemory) => Err(BlockFault::NoMemory),
             },
             Err(fault) => Err(fault),
@@ -340,81 +416,101 @@ impl Kept {
         &mut self,
         arena: &'a Bump,
         sample: &BaseSample<'a>,
+        ignores: bool,
     ) -> Result<bool, BlockFault>
-        requires { sample.now.point.0 < length self.old.points }
-        ensures { (h : History) → Stands self.old h → Closes (paired self.new result) (with_record h (shown sample.now)) }
+        requires within { sample.now.point.0 < length self.old.points }
+        requires fits { FitAt self.old.points sample.now.point.0 (values_of sample.now.values.now) }
+        ensures closes { (h : History) → Stands self.old h → Closes (paired self.new result) (with_record ignores h (shown sample.now)) }
+        ensures grammar { self.new.grammar ≡ self.old.grammar }
     {
         match base_values(&self.points, &mut self.calls, arena, sample) {
-            Ok(values) => match self.summaries[sample.point.0 as usize].feed(values) {
+            Ok(base) => match feed(arena, &mut self.engines[sample.point.0 as usize], base) {
                 Ok(()) => Ok(true),
                 Err(NoMemory) => Err(BlockFault::NoMemory),
             },
-            Err(fault) => Err(fault),
+            Err(fault) => or_left_out(ignores, fault),
         }
     }
 
     /// Without what ends with a file: no entry waits any more.
     #[tactic(auto, unfolding(crate::specs::Standing::Stands, crate::specs::History::file_ended))]
-    pub(crate) fn end_file(self) -> Kept
-        ensures { (h : History) → Stands self h → Stands result (file_ended h) }
+    pub(crate) fn end_file(&mut self)
+        ensures stands { (h : History) → Stands self.old h → Stands self.new (file_ended h) }
+        ensures grammar { self.new.grammar ≡ self.old.grammar }
     {
-        let Kept {
-            alloc,
-            points,
-            header,
-            mut calls,
-            summaries,
-        } = self;
-        calls.clear();
-        Kept {
-            alloc,
-            points,
-            header,
-            calls,
-            summaries,
-        }
+        self.calls.clear();
     }
 
     /// The table of points.
     #[tactic(auto, unfolding(crate::specs::Standing::Stands))]
     pub(crate) fn points(&self) -> &Points
-        ensures { (h : History) → Stands self.now h → result.now ≡ h.table }
+        ensures points { result.now ≡ self.now.points }
+        ensures table { (h : History) → Stands self.now h → result.now ≡ h.table }
     {
         &self.points
     }
 
-    /// The report of the history.
-    pub(crate) fn report(&self) -> Result<Text, NoMemory>
-        ensures { (h : History) → Stands self.now h → IfOk result (λ text. text ≡ report_of h) }
+    /// The grammar of the engines.
+    pub(crate) fn grammar(&self) -> Grammar
+        ensures { result ≡ self.now.grammar }
     {
-        let mut text = Text::new(self.alloc);
-        for place in 0..self.points.len() {
-            let point = PointId(place);
-            push_section(
-                self.alloc,
-                &mut text,
-                self.points.name(point),
-                self.points.vars(point),
-                &self.summaries[place as usize],
-            )?;
-        }
-        Ok(text)
+        self.grammar
+    }
+
+    /// The engine of the point's own samples.
+    pub(crate) fn engine(&self, p: PointId) -> &Engine
+        requires { p.0 < length self.now.points }
+        ensures engine { slice_get self.now.engines p.0 ≡ Some result.now }
+        ensures grammar { result.now.grammar ≡ self.now.grammar }
+        ensures stands { (h : History) → Stands self.now h → EngineStandsFor result.now (own_samples_of h.table h.samples p.0) }
+    {
+        &self.engines[p.0 as usize]
+    }
+
+    /// Writes the point's section behind the text, whatever its name: whether it has samples.
+    pub(crate) fn push_section(
+        &self,
+        text: &mut Text,
+        options: &Options,
+        p: PointId,
+    ) -> Result<bool, NoMemory>
+        requires { p.0 < length self.now.points }
+        ensures has { (h : History) → Stands self.now h → IfOk result (λ has. has ≡ has_samples h p.0) }
+        ensures text { (h : History) → Stands self.now h → IfOk result (λ _. text.new ≡ text.old ++ section_in self.now.grammar options.now h.table h.samples p.0) }
+    {
+        push_section(
+            self.alloc,
+            text,
+            options,
+            &self.points,
+            self.engines.as_slice(),
+            p,
+        )
+    }
+
+    /// Writes the line of the point's sizes behind the text: whether it has own samples.
+    pub(crate) fn push_stats(&self, text: &mut Text, p: PointId) -> Result<bool, NoMemory>
+        requires { p.0 < length self.now.points }
+        ensures has { (h : History) → Stands self.now h → IfOk result (λ has. has ≡ has_own_samples h p.0) }
+        ensures text { (h : History) → Stands self.now h → IfOk result (λ _. text.new ≡ text.old ++ stats_of self.now.grammar h p.0) }
+    {
+        push_stats(text, &self.points, self.engines.as_slice(), p)
     }
 }
 
-// The summaries with those of new points behind them, which have no samples.
+// The engines with those of new points behind them, which have no samples.
 fn with_new(
     alloc: Global,
-    summaries: Vec<Summary>,
+    engines: Vec<Engine>,
     points: &Points,
-) -> Result<Vec<Summary>, NoMemory>
-    requires { length summaries.items ≤ length points.now }
-    ensures { IfOk result (λ all. all.items ≡ summaries.items ++ new_summaries points.now (length summaries.items)) }
+    grammar: Grammar,
+) -> Result<Vec<Engine>, NoMemory>
+    requires { length engines.items ≤ length points.now }
+    ensures { IfOk result (λ all. AreGrown points.now grammar engines.items all.items) }
 {
-    let mut summaries = summaries;
-    for place in summaries.len()..points.len() as usize {
-        let vars = points.vars(PointId(place as u32));
-        summaries.push(Summary::new(alloc, vars.len()))?;
+    let mut engines = engines;
+    for place in engines.len()..points.len() as usize {
+        engines.push(engine_of(alloc, points, PointId(place as u32), grammar)?)?;
     }
-    Ok(summaries)
+    Ok(engines)
 }

@@ -7,4 +7,5 @@ mod kept;
 pub mod laws;
 mod session;
 
+pub use dk_report::Options;
 pub use session::Session;

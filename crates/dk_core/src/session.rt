@@ -1,27 +1,36 @@
 // A session.
-ghost use Rattle.std.specs.Prelude.{◌≡◌, ◌≤◌, ◌<◌, ◌+◌, ◌-◌, ◌^◌, min, not, ◌∷◌, [], List, ℕ, Option, Some, None, Err, IfOk, OnOk, IfSome, IsErrOf, true, false, if◌then◌else◌};
+ghost use Rattle.std.specs.Prelude.{◌≡◌, ◌≤◌, ◌<◌, ◌+◌, ◌-◌, ◌^◌, min, not, ◌∷◌, ◌++◌, [], Bool, List, ℕ, Option, Some, None, Err, IfOk, OnOk, IfSome, IsErrOf, length, true, false, if◌then◌else◌};
+ghost use Rattle.dk_hierarchy.specs.Samples.{own_samples_of};
+ghost use Rattle.dk_hierarchy.specs.Standing.{EngineStandsFor};
 ghost use Rattle.dk_io.specs.Outside.{Rose};
 ghost use Rattle.dk_lines.specs.Reading.{left_of};
 ghost use Rattle.dk_core.specs.History.{History, effect_of, no_history, file_ended};
-ghost use Rattle.dk_core.specs.Sections.{report_of};
-ghost use Rattle.dk_core.specs.Standing.{Fits, Stands, carried, paired, resumed};
+ghost use Rattle.dk_core.specs.Sections.{has_own_samples, has_section, section_of, some_if, stats_of};
+ghost use Rattle.dk_core.specs.Selecting.{SelectsBy};
+ghost use Rattle.dk_core.specs.Standing.{Fits, ReportsAlike, Stands, StandsFor, blocks_of, carried, file_of, grammar_of, options_of, over_of, paired, points_of, resumed, select_of};
 ghost use Rattle.dk_core.specs.Steps.{LineGives, EndGives, BlankGives, WordsGive, Answers, Counts, named, BlockGives, BlockCounts, LineShape, EndShape, ShapeAt, ClosesAt, LineStep, LineStepShape, StepShape, StepGives, StepCounts, turned, stopped, unread};
 ghost use Rattle.dk_core.specs.Turns.{turn_of, ending_of};
 
 use crate::block::Block;
 use crate::kept::Kept;
 use bumpalo::Bump;
-use dk_base::{BlockFault, Fault, NoMemory, Text, Why, trimmed};
+use dk_base::{BlockFault, Fault, NoMemory, PointId, Text, Why, trimmed};
+use dk_engine::Engine;
 use dk_io::Inputs;
 use dk_lines::{LineFault, Lines};
 use dk_points::Points;
+use dk_report::Options;
+use dk_template::Grammar;
 use std::alloc::Global;
 
-/// What the blocks so far come to.
+/// What the blocks so far come to, and what is reported of it: the points that the selection answers `true` to, by their names, and of
+/// their instances those that the options leave.
 #[derive(Drop)]
-pub struct Session {
+pub struct Session<F> {
     pub(crate) alloc: Global,
     pub(crate) kept: Kept,
+    pub(crate) select: F,
+    pub(crate) options: Options,
     pub(crate) blocks: u64,
     pub(crate) file: u32,
     pub(crate) is_over: bool,
@@ -85,12 +94,18 @@ fn line_stop(fault: LineFault) -> Stop
 }
 
 // The line is blank.
-fn at_blank<'a>(kept: &mut Kept, block: &mut Block<'a>, number: u64) -> Result<After, Stop>
+fn at_blank<'a>(
+    kept: &mut Kept,
+    block: &mut Block<'a>,
+    number: u64,
+    ignores: bool,
+) -> Result<After, Stop>
     requires { Fits kept.old block.old }
     ensures shape { LineShape (turn_of kept.new block.new result) }
-    ensures gives { (h : History) → Stands kept.old h → BlankGives (resumed h block.old) number (turn_of kept.new block.new result) }
+    ensures gives { (h : History) → Stands kept.old h → BlankGives ignores (resumed ignores h block.old) number (turn_of kept.new block.new result) }
+    ensures grammar { kept.new.grammar ≡ kept.old.grammar }
 {
-    match kept.close(block, number) {
+    match kept.close(block, number, ignores) {
         Ok(true) => Ok(After::Ends(End {
             is_over: false,
             found: true,
@@ -104,12 +119,18 @@ fn at_blank<'a>(kept: &mut Kept, block: &mut Block<'a>, number: u64) -> Result<A
 }
 
 // The file ends in front of the line of this number.
-fn at_end<'a>(kept: &mut Kept, block: &mut Block<'a>, number: u64) -> Result<After, Stop>
+fn at_end<'a>(
+    kept: &mut Kept,
+    block: &mut Block<'a>,
+    number: u64,
+    ignores: bool,
+) -> Result<After, Stop>
     requires { Fits kept.old block.old }
     ensures shape { EndShape (turn_of kept.new block.new result) }
-    ensures gives { (h : History) → Stands kept.old h → EndGives (resumed h block.old) number (turn_of kept.new block.new result) }
+    ensures gives { (h : History) → Stands kept.old h → EndGives ignores (resumed ignores h block.old) number (turn_of kept.new block.new result) }
+    ensures grammar { kept.new.grammar ≡ kept.old.grammar }
 {
-    match kept.close(block, number) {
+    match kept.close(block, number, ignores) {
         Ok(found) => Ok(After::Ends(End {
             is_over: true,
             found,
@@ -124,15 +145,17 @@ fn closed<'a>(
     block: &mut Block<'a>,
     number: u64,
     is_over: bool,
+    ignores: bool,
 ) -> Result<After, Stop>
     requires { Fits kept.old block.old }
     ensures shape { ShapeAt is_over (turn_of kept.new block.new result) }
-    ensures gives { (h : History) → Stands kept.old h → ClosesAt is_over (resumed h block.old) number (turn_of kept.new block.new result) }
+    ensures gives { (h : History) → Stands kept.old h → ClosesAt ignores is_over (resumed ignores h block.old) number (turn_of kept.new block.new result) }
+    ensures grammar { kept.new.grammar ≡ kept.old.grammar }
 {
     if is_over {
-        at_end(kept, block, number)
+        at_end(kept, block, number, ignores)
     } else {
-        at_blank(kept, block, number)
+        at_blank(kept, block, number, ignores)
     }
 }
 
@@ -141,7 +164,7 @@ fn at_words<'a>(kept: &Kept, block: &mut Block<'a>, number: u64, bytes: &[u8]) -
     requires { Fits kept.now block.old }
     ensures fits { OnOk result (Fits kept.now block.new) }
     ensures shape { LineShape (turned kept.now (carried block.new result)) }
-    ensures gives { (h : History) → Stands kept.now h → WordsGive (resumed h block.old) (record { number = number; bytes = bytes.now }) (turned kept.now (carried block.new result)) }
+    ensures gives { (ignores : Bool) (h : History) → Stands kept.now h → WordsGive ignores (resumed ignores h block.old) (record { number = number; bytes = bytes.now }) (turned kept.now (carried block.new result)) }
 {
     match kept.line(block, number, bytes) {
         Ok(()) => Ok(()),
@@ -158,7 +181,7 @@ fn with_line<'a>(
 ) -> Result<Step, Stop>
     requires { Fits kept.now block.old }
     ensures shape { LineStepShape kept.now block.old block.new result }
-    ensures gives { (h : History) → Stands kept.now h → LineStep kept.now block.new (resumed h block.old) (record { number = number; bytes = bytes.now }) result }
+    ensures gives { (ignores : Bool) (h : History) → Stands kept.now h → LineStep ignores kept.now block.new (resumed ignores h block.old) (record { number = number; bytes = bytes.now }) result }
 {
     let words = trimmed(bytes);
     if words.is_empty() {
@@ -183,8 +206,8 @@ fn take_line<'a, I: Inputs>(
     requires started { lines.old.is_started ≡ true }
     requires fits { Fits kept.now block.old }
     ensures shape { StepShape kept.now block.old block.new result }
-    ensures gives { (h : History) → Stands kept.now h → IfSome (left_of lines.old (I.rest inputs.old))
-        (λ xs. StepGives kept.now block.new (resumed h block.old) lines.old xs result lines.new (left_of lines.new (I.rest inputs.new))) }
+    ensures gives { (ignores : Bool) (h : History) → Stands kept.now h → IfSome (left_of lines.old (I.rest inputs.old))
+        (λ xs. StepGives ignores kept.now block.new (resumed ignores h block.old) lines.old xs result lines.new (left_of lines.new (I.rest inputs.new))) }
     ensures counts { StepCounts lines.old result lines.new }
     ensures emptied { IsErrOf result Stop.Read → lines.new.ahead ≡ [] }
     ensures files { I.file inputs.new ≡ I.file inputs.old }
@@ -209,10 +232,12 @@ fn read_block<I: Inputs>(
     kept: &mut Kept,
     inputs: &mut I,
     lines: &mut Lines,
+    ignores: bool,
 ) -> Result<End, Stop>
     requires { lines.old.is_started ≡ true }
     ensures gives { (h : History) → Stands kept.old h → IfSome (left_of lines.old (I.rest inputs.old))
-        (λ xs. BlockGives (effect_of h) false lines.old xs (ending_of kept.new result) lines.new (left_of lines.new (I.rest inputs.new))) }
+        (λ xs. BlockGives ignores (effect_of ignores h) false lines.old xs (ending_of kept.new result) lines.new (left_of lines.new (I.rest inputs.new))) }
+    ensures grammar { kept.new.grammar ≡ kept.old.grammar }
     ensures counts { BlockCounts lines.old (ending_of kept.new result) lines.new }
     ensures emptied { IsErrOf result Stop.Read → lines.new.ahead ≡ [] }
     ensures files { I.file inputs.new ≡ I.file inputs.old }
@@ -224,7 +249,9 @@ fn read_block<I: Inputs>(
     'reading: loop {
         match take_line(kept, &mut block, inputs, lines) {
             Ok(Step::More) => continue 'reading,
-            Ok(Step::Ended { number, is_over }) => match closed(kept, &mut block, number, is_over) {
+            Ok(Step::Ended { number, is_over }) => match closed(
+                kept, &mut block, number, is_over, ignores,
+            ) {
                 Ok(After::Goes) => continue 'reading,
                 Ok(After::Ends(end)) => return Ok(end),
                 Err(stop) => return Err(stop),
@@ -256,15 +283,22 @@ fn blocks_with(blocks: u64, found: bool) -> u64
     }
 }
 
-impl Session {
-    /// The session of no blocks.
-    pub fn new(alloc: Global) -> Result<Session, NoMemory>
-        ensures { IfOk result (λ s. Stands s.kept no_history × (s.blocks ≡ 0) × (s.file ≡ 0) × (s.is_over ≡ false)) }
+impl<F: Fn(&[u8]) -> bool + Drop> Session<F> {
+    /// The session of no blocks, by the second grammar. It reports the points whose names the selection answers `true` to. The selection
+    /// may be asked of any name, any number of times.
+    pub fn new(alloc: Global, select: F, options: Options) -> Result<Session<F>, NoMemory>
+        ensures stands { IfOk result (λ s. StandsFor s no_history) }
+        ensures grammar { IfOk result (λ s. grammar_of s ≡ Grammar.Two) }
+        ensures options { IfOk result (λ s. options_of s ≡ options) }
+        ensures select { IfOk result (λ s. select_of s ≡ select) }
+        ensures counts { IfOk result (λ s. (blocks_of s ≡ 0) × (file_of s ≡ 0) × (over_of s ≡ false)) }
     {
-        let kept = Kept::new(alloc)?;
+        let kept = Kept::new(alloc, Grammar::Two)?;
         Ok(Session {
             alloc,
             kept,
+            select,
+            options,
             blocks: 0,
             file: 0,
             is_over: false,
@@ -272,14 +306,16 @@ impl Session {
     }
 
     /// Reads and applies the next block of the started file. False where the file ends without one. After a fault nothing is said of the
-    /// session.
+    /// history.
     pub fn block<I: Inputs>(&mut self, inputs: &mut I, lines: &mut Lines) -> Result<bool, Fault>
-        requires { lines.old.is_started ≡ not self.old.is_over }
-        ensures gives { (h : History) → Stands self.old.kept h → IfSome (left_of lines.old (I.rest inputs.old))
+        requires { lines.old.is_started ≡ not (over_of self.old) }
+        ensures gives { (h : History) → StandsFor self.old h → IfSome (left_of lines.old (I.rest inputs.old))
             (λ xs. Answers self.old h lines.old xs (paired self.new result) lines.new (left_of lines.new (I.rest inputs.new))) }
         ensures counts { Counts self.old lines.old (paired self.new result) lines.new }
+        // Grammar, options and selection stay.
+        ensures alike { ReportsAlike self.old self.new }
         // At the file's end nothing is read.
-        ensures over { self.old.is_over ≡ true → (result ≡ Ok false) × (self.new ≡ self.old) × (inputs.new ≡ inputs.old) × (lines.new ≡ lines.old) }
+        ensures over { over_of self.old ≡ true → (result ≡ Ok false) × (self.new ≡ self.old) × (inputs.new ≡ inputs.old) × (lines.new ≡ lines.old) }
         // Where reading failed, no byte that was read is held.
         ensures emptied { (file : ℕ) → IsErrOf result (Fault.Read file) → lines.new.ahead ≡ [] }
         ensures files { I.file inputs.new ≡ I.file inputs.old }
@@ -289,7 +325,8 @@ impl Session {
         if self.is_over {
             return Ok(false);
         }
-        match read_block(self.alloc, &mut self.kept, inputs, lines) {
+        let ignores = self.options.ignore_missing_entry;
+        match read_block(self.alloc, &mut self.kept, inputs, lines, ignores) {
             Ok(end) => {
                 self.is_over = end.is_over;
                 self.blocks = blocks_with(self.blocks, end.found);
@@ -300,44 +337,93 @@ impl Session {
     }
 
     /// Without what ends with a file. The next block is of the next file.
-    pub fn end_file(self) -> Session
-        ensures stands { (h : History) → Stands self.kept h → Stands result.kept (file_ended h) }
-        ensures counts { (result.blocks ≡ self.blocks) × (result.file ≡ min (self.file + 1) (2 ^ 32 - 1)) × (result.is_over ≡ false) }
+    pub fn end_file(self) -> Session<F>
+        ensures stands { (h : History) → StandsFor self h → StandsFor result (file_ended h) }
+        ensures counts { (blocks_of result ≡ blocks_of self) × (file_of result ≡ min (file_of self + 1) (2 ^ 32 - 1)) × (over_of result ≡ false) }
+        ensures alike { ReportsAlike self result }
     {
-        let Session {
-            alloc,
-            kept,
-            blocks,
-            file,
-            is_over: _,
-        } = self;
-        Session {
-            alloc,
-            kept: kept.end_file(),
-            blocks,
-            file: file.saturating_add(1),
-            is_over: false,
-        }
+        let mut session = self;
+        session.kept.end_file();
+        session.file = session.file.saturating_add(1);
+        session.is_over = false;
+        session
     }
 
     /// The table of points.
     pub fn points(&self) -> &Points
-        ensures { (h : History) → Stands self.now.kept h → result.now ≡ h.table }
+        ensures points { result.now ≡ points_of self.now }
+        ensures table { (h : History) → StandsFor self.now h → result.now ≡ h.table }
     {
         self.kept.points()
     }
 
-    /// The last report whole.
-    pub fn report(&self) -> Result<Text, NoMemory>
-        ensures { (h : History) → Stands self.now.kept h → IfOk result (λ text. text ≡ report_of h) }
-    {
-        self.kept.report()
-    }
-
     /// How many blocks were read.
     pub fn blocks(&self) -> u64
-        ensures { result ≡ self.now.blocks }
+        ensures { result ≡ blocks_of self.now }
     {
         self.blocks
+    }
+
+    /// The grammar of its engines.
+    pub fn grammar(&self) -> Grammar
+        ensures { result ≡ grammar_of self.now }
+    {
+        self.kept.grammar()
+    }
+
+    /// The engine of the point's own samples.
+    pub fn engine(&self, p: PointId) -> &Engine
+        requires { p.0 < length (points_of self.now) }
+        ensures grammar { result.now.grammar ≡ grammar_of self.now }
+        ensures stands { (h : History) → StandsFor self.now h → EngineStandsFor result.now (own_samples_of h.table h.samples p.0) }
+    {
+        self.kept.engine(p)
+    }
+
+    /// Writes the point's section behind the text: whether it has one. It has none without samples, or where its name isn't selected.
+    /// After an error the text may hold a part of it.
+    pub fn push_section(&self, text: &mut Text, p: PointId) -> Result<bool, NoMemory>
+        requires within { p.0 < length (points_of self.now) }
+        requires callable { F.IsAlwaysCallable (select_of self.now) }
+        ensures has { (h : History) → StandsFor self.now h → (selects : List ℕ → Bool) → SelectsBy (F.post (select_of self.now)) selects → IfOk result (λ has. has ≡ has_section selects h p.0) }
+        ensures text { (h : History) → StandsFor self.now h → (selects : List ℕ → Bool) → SelectsBy (F.post (select_of self.now)) selects
+            → IfOk result (λ _. text.new ≡ text.old ++ section_of (grammar_of self.now) (options_of self.now) selects h p.0) }
+    {
+        if !(self.select)(self.kept.points().name(p)) {
+            return Ok(false);
+        }
+        self.kept.push_section(text, &self.options, p)
+    }
+
+    /// The point's section; none without samples, or where its name isn't selected.
+    pub fn section(&self, p: PointId) -> Result<Option<Text>, NoMemory>
+        requires within { p.0 < length (points_of self.now) }
+        requires callable { F.IsAlwaysCallable (select_of self.now) }
+        ensures { (h : History) → StandsFor self.now h → (selects : List ℕ → Bool) → SelectsBy (F.post (select_of self.now)) selects
+            → IfOk result (λ section. section ≡ some_if (has_section selects h p.0) (section_of (grammar_of self.now) (options_of self.now) selects h p.0)) }
+    {
+        let mut text = Text::new(self.alloc);
+        let has = self.push_section(&mut text, p)?;
+        Ok(if has { Some(text) } else { None })
+    }
+
+    /// Writes the line of the point's sizes behind the text: whether it has one. It has none without own samples. After an error the text
+    /// may hold a part of it.
+    pub fn push_stats(&self, text: &mut Text, p: PointId) -> Result<bool, NoMemory>
+        requires { p.0 < length (points_of self.now) }
+        ensures has { (h : History) → StandsFor self.now h → IfOk result (λ has. has ≡ has_own_samples h p.0) }
+        ensures text { (h : History) → StandsFor self.now h → IfOk result (λ _. text.new ≡ text.old ++ stats_of (grammar_of self.now) h p.0) }
+    {
+        self.kept.push_stats(text, p)
+    }
+
+    /// The line of the point's sizes; none without own samples.
+    pub fn stats(&self, p: PointId) -> Result<Option<Text>, NoMemory>
+        requires { p.0 < length (points_of self.now) }
+        ensures { (h : History) → StandsFor self.now h → IfOk result (λ stats. stats ≡ some_if (has_own_samples h p.0) (stats_of (grammar_of self.now) h p.0)) }
+    {
+        let mut text = Text::new(self.alloc);
+        let has = self.push_stats(&mut text, p)?;
+        Ok(if has { Some(text) } else { None })
     }
 }

@@ -10,6 +10,7 @@ pub mod OneMore
 pub mod Turned
 pub mod ReadProper
 pub mod StillFed
+pub mod Emptied
 pub mod Fed
 pub mod WellKept
 pub mod Meeting
@@ -20,6 +21,7 @@ pub mod TextStates
 pub mod LevelFacts
 pub mod Spread
 pub mod NumberSamples
+pub mod OfKinds
 pub mod Breaking
 pub mod Sizes
 pub mod Pushing

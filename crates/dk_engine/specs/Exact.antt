@@ -1,7 +1,8 @@
 -- What an engine keeps of a list of samples, exactly.
 use Rattle.std.specs.Prelude.{◌≡◌, ◌≢◌, ◌↔◌, ◌<◌, ◌^◌, false, All, Contains, IsTrue, List, length}
-use Rattle.std.specs.List.{AllPairs}
+use Rattle.std.specs.List.{AllPairs, AllZip}
 use Rattle.dk_base.specs.Shapes.{is_base_form}
+use Rattle.dk_base.specs.Values.{IsOfKind}
 use Rattle.dk_base.specs.declared.kinds.VarId.{VarId}
 use Rattle.dk_base.specs.declared.kinds.VarInfo.{VarInfo}
 use Rattle.dk_base.specs.declared.values.Value.{Value}
@@ -76,6 +77,10 @@ pub record IsKeptOf (grammar : Grammar) (infos : List VarInfo) (samples : List (
 pub record AreOfPoint (infos : List VarInfo) : Type 0 where
   pub few : length infos < 2 ^ 32
   pub base_first : AllPairs (λ (a b : VarInfo). IsTrue (is_base_form b.form) → IsTrue (is_base_form a.form)) infos
+
+-- as many values as variables, each missing or of its variable's kind
+abbrev pub AreOfKinds : List VarInfo → List Value → Type 0
+AreOfKinds infos sample = AllZip (λ (info : VarInfo) x. IsOfKind info.kind x) infos sample
 
 -- samples of these variables
 abbrev pub AreSamples : List VarInfo → List (List Value) → Type 0

@@ -15,3 +15,4 @@ pub mod Step
 pub mod Choices
 pub mod Narrow
 pub mod StepLaws
+pub mod Saved

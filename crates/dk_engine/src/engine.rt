@@ -1,5 +1,6 @@
 // The engine of a point.
-ghost use Rattle.std.specs.Prelude.{◌≡◌, ◌<◌, ◌≤◌, suc, [], IfOk, IsTrue, List, OnErr, length};
+ghost use Rattle.std.specs.Prelude.{◌≡◌, ◌↔◌, ◌<◌, ◌≤◌, suc, [], IfOk, IsTrue, List, OnErr, length};
+ghost use Rattle.dk_base.specs.Values.{values_of};
 ghost use Rattle.dk_base.specs.declared.kinds.VarId.{VarId};
 ghost use Rattle.dk_base.specs.declared.kinds.VarInfo.{VarInfo};
 ghost use Rattle.dk_classes.specs.Leaders.{own_leaders};
@@ -8,15 +9,16 @@ ghost use Rattle.dk_template.specs.Premises.{AreThere};
 ghost use Rattle.dk_template.specs.Proper.{IsProper};
 ghost use Rattle.dk_template.specs.Templates.{IsRowOf, form_of};
 ghost use Rattle.dk_template.specs.declared.grammar.Grammar.{Grammar};
-ghost use Rattle.dk_engine.specs.Exact.{AreOfPoint, IsKeptOf};
+ghost use Rattle.dk_engine.specs.Exact.{AreOfKinds, AreOfPoint, IsKeptOf};
 ghost use Rattle.dk_engine.specs.Memory.{wants_memory};
 ghost use Rattle.dk_engine.specs.Parts.{leaders_of};
 ghost use Rattle.dk_engine.specs.Reading.{agree_read, count_read, read, read_leaders};
 
 use crate::nothing::Nothing;
 use crate::over::Over;
+use crate::taking::are_of_kinds;
 use crate::{Counts, Kept, Slot, Slots};
-use dk_base::{List, NoMemory, VarId, VarInfo};
+use dk_base::{List, NoMemory, VarId, VarInfo, View};
 use dk_classes::Classes;
 use dk_constants::Constants;
 use dk_presence::Presence;
@@ -128,6 +130,14 @@ impl Engine {
         ensures { result.now ≡ self.now.kept.known }
     {
         &self.kept.known
+    }
+
+    /// Whether the values are as many as the variables, each missing or of its variable's kind. Values that texts write are then a
+    /// sample that can be fed.
+    pub fn takes(&self, sample: &[View<'_>]) -> bool
+        ensures { IsTrue result ↔ AreOfKinds self.now.infos (values_of sample.now) }
+    {
+        are_of_kinds(self.infos.as_slice(), sample)
     }
 
     // One level over a lower one.

@@ -1,14 +1,16 @@
 // One sample more.
-ghost use Rattle.std.specs.Prelude.{◌≡◌, ◌<◌, [], ◌∷◌, ◌++◌, true, false, All, IfOk, IsTrue, List, length};
+ghost use Rattle.std.specs.Prelude.{◌≡◌, ◌<◌, [], ◌∷◌, ◌++◌, true, false, All, IfOk, IsTrue, List, length, map};
 ghost use Rattle.dk_base.specs.Values.{values_of};
 ghost use Rattle.dk_base.specs.declared.values.Value.{Value as SampleValue};
 ghost use Rattle.dk_classes.specs.Leaders.{own_leaders};
 ghost use Rattle.dk_fits.specs.Laws.{IsSample};
-ghost use Rattle.dk_presence.specs.Steps.{AreUnheld, Differ};
+ghost use Rattle.dk_presence.specs.Patterns.{present_in};
+ghost use Rattle.dk_presence.specs.Steps.{AreUnheld, Differ, added, refined};
+ghost use Rattle.dk_samples.specs.Leaders.{Ascend};
 ghost use Rattle.dk_engine.specs.Conditions.{AreFormed};
-ghost use Rattle.dk_engine.specs.Exact.{AreSamples, IsKeptOf};
+ghost use Rattle.dk_engine.specs.Exact.{AreOfPoint, AreSamples, IsKeptOf};
 ghost use Rattle.dk_engine.specs.Feeding.{IsTurned, parts_after, read_after, slots_of, unturned};
-ghost use Rattle.dk_engine.specs.Narrow.{AreChanges, IsMergedStep, IsShut, left_of, opened_slots, outcome};
+ghost use Rattle.dk_engine.specs.Narrow.{AreChanges, IsMergedStep, IsShut, left_of, lost_places, opened_slots, outcome};
 
 use crate::after::After;
 use crate::changes::{Change, changes, lose_some, lost_places, some_may_begin};
@@ -18,40 +20,28 @@ use crate::merging::merged;
 use crate::sweeps::Sweep;
 use crate::touching::{others, touching};
 use crate::{Engine, Kept, Now, Slots};
-use dk_base::{List, NoMemory, View};
+use dk_base::{List, NoMemory, VarId, View};
 use dk_constants::Constants;
 use dk_presence::{Presence, present_leaders};
 use std::alloc::Global;
+use std::mem::replace;
 
-// The parts with one sample more: what it made of the others, these slots, and the patterns with that of the sample.
-fn parts_with(
+// The patterns with that of a sample, where each new leader is present where its old one is.
+fn held_after(
     alloc: Global,
-    samples: u64,
     held: Presence,
+    leaders: &[VarId],
+    new: &[(VarId, VarId)],
     sample: &[View<'_>],
-    now: Now,
-    slots: Slots,
-) -> Result<Kept, NoMemory>
-    requires differ { Differ now.new }
-    requires unheld { AreUnheld now.new held }
-    ensures { IfOk result (λ k. k ≡ parts_after samples held (values_of sample.now) now slots) }
+) -> Result<Presence, NoMemory>
+    requires ascend { Ascend leaders.now }
+    requires differ { Differ new.now }
+    requires unheld { AreUnheld new.now held }
+    ensures { IfOk result (λ h. h ≡ added (present_in leaders.now (values_of sample.now)) (map (refined new.now) held)) }
 {
-    let Now {
-        leaders,
-        known,
-        new,
-        ended: _,
-    } = now;
-    let present = present_leaders(alloc, leaders.leaders(), sample)?;
-    let refined = held.refine(new.as_slice())?;
-    let held = refined.add(present.as_slice())?;
-    Ok(Kept {
-        samples: samples.saturating_add(1),
-        leaders,
-        known,
-        held,
-        slots,
-    })
+    let present = present_leaders(alloc, leaders, sample)?;
+    let refined = held.refine(new)?;
+    refined.add(present.as_slice())
 }
 
 /// What a sample changes of the slots, and whether it was asked which of them close.
@@ -64,6 +54,7 @@ pub(crate) struct Changes {
 impl Engine {
     // Whether no class splits and no constant ends with the sample. Before the first sample it is not so.
     fn is_settled(&self, sample: &[View<'_>]) -> bool
+        ensures point { AreOfPoint self.now.infos }
         ensures some { IsTrue result → 0 < self.now.kept.samples }
         ensures turned { IsTrue result → IsTurned self.now.kept (values_of sample.now) (unturned self.now.kept) }
     {
@@ -117,43 +108,25 @@ impl Engine {
         Ok(Changes { asked: true, all })
     }
 
-    // With the changes that the sample makes of its slots, where it splits no class and ends no constant.
-    fn changed(self, sample: &[View<'_>], changes: Changes) -> Result<Engine, NoMemory>
-        requires sampled { IsSample self.infos (values_of sample.now) }
-        requires turned { IsTurned self.kept (values_of sample.now) (unturned self.kept) }
-        requires changes { AreChanges (outcome changes.asked (read_after self.kept (values_of sample.now)) (values_of sample.now)) self.kept.slots changes.all }
-        ensures grammar { IfOk result (λ e. e.grammar ≡ self.grammar) }
-        ensures infos { IfOk result (λ e. e.infos ≡ self.infos) }
-        ensures kept { IfOk result (λ e. e.kept ≡ parts_after self.kept.samples self.kept.held (values_of sample.now) (unturned self.kept) (left_of (outcome changes.asked (read_after self.kept (values_of sample.now)) (values_of sample.now)) self.kept.slots)) }
+    // Makes the changes of the slots, where the sample splits no class and ends no constant.
+    fn change(&mut self, sample: &[View<'_>], changes: Changes) -> Result<(), NoMemory>
+        requires sampled { IsSample self.old.infos (values_of sample.now) }
+        requires turned { IsTurned self.old.kept (values_of sample.now) (unturned self.old.kept) }
+        requires changes { AreChanges (outcome changes.asked (read_after self.old.kept (values_of sample.now)) (values_of sample.now)) self.old.kept.slots changes.all }
+        ensures grammar { self.new.grammar ≡ self.old.grammar }
+        ensures infos { self.new.infos ≡ self.old.infos }
+        ensures kept { IfOk result (λ _. self.new.kept ≡ parts_after self.old.kept.samples self.old.kept.held (values_of sample.now) (unturned self.old.kept) (left_of (outcome changes.asked (read_after self.old.kept (values_of sample.now)) (values_of sample.now)) self.old.kept.slots)) }
     {
-        let Engine {
-            alloc,
-            grammar,
-            infos,
-            kept,
-        } = self;
-        let Kept {
-            samples,
-            leaders,
-            known,
-            held,
-            slots,
-        } = kept;
         let Changes { asked: _, all } = changes;
-        let now = Now {
-            leaders,
-            known,
-            new: List::new(alloc),
-            ended: List::new(alloc),
-        };
-        let left = changed(slots, all);
-        let kept = parts_with(alloc, samples, held, sample, now, left)?;
-        Ok(Engine {
-            alloc,
-            grammar,
-            infos,
-            kept,
-        })
+        let none = Presence::new(self.alloc)?;
+        let held = replace(&mut self.kept.held, none);
+        let leaders = self.kept.leaders.leaders();
+        let held = held_after(self.alloc, held, leaders, &[], sample)?;
+        let slots = replace(&mut self.kept.slots, Slots::new(self.alloc));
+        self.kept.samples = self.kept.samples.saturating_add(1);
+        self.kept.held = held;
+        self.kept.slots = changed(slots, all);
+        Ok(())
     }
 
     // All slots with the sample, tuple by tuple.
@@ -181,6 +154,22 @@ impl Engine {
         changes(self.alloc, &after, true, self.kept.slots.as_slice())
     }
 
+    // The places of the slots by which a premise is lost.
+    fn lost(&self, changes: &[Change]) -> Result<List<usize>, NoMemory>
+        requires { All (λ c. c.place < length self.now.kept.slots) changes.now }
+        ensures { IfOk result (λ lost. lost ≡ lost_places self.now.kept.slots changes.now) }
+    {
+        lost_places(self.alloc, self.kept.slots.as_slice(), changes)
+    }
+
+    // Whether all tuples are to be swept: with the first sample, and where the others to be looked at are about as many.
+    fn is_swept(&self, now: &Now, lost: &[usize]) -> bool
+        requires { All (λ k. k < length self.now.kept.slots) lost.now }
+        ensures { result ≡ false → 0 < self.now.kept.samples }
+    {
+        self.kept.samples == 0 || are_many(now, self.kept.slots.as_slice(), lost)
+    }
+
     // The slots that the sample opens: over tuples that it touches, and over those with the leaders of a slot by which a premise is lost.
     fn opened(&self, sample: &[View<'_>], now: &Now, lost: &[usize]) -> Result<Slots, NoMemory>
         requires sampled { IsSample self.now.infos (values_of sample.now) }
@@ -206,94 +195,78 @@ impl Engine {
         sweep.freed_by_all(self.kept.slots.as_slice(), lost, leaders, touched)
     }
 
-    // With what the sample leaves of the slots, and what it opens.
-    fn stepped(
-        self,
+    // Takes over what the sample made of the other parts, with what it leaves of the slots and what it opens.
+    fn step(
+        &mut self,
         sample: &[View<'_>],
         now: Now,
         changes: List<Change>,
         lost: &[usize],
         opened: Slots,
-    ) -> Result<Engine, NoMemory>
-        requires sampled { IsSample self.infos (values_of sample.now) }
-        requires turned { IsTurned self.kept (values_of sample.now) now }
-        requires changes { AreChanges (outcome true (read_after self.kept (values_of sample.now)) (values_of sample.now)) self.kept.slots changes }
-        requires opened { opened ≡ opened_slots self.grammar self.infos (read_after self.kept (values_of sample.now)) self.kept.slots now lost.now }
-        requires within { All (λ k. k < length self.kept.slots) lost.now }
-        ensures grammar { IfOk result (λ e. e.grammar ≡ self.grammar) }
-        ensures infos { IfOk result (λ e. e.infos ≡ self.infos) }
-        ensures kept { IfOk result (λ e. IsMergedStep self.grammar self.infos self.kept (values_of sample.now) now lost.now e.kept) }
+    ) -> Result<(), NoMemory>
+        requires sampled { IsSample self.old.infos (values_of sample.now) }
+        requires turned { IsTurned self.old.kept (values_of sample.now) now }
+        requires changes { AreChanges (outcome true (read_after self.old.kept (values_of sample.now)) (values_of sample.now)) self.old.kept.slots changes }
+        requires opened { opened ≡ opened_slots self.old.grammar self.old.infos (read_after self.old.kept (values_of sample.now)) self.old.kept.slots now lost.now }
+        requires within { All (λ k. k < length self.old.kept.slots) lost.now }
+        ensures grammar { self.new.grammar ≡ self.old.grammar }
+        ensures infos { self.new.infos ≡ self.old.infos }
+        ensures kept { IfOk result (λ _. IsMergedStep self.old.grammar self.old.infos self.old.kept (values_of sample.now) now lost.now self.new.kept) }
     {
-        let Engine {
-            alloc,
-            grammar,
-            infos,
-            kept,
-        } = self;
-        let Kept {
-            samples,
+        let slots = replace(&mut self.kept.slots, Slots::new(self.alloc));
+        let slots = merged(changed(slots, changes), opened)?;
+        self.set_parts(sample, now, slots)
+    }
+
+    // Takes over what the sample made of the other parts, these slots, and the pattern of the sample.
+    fn set_parts(&mut self, sample: &[View<'_>], now: Now, slots: Slots) -> Result<(), NoMemory>
+        requires sampled { IsSample self.old.infos (values_of sample.now) }
+        requires turned { IsTurned self.old.kept (values_of sample.now) now }
+        requires formed { AreFormed self.old.grammar self.old.infos now.leaders slots }
+        ensures grammar { self.new.grammar ≡ self.old.grammar }
+        ensures infos { self.new.infos ≡ self.old.infos }
+        ensures kept { IfOk result (λ _. self.new.kept ≡ parts_after self.old.kept.samples self.old.kept.held (values_of sample.now) now slots) }
+    {
+        let Now {
+            leaders,
+            known,
+            new,
+            ended: _,
+        } = now;
+        let none = Presence::new(self.alloc)?;
+        let held = replace(&mut self.kept.held, none);
+        let held = held_after(self.alloc, held, leaders.leaders(), new.as_slice(), sample)?;
+        self.kept = Kept {
+            samples: self.kept.samples.saturating_add(1),
+            leaders,
+            known,
             held,
             slots,
-            ..
-        } = kept;
-        let left = changed(slots, changes);
-        let slots = merged(left, opened)?;
-        let kept = parts_with(alloc, samples, held, sample, now, slots)?;
-        Ok(Engine {
-            alloc,
-            grammar,
-            infos,
-            kept,
-        })
+        };
+        Ok(())
     }
 
-    // With these parts, and the pattern of the sample.
-    fn with_parts(self, sample: &[View<'_>], now: Now, slots: Slots) -> Result<Engine, NoMemory>
-        requires sampled { IsSample self.infos (values_of sample.now) }
-        requires turned { IsTurned self.kept (values_of sample.now) now }
-        requires formed { AreFormed self.grammar self.infos now.leaders slots }
-        ensures grammar { IfOk result (λ e. e.grammar ≡ self.grammar) }
-        ensures infos { IfOk result (λ e. e.infos ≡ self.infos) }
-        ensures kept { IfOk result (λ e. e.kept ≡ parts_after self.kept.samples self.kept.held (values_of sample.now) now slots) }
-    {
-        let Engine {
-            alloc,
-            grammar,
-            infos,
-            kept,
-        } = self;
-        let Kept { samples, held, .. } = kept;
-        let kept = parts_with(alloc, samples, held, sample, now, slots)?;
-        Ok(Engine {
-            alloc,
-            grammar,
-            infos,
-            kept,
-        })
-    }
-
-    /// The engine with one sample more.
-    pub fn feed(self, sample: &[View<'_>]) -> Result<Engine, NoMemory>
-        requires { IsSample self.infos (values_of sample.now) }
-        ensures grammar { IfOk result (λ e. e.grammar ≡ self.grammar) }
-        ensures infos { IfOk result (λ e. e.infos ≡ self.infos) }
-        ensures stands { IfOk result (λ e. (samples : List (List SampleValue)) → AreSamples self.infos samples → IsKeptOf self.grammar self.infos samples self.kept → IsKeptOf self.grammar self.infos (samples ++ values_of sample.now ∷ []) e.kept) }
+    /// Takes one sample more. After want of memory the engine can be fed and asked as before, and nothing else is said of what it keeps.
+    pub fn feed(&mut self, sample: &[View<'_>]) -> Result<(), NoMemory>
+        requires { IsSample self.old.infos (values_of sample.now) }
+        ensures grammar { self.new.grammar ≡ self.old.grammar }
+        ensures infos { self.new.infos ≡ self.old.infos }
+        ensures stands { IfOk result (λ _. (samples : List (List SampleValue)) → AreSamples self.old.infos samples → IsKeptOf self.old.grammar self.old.infos samples self.old.kept → IsKeptOf self.old.grammar self.old.infos (samples ++ values_of sample.now ∷ []) self.new.kept) }
     {
         if self.is_settled(sample) {
             let changes = self.changes(sample)?;
-            if !lose_some(self.kept.slots.as_slice(), changes.all.as_slice()) {
-                return self.changed(sample, changes);
+            if !lose_some(self.slots(), changes.all.as_slice()) {
+                return self.change(sample, changes);
             }
         }
         let now = self.turn(sample)?;
         let changes = self.all_changes(sample)?;
-        let slots = self.kept.slots.as_slice();
-        let lost = lost_places(self.alloc, slots, changes.as_slice())?;
-        if self.kept.samples == 0 || are_many(&now, slots, lost.as_slice()) {
+        let lost = self.lost(changes.as_slice())?;
+        if self.is_swept(&now, lost.as_slice()) {
             let slots = self.swept(sample, &now)?;
-            return self.with_parts(sample, now, slots);
+            return self.set_parts(sample, now, slots);
         }
         let opened = self.opened(sample, &now, lost.as_slice())?;
-        self.stepped(sample, now, changes, lost.as_slice(), opened)
+        self.step(sample, now, changes, lost.as_slice(), opened)
     }
 }

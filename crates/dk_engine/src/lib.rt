@@ -16,6 +16,7 @@ mod merging;
 mod nothing;
 mod now;
 mod over;
+mod parts;
 mod places;
 mod points;
 mod reaching;
@@ -23,15 +24,15 @@ mod slot;
 mod slots;
 pub mod step_laws;
 mod sweeps;
+mod taking;
 mod touching;
 
 pub use counts::Counts;
+pub use dk_parts::{Known, Pattern};
 pub use engine::Engine;
 pub use kept::Kept;
 pub use now::Now;
+pub use parts::Parts;
 pub use points::point;
 pub use slot::Slot;
 pub use slots::Slots;
-
-#[cfg(test)]
-mod tests;

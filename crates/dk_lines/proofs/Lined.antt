@@ -144,7 +144,7 @@ record Plain (limit room n : ℕ) (xs : List ℕ) : Type 0 where
   ended : lined limit room n true xs ≡ Next (record { number = n + 1; bytes = without_cr (line_bytes xs) }) (lined limit (room - line_used xs) (n + 1) true (behind_line xs))
   cut : (d rest : List ℕ) → behind_line xs ≡ d ++ rest →
       (lined limit room n false (front ++ d) ≡ Next (record { number = n + 1; bytes = without_cr (line_bytes xs) }) (lined limit (room - line_used xs) (n + 1) false d))
-      ⊎ ((d ≡ []) × (lined limit room n false (front ++ d) ≡ Ends Broken))
+      ⊎ ((behind_line xs ≡ []) × (lined limit room n false (front ++ d) ≡ Ends Broken))
 
 -- with an LF, and these bytes of what follows
 cut_lf : (limit room n : ℕ) (xs d rest : List ℕ) (m : ℕ) → line_len xs < length xs → judged limit room (line_len xs) (line_used xs) ≡ Whole m → behind_line xs ≡ d ++ rest
@@ -189,7 +189,7 @@ plain_last limit room n xs m h e j =
           ∙ ap (λ (l : List ℕ). Next (record { number = n + 1; bytes = without_cr (line_bytes xs) }) (lined limit (room - line_used xs) (n + 1) true l)) (sym behind);
       cut = λ d rest s.
           let none : d ≡ [] = nothing_left d rest (sym behind ∙ s) in
-          inr (none, ap (λ (l : List ℕ). lined limit room n false (xs ++ l)) none ∙ ap (lined limit room n false) (append-nil xs) ∙ step_broken limit room n xs m h e j);
+          inr (behind, ap (λ (l : List ℕ). lined limit room n false (xs ++ l)) none ∙ ap (lined limit room n false) (append-nil xs) ∙ step_broken limit room n xs m h e j);
     }
 
 plain : (limit room n : ℕ) (xs : List ℕ) (m : ℕ) → 0 < length xs → judged limit room (line_len xs) (line_used xs) ≡ Whole m → Plain limit room n xs

@@ -73,7 +73,7 @@ lined limit room n is_ended bytes = lined_by limit room is_ended n (pieces bytes
 abbrev pub lines_left : Reading → Bool → List ℕ → Left
 lines_left r is_ended bytes = lined r.limits.line (room_of r) r.number is_ended bytes
 
--- A line was read: it stood at the front of what was left, and the bytes ys follow it. Where the file is cut off behind it, what is left of ys follows it too; but the last line of an ended file, which no LF ends, is then none.
+-- A line was read: it stood at the front of what was left, and the bytes ys follow it. Where the file is cut off behind it, what is left of ys follows it too; but the last line of an ended file, which no LF ends, and which nothing follows, is then none.
 pub record OneLine (old : Reading) (xs : List ℕ) (line : Line) (new : Reading) (ys : List ℕ) : Type 0 where
   pub front : List ℕ
   pub split : xs ≡ front ++ ys
@@ -81,4 +81,4 @@ pub record OneLine (old : Reading) (xs : List ℕ) (line : Line) (new : Reading)
   pub room : room_of new ≡ room_of old - length front
   pub ended : lines_left old true xs ≡ Next line (lines_left new true ys)
   pub cut : (d rest : List ℕ) → ys ≡ d ++ rest →
-      (lines_left old false (front ++ d) ≡ Next line (lines_left new false d)) ⊎ ((d ≡ []) × (lines_left old false (front ++ d) ≡ Ends Broken))
+      (lines_left old false (front ++ d) ≡ Next line (lines_left new false d)) ⊎ ((ys ≡ []) × (lines_left old false (front ++ d) ≡ Ends Broken))

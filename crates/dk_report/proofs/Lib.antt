@@ -1,6 +1,21 @@
 mod Examples
-mod Runs
-mod Sequences
-mod Stack
-pub mod Parents
-pub mod Ends
+pub mod Partners
+pub mod FlatMaps
+pub mod Instances
+pub mod Passing
+pub mod Rows
+pub mod Telling
+pub mod Views
+pub mod Leaders
+pub mod Constants
+pub mod Distinct
+pub mod SlotsCount
+pub mod Zips
+pub mod Sized
+pub mod Reported
+pub mod Swept
+pub mod Considered
+pub mod Stated
+pub mod Left
+pub mod Narrowed
+pub mod Alone

@@ -1,8 +1,10 @@
 pub mod Keeping
 pub mod Reports
 pub mod Sizes
-pub mod Files
-pub mod Effects
-pub mod Courses
-pub mod Outputs
+pub mod Engines
+pub mod Sweeps
+pub mod Listing
+pub mod Asked
+pub mod Narrowing
+pub mod Parents
 pub mod Laws

@@ -1,18 +1,22 @@
 -- How much of the samples of a point is kept.
-use Rattle.std.specs.Prelude.{◌&&◌, ◌==◌, ℕ, Bool, true, false, not, List, [], ◌∷◌, ◌++◌, filter, flat_map, length, map, take}
+use Rattle.std.specs.Prelude.{◌&&◌, ℕ, Bool, true, false, not, List, [], ◌∷◌, filter, flat_map, length, map, slice_index_or, take, if◌then◌else◌}
 use Rattle.std.specs.List.{list_all, list_any}
+use Rattle.dk_base.specs.Pieces.{is_empty}
 use Rattle.dk_base.specs.declared.kinds.VarId.{VarId}
 use Rattle.dk_base.specs.declared.kinds.VarInfo.{VarInfo}
 use Rattle.dk_base.specs.declared.values.Value.{Value}
-use Rattle.dk_core.specs.History.{History}
+use Rattle.dk_classes.specs.Leaders.{own_leaders}
 use Rattle.dk_engine.specs.declared.counts.Counts.{Counts}
+use Rattle.dk_engine.specs.declared.kept.Kept.{Kept}
 use Rattle.dk_filters.specs.OfSamples.{agrees}
 use Rattle.dk_fits.specs.Fits.{fit}
 use Rattle.dk_fits.specs.Instances.{all_vars, rows_of, tuples_over}
 use Rattle.dk_forms.specs.declared.states.State.{State}
 use Rattle.dk_forms.specs.declared.states.State.TheVariants as state
-use Rattle.dk_hierarchy.specs.Samples.{all_vars_of, own_samples_of}
+use Rattle.dk_hierarchy.specs.Samples.{OwnSamples, all_vars_of, own_samples_of}
+use Rattle.dk_points.specs.Table.{Point}
 use Rattle.dk_base.specs.SameValues.{same_value}
+use Rattle.dk_print.specs.Sections.{stats_line}
 use Rattle.dk_presence.specs.Patterns.{capped, patterns_of, same_vars}
 use Rattle.dk_samples.specs.Samples.{value_in}
 use Rattle.dk_suppress.specs.Rules.{is_suppressed}
@@ -20,6 +24,7 @@ use Rattle.dk_template.specs.Admitted.{admits, is_written}
 use Rattle.dk_template.specs.Templates.{arity_of}
 use Rattle.dk_template.specs.declared.grammar.Grammar.{Grammar}
 use Rattle.dk_template.specs.declared.grammar.RowId.{RowId}
+use Rattle.dk_report.specs.Reports.{name_of}
 
 -- a leader is a variable with which no earlier one agrees
 abbrev pub leads : List VarInfo → List (List Value) → VarId → Bool
@@ -70,6 +75,23 @@ sizes_of grammar infos samples = record {
   slots = length (slots_of grammar infos samples);
 }
 
+-- how much the kept parts are
+abbrev pub counts_of : Kept → Counts
+counts_of kept = record {
+  samples = kept.samples;
+  leaders = length (own_leaders kept.leaders);
+  constants = length kept.known;
+  patterns = length kept.held;
+  slots = length kept.slots;
+}
+
 -- the sizes of what is kept of a point's own samples
-unfoldable pub sizes_at : Grammar → History → ℕ → Counts
-sizes_at grammar h p = sizes_of grammar (all_vars_of h.table p) (own_samples_of h.table h.samples p)
+unfoldable pub sizes_at : Grammar → List Point → OwnSamples → ℕ → Counts
+sizes_at grammar ps own p = sizes_of grammar (all_vars_of ps p) (own_samples_of ps own p)
+
+abbrev pub has_own_samples : OwnSamples → ℕ → Bool
+has_own_samples own p = not (is_empty (slice_index_or own p []))
+
+-- the line of these sizes; a point without own samples has none
+unfoldable pub stats_of : Grammar → List Point → OwnSamples → ℕ → List ℕ
+stats_of grammar ps own p = if is_empty (slice_index_or own p []) then [] else stats_line (name_of ps p) (sizes_at grammar ps own p)

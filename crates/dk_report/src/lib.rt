@@ -1,7 +1,16 @@
-//! Reports and the output of a run with options: definitions that are to stand in dk_core and dk_cli.
+//! The section of a point, from what the engines of a table's points keep.
 #![tactic(auto)]
 
+mod asking;
+mod keeping;
 pub mod laws;
+mod narrowing;
 mod options;
+mod parents;
+mod sections;
+mod stats;
+mod sweeping;
 
 pub use options::Options;
+pub use sections::{kept_instances, push_section};
+pub use stats::push_stats;

@@ -6,8 +6,8 @@ use Rattle.dk_trace.specs.RecordsResumed.{shown}
 use Rattle.dk_core.proofs.Keeping.{other_call}
 use Rattle.dk_core.proofs.kept.wait.Goals as goal
 
-pub returns : goal.returns
-returns c earlier stands =
+pub returns-clause-ok : goal.returns-clause-ok
+returns-clause-ok c earlier stands =
     let is : call_of c.args.points.now (shown c.args.sample.now) ≡ other =
     other_call c.args.points.now (shown c.args.sample.now) c.requires.no_exit (sym c.is_entry.ensures ∙ c.if-is_entry.false) in
     subst (λ (call : Call). StandsFor c.args.calls.now (call ∷ earlier)) (sym is) stands

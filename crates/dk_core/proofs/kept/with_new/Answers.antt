@@ -1,13 +1,16 @@
-use Rattle.std.proofs.Common.{◌≡◌, ◌<◌, ◌∙◌, ap, arith, length, List, []}
-use Rattle.dk_base.specs.declared.kinds.VarInfo.{VarInfo}
-use Rattle.dk_bounds.specs.Summaries.{summary_of}
-use Rattle.dk_core.specs.Summaries.{summary_at}
-use Rattle.dk_core.proofs.Keeping.{put_new}
+use Rattle.std.proofs.Common.{◌≡◌, ◌+◌, rules, sym, subst, ℕ, List, length}
+use Rattle.dk_engine.specs.Levels.{Whole}
+use Rattle.dk_core.proofs.Keeping.{AreGrowing, growing_all, growing_more, growing_none}
 use Rattle.dk_core.proofs.kept.with_new.Goals as goal
+
+pub loop-place-init : goal.loop-place-init
+loop-place-init c =
+    let same : length c.args.engines.items ≡ c.len-place.result = search rules in
+    subst (AreGrowing c.args.points.now c.args.grammar c.args.engines.items c.args.engines.items) same (growing_none c.args.points.now c.args.grammar c.args.engines.items)
 
 pub loop-place-preserved : goal.loop-place-preserved
 loop-place-preserved c =
-    let there : c.loop-place.place < length c.args.points.now = omega (arith, c.loop-place-test.true, c.len-place-end.ensures.len) in
-    let is : c.new.result ≡ summary_at c.args.points.now (c.loop-place.place, []) =
-    c.new.ensures ∙ ap (λ (vs : List VarInfo). summary_of (length vs) []) c.vars-vars.ensures.vars in
-    put_new c.args.points.now c.loop-place.place c.loop-place.summaries.items c.push.new.self.items c.new.result _ there is c.in_ok-push.ensures.items c.loop-place.invariant
+    let e = c.in_ok-engine_of.ensures in
+    subst (λ (l : List Whole). AreGrowing c.args.points.now c.args.grammar c.args.engines.items l (c.loop-place.place + 1)) (sym c.in_ok-push.ensures.items)
+    (growing_more c.args.points.now c.args.grammar c.args.engines.items c.loop-place.engines.items c.loop-place.place c.in_ok-engine_of.field-0
+    (record { infos = e.infos; point = e.point; by_grammar = e.grammar; stands = e.stands }) c.loop-place.invariant)

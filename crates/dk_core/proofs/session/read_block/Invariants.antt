@@ -12,9 +12,10 @@ invariant-reading g l = record {
   grown : l.fn.lines.total ≤ l.lines.total;
   files : g.I.Inputs.file l.inputs ≡ g.I.Inputs.file l.fn.inputs;
   later : g.I.Inputs.faults l.fn.inputs ≤ g.I.Inputs.faults l.inputs;
+  grammar : l.kept.grammar ≡ l.fn.kept.grammar;
   fits : Fits l.kept l.block;
   goes : (h : History) → Stands l.fn.kept h → IfSome (left_of l.fn.lines (g.I.Inputs.rest l.fn.inputs))
-      (λ xs. Goes_to (effect_of h) l.fn.lines xs l.kept l.block l.lines (left_of l.lines (g.I.Inputs.rest l.inputs)));
+      (λ xs. Goes_to l.fn.ignores (effect_of l.fn.ignores h) l.fn.lines xs l.kept l.block l.lines (left_of l.lines (g.I.Inputs.rest l.inputs)));
 }
 
 abbrev pub decreases-reading : goal.decreases-reading

@@ -1,4 +1,4 @@
-use Rattle.dk_report.proofs.Parents.{parents_are_like}
+use Rattle.dk_report.proofs.Partners.{parents_are_like}
 use Rattle.dk_report.proofs.laws.parents_are_like.Goals as goal
 
 pub returns : goal.returns

@@ -1,14 +1,15 @@
-use Rattle.std.proofs.Common.{◌∙◌, ap, sym, Bool, Result}
+use Rattle.std.proofs.Common.{◌∙◌, ap, sym, Bool, Result, Some}
 use Rattle.dk_base.specs.Reading.{Line, LineFault, ◌>>=◌}
 use Rattle.dk_decl.specs.Blocks.{decl_of}
 use Rattle.dk_decl.specs.declared.decls.PointDecl.{PointDecl}
+use Rattle.dk_core.proofs.Constants.{declared_fit}
 use Rattle.dk_core.specs.History.{History, where_it_ends, with_declaration}
 use Rattle.dk_core.specs.Standing.{Fits, resumed}
 use Rattle.dk_core.proofs.kept.Kept.begun_declaration.Goals as goal
 
 pub returns-in-Ok-clause-goes_on : goal.returns-in-Ok-clause-goes_on
 unfolding resumed
-returns-in-Ok-clause-goes_on c h ls close =
+returns-in-Ok-clause-goes_on c ignores h ls close =
     let now : History = record h { header = c.args.block.now.header } in
     let first : Line = record { number = c.args.number; bytes = c.args.bytes.now } in
     ap (λ (r : Result PointDecl LineFault). r >>= λ d. where_it_ends close now (with_declaration now c.args.number d))
@@ -16,4 +17,6 @@ returns-in-Ok-clause-goes_on c h ls close =
 
 pub returns-in-Ok-clause-fits : goal.returns-in-Ok-clause-fits
 unfolding Fits
-returns-in-Ok-clause-fits c = tt
+returns-in-Ok-clause-fits c ls close d is =
+    let first : Line = record { number = c.args.number; bytes = c.args.bytes.now } in
+    declared_fit c.implicit.result first ls close d (c.in-Ok.ensures ls (Some close) ∙ is)

@@ -1,4 +1,8 @@
-use Rattle.std.proofs.Common.{◌∙◌, ap, sym, subst, List, Result}
+use Rattle.std.proofs.Common.{◌≡◌, ◌∙◌, ap, sym, subst, List, Result}
+use Rattle.dk_trace.specs.RecordsResumed.{IsOf}
+use Rattle.dk_core.proofs.Recording.{reads_first}
+use Rattle.dk_core.specs.Fitting.{ReadsFitting}
+use Rattle.dk_core.specs.Keeping.{Keeping}
 use Rattle.dk_base.specs.Reading.{Line, LineFault, ◌>>=◌}
 use Rattle.dk_decl.specs.Outcomes.{ToldOn as DeclToldOn}
 use Rattle.dk_points.specs.Table.{Point}
@@ -11,21 +15,26 @@ use Rattle.dk_core.proofs.kept.Kept.begun_record.Goals as goal
 
 pub returns-in-Ok-clause-goes_on : goal.returns-in-Ok-clause-goes_on
 unfolding resumed Stands
-returns-in-Ok-clause-goes_on c h stands ls close =
+returns-in-Ok-clause-goes_on c ignores h stands ls close =
     let now : History = record h { header = c.args.block.now.header } in
     let first : Line = record { number = c.args.number; bytes = c.args.bytes.now } in
-    ap (λ (r : Result Sample LineFault). r >>= λ s. where_it_ends close now (with_record now s))
-    (ap (λ (ps : List Point). sample_of ps first ls close) (sym stands.table) ∙ c.in-Ok.ensures.goes_on ls close
-    ∙ ap (λ (ps : List Point). record_resumed ps c.in-Ok.reader ls close) stands.table)
+    let points : c.self.inside.points ≡ c.args.self.now.points = ap (λ (k : Keeping). k.points) c.self.view_is in
+    ap (λ (r : Result Sample LineFault). r >>= λ s. where_it_ends close now (with_record ignores now s))
+    (ap (λ (ps : List Point). sample_of ps first ls close) (sym (points ∙ stands.table)) ∙ c.in-Ok.ensures.goes_on ls close
+    ∙ ap (λ (ps : List Point). record_resumed ps c.in-Ok.reader ls close) (points ∙ stands.table))
 
 pub returns-in-Ok-clause-fits : goal.returns-in-Ok-clause-fits
 unfolding Fits
-returns-in-Ok-clause-fits c = c.in-Ok.ensures.of
+returns-in-Ok-clause-fits c =
+    let first : Line = record { number = c.args.number; bytes = c.args.bytes.now } in
+    let points : c.self.inside.points ≡ c.args.self.now.points = ap (λ (k : Keeping). k.points) c.self.view_is in
+    let P : List Point → Type 0 = λ ps. IsOf ps c.in-Ok.reader × ReadsFitting ps c.in-Ok.reader in
+    subst P points (c.in-Ok.ensures.of, reads_first c.self.inside.points first c.in-Ok.reader c.self.invariant.constants c.in-Ok.ensures.goes_on)
 
 pub returns-in-Err-clause-goes_on : goal.returns-in-Err-clause-goes_on
 unfolding Stands
-returns-in-Err-clause-goes_on c h stands =
+returns-in-Err-clause-goes_on c ignores h stands =
     let now : History = record h { header = c.args.block.now.header } in
     let first : Line = record { number = c.args.number; bytes = c.args.bytes.now } in
-    told_then c.in-Err.fault (sample_of h.table first) (λ s close. where_it_ends close now (with_record now s))
-    (subst (λ (ps : List Point). DeclToldOn c.in-Err.fault (sample_of ps first)) stands.table c.in-Err.ensures.goes_on)
+    told_then c.in-Err.fault (sample_of h.table first) (λ s close. where_it_ends close now (with_record ignores now s))
+    (subst (λ (ps : List Point). DeclToldOn c.in-Err.fault (sample_of ps first)) (ap (λ (k : Keeping). k.points) c.self.view_is ∙ stands.table) c.in-Err.ensures.goes_on)

@@ -1,9 +1,11 @@
-use Rattle.std.proofs.Common.{◌∙◌, [], ap, refl, subst, sym, List, Some, Result, Err}
+use Rattle.std.proofs.Common.{◌≡◌, ◌∙◌, [], ap, refl, subst, sym, List, Some, Result, Err}
 use Rattle.dk_base.specs.Reading.{LineFault, ◌>>=◌}
 use Rattle.dk_decl.specs.Outcomes.{Told}
 use Rattle.dk_points.specs.Table.{Point}
 use Rattle.dk_trace.specs.Records.{Sample}
-use Rattle.dk_trace.specs.RecordsResumed.{resumed as record_resumed}
+use Rattle.dk_trace.specs.RecordsResumed.{IsOf, resumed as record_resumed, shown}
+use Rattle.dk_core.specs.Fitting.{FitAt, ReadsFitting}
+use Rattle.dk_core.specs.Keeping.{Keeping}
 use Rattle.dk_core.specs.History.{History, Taken, with_record}
 use Rattle.dk_core.specs.Standing.{Closes, Fits, Stands, StateFits, paired, resumed, resumed_by}
 use Rattle.dk_core.specs.declared.block.State.{State}
@@ -13,41 +15,64 @@ use Rattle.dk_core.proofs.kept.Kept.close.Goals as goal
 
 pub end-requires : goal.end-requires
 unfolding Fits
-end-requires c = subst (λ (s : State). StateFits c.args.self.now.points s) c.in-Record.is c.requires
+end-requires c =
+    let points : c.self.inside.points ≡ c.args.self.now.points = ap (λ (k : Keeping). k.points) c.self.view_is in
+    subst (λ (ps : List Point). IsOf ps c.in-Record.reader) (sym points) (subst (λ (s : State). StateFits c.args.self.now.points s) c.in-Record.is c.requires).0
 
-pub returns-in-Front : goal.returns-in-Front
+pub with_record-requires-clause-fits : goal.with_record-requires-clause-fits
+unfolding Fits
+with_record-requires-clause-fits c =
+    let points : c.self.inside.points ≡ c.args.self.now.points = ap (λ (k : Keeping). k.points) c.self.view_is in
+    let fits = subst (λ (s : State). StateFits c.args.self.now.points s) c.in-Record.is c.requires in
+    subst (λ (ps : List Point). ReadsFitting ps c.in-Record.reader) (sym points) fits.1 [] c.args.number (shown c.in-Ok.sample) c.in-Ok.ensures.sample
+
+pub declaration_end-requires-clause-fits : goal.declaration_end-requires-clause-fits
+unfolding Fits
+declaration_end-requires-clause-fits c =
+    let points : c.self.inside.points ≡ c.args.self.now.points = ap (λ (k : Keeping). k.points) c.self.view_is in
+    subst (λ (ps : List Point). StateFits ps c.args.block.now.state) (sym points) c.requires
+
+pub returns-in-Front-clause-closes : goal.returns-in-Front-clause-closes
 unfolding resumed
-returns-in-Front c h stands =
+returns-in-Front-clause-closes c h stands =
     let now : History = record h { header = c.args.block.now.header } in
-    rw c.in-Front.is
-    (c.without_record.ensures now (with_header c.args.self.now _ h c.args.block.now.header stands refl refl refl refl) c.args.number)
+    let points : c.self.inside.points ≡ c.args.self.now.points = ap (λ (k : Keeping). k.points) c.self.view_is in
+    let held = with_header c.args.self.now _ h c.args.block.now.header stands points refl (ap (λ (k : Keeping). k.calls) c.self.view_is) (ap (λ (k : Keeping). k.engines) c.self.view_is) in
+    rw c.in-Front.is (c.without_record.ensures now held c.args.number)
 
-pub returns-in-Declaration : goal.returns-in-Declaration
+pub returns-in-Declaration-clause-closes : goal.returns-in-Declaration-clause-closes
 unfolding resumed
-returns-in-Declaration c h stands =
+returns-in-Declaration-clause-closes c h stands =
     let now : History = record h { header = c.args.block.now.header } in
-    c.declaration_end.ensures now (with_header c.args.self.now _ h c.args.block.now.header stands refl refl refl refl)
+    let points : c.self.inside.points ≡ c.args.self.now.points = ap (λ (k : Keeping). k.points) c.self.view_is in
+    let held = with_header c.args.self.now _ h c.args.block.now.header stands points refl (ap (λ (k : Keeping). k.calls) c.self.view_is) (ap (λ (k : Keeping). k.engines) c.self.view_is) in
+    c.declaration_end.ensures.closes c.args.ignores now held
 
-pub returns-in-Implementors : goal.returns-in-Implementors
+pub returns-in-Implementors-clause-closes : goal.returns-in-Implementors-clause-closes
 unfolding resumed
-returns-in-Implementors c h stands =
+returns-in-Implementors-clause-closes c h stands =
     let now : History = record h { header = c.args.block.now.header } in
-    (now, with_header c.args.self.now _ h c.args.block.now.header stands refl refl refl refl, ap (λ (s : State). resumed_by now s [] (Some c.args.number)) c.in-Implementors.is)
+    let points : c.self.inside.points ≡ c.args.self.now.points = ap (λ (k : Keeping). k.points) c.self.view_is in
+    let held = with_header c.args.self.now _ h c.args.block.now.header stands points refl (ap (λ (k : Keeping). k.calls) c.self.view_is) (ap (λ (k : Keeping). k.engines) c.self.view_is) in
+    (now, held, ap (λ (s : State). resumed_by c.args.ignores now s [] (Some c.args.number)) c.in-Implementors.is)
 
-pub returns-in-Ok : goal.returns-in-Ok
+pub returns-in-Ok-clause-closes : goal.returns-in-Ok-clause-closes
 unfolding resumed Stands
-returns-in-Ok c h stands =
+returns-in-Ok-clause-closes c h stands =
     let now : History = record h { header = c.args.block.now.header } in
+    let points : c.self.inside.points ≡ c.args.self.now.points = ap (λ (k : Keeping). k.points) c.self.view_is in
+    let held = with_header c.args.self.now _ h c.args.block.now.header stands points refl (ap (λ (k : Keeping). k.calls) c.self.view_is) (ap (λ (k : Keeping). k.engines) c.self.view_is) in
     subst (λ (r : Result Taken LineFault). Closes (paired c.with_record.new.self c.with_record.result) r)
-    (sym (ap (λ (s : State). resumed_by now s [] (Some c.args.number)) c.in-Record.is
-    ∙ ap (λ (r : Result Sample LineFault). r >>= λ s. with_record now s)
-    (ap (λ (ps : List Point). record_resumed ps c.in-Record.reader [] (Some c.args.number)) (sym stands.table) ∙ c.in-Ok.ensures.sample)))
-    (c.with_record.ensures now (with_header c.args.self.now _ h c.args.block.now.header stands refl refl refl refl))
+    (sym (ap (λ (s : State). resumed_by c.args.ignores now s [] (Some c.args.number)) c.in-Record.is
+    ∙ ap (λ (r : Result Sample LineFault). r >>= λ s. with_record c.args.ignores now s)
+    (ap (λ (ps : List Point). record_resumed ps c.in-Record.reader [] (Some c.args.number)) (sym (points ∙ stands.table)) ∙ c.in-Ok.ensures.sample)))
+    (c.with_record.ensures.closes now held)
 
-pub returns-in-Err : goal.returns-in-Err
+pub returns-in-Err-clause-closes : goal.returns-in-Err-clause-closes
 unfolding resumed Stands
-returns-in-Err c h stands =
+returns-in-Err-clause-closes c h stands =
     let now : History = record h { header = c.args.block.now.header } in
-    subst (λ (s : State). Closes (Err c.in-Err.fault) (resumed_by now s [] (Some c.args.number))) (sym c.in-Record.is)
-    (told_closes c.in-Err.fault _ (told_at c.in-Err.fault (record_resumed now.table c.in-Record.reader [] (Some c.args.number)) (λ s. with_record now s)
-    (subst (λ (ps : List Point). Told c.in-Err.fault (record_resumed ps c.in-Record.reader [] (Some c.args.number))) stands.table c.in-Err.ensures.sample)))
+    let points : c.self.inside.points ≡ c.args.self.now.points = ap (λ (k : Keeping). k.points) c.self.view_is in
+    subst (λ (s : State). Closes (Err c.in-Err.fault) (resumed_by c.args.ignores now s [] (Some c.args.number))) (sym c.in-Record.is)
+    (told_closes c.in-Err.fault _ (told_at c.in-Err.fault (record_resumed now.table c.in-Record.reader [] (Some c.args.number)) (λ s. with_record c.args.ignores now s)
+    (subst (λ (ps : List Point). Told c.in-Err.fault (record_resumed ps c.in-Record.reader [] (Some c.args.number))) (points ∙ stands.table) c.in-Err.ensures.sample)))

@@ -6,29 +6,29 @@ use Rattle.dk_core.proofs.Fronting.{declares, lists, samples, goes_as}
 use Rattle.dk_core.proofs.kept.Kept.first_line.Goals as goal
 
 pub returns-then-is_declaration-clause-goes_on : goal.returns-then-is_declaration-clause-goes_on
-returns-then-is_declaration-clause-goes_on c h stands =
+returns-then-is_declaration-clause-goes_on c ignores h stands =
     let now : History = record h { header = c.args.block.now.header } in
     let first : Line = record { number = c.args.number; bytes = c.args.bytes.now } in
     let is : is_declaration c.args.bytes.now ≡ true = sym c.is_declaration.ensures ∙ c.if-is_declaration.true in
-    goes_as h (carried c.begun_declaration.new.block c.begun_declaration.result) _ _ (λ ls close. declares now first ls close is) (c.begun_declaration.ensures.goes_on h)
+    goes_as ignores h (carried c.begun_declaration.new.block c.begun_declaration.result) _ _ (λ ls close. declares ignores now first ls close is) (c.begun_declaration.ensures.goes_on ignores h)
 
 pub returns-then-is_list_of_implementors-clause-goes_on : goal.returns-then-is_list_of_implementors-clause-goes_on
 unfolding resumed
-returns-then-is_list_of_implementors-clause-goes_on c h stands ls close =
+returns-then-is_list_of_implementors-clause-goes_on c ignores h stands ls close =
     let now : History = record h { header = c.args.block.now.header } in
     let first : Line = record { number = c.args.number; bytes = c.args.bytes.now } in
     let is : is_declaration c.args.bytes.now ≡ false = sym c.is_declaration.ensures ∙ c.if-is_declaration.false in
     let list : is_list_of_implementors c.args.bytes.now ≡ true = sym c.is_list_of_implementors.ensures ∙ c.if-is_list_of_implementors.true in
-    lists now first ls close is list
+    lists ignores now first ls close is list
 
 pub returns-then-is_list_of_implementors-clause-fits : goal.returns-then-is_list_of_implementors-clause-fits
 unfolding Fits
 returns-then-is_list_of_implementors-clause-fits c = tt
 
 pub returns-clause-goes_on : goal.returns-clause-goes_on
-returns-clause-goes_on c h stands =
+returns-clause-goes_on c ignores h stands =
     let now : History = record h { header = c.args.block.now.header } in
     let first : Line = record { number = c.args.number; bytes = c.args.bytes.now } in
     let is : is_declaration c.args.bytes.now ≡ false = sym c.is_declaration.ensures ∙ c.if-is_declaration.false in
     let list : is_list_of_implementors c.args.bytes.now ≡ false = sym c.is_list_of_implementors.ensures ∙ c.if-is_list_of_implementors.false in
-    goes_as h (carried c.begun_record.new.block c.begun_record.result) _ _ (λ ls close. samples now first ls close is list) (c.begun_record.ensures.goes_on h stands)
+    goes_as ignores h (carried c.begun_record.new.block c.begun_record.result) _ _ (λ ls close. samples ignores now first ls close is list) (c.begun_record.ensures.goes_on ignores h stands)

@@ -10,32 +10,32 @@ use Rattle.dk_core.proofs.kept.Kept.front_line.Goals as goal
 
 pub returns-then-is_comment-clause-goes_on : goal.returns-then-is_comment-clause-goes_on
 unfolding resumed
-returns-then-is_comment-clause-goes_on c h stands ls close =
+returns-then-is_comment-clause-goes_on c ignores h stands ls close =
     let now : History = record h { header = c.args.block.now.header } in
     let line : Line = record { number = c.args.number; bytes = c.args.bytes.now } in
-    past_comment now c.args.last line ls close (sym c.is_comment.ensures ∙ c.if-is_comment.true)
+    past_comment ignores now c.args.last line ls close (sym c.is_comment.ensures ∙ c.if-is_comment.true)
 
 pub returns-then-is_comment-clause-fits : goal.returns-then-is_comment-clause-fits
 unfolding Fits
 returns-then-is_comment-clause-fits c = tt
 
 pub returns-then-is_plainly_sample-clause-goes_on : goal.returns-then-is_plainly_sample-clause-goes_on
-returns-then-is_plainly_sample-clause-goes_on c h stands =
+returns-then-is_plainly_sample-clause-goes_on c ignores h stands =
     let now : History = record h { header = c.args.block.now.header } in
     let line : Line = record { number = c.args.number; bytes = c.args.bytes.now } in
-    goes_as h (carried c.begun_record.new.block c.begun_record.result) _ _
-    (λ ls close. at_record now now.header c.args.last line ls close (sym c.is_comment.ensures ∙ c.if-is_comment.false)
+    goes_as ignores h (carried c.begun_record.new.block c.begun_record.result) _ _
+    (λ ls close. at_record ignores now now.header c.args.last line ls close (sym c.is_comment.ensures ∙ c.if-is_comment.false)
     (subst (λ (o : Option (Result Header Why)). Answers o now.header (Ok false) now.header) (sym (c.is_plainly_sample.ensures.header c.if-is_plainly_sample.true)) (refl, refl))
-    ∙ samples now line ls close (c.is_plainly_sample.ensures.declaration c.if-is_plainly_sample.true) (c.is_plainly_sample.ensures.list c.if-is_plainly_sample.true))
-    (c.begun_record.ensures.goes_on h stands)
+    ∙ samples ignores now line ls close (c.is_plainly_sample.ensures.declaration c.if-is_plainly_sample.true) (c.is_plainly_sample.ensures.list c.if-is_plainly_sample.true))
+    (c.begun_record.ensures.goes_on ignores h stands)
 
 pub returns-in-Ok-true-clause-goes_on : goal.returns-in-Ok-true-clause-goes_on
 unfolding resumed
-returns-in-Ok-true-clause-goes_on c h stands ls close =
+returns-in-Ok-true-clause-goes_on c ignores h stands ls close =
     let now : History = record h { header = c.args.block.now.header } in
     let line : Line = record { number = c.args.number; bytes = c.args.bytes.now } in
     let is : c.line.result ≡ Ok true = search rules in
-    past_header now c.line.new.self c.args.last line ls close (sym c.is_comment.ensures ∙ c.if-is_comment.false)
+    past_header ignores now c.line.new.self c.args.last line ls close (sym c.is_comment.ensures ∙ c.if-is_comment.false)
     (subst (λ (r : Result Bool Why). Answers (header_line c.args.block.now.header c.args.bytes.now) c.args.block.now.header r c.line.new.self) is c.line.ensures)
 
 pub returns-in-Ok-true-clause-fits : goal.returns-in-Ok-true-clause-fits
@@ -43,19 +43,19 @@ unfolding Fits
 returns-in-Ok-true-clause-fits c = tt
 
 pub returns-in-Ok-false-clause-goes_on : goal.returns-in-Ok-false-clause-goes_on
-returns-in-Ok-false-clause-goes_on c h stands =
+returns-in-Ok-false-clause-goes_on c ignores h stands =
     let now : History = record h { header = c.args.block.now.header } in
     let line : Line = record { number = c.args.number; bytes = c.args.bytes.now } in
     let is : c.line.result ≡ Ok false = search rules in
-    goes_as h (carried c.first_line.new.block c.first_line.result) _ _
-    (λ ls close. at_record now c.line.new.self c.args.last line ls close (sym c.is_comment.ensures ∙ c.if-is_comment.false)
+    goes_as ignores h (carried c.first_line.new.block c.first_line.result) _ _
+    (λ ls close. at_record ignores now c.line.new.self c.args.last line ls close (sym c.is_comment.ensures ∙ c.if-is_comment.false)
     (subst (λ (r : Result Bool Why). Answers (header_line c.args.block.now.header c.args.bytes.now) c.args.block.now.header r c.line.new.self) is c.line.ensures))
-    (c.first_line.ensures.goes_on h stands)
+    (c.first_line.ensures.goes_on ignores h stands)
 
 pub returns-in-Err-clause-goes_on : goal.returns-in-Err-clause-goes_on
-returns-in-Err-clause-goes_on c h stands ls close =
+returns-in-Err-clause-goes_on c ignores h stands ls close =
     let now : History = record h { header = c.args.block.now.header } in
     let line : Line = record { number = c.args.number; bytes = c.args.bytes.now } in
     let is : c.line.result ≡ Err c.in-Err.why = search rules in
-    bad_header now c.line.new.self c.args.last line c.in-Err.why ls close (sym c.is_comment.ensures ∙ c.if-is_comment.false)
+    bad_header ignores now c.line.new.self c.args.last line c.in-Err.why ls close (sym c.is_comment.ensures ∙ c.if-is_comment.false)
     (subst (λ (r : Result Bool Why). Answers (header_line c.args.block.now.header c.args.bytes.now) c.args.block.now.header r c.line.new.self) is c.line.ensures)

@@ -3,6 +3,7 @@ use Rattle.dk_decl.specs.Headers.{awaits_word}
 use Rattle.dk_decl.specs.declared.header.Header.{Header}
 use Rattle.dk_base.specs.declared.why.Why.TheVariants.{BadHeader}
 use Rattle.dk_core.specs.History.{without_record}
+use Rattle.dk_core.specs.Keeping.{Keeping}
 use Rattle.dk_core.specs.Standing.{Stands}
 use Rattle.dk_core.proofs.Fronting.{no_word, word}
 use Rattle.dk_core.proofs.kept.Kept.without_record.Goals as goal
@@ -12,7 +13,7 @@ unfolding Stands
 returns-in-Ok c h stands close =
     let ok : c.end.result ≡ Ok tt = search rules in
     let asked : c.end.result ≡ (if awaits_word h.header then Err BadHeader else Ok tt) =
-    c.end.ensures.value ∙ ap (λ (x : Header). if awaits_word x then Err BadHeader else Ok tt) stands.header in
+    c.end.ensures.value ∙ ap (λ (x : Header). if awaits_word x then Err BadHeader else Ok tt) (ap (λ (k : Keeping). k.header) c.self.view_is ∙ stands.header) in
     (h, stands, ap (λ (l : Option ℕ). without_record h l (Some close)) c.in-Some.is ∙ no_word (awaits_word h.header) c.in-Some.line h c.end.result asked ok)
 
 pub returns-in-Err : goal.returns-in-Err
@@ -20,5 +21,5 @@ unfolding Stands
 returns-in-Err c h stands close =
     let err : c.end.result ≡ Err c.in-Err.why = search rules in
     let asked : c.end.result ≡ (if awaits_word h.header then Err BadHeader else Ok tt) =
-    c.end.ensures.value ∙ ap (λ (x : Header). if awaits_word x then Err BadHeader else Ok tt) stands.header in
+    c.end.ensures.value ∙ ap (λ (x : Header). if awaits_word x then Err BadHeader else Ok tt) (ap (λ (k : Keeping). k.header) c.self.view_is ∙ stands.header) in
     ap (λ (l : Option ℕ). without_record h l (Some close)) c.in-Some.is ∙ word (awaits_word h.header) c.in-Some.line h c.in-Err.why c.end.result asked err

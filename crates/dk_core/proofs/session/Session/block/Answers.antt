@@ -18,5 +18,5 @@ returns-in-Ok-clause-gives g c h stands =
     (left_of c.read_block.new.lines (g.I.Inputs.rest c.read_block.new.inputs)) (ended c.read_block.new.kept c.in-Ok.end)
     (record c.args.self.now { kept = c.read_block.new.kept; is_over = c.in-Ok.end.is_over }, c.in-Ok.end.found) c.if-self.false refl refl refl
     (subst (λ (r : Result End Stop). IfSome (left_of c.args.lines.now (g.I.Inputs.rest c.args.inputs.now))
-    (λ xs. BlockGives (effect_of h) false c.args.lines.now xs (ending_of c.read_block.new.kept r) c.read_block.new.lines (left_of c.read_block.new.lines (g.I.Inputs.rest c.read_block.new.inputs)))) is
+    (λ xs. BlockGives c.args.self.now.options.ignore_missing_entry (effect_of c.args.self.now.options.ignore_missing_entry h) false c.args.lines.now xs (ending_of c.read_block.new.kept r) c.read_block.new.lines (left_of c.read_block.new.lines (g.I.Inputs.rest c.read_block.new.inputs)))) is
     (c.read_block.ensures.gives h stands))

@@ -1,7 +1,7 @@
 use Rattle.std.specs.Prelude.{◌≡◌, ◌<◌, ◌++◌, ◌∷◌, ℕ, zero, suc, [], All, List, true, false, filter, length, refl}
 use Rattle.std.specs.List.{list_any}
 use Rattle.std.proofs.Common.{arith, get_or, subst, sym, ◌∙◌, ap}
-use Rattle.std.proofs.lemmas.List.Elements.{All-contains, Contains-get_or}
+use Rattle.std.proofs.lemmas.List.Elements.{All-contains, All-weaker, Contains-get_or}
 use Rattle.std.proofs.lemmas.Result.{IfOk-weaker}
 use Rattle.dk_base.specs.Values.{values_of}
 use Rattle.dk_base.specs.declared.values.Value.{Value}
@@ -10,17 +10,18 @@ use Rattle.dk_forms.specs.declared.states.State.{State}
 use Rattle.dk_engine.proofs.Fed.{fed_parts_exact}
 use Rattle.dk_engine.proofs.Opened.{merged_parts_exact}
 use Rattle.dk_engine.proofs.Settling.{settled_parts_exact}
-use Rattle.dk_engine.specs.Exact.{AreOfPoint, AreSamples, IsKeptOf}
+use Rattle.dk_engine.specs.Exact.{AreSamples, IsKeptOf}
 use Rattle.dk_engine.specs.Feeding.{IsTurned, parts_after, read_after, unturned}
 use Rattle.dk_engine.specs.Narrow.{IsChange, IsMergedStep, left_of, loses_by, lost_places, outcome}
 use Rattle.dk_engine.specs.Levels.{Whole}
 use Rattle.dk_engine.specs.declared.changes.Change.{Change}
+use Rattle.dk_engine.specs.declared.kept.Kept.{Kept}
 use Rattle.dk_engine.specs.declared.slot.Slot.{Slot}
 use Rattle.dk_engine.proofs.engine.Engine.feed.Goals as goal
 
--- the lost places, of slots and changes that are the same
-lost_is : (slots others : List Slot) (changes more : List Change) (lost : List ℕ) → slots ≡ others → changes ≡ more → lost ≡ lost_places slots changes → lost ≡ lost_places others more
-lost_is slots others changes more lost e f g = g ∙ (ap (λ ss. lost_places ss changes) e ∙ ap (lost_places others) f)
+-- the lost places, of changes that are the same
+lost_of : (slots : List Slot) (changes more : List Change) (lost : List ℕ) → changes ≡ more → lost ≡ lost_places slots changes → lost ≡ lost_places slots more
+lost_of slots changes more lost f g = g ∙ ap (lost_places slots) f
 
 lost_within : (made : Slot → State) (slots : List Slot) (changes : List Change) → All (IsChange made slots) changes → All (λ k. k < length slots) (lost_places slots changes)
 lost_within made slots changes each k d l =
@@ -30,87 +31,85 @@ lost_within made slots changes each k d l =
     let f = of_filter (loses_by slots) m.0 changes m.1 in
     subst (λ n. n < length slots) (sym m.2) (All-contains (IsChange made slots) changes m.0 each (contained m.0 changes f.0)).within
 
-positive : (n : ℕ) → (n ≡ 0 → ⊥) → 0 < n
-positive zero h = absurd (h refl)
-positive (suc n) h = omega arith
-
-pub are_many-requires : goal.are_many-requires
-are_many-requires c =
-    let w : Whole = c.args.self in
+pub lost-requires : goal.lost-requires
+lost-requires c =
+    let w : Whole = c.args.self.now in
     let sample = values_of c.args.sample.now in
     let made = outcome true (read_after w.kept sample) sample in
     let changes = c.in_ok-changes-2.changes in
-    let same : c.as_slice-slots.result.now ≡ w.kept.slots = c.as_slice-slots.ensures ∙ ap (λ (v : Whole). v.kept.slots) c.self.view_is in
-    let lost : c.in_ok-lost.lost ≡ lost_places w.kept.slots changes = lost_is c.as_slice-slots.result.now w.kept.slots c.as_slice-2.result.now changes c.in_ok-lost.lost same c.as_slice-2.ensures c.in_ok-lost.ensures in
-    let within = lost_within made w.kept.slots changes c.in_ok-changes-2.ensures.each in
-    subst (λ (ss : List Slot). All (λ k. k < length ss) c.as_slice-else-self-eq0.result.now) (sym same) (subst (All (λ k. k < length w.kept.slots)) (sym (c.as_slice-else-self-eq0.ensures ∙ lost)) within)
+    let P : Change → Type 0 = λ d. d.place < length w.kept.slots in
+    subst (λ (ds : List Change). All P ds) (sym c.as_slice-2.ensures) (All-weaker (IsChange made w.kept.slots) P (λ d is. is.within) changes c.in_ok-changes-2.ensures.each)
+
+pub is_swept-requires : goal.is_swept-requires
+is_swept-requires c =
+    let w : Whole = c.args.self.now in
+    let sample = values_of c.args.sample.now in
+    let made = outcome true (read_after w.kept sample) sample in
+    let changes = c.in_ok-changes-2.changes in
+    let lost : c.in_ok-lost.lost ≡ lost_places w.kept.slots changes = lost_of w.kept.slots c.as_slice-2.result.now changes c.in_ok-lost.lost c.as_slice-2.ensures c.in_ok-lost.ensures in
+    subst (All (λ k. k < length w.kept.slots)) (sym (c.as_slice-3.ensures ∙ lost)) (lost_within made w.kept.slots changes c.in_ok-changes-2.ensures.each)
 
 pub opened-requires-clause-within : goal.opened-requires-clause-within
 opened-requires-clause-within c =
-    let w : Whole = c.args.self in
+    let w : Whole = c.args.self.now in
     let sample = values_of c.args.sample.now in
     let made = outcome true (read_after w.kept sample) sample in
     let changes = c.in_ok-changes-2.changes in
-    let same : c.as_slice-slots.result.now ≡ w.kept.slots = c.as_slice-slots.ensures ∙ ap (λ (v : Whole). v.kept.slots) c.self.view_is in
-    let lost : c.in_ok-lost.lost ≡ lost_places w.kept.slots changes = lost_is c.as_slice-slots.result.now w.kept.slots c.as_slice-2.result.now changes c.in_ok-lost.lost same c.as_slice-2.ensures c.in_ok-lost.ensures in
-    let within = lost_within made w.kept.slots changes c.in_ok-changes-2.ensures.each in
-    subst (All (λ k. k < length w.kept.slots)) (sym (c.as_slice-3.ensures ∙ lost)) within
+    let lost : c.in_ok-lost.lost ≡ lost_places w.kept.slots changes = lost_of w.kept.slots c.as_slice-2.result.now changes c.in_ok-lost.lost c.as_slice-2.ensures c.in_ok-lost.ensures in
+    subst (All (λ k. k < length w.kept.slots)) (sym (c.as_slice-4.ensures ∙ lost)) (lost_within made w.kept.slots changes c.in_ok-changes-2.ensures.each)
 
-pub stepped-requires-clause-within : goal.stepped-requires-clause-within
-stepped-requires-clause-within c =
-    let w : Whole = c.args.self in
+pub step-requires-clause-within : goal.step-requires-clause-within
+step-requires-clause-within c =
+    let w : Whole = c.args.self.now in
     let sample = values_of c.args.sample.now in
     let made = outcome true (read_after w.kept sample) sample in
     let changes = c.in_ok-changes-2.changes in
-    let same : c.as_slice-slots.result.now ≡ w.kept.slots = c.as_slice-slots.ensures ∙ ap (λ (v : Whole). v.kept.slots) c.self.view_is in
-    let lost : c.in_ok-lost.lost ≡ lost_places w.kept.slots changes = lost_is c.as_slice-slots.result.now w.kept.slots c.as_slice-2.result.now changes c.in_ok-lost.lost same c.as_slice-2.ensures c.in_ok-lost.ensures in
-    let within = lost_within made w.kept.slots changes c.in_ok-changes-2.ensures.each in
-    subst (All (λ k. k < length w.kept.slots)) (sym (c.as_slice-4.ensures ∙ lost)) within
+    let lost : c.in_ok-lost.lost ≡ lost_places w.kept.slots changes = lost_of w.kept.slots c.as_slice-2.result.now changes c.in_ok-lost.lost c.as_slice-2.ensures c.in_ok-lost.ensures in
+    subst (All (λ k. k < length w.kept.slots)) (sym (c.as_slice-5.ensures ∙ lost)) (lost_within made w.kept.slots changes c.in_ok-changes-2.ensures.each)
 
-pub returns-then-self-eq0-clause-stands : goal.returns-then-self-eq0-clause-stands
-returns-then-self-eq0-clause-stands c =
-    let w : Whole = c.args.self in
+-- with the sample the parts are those of one sample more
+abbrev With : Whole → List Value → Kept → Type 0
+With w sample after = (samples : List (List Value)) → AreSamples w.infos samples → IsKeptOf w.grammar w.infos samples w.kept → IsKeptOf w.grammar w.infos (samples ++ sample ∷ []) after
+
+pub returns-then-is_swept-clause-stands : goal.returns-then-is_swept-clause-stands
+returns-then-is_swept-clause-stands c =
+    let w : Whole = c.args.self.now in
     let sample = values_of c.args.sample.now in
     let now = c.in_ok-now.now in
-    let point : AreOfPoint w.infos = subst (λ (v : Whole). AreOfPoint v.infos) c.self.view_is c.self.invariant.0 in
-    IfOk-weaker c.with_parts.result (λ e. e.kept ≡ parts_after w.kept.samples w.kept.held sample now c.in_ok-slots.slots)
-    (λ e. (samples : List (List Value)) → AreSamples w.infos samples → IsKeptOf w.grammar w.infos samples w.kept → IsKeptOf w.grammar w.infos (samples ++ sample ∷ []) e.kept)
-    (λ e h samples all is. fed_parts_exact w.grammar w.infos point samples all w.kept is sample c.requires now e.kept (record {
+    let after = c.set_parts.new.self.kept in
+    IfOk-weaker c.set_parts.result (λ (u : Unit {0}). after ≡ parts_after w.kept.samples w.kept.held sample now c.in_ok-slots.slots) (λ (u : Unit {0}). With w sample after)
+    (λ u h samples all is. fed_parts_exact w.grammar w.infos c.is_settled.ensures.point samples all w.kept is sample c.requires now after (record {
       turned = c.in_ok-now.ensures;
       parts = h ∙ ap (parts_after w.kept.samples w.kept.held sample now) c.in_ok-slots.ensures.exact;
-    })) c.with_parts.ensures.kept
+    })) c.set_parts.ensures.kept
 
 pub returns-clause-stands : goal.returns-clause-stands
 returns-clause-stands c =
-    let w : Whole = c.args.self in
+    let w : Whole = c.args.self.now in
     let sample = values_of c.args.sample.now in
-    let made = outcome true (read_after w.kept sample) sample in
     let changes = c.in_ok-changes-2.changes in
-    let same : c.as_slice-slots.result.now ≡ w.kept.slots = c.as_slice-slots.ensures ∙ ap (λ (v : Whole). v.kept.slots) c.self.view_is in
-    let lost : c.in_ok-lost.lost ≡ lost_places w.kept.slots changes = lost_is c.as_slice-slots.result.now w.kept.slots c.as_slice-2.result.now changes c.in_ok-lost.lost same c.as_slice-2.ensures c.in_ok-lost.ensures in
+    let lost : c.in_ok-lost.lost ≡ lost_places w.kept.slots changes = lost_of w.kept.slots c.as_slice-2.result.now changes c.in_ok-lost.lost c.as_slice-2.ensures c.in_ok-lost.ensures in
     let now = c.in_ok-now.now in
-    let point : AreOfPoint w.infos = subst (λ (v : Whole). AreOfPoint v.infos) c.self.view_is c.self.invariant.0 in
-    let some : 0 < w.kept.samples = positive w.kept.samples (subst (λ (v : Whole). v.kept.samples ≡ 0 → ⊥) c.self.view_is c.if-self-eq0.false) in
-    let asked = c.as_slice-4.result.now in
-    let is_lost : asked ≡ lost_places w.kept.slots changes = c.as_slice-4.ensures ∙ lost in
-    IfOk-weaker c.stepped.result (λ e. IsMergedStep w.grammar w.infos w.kept sample now asked e.kept)
-    (λ e. (samples : List (List Value)) → AreSamples w.infos samples → IsKeptOf w.grammar w.infos samples w.kept → IsKeptOf w.grammar w.infos (samples ++ sample ∷ []) e.kept)
-    (λ e h samples all is. merged_parts_exact w.grammar w.infos point samples all w.kept is sample c.requires some now c.in_ok-now.ensures changes c.in_ok-changes-2.ensures e.kept (subst (λ ls. IsMergedStep w.grammar w.infos w.kept sample now ls e.kept) is_lost h)) c.stepped.ensures.kept
+    let some : 0 < w.kept.samples = c.is_swept.ensures c.if-is_swept.false in
+    let asked = c.as_slice-5.result.now in
+    let is_lost : asked ≡ lost_places w.kept.slots changes = c.as_slice-5.ensures ∙ lost in
+    let after = c.step.new.self.kept in
+    IfOk-weaker c.step.result (λ (u : Unit {0}). IsMergedStep w.grammar w.infos w.kept sample now asked after) (λ (u : Unit {0}). With w sample after)
+    (λ u h samples all is. merged_parts_exact w.grammar w.infos c.is_settled.ensures.point samples all w.kept is sample c.requires some now c.in_ok-now.ensures changes c.in_ok-changes-2.ensures after (subst (λ ls. IsMergedStep w.grammar w.infos w.kept sample now ls after) is_lost h)) c.step.ensures.kept
 
 pub returns-then-not-lose_some-clause-stands : goal.returns-then-not-lose_some-clause-stands
 returns-then-not-lose_some-clause-stands c =
-    let w : Whole = c.args.self in
+    let w : Whole = c.args.self.now in
     let sample = values_of c.args.sample.now in
     let changes = c.in_ok-changes.changes in
-    let point : AreOfPoint w.infos = subst (λ (v : Whole). AreOfPoint v.infos) c.self.view_is c.self.invariant.0 in
     let some : 0 < w.kept.samples = c.is_settled.ensures.some c.if-is_settled.true in
     let turned : IsTurned w.kept sample (unturned w.kept) = c.is_settled.ensures.turned c.if-is_settled.true in
-    let told : c.lose_some.result ≡ list_any (loses_by c.self.inside.kept.slots) changes.all =
-    c.lose_some.ensures ∙ (ap (λ ss. list_any (loses_by ss) c.as_slice-then-is_settled.result.now) c.as_slice.ensures ∙ ap (list_any (loses_by c.self.inside.kept.slots)) c.as_slice-then-is_settled.ensures) in
-    let none : list_any (loses_by w.kept.slots) changes.all ≡ false = subst (λ (v : Whole). list_any (loses_by v.kept.slots) changes.all ≡ false) c.self.view_is (sym told ∙ c.if-not-lose_some.true) in
+    let told : c.lose_some.result ≡ list_any (loses_by w.kept.slots) changes.all =
+    c.lose_some.ensures ∙ (ap (λ ss. list_any (loses_by ss) c.as_slice.result.now) c.slots.ensures ∙ ap (list_any (loses_by w.kept.slots)) c.as_slice.ensures) in
+    let none : list_any (loses_by w.kept.slots) changes.all ≡ false = sym told ∙ c.if-not-lose_some.true in
     let left = left_of (outcome changes.asked (read_after w.kept sample) sample) w.kept.slots in
-    IfOk-weaker c.changed.result (λ e. e.kept ≡ parts_after w.kept.samples w.kept.held sample (unturned w.kept) left)
-    (λ e. (samples : List (List Value)) → AreSamples w.infos samples → IsKeptOf w.grammar w.infos samples w.kept → IsKeptOf w.grammar w.infos (samples ++ sample ∷ []) e.kept)
-    (λ e h samples all is.
+    let after = c.change.new.self.kept in
+    IfOk-weaker c.change.result (λ (u : Unit {0}). after ≡ parts_after w.kept.samples w.kept.held sample (unturned w.kept) left) (λ (u : Unit {0}). With w sample after)
+    (λ u h samples all is.
     subst (IsKeptOf w.grammar w.infos (samples ++ sample ∷ [])) (sym h)
-    (settled_parts_exact w.grammar w.infos point samples all w.kept is sample c.requires some turned changes.asked changes.all c.in_ok-changes.ensures.changes c.in_ok-changes.ensures.unasked none)) c.changed.ensures.kept
+    (settled_parts_exact w.grammar w.infos c.is_settled.ensures.point samples all w.kept is sample c.requires some turned changes.asked changes.all c.in_ok-changes.ensures.changes c.in_ok-changes.ensures.unasked none)) c.change.ensures.kept

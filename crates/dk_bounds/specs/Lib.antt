@@ -1,5 +1,0 @@
-pub mod Columns
-pub mod Sections
-pub mod Summaries
-pub mod Widening
-pub mod Extremes

@@ -1,0 +1,45 @@
+use Rattle.std.specs.Prelude.{◌≡◌, ◌+◌, [], List, map}
+use Rattle.std.proofs.Common.{ap, rules, subst, sym, ◌∙◌}
+use Rattle.dk_base.specs.Values.{values_of}
+use Rattle.dk_classes.specs.Leaders.{own_leaders}
+use Rattle.dk_fits.specs.Laws.{IsSample}
+use Rattle.dk_presence.specs.Patterns.{capped, present_in}
+use Rattle.dk_presence.specs.Steps.{added, refined}
+use Rattle.dk_presence.specs.declared.held.Held.{Held}
+use Rattle.dk_engine.proofs.Emptied.{parts, patterns_out, same_parts}
+use Rattle.dk_engine.proofs.Leaving.{left_formed}
+use Rattle.dk_engine.proofs.StillFed.{can_be_fed_after}
+use Rattle.dk_engine.specs.Conditions.{CanBeFed}
+use Rattle.dk_engine.specs.Feeding.{IsTurned, read_after, unturned}
+use Rattle.dk_engine.specs.Levels.{Whole}
+use Rattle.dk_engine.specs.Narrow.{AreChanges, left_of, outcome}
+use Rattle.dk_engine.specs.declared.slot.Slot.{Slot}
+use Rattle.dk_engine.proofs.engine.Engine.change.Goals as goal
+
+pub invariant_of-self : goal.invariant_of-self
+invariant_of-self c =
+    let e = c.self.inside in
+    let none : c.replace-held.new.dest ≡ [] = c.replace-held.ensures.after ∙ c.in_ok-none.ensures.exact in
+    (c.self.invariant.0, subst (λ (h : List Held). CanBeFed e.grammar e.infos (parts e.kept.leaders e.kept.known e.kept.samples h e.kept.slots)) (sym none) (patterns_out e.grammar e.infos e.kept c.self.invariant.1))
+
+pub invariant_of-self-2 : goal.invariant_of-self-2
+invariant_of-self-2 c =
+    let e = c.self.inside in
+    let sample = values_of c.args.sample.now in
+    let asked = c.args.changes.asked in
+    let now = unturned e.kept in
+    let made = outcome asked (read_after e.kept sample) sample in
+    let left = left_of made e.kept.slots in
+    let turned : IsTurned e.kept sample now = subst (λ (w : Whole). IsTurned w.kept sample (unturned w.kept)) (sym c.self.view_is) c.requires.turned in
+    let sampled : IsSample e.infos sample = subst (λ (w : Whole). IsSample w.infos sample) (sym c.self.view_is) c.requires.sampled in
+    let changes : AreChanges made e.kept.slots c.args.changes.all =
+    subst (λ (w : Whole). AreChanges (outcome asked (read_after w.kept sample) sample) w.kept.slots c.args.changes.all) (sym c.self.view_is) c.requires.changes in
+    let number : c.saturating_add-self-inside.result ≡ capped (e.kept.samples + 1) = search rules in
+    let held : c.in_ok-held.held ≡ added (present_in (own_leaders e.kept.leaders) sample) (map (refined []) e.kept.held) = search rules in
+    let was : c.replace-slots.result ≡ e.kept.slots = c.replace-slots.ensures.value in
+    let slots : c.changed.result ≡ left = c.changed.ensures made (subst (λ (ss : List Slot). AreChanges made ss c.args.changes.all) (sym was) changes) ∙ ap (left_of made) was in (
+      c.self.invariant.0,
+      subst (CanBeFed e.grammar e.infos)
+          (sym (same_parts e.kept.leaders e.kept.known c.saturating_add-self-inside.result (capped (e.kept.samples + 1)) c.in_ok-held.held (added (present_in (own_leaders e.kept.leaders) sample) (map (refined []) e.kept.held)) c.changed.result left number held slots))
+          (can_be_fed_after e.grammar e.infos c.self.invariant.0 e.kept c.self.invariant.1 sample sampled now turned left (left_formed e.grammar e.infos e.kept c.self.invariant.1 sample sampled asked (read_after e.kept sample))),
+    )

@@ -1,0 +1,17 @@
+-- The kept parts in the order in which they are saved.
+use Rattle.dk_classes.specs.Leaders.{own_leaders}
+use Rattle.dk_parts.specs.Classes.{classes_of}
+use Rattle.dk_parts.specs.Entries.{all_known_of}
+use Rattle.dk_parts.specs.Patterns.{patterns_of}
+use Rattle.dk_engine.specs.declared.kept.Kept.{Kept}
+use Rattle.dk_engine.specs.declared.parts.Parts.{Parts}
+
+-- the members of each class, by its leader; the patterns, ascending; the constants, by leader; and the slots
+abbrev pub parts_of : Kept → Parts
+parts_of kept = record {
+  samples = kept.samples;
+  classes = classes_of kept.leaders;
+  patterns = patterns_of (own_leaders kept.leaders) kept.held;
+  known = all_known_of kept.known;
+  slots = kept.slots;
+}

@@ -1,0 +1,5 @@
+pub mod Sorted
+pub mod Grouping
+pub mod Present
+pub mod PatternOrder
+pub mod Weights

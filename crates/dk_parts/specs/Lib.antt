@@ -1,0 +1,4 @@
+pub mod Sorting
+pub mod Classes
+pub mod Patterns
+pub mod Entries

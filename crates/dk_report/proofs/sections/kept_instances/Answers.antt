@@ -1,0 +1,87 @@
+use Rattle.std.specs.Prelude.{◌≡◌, ◌<◌, ◌^◌, List, length, map}
+use Rattle.std.specs.List.{AllZip}
+use Rattle.std.proofs.Common.{◌∙◌, ap, arith, subst, sym}
+use Rattle.std.proofs.lemmas.List.Elements.{All-same}
+use Rattle.dk_base.specs.declared.kinds.VarInfo.{VarInfo}
+use Rattle.dk_engine.specs.Levels.{Whole}
+use Rattle.dk_filters.specs.Candidates.{candidates_of, kept_by}
+use Rattle.dk_filters.specs.Found.{found_of}
+use Rattle.dk_filters.specs.Laws.{ShowTheSame}
+use Rattle.dk_filters.specs.Parents.{IsViewOf, told}
+use Rattle.dk_filters.specs.declared.parents.ParentView.{ParentView}
+use Rattle.dk_graph.proofs.Places.{some-injective}
+use Rattle.dk_graph.specs.Graphs.{edges_from}
+use Rattle.dk_hierarchy.proofs.TableEngines.{engine_got}
+use Rattle.dk_hierarchy.specs.Merging.{Joint, merged_agree, merged_count, merged_state}
+use Rattle.dk_hierarchy.specs.Samples.{OwnSamples, own_samples_of}
+use Rattle.dk_hierarchy.specs.Standing.{EnginesStandFor}
+use Rattle.dk_points.specs.Links.{nodes}
+use Rattle.dk_report.proofs.Reported.{if_ok, reported, small_views, views_can_show, views_show}
+use Rattle.dk_report.specs.Asked.{shown_by, told_by_joint}
+use Rattle.dk_report.specs.Keeping.{keeps}
+use Rattle.dk_report.specs.Parents.{IsParentBy}
+use Rattle.dk_report.specs.Reports.{parents_of}
+use Rattle.dk_report.specs.declared.parents.MergedParent.{MergedParent}
+use Rattle.dk_report.proofs.sections.kept_instances.Goals as goal
+
+pub of-requires-clause-small : goal.of-requires-clause-small
+of-requires-clause-small c =
+    let joint = c.in_ok-here.here in
+    let few = (c.requires.engines.variables c.args.p.0 joint.here c.in_ok-here.ensures.here).1.few in
+    let same = ap (λ (vs : List VarInfo). length vs) c.vars.ensures in
+    omega (arith, few, same)
+
+pub of-requires-clause-parents : goal.of-requires-clause-parents
+of-requires-clause-parents c =
+    let ps = c.args.points.now in
+    let es = c.args.engines.now in
+    let joint : Joint = c.in_ok-here.here in
+    let by = subst (λ (qs : List MergedParent). AllZip (IsParentBy ps es) qs (edges_from (nodes ps) c.args.p.0)) (sym c.as_slice.ensures.value) c.in_ok-parents.ensures in
+    All-same (λ (view : ParentView Joint). length view.vars.now < 2 ^ 32) c.as_slice-2.result.now c.in_ok-views.views.items c.as_slice-2.ensures.value
+    (small_views ps es c.requires.engines c.args.p.0 joint c.in_ok-here.ensures.here c.in_ok-here.ensures.stands c.in_ok-views.views.items c.as_slice.result.now c.in_ok-views.ensures by)
+
+pub listed-requires-clause-asked : goal.listed-requires-clause-asked
+listed-requires-clause-asked c =
+    let ps = c.args.points.now in
+    let es = c.args.engines.now in
+    let p = c.args.p.0 in
+    let joint : Joint = c.in_ok-here.here in
+    let by = subst (λ (qs : List MergedParent). AllZip (IsParentBy ps es) qs (edges_from (nodes ps) p)) (sym c.as_slice.ensures.value) c.in_ok-parents.ensures in
+    let got = engine_got ps es c.requires.engines p c.index-engines-p.result c.requires.point c.index-engines-p.is in
+    let same : c.index-engines-p.result ≡ joint.here = some-injective (sym got ∙ c.in_ok-here.ensures.here) in
+    let slices : c.as_slice-2.result.now ≡ c.as_slice-3.result.now = c.as_slice-2.ensures.value ∙ sym c.as_slice-3.ensures.value in
+    let told_is = λ (vs : List VarInfo). told vs (merged_state joint) (merged_count joint) (merged_agree joint) in
+    record {
+      grammar = c.grammar.ensures ∙ ap (λ (e : Whole). e.grammar) same;
+      parents =
+          All-same (λ (view : ParentView Joint). (view.answers.now.here.grammar ≡ joint.here.grammar) × IsViewOf view.answers.now.here.infos joint.here.infos (shown_by view))
+          c.as_slice-3.result.now c.in_ok-views.views.items c.as_slice-3.ensures.value
+          (views_can_show ps es c.requires.engines p joint c.in_ok-here.ensures.here c.in_ok-here.ensures.stands c.in_ok-views.views.items c.as_slice.result.now c.in_ok-views.ensures by);
+      found =
+          c.in_ok-found.ensures
+          ∙ (ap (λ (vs : List VarInfo). found_of (told_is vs) (map shown_by c.as_slice-2.result.now)) c.vars.ensures
+          ∙ ap (λ (views : List (ParentView Joint)). found_of (told_by_joint joint) (map shown_by views)) slices);
+    }
+
+pub listed-requires-clause-parents : goal.listed-requires-clause-parents
+listed-requires-clause-parents c = λ own stand.
+    let ps = c.args.points.now in
+    let es = c.args.engines.now in
+    let p = c.args.p.0 in
+    let joint : Joint = c.in_ok-here.here in
+    let by = subst (λ (qs : List MergedParent). AllZip (IsParentBy ps es) qs (edges_from (nodes ps) p)) (sym c.as_slice.ensures.value) c.in_ok-parents.ensures in
+    subst (λ (views : List (ParentView Joint)). AllZip (ShowTheSame joint.here.grammar joint.here.infos) (map shown_by views) (parents_of ps own p)) (sym c.as_slice-3.ensures.value)
+    (views_show ps es c.requires.engines p joint c.in_ok-here.ensures.here c.in_ok-here.ensures.stands c.in_ok-views.views.items c.as_slice.result.now c.in_ok-views.ensures by own stand)
+
+pub returns : goal.returns
+returns c =
+    let ps = c.args.points.now in
+    let es = c.args.engines.now in
+    let p = c.args.p.0 in
+    let options = c.args.options.now in
+    let joint : Joint = c.in_ok-here.here in
+    let by = subst (λ (qs : List MergedParent). AllZip (IsParentBy ps es) qs (edges_from (nodes ps) p)) (sym c.as_slice.ensures.value) c.in_ok-parents.ensures in
+    let lists = λ (views : List (ParentView Joint)). kept_by (keeps options) (candidates_of joint.here.grammar options.least (told_by_joint joint) (map shown_by views)) in
+    if_ok c.listed.result (λ list. (own : OwnSamples) → EnginesStandFor es (own_samples_of ps own) → list ≡ lists c.as_slice-3.result.now) _
+    (λ list is own stand. reported ps es c.requires.engines p joint c.in_ok-here.ensures.here c.in_ok-here.ensures.stands c.in_ok-views.views.items c.as_slice.result.now c.in_ok-views.ensures by options list
+    (is own stand ∙ ap lists c.as_slice-3.ensures.value) own stand) c.listed.ensures

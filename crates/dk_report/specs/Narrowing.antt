@@ -1,0 +1,64 @@
+-- Which variables a row is still asked about, where one engine alone has samples.
+use Rattle.std.specs.Prelude.{◌&&◌, ◌||◌, ◌==◌, Bool, true, false, not, List, filter, if◌then◌else◌}
+use Rattle.std.specs.List.{list_all, list_any}
+use Rattle.std.specs.Option.{option_map_or}
+use Rattle.dk_base.specs.Pieces.{is_empty}
+use Rattle.dk_base.specs.declared.kinds.VarId.{VarId}
+use Rattle.dk_classes.specs.Leaders.{own_leaders}
+use Rattle.dk_constants.specs.Known.{Entries, known_at}
+use Rattle.dk_engine.specs.declared.kept.Kept.{Kept}
+use Rattle.dk_engine.specs.declared.slot.Slot.{Slot}
+use Rattle.dk_filters.specs.declared.candidate.Candidate.{Candidate}
+use Rattle.dk_forms.specs.declared.states.State.{State}
+use Rattle.dk_forms.specs.declared.states.State.TheVariants as state
+use Rattle.dk_graph.specs.declared.nodes.Edge.{Edge}
+use Rattle.dk_presence.specs.Patterns.{has}
+use Rattle.dk_samples.specs.Samples.{is_present}
+use Rattle.dk_template.specs.Templates.{arity_of}
+use Rattle.dk_template.specs.declared.grammar.RowId.{RowId}
+use Rattle.dk_report.specs.Asked.{over, standing_of}
+use Rattle.dk_report.specs.Listing.{is_equality}
+use Rattle.dk_report.specs.declared.asking.Asking.{Asking}
+use Rattle.dk_report.specs.declared.options.Options.{Options}
+use Rattle.dk_report.specs.declared.sweeping.Standing.{Standing}
+
+-- it is constant, and there
+abbrev pub is_fixed : Entries → VarId → Bool
+is_fixed known v = option_map_or is_present (known_at known v) false
+
+abbrev pub says_nothing : State → Bool
+says_nothing state.Empty = true
+says_nothing _ = false
+
+-- a slot of the row that says something of some samples
+abbrev pub is_of_row : RowId → Slot → Bool
+is_of_row row slot = slot.row.0 == row.0 && not (says_nothing slot.state)
+
+-- the variable stands in one of the slots
+abbrev pub stands_in : List Slot → VarId → Bool
+stands_in slots v = list_any (λ slot. has slot.leaders v) slots
+
+-- What is kept may say something of a row over the variable: it is constant, or stands in a slot of the row.
+abbrev pub is_left : Kept → RowId → VarId → Bool
+is_left kept row v = is_fixed kept.known v || stands_in (filter (is_of_row row) kept.slots) v
+
+-- the row takes several variables, and doesn't say that two are the same
+abbrev pub is_narrow : RowId → Bool
+is_narrow row = not (is_equality row) && not (arity_of row == 1)
+
+-- those over which a row is asked about
+abbrev pub left_of : Kept → Standing → RowId → List VarId
+left_of kept standing row = if is_narrow row then filter (is_left kept row) (standing_of standing row) else standing_of standing row
+
+-- the candidates of a row over them
+abbrev pub narrowed : Kept → Asking → Standing → RowId → List Candidate
+narrowed kept asking standing row = over asking row (left_of kept standing row)
+
+-- each of the variables leads its class
+abbrev pub all_lead : List VarId → List VarId → Bool
+all_lead leaders vars = list_all (has (own_leaders leaders)) vars
+
+-- The point has no children, and what isn't kept of its samples is dropped: implied instances are, and the variables that may stand in an
+-- instance of several lead their classes.
+abbrev pub is_alone : Options → Kept → Standing → List Edge → Bool
+is_alone options kept standing edges = is_empty edges && (not options.keep_implied && all_lead kept.leaders standing.several)

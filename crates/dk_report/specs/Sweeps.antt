@@ -1,0 +1,40 @@
+-- The candidates of tuples of variables, one of a list at each role.
+use Rattle.std.specs.Prelude.{List, [], ◌∷◌, filter, flat_map, slice_get}
+use Rattle.dk_base.specs.declared.kinds.VarId.{VarId}
+use Rattle.dk_base.specs.declared.kinds.VarInfo.{VarInfo}
+use Rattle.dk_filters.specs.declared.candidate.Candidate.{Candidate}
+use Rattle.dk_template.specs.Admitted.{suits}
+use Rattle.dk_template.specs.declared.templates.Role.{Role}
+use Rattle.dk_template.specs.declared.templates.Takes.{Takes}
+use Rattle.dk_template.specs.declared.templates.Takes.TheVariants.{One, Two, Three}
+
+-- those of the variables that suit a role
+abbrev pub suited : Role → List VarInfo → List VarId → List VarId
+suited role infos of = filter (λ v. suits role (slice_get infos v.0)) of
+
+module _ (listed : List VarId → List Candidate) where
+  -- of one variable of the list; of a variable and one of the list; of two and one of the list
+  abbrev pub firsts : List VarId → List Candidate
+  firsts first = flat_map (λ v. listed (v ∷ [])) first
+
+  abbrev pub seconds : VarId → List VarId → List Candidate
+  seconds v second = flat_map (λ w. listed (v ∷ w ∷ [])) second
+
+  abbrev pub thirds : VarId → VarId → List VarId → List Candidate
+  thirds v w third = flat_map (λ x. listed (v ∷ w ∷ x ∷ [])) third
+
+  -- of two variables, of a variable and two more, and of three, one of each list
+  abbrev pub pairs : List VarId → List VarId → List Candidate
+  pairs first second = flat_map (λ v. seconds v second) first
+
+  abbrev pub behind : VarId → List VarId → List VarId → List Candidate
+  behind v second third = flat_map (λ w. thirds v w third) second
+
+  abbrev pub triples : List VarId → List VarId → List VarId → List Candidate
+  triples first second third = flat_map (λ v. behind v second third) first
+
+  -- of a row that takes these, over variables that suit its roles
+  abbrev pub over_takes : List VarInfo → Takes → List VarId → List Candidate
+  over_takes infos (One a) of = firsts (suited a infos of)
+  over_takes infos (Two a b) of = pairs (suited a infos of) (suited b infos of)
+  over_takes infos (Three a b c) of = triples (suited a infos of) (suited b infos of) (suited c infos of)

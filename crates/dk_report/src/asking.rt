@@ -1,0 +1,97 @@
+// What is asked about an instance.
+ghost use Rattle.std.specs.Prelude.{◌≡◌, ◌≤◌, ◌==◌, ◌++◌, IfOk, length, not};
+ghost use Rattle.std.specs.List.{list_all};
+ghost use Rattle.dk_fits.specs.Instances.{are_distinct, is_asked};
+ghost use Rattle.dk_report.specs.Asked.{CanBeAsked, listed_by};
+ghost use Rattle.dk_template.specs.Templates.{IsRow, IsRowOf};
+
+use crate::Options;
+use crate::keeping::keeps;
+use dk_base::{List, NoMemory, VarId, VarInfo};
+use dk_filters::{Candidate, ParentView, PointFacts, judge_with};
+use dk_hierarchy::Merged;
+use dk_template::{Answers, Grammar, RowId, Tuple, admits, fits, is_written};
+use std::alloc::Global;
+
+// Whether the variable is none of the others.
+fn is_none_of(v: VarId, others: &[VarId]) -> bool
+    ensures { result ≡ list_all (λ w. not (v.0 == w.0)) others.now }
+{
+    others.iter().all(|w| v.0 != w.0)
+}
+
+// Whether no variable comes twice.
+fn are_distinct(vars: &[VarId]) -> bool
+    ensures { result ≡ are_distinct vars.now }
+{
+    match vars {
+        [] => true,
+        [v, others @ ..] => is_none_of(*v, others) && are_distinct(others),
+    }
+}
+
+// Whether the variables are an instance's.
+fn is_asked(row: RowId, infos: &[VarInfo], vars: &[VarId]) -> bool
+    requires { IsRow row }
+    ensures { result ≡ is_asked infos.now row vars.now }
+{
+    admits(row, infos, vars) && is_written(row, vars) && are_distinct(vars)
+}
+
+/// A point whose instances are asked about: what answers for it and for its parents, what is found of it once, and what the options
+/// let through.
+#[derive(Clone, Copy)]
+pub(crate) struct Asking<'a, 'e> {
+    pub(crate) alloc: Global,
+    pub(crate) grammar: Grammar,
+    pub(crate) options: &'a Options,
+    pub(crate) here: &'a Merged<'e>,
+    pub(crate) parents: &'a [ParentView<'a, Merged<'e>>],
+    pub(crate) found: &'a PointFacts,
+}
+
+impl<'a, 'e> Asking<'a, 'e> {
+    /// The candidates with that of the row over the variables, if it is an instance that holds and that the options let through.
+    pub(crate) fn consider(
+        &self,
+        row: RowId,
+        vars: &[VarId],
+        list: List<Candidate>,
+    ) -> Result<List<Candidate>, NoMemory>
+        requires asked { CanBeAsked self.now }
+        requires row { IsRowOf self.now.here.now.here.grammar row }
+        requires few { length vars.now ≤ 3 }
+        ensures { IfOk result (λ more. more ≡ list ++ listed_by self.now row vars.now) }
+    {
+        let infos = self.here.vars();
+        if !is_asked(row, infos, vars) {
+            return Ok(list);
+        }
+        let state = self.here.answer(row, vars)?;
+        if !fits(&state) {
+            return Ok(list);
+        }
+        let facts = judge_with(
+            self.options.least,
+            infos,
+            self.here,
+            self.parents,
+            self.found,
+            row,
+            vars,
+            &state,
+        )?;
+        if !keeps(self.options, facts) {
+            return Ok(list);
+        }
+        let mut list = list;
+        list.push(Candidate {
+            row,
+            vars: Tuple::of(self.alloc, vars),
+            state,
+            count: self.here.count(vars),
+            facts,
+        })?;
+        Ok(list)
+    }
+}

@@ -1,0 +1,7 @@
+pub mod Pieces
+pub mod Declared
+pub mod Engines
+pub mod CompactLeaders
+pub mod CompactParts
+pub mod SameTexts
+mod Examples

@@ -1,0 +1,53 @@
+-- Declarations, as they are saved.
+use Rattle.std.specs.Prelude.{ℕ, List, [], ◌∷◌, ◌++◌, codes, filter_map, flat_map, unwrap_or, Option, Some, None, if◌then◌else◌}
+use Rattle.std.specs.Fmt.{decimal, signed_decimal}
+use Rattle.dk_base.specs.Names.{escaped}
+use Rattle.dk_base.specs.Spelling.{spelling}
+use Rattle.dk_base.specs.declared.kinds.Kind.{Kind}
+use Rattle.dk_base.specs.declared.kinds.Kind.TheVariants as kind
+use Rattle.dk_base.specs.declared.values.Value.TheVariants as value
+use Rattle.dk_decl.specs.declared.decls.EdgeDecl.{EdgeDecl}
+use Rattle.dk_decl.specs.declared.decls.ParentVar.{ParentVar}
+use Rattle.dk_decl.specs.declared.decls.PointDecl.{PointDecl}
+use Rattle.dk_decl.specs.declared.decls.VarDecl.{VarDecl}
+use Rattle.dk_points.specs.Table.{Point, decl_if_declared}
+use Rattle.dk_state.specs.Lines.{line}
+
+-- the rep-type of the kind; `double` is that of an opaque variable
+abbrev pub rep_text : Option Kind → List ℕ
+rep_text None = codes "double"
+rep_text (Some kind.Bool) = codes "boolean"
+rep_text (Some kind.Int) = codes "int"
+rep_text (Some kind.Hash) = codes "hashcode"
+rep_text (Some kind.Str) = codes "java.lang.String"
+rep_text (Some kind.BoolSeq) = codes "boolean[]"
+rep_text (Some kind.IntSeq) = codes "int[]"
+rep_text (Some kind.HashSeq) = codes "hashcode[]"
+rep_text (Some kind.StrSeq) = codes "java.lang.String[]"
+
+-- `edge ID NAME`
+abbrev pub edge_line : EdgeDecl → List ℕ
+edge_line e = line "edge" (decimal e.id ∷ escaped e.parent ∷ [])
+
+-- `var REP ELEM INDEX NAME`
+abbrev pub var_line : VarDecl → List ℕ
+var_line v = line "var" (rep_text v.kind ∷ signed_decimal v.compar.elem ∷ signed_decimal v.compar.index ∷ escaped v.name ∷ [])
+
+-- `constant VALUE`, where the variable has one; of an opaque one the value is missing
+abbrev pub constant_line : VarDecl → List ℕ
+constant_line v = if v.constant_line then line "constant" (spelling (unwrap_or v.constant value.Missing) ∷ []) else []
+
+-- `mapped EDGE NAME`, the edge by its place among the edges of the declaration
+abbrev pub mapped_line : ParentVar → List ℕ
+mapped_line p = line "mapped" (decimal p.edge ∷ escaped p.name ∷ [])
+
+abbrev pub var_lines : VarDecl → List ℕ
+var_lines v = var_line v ++ (constant_line v ++ flat_map mapped_line v.parents)
+
+-- A declared point: `point NAME`, its edges as they were declared, its variables with what belongs to each, and `end`.
+abbrev pub point_lines : PointDecl → List ℕ
+point_lines d = line "point" (escaped d.name ∷ []) ++ (flat_map edge_line d.edges ++ (flat_map var_lines d.vars ++ line "end" []))
+
+-- the declarations of the declared points, in order
+abbrev pub decls_of : List Point → List PointDecl
+decls_of ps = filter_map decl_if_declared ps

@@ -1,0 +1,80 @@
+// Fields of a line, each behind a blank, and the line's end.
+ghost use Rattle.std.specs.Prelude.{◌≡◌, ◌++◌, OnOk, codes, flat_map};
+ghost use Rattle.dk_base.specs.Names.{escaped, escaped_byte};
+ghost use Rattle.dk_base.specs.Spelling.{spelling};
+ghost use Rattle.dk_state.specs.Lines.{behind_blank, fields_text, var_fields};
+
+use dk_base::{Arena, NoMemory, Text, Value, VarId, spell};
+use itoa::{Buffer, Integer};
+use std::alloc::Global;
+
+/// The end of a line, behind the text.
+pub(crate) fn end_line(text: &mut Text) -> Result<(), NoMemory>
+    ensures { OnOk result (text.new ≡ text.old ++ codes "\n") }
+{
+    text.append(b"\n")
+}
+
+/// The field, behind the text.
+pub(crate) fn push_field(text: &mut Text, field: &[u8]) -> Result<(), NoMemory>
+    ensures { OnOk result (text.new ≡ text.old ++ behind_blank field.now) }
+{
+    text.append(b" ")?;
+    text.append(field)
+}
+
+/// The number, behind the text.
+pub(crate) fn push_number<I: Integer>(text: &mut Text, number: I) -> Result<(), NoMemory>
+    ensures { OnOk result (text.new ≡ text.old ++ behind_blank (I.text number)) }
+{
+    let mut buffer = Buffer::new();
+    push_field(text, buffer.format(number).as_bytes())
+}
+
+/// The variables by their places, behind the text.
+pub(crate) fn push_vars(text: &mut Text, vars: &[VarId]) -> Result<(), NoMemory>
+    ensures { OnOk result (text.new ≡ text.old ++ fields_text (var_fields vars.now)) }
+{
+    for v in vars {
+        push_number(text, v.0)?;
+    }
+    Ok(())
+}
+
+// A byte of a name, behind the text.
+fn push_escaped_byte(text: &mut Text, byte: u8) -> Result<(), NoMemory>
+    ensures { OnOk result (text.new ≡ text.old ++ escaped_byte byte) }
+{
+    match byte {
+        b' ' => text.append(b"\\_"),
+        b'\\' => text.append(b"\\\\"),
+        other => text.push(other),
+    }
+}
+
+// A name with its blanks and backslashes replaced, behind the text.
+fn push_escaped(text: &mut Text, name: &[u8]) -> Result<(), NoMemory>
+    ensures { OnOk result (text.new ≡ text.old ++ escaped name.now) }
+{
+    for byte in name {
+        push_escaped_byte(text, *byte)?;
+    }
+    Ok(())
+}
+
+/// The name as a field, behind the text.
+pub(crate) fn push_name(text: &mut Text, name: &[u8]) -> Result<(), NoMemory>
+    ensures { OnOk result (text.new ≡ text.old ++ behind_blank (escaped name.now)) }
+{
+    text.append(b" ")?;
+    push_escaped(text, name)
+}
+
+/// The value as a field, behind the text.
+pub(crate) fn push_value(alloc: Global, text: &mut Text, value: &Value) -> Result<(), NoMemory>
+    ensures { OnOk result (text.new ≡ text.old ++ behind_blank (spelling value.now)) }
+{
+    let arena = Arena::new(alloc);
+    let spelled = spell(alloc, value.place(&arena)?)?;
+    push_field(text, spelled.as_slice())
+}

@@ -1,0 +1,137 @@
+// What is kept of a point's samples, as it is saved.
+ghost use Rattle.std.specs.Prelude.{◌≡◌, ◌++◌, ◌∷◌, [], OnOk, flat_map};
+ghost use Rattle.std.specs.Fmt.{decimal};
+ghost use Rattle.dk_state.specs.Kept.{bits_of, class_line, if_any, known_line, parts_lines, pattern_line, slot_line};
+ghost use Rattle.dk_state.specs.Lines.{fields_text, line};
+
+use crate::fields::{end_line, push_number, push_value, push_vars};
+use crate::states::push_state;
+use dk_base::{List, NoMemory, Text, VarId};
+use dk_engine::{Known, Parts, Pattern, Slot};
+use std::alloc::Global;
+
+fn push_class(text: &mut Text, members: &[VarId]) -> Result<(), NoMemory>
+    ensures { OnOk result (text.new ≡ text.old ++ class_line members.now) }
+{
+    text.append(b"class")?;
+    push_vars(text, members)?;
+    end_line(text)
+}
+
+fn push_classes(text: &mut Text, classes: &[List<VarId>]) -> Result<(), NoMemory>
+    ensures { OnOk result (text.new ≡ text.old ++ flat_map class_line classes.now) }
+{
+    for members in classes {
+        push_class(text, members.as_slice())?;
+    }
+    Ok(())
+}
+
+// A `1` for each true value, and a `0` for each other one.
+fn push_bits(text: &mut Text, present: &[bool]) -> Result<(), NoMemory>
+    ensures { OnOk result (text.new ≡ text.old ++ bits_of present.now) }
+{
+    for truth in present {
+        text.push(if *truth { b'1' } else { b'0' })?;
+    }
+    Ok(())
+}
+
+// The bits as a field, if there are any.
+fn push_bits_field(text: &mut Text, present: &[bool]) -> Result<(), NoMemory>
+    ensures { OnOk result (text.new ≡ text.old ++ fields_text (if_any (bits_of present.now))) }
+{
+    if present.is_empty() {
+        return Ok(());
+    }
+    text.append(b" ")?;
+    push_bits(text, present)
+}
+
+fn push_pattern(text: &mut Text, pattern: &Pattern) -> Result<(), NoMemory>
+    ensures { OnOk result (text.new ≡ text.old ++ pattern_line pattern.now) }
+{
+    text.append(b"pattern")?;
+    push_number(text, pattern.count)?;
+    push_bits_field(text, pattern.present.as_slice())?;
+    end_line(text)
+}
+
+fn push_patterns(text: &mut Text, patterns: &[Pattern]) -> Result<(), NoMemory>
+    ensures { OnOk result (text.new ≡ text.old ++ flat_map pattern_line patterns.now) }
+{
+    for pattern in patterns {
+        push_pattern(text, pattern)?;
+    }
+    Ok(())
+}
+
+fn push_known(alloc: Global, text: &mut Text, known: &Known) -> Result<(), NoMemory>
+    ensures { OnOk result (text.new ≡ text.old ++ known_line known.now) }
+{
+    text.append(b"known")?;
+    push_number(text, known.leader.0)?;
+    push_value(alloc, text, &known.value)?;
+    end_line(text)
+}
+
+fn push_all_known(alloc: Global, text: &mut Text, all: &[Known]) -> Result<(), NoMemory>
+    ensures { OnOk result (text.new ≡ text.old ++ flat_map known_line all.now) }
+{
+    for known in all {
+        push_known(alloc, text, known)?;
+    }
+    Ok(())
+}
+
+fn push_slot(alloc: Global, text: &mut Text, slot: &Slot) -> Result<(), NoMemory>
+    ensures { OnOk result (text.new ≡ text.old ++ slot_line slot.now) }
+{
+    text.append(b"slot")?;
+    push_number(text, slot.row.0)?;
+    push_vars(text, slot.leaders.as_slice())?;
+    push_state(alloc, text, &slot.state)?;
+    end_line(text)
+}
+
+fn push_slots(alloc: Global, text: &mut Text, slots: &[Slot]) -> Result<(), NoMemory>
+    ensures { OnOk result (text.new ≡ text.old ++ flat_map slot_line slots.now) }
+{
+    for slot in slots {
+        push_slot(alloc, text, slot)?;
+    }
+    Ok(())
+}
+
+fn push_samples(text: &mut Text, point: usize, samples: u64) -> Result<(), NoMemory>
+    ensures { OnOk result (text.new ≡ text.old ++ line "samples" (decimal point ∷ decimal samples ∷ [])) }
+{
+    text.append(b"samples")?;
+    push_number(text, point)?;
+    push_number(text, samples)?;
+    end_line(text)
+}
+
+// The lines behind the classes.
+fn push_tuples(alloc: Global, text: &mut Text, parts: &Parts) -> Result<(), NoMemory>
+    ensures { OnOk result (text.new ≡ text.old ++ (flat_map pattern_line parts.now.patterns ++ (flat_map known_line parts.now.known ++ (flat_map slot_line parts.now.slots ++ line "end" [])))) }
+{
+    push_patterns(text, parts.patterns.as_slice())?;
+    push_all_known(alloc, text, parts.known.as_slice())?;
+    push_slots(alloc, text, parts.slots.as_slice())?;
+    text.append(b"end\n")
+}
+
+/// The lines of what is kept of samples of the point at this place, behind the text.
+pub(crate) fn push_parts(
+    alloc: Global,
+    text: &mut Text,
+    point: usize,
+    parts: &Parts,
+) -> Result<(), NoMemory>
+    ensures { OnOk result (text.new ≡ text.old ++ parts_lines point parts.now) }
+{
+    push_samples(text, point, parts.samples)?;
+    push_classes(text, parts.classes.as_slice())?;
+    push_tuples(alloc, text, parts)
+}

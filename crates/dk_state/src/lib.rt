@@ -1,0 +1,11 @@
+//! The state file: the text of a history's declarations, its comparability word, and what is kept of each point's own samples.
+#![tactic(auto)]
+
+mod declarations;
+mod fields;
+mod kept;
+pub mod laws;
+mod saving;
+mod states;
+
+pub use saving::{push_saved, save};
