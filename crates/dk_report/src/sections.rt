@@ -34,10 +34,11 @@ pub fn kept_instances(
     let here = merge(alloc, points, engines, p)?;
     let parents = parents_of(alloc, points, engines, p)?;
     let views = views_of(alloc, parents.as_slice())?;
+    let engine = &engines[p.0 as usize];
     let found = PointFacts::of(alloc, here.vars(), &here, views.as_slice())?;
     let asking = Asking {
         alloc,
-        grammar: engines[p.0 as usize].grammar(),
+        grammar: engine.grammar(),
         options,
         here: &here,
         parents: views.as_slice(),
