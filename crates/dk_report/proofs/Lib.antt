@@ -18,4 +18,5 @@ pub mod Considered
 pub mod Stated
 pub mod Left
 pub mod Narrowed
+pub mod Sole
 pub mod Alone

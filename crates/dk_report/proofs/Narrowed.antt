@@ -68,7 +68,7 @@ not-implied options f o h =
 
 module _ (options : Options) (drops_implied : options.keep_implied ≡ false) (g : Grammar) (here : Answers) (samples : List (List Value)) (infos : List VarInfo)
     (tell : TellTheSame g here (told_by infos samples)) (parents qs : List Parent) (show : AllZip (ShowTheSame g here.infos) parents qs)
-    (kept : Kept) (is : IsKeptOf g here.infos samples kept)
+    (kept : Kept) (there_infos : List VarInfo) (is : IsKeptOf g there_infos samples kept) (admit : (r : RowId) (vs : List VarId) → admits r here.infos vs ≡ true → admits r there_infos vs ≡ true)
     (lead : all_lead kept.leaders (filter (may_stand options (found_of here parents) true) (all_vars here.infos)) ≡ true)
     (row : RowId) (of : IsRowOf g row) (differs : is_equality row ≡ false) (more : 1 < arity_of row)
   where
@@ -128,8 +128,13 @@ module _ (options : Options) (drops_implied : options.keep_implied ≡ false) (g
       all-leading : AllLead kept.leaders vars
       all-leading k d l = let c = All-contains_itself vars k d l in leads (get_or vars k d) (is_in (get_or vars k d) vars c.0 c.1 c.2)
 
+      asked-there : is_asked there_infos row vars ≡ true
+      asked-there =
+          and_from (admits row there_infos vars) (is_written row vars && are_distinct vars) (admit row vars admitted)
+          (and_parts (admits row here.infos vars) (is_written row vars && are_distinct vars) asked).1
+
       kept-at : (v : VarId) → IsIn v vars → keep v ≡ true
-      kept-at v i = and_from (may v) (is_left kept row v) (stands v i) (left g here.infos samples kept is row of vars asked all-leading holds free v i)
+      kept-at v i = and_from (may v) (is_left kept row v) (stands v i) (left g there_infos samples kept is row of vars asked-there all-leading holds free v i)
 
     fails : (vars : List VarId) → length vars ≡ arity_of row → (v : VarId) → IsIn v vars → keep v ≡ false → listed options here parents row vars ≡ []
     fails vars long v i h = elim (cases_Bool (is_listed options here parents row vars)) as (λ _. listed options here parents row vars ≡ []) [
@@ -147,7 +152,7 @@ module _ (options : Options) (drops_implied : options.keep_implied ≡ false) (g
 
 module _ (options : Options) (drops_implied : options.keep_implied ≡ false) (g : Grammar) (here : Answers) (samples : List (List Value)) (infos : List VarInfo)
     (tell : TellTheSame g here (told_by infos samples)) (parents qs : List Parent) (show : AllZip (ShowTheSame g here.infos) parents qs)
-    (kept : Kept) (is : IsKeptOf g here.infos samples kept)
+    (kept : Kept) (there_infos : List VarInfo) (is : IsKeptOf g there_infos samples kept) (admit : (r : RowId) (vs : List VarId) → admits r here.infos vs ≡ true → admits r there_infos vs ≡ true)
     (single several : List VarId)
     (single_is : single ≡ filter (may_stand options (found_of here parents) false) (all_vars here.infos))
     (several_is : several ≡ filter (may_stand options (found_of here parents) true) (all_vars here.infos))
@@ -172,7 +177,7 @@ module _ (options : Options) (drops_implied : options.keep_implied ≡ false) (g
           let not_one = eqb-false (arity_of row) 1 other in
           ap (λ b. over_all options here parents row (if b then filter (is_left kept row) (standing_at row) else standing_at row)) narrow
           ∙ (ap (λ vs. over_all options here parents row (filter (is_left kept row) vs)) (at-several row differs other)
-          ∙ narrow_row options drops_implied g here samples infos tell parents qs show kept is (sym (ap (all_lead kept.leaders) several_is) ∙ lead) row of differs (omega (arith, role, not_one))))
+          ∙ narrow_row options drops_implied g here samples infos tell parents qs show kept there_infos is admit (sym (ap (all_lead kept.leaders) several_is) ∙ lead) row of differs (omega (arith, role, not_one))))
       | inr wide ↦
           ap (λ b. over_all options here parents row (if b then filter (is_left kept row) (standing_at row) else standing_at row)) wide
           ∙ over_standing options here parents row single several single_is several_is

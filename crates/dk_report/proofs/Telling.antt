@@ -1,10 +1,11 @@
 -- What is merged at a point tells of it what its samples tell.
 use Rattle.std.specs.Prelude.{◌≡◌, ◌&&◌, ◌<◌, ℕ, Bool, true, false, All, List, [], ◌∷◌, filter, if◌then◌else◌, length, map, refl, slice_get, Some}
 use Rattle.std.specs.List.{AllZip}
-use Rattle.std.proofs.Common.{◌∙◌, ap, get_or, sym}
+use Rattle.std.proofs.Common.{◌∙◌, ap, get_or, sym, subst}
 use Rattle.std.proofs.lemmas.List.Elements.{All-contains_itself, All-head, All-tail}
 use Rattle.dk_base.specs.declared.kinds.VarId.{VarId}
 use Rattle.dk_base.specs.declared.kinds.VarInfo.{VarInfo}
+use Rattle.dk_base.specs.declared.values.Value.{Value}
 use Rattle.dk_classes.proofs.OfKind.{kind_read}
 use Rattle.dk_classes.specs.Classes.{kind_at, kinds_of}
 use Rattle.dk_engine.specs.Levels.{Whole}
@@ -14,11 +15,11 @@ use Rattle.dk_filters.specs.Answers.{Answers, Parent}
 use Rattle.dk_filters.specs.Candidates.{candidate_of, candidates_of, it_holds}
 use Rattle.dk_filters.specs.Facts.{info_at, no_info}
 use Rattle.dk_filters.specs.Laws.{ShowTheSame, TellTheSame}
-use Rattle.dk_filters.specs.OfSamples.{agrees}
+use Rattle.dk_filters.specs.OfSamples.{agrees, told_by}
 use Rattle.dk_fits.proofs.Listing.{instances_listed}
 use Rattle.dk_fits.specs.Instances.{IsInstance, are_distinct, instances_of}
 use Rattle.dk_hierarchy.specs.Merging.{Joint, merged_agree}
-use Rattle.dk_hierarchy.specs.Samples.{OwnSamples, all_vars_of, own_samples_of, samples_of}
+use Rattle.dk_hierarchy.specs.Samples.{OwnSamples, own_samples_of, samples_of}
 use Rattle.dk_hierarchy.specs.Standing.{AreEnginesOf, EnginesStandFor, IsMergedAt, JointStandsFor}
 use Rattle.dk_points.specs.Table.{Point}
 use Rattle.dk_template.specs.Admitted.{admits, is_written}
@@ -38,33 +39,34 @@ same-tests false false to from = refl
 kinds-read : (infos : List VarInfo) (v : VarId) → v.0 < length infos → kind_at (kinds_of infos) v.0 ≡ (info_at infos v).kind
 kinds-read infos v within = kind_read infos v.0 no_info within
 
+-- ---- what stands for samples
+module _ (joint : Joint) (samples : List (List Value)) (stands : JointStandsFor joint samples) where
+  agreeing-of : (v w : VarId) → v.0 < length joint.here.infos → w.0 < length joint.here.infos → merged_agree joint v w ≡ agrees joint.here.infos samples v w
+  agreeing-of v w first second =
+      let says = stands.agree v w first second in
+      let told = agrees_is_agreement joint.here.infos samples v w in
+      let at-v = kinds-read joint.here.infos v first in
+      let at-w = kinds-read joint.here.infos w second in
+      same-tests (merged_agree joint v w) (agrees joint.here.infos samples v w)
+      (λ h. told.1 (sym at-v ∙ ((says.0 h).0 ∙ at-w), (says.0 h).1))
+      (λ h. says.1 (at-v ∙ ((told.0 h).0 ∙ sym at-w), (told.0 h).1))
+
+  pub tells_of : TellTheSame joint.here.grammar (told_by_joint joint) (told_by joint.here.infos samples)
+  tells_of = record {
+    infos = refl;
+    answered = λ row of vars admitted. stands.state row of vars admitted;
+    counted = λ vars few there. stands.count vars there;
+    agreeing = agreeing-of;
+  }
+
 -- ---- at a point
 module _ (ps : List Point) (engines : List Whole) (are : AreEnginesOf ps engines) (own : OwnSamples) (stand : EnginesStandFor engines (own_samples_of ps own))
     (p : ℕ) (joint : Joint) (here : slice_get engines p ≡ Some joint.here) (merged : IsMergedAt ps engines p joint)
   where
-    abbrev stands : JointStandsFor joint (samples_of ps own p)
-    stands = merged own stand
-
-    pub vars-are : joint.here.infos ≡ all_vars_of ps p
-    vars-are = (are.variables p joint.here here).0
-
-    agreeing-of : (v w : VarId) → v.0 < length joint.here.infos → w.0 < length joint.here.infos → merged_agree joint v w ≡ agrees joint.here.infos (samples_of ps own p) v w
-    agreeing-of v w first second =
-        let says = stands.agree v w first second in
-        let told = agrees_is_agreement joint.here.infos (samples_of ps own p) v w in
-        let at-v = kinds-read joint.here.infos v first in
-        let at-w = kinds-read joint.here.infos w second in
-        same-tests (merged_agree joint v w) (agrees joint.here.infos (samples_of ps own p) v w)
-        (λ h. told.1 (sym at-v ∙ ((says.0 h).0 ∙ at-w), (says.0 h).1))
-        (λ h. says.1 (at-v ∙ ((told.0 h).0 ∙ sym at-w), (told.0 h).1))
-
     pub tells : TellTheSame joint.here.grammar (told_by_joint joint) (told_of ps own p)
-    tells = record {
-      infos = vars-are;
-      answered = λ row of vars admitted. stands.state row of vars admitted;
-      counted = λ vars few there. stands.count vars there;
-      agreeing = λ v w first second. agreeing-of v w first second ∙ ap (λ infos. agrees infos (samples_of ps own p) v w) vars-are;
-    }
+    tells =
+        subst (λ infos. TellTheSame joint.here.grammar (told_by_joint joint) (told_by infos (samples_of ps own p))) (are.variables p joint.here here).0
+        (tells_of joint (samples_of ps own p) (merged own stand))
 
 -- ---- the same candidates
 module _ {A B : Type 0} (Q : A → Type 0) (f g : A → B) (p q : A → Bool) (tests : (x : A) → Q x → p x ≡ q x) (values : (x : A) → Q x → f x ≡ g x) where

@@ -1,17 +1,19 @@
 -- Which variables a row is still asked about, where one engine alone has samples.
-use Rattle.std.specs.Prelude.{◌&&◌, ◌||◌, ◌==◌, Bool, true, false, not, List, filter, if◌then◌else◌}
+use Rattle.std.specs.Prelude.{◌&&◌, ◌||◌, ◌==◌, Bool, true, false, not, List, filter, if◌then◌else◌, ◌≡◌, ◌<◌, ℕ, [], ◌∷◌, length, slice_get, slice_index_or, Some, None}
 use Rattle.std.specs.List.{list_all, list_any}
 use Rattle.std.specs.Option.{option_map_or}
-use Rattle.dk_base.specs.Pieces.{is_empty}
+use Rattle.dk_base.specs.Shapes.{var}
 use Rattle.dk_base.specs.declared.kinds.VarId.{VarId}
 use Rattle.dk_classes.specs.Leaders.{own_leaders}
 use Rattle.dk_constants.specs.Known.{Entries, known_at}
+use Rattle.dk_engine.specs.Levels.{Whole}
 use Rattle.dk_engine.specs.declared.kept.Kept.{Kept}
 use Rattle.dk_engine.specs.declared.slot.Slot.{Slot}
 use Rattle.dk_filters.specs.declared.candidate.Candidate.{Candidate}
 use Rattle.dk_forms.specs.declared.states.State.{State}
 use Rattle.dk_forms.specs.declared.states.State.TheVariants as state
-use Rattle.dk_graph.specs.declared.nodes.Edge.{Edge}
+use Rattle.dk_hierarchy.specs.Merging.{AreWays, Joint}
+use Rattle.dk_hierarchy.specs.declared.way.Way.{Way}
 use Rattle.dk_presence.specs.Patterns.{has}
 use Rattle.dk_samples.specs.Samples.{is_present}
 use Rattle.dk_template.specs.Templates.{arity_of}
@@ -58,7 +60,25 @@ narrowed kept asking standing row = over asking row (left_of kept standing row)
 abbrev pub all_lead : List VarId → List VarId → Bool
 all_lead leaders vars = list_all (has (own_leaders leaders)) vars
 
--- The point has no children, and what isn't kept of its samples is dropped: implied instances are, and the variables that may stand in an
--- instance of several lead their classes.
-abbrev pub is_alone : Options → Kept → Standing → List Edge → Bool
-is_alone options kept standing edges = is_empty edges && (not options.keep_implied && all_lead kept.leaders standing.several)
+-- ---- one way alone
+-- the engine that a way leads to has samples
+abbrev pub brings_samples : List Whole → Way → Bool
+brings_samples engines way = option_map_or (λ (engine : Whole). not (engine.kept.samples == 0)) (slice_get engines way.point.0) true
+
+-- All samples of a merged point come by one way, on one path, from the own samples of this engine. Each variable has itself as its partner
+-- there.
+pub record IsSole (joint : Joint) (engine : Whole) : Type 0 where
+  pub asked : AreWays joint
+  pub way : Way
+  pub only : filter (brings_samples joint.engines) joint.ways ≡ way ∷ []
+  pub there : slice_get joint.engines way.point.0 ≡ Some engine
+  pub one_path : way.paths ≡ 1
+  pub own : (v : ℕ) → v < length way.partners → slice_index_or way.partners v None ≡ Some (var v)
+  pub long : length engine.infos ≡ length joint.here.infos
+
+-- What isn't kept of the engine's samples is dropped: implied instances are, and the variables that may stand in an instance of several
+-- lead their classes.
+pub record CanNarrow (options : Options) (joint : Joint) (standing : Standing) (engine : Whole) : Type 0 where
+  pub sole : IsSole joint engine
+  pub implied : options.keep_implied ≡ false
+  pub lead : all_lead engine.kept.leaders standing.several ≡ true

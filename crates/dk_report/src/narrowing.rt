@@ -1,30 +1,28 @@
 // The candidates of a point whose samples come from one engine alone: rows of several variables are asked about only over those of
 // which the engine keeps something.
-ghost use Rattle.std.specs.Prelude.{◌≡◌, ◌<◌, ◌++◌, ◌||◌, IfOk, Some, filter, flat_map, length, map, slice_get};
+ghost use Rattle.std.specs.Prelude.{◌≡◌, ◌<◌, ◌^◌, ◌++◌, ◌||◌, ℕ, true, [], ◌∷◌, All, IfOk, IfSome, List, None, Some, filter, flat_map, length, map, slice_index_or};
 ghost use Rattle.std.specs.List.{AllZip, list_any};
+ghost use Rattle.dk_base.specs.Shapes.{var};
+ghost use Rattle.dk_base.specs.declared.values.Value.{Value as SampleValue};
 ghost use Rattle.dk_fits.specs.Instances.{rows_of};
+ghost use Rattle.dk_filters.specs.Answers.{Parent};
 ghost use Rattle.dk_filters.specs.Candidates.{candidates_of, kept_by};
 ghost use Rattle.dk_filters.specs.Laws.{ShowTheSame};
-ghost use Rattle.dk_graph.specs.Graphs.{edges_into};
-ghost use Rattle.dk_hierarchy.specs.Samples.{OwnSamples, own_samples_of};
-ghost use Rattle.dk_hierarchy.specs.Standing.{AreEnginesOf, EnginesStandFor, IsMergedAt};
-ghost use Rattle.dk_points.specs.Links.{nodes};
+ghost use Rattle.dk_hierarchy.specs.Standing.{EnginesStandFor};
 ghost use Rattle.dk_presence.specs.Patterns.{has};
 ghost use Rattle.dk_report.specs.Asked.{CanBeAsked, here_of, views_of};
 ghost use Rattle.dk_report.specs.Keeping.{keeps};
-ghost use Rattle.dk_report.specs.Narrowing.{all_lead, is_alone, is_fixed, is_left, is_narrow, is_of_row, narrowed, says_nothing};
-ghost use Rattle.dk_report.specs.Reports.{parents_of};
+ghost use Rattle.dk_report.specs.Narrowing.{CanNarrow, IsSole, all_lead, brings_samples, is_fixed, is_left, is_narrow, is_of_row, narrowed, says_nothing};
 ghost use Rattle.dk_template.specs.Templates.{IsRow, IsRowOf};
 
-use crate::Options;
 use crate::asking::Asking;
 use crate::sweeping::{Standing, is_equality};
-use dk_base::{List, NoMemory, PointId, Value, VarId};
+use dk_base::{List, NoMemory, Value, VarId};
 use dk_classes::Classes;
 use dk_constants::Constants;
 use dk_engine::{Engine, Slot};
 use dk_filters::Candidate;
-use dk_points::Points;
+use dk_hierarchy::Way;
 use dk_template::{RowId, State, info};
 use std::alloc::Global;
 
@@ -119,20 +117,53 @@ fn all_lead(classes: &Classes, vars: &[VarId]) -> bool
     vars.iter().all(|v| has(own, *v))
 }
 
-// Whether all samples of a point come from its engine alone, and what the engine keeps tells where the options can let something through.
-fn is_alone(
-    points: &Points,
-    options: &Options,
-    engine: &Engine,
-    standing: &Standing,
-    p: PointId,
-) -> bool
-    requires { p.0 < length points.now }
-    ensures { result ≡ is_alone options.now engine.now.kept standing.now (edges_into (nodes points.now) p.0) }
+// Whether the engine that a way leads to has samples.
+fn brings_samples(engines: &[Engine], way: &Way) -> bool
+    ensures { result ≡ brings_samples engines.now way.now }
 {
-    points.into(p).is_empty()
-        && !options.keep_implied
-        && all_lead(engine.classes(), standing.several.as_slice())
+    match engines.get(way.point.0 as usize) {
+        Some(engine) => engine.counts().samples != 0,
+        None => true,
+    }
+}
+
+// The way that brings samples, if it is the only one.
+fn sole_way<'w>(engines: &[Engine], ways: &'w [Way]) -> Option<&'w Way>
+    ensures { IfSome result (λ way. filter (brings_samples engines.now) ways.now ≡ way.now ∷ []) }
+{
+    let mut sole = None;
+    for way in ways {
+        if brings_samples(engines, way) {
+            if sole.is_some() {
+                return None;
+            }
+            sole = Some(way);
+        }
+    }
+    sole
+}
+
+// Whether it is the variable of this number.
+fn is_var(partner: Option<VarId>, number: u32) -> bool
+    ensures { result ≡ true → partner ≡ Some (var number) }
+{
+    match partner {
+        Some(v) => v.0 == number,
+        None => false,
+    }
+}
+
+// Whether each variable has itself as its partner.
+fn are_own(partners: &[Option<VarId>]) -> bool
+    requires { length partners.now < 2 ^ 32 }
+    ensures { result ≡ true → (v : ℕ) → v < length partners.now → slice_index_or partners.now v None ≡ Some (var v) }
+{
+    for number in 0..partners.len() as u32 {
+        if !is_var(partners[number as usize], number) {
+            return false;
+        }
+    }
+    true
 }
 
 impl<'a, 'e> Asking<'a, 'e> {
@@ -176,27 +207,50 @@ impl<'a, 'e> Asking<'a, 'e> {
         Ok(list)
     }
 
+    // The engine from whose own samples alone all samples of the point come, each variable being its own partner.
+    fn sole_engine<'n>(&self, engines: &'n [Engine]) -> Option<&'n Engine>
+        requires engines { self.now.here.now.engines ≡ engines.now }
+        requires few { length self.now.here.now.here.infos < 2 ^ 32 }
+        ensures { IfSome result (λ engine. IsSole self.now.here.now engine.now) }
+    {
+        let way = sole_way(engines, self.here.ways())?;
+        let engine = engines.get(way.point.0 as usize)?;
+        let is_straight = way.paths == 1
+            && way.partners.len() == self.here.vars().len()
+            && engine.vars().len() == self.here.vars().len()
+            && are_own(way.partners.as_slice());
+        if is_straight { Some(engine) } else { None }
+    }
+
+    // That engine, if what it keeps tells where the options can let something through.
+    fn narrowing<'n>(&self, engines: &'n [Engine], standing: &Standing) -> Option<&'n Engine>
+        requires engines { self.now.here.now.engines ≡ engines.now }
+        requires few { length self.now.here.now.here.infos < 2 ^ 32 }
+        ensures { IfSome result (λ engine. CanNarrow self.now.options.now self.now.here.now standing.now engine.now) }
+    {
+        if self.options.keep_implied {
+            return None;
+        }
+        let engine = self.sole_engine(engines)?;
+        if all_lead(engine.classes(), standing.several.as_slice()) {
+            Some(engine)
+        } else {
+            None
+        }
+    }
+
     /// The candidates that the options let through, by row and then by variables.
-    pub(crate) fn listed(
-        &self,
-        points: &Points,
-        engines: &[Engine],
-        p: PointId,
-    ) -> Result<List<Candidate>, NoMemory>
-        requires point { p.0 < length points.now }
-        requires engines { AreEnginesOf points.now engines.now }
-        requires here { slice_get engines.now p.0 ≡ Some self.now.here.now.here }
-        requires merged { IsMergedAt points.now engines.now p.0 self.now.here.now }
+    pub(crate) fn listed(&self, engines: &[Engine]) -> Result<List<Candidate>, NoMemory>
+        requires engines { self.now.here.now.engines ≡ engines.now }
+        requires few { length self.now.here.now.here.infos < 2 ^ 32 }
+        requires paths { All (λ way. 0 < way.paths) self.now.here.now.ways }
         requires asked { CanBeAsked self.now }
-        requires parents { (own : OwnSamples) → EnginesStandFor engines.now (own_samples_of points.now own) → AllZip (ShowTheSame self.now.here.now.here.grammar self.now.here.now.here.infos) (views_of self.now) (parents_of points.now own p.0) }
-        ensures { IfOk result (λ list. (own : OwnSamples) → EnginesStandFor engines.now (own_samples_of points.now own) → list ≡ kept_by (keeps self.now.options.now) (candidates_of self.now.here.now.here.grammar self.now.options.now.least (here_of self.now) (views_of self.now))) }
+        ensures { IfOk result (λ list. (samples : ℕ → List (List SampleValue)) (parents : List Parent) → EnginesStandFor engines.now samples → AllZip (ShowTheSame self.now.here.now.here.grammar self.now.here.now.here.infos) (views_of self.now) parents → list ≡ kept_by (keeps self.now.options.now) (candidates_of self.now.here.now.here.grammar self.now.options.now.least (here_of self.now) (views_of self.now))) }
     {
         let standing = self.all_standing()?;
-        let engine = &engines[p.0 as usize];
-        if is_alone(points, self.options, engine, &standing, p) {
-            self.narrowed(engine, &standing)
-        } else {
-            self.swept(&standing)
+        match self.narrowing(engines, &standing) {
+            Some(engine) => self.narrowed(engine, &standing),
+            None => self.swept(&standing),
         }
     }
 }

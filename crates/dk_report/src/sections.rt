@@ -18,8 +18,8 @@ use dk_template::Answers;
 use std::alloc::Global;
 
 /// The instances that hold at a point and that no filter that is on drops, by row and then by variables, from what the engines of the
-/// table's points keep. An instance that the options drop at once isn't asked about; of a point without children, only rows over what
-/// its engine keeps are, but where implied instances are let through.
+/// table's points keep. An instance that the options drop at once isn't asked about; where all samples come from one
+/// engine, only rows over what it keeps are, but where implied instances are let through.
 pub fn kept_instances(
     alloc: Global,
     options: &Options,
@@ -34,16 +34,17 @@ pub fn kept_instances(
     let here = merge(alloc, points, engines, p)?;
     let parents = parents_of(alloc, points, engines, p)?;
     let views = views_of(alloc, parents.as_slice())?;
+    let engine = &engines[p.0 as usize];
     let found = PointFacts::of(alloc, here.vars(), &here, views.as_slice())?;
     let asking = Asking {
         alloc,
-        grammar: engines[p.0 as usize].grammar(),
+        grammar: engine.grammar(),
         options,
         here: &here,
         parents: views.as_slice(),
         found: &found,
     };
-    asking.listed(points, engines, p)
+    asking.listed(engines)
 }
 
 // In how many samples of a point all of no variables are present: how many samples there are, at most 2^64 - 1.

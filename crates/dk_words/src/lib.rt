@@ -4,6 +4,7 @@
 mod clap_command;
 mod command;
 mod fault;
+pub mod laws;
 mod matched;
 mod reading;
 mod request;

@@ -1,9 +1,11 @@
-use Rattle.std.specs.Prelude.{◌≡◌, ◌<◌, ◌^◌, List, length, map}
+use Rattle.std.specs.Prelude.{◌≡◌, ◌<◌, ◌^◌, List, length, map, ℕ}
 use Rattle.std.specs.List.{AllZip}
 use Rattle.std.proofs.Common.{◌∙◌, ap, arith, subst, sym}
-use Rattle.std.proofs.lemmas.List.Elements.{All-same}
+use Rattle.std.proofs.lemmas.List.Elements.{All-same, All-weaker}
 use Rattle.dk_base.specs.declared.kinds.VarInfo.{VarInfo}
+use Rattle.dk_base.specs.declared.values.Value.{Value}
 use Rattle.dk_engine.specs.Levels.{Whole}
+use Rattle.dk_filters.specs.Answers.{Parent}
 use Rattle.dk_filters.specs.Candidates.{candidates_of, kept_by}
 use Rattle.dk_filters.specs.Found.{found_of}
 use Rattle.dk_filters.specs.Laws.{ShowTheSame}
@@ -12,9 +14,11 @@ use Rattle.dk_filters.specs.declared.parents.ParentView.{ParentView}
 use Rattle.dk_graph.proofs.Places.{some-injective}
 use Rattle.dk_graph.specs.Graphs.{edges_from}
 use Rattle.dk_hierarchy.proofs.TableEngines.{engine_got}
+use Rattle.dk_hierarchy.specs.Descent.{IsWayDown}
 use Rattle.dk_hierarchy.specs.Merging.{Joint, merged_agree, merged_count, merged_state}
-use Rattle.dk_hierarchy.specs.Samples.{OwnSamples, own_samples_of}
+use Rattle.dk_hierarchy.specs.Samples.{own_samples_of}
 use Rattle.dk_hierarchy.specs.Standing.{EnginesStandFor}
+use Rattle.dk_hierarchy.specs.declared.way.Way.{Way}
 use Rattle.dk_points.specs.Links.{nodes}
 use Rattle.dk_report.proofs.Reported.{if_ok, reported, small_views, views_can_show, views_show}
 use Rattle.dk_report.specs.Asked.{shown_by, told_by_joint}
@@ -63,15 +67,15 @@ listed-requires-clause-asked c =
           ∙ ap (λ (views : List (ParentView Joint)). found_of (told_by_joint joint) (map shown_by views)) slices);
     }
 
-pub listed-requires-clause-parents : goal.listed-requires-clause-parents
-listed-requires-clause-parents c = λ own stand.
-    let ps = c.args.points.now in
-    let es = c.args.engines.now in
-    let p = c.args.p.0 in
+pub listed-requires-clause-few : goal.listed-requires-clause-few
+listed-requires-clause-few c =
     let joint : Joint = c.in_ok-here.here in
-    let by = subst (λ (qs : List MergedParent). AllZip (IsParentBy ps es) qs (edges_from (nodes ps) p)) (sym c.as_slice.ensures.value) c.in_ok-parents.ensures in
-    subst (λ (views : List (ParentView Joint)). AllZip (ShowTheSame joint.here.grammar joint.here.infos) (map shown_by views) (parents_of ps own p)) (sym c.as_slice-3.ensures.value)
-    (views_show ps es c.requires.engines p joint c.in_ok-here.ensures.here c.in_ok-here.ensures.stands c.in_ok-views.views.items c.as_slice.result.now c.in_ok-views.ensures by own stand)
+    (c.requires.engines.variables c.args.p.0 joint.here c.in_ok-here.ensures.here).1.few
+
+pub listed-requires-clause-paths : goal.listed-requires-clause-paths
+listed-requires-clause-paths c =
+    let joint : Joint = c.in_ok-here.here in
+    All-weaker (IsWayDown c.args.points.now c.args.p.0) (λ (way : Way). 0 < way.paths) (λ way is. is.some) joint.ways c.in_ok-here.ensures.ways.done
 
 pub returns : goal.returns
 returns c =
@@ -82,6 +86,11 @@ returns c =
     let joint : Joint = c.in_ok-here.here in
     let by = subst (λ (qs : List MergedParent). AllZip (IsParentBy ps es) qs (edges_from (nodes ps) p)) (sym c.as_slice.ensures.value) c.in_ok-parents.ensures in
     let lists = λ (views : List (ParentView Joint)). kept_by (keeps options) (candidates_of joint.here.grammar options.least (told_by_joint joint) (map shown_by views)) in
-    if_ok c.listed.result (λ list. (own : OwnSamples) → EnginesStandFor es (own_samples_of ps own) → list ≡ lists c.as_slice-3.result.now) _
-    (λ list is own stand. reported ps es c.requires.engines p joint c.in_ok-here.ensures.here c.in_ok-here.ensures.stands c.in_ok-views.views.items c.as_slice.result.now c.in_ok-views.ensures by options list
-    (is own stand ∙ ap lists c.as_slice-3.ensures.value) own stand) c.listed.ensures
+    if_ok c.listed.result
+    (λ list. (samples : ℕ → List (List Value)) (parents : List Parent) → EnginesStandFor es samples → AllZip (ShowTheSame joint.here.grammar joint.here.infos) (map shown_by c.as_slice-3.result.now) parents → list ≡ lists c.as_slice-3.result.now) _
+    (λ list is own stand.
+    let shows = views_show ps es c.requires.engines p joint c.in_ok-here.ensures.here c.in_ok-here.ensures.stands c.in_ok-views.views.items c.as_slice.result.now c.in_ok-views.ensures by own stand in
+    let show = subst (λ (views : List (ParentView Joint)). AllZip (ShowTheSame joint.here.grammar joint.here.infos) (map shown_by views) (parents_of ps own p)) (sym c.as_slice-3.ensures.value) shows in
+    reported ps es c.requires.engines p joint c.in_ok-here.ensures.here c.in_ok-here.ensures.stands c.in_ok-views.views.items c.as_slice.result.now c.in_ok-views.ensures by options list
+    (is (own_samples_of ps own) (parents_of ps own p) stand show ∙ ap lists c.as_slice-3.ensures.value) own stand)
+    c.listed.ensures
