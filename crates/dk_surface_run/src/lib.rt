@@ -7,8 +7,6 @@ mod examples;
 #[cfg(test)]
 mod files;
 #[cfg(test)]
-mod generated;
-#[cfg(test)]
 mod outcomes;
 #[cfg(test)]
 mod outside;

@@ -21,7 +21,7 @@ struct Case {
 const USAGE: &str =
     "usage: daikon [--min-samples N] [--every N] [--select PREFIX] [--keep-implied] [--keep-incomparable] [--keep-members] [--keep-constant] [--keep-parent] [--ignore-missing-entry] [--stats] [--generate N] [FILE]...\n";
 
-static CASES: [Case; 9] = [
+static CASES: [Case; 8] = [
     Case {
         name: "an unknown word",
         text: POINT,
@@ -39,15 +39,6 @@ static CASES: [Case; 9] = [
         failing_writes: &[],
         status: Status::Read,
         messages: "daikon: cannot read u\n",
-    },
-    Case {
-        name: "a generated file, and one that is not there",
-        text: POINT,
-        words: &["--generate", "7", "u"],
-        failing_reads: &[],
-        failing_writes: &[],
-        status: Status::Read,
-        messages: "generated 20000 records\ndaikon: cannot read u\n",
     },
     Case {
         name: "a second start that fails",
