@@ -10,16 +10,16 @@ use dk_template::Grammar;
 use std::alloc::Global;
 use std::test::Fail;
 
-// A point with one variable, and three records of it.
-const FILE: &[u8] = b"ppt P\nvariable x\nrep-type int\n\nP\nx\n5\n1\n\nP\nx\n5\n1\n\nP\nx\n5\n1\n";
+// A point with one variable, and a record of it.
+const FILE: &[u8] = b"ppt P\nvariable x\nrep-type int\n\nP\nx\n5\n1\n";
 
 const SECTION: &str = "\
 ===========================================================================
-P  [3]
-x == 5  [3]
+P  [1]
+x == 5  [1]
 ";
 
-const STATS: &str = "stats P: samples 3, leaders 1, constants 1, patterns 1, slots 0\n";
+const STATS: &str = "stats P: samples 1, leaders 1, constants 1, patterns 1, slots 0\n";
 
 fn options() -> Options {
     Options {
@@ -47,10 +47,7 @@ fn read<F: Fn(&[u8]) -> bool + Drop>(alloc: Global, select: F) -> Result<Session
     lines.start(&mut inputs, "t")?;
     let mut session = Session::new(alloc, select, options())?;
     let _declaration = session.block(&mut inputs, &mut lines)?;
-    let _first = session.block(&mut inputs, &mut lines)?;
-    let _second = session.block(&mut inputs, &mut lines)?;
-    let _third = session.block(&mut inputs, &mut lines)?;
-    let _end = session.block(&mut inputs, &mut lines)?;
+    let _record = session.block(&mut inputs, &mut lines)?;
     Ok(session.end_file())
 }
 
@@ -64,7 +61,7 @@ fn reports_what_blocks_say(rt: HostRuntime) -> Result<(), Fail> {
     assert!(rt; told.0 == SECTION.as_bytes() && told.1 == STATS.as_bytes());
     let samples = session.engine(PointId(0)).counts().samples;
     let blocks = session.blocks();
-    assert!(rt; samples == 3 && blocks == 4 && session.grammar() == Grammar::Two);
+    assert!(rt; samples == 1 && blocks == 2 && session.grammar() == Grammar::Two);
     Ok(())
 }
 
