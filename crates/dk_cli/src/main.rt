@@ -1,20 +1,10 @@
 //! The command `daikon`: it reads a file of declarations and records, and reports what holds of the variables of its points.
 #![tactic(auto)]
 
-mod messages;
-mod reading;
-mod status;
-#[cfg(test)]
-mod tests;
-mod top;
-mod words;
-
 use dk_io::{FileInputs, HostSinks};
-use status::Status;
+use dk_run::{Status, run, tell_usage, words_of};
 use std::io::ErrorKind;
 use std::process::ExitCode;
-use top::{run, tell_usage};
-use words::words_of;
 
 fn main(rt: HostRuntime) -> ExitCode {
     let mut inputs = FileInputs::new(&rt);

@@ -1,0 +1,18 @@
+//! The command `daikon` once more, as its own stored run has a report: the one here ends with a refusal, its message and its status.
+#![tactic(auto)]
+
+use dk_io::{FileInputs, HostSinks};
+use dk_run::{Status, run, tell_usage, words_of};
+use std::io::ErrorKind;
+use std::process::ExitCode;
+
+fn main(rt: HostRuntime) -> ExitCode {
+    let mut inputs = FileInputs::new(&rt);
+    let mut sinks = HostSinks::new(&rt, rt.stdout(), rt.stderr());
+    let status = match words_of(&rt) {
+        Ok(words) => run(rt.alloc(), words.as_slice(), &mut inputs, &mut sinks),
+        Err(error) if error.kind() == ErrorKind::InvalidData => tell_usage(&mut sinks),
+        Err(_) => Status::NoMemory,
+    };
+    ExitCode::from(status.code())
+}

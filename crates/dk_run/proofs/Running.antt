@@ -1,0 +1,301 @@
+-- Reading file after file.
+use Rattle.std.proofs.Common.{◌≡◌, ◌≢◌, ◌≤◌, ◌<◌, ◌⊎◌, ◌+◌, ◌-◌, ◌^◌, min, ℕ, zero, suc, List, [], ◌∷◌, ◌++◌, map, take, length, get_or, inl, inr, Bool, true, false, Option, Some, None, Result, Ok, Err, refl, sym, ◌∙◌, ap, subst, arith, append_assoc, length-append}
+use Rattle.std.proofs.lemmas.Bool.{cases_lt}
+use Rattle.std.proofs.lemmas.List.{append-nil, length-take, take_all, take-take}
+use Rattle.std.specs.Io.{StartsWith}
+use Rattle.std.specs.Option.{option_map_or}
+use Rattle.dk_base.specs.Reading.{LineFault}
+use Rattle.dk_base.specs.declared.why.Why.{Why}
+use Rattle.dk_generate.specs.Generated.{generated_text}
+use Rattle.dk_generate.specs.Texts.{generated_name}
+use Rattle.dk_io.specs.Outside.{Held, Absent, Holds, Rose}
+use Rattle.dk_lines.proofs.Lined.{at_break}
+use Rattle.dk_lines.specs.Left.{Broken, Left, lined}
+use Rattle.dk_lines.specs.Reading.{Reading, room_of}
+use Rattle.dk_lines.specs.declared.lines.Limits.{Limits}
+use Rattle.dk_core.specs.Blocks.{Last, grouped}
+use Rattle.dk_core.specs.History.{History, effect_of, file_ended, no_history}
+use Rattle.dk_core.specs.Standing.{StandsFor, blocks_of}
+use Rattle.dk_core.specs.Steps.{groups_left}
+use Rattle.dk_core.specs.declared.session.Session.{Session}
+use Rattle.dk_words.specs.declared.command.Command.{Command}
+use Rattle.dk_run.specs.AllFiles.{AreReadTo, FilesTroubleGives, HasBrokenAt, IsRefusedAt, IsShortTo, IsUnreadAt, RunsOn, placed}
+use Rattle.dk_run.specs.Commands.{generated_count, helds_of, names_of}
+use Rattle.dk_run.specs.Courses.{Course, course_of, course_of_file, course_of_files, ends, fault_in, first_fault, goes_on, onto, standard, then_files, total_limit}
+use Rattle.dk_run.specs.Files.{AreHeld, File, FileFault, cut_off, name_at, whole}
+use Rattle.dk_run.specs.Reports.{capped, due_from, due_reports}
+use Rattle.dk_run.specs.Statuses.{AreClean, AtStart, Break, HasBroken, IsDelivered, Within, held_at, rest_behind}
+use Rattle.dk_run.specs.WholeFile.{ComesToEnd, FileTroubleGives, HasFault, IsBroken, IsCalmUnless, IsShort, course_behind, fresh}
+use Rattle.dk_run.specs.declared.reading.Trouble.{Trouble}
+use Rattle.dk_run.specs.declared.reading.Trouble.TheVariants as t
+use Rattle.dk_run.proofs.Courses.{no_lines, onto_more}
+use Rattle.dk_run.proofs.Filing.{due_append, due_none}
+use Rattle.dk_run.proofs.Writing.{front_behind, front_more}
+
+-- ---- one file more, of those that are held
+record OneMore (helds : List Held) (contents : List (List ℕ)) (k : ℕ) : Type 0 where
+  front : List (List ℕ)
+  bytes : List ℕ
+  split : contents ≡ front ++ bytes ∷ []
+  held : AreHeld (take k helds) front
+  there : held_at helds k ≡ Holds bytes
+
+first_and_more : (n : Held) (c : List ℕ) (ns : List Held) (cs : List (List ℕ)) (k : ℕ) → n ≡ Holds c → OneMore ns cs k → OneMore (n ∷ ns) (c ∷ cs) (suc k)
+first_and_more n c ns cs k first m = let more = m.held in
+    record { front = c ∷ m.front; bytes = m.bytes; split = ap (λ (l : List (List ℕ)). c ∷ l) m.split; held = cc (first, more); there = m.there }
+
+one_more_suc : (helds : List Held) (contents : List (List ℕ)) (k : ℕ) → k < length helds → AreHeld (take (suc k) helds) contents → OneMore helds contents k
+one_more_suc [] contents k h held = absurd (omega arith)
+one_more_suc (n ∷ ns) [] k h held = absurd (cc (held))
+one_more_suc (n ∷ ns) (c ∷ []) zero h held = record { front = []; bytes = c; split = refl; held = refl; there = cc (held) }
+one_more_suc (n ∷ ns) (c ∷ d ∷ cs) zero h held = absurd (cc (held))
+one_more_suc (n ∷ ns) (c ∷ cs) (suc k) h held = first_and_more n c ns cs k (cc (held)) (one_more_suc ns cs k (omega arith) (cc (held)))
+
+one_more : (helds : List Held) (contents : List (List ℕ)) (k : ℕ) → k < length helds → AreHeld (take (k + 1) helds) contents → OneMore helds contents k
+one_more helds contents k h held =
+    let next : k + 1 ≡ suc k = omega arith in
+    one_more_suc helds contents k h (subst (λ (n : ℕ). AreHeld (take n helds) contents) next held)
+
+files_of : (front : List (List ℕ)) (x : List ℕ) (fs : List File) → map whole (front ++ x ∷ []) ++ fs ≡ map whole front ++ (whole x ∷ fs)
+files_of [] x fs = refl
+files_of (c ∷ cs) x fs = ap (λ (l : List File). whole c ∷ l) (files_of cs x fs)
+
+-- ---- the course over one file more
+-- the groups of a started file are those of its bytes
+started_file : (ignores : Bool) (r : Reading) (h : History) (is_ended : Bool) (xs : List ℕ) → r.limits ≡ standard
+    → course_of_file ignores (room_of r) h (record { bytes = xs; is_ended = is_ended }) ≡ course_behind ignores h (groups_left false (fresh r) is_ended xs)
+started_file ignores r h is_ended xs limits = ap (λ (l : Limits). course_behind ignores h (grouped (lined l.line (room_of r) 0 is_ended xs))) (sym limits)
+
+abbrev then_course : ℕ → Course LineFault → (History → Course FileFault) → Course FileFault
+then_course place c more = onto c.after (then_files place c.end more)
+
+-- the run goes on behind a file
+course_more : (ignores : Bool) (r last : Reading) (h next : History) (after : List History) (place : ℕ) (xs : List ℕ) (fs : List File) → r.limits ≡ standard → room_of last ≡ room_of (fresh r) - length xs
+    → course_behind ignores h (groups_left false (fresh r) true xs) ≡ record { after = after; end = Ok next }
+    → course_of_files ignores (room_of r) h place (whole xs ∷ fs) ≡ onto after (course_of_files ignores (room_of last) (file_ended next) (place + 1) fs)
+course_more ignores r last h next after place xs fs limits room all =
+    ap (λ (c : Course LineFault). then_course place c (λ n. course_of_files ignores (room_of r - length xs) (file_ended n) (place + 1) fs)) (started_file ignores r h true xs limits ∙ all)
+    ∙ ap (λ (m : ℕ). onto after (course_of_files ignores m (file_ended next) (place + 1) fs)) (sym room)
+
+-- the run ends with a file's fault
+course_refused : (ignores : Bool) (r : Reading) (h : History) (after : List History) (place : ℕ) (xs : List ℕ) (fs : List File) (fault : LineFault) → r.limits ≡ standard
+    → course_behind ignores h (groups_left false (fresh r) true xs) ≡ record { after = after; end = Err fault }
+    → course_of_files ignores (room_of r) h place (whole xs ∷ fs) ≡ record { after = after; end = Err (record { file = place; line = fault.line; why = fault.why }) }
+course_refused ignores r h after place xs fs fault limits all =
+    ap (λ (c : Course LineFault). then_course place c (λ n. course_of_files ignores (room_of r - length xs) (file_ended n) (place + 1) fs)) (started_file ignores r h true xs limits ∙ all)
+    ∙ ap (λ (l : List History). record { after = l; end = Err (record { file = place; line = fault.line; why = fault.why }) }) (append-nil after)
+
+-- the run up to a part of a file
+course_part : (ignores : Bool) (r : Reading) (h next : History) (after : List History) (place : ℕ) (is_ended : Bool) (xs : List ℕ) → r.limits ≡ standard
+    → course_behind ignores h (groups_left false (fresh r) is_ended xs) ≡ record { after = after; end = Ok next }
+    → course_of_files ignores (room_of r) h place (record { bytes = xs; is_ended = is_ended } ∷ []) ≡ record { after = after; end = Ok (file_ended next) }
+course_part ignores r h next after place is_ended xs limits all =
+    ap (λ (c : Course LineFault). then_course place c (λ n. ends (Ok (file_ended n)))) (started_file ignores r h is_ended xs limits ∙ all)
+    ∙ ap (λ (l : List History). record { after = l; end = Ok (file_ended next) }) (append-nil after)
+
+-- ---- reading on
+there_more : (helds : List Held) (place : ℕ) → ((k : ℕ) → k < place → held_at helds k ≢ Absent) → held_at helds place ≢ Absent → (k : ℕ) → k < place + 1 → held_at helds k ≢ Absent
+there_more helds place below here k h = elim (cases_lt k place) [
+  | inl l ↦ below k l
+  | inr g ↦ let same : place ≡ k = omega (arith, g, h) in subst (λ (i : ℕ). held_at helds i ≢ Absent) same here
+]
+
+-- what the run over the files so far comes to
+pub alone : (command : Command) (before rest : Option (List ℕ)) (Stands : History → Type 0) (blocks room place : ℕ) (text : List ℕ) (contents : List (List ℕ))
+    → (on : RunsOn command before rest Stands blocks room place text contents) → course_of command.ignore_missing_entry (map whole contents) ≡ record { after = on.after; end = Ok on.history }
+alone command before rest Stands blocks room place text contents on =
+    ap (course_of command.ignore_missing_entry) (sym (append-nil (map whole contents))) ∙ on.goes [] ∙ ap (λ (l : List History). record { after = l; end = Ok on.history }) (append-nil on.after)
+
+pub alone_clean : (command : Command) (before rest : Option (List ℕ)) (Stands : History → Type 0) (blocks room place : ℕ) (text : List ℕ) (contents : List (List ℕ))
+    → RunsOn command before rest Stands blocks room place text contents → first_fault command.ignore_missing_entry (map whole contents) ≡ None
+alone_clean command before rest Stands blocks room place text contents on =
+    ap (λ (c : Course FileFault). fault_in c.end) (alone command before rest Stands blocks room place text contents on)
+
+clean_more : (ignores : Bool) (helds : List Held) (place : ℕ) → AreClean ignores helds place
+    → ((contents : List (List ℕ)) → AreHeld (take (place + 1) helds) contents → first_fault ignores (map whole contents) ≡ None) → AreClean ignores helds (place + 1)
+clean_more ignores helds place clean here k contents h held = elim (cases_lt place k) [
+  | inl more ↦ let same : k ≡ place + 1 = omega (arith, more, h) in here contents (subst (λ (n : ℕ). AreHeld (take n helds) contents) same held)
+  | inr less ↦ clean k contents less held
+]
+
+-- one file more was read
+runs_on : (command : Command) (helds : List Held) (before mid after left : Option (List ℕ)) (Stands Next : History → Type 0) (blocks more place : ℕ) (r last : Reading) (told text : List ℕ) (contents : List (List ℕ))
+    → r.limits ≡ standard → place < length helds
+    → ((mid ≡ rest_behind (place - generated_count command) before) → left ≡ Some [] → after ≡ rest_behind (place + 1 - generated_count command) before)
+    → ((contents : List (List ℕ)) → AreHeld (take place helds) contents → RunsOn command before mid Stands blocks (room_of r) place told contents)
+    → ((h : History) (n : ℕ) → Stands h → blocks ≡ capped n → (xs : List ℕ) → held_at helds place ≡ Holds xs → ComesToEnd command n h (fresh r) xs text Next more last left)
+    → AreHeld (take (place + 1) helds) contents → RunsOn command before after Next more (room_of last) (place + 1) (told ++ text) contents
+runs_on command helds before mid after left Stands Next blocks more place r last told text contents limits within rest runs gives held =
+    let m = one_more helds contents place within held in
+    let on = runs m.front m.held in
+    let e = gives on.history (length on.after) on.stands on.counts m.bytes m.there in
+    let number : length on.after + 1 ≡ 1 + length on.after = omega arith in
+    record {
+      after = on.after ++ e.after;
+      history = file_ended e.next;
+      stands = e.stands;
+      counts = e.counts ∙ ap capped (sym (length-append on.after e.after));
+      told = ap (λ (l : List ℕ). l ++ text) on.told ∙ ap (λ (l : List ℕ). due_reports command on.after ++ l) (e.told ∙ ap (λ (n : ℕ). due_from command n e.after) number) ∙ sym (due_append command 1 on.after e.after);
+      rest_is = rest on.rest_is e.nothing_left;
+      goes = λ fs.
+          ap (λ (cs : List (List ℕ)). course_of command.ignore_missing_entry (map whole cs ++ fs)) m.split
+          ∙ ap (course_of command.ignore_missing_entry) (files_of m.front m.bytes fs)
+          ∙ on.goes (whole m.bytes ∷ fs)
+          ∙ ap (onto on.after) (course_more command.ignore_missing_entry r last on.history e.next e.after place m.bytes fs limits e.room e.all)
+          ∙ onto_more on.after e.after (course_of_files command.ignore_missing_entry (room_of last) (file_ended e.next) (place + 1) fs);
+    }
+
+pub read_on : (command : Command) (file : List ℕ → Held) (before mid after left : Option (List ℕ)) (Stands Next : History → Type 0) (blocks more place : ℕ) (r last : Reading) (told text : List ℕ)
+    → r.limits ≡ standard → place < length (helds_of command file) → held_at (helds_of command file) place ≢ Absent
+    → ((mid ≡ rest_behind (place - generated_count command) before) → left ≡ Some [] → after ≡ rest_behind (place + 1 - generated_count command) before)
+    → AreReadTo command file before mid Stands blocks (room_of r) place told
+    → ((h : History) (n : ℕ) → Stands h → blocks ≡ capped n → (xs : List ℕ) → held_at (helds_of command file) place ≡ Holds xs → ComesToEnd command n h (fresh r) xs text Next more last left)
+    → AreReadTo command file before after Next more (room_of last) (place + 1) (told ++ text)
+read_on command file before mid after left Stands Next blocks more place r last told text limits within there rest read gives =
+    let runs = runs_on command (helds_of command file) before mid after left Stands Next blocks more place r last told text in
+    record {
+      there = there_more (helds_of command file) place read.there there;
+      clean = clean_more command.ignore_missing_entry (helds_of command file) place read.clean
+          (λ contents held. alone_clean command before after Next more (room_of last) (place + 1) (told ++ text) contents (runs contents limits within rest read.runs gives held));
+      runs = λ contents held. runs contents limits within rest read.runs gives held;
+    }
+
+-- a file is refused
+pub refused_on : (command : Command) (file : List ℕ → Held) (before mid : Option (List ℕ)) (Stands : History → Type 0) (blocks place line : ℕ) (why : Why) (r : Reading) (told text : List ℕ)
+    → r.limits ≡ standard → place < length (helds_of command file) → held_at (helds_of command file) place ≢ Absent
+    → AreReadTo command file before mid Stands blocks (room_of r) place told
+    → ((h : History) (n : ℕ) → Stands h → blocks ≡ capped n → (xs : List ℕ) → held_at (helds_of command file) place ≡ Holds xs → HasFault command n h (fresh r) xs text (record { line = line; why = why }))
+    → IsRefusedAt command file (told ++ text) place line why
+refused_on command file before mid Stands blocks place line why r told text limits within there read gives = record {
+  named = within;
+  there = there_more (helds_of command file) place read.there there;
+  clean = read.clean;
+  gives = λ contents held.
+      let m = one_more (helds_of command file) contents place within held in
+      let on = read.runs m.front m.held in
+      let e = gives on.history (length on.after) on.stands on.counts m.bytes m.there in
+      let number : length on.after + 1 ≡ 1 + length on.after = omega arith in (
+        on.after ++ e.after,
+        ap (λ (l : List ℕ). l ++ text) on.told ∙ ap (λ (l : List ℕ). due_reports command on.after ++ l) (e.told ∙ ap (λ (n : ℕ). due_from command n e.after) number) ∙ sym (due_append command 1 on.after e.after),
+        ap (λ (cs : List (List ℕ)). course_of command.ignore_missing_entry (map whole cs)) m.split
+            ∙ ap (course_of command.ignore_missing_entry) (sym (append-nil (map whole (m.front ++ m.bytes ∷ []))) ∙ files_of m.front m.bytes [])
+            ∙ on.goes (whole m.bytes ∷ [])
+            ∙ ap (onto on.after) (course_refused command.ignore_missing_entry r on.history e.after place m.bytes [] (record { line = line; why = why }) limits e.all),
+      );
+}
+
+-- a part of the next file, behind those that were read
+part_fine : (command : Command) (before mid : Option (List ℕ)) (Stands : History → Type 0) (blocks place : ℕ) (r : Reading) (told text : List ℕ) (contents : List (List ℕ)) (is_ended : Bool) (xs : List ℕ) (after : List History) (next : History)
+    → r.limits ≡ standard → (on : RunsOn command before mid Stands blocks (room_of r) place told contents)
+    → text ≡ due_from command (length on.after + 1) after
+    → course_behind command.ignore_missing_entry on.history (groups_left false (fresh r) is_ended xs) ≡ record { after = after; end = Ok next }
+    → (first_fault command.ignore_missing_entry (map whole contents ++ record { bytes = xs; is_ended = is_ended } ∷ []) ≡ None)
+    × (told ++ text ≡ due_reports command (course_of command.ignore_missing_entry (map whole contents ++ record { bytes = xs; is_ended = is_ended } ∷ [])).after)
+part_fine command before mid Stands blocks place r told text contents is_ended xs after next limits on due all =
+    let course = on.goes (record { bytes = xs; is_ended = is_ended } ∷ []) ∙ ap (onto on.after) (course_part command.ignore_missing_entry r on.history next after place is_ended xs limits all) in
+    let number : length on.after + 1 ≡ 1 + length on.after = omega arith in (
+      ap (λ (c : Course FileFault). fault_in c.end) course,
+      ap (λ (l : List ℕ). l ++ text) on.told ∙ ap (λ (l : List ℕ). due_reports command on.after ++ l) (due ∙ ap (λ (n : ℕ). due_from command n after) number) ∙ sym (due_append command 1 on.after after)
+          ∙ ap (λ (c : Course FileFault). due_reports command c.after) (sym course),
+    )
+
+-- a file could not be started
+pub unstarted_on : (command : Command) (file : List ℕ → Held) (before mid rest : Option (List ℕ)) (Stands : History → Type 0) (blocks place : ℕ) (r : Reading) (told text : List ℕ)
+    → generated_count command ≤ place → place < length (helds_of command file)
+    → AreReadTo command file before mid Stands blocks (room_of r) place told
+    → text ≡ [] → rest ≡ mid
+    → IsUnreadAt AtStart command file before rest (told ++ text) place
+unstarted_on command file before mid rest Stands blocks place r told text behind within read nothing same = record {
+  behind = behind;
+  named = within;
+  there = read.there;
+  clean = read.clean;
+  gives = λ contents held.
+      let on = read.runs contents held in (
+        same ∙ on.rest_is,
+        ap (λ (l : List ℕ). told ++ l) nothing ∙ append-nil told ∙ on.told
+            ∙ ap (λ (c : Course FileFault). due_reports command c.after) (sym (alone command before mid Stands blocks (room_of r) place told contents on)),
+      );
+}
+
+-- a read of a file failed
+pub unread_on : (command : Command) (file : List ℕ → Held) (before mid rest : Option (List ℕ)) (Stands : History → Type 0) (blocks place : ℕ) (r : Reading) (told text : List ℕ)
+    → r.limits ≡ standard → generated_count command ≤ place → place < length (helds_of command file)
+    → AreReadTo command file before mid Stands blocks (room_of r) place told
+    → ((h : History) (n : ℕ) → Stands h → blocks ≡ capped n → (xs : List ℕ) → held_at (helds_of command file) place ≡ Holds xs → IsBroken command n h (fresh r) xs text rest)
+    → IsUnreadAt Within command file before rest (told ++ text) place
+unread_on command file before mid rest Stands blocks place r told text limits behind within read gives = record {
+  behind = behind;
+  named = within;
+  there = read.there;
+  clean = read.clean;
+  gives = λ contents held xs holds.
+      let on = read.runs contents held in
+      let e = gives on.history (length on.after) on.stands on.counts xs holds in
+      let fine = part_fine command before mid Stands blocks place r told text contents e.is_ended e.front e.after e.next limits on e.told e.all in
+      (record { bytes = e.front; is_ended = e.is_ended }, (e.rest, e.left_is, e.split, e.ended), fine.0, fine.1);
+}
+
+-- a report by the way was not written whole
+pub short_on : (command : Command) (file : List ℕ → Held) (before mid : Option (List ℕ)) (Stands : History → Type 0) (blocks place : ℕ) (r : Reading) (told text : List ℕ)
+    → r.limits ≡ standard → place < length (helds_of command file) → held_at (helds_of command file) place ≢ Absent
+    → AreReadTo command file before mid Stands blocks (room_of r) place told
+    → ((h : History) (n : ℕ) → Stands h → blocks ≡ capped n → (xs : List ℕ) → held_at (helds_of command file) place ≡ Holds xs → IsShort command n h (fresh r) xs text)
+    → IsShortTo command file (told ++ text)
+short_on command file before mid Stands blocks place r told text limits within there read gives = record {
+  place = place + 1;
+  there = there_more (helds_of command file) place read.there there;
+  due = λ contents held fs.
+      let m = one_more (helds_of command file) contents place within held in
+      let on = read.runs m.front m.held in
+      let e = gives on.history (length on.after) on.stands on.counts m.bytes m.there in
+      let ignores = command.ignore_missing_entry in
+      let number : length on.after + 1 ≡ 1 + length on.after = omega arith in
+      let behind = (then_files place (course_of_file ignores (room_of r) on.history (whole m.bytes)).end (λ n. course_of_files ignores (room_of r - length m.bytes) (file_ended n) (place + 1) fs)).after in
+      let here : (course_of_file ignores (room_of r) on.history (whole m.bytes)).after ≡ e.after ++ e.more = ap (λ (c : Course LineFault). c.after) (started_file ignores r on.history true m.bytes limits) ∙ e.all in
+      let course : (course_of ignores (map whole contents ++ fs)).after ≡ on.after ++ (e.after ++ (e.more ++ behind)) =
+      ap (λ (cs : List (List ℕ)). (course_of ignores (map whole cs ++ fs)).after) m.split
+      ∙ ap (λ (l : List File). (course_of ignores l).after) (files_of m.front m.bytes fs)
+      ∙ ap (λ (c : Course FileFault). c.after) (on.goes (whole m.bytes ∷ fs))
+      ∙ ap (λ (l : List History). on.after ++ (l ++ behind)) here
+      ∙ ap (λ (l : List History). on.after ++ l) (append_assoc e.after e.more behind) in
+      let due : due_reports command (course_of ignores (map whole contents ++ fs)).after
+      ≡ due_reports command on.after ++ (due_from command (1 + length on.after) e.after ++ due_from command (1 + length on.after + length e.after) (e.more ++ behind)) =
+      ap (due_reports command) course ∙ due_append command 1 on.after (e.after ++ (e.more ++ behind))
+      ∙ ap (λ (l : List ℕ). due_reports command on.after ++ l) (due_append command (1 + length on.after) e.after (e.more ++ behind)) in
+      let short : StartsWith (due_from command (1 + length on.after) e.after) text = subst (λ (n : ℕ). StartsWith (due_from command n e.after) text) number e.told in
+      subst (λ (l : List ℕ). StartsWith l (told ++ text)) (sym due)
+      (subst (λ (l : List ℕ). StartsWith (due_reports command on.after ++ (due_from command (1 + length on.after) e.after ++ due_from command (1 + length on.after + length e.after) (e.more ++ behind))) (l ++ text)) (sym on.told)
+      (front_behind (due_reports command on.after) (due_from command (1 + length on.after) e.after ++ due_from command (1 + length on.after + length e.after) (e.more ++ behind)) text
+      (front_more (due_from command (1 + length on.after) e.after) (due_from command (1 + length on.after + length e.after) (e.more ++ behind)) text short)));
+}
+
+-- nothing is told yet
+pub short_none : (command : Command) (file : List ℕ → Held) → IsShortTo command file []
+short_none command file = record { place = 0; there = λ k h. absurd (omega arith); due = λ contents held fs. refl }
+
+-- no file was read yet
+pub read_none : (command : Command) (file : List ℕ → Held) (before : Option (List ℕ)) (Stands : History → Type 0) (blocks room : ℕ) → Stands no_history → blocks ≡ 0 → room ≡ total_limit
+    → AreReadTo command file before before Stands blocks room 0 []
+unfolding course_of
+read_none command file before Stands blocks room stands none all = record {
+  there = λ k h. absurd (omega arith);
+  clean = λ k contents h held. nothing_clean k contents h held;
+  runs = λ contents held. nothing_read contents held;
+} where
+  nothing_clean : (k : ℕ) (contents : List (List ℕ)) → k ≤ 0 → AreHeld (take k (helds_of command file)) contents → first_fault command.ignore_missing_entry (map whole contents) ≡ None
+  nothing_clean zero [] h held = refl
+  nothing_clean zero (c ∷ cs) h held = absurd (cc (held))
+  nothing_clean (suc k) contents h held = absurd (omega arith)
+
+  nothing_read : (contents : List (List ℕ)) → AreHeld (take 0 (helds_of command file)) contents → RunsOn command before before Stands blocks room 0 [] contents
+  nothing_read [] held = record {
+    after = [];
+    history = no_history;
+    stands = stands;
+    counts = none;
+    told = sym (due_none command 1);
+    rest_is = let none : 0 ≡ 0 - generated_count command = omega arith in ap (λ (n : ℕ). rest_behind n before) none;
+    goes = λ fs. ap (λ (m : ℕ). course_of_files command.ignore_missing_entry m no_history 0 fs) (sym all);
+  }
+  nothing_read (c ∷ cs) held = absurd (cc (held))

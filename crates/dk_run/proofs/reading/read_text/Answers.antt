@@ -1,0 +1,21 @@
+use Rattle.std.proofs.Common.{[], Some, ap, sym, ◌∙◌}
+use Rattle.dk_generate.specs.Texts.{generated_name}
+use Rattle.dk_io.specs.NamedFiles.{Files}
+use Rattle.dk_io.specs.declared.outside.Stream.TheVariants.{Report}
+use Rattle.dk_run.specs.WholeFile.{fresh}
+use Rattle.dk_run.proofs.Filing.{none_short}
+use Rattle.dk_run.proofs.Placing.{own_held, text_gives}
+use Rattle.dk_run.proofs.Writing.{added_nothing}
+use Rattle.dk_run.proofs.reading.read_text.Goals as goal
+
+pub returns-in-Ok-clause-gives : goal.returns-in-Ok-clause-gives
+returns-in-Ok-clause-gives g c =
+    let told = c.read_file.ensures.gives in
+    record {
+      text = told.text;
+      written = told.written;
+      holds = λ h n stands counts. text_gives c.args.command.now n h c.args.lines.now c.read_file.new.lines c.args.text told.text (Some c.new-inputs.result.rest) _ c.read_file.result (told.holds.1 h n stands counts c.args.text (own_held _ generated_name c.args.text _ (ap (λ (f : Files). f.named) c.new-inputs.ensures ∙ c.in-Ok.ensures) c.generated_name.ensures));
+    }
+
+pub returns-in-Err-clause-gives : goal.returns-in-Err-clause-gives
+returns-in-Err-clause-gives g c = record { text = []; written = sym (added_nothing _ Report); holds = λ h n stands counts. none_short c.args.command.now n h (fresh c.args.lines.now) c.args.text }

@@ -1,0 +1,37 @@
+-- How a run ends: what it writes last, and its status.
+use Rattle.std.specs.Prelude.{◌≡◌, ◌⊎◌, ℕ, List}
+use Rattle.dk_io.specs.Outside.{Rose}
+use Rattle.dk_io.specs.Streams.{AddsFront, Texts, added}
+use Rattle.dk_io.specs.declared.outside.Stream.{Stream}
+use Rattle.dk_io.specs.declared.outside.Stream.TheVariants.{Messages}
+use Rattle.dk_words.specs.declared.command.Command.{Command}
+use Rattle.dk_run.specs.Commands.{names_of}
+use Rattle.dk_run.specs.Files.{name_at}
+use Rattle.dk_print.specs.Sections.{fault_line}
+use Rattle.dk_run.specs.Messages.{unread_line}
+use Rattle.dk_run.specs.declared.reading.FilesTrouble.{FilesTrouble}
+use Rattle.dk_run.specs.declared.reading.FilesTrouble.TheVariants as t
+use Rattle.dk_run.specs.declared.reporting.Halt.{Halt}
+use Rattle.dk_run.specs.declared.reporting.Halt.TheVariants as halt
+use Rattle.dk_run.specs.declared.status.Status.{Status}
+use Rattle.dk_run.specs.declared.status.Status.TheVariants.{Read, Refused, Write, NoMemory}
+
+-- The text was written to the stream, no write failed, and the run has this status; or a write failed; or memory ran out before the first.
+abbrev pub EndsWith : Status → Stream → List ℕ → Texts → Texts → ℕ → ℕ → Status → Type 0
+EndsWith status stream text old new before after result =
+    ((result ≡ status) × (new ≡ added old stream text) × (after ≡ before))
+    ⊎ ((result ≡ Write) × Rose before after × AddsFront old new stream text)
+    ⊎ ((result ≡ NoMemory) × (new ≡ old) × (after ≡ before))
+
+-- the run ends so behind a trouble with its files
+abbrev pub EndsBy : Command → FilesTrouble → Texts → Texts → ℕ → ℕ → Status → Type 0
+EndsBy command (t.Refused place line why) old new before after result = EndsWith Refused Messages (fault_line (name_at (names_of command) place) line why) old new before after result
+EndsBy command (t.Start place) old new before after result = EndsWith Read Messages (unread_line (name_at (names_of command) place)) old new before after result
+EndsBy command (t.Read place) old new before after result = EndsWith Read Messages (unread_line (name_at (names_of command) place)) old new before after result
+EndsBy command t.Write old new before after result = (result ≡ Write) × (new ≡ old) × (after ≡ before)
+EndsBy command t.NoMemory old new before after result = (result ≡ NoMemory) × (new ≡ old) × (after ≡ before)
+
+-- the status of a run in which a text is not written whole
+abbrev pub status_of : Halt → Status
+status_of halt.Write = Write
+status_of halt.NoMemory = NoMemory

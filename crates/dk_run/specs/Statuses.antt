@@ -1,0 +1,203 @@
+-- What each status of a run says.
+use Rattle.std.specs.Prelude.{◌≡◌, ◌≢◌, ◌≤◌, ◌<◌, ◌⊎◌, ◌+◌, ◌-◌, ℕ, zero, suc, Bool, true, List, [], ◌∷◌, ◌++◌, map, take, length, All, Option, Some, None, slice_get, unwrap_or}
+use Rattle.std.specs.Io.{StartsWith}
+use Rattle.dk_io.specs.Outside.{Held, Absent, Holds, Untold, Rose}
+use Rattle.dk_io.specs.Streams.{Texts}
+use Rattle.dk_io.specs.declared.outside.Stream.TheVariants as stream
+use Rattle.dk_words.specs.Texts.{help_text, version_text}
+use Rattle.dk_words.specs.declared.command.Command.{Command}
+use Rattle.dk_words.specs.declared.request.Request.{Request}
+use Rattle.dk_words.specs.declared.request.Request.TheVariants.{Run, Help, Version}
+use Rattle.dk_run.specs.Commands.{generated_count, helds_of, names_of}
+use Rattle.dk_run.specs.Courses.{course_of, first_fault}
+use Rattle.dk_run.specs.Files.{File, FileFault, AreHeld, cut_off, name_at, whole}
+use Rattle.dk_print.specs.Sections.{fault_line}
+use Rattle.dk_run.specs.Messages.{unread_line}
+use Rattle.dk_run.specs.Outputs.{IsFront, Output, first_line, followed, only_on, output_of, unread_output, usage_output}
+use Rattle.dk_run.specs.Reports.{due_reports}
+use Rattle.dk_run.specs.declared.status.Status.{Status}
+use Rattle.dk_run.specs.declared.status.Status.TheVariants.{Done, Refused, Usage, Read, Write, NoMemory}
+
+-- the number of a status, as the program ends with it
+abbrev pub code_of : Status → ℕ
+code_of Done = 0
+code_of Refused = 1
+code_of Usage = 2
+code_of Read = 3
+code_of Write = 4
+code_of NoMemory = 5
+
+-- What the inputs and the sinks of a run tell at one moment.
+pub record Outside : Type 0 where
+  pub file : List ℕ → Held
+  pub rest : Option (List ℕ)
+  pub read_faults : ℕ
+  pub written : Texts
+  pub write_faults : ℕ
+
+-- ---- what was read
+-- what is left of the inputs when this many named files were read to their ends
+abbrev pub rest_behind : ℕ → Option (List ℕ) → Option (List ℕ)
+rest_behind zero rest = rest
+rest_behind (suc n) rest = Some []
+
+-- what is told of the file at a place
+abbrev pub held_at : List Held → ℕ → Held
+held_at helds place = unwrap_or (slice_get helds place) Untold
+
+-- why a file was not read to its end: it could not be started, or it was, and then a read failed
+pub data Break : Type 0 where
+  AtStart : Break
+  Within : Break
+
+-- This was delivered of a file that holds the bytes xs, of which a read failed: all in front of what is left. Where nothing is left, the failed
+-- read was that of the file's end: then the file may count as ended.
+abbrev pub IsDelivered : List ℕ → Option (List ℕ) → File → Type 0
+IsDelivered xs after file = (rest : List ℕ) × (after ≡ Some rest) × (xs ≡ file.bytes ++ rest) × (file.is_ended ≡ true → rest ≡ [])
+
+-- The cause of a break, where this is told of the file: a start fails where the file is absent or a fault of the inputs rose, and a read only
+-- where one rose, of a file that is not absent.
+abbrev pub HasBroken : Break → Held → Type 0 → Type 0
+HasBroken AtStart held rose = (held ≡ Absent) ⊎ rose
+HasBroken Within held rose = (held ≢ Absent) × rose
+
+-- As far as the first n files are held, from the first on, they hold no fault.
+abbrev pub AreClean : Bool → List Held → ℕ → Type 0
+AreClean ignores helds n = (k : ℕ) (contents : List (List ℕ)) → k ≤ n → AreHeld (take k helds) contents → first_fault ignores (map whole contents) ≡ None
+
+-- ---- how a run ends
+-- All files were started and read to their ends, and they hold no fault.
+pub record AreRead (command : Command) (before after : Outside) : Type 0 where
+  pub none_absent : All (λ held. held ≢ Absent) (helds_of command before.file)
+  pub clean : AreClean command.ignore_missing_entry (helds_of command before.file) (length (helds_of command before.file))
+  pub all_read : (contents : List (List ℕ)) → AreHeld (helds_of command before.file) contents → after.rest ≡ rest_behind (length command.files) before.rest
+
+-- This is the output then.
+pub record IsDone (command : Command) (before after : Outside) (output : Output) : Type 0 where
+  pub read : AreRead command before after
+  pub messages : output.messages ≡ first_line command
+  pub no_state : output.state ≡ []
+  pub defined : (contents : List (List ℕ)) → AreHeld (helds_of command before.file) contents → output ≡ output_of command (map whole contents)
+
+-- The files up to this fault's hold it as their first, and this is the output: its messages end with the fault's line.
+pub record IsRefused (command : Command) (before after : Outside) (output : Output) : Type 0 where
+  pub fault : FileFault
+  pub named : fault.file < length (names_of command)
+  pub none_absent : All (λ held. held ≢ Absent) (take (fault.file + 1) (helds_of command before.file))
+  pub messages : output.messages ≡ first_line command ++ fault_line (name_at (names_of command) fault.file) fault.line fault.why
+  pub no_state : output.state ≡ []
+  pub clean_before : AreClean command.ignore_missing_entry (helds_of command before.file) fault.file
+  pub first : (contents : List (List ℕ)) → AreHeld (take (fault.file + 1) (helds_of command before.file)) contents → first_fault command.ignore_missing_entry (map whole contents) ≡ Some fault
+  pub defined : (contents : List (List ℕ)) → AreHeld (take (fault.file + 1) (helds_of command before.file)) contents → output ≡ output_of command (map whole contents)
+
+-- What the output of a run is that ends since a file can't be read, behind files of these contents. A start that fails leaves what is left of
+-- the inputs as it was, and delivers nothing of the file. What was delivered holds no fault.
+abbrev pub UnreadGives : Break → Command → ℕ → Held → Outside → Outside → Output → List (List ℕ) → Type 0
+UnreadGives AtStart command place held before after output contents =
+    (after.rest ≡ rest_behind (place - generated_count command) before.rest) × (output ≡ unread_output command (map whole contents) (name_at (names_of command) place))
+UnreadGives Within command place held before after output contents = (xs : List ℕ) → held ≡ Holds xs →
+    (delivered : File) × IsDelivered xs after.rest delivered
+    × (first_fault command.ignore_missing_entry (map whole contents ++ delivered ∷ []) ≡ None)
+    × (output ≡ unread_output command (map whole contents ++ delivered ∷ []) (name_at (names_of command) place))
+
+-- The file at this place, one that the words name, could not be read: its start failed, or a read. None in front of it is absent, and the
+-- report has what is due within what was delivered.
+pub record IsUnread (command : Command) (before after : Outside) (output : Output) : Type 0 where
+  pub place : ℕ
+  pub named : place < length (names_of command)
+  pub by_the_words : generated_count command ≤ place
+  pub by : Break
+  pub cause : HasBroken by (held_at (helds_of command before.file) place) (Rose before.read_faults after.read_faults)
+  pub none_absent : All (λ held. held ≢ Absent) (take place (helds_of command before.file))
+  pub messages : output.messages ≡ first_line command ++ unread_line (name_at (names_of command) place)
+  pub no_state : output.state ≡ []
+  pub clean_before : AreClean command.ignore_missing_entry (helds_of command before.file) place
+  pub defined : (contents : List (List ℕ)) → AreHeld (take place (helds_of command before.file)) contents →
+      UnreadGives by command place (held_at (helds_of command before.file) place) before after output contents
+
+-- A run that is asked for so comes to this status, and has this output, unless a write fails or memory runs out before.
+abbrev pub ComesTo : Status → Option Request → Outside → Outside → Output → Type 0
+ComesTo Done (Some (Run command)) before after output = IsDone command before after output
+ComesTo Done (Some Help) before after output = output ≡ only_on stream.Report help_text
+ComesTo Done (Some Version) before after output = output ≡ only_on stream.Report version_text
+ComesTo Refused (Some (Run command)) before after output = IsRefused command before after output
+ComesTo Read (Some (Run command)) before after output = IsUnread command before after output
+ComesTo Usage None before after output = output ≡ usage_output
+ComesTo status request before after output = ⊥
+
+-- ---- runs that are cut short
+-- Each stream has a front of its text at its end.
+pub record FollowedByFront (old new : Texts) (output : Output) : Type 0 where
+  pub front : Output
+  pub is_front : IsFront front output
+  pub written : new ≡ followed old front
+
+-- While the files up to a place are read: the report got a front of the reports that are due, whatever files follow, and the messages a
+-- front of the first line.
+pub record IsCutWithin (command : Command) (before after : Outside) : Type 0 where
+  pub front : Output
+  pub written : after.written ≡ followed before.written front
+  pub messages : StartsWith (first_line command) front.messages
+  pub no_state : front.state ≡ []
+  pub place : ℕ
+  pub none_absent : All (λ held. held ≢ Absent) (take place (helds_of command before.file))
+  pub due : (contents : List (List ℕ)) → AreHeld (take place (helds_of command before.file)) contents → (files : List File) →
+      StartsWith (due_reports command (course_of command.ignore_missing_entry (map whole contents ++ files)).after) front.report
+
+-- While the last report is written: it got a front of it.
+pub record IsCutAtEnd (command : Command) (before after : Outside) : Type 0 where
+  pub front : Output
+  pub written : after.written ≡ followed before.written front
+  pub read : AreRead command before after
+  pub messages : front.messages ≡ first_line command
+  pub no_state : front.state ≡ []
+  pub due : (contents : List (List ℕ)) → AreHeld (helds_of command before.file) contents → StartsWith (output_of command (map whole contents)).report front.report
+
+abbrev pub IsCutInRun : Option Request → Outside → Outside → Type 0
+IsCutInRun (Some (Run command)) before after = IsCutWithin command before after ⊎ IsCutAtEnd command before after
+IsCutInRun request before after = ⊥
+
+-- Each stream got a front of its text: nothing; or as far as a run came; or a front of the output that the run comes to.
+abbrev pub IsCutShort : Option Request → Outside → Outside → Type 0
+IsCutShort request before after =
+    (after.written ≡ before.written)
+    ⊎ IsCutInRun request before after
+    ⊎ ((status : Status) × (output : Output) × ComesTo status request before after output × FollowedByFront before.written after.written output)
+
+-- ---- what each status says
+-- All of the output was written, and no write failed.
+abbrev pub IsWritten : Outside → Outside → Output → Type 0
+IsWritten before after output = (after.written ≡ followed before.written output) × (after.write_faults ≡ before.write_faults)
+
+abbrev pub Says : Status → Option Request → Outside → Outside → Type 0
+Says Write request before after = Rose before.write_faults after.write_faults × IsCutShort request before after
+Says NoMemory request before after = (after.write_faults ≡ before.write_faults) × IsCutShort request before after
+Says status request before after = (output : Output) × ComesTo status request before after output × IsWritten before after output
+
+-- ---- completeness
+-- no fault of the outside rose
+pub record IsCalm (before after : Outside) : Type 0 where
+  pub read : Rose before.read_faults after.read_faults → ⊥
+  pub write : Rose before.write_faults after.write_faults → ⊥
+
+-- the run has this status and this output, or memory ran out
+abbrev pub GivesOutput : Status → Output → Status → Outside → Outside → Type 0
+GivesOutput status output result before after = ((result ≡ status) × (after.written ≡ followed before.written output)) ⊎ (result ≡ NoMemory)
+
+-- Where no fault of the outside rises, a run over files that are held comes to its end. Files behind a faulty one need not be there.
+pub record IsComplete (command : Command) (before after : Outside) (result : Status) : Type 0 where
+  pub done : (contents : List (List ℕ)) → AreHeld (helds_of command before.file) contents → first_fault command.ignore_missing_entry (map whole contents) ≡ None
+      → GivesOutput Done (output_of command (map whole contents)) result before after
+  pub refused : (n : ℕ) (contents : List (List ℕ)) (fault : FileFault) → AreHeld (take n (helds_of command before.file)) contents
+      → first_fault command.ignore_missing_entry (map whole contents) ≡ Some fault
+      → GivesOutput Refused (output_of command (map whole contents)) result before after
+
+-- what is asked for is a run
+abbrev pub IsARun : Option Request → Type 0
+IsARun (Some (Run command)) = Unit {0}
+IsARun request = ⊥
+
+-- The run is complete, where one is asked for.
+abbrev pub CompletesCalmly : Option Request → Outside → Outside → Status → Type 0
+CompletesCalmly (Some (Run command)) before after result = IsCalm before after → IsComplete command before after result
+CompletesCalmly request before after result = Unit {0}

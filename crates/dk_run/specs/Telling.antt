@@ -1,0 +1,60 @@
+-- What writing texts comes to.
+use Rattle.std.specs.Prelude.{◌≡◌, ℕ, List, Result, Ok, Err}
+use Rattle.std.specs.Io.{StartsWith}
+use Rattle.dk_io.specs.Outside.{Rose}
+use Rattle.dk_io.specs.Streams.{AddsFront, Texts, added}
+use Rattle.dk_io.specs.declared.outside.Stream.{Stream}
+use Rattle.dk_io.specs.declared.outside.Stream.TheVariants.{Report}
+use Rattle.dk_core.specs.History.{History}
+use Rattle.dk_core.specs.Standing.{grammar_of, options_of as options_in}
+use Rattle.dk_core.specs.declared.session.Session.{Session}
+use Rattle.dk_template.specs.declared.grammar.Grammar.TheVariants as grammar
+use Rattle.dk_words.specs.declared.command.Command.{Command}
+use Rattle.dk_run.specs.Commands.{options_of}
+use Rattle.dk_run.specs.declared.reporting.Halt.{Halt}
+use Rattle.dk_run.specs.declared.reporting.Halt.TheVariants.{Write, NoMemory}
+
+-- a text of which this holds was added to a stream
+pub record Added (old new : Texts) (stream : Stream) (P : List ℕ → Type 0) : Type 0 where
+  pub text : List ℕ
+  pub written : new ≡ added old stream text
+  pub holds : P text
+
+-- a front of this text was written to the stream, and a write failed; or memory ran out, and nothing was written
+abbrev pub CutsText : Stream → List ℕ → Texts → Texts → ℕ → ℕ → Halt → Type 0
+CutsText stream text old new before after Write = AddsFront old new stream text × Rose before after
+CutsText stream text old new before after NoMemory = (new ≡ old) × (after ≡ before)
+
+-- what writing this text to the stream comes to
+abbrev pub WritesText : {A : Type 0} → Stream → List ℕ → Texts → Texts → ℕ → ℕ → Result A Halt → Type 0
+WritesText stream text old new before after (Ok u) = (new ≡ added old stream text) × (after ≡ before)
+WritesText stream text old new before after (Err halt) = CutsText stream text old new before after halt
+
+-- the text that is due of the history was added to the report, and no write failed
+pub record Told (Stands : History → Type 0) (due : History → List ℕ) (old new : Texts) (before after : ℕ) : Type 0 where
+  pub text : List ℕ
+  pub written : new ≡ added old Report text
+  pub holds : (h : History) → Stands h → text ≡ due h
+  pub calm : after ≡ before
+
+-- why it is not written whole
+abbrev pub HasCause : ℕ → ℕ → Halt → Type 0
+HasCause before after Write = Rose before after
+HasCause before after NoMemory = after ≡ before
+
+-- a front of it was added, and a write failed or memory ran out
+pub record Cut (Stands : History → Type 0) (due : History → List ℕ) (old new : Texts) (before after : ℕ) (halt : Halt) : Type 0 where
+  pub text : List ℕ
+  pub written : new ≡ added old Report text
+  pub holds : (h : History) → Stands h → StartsWith (due h) text
+  pub cause : HasCause before after halt
+
+-- what writing the text that is due comes to
+abbrev pub Tells : {A : Type 0} → (History → Type 0) → (History → List ℕ) → Texts → Texts → ℕ → ℕ → Result A Halt → Type 0
+Tells Stands due old new before after (Ok u) = Told Stands due old new before after
+Tells Stands due old new before after (Err halt) = Cut Stands due old new before after halt
+
+-- the session reports by what the command says, and by the second grammar
+pub record ReportsBy {F : Type 0} (command : Command) (session : Session F) : Type 0 where
+  pub grammar : grammar_of session ≡ grammar.Two
+  pub options : options_in session ≡ options_of command

@@ -1,0 +1,15 @@
+//! The run behind the command `daikon`: it reads files of declarations and records, and reports what holds of the variables of their
+//! points.
+#![tactic(auto)]
+
+mod choosing;
+mod messages;
+mod reading;
+mod reporting;
+mod status;
+mod top;
+mod words;
+
+pub use status::Status;
+pub use top::{run, tell_usage};
+pub use words::words_of;

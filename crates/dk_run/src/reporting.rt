@@ -1,0 +1,248 @@
+// Writing reports, a section after another: each is written before the next is made.
+ghost use Rattle.std.specs.Prelude.{◌≡◌, ◌<◌, ◌++◌, ℕ, List, [], length, if◌then◌else◌, flat_map};
+ghost use Rattle.std.specs.List.{enumerate_from};
+ghost use Rattle.std.specs.Option.{option_map_or};
+ghost use Rattle.dk_core.specs.History.{History};
+ghost use Rattle.dk_core.specs.Sections.{all_stats_of, report_of, section_of, stats_of};
+ghost use Rattle.dk_core.specs.Selecting.{SelectsBy};
+ghost use Rattle.dk_core.specs.Standing.{StandsFor, blocks_of, points_of, select_of};
+ghost use Rattle.dk_template.specs.declared.grammar.Grammar.TheVariants as grammar;
+ghost use Rattle.dk_run.specs.Commands.{is_selected, options_of};
+ghost use Rattle.dk_print.specs.Sections.{after_blocks_line as blocks_text, end_line as end_text};
+ghost use Rattle.dk_run.specs.Reports.{is_due, whole_report};
+ghost use Rattle.dk_run.specs.Telling.{ReportsBy, Tells, WritesText};
+
+use crate::messages::{after_blocks_line, end_line};
+use dk_base::{PointId, Text};
+use dk_core::Session;
+use dk_io::{Failed, Sinks, Stream, write_all};
+use dk_words::Command;
+use std::alloc::Global;
+
+/// Why a text is not written whole.
+#[derive(Clone, Copy, Debug, PartialEq, Eq)]
+pub(crate) enum Halt {
+    Write,
+    NoMemory,
+}
+
+/// Writes a text.
+pub(crate) fn write<S: Sinks>(sinks: &mut S, stream: Stream, text: &[u8]) -> Result<(), Halt>
+    ensures { WritesText stream text.now (S.written sinks.old) (S.written sinks.new) (S.faults sinks.old) (S.faults sinks.new) result }
+{
+    match write_all(sinks, stream, text) {
+        Ok(()) => Ok(()),
+        Err(Failed) => Err(Halt::Write),
+    }
+}
+
+// Writes the section of a point.
+fn tell_section<F: Fn(&[u8]) -> bool + Drop, S: Sinks>(
+    alloc: Global,
+    command: &Command,
+    session: &Session<F>,
+    p: u32,
+    sinks: &mut S,
+) -> Result<(), Halt>
+    requires within { p < length (points_of session.now) }
+    requires reports { ReportsBy command.now session.now }
+    requires callable { F.IsAlwaysCallable (select_of session.now) }
+    requires selects { SelectsBy (F.post (select_of session.now)) (is_selected command.now) }
+    ensures { Tells (StandsFor session.now) (λ h. section_of grammar.Two (options_of command.now) (is_selected command.now) h p) (S.written sinks.old) (S.written sinks.new) (S.faults sinks.old) (S.faults sinks.new) result }
+{
+    let _command = command;
+    let mut text = Text::new(alloc);
+    match session.push_section(&mut text, PointId(p)) {
+        Ok(_) => write(sinks, Stream::Report, text.as_slice()),
+        Err(_) => Err(Halt::NoMemory),
+    }
+}
+
+// Writes the sections of all points.
+fn tell_sections<F: Fn(&[u8]) -> bool + Drop, S: Sinks>(
+    alloc: Global,
+    command: &Command,
+    session: &Session<F>,
+    sinks: &mut S,
+) -> Result<(), Halt>
+    requires reports { ReportsBy command.now session.now }
+    requires callable { F.IsAlwaysCallable (select_of session.now) }
+    requires selects { SelectsBy (F.post (select_of session.now)) (is_selected command.now) }
+    ensures { Tells (StandsFor session.now) (λ h. report_of grammar.Two (options_of command.now) (is_selected command.now) h) (S.written sinks.old) (S.written sinks.new) (S.faults sinks.old) (S.faults sinks.new) result }
+{
+    let points = session.points();
+    for p in 0..points.len() {
+        match tell_section(alloc, command, session, p, sinks) {
+            Ok(()) => {}
+            Err(halt) => return Err(halt),
+        }
+    }
+    Ok(())
+}
+
+// Writes the sizes of a point.
+fn tell_stats<F: Fn(&[u8]) -> bool + Drop, S: Sinks>(
+    alloc: Global,
+    command: &Command,
+    session: &Session<F>,
+    p: u32,
+    sinks: &mut S,
+) -> Result<(), Halt>
+    requires within { p < length (points_of session.now) }
+    requires reports { ReportsBy command.now session.now }
+    ensures { Tells (StandsFor session.now) (λ h. stats_of grammar.Two h p) (S.written sinks.old) (S.written sinks.new) (S.faults sinks.old) (S.faults sinks.new) result }
+{
+    let _command = command;
+    let mut text = Text::new(alloc);
+    match session.push_stats(&mut text, PointId(p)) {
+        Ok(_) => write(sinks, Stream::Report, text.as_slice()),
+        Err(_) => Err(Halt::NoMemory),
+    }
+}
+
+// Writes the sizes of all points.
+fn tell_all_stats<F: Fn(&[u8]) -> bool + Drop, S: Sinks>(
+    alloc: Global,
+    command: &Command,
+    session: &Session<F>,
+    sinks: &mut S,
+) -> Result<(), Halt>
+    requires { ReportsBy command.now session.now }
+    ensures { Tells (StandsFor session.now) (λ h. all_stats_of grammar.Two h) (S.written sinks.old) (S.written sinks.new) (S.faults sinks.old) (S.faults sinks.new) result }
+{
+    let points = session.points();
+    for p in 0..points.len() {
+        match tell_stats(alloc, command, session, p, sinks) {
+            Ok(()) => {}
+            Err(halt) => return Err(halt),
+        }
+    }
+    Ok(())
+}
+
+// Writes the sizes, where the command asks for them.
+fn tell_sizes<F: Fn(&[u8]) -> bool + Drop, S: Sinks>(
+    alloc: Global,
+    command: &Command,
+    session: &Session<F>,
+    sinks: &mut S,
+) -> Result<(), Halt>
+    requires { ReportsBy command.now session.now }
+    ensures { Tells (StandsFor session.now) (λ h. (if command.now.stats then all_stats_of grammar.Two h else [])) (S.written sinks.old) (S.written sinks.new) (S.faults sinks.old) (S.faults sinks.new) result }
+{
+    if command.stats {
+        tell_all_stats(alloc, command, session, sinks)
+    } else {
+        Ok(())
+    }
+}
+
+// Writes a whole report: the sections, and then the sizes.
+fn tell_report<F: Fn(&[u8]) -> bool + Drop, S: Sinks>(
+    alloc: Global,
+    command: &Command,
+    session: &Session<F>,
+    sinks: &mut S,
+) -> Result<(), Halt>
+    requires reports { ReportsBy command.now session.now }
+    requires callable { F.IsAlwaysCallable (select_of session.now) }
+    requires selects { SelectsBy (F.post (select_of session.now)) (is_selected command.now) }
+    ensures { Tells (StandsFor session.now) (λ h. whole_report command.now h) (S.written sinks.old) (S.written sinks.new) (S.faults sinks.old) (S.faults sinks.new) result }
+{
+    match tell_sections(alloc, command, session, sinks) {
+        Ok(()) => tell_sizes(alloc, command, session, sinks),
+        Err(halt) => Err(halt),
+    }
+}
+
+// Writes the line in front of a report by the way.
+fn tell_blocks<S: Sinks>(alloc: Global, blocks: u64, sinks: &mut S) -> Result<(), Halt>
+    ensures { WritesText Stream.Report (blocks_text blocks) (S.written sinks.old) (S.written sinks.new) (S.faults sinks.old) (S.faults sinks.new) result }
+{
+    match after_blocks_line(alloc, blocks) {
+        Ok(line) => write(sinks, Stream::Report, line.as_bytes()),
+        Err(_) => Err(Halt::NoMemory),
+    }
+}
+
+// Writes the line in front of the last report, where there are reports by the way.
+fn tell_end<S: Sinks>(
+    alloc: Global,
+    command: &Command,
+    blocks: u64,
+    sinks: &mut S,
+) -> Result<(), Halt>
+    ensures { WritesText Stream.Report (option_map_or (λ every. end_text blocks) command.now.every []) (S.written sinks.old) (S.written sinks.new) (S.faults sinks.old) (S.faults sinks.new) result }
+{
+    if command.every.is_none() {
+        return Ok(());
+    }
+    match end_line(alloc, blocks) {
+        Ok(line) => write(sinks, Stream::Report, line.as_bytes()),
+        Err(_) => Err(Halt::NoMemory),
+    }
+}
+
+// Whether a report is due after so many blocks, where one is due after each of a multiple of `every`.
+fn is_due(every: u64, blocks: u64) -> bool
+    ensures { result ≡ is_due every blocks }
+{
+    every > 0 && blocks % every == 0
+}
+
+// Writes a report by the way, behind its line.
+fn tell_due<F: Fn(&[u8]) -> bool + Drop, S: Sinks>(
+    alloc: Global,
+    command: &Command,
+    session: &Session<F>,
+    sinks: &mut S,
+) -> Result<(), Halt>
+    requires reports { ReportsBy command.now session.now }
+    requires callable { F.IsAlwaysCallable (select_of session.now) }
+    requires selects { SelectsBy (F.post (select_of session.now)) (is_selected command.now) }
+    ensures { Tells (StandsFor session.now) (λ h. blocks_text (blocks_of session.now) ++ whole_report command.now h) (S.written sinks.old) (S.written sinks.new) (S.faults sinks.old) (S.faults sinks.new) result }
+{
+    match tell_blocks(alloc, session.blocks(), sinks) {
+        Ok(()) => tell_report(alloc, command, session, sinks),
+        Err(halt) => Err(halt),
+    }
+}
+
+/// Writes the report by the way, if one is due after the last block.
+pub(crate) fn tell_by_the_way<F: Fn(&[u8]) -> bool + Drop, S: Sinks>(
+    alloc: Global,
+    command: &Command,
+    session: &Session<F>,
+    sinks: &mut S,
+) -> Result<(), Halt>
+    requires reports { ReportsBy command.now session.now }
+    requires callable { F.IsAlwaysCallable (select_of session.now) }
+    requires selects { SelectsBy (F.post (select_of session.now)) (is_selected command.now) }
+    ensures { Tells (StandsFor session.now)
+        (λ h. option_map_or (λ every. (if is_due every (blocks_of session.now) then blocks_text (blocks_of session.now) ++ whole_report command.now h else [])) command.now.every [])
+        (S.written sinks.old) (S.written sinks.new) (S.faults sinks.old) (S.faults sinks.new) result }
+{
+    match command.every {
+        Some(every) if is_due(every, session.blocks()) => tell_due(alloc, command, session, sinks),
+        _ => Ok(()),
+    }
+}
+
+/// Writes the last report. Where there are reports by the way, it stands behind a line.
+pub(crate) fn tell_last<F: Fn(&[u8]) -> bool + Drop, S: Sinks>(
+    alloc: Global,
+    command: &Command,
+    session: &Session<F>,
+    sinks: &mut S,
+) -> Result<(), Halt>
+    requires reports { ReportsBy command.now session.now }
+    requires callable { F.IsAlwaysCallable (select_of session.now) }
+    requires selects { SelectsBy (F.post (select_of session.now)) (is_selected command.now) }
+    ensures { Tells (StandsFor session.now) (λ h. option_map_or (λ every. end_text (blocks_of session.now)) command.now.every [] ++ whole_report command.now h)
+        (S.written sinks.old) (S.written sinks.new) (S.faults sinks.old) (S.faults sinks.new) result }
+{
+    match tell_end(alloc, command, session.blocks(), sinks) {
+        Ok(()) => tell_report(alloc, command, session, sinks),
+        Err(halt) => Err(halt),
+    }
+}
