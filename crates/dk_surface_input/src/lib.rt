@@ -1,4 +1,4 @@
-//! Tests of the public calls that read a trace, from values and lines up to the session: each is run here with ample memory, and stands
+//! Tests of the public calls that read a trace, from values and lines up to calls: each is run here with ample memory, and stands
 //! under its name and with its signature. No call is defined here.
 #![tactic(auto)]
 
@@ -18,7 +18,5 @@ mod lines;
 mod outside;
 #[cfg(test)]
 mod points;
-#[cfg(test)]
-mod session;
 #[cfg(test)]
 mod trace;
