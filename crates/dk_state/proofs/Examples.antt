@@ -107,8 +107,8 @@ z = var 3
 much : saved_text grammar.Two [] true
     (kept 0 (x ∷ []) [] [] []
     ∷ kept 9 (x ∷ y ∷ x ∷ z ∷ []) ((y, value.Missing) ∷ (z, value.Hash 31) ∷ []) (held 3 (x ∷ z ∷ []) ∷ held 6 (z ∷ []) ∷ [])
-        (slot 5 (x ∷ []) (Modulus 4 3) ∷ slot 5 (y ∷ []) (One (negsuc 6)) ∷ slot 6 (x ∷ []) (Truth false) ∷ slot 7 (x ∷ []) (Code 0) ∷ slot 9 (x ∷ []) (Texts (codes "\"a b\"" ∷ codes "null" ∷ []))
-        ∷ slot 15 (x ∷ z ∷ []) (Spot (pos 2) (negsuc 0)) ∷ slot 16 (x ∷ y ∷ []) Empty ∷ slot 67 (x ∷ x ∷ z ∷ []) (Plane (pos 1) (pos 0) (negsuc 1) (pos 5)) ∷ slot 68 (x ∷ z ∷ []) (Offset (negsuc 2)) ∷ [])
+    (slot 5 (x ∷ []) (Modulus 4 3) ∷ slot 5 (y ∷ []) (One (negsuc 6)) ∷ slot 6 (x ∷ []) (Truth false) ∷ slot 7 (x ∷ []) (Code 0) ∷ slot 9 (x ∷ []) (Texts (codes "\"a b\"" ∷ codes "null" ∷ []))
+    ∷ slot 15 (x ∷ z ∷ []) (Spot (pos 2) (negsuc 0)) ∷ slot 16 (x ∷ y ∷ []) Empty ∷ slot 67 (x ∷ x ∷ z ∷ []) (Plane (pos 1) (pos 0) (negsuc 1) (pos 5)) ∷ slot 68 (x ∷ z ∷ []) (Offset (negsuc 2)) ∷ [])
     ∷ kept 2 [] [] (held 2 [] ∷ []) []
     ∷ [])
     ≡ codes "daikon-state 2\ncomparability implicit\npoints 0\nsamples 1 9\nclass 0 2\nclass 1\nclass 3\npattern 6 001\npattern 3 101\nknown 1 missing\nknown 3 0x1f\nslot 5 0 modulus 4 3\nslot 5 1 one -7\nslot 6 0 truth false\nslot 7 0 code null\nslot 9 0 texts \"a b\" null\nslot 15 0 3 spot 2 -1\nslot 16 0 1 empty\nslot 67 0 0 3 plane 1 0 -2 5\nslot 68 0 3 offset -3\nend\nsamples 2 2\npattern 2\nend\nend-state\n"
