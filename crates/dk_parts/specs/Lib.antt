@@ -1,4 +1,6 @@
-pub mod Sorting
+-- cited by public clauses
 pub mod Classes
 pub mod Patterns
 pub mod Entries
+-- what those are made of, and words for the crates above
+pub mod Sorting
