@@ -20,7 +20,18 @@ fn value_at<'a>(arena: &'a Arena, kind: Kind, place: u8) -> Result<View<'a>, NoM
     }
 }
 
-// The value of a variable of the sample so far, which may be of another kind.
+// The value at this place.
+fn view_at<'a>(views: &[View<'a>], place: usize) -> Option<View<'a>>
+    requires { All IsWritten (values_of views.now) }
+    ensures { IfSome result (λ v. IsWritten (value_of v)) }
+{
+    if place < views.len() {
+        return Some(views[place]);
+    }
+    None
+}
+
+// The value of some variable of the sample so far, if it is of this kind.
 fn one_of<'a>(
     noise: &mut Noise,
     infos: &[VarInfo],
@@ -31,13 +42,13 @@ fn one_of<'a>(
     ensures { IfSome result (λ v. IsWritten (value_of v)) }
 {
     let place = noise.below(6) as usize;
-    if place < infos.len() && place < sample.len() && infos[place].kind == kind {
-        return Some(sample[place]);
+    if place < infos.len() && infos[place].kind == kind {
+        return view_at(sample, place);
     }
     None
 }
 
-// The value of the next variable, where the variable had a value in the sample before, and these are the values of the variables in front of it.
+// The next value of a variable of this kind, where it had one before, and another variable has one now.
 fn value<'a>(
     arena: &'a Arena,
     noise: &mut Noise,
@@ -79,7 +90,7 @@ pub fn sample<'a>(
     let mut sample = List::new(alloc);
     for (place, info) in infos.iter().enumerate() {
         let other = one_of(noise, infos, sample.as_slice(), info.kind);
-        let last = before.get(place).copied();
+        let last = view_at(before, place);
         sample.push(value(arena, noise, habits, info.kind, last, other)?)?;
     }
     Ok(sample)

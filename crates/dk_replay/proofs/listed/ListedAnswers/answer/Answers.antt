@@ -31,6 +31,6 @@ loop-sample-preserved c =
     let before = c.loop-sample.state in
     record {
       state = state_more c.samples-samples.result.now c.loop-sample.sample-index c.sample-item.result c.loop-sample-test.true row (row_is c.args.self.now.grammar row c.requires.row) vars before c.in_ok-state.state
-        c.loop-sample.invariant.state (c.in_ok-state.ensures.state ∙ ap (λ (s : List View). with_sample row vars (values_of s) before) (c.as_slice.ensures ∙ c.sample-item.is));
+          c.loop-sample.invariant.state (c.in_ok-state.ensures.state ∙ ap (λ (s : List View). with_sample row vars (values_of s) before) (c.as_slice.ensures ∙ c.sample-item.is));
       proper = c.in_ok-state.ensures.proper;
     }
