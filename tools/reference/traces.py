@@ -1,10 +1,15 @@
 #!/usr/bin/env python3
 """Random declarations and traces by a seed.
 
-usage: traces.py [--one-file] [--first-form] [--first-grammar] SEED FOLDER
+usage: traces.py [--first-form] [--first-grammar] KIND SEED FOLDER
 
 Writes the files of the seed's case into FOLDER and prints its runs, one a line. A case is a list
-of runs in one folder; a run is a list of words. With `--one-file` it is one run with one word.
+of runs in one folder; a run is a list of words. The kinds are
+  one-file   one run with one word
+  full       all words of the command, states saved, changed and resumed
+  cut        a run over some files, and the same files cut into runs that resume each other
+  states     states with changes put in, each resumed alone and with records
+  split, check, merge   runs of the three other programs
 `--first-form` leaves the second declaration form out, `--first-grammar` states of version 2.
 """
 
@@ -17,6 +22,7 @@ from math import gcd
 
 from input_language import Fault, blocks_of, lines_of
 from points import History, Table, effect_of
+from report import FILTERS, report
 from state_file import state_file
 
 VARIABLES = [
@@ -27,6 +33,7 @@ VARIABLES = [
     (b"t[..]", b"String[]"), (b"v[..]", b"java.lang.String[]"), (b"f[..]", b"boolean[]"),
     (b"d", b"double"), (b"dd[..]", b"double[]"),
 ]
+TRUTHS_AND_OTHERS = (b"x", b"y", b"b", b"c", b"h", b"s", b"a[..]", b"f[..]")
 PLAIN_NAMES = [b"P", b"Q", b"R", b"a\\_b", b"C\\\\D", b"S x", b"O:::OBJECT", b"O:::CLASS",
                b"PQ", b"E:::EXIT1x", b"F:::ENTERS"]
 METHODS = [b"M", b"N", b"O.m(int)", b"X:::Y", b"n\\_n"]
@@ -61,10 +68,27 @@ class PointPlan:
     declared: bool = False
 
 
+def resumed(name):
+    """The words of a run that resumes the state, reads nothing more and saves it again."""
+    return ["--resume", name, "--save", "--min-samples", "1", "--stats"]
+
+
 @dataclass
 class Case:
+    """Where `is_cut` is set, the last run ends as the first one does. `changed` names the states
+    that perhaps no samples give."""
     files: dict = field(default_factory=dict)
     runs: list = field(default_factory=list)
+    is_cut: bool = False
+    changed: set = field(default_factory=set)
+
+    def promises_no_report(self, run):
+        """Whether the run reads records behind a state that perhaps no samples give."""
+        return any(name in run and run != resumed(name) for name in self.changed)
+
+    def state_that_stays(self, run):
+        """The state that the run must save again as it is, or None."""
+        return next((text for name, text in self.files.items() if run == resumed(name)), None)
 
 
 class Maker:
@@ -113,6 +137,8 @@ class Maker:
             self.points.append(self.plan_point(name, variables, names))
 
     def themed(self):
+        if self.theme == "truths":
+            return [(name, rep) for name, rep in VARIABLES if name in TRUTHS_AND_OTHERS]
         if self.theme == "lists":
             kinds = self.random.choice([b"int", b"hashcode", b"String", b"int"])
             return [(name, rep) for name, rep in VARIABLES if rep.endswith((kinds, kinds + b"[]"))]
@@ -342,6 +368,15 @@ class Maker:
             elif self.chance(0.02):
                 blocks.append(self.odd_block())
             elif self.may_have_record(point):
+                blocks.append(self.record(point))
+        return blocks
+
+    def records(self, number):
+        """Sample records of declared points, as far as there are such."""
+        blocks = []
+        for _ in range(20 * number):
+            point = self.random.choice(self.points)
+            if len(blocks) < number and point.declared and self.may_have_record(point):
                 blocks.append(self.record(point))
         return blocks
 
@@ -578,7 +613,7 @@ def one_file_case(seed, second_form=True):
 
 # ---------------------------------------------------------------- limits
 
-def block(lines):
+def block_of(lines):
     return b"".join(line + b"\n" for line in lines) + b"\n"
 
 
@@ -586,7 +621,7 @@ def plain_point(name, variables):
     lines = [b"ppt " + name]
     for variable, rep_type in variables:
         lines += [b"variable " + variable, b"rep-type " + rep_type]
-    return block(lines)
+    return block_of(lines)
 
 
 def many_points(random_):
@@ -595,7 +630,7 @@ def many_points(random_):
     names = [b"p%d" % k for k in range(number)]
     if random_.random() < 0.5:
         names[-1] = b"M:::EXIT1"
-    return b"".join(block([b"ppt " + name]) for name in names)
+    return b"".join(block_of([b"ppt " + name]) for name in names)
 
 
 def many_variables(random_):
@@ -663,15 +698,9 @@ def full_case(seed, second_form=True, grammar=2):
 def state_case(maker, case, grammar):
     """A run that resumes the state of the first file and saves it again. With faults put in it
     reads no more files: what comes of a state that no samples give is promised only until then."""
-    history = History(Table(maker.second_form), grammar=maker.random.randint(1, grammar))
-    waiting = []
-    try:
-        for block in blocks_of(*lines_of(case.files["t"])):
-            effect_of(block, history, waiting, True)
-    except Fault:
-        pass
-    text = state_file(history)
-    words = ["--resume", "s", "--save", "--min-samples", "1", "--stats"]
+    text = state_file(history_of(case.files["t"], maker.random.randint(1, grammar),
+                                 maker.second_form))
+    words = resumed("s")
     if maker.chance(0.7):
         case.files = {"s": maker.mutated(text)}
     else:
@@ -681,7 +710,63 @@ def state_case(maker, case, grammar):
     return case
 
 
-def random_options(maker):
+def history_of(text, grammar=2, second_form=True):
+    """The history of the text up to its first fault."""
+    history = History(Table(second_form), grammar=grammar)
+    waiting = []
+    try:
+        for block in blocks_of(*lines_of(text)):
+            effect_of(block, history, waiting, True)
+    except Fault:
+        pass
+    return history
+
+
+def cut_case(seed, second_form=True, grammar=2):
+    """A run over some files; then the same files cut behind one or two of them, or in front of
+    all or behind all. Each part resumes what the one before it saved."""
+    maker = Maker(seed, second_form)
+    maker.plan_points()
+    case = Case(is_cut=True)
+    names = ["t", "u", "v", "w"][:maker.random.choice([1, 2, 2, 3, 4])]
+    for name in names:
+        maker.waiting = []
+        case.files[name] = maker.text(maker.blocks(maker.random.choice([3, 6, 12, 25])))
+    options = random_options(maker, with_every=False) + ["--save"]
+    if "--ignore-missing-entry" not in options:
+        options.append("--ignore-missing-entry")
+    case.runs.append(options + names)
+    cuts = sorted(maker.random.choices(range(len(names) + 1), k=maker.random.choice([1, 1, 2])))
+    resume = []
+    for start, end in zip([0] + cuts, cuts + [len(names)]):
+        case.runs.append(options + resume + names[start:end])
+        resume = ["--resume", "daikon.state"]
+    return case
+
+
+STATES_OF_A_CASE = 10
+
+
+def states_case(seed, second_form=True, grammar=2):
+    """The state of a file, and changed ones: each is resumed and saved again, and resumed with
+    a few records."""
+    maker = Maker(seed, second_form)
+    maker.plan_points()
+    first = maker.text(maker.blocks(maker.random.choice([1, 3, 6, 12])))
+    history = history_of(first, maker.random.randint(1, grammar), second_form)
+    text = state_file(history)
+    maker.waiting = []
+    case = Case({"s": text, "u": maker.text(maker.records(maker.random.choice([1, 1, 2, 5])))})
+    for k in range(STATES_OF_A_CASE):
+        case.files["s%d" % k] = changed_state(maker.random, text)
+        case.changed.add("s%d" % k)
+    for name in sorted(set(case.files) - {"u"}):
+        case.runs.append(resumed(name))
+        case.runs.append(resumed(name) + ["--ignore-missing-entry", "u"])
+    return case
+
+
+def random_options(maker, with_every=True):
     chosen = []
     if maker.chance(0.85):
         chosen += ["--min-samples", maker.random.choice(["1", "1", "1", "2", "+3", "004", "0", "x"]
@@ -692,7 +777,7 @@ def random_options(maker):
             chosen.append(flag)
     if maker.chance(0.7):
         chosen.append("--ignore-missing-entry")
-    if maker.chance(0.1):
+    if with_every and maker.chance(0.1):
         chosen += ["--every", maker.random.choice(["1", "3", "7"])]
     if maker.chance(0.1):
         chosen += [maker.random.choice(["--select=P", "--select=M", "--select=", "--select=a b"])]
@@ -707,10 +792,270 @@ def mixed(maker, options, names):
     return options + names if maker.chance(0.8) else names + options
 
 
-def case_of(seed, one_file=False, second_form=True, grammar=2):
-    if one_file:
-        return one_file_case(seed, second_form)
-    return full_case(seed, second_form, grammar)
+# ---------------------------------------------------------------- the other programs
+
+def several_files(maker, records):
+    """One to three files, now and then with faults put in."""
+    files = {}
+    for name in ["t", "u", "v"][:maker.random.choice([1, 1, 2, 3])]:
+        maker.waiting = []
+        text = maker.text(maker.blocks(maker.random.choice(records)))
+        files[name] = maker.mutated(text) if maker.chance(0.03) else text
+    return files
+
+
+def some_words(maker, *choices):
+    return [word for words, rate in choices if maker.chance(rate) for word in words]
+
+
+def split_case(seed, second_form=True, grammar=2):
+    maker = Maker(seed, second_form)
+    maker.theme = maker.random.choice(["truths", "truths", "mixed"])
+    maker.plan_points()
+    case = Case(several_files(maker, [3, 6, 12, 25]))
+    words = some_words(maker, (["--min-samples", maker.random.choice(["1", "2", "3"])], 0.9),
+                       (["--ignore-missing-entry"], 0.8), (["--save"], 0.01))
+    case.runs.append(words + sorted(case.files))
+    return case
+
+
+def check_case(seed, second_form=True, grammar=2):
+    """The lines of a report about the first file, some of them changed, against the files."""
+    maker = Maker(seed, second_form)
+    maker.plan_points()
+    case = Case(several_files(maker, [3, 6, 12, 25]))
+    filters = [name for name in FILTERS if maker.chance(0.6)]
+    text = report(history_of(case.files["t"]), 1, b"", filters, maker.chance(0.2))
+    lines = text.split(b"\n")
+    for _ in range(maker.random.choice([0, 1, 3, 8])):
+        maker.random.choice(ASSERTION_CHANGES)(maker.random, lines,
+                                               maker.random.randrange(len(lines)))
+        lines = lines or [b""]
+    case.files["a"] = b"\n".join(lines[:400])
+    words = some_words(maker, (["--ignore-missing-entry"], 0.8), (["--stats"], 0.01))
+    names = sorted(set(case.files) - {"a"})
+    case.runs.append(words + ["a"] + maker.random.sample(names, maker.random.randint(0, len(names))))
+    return case
+
+
+def merge_case(seed, second_form=True, grammar=2):
+    """States of files with the same declarations, or files read in turns."""
+    maker = Maker(seed, second_form)
+    maker.plan_points()
+    declarations = [maker.declare(point) for point in maker.points]
+    names = ["s1", "s2", "s3"][:maker.random.choice([1, 2, 2, 3])]
+    in_turns = maker.chance(0.4)
+    case = Case()
+    least = some_words(maker, (["--min-samples", "1"], 0.9))
+    for name in names:
+        maker.waiting = []
+        blocks = declarations + maker.records(maker.random.choice([0, 1, 3, 6, 12]))
+        if maker.chance(0.1):
+            blocks.insert(maker.random.randint(0, len(blocks)), maker.odd_block())
+        if maker.chance(0.05):
+            blocks.pop(maker.random.randrange(len(blocks)))
+        text = maker.text(blocks)
+        if not in_turns:
+            text = state_file(history_of(text, 1 if maker.chance(0.1) else 2))
+            text = changed_state(maker.random, text) if maker.chance(0.2) else text
+        case.files[name] = text
+    turns = ["--turns", maker.random.choice(["1", "2", "5", "1000000000"])] if in_turns else []
+    case.runs.append(least + turns + names)
+    if not in_turns:
+        case.runs.append(least + names[::-1])
+    return case
+
+
+def heading_line(random_, lines, at):
+    lines.insert(at, random_.choice([b"=", b"==", b"=====", b"= ", b"P", b"P  [4]", b"M:::EXIT",
+                                     b"M:::EXIT  [x]", b"", b" ", b"--- end", b"stats x"]))
+
+
+def other_count(random_, lines, at):
+    lines[at] = re.sub(rb"  \[[0-9]+\]$", random_.choice([b"", b" [4]", b"  []", b"  [4]  [5]",
+                                                          b"  [4] "]), lines[at])
+
+
+def other_number(random_, lines, at):
+    number = random_.choice([b"0", b"1", b"2", b"3", b"-1", b"99999999999999999999", b"01"])
+    lines[at] = re.sub(rb"-?[0-9]+", number, lines[at], count=1)
+
+
+def carriage_return(random_, lines, at):
+    lines[at] += random_.choice([b"\r", b"\r\r", b" "])
+
+
+ASSERTION_CHANGES = [delete_line, double_line, exchange_lines, odd_byte, delete_byte, heading_line,
+                     heading_line, other_count, other_number, other_number, other_number,
+                     carriage_return]
+
+
+# ---------------------------------------------------------------- changes of states
+
+LIMITS_OF_NUMBERS = [limit + k for limit in (1 << 30, 1 << 32, 1 << 40, 1 << 62, 1 << 63, 1 << 64,
+                                             1 << 95, 1 << 126, 1 << 127, 1 << 128)
+                     for k in (-1, 0, 1)] + [-(1 << 30), -(1 << 30) - 1, -(1 << 62),
+                                             -(1 << 62) - 1, -(1 << 63), -(1 << 63) - 1,
+                                             1024, 1025, 16384, 65535, 65536]
+STATE_WORDS = [b"empty", b"holds", b"least 0", b"greatest 5", b"ints 1", b"ints 1 2 3", b"ints 2 1",
+               b"ints 1 1", b"ints 1 2 3 4", b"ints", b"truth true", b"truth 1", b"code null",
+               b"code 0x0", b"code 0x1", b"code 1", b"texts null", b'texts "a" null',
+               b'texts null "a"', b'texts "a"', b"one 3", b"modulus 2 1", b"modulus 1 0",
+               b"modulus 2 2", b"modulus 18446744073709551615 0", b"spot 1 2", b"straight 1 0 0",
+               b"straight 2 -2 0", b"straight -1 1 0", b"straight 0 1 5", b"straight 0 0 1",
+               b"span 1 1 1 1 1 1", b"span 2 1 1 1 1 1", b"plane 1 1 1 0", b"plane 0 0 0 0",
+               b"offset 3", b"offset 0", b"broken"]
+
+
+def changed_state(random_, text):
+    """One to three changes of the state's lines."""
+    lines = text.split(b"\n")[:-1]
+    for _ in range(random_.choice([1, 1, 1, 2, 3])):
+        if lines:
+            random_.choice(STATE_CHANGES)(random_, lines, random_.randrange(len(lines)))
+    return b"".join(line + b"\n" for line in lines)
+
+
+def exchange_with_next(random_, lines, at):
+    lines[at:at + 2] = lines[at:at + 2][::-1]
+
+
+def number_instead(lines, at, random_, number_of):
+    places = list(re.finditer(rb"-?[0-9]+", lines[at]))
+    if places:
+        place = random_.choice(places)
+        number = b"%d" % number_of(int(place.group()))
+        lines[at] = lines[at][:place.start()] + number + lines[at][place.end():]
+
+
+def number_by_one(random_, lines, at):
+    number_instead(lines, at, random_, lambda number: number + random_.choice([-1, 1]))
+
+
+def number_to_zero(random_, lines, at):
+    number_instead(lines, at, random_, lambda number: 0)
+
+
+def number_to_limit(random_, lines, at):
+    number_instead(lines, at, random_, lambda number: random_.choice(LIMITS_OF_NUMBERS))
+
+
+def small_number(random_, lines, at):
+    number_instead(lines, at, random_, lambda number: random_.randint(-3, 9))
+
+
+def blank_added(random_, lines, at):
+    places = [0, len(lines[at])] + [k for k, byte in enumerate(lines[at]) if byte == ord(" ")]
+    place = random_.choice(places)
+    lines[at] = lines[at][:place] + random_.choice([b" ", b" ", b"\t", b"\r"]) + lines[at][place:]
+
+
+def field_removed(random_, lines, at):
+    fields = lines[at].split(b" ")
+    del fields[random_.randrange(len(fields))]
+    lines[at] = b" ".join(fields)
+
+
+def field_doubled(random_, lines, at):
+    fields = lines[at].split(b" ")
+    fields.insert(random_.randrange(len(fields)), random_.choice(fields))
+    lines[at] = b" ".join(fields)
+
+
+def version_changed(random_, lines, at):
+    lines[0] = b"daikon-state " + random_.choice([b"0", b"1", b"2", b"3", b"01", b"", b"-1"])
+
+
+def bit_flipped(random_, lines, at):
+    patterns = [k for k, line in enumerate(lines) if re.fullmatch(rb"pattern [0-9]+ [01]+", line)]
+    if patterns:
+        place = random_.choice(patterns)
+        k = random_.randint(lines[place].rindex(b" ") + 1, len(lines[place]) - 1)
+        lines[place] = lines[place][:k] + random_.choice([b"0", b"1"]) + lines[place][k + 1:]
+
+
+def line_of_word(word):
+    """A choice among the lines that begin with the word."""
+    def choose(random_, lines):
+        places = [k for k, line in enumerate(lines) if line.startswith(word)]
+        return random_.choice(places) if places else None
+    return choose
+
+
+def other_state(random_, lines, at):
+    """Another state of a slot."""
+    place = line_of_word(b"slot ")(random_, lines)
+    if place is not None:
+        lines[place] = re.sub(rb"^(slot(?: [0-9]+)*) [a-z].*", lambda match: match.group(1) + b" "
+                              + random_.choice(STATE_WORDS), lines[place], flags=re.S)
+
+
+def slot_added(random_, lines, at):
+    """A slot in the place of its order, which is numeric."""
+    place = line_of_word(b"slot ")(random_, lines)
+    if place is not None:
+        match = re.match(rb"slot [0-9]+((?: [0-9]+)+) ", lines[place])
+        leaders = match.group(1) if match else b" 0"
+        row = b"%d" % random_.randint(1, 68)
+        lines.insert(place, b"slot " + row + leaders + b" " + random_.choice(STATE_WORDS[:2]))
+        end = next((k for k in range(place, len(lines)) if lines[k] == b"end"), len(lines))
+        start = place
+        while start > 0 and lines[start - 1].startswith(b"slot "):
+            start -= 1
+        lines[start:end] = sorted(lines[start:end], key=numbers_of)
+
+
+def numbers_of(line):
+    return [int(number) for number in re.findall(rb" ([0-9]+)(?= )", line)]
+
+
+def slot_left_out(random_, lines, at):
+    place = line_of_word(b"slot ")(random_, lines)
+    if place is not None:
+        del lines[place]
+
+
+def known_left_out(random_, lines, at):
+    place = line_of_word(b"known ")(random_, lines)
+    if place is not None:
+        del lines[place]
+
+
+def other_known(random_, lines, at):
+    place = line_of_word(b"known ")(random_, lines)
+    if place is not None:
+        value = random_.choice([b"missing", b"0", b"1", b"-0", b"true", b"false", b"1", b"null",
+                                b"0x0", b"0x1", b"0xA", b"[]", b"[0]", b"[1 2]", b"[ 1]", b"[null]",
+                                b"[missing]", b'"a"', b'"a', b'["a" null]', b"5", b"-3"])
+        lines[place] = b" ".join(lines[place].split(b" ")[:2] + [value])
+
+
+def one_sample_more(random_, lines, at):
+    """One more in the number of samples and in a pattern."""
+    starts = [k for k, line in enumerate(lines) if line.startswith(b"samples ")]
+    if starts:
+        start = random_.choice(starts)
+        patterns = [k for k in range(start, len(lines)) if lines[k].startswith(b"pattern ")]
+        for place in [start] + patterns[:1]:
+            lines[place] = re.sub(rb"^(samples [0-9]+|pattern) ([0-9]+)", lambda match: b"%s %d" % (
+                match.group(1), int(match.group(2)) + 1), lines[place])
+
+
+STATE_CHANGES = [delete_line, double_line, exchange_with_next, number_by_one, number_by_one,
+                 number_to_zero, number_to_limit, small_number, blank_added, field_removed,
+                 field_doubled, version_changed, bit_flipped, other_state, other_state, slot_added,
+                 slot_added, slot_left_out, slot_left_out, known_left_out, other_known,
+                 one_sample_more, odd_byte, delete_byte]
+
+
+# ---------------------------------------------------------------- the case of a seed
+
+def without_grammar(case_of_seed):
+    return lambda seed, second_form, grammar: case_of_seed(seed, second_form)
+
+
+KINDS = {"one-file": without_grammar(one_file_case), "full": full_case, "cut": cut_case,
+         "states": states_case, "split": split_case, "check": check_case, "merge": merge_case}
 
 
 def write_files(case, folder):
@@ -721,9 +1066,9 @@ def write_files(case, folder):
 
 def main(words):
     options = [word for word in words if word.startswith("--")]
-    seed, folder = [word for word in words if not word.startswith("--")]
-    case = case_of(int(seed), "--one-file" in options, "--first-form" not in options,
-                   1 if "--first-grammar" in options else 2)
+    kind, seed, folder = [word for word in words if not word.startswith("--")]
+    case = KINDS[kind](int(seed), "--first-form" not in options,
+                       1 if "--first-grammar" in options else 2)
     write_files(case, folder)
     for run in case.runs:
         print(" ".join(run))
