@@ -9,6 +9,7 @@ of runs in one folder; a run is a list of words. The kinds are
   full       all words of the command, states saved, changed and resumed
   cut        a run over some files, and the same files cut into runs that resume each other
   states     states with changes put in, each resumed alone and with records
+  order      states and files that are right, faulty or not there, in all places of the words
   split, check, merge   runs of the three other programs
 `--first-form` leaves the second declaration form out, `--first-grammar` states of version 2.
 """
@@ -766,6 +767,29 @@ def states_case(seed, second_form=True, grammar=2):
     return case
 
 
+def order_case(seed, second_form=True, grammar=2):
+    """A run over what is right, faulty or not there, and one that resumes what it saved."""
+    maker = Maker(seed, second_form)
+    maker.plan_points()
+    text = maker.text(maker.blocks(3))
+    state = state_file(history_of(text, maker.random.randint(1, grammar), second_form))
+    case = Case({"t": text, "f": text + b"\n\nundeclared\n", "s": state,
+                 "b": changed_state(maker.random, state) + b"x\n"})
+    for resumable in (["s"] * 6 + ["b", "t", "nowhere", ".", ""], ["daikon.state"]):
+        groups = [[name] for name in maker.random.choices(
+            ["t"] * 8 + ["f", "nowhere", "s", "."], k=maker.random.choice([0, 1, 1, 2, 3]))]
+        name = maker.random.choice(resumable)
+        for group, rate in ((["--resume", name], 0.4), (["--resume=" + name], 0.2),
+                            (["--save"], 0.7), (["--stats"], 0.3),
+                            maker.random.choice([(["--every", "1"], 0.4), (["--every", "3"], 0.4),
+                                                 (["--generate", "1"], 0.1)]),
+                            (["--min-samples", "1"], 0.9), (["--ignore-missing-entry"], 0.9)):
+            if maker.chance(rate):
+                groups.insert(maker.random.randint(0, len(groups)), group)
+        case.runs.append([word for group in groups for word in group])
+    return case
+
+
 def random_options(maker, with_every=True):
     chosen = []
     if maker.chance(0.85):
@@ -834,7 +858,8 @@ def check_case(seed, second_form=True, grammar=2):
     case.files["a"] = b"\n".join(lines[:400])
     words = some_words(maker, (["--ignore-missing-entry"], 0.8), (["--stats"], 0.01))
     names = sorted(set(case.files) - {"a"})
-    case.runs.append(words + ["a"] + maker.random.sample(names, maker.random.randint(0, len(names))))
+    names = maker.random.sample(names, maker.random.randint(0, len(names)))
+    case.runs.append(words + ["a"] + names)
     return case
 
 
@@ -1055,7 +1080,8 @@ def without_grammar(case_of_seed):
 
 
 KINDS = {"one-file": without_grammar(one_file_case), "full": full_case, "cut": cut_case,
-         "states": states_case, "split": split_case, "check": check_case, "merge": merge_case}
+         "states": states_case, "order": order_case, "split": split_case, "check": check_case,
+         "merge": merge_case}
 
 
 def write_files(case, folder):
