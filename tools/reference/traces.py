@@ -24,6 +24,7 @@ from math import gcd
 from input_language import Fault, blocks_of, lines_of
 from points import History, Table, effect_of
 from report import FILTERS, report
+from rows import ROWS
 from state_file import state_file
 
 VARIABLES = [
@@ -1007,31 +1008,51 @@ def line_of_word(word):
     return choose
 
 
+def state_for(random_, row):
+    """Mostly a state of a form that the row has."""
+    words = ROWS[row].words + ("empty",)
+    fitting = [state for state in STATE_WORDS if state.split(b" ")[0].decode() in words]
+    return random_.choice(fitting if random_.random() < 0.8 else STATE_WORDS)
+
+
+def parts_of_slot(line):
+    """The row, which must be one, and the leaders of a slot's line."""
+    numbers = numbers_of(line)
+    return (numbers[0], numbers[1:]) if numbers and numbers[0] in ROWS else (1, [0])
+
+
+def slot_line(random_, row, leaders):
+    numbers = b"".join(b" %d" % number for number in [row] + leaders)
+    return b"slot" + numbers + b" " + state_for(random_, row)
+
+
 def other_state(random_, lines, at):
     """Another state of a slot."""
     place = line_of_word(b"slot ")(random_, lines)
     if place is not None:
-        lines[place] = re.sub(rb"^(slot(?: [0-9]+)*) [a-z].*", lambda match: match.group(1) + b" "
-                              + random_.choice(STATE_WORDS), lines[place], flags=re.S)
+        lines[place] = slot_line(random_, *parts_of_slot(lines[place]))
 
 
 def slot_added(random_, lines, at):
-    """A slot in the place of its order, which is numeric."""
+    """A slot of a row that takes the same kinds as another one's, in its place."""
     place = line_of_word(b"slot ")(random_, lines)
     if place is not None:
-        match = re.match(rb"slot [0-9]+((?: [0-9]+)+) ", lines[place])
-        leaders = match.group(1) if match else b" 0"
-        row = b"%d" % random_.randint(1, 68)
-        lines.insert(place, b"slot " + row + leaders + b" " + random_.choice(STATE_WORDS[:2]))
-        end = next((k for k in range(place, len(lines)) if lines[k] == b"end"), len(lines))
-        start = place
+        row, leaders = parts_of_slot(lines[place])
+        kinds = [kind for kind, _ in ROWS[row].takes]
+        alike = [k for k in ROWS if [kind for kind, _ in ROWS[k].takes] == kinds]
+        lines.insert(place, slot_line(random_, random_.choice(alike), leaders))
+        start, end = place, place
         while start > 0 and lines[start - 1].startswith(b"slot "):
             start -= 1
+        while end < len(lines) and lines[end].startswith(b"slot "):
+            end += 1
         lines[start:end] = sorted(lines[start:end], key=numbers_of)
 
 
 def numbers_of(line):
-    return [int(number) for number in re.findall(rb" ([0-9]+)(?= )", line)]
+    """The row and the leaders of a slot's line."""
+    match = re.match(rb"slot((?: [0-9]+)*)(?= )", line)
+    return [int(number) for number in match.group(1).split()] if match else []
 
 
 def slot_left_out(random_, lines, at):
