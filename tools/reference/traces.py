@@ -9,6 +9,7 @@ of runs in one folder; a run is a list of words. The kinds are
   full       all words of the command, states saved, changed and resumed
   cut        a run over some files, and the same files cut into runs that resume each other
   states     states with changes put in, each resumed alone and with records
+  forms      states with one slot, of each row with each form of a state
   order      states and files that are right, faulty or not there, in all places of the words
   split, check, merge   runs of the three other programs
 `--first-form` leaves the second declaration form out, `--first-grammar` states of version 2.
@@ -21,6 +22,7 @@ import sys
 from dataclasses import dataclass, field
 from math import gcd
 
+from changes import STATES, changed_state, delete_byte, delete_line, double_line, odd_byte
 from input_language import Fault, blocks_of, lines_of
 from points import History, Table, effect_of
 from report import FILTERS, report
@@ -459,16 +461,6 @@ ODD_LINES = [
 SECOND_FORM_LINES = [b"DECLARE", b"DECLARE x", b"VarComparability", b"VarComparability x", b"none",
                      b"implicit", b"int", b"int = 4", b"int = a", b"int =", b"int x", b"int =4",
                      b"double =", b"float", b"String = \"a b\""]
-ODD_BYTES = [b" ", b"\t", b"\r", b"\\", b'"', b"[", b"]", b"0", b"-", b"\xff", b"#", b"\n", b"x",
-             b"_", b"."]
-
-
-def delete_line(random_, lines, at):
-    del lines[at]
-
-
-def double_line(random_, lines, at):
-    lines.insert(at, lines[at])
 
 
 def odd_line(random_, lines, at):
@@ -490,17 +482,6 @@ def exchange_lines(random_, lines, at):
 
 def line_of_elsewhere(random_, lines, at):
     lines[at] = random_.choice(lines)
-
-
-def odd_byte(random_, lines, at):
-    k = random_.randint(0, len(lines[at]))
-    keep = k if random_.random() < 0.5 else k + 1
-    lines[at] = lines[at][:k] + random_.choice(ODD_BYTES) + lines[at][keep:]
-
-
-def delete_byte(random_, lines, at):
-    k = random_.randint(0, len(lines[at]))
-    lines[at] = lines[at][:k] + lines[at][k + 1:]
 
 
 def cut_after(random_, lines, at):
@@ -768,6 +749,51 @@ def states_case(seed, second_form=True, grammar=2):
     return case
 
 
+FORMS_OF_A_CASE = 20
+ALL_FORMS = [(row, state.encode()) for row in ROWS for state in sorted(set(STATES))
+             if state.split(" ")[0] in ROWS[row].words + ("empty", "holds", "broken")
+             or state in ("least 0", "one 3", "spot 1 2", "offset 3")]
+ALL_KINDS = [(b"x", b"int"), (b"y", b"int"), (b"z", b"int"), (b"b", b"boolean"),
+             (b"c", b"boolean"), (b"h", b"hashcode"), (b"g", b"hashcode"),
+             (b"s", b"java.lang.String"), (b"u", b"java.lang.String"), (b"a", b"int[]"),
+             (b"m", b"int[]"), (b"f", b"boolean[]"), (b"e", b"boolean[]"), (b"q", b"hashcode[]"),
+             (b"r", b"hashcode[]"), (b"t", b"java.lang.String[]"), (b"v", b"java.lang.String[]")]
+RECORD_OF_KIND = {b"int": b"-5", b"boolean": b"true", b"hashcode": b"0x7",
+                  b"java.lang.String": b'"a"', b"int[]": b"[4 2]", b"boolean[]": b"[true]",
+                  b"hashcode[]": b"[1 null]", b"java.lang.String[]": b'["a" null]'}
+
+
+def forms_case(seed, second_form=True, grammar=2):
+    """States of one point with two samples, one of them without any value, and a single slot.
+    Thirty seeds have them all."""
+    declaration = plain_point(b"P", ALL_KINDS)
+    history = history_of(declaration)
+    variables = history.table.points[0].variables
+    classes = b"".join(b"class %d\n" % place for place in range(len(variables)))
+    patterns = [b"pattern 1 " + bit * len(variables) + b"\n" for bit in (b"0", b"1")]
+    start = state_file(history)[:-len(b"end-state\n")] + b"samples 0 2\n" + classes
+    record = b"".join(b"%s\n%s\n1\n" % (name, RECORD_OF_KIND[rep]) for name, rep in ALL_KINDS)
+    case = Case({"u": b"P\n" + record})
+    for k in range(FORMS_OF_A_CASE):
+        row, state = ALL_FORMS[(seed * FORMS_OF_A_CASE + k) % len(ALL_FORMS)]
+        slot = b"slot %d %s %s\n" % (row, leaders_for(row, variables), state)
+        name = "s%d" % k
+        case.files[name] = start + b"".join(patterns) + slot + b"end\nend-state\n"
+        case.changed.add(name)
+        case.runs += [resumed(name), resumed(name) + ["u"]]
+    return case
+
+
+def leaders_for(row, variables):
+    """The first variables of the kinds that the row takes."""
+    ahead = [(variable.kind, place) for place, variable in enumerate(variables)]
+    found = []
+    for kind, _ in ROWS[row].takes:
+        found.append(next(pair for pair in ahead if pair[0] == kind))
+        ahead.remove(found[-1])
+    return b" ".join(b"%d" % place for _, place in found)
+
+
 def order_case(seed, second_form=True, grammar=2):
     """A run over what is right, faulty or not there, and one that resumes what it saved."""
     maker = Maker(seed, second_form)
@@ -916,184 +942,6 @@ ASSERTION_CHANGES = [delete_line, double_line, exchange_lines, odd_byte, delete_
                      carriage_return]
 
 
-# ---------------------------------------------------------------- changes of states
-
-LIMITS_OF_NUMBERS = [limit + k for limit in (1 << 30, 1 << 32, 1 << 40, 1 << 62, 1 << 63, 1 << 64,
-                                             1 << 95, 1 << 126, 1 << 127, 1 << 128)
-                     for k in (-1, 0, 1)] + [-(1 << 30), -(1 << 30) - 1, -(1 << 62),
-                                             -(1 << 62) - 1, -(1 << 63), -(1 << 63) - 1,
-                                             1024, 1025, 16384, 65535, 65536]
-STATE_WORDS = [b"empty", b"holds", b"least 0", b"greatest 5", b"ints 1", b"ints 1 2 3", b"ints 2 1",
-               b"ints 1 1", b"ints 1 2 3 4", b"ints", b"truth true", b"truth 1", b"code null",
-               b"code 0x0", b"code 0x1", b"code 1", b"texts null", b'texts "a" null',
-               b'texts null "a"', b'texts "a"', b"one 3", b"modulus 2 1", b"modulus 1 0",
-               b"modulus 2 2", b"modulus 18446744073709551615 0", b"spot 1 2", b"straight 1 0 0",
-               b"straight 2 -2 0", b"straight -1 1 0", b"straight 0 1 5", b"straight 0 0 1",
-               b"span 1 1 1 1 1 1", b"span 2 1 1 1 1 1", b"plane 1 1 1 0", b"plane 0 0 0 0",
-               b"offset 3", b"offset 0", b"broken"]
-
-
-def changed_state(random_, text):
-    """One to three changes of the state's lines."""
-    lines = text.split(b"\n")[:-1]
-    for _ in range(random_.choice([1, 1, 1, 2, 3])):
-        if lines:
-            random_.choice(STATE_CHANGES)(random_, lines, random_.randrange(len(lines)))
-    return b"".join(line + b"\n" for line in lines)
-
-
-def exchange_with_next(random_, lines, at):
-    lines[at:at + 2] = lines[at:at + 2][::-1]
-
-
-def number_instead(lines, at, random_, number_of):
-    places = list(re.finditer(rb"-?[0-9]+", lines[at]))
-    if places:
-        place = random_.choice(places)
-        number = b"%d" % number_of(int(place.group()))
-        lines[at] = lines[at][:place.start()] + number + lines[at][place.end():]
-
-
-def number_by_one(random_, lines, at):
-    number_instead(lines, at, random_, lambda number: number + random_.choice([-1, 1]))
-
-
-def number_to_zero(random_, lines, at):
-    number_instead(lines, at, random_, lambda number: 0)
-
-
-def number_to_limit(random_, lines, at):
-    number_instead(lines, at, random_, lambda number: random_.choice(LIMITS_OF_NUMBERS))
-
-
-def small_number(random_, lines, at):
-    number_instead(lines, at, random_, lambda number: random_.randint(-3, 9))
-
-
-def blank_added(random_, lines, at):
-    places = [0, len(lines[at])] + [k for k, byte in enumerate(lines[at]) if byte == ord(" ")]
-    place = random_.choice(places)
-    lines[at] = lines[at][:place] + random_.choice([b" ", b" ", b"\t", b"\r"]) + lines[at][place:]
-
-
-def field_removed(random_, lines, at):
-    fields = lines[at].split(b" ")
-    del fields[random_.randrange(len(fields))]
-    lines[at] = b" ".join(fields)
-
-
-def field_doubled(random_, lines, at):
-    fields = lines[at].split(b" ")
-    fields.insert(random_.randrange(len(fields)), random_.choice(fields))
-    lines[at] = b" ".join(fields)
-
-
-def version_changed(random_, lines, at):
-    lines[0] = b"daikon-state " + random_.choice([b"0", b"1", b"2", b"3", b"01", b"", b"-1"])
-
-
-def bit_flipped(random_, lines, at):
-    patterns = [k for k, line in enumerate(lines) if re.fullmatch(rb"pattern [0-9]+ [01]+", line)]
-    if patterns:
-        place = random_.choice(patterns)
-        k = random_.randint(lines[place].rindex(b" ") + 1, len(lines[place]) - 1)
-        lines[place] = lines[place][:k] + random_.choice([b"0", b"1"]) + lines[place][k + 1:]
-
-
-def line_of_word(word):
-    """A choice among the lines that begin with the word."""
-    def choose(random_, lines):
-        places = [k for k, line in enumerate(lines) if line.startswith(word)]
-        return random_.choice(places) if places else None
-    return choose
-
-
-def state_for(random_, row):
-    """Mostly a state of a form that the row has."""
-    words = ROWS[row].words + ("empty",)
-    fitting = [state for state in STATE_WORDS if state.split(b" ")[0].decode() in words]
-    return random_.choice(fitting if random_.random() < 0.8 else STATE_WORDS)
-
-
-def parts_of_slot(line):
-    """The row, which must be one, and the leaders of a slot's line."""
-    numbers = numbers_of(line)
-    return (numbers[0], numbers[1:]) if numbers and numbers[0] in ROWS else (1, [0])
-
-
-def slot_line(random_, row, leaders):
-    numbers = b"".join(b" %d" % number for number in [row] + leaders)
-    return b"slot" + numbers + b" " + state_for(random_, row)
-
-
-def other_state(random_, lines, at):
-    """Another state of a slot."""
-    place = line_of_word(b"slot ")(random_, lines)
-    if place is not None:
-        lines[place] = slot_line(random_, *parts_of_slot(lines[place]))
-
-
-def slot_added(random_, lines, at):
-    """A slot of a row that takes the same kinds as another one's, in its place."""
-    place = line_of_word(b"slot ")(random_, lines)
-    if place is not None:
-        row, leaders = parts_of_slot(lines[place])
-        kinds = [kind for kind, _ in ROWS[row].takes]
-        alike = [k for k in ROWS if [kind for kind, _ in ROWS[k].takes] == kinds]
-        lines.insert(place, slot_line(random_, random_.choice(alike), leaders))
-        start, end = place, place
-        while start > 0 and lines[start - 1].startswith(b"slot "):
-            start -= 1
-        while end < len(lines) and lines[end].startswith(b"slot "):
-            end += 1
-        lines[start:end] = sorted(lines[start:end], key=numbers_of)
-
-
-def numbers_of(line):
-    """The row and the leaders of a slot's line."""
-    match = re.match(rb"slot((?: [0-9]+)*)(?= )", line)
-    return [int(number) for number in match.group(1).split()] if match else []
-
-
-def slot_left_out(random_, lines, at):
-    place = line_of_word(b"slot ")(random_, lines)
-    if place is not None:
-        del lines[place]
-
-
-def known_left_out(random_, lines, at):
-    place = line_of_word(b"known ")(random_, lines)
-    if place is not None:
-        del lines[place]
-
-
-def other_known(random_, lines, at):
-    place = line_of_word(b"known ")(random_, lines)
-    if place is not None:
-        value = random_.choice([b"missing", b"0", b"1", b"-0", b"true", b"false", b"1", b"null",
-                                b"0x0", b"0x1", b"0xA", b"[]", b"[0]", b"[1 2]", b"[ 1]", b"[null]",
-                                b"[missing]", b'"a"', b'"a', b'["a" null]', b"5", b"-3"])
-        lines[place] = b" ".join(lines[place].split(b" ")[:2] + [value])
-
-
-def one_sample_more(random_, lines, at):
-    """One more in the number of samples and in a pattern."""
-    starts = [k for k, line in enumerate(lines) if line.startswith(b"samples ")]
-    if starts:
-        start = random_.choice(starts)
-        patterns = [k for k in range(start, len(lines)) if lines[k].startswith(b"pattern ")]
-        for place in [start] + patterns[:1]:
-            lines[place] = re.sub(rb"^(samples [0-9]+|pattern) ([0-9]+)", lambda match: b"%s %d" % (
-                match.group(1), int(match.group(2)) + 1), lines[place])
-
-
-STATE_CHANGES = [delete_line, double_line, exchange_with_next, number_by_one, number_by_one,
-                 number_to_zero, number_to_limit, small_number, blank_added, field_removed,
-                 field_doubled, version_changed, bit_flipped, other_state, other_state, slot_added,
-                 slot_added, slot_left_out, slot_left_out, known_left_out, other_known,
-                 one_sample_more, odd_byte, delete_byte]
-
-
 # ---------------------------------------------------------------- the case of a seed
 
 def without_grammar(case_of_seed):
@@ -1101,8 +949,8 @@ def without_grammar(case_of_seed):
 
 
 KINDS = {"one-file": without_grammar(one_file_case), "full": full_case, "cut": cut_case,
-         "states": states_case, "order": order_case, "split": split_case, "check": check_case,
-         "merge": merge_case}
+         "states": states_case, "forms": forms_case, "order": order_case, "split": split_case,
+         "check": check_case, "merge": merge_case}
 
 
 def write_files(case, folder):
