@@ -43,6 +43,7 @@ pub mod Applying
 pub mod Leaving
 pub mod Settling
 pub mod ReachedRows
+pub mod AskedRows
 pub mod Freeing
 pub mod Numbering
 pub mod Swept

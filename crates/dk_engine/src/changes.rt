@@ -1,7 +1,6 @@
 // The slots that a sample changes.
-ghost use Rattle.std.specs.Prelude.{◌≡◌, ◌<◌, ◌++◌, ◌∷◌, ◌&&◌, ◌==◌, [], All, IfNone, IfOk, IfSome, length, not};
+ghost use Rattle.std.specs.Prelude.{◌≡◌, ◌<◌, ◌++◌, ◌∷◌, [], All, IfNone, IfOk, IfSome, length};
 ghost use Rattle.std.specs.List.{list_any};
-ghost use Rattle.dk_template.specs.Premises.{row_of, suffices};
 ghost use Rattle.dk_template.specs.Proper.{IsProper};
 ghost use Rattle.dk_template.specs.Templates.{form_of};
 ghost use Rattle.dk_engine.specs.Feeding.{read_after};
@@ -10,9 +9,10 @@ ghost use Rattle.dk_engine.specs.Step.{IsPlaced, can_close, is_empty, is_of_elem
 
 use crate::Slot;
 use crate::after::After;
+use crate::asked::asked;
 use dk_base::{List, NoMemory};
-use dk_suppress::{suppressed, table};
-use dk_template::{Premise, RowId, State, asked_row, suffices_for};
+use dk_suppress::suppressed;
+use dk_template::{RowId, State, suffices_for};
 use std::alloc::Global;
 
 /// A slot's place with the state that a sample makes of it; one that goes is Broken.
@@ -96,26 +96,12 @@ pub(crate) fn changes(
     Ok(changes)
 }
 
-// Whether one of the premises is about the row, and is content with the old state and not with the new one.
-fn loses_one(premises: &[Premise], row: RowId, old: &State, new: &State) -> bool
-    ensures { result ≡ list_any (λ p. (row_of p).0 == row.0 && (suffices p old.now && not (suffices p new.now))) premises.now }
-{
-    for premise in premises {
-        if asked_row(premise).0 == row.0
-            && (suffices_for(premise, old) && !suffices_for(premise, new))
-        {
-            return true;
-        }
-    }
-    false
-}
-
-// Whether some rule's is.
+// Whether a premise about the row is content with the old state and not with the new one.
 fn loses(row: RowId, old: &State, new: &State) -> bool
     ensures { result ≡ loses row old.now new.now }
 {
-    for rule in table() {
-        if loses_one(rule.premises, row, old, new) {
+    for premise in asked(row) {
+        if suffices_for(premise, old) && !suffices_for(premise, new) {
             return true;
         }
     }

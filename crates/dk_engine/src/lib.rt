@@ -2,6 +2,7 @@
 #![tactic(auto)]
 
 mod after;
+mod asked;
 mod changes;
 mod changing;
 mod constant;
