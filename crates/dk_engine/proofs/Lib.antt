@@ -39,6 +39,7 @@ pub mod Ranking
 pub mod Choices
 pub mod AllParts
 pub mod Narrowing
+pub mod Running
 pub mod Applying
 pub mod Leaving
 pub mod Settling
