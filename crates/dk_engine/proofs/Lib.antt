@@ -44,7 +44,7 @@ pub mod Applying
 pub mod Leaving
 pub mod Settling
 pub mod ReachedRows
-pub mod AskedRows
+pub mod Losing
 pub mod Freeing
 pub mod Numbering
 pub mod Swept

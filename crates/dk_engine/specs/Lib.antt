@@ -11,7 +11,6 @@ pub mod Saved
 pub mod Parts
 pub mod Numbers
 pub mod Reached
-pub mod Asked
 pub mod Step
 pub mod Choices
 -- inner: cited by the clauses of bodies and in proofs alone

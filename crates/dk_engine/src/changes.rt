@@ -9,10 +9,9 @@ ghost use Rattle.dk_engine.specs.Step.{IsPlaced, can_close, is_empty, is_of_elem
 
 use crate::Slot;
 use crate::after::After;
-use crate::asked::asked;
 use crate::runs::still_to;
 use dk_base::{List, NoMemory};
-use dk_suppress::suppressed;
+use dk_suppress::{asked_of, suppressed};
 use dk_template::{RowId, State, suffices_for};
 use std::alloc::Global;
 
@@ -139,7 +138,7 @@ pub(crate) fn changes(
 fn loses(row: RowId, old: &State, new: &State) -> bool
     ensures { result ≡ loses row old.now new.now }
 {
-    for premise in asked(row) {
+    for premise in asked_of(row) {
         if suffices_for(premise, old) && !suffices_for(premise, new) {
             return true;
         }

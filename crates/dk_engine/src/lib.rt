@@ -2,7 +2,6 @@
 #![tactic(auto)]
 
 mod after;
-mod asked;
 mod changes;
 mod changing;
 mod constant;

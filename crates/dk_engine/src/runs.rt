@@ -25,12 +25,18 @@ fn is_in_run(asked: bool, row: RowId, slot: &Slot) -> bool
     slot.row.0 == row.0 && (!is_broken(&slot.state) && !(asked && can_close(slot)))
 }
 
-// How many such slots come first.
+// How far a run is looked for. Where many slots of a run change, it is looked for behind each of them.
+const REACH: usize = 32;
+
+// How many such slots come first, of as many as are looked at.
 fn run_length(asked: bool, row: RowId, slots: &[Slot]) -> usize
     ensures within { result ≤ length slots.now }
     ensures run { (k : ℕ) → k < result → is_in_run asked row (slot_in slots.now k) ≡ true }
 {
     for place in 0..slots.len() {
+        if place == REACH {
+            return place;
+        }
         if !is_in_run(asked, row, &slots[place]) {
             return place;
         }

@@ -1,40 +1,16 @@
--- What the rules ask of a row loses as much as all rules.
-use Rattle.std.specs.Prelude.{◌≡◌, ◌<◌, ◌≤◌, ◌&&◌, ◌||◌, ◌==◌, ◌++◌, ◌∷◌, ℕ, Bool, true, false, not, List, [], filter, flat_map, fold, length, map, nat_le, refl, slice_index_or}
+-- What the rules ask of a row.
+use Rattle.std.specs.Prelude.{◌≡◌, ◌<◌, ◌≤◌, ◌&&◌, ◌||◌, ◌==◌, ◌++◌, ◌∷◌, ℕ, Bool, true, false, List, [], filter, flat_map, fold, length, map, nat_le, refl, slice_index_or}
 use Rattle.std.specs.List.{list_all, list_any}
 use Rattle.std.proofs.Common.{ap, ◌∙◌, arith, Bor, cond, inl, inr, subst, sym}
 use Rattle.std.proofs.lemmas.Bool.{and_parts, cases_Bool, false≢true, leb-true, or_left, or_right}
-use Rattle.std.proofs.lemmas.Bool.Decides.{Decides-int_eq}
 use Rattle.std.proofs.lemmas.List.{get_or-map, length-map}
 use Rattle.std.proofs.lemmas.List.Concat.{flat_map-cons}
 use Rattle.std.proofs.lemmas.List.Folds.{list_any-append}
 use Rattle.std.proofs.lemmas.List.FromFn.{get_or-map-range_with_len}
-use Rattle.dk_forms.specs.declared.states.State.{State}
-use Rattle.dk_suppress.specs.Rules.{Rule, rules}
-use Rattle.dk_template.specs.Premises.{is_greatest_to, is_least_from, is_only, row_of, suffices}
+use Rattle.dk_suppress.specs.Rules.{Rule, ask_alike, asked_by_number, asked_of, rules, with_premise}
+use Rattle.dk_template.specs.Premises.{row_of}
 use Rattle.dk_template.specs.declared.answers.Premise.{Premise}
-use Rattle.dk_template.specs.declared.answers.Premise.TheVariants.{Holds, LeastAtLeast, GreatestAtMost, Only}
 use Rattle.dk_template.specs.declared.grammar.RowId.{RowId}
-use Rattle.dk_engine.specs.Asked.{ask_alike, asked_by_number, asked_of, with_premise}
-use Rattle.dk_engine.specs.Narrow.{loses}
-
--- ---- premises that ask the same
-suffice_alike : (s : State) (p q : Premise) → ask_alike p q ≡ true → suffices p s ≡ suffices q s
-suffice_alike s (Holds r a) (Holds t b) h = refl
-suffice_alike s (LeastAtLeast r a k) (LeastAtLeast t b l) h = ap (λ m. is_least_from m s) ((Decides-int_eq k l).0 h)
-suffice_alike s (GreatestAtMost r a k) (GreatestAtMost t b l) h = ap (λ m. is_greatest_to m s) ((Decides-int_eq k l).0 h)
-suffice_alike s (Only a k) (Only b l) h = ap (λ m. is_only m s) ((Decides-int_eq k l).0 h)
-suffice_alike s (Holds r a) (LeastAtLeast t b l) h = absurd (false≢true h)
-suffice_alike s (Holds r a) (GreatestAtMost t b l) h = absurd (false≢true h)
-suffice_alike s (Holds r a) (Only b l) h = absurd (false≢true h)
-suffice_alike s (LeastAtLeast r a k) (Holds t b) h = absurd (false≢true h)
-suffice_alike s (LeastAtLeast r a k) (GreatestAtMost t b l) h = absurd (false≢true h)
-suffice_alike s (LeastAtLeast r a k) (Only b l) h = absurd (false≢true h)
-suffice_alike s (GreatestAtMost r a k) (Holds t b) h = absurd (false≢true h)
-suffice_alike s (GreatestAtMost r a k) (LeastAtLeast t b l) h = absurd (false≢true h)
-suffice_alike s (GreatestAtMost r a k) (Only b l) h = absurd (false≢true h)
-suffice_alike s (Only a k) (Holds t b) h = absurd (false≢true h)
-suffice_alike s (Only a k) (LeastAtLeast t b l) h = absurd (false≢true h)
-suffice_alike s (Only a k) (GreatestAtMost t b l) h = absurd (false≢true h)
 
 or_false : (x : Bool) → (x || false) ≡ x
 or_false true = refl
@@ -84,15 +60,14 @@ any_of_rules f (r ∷ rs) =
     ap (list_any f) (flat_map-cons (λ (r : Rule). r.1) r rs)
     ∙ (list_any-append f r.1 (flat_map (λ (r : Rule). r.1) rs) ∙ ap (λ b. list_any f r.1 || b) (any_of_rules f rs))
 
--- what is asked of a row loses as much as all rules
-pub asked_lose : (row : RowId) (old new : State) → list_any (λ p. suffices p old && not (suffices p new)) (asked_of row) ≡ loses row old new
+-- a test that doesn't tell premises apart that ask the same finds one of the rules' premises about a row where it finds one of these
+pub asked_any : (f : Premise → Bool) → ((p q : Premise) → ask_alike p q ≡ true → f p ≡ f q) → (row : RowId)
+    → list_any f (asked_of row) ≡ list_any (λ (r : Rule). list_any (λ p. (row_of p).0 == row.0 && f p) r.1) rules
 unfolding asked_of
-asked_lose row old new =
-    let lost : Premise → Bool = λ p. suffices p old && not (suffices p new) in
+asked_any f alike row =
     let about : Premise → Bool = λ p. (row_of p).0 == row.0 in
-    with_all lost (λ p q same. ap (λ b. b && not (suffices p new)) (suffice_alike old p q same) ∙ ap (λ b. suffices q old && not b) (suffice_alike new p q same))
-    (filter about (flat_map (λ (r : Rule). r.1) rules)) []
-    ∙ (any_filter lost about (flat_map (λ (r : Rule). r.1) rules) ∙ any_of_rules (λ p. about p && lost p) rules)
+    with_all f alike (filter about (flat_map (λ (r : Rule). r.1) rules)) []
+    ∙ (any_filter f about (flat_map (λ (r : Rule). r.1) rules) ∙ any_of_rules (λ p. about p && f p) rules)
 
 -- ---- no premise is about a row past the last
 abbrev is_early : Premise → Bool
