@@ -20,6 +20,7 @@ mod parts;
 mod places;
 mod points;
 mod reaching;
+mod runs;
 mod slot;
 mod slots;
 pub mod step_laws;
