@@ -1,10 +1,10 @@
 -- Variables that are made one after another, the base ones first, and their samples.
-use Rattle.std.specs.Prelude.{◌≡◌, ◌↔◌, ◌<◌, ◌+◌, ◌^◌, ℕ, true, All, IsTrue, List, [], ◌∷◌, ◌++◌, length}
+use Rattle.std.specs.Prelude.{◌≡◌, ◌↔◌, ◌<◌, ◌+◌, ◌^◌, ℕ, zero, suc, All, IsTrue, List, [], ◌∷◌, ◌++◌, Some, length, slice_get}
 use Rattle.std.specs.List.{AllPairs}
 use Rattle.std.proofs.Common.{arith, get_or, inl, inr, subst, sym}
 use Rattle.std.proofs.lemmas.Bool.{cases_lt}
 use Rattle.std.proofs.lemmas.List.{get_or_append_left, get_or_push, length-append, length-map, map-append}
-use Rattle.std.proofs.lemmas.List.Elements.{All-get_or, All-push}
+use Rattle.std.proofs.lemmas.List.Elements.{All-get_or, All-head, All-push, All-tail}
 use Rattle.std.proofs.lemmas.List.Quantifiers.{all_pairs_push}
 use Rattle.dk_base.specs.Shapes.{is_base_form}
 use Rattle.dk_base.specs.Spelling.{IsWritten}
@@ -14,7 +14,6 @@ use Rattle.dk_base.specs.declared.values.View.{View}
 use Rattle.dk_engine.proofs.OfKinds.{value_got}
 use Rattle.dk_engine.specs.Exact.{AreOfPoint}
 use Rattle.dk_fits.specs.Laws.{IsSample}
-use Rattle.dk_replay.proofs.Walking.{one_of_all}
 use Rattle.dk_replay.specs.Samples.{samples_of}
 
 -- a base variable behind another one wants that one to be a base one
@@ -60,5 +59,10 @@ value_more views v all is = subst (All IsWritten) (sym (map-append value_of view
 pub sample_more : (infos : List VarInfo) (samples : List (List View)) (s : List View) → All (IsSample infos) (samples_of samples) → IsSample infos (values_of s) → All (IsSample infos) (samples_of (samples ++ s ∷ []))
 sample_more infos samples s all is = subst (All (IsSample infos)) (sym (map-append values_of samples (s ∷ []))) (All-push (IsSample infos) (samples_of samples) (values_of s) all is)
 
-pub written_last : (infos : List VarInfo) (samples : List (List View)) (k : ℕ) (d : List View) → k < length samples → All (IsSample infos) (samples_of samples) → All IsWritten (values_of (get_or samples k d))
-written_last infos samples k d within all = (one_of_all (IsSample infos) samples k d within all).written
+-- the values of one of them
+pub written_got : (infos : List VarInfo) (samples : List (List View)) (k : ℕ) (s : List View) → slice_get samples k ≡ Some s → All (IsSample infos) (samples_of samples) → All IsWritten (values_of s)
+written_got infos [] k s e all = absurd (cc)
+written_got infos (t ∷ samples) zero s e all =
+    let same : t ≡ s = cc in
+    subst (λ (x : List View). All IsWritten (values_of x)) same (All-head (IsSample infos) (values_of t) (samples_of samples) all).written
+written_got infos (t ∷ samples) (suc k) s e all = written_got infos samples k s e (All-tail (IsSample infos) (values_of t) (samples_of samples) all)

@@ -12,7 +12,7 @@ use dk_template::{Answers, RowId, admits, info};
 
 // Compares an answer.
 fn compare_answer(
-    both: &Both<'_>,
+    both: &Both<'_, '_>,
     row: RowId,
     vars: &[VarId],
     tally: &mut Tally,
@@ -26,7 +26,7 @@ fn compare_answer(
 }
 
 // Compares the answers for a row.
-fn compare_row(both: &Both<'_>, row: RowId, tally: &mut Tally) -> Result<(), NoMemory>
+fn compare_row(both: &Both<'_, '_>, row: RowId, tally: &mut Tally) -> Result<(), NoMemory>
     requires { IsRowOf both.now.listed.grammar row }
 {
     let listed = &both.listed;
@@ -42,7 +42,7 @@ fn compare_row(both: &Both<'_>, row: RowId, tally: &mut Tally) -> Result<(), NoM
 }
 
 /// Compares all answers: of each row over all variables that it admits, in any order and with any repeats.
-pub fn compare_answers(both: &Both<'_>, tally: &mut Tally) -> Result<(), NoMemory> {
+pub fn compare_answers(both: &Both<'_, '_>, tally: &mut Tally) -> Result<(), NoMemory> {
     for number in 1..both.listed.grammar().rows() + 1 {
         compare_row(both, RowId(number), tally)?;
     }
@@ -50,7 +50,7 @@ pub fn compare_answers(both: &Both<'_>, tally: &mut Tally) -> Result<(), NoMemor
 }
 
 // Compares a count.
-fn compare_count(both: &Both<'_>, vars: &[VarId], tally: &mut Tally)
+fn compare_count(both: &Both<'_, '_>, vars: &[VarId], tally: &mut Tally)
     requires few { length vars.now ≤ 3 }
     requires there { AreThere both.now.listed.infos vars.now }
 {
@@ -58,7 +58,7 @@ fn compare_count(both: &Both<'_>, vars: &[VarId], tally: &mut Tally)
 }
 
 // Compares the counts of so many variables.
-fn compare_counts_of(both: &Both<'_>, arity: u8, tally: &mut Tally) {
+fn compare_counts_of(both: &Both<'_, '_>, arity: u8, tally: &mut Tally) {
     let count = both.listed.count_vars();
     for place in 0..tuples(count, arity) {
         let vars = tuple_at(both.listed.alloc(), count, arity, place);
@@ -67,14 +67,14 @@ fn compare_counts_of(both: &Both<'_>, arity: u8, tally: &mut Tally) {
 }
 
 /// Compares all counts: of no to three variables.
-pub fn compare_counts(both: &Both<'_>, tally: &mut Tally) {
+pub fn compare_counts(both: &Both<'_, '_>, tally: &mut Tally) {
     for arity in 0..4u8 {
         compare_counts_of(both, arity, tally);
     }
 }
 
 // Compares with which variables this one agrees.
-fn compare_agreements_with(both: &Both<'_>, v: VarId, tally: &mut Tally)
+fn compare_agreements_with(both: &Both<'_, '_>, v: VarId, tally: &mut Tally)
     requires { v.0 < length both.now.listed.infos }
 {
     for w in 0..both.listed.count_vars() {
@@ -84,7 +84,7 @@ fn compare_agreements_with(both: &Both<'_>, v: VarId, tally: &mut Tally)
 }
 
 /// Compares which variables agree.
-pub fn compare_agreements(both: &Both<'_>, tally: &mut Tally) {
+pub fn compare_agreements(both: &Both<'_, '_>, tally: &mut Tally) {
     for v in 0..both.listed.count_vars() {
         compare_agreements_with(both, VarId(v), tally);
     }

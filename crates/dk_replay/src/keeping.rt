@@ -2,26 +2,21 @@
 ghost use Rattle.std.specs.Prelude.{◌<◌, length};
 
 use crate::both::Both;
-use crate::leading::{Leading, is_one_of, leader_of};
+use crate::leading::{Leading, is_one_of};
 use crate::tally::Tally;
 use dk_base::{List, NoMemory, Value, VarId, View, same_kept};
 use dk_presence::Held;
 use dk_samples::{is_present, value_at};
 use std::alloc::Global;
 
-/// Compares the number of samples, the leaders, and the leader of each variable.
-pub fn compare_classes(both: &Both<'_>, leading: &Leading, tally: &mut Tally) {
-    let classes = both.engine.classes();
+/// Compares the number of samples, and the leaders. With which leader a variable agrees is compared elsewhere.
+pub fn compare_classes(both: &Both<'_, '_>, leading: &Leading, tally: &mut Tally) {
     tally.part(both.engine.counts().samples == both.listed.samples().len() as u64);
-    tally.part(classes.leaders() == leading.leaders.as_slice());
-    for v in 0..both.listed.count_vars() {
-        let v = VarId(v);
-        tally.part(classes.leader(v) == leader_of(&both.listed, v));
-    }
+    tally.part(both.engine.classes().leaders() == leading.leaders.as_slice());
 }
 
 // The value that the constant has in the first sample; none of another variable.
-fn constant<'a>(both: &Both<'a>, leading: &Leading, v: VarId) -> Option<View<'a>> {
+fn constant<'v>(both: &Both<'_, 'v>, leading: &Leading, v: VarId) -> Option<View<'v>> {
     if !is_one_of(v, leading.constants.as_slice()) {
         return None;
     }
@@ -42,7 +37,7 @@ fn is_kept(alloc: Global, kept: Option<&Value>, value: Option<View<'_>>) -> Resu
 
 /// Compares the number of the constants, and of each variable whether a value is kept, and which one.
 pub fn compare_constants(
-    both: &Both<'_>,
+    both: &Both<'_, '_>,
     leading: &Leading,
     tally: &mut Tally,
 ) -> Result<(), NoMemory> {
@@ -100,7 +95,7 @@ fn held_at(held: &[Held], pattern: &[VarId]) -> u64 {
 
 // Compares how often the pattern of the sample at this place is held; whether no sample before it has that pattern.
 fn compare_pattern(
-    both: &Both<'_>,
+    both: &Both<'_, '_>,
     leaders: &[VarId],
     samples: &[List<View<'_>>],
     place: usize,
@@ -119,7 +114,7 @@ fn compare_pattern(
 
 /// Compares how often each pattern is held, and the number of patterns.
 pub fn compare_patterns(
-    both: &Both<'_>,
+    both: &Both<'_, '_>,
     leading: &Leading,
     tally: &mut Tally,
 ) -> Result<(), NoMemory> {

@@ -33,8 +33,8 @@ pub fn are_of(vars: &[VarId], others: &[VarId]) -> bool {
     true
 }
 
-/// The leader of a variable: the first that agrees with it.
-pub fn leader_of(listed: &Listed<'_>, v: VarId) -> VarId
+// The leader of a variable: the first that agrees with it.
+fn leader_of(listed: &Listed<'_, '_>, v: VarId) -> VarId
     requires { v.0 < length listed.now.infos }
 {
     for w in 0..v.0 {
@@ -55,7 +55,7 @@ fn is_constant(samples: &[List<View<'_>>], v: VarId, value: View<'_>) -> bool {
     true
 }
 
-fn leaders(listed: &Listed<'_>) -> Result<List<VarId>, NoMemory> {
+fn leaders(listed: &Listed<'_, '_>) -> Result<List<VarId>, NoMemory> {
     let mut leaders = List::new(listed.alloc());
     for v in 0..listed.count_vars() {
         if leader_of(listed, VarId(v)) == VarId(v) {
@@ -66,7 +66,7 @@ fn leaders(listed: &Listed<'_>) -> Result<List<VarId>, NoMemory> {
 }
 
 // Of no samples there are none.
-fn constants(listed: &Listed<'_>, leaders: &[VarId]) -> Result<List<VarId>, NoMemory> {
+fn constants(listed: &Listed<'_, '_>, leaders: &[VarId]) -> Result<List<VarId>, NoMemory> {
     let mut constants = List::new(listed.alloc());
     let Some(first) = listed.samples().first() else {
         return Ok(constants);
@@ -80,7 +80,7 @@ fn constants(listed: &Listed<'_>, leaders: &[VarId]) -> Result<List<VarId>, NoMe
 }
 
 /// The leaders of all samples, and the constants.
-pub fn leading_of(listed: &Listed<'_>) -> Result<Leading, NoMemory> {
+pub fn leading_of(listed: &Listed<'_, '_>) -> Result<Leading, NoMemory> {
     let leaders = leaders(listed)?;
     let constants = constants(listed, leaders.as_slice())?;
     Ok(Leading { leaders, constants })

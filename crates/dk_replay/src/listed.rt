@@ -24,14 +24,14 @@ use std::marker::Model;
 
 /// A grammar, variables, and all samples of them, in the order in which they were fed. It answers by going over the samples.
 #[derive(Drop)]
-pub struct Listed<'a> {
+pub struct Listed<'a, 'v> {
     alloc: Global,
     grammar: Grammar,
     infos: &'a [VarInfo],
-    samples: &'a [List<View<'a>>],
+    samples: &'a [List<View<'v>>],
 }
 
-impl<'a> Model for Listed<'a> {
+impl<'a, 'v> Model for Listed<'a, 'v> {
     ghost use Rattle.std.specs.Prelude.{◌<◌, ◌^◌, All, length};
     ghost use Rattle.dk_fits.specs.Laws.{IsSample};
     ghost use Rattle.dk_replay.specs.Samples.{Fed, samples_of};
@@ -98,14 +98,14 @@ fn are_of_one_kind(infos: &[VarInfo], v: VarId, w: VarId) -> bool
     infos[v.0 as usize].kind == infos[w.0 as usize].kind
 }
 
-impl<'a> Listed<'a> {
+impl<'a, 'v> Listed<'a, 'v> {
     /// These samples of some variables.
     pub fn new(
         alloc: Global,
         grammar: Grammar,
         infos: &'a [VarInfo],
-        samples: &'a [List<View<'a>>],
-    ) -> Listed<'a>
+        samples: &'a [List<View<'v>>],
+    ) -> Listed<'a, 'v>
         requires some { 0 < length infos.now }
         requires few { length infos.now < 2 ^ 32 }
         requires samples { All (IsSample infos.now) (samples_of samples.now) }
@@ -147,7 +147,7 @@ impl<'a> Listed<'a> {
     }
 
     /// The samples.
-    pub fn samples(&self) -> &[List<View<'a>>]
+    pub fn samples(&self) -> &[List<View<'v>>]
         ensures samples { samples_of result.now ≡ self.now.samples }
         ensures each { All (IsSample self.now.infos) (samples_of result.now) }
     {
@@ -210,7 +210,7 @@ impl<'a> Listed<'a> {
     }
 }
 
-impl<'a> Answers for Listed<'a> {
+impl<'a, 'v> Answers for Listed<'a, 'v> {
     ghost use Rattle.dk_fits.specs.Fits.{fit};
     ghost use Rattle.dk_presence.specs.Patterns.{count_of};
     ghost use Rattle.dk_replay.specs.Samples.{agree};

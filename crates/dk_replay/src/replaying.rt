@@ -23,7 +23,7 @@ use dk_template::Grammar;
 use std::alloc::Global;
 
 // Compares what the engine answers and keeps.
-fn compare_both(both: &Both<'_>, tally: &mut Tally) -> Result<(), NoMemory> {
+fn compare_both(both: &Both<'_, '_>, tally: &mut Tally) -> Result<(), NoMemory> {
     compare_answers(both, tally)?;
     compare_counts(both, tally);
     compare_agreements(both, tally);

@@ -12,7 +12,7 @@ use dk_suppress::suppressed;
 use dk_template::{Answers, RowId, State, admits, info, is_written};
 
 // Whether the variables are leaders in written order that aren't all constant. Of no samples there are none.
-fn may_have_slot(listed: &Listed<'_>, leading: &Leading, row: RowId, vars: &[VarId]) -> bool
+fn may_have_slot(listed: &Listed<'_, '_>, leading: &Leading, row: RowId, vars: &[VarId]) -> bool
     requires { IsRowOf listed.now.grammar row }
 {
     !listed.samples().is_empty()
@@ -23,7 +23,7 @@ fn may_have_slot(listed: &Listed<'_>, leading: &Leading, row: RowId, vars: &[Var
 
 // The state that a row's slot over the variables has, if they have one: it isn't Broken, and no rule suppresses it.
 fn slot_state(
-    listed: &Listed<'_>,
+    listed: &Listed<'_, '_>,
     leading: &Leading,
     row: RowId,
     vars: &[VarId],
@@ -50,7 +50,7 @@ fn is_slot(slot: Option<&Slot>, row: RowId, vars: &[VarId], state: &State) -> bo
 
 // Compares the slots of a row, of which the first one stands at this place; the place behind the last one.
 fn compare_row(
-    both: &Both<'_>,
+    both: &Both<'_, '_>,
     leading: &Leading,
     row: RowId,
     first: usize,
@@ -75,7 +75,7 @@ fn compare_row(
 
 /// Compares the slots, one by one in their order, and then their number.
 pub fn compare_slots(
-    both: &Both<'_>,
+    both: &Both<'_, '_>,
     leading: &Leading,
     tally: &mut Tally,
 ) -> Result<(), NoMemory> {

@@ -3,8 +3,8 @@ use Rattle.dk_fits.specs.Laws.{IsSample}
 use Rattle.dk_replay.specs.Samples.{samples_of}
 use Rattle.dk_replay.proofs.replaying.feed_all.Given as goal
 
-abbrev pub invariant-loop-0 : goal.invariant-loop-0
-invariant-loop-0 l = record {
+abbrev pub invariant-loop : goal.invariant-loop
+invariant-loop l = record {
   infos : l.engine.infos ≡ l.fn.engine.infos;
   samples : All (IsSample l.engine.infos) (samples_of l.samples);
 }
