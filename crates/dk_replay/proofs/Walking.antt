@@ -6,16 +6,13 @@ use Rattle.std.proofs.lemmas.List.{get_or-map, length-map, map-append, take_all,
 use Rattle.std.proofs.lemmas.List.Elements.{All-get_or}
 use Rattle.std.proofs.lemmas.List.Folds.{list_all-append, list_all_at}
 use Rattle.std.proofs.lemmas.List.Sums.{sum_by-cons}
-use Rattle.dk_base.specs.SameValues.{same_value}
 use Rattle.dk_base.specs.Values.{values_of}
 use Rattle.dk_base.specs.declared.kinds.VarId.{VarId}
-use Rattle.dk_base.specs.declared.kinds.VarInfo.{VarInfo}
 use Rattle.dk_base.specs.declared.values.Value.{Value}
 use Rattle.dk_base.specs.declared.values.View.{View}
 use Rattle.dk_fits.proofs.Fitting.{count_of_both}
 use Rattle.dk_fits.proofs.Pushing.{fit_push}
 use Rattle.dk_fits.specs.Fits.{fit}
-use Rattle.dk_fits.specs.Laws.{IsSample}
 use Rattle.dk_forms.specs.declared.states.State.{State}
 use Rattle.dk_grammar.specs.Runs.{with_sample}
 use Rattle.dk_presence.specs.Patterns.{capped, count_of}
