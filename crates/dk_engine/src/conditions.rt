@@ -2,8 +2,10 @@
 ghost use Rattle.std.specs.Prelude.{◌≡◌, ◌↔◌, ◌<◌, ◌^◌, All, Contains, IsTrue, length};
 ghost use Rattle.std.specs.List.{AllPairs};
 ghost use Rattle.dk_base.specs.Items.{is_text as is_string};
+ghost use Rattle.dk_base.specs.Numbers.{fits_i64};
 ghost use Rattle.dk_base.specs.Spelling.{IsWritten};
 ghost use Rattle.dk_base.specs.Values.{IsOfKind};
+ghost use Rattle.dk_classes.specs.Classes.{kind_at, kinds_of};
 ghost use Rattle.dk_classes.specs.Leaders.{AreClasses, own_leaders};
 ghost use Rattle.dk_engine.specs.Exact.{IsOverLeaders, Lead, SlotBefore};
 ghost use Rattle.dk_engine.specs.Restored.{AreOpen, AreShaped, HaveKinds, IsConstant, IsOpenSlot, IsStateOf};
@@ -20,6 +22,20 @@ use dk_classes::Classes;
 use dk_presence::Held;
 use dk_template::{Grammar, RowId, State, admits, info, is_written as stands_written, proper};
 
+// The kind of a variable.
+fn kind_of(infos: &[VarInfo], v: VarId) -> Kind
+    requires { v.0 < length infos.now }
+    ensures { result ≡ kind_at (kinds_of infos.now) v.0 }
+{
+    infos[v.0 as usize].kind
+}
+
+fn is_same(kind: Kind, other: Kind) -> bool
+    ensures { IsTrue result ↔ (kind ≡ other) }
+{
+    kind == other
+}
+
 // Whether each variable is of its leader's kind.
 fn have_kinds(infos: &[VarInfo], classes: &Classes) -> bool
     requires lawful { AreClasses classes.now }
@@ -27,8 +43,8 @@ fn have_kinds(infos: &[VarInfo], classes: &Classes) -> bool
     ensures { IsTrue result ↔ HaveKinds infos.now classes.now }
 {
     for v in 0..infos.len() {
-        let leader = classes.leader(VarId(v as u32)).0 as usize;
-        if infos[leader].kind != infos[v].kind {
+        let member = VarId(v as u32);
+        if !is_same(kind_of(infos, classes.leader(member)), kind_of(infos, member)) {
             return false;
         }
     }
@@ -85,6 +101,46 @@ fn are_strings(texts: &[Text]) -> bool
     true
 }
 
+// Each number of 64 bits is written by some text.
+fn is_whole(number: i64) -> bool
+    ensures { IsTrue result ↔ IsTrue (fits_i64 number) }
+{
+    let _number = number;
+    true
+}
+
+// So is each of a sequence.
+fn are_whole(numbers: &[i64]) -> bool
+    ensures { IsTrue result ↔ All (λ z. IsTrue (fits_i64 z)) numbers.now }
+{
+    for number in numbers {
+        if !is_whole(*number) {
+            return false;
+        }
+    }
+    true
+}
+
+// Each hash code of 64 bits is written by some text.
+fn is_code(code: u64) -> bool
+    ensures { IsTrue result ↔ (code < 2 ^ 64) }
+{
+    let _code = code;
+    true
+}
+
+// So is each of a sequence.
+fn are_codes(codes: &[u64]) -> bool
+    ensures { IsTrue result ↔ All (λ n. n < 2 ^ 64) codes.now }
+{
+    for code in codes {
+        if !is_code(*code) {
+            return false;
+        }
+    }
+    true
+}
+
 // Whether some text writes the value.
 fn is_written(value: &Value) -> bool
     ensures { IsTrue result ↔ IsWritten value.now }
@@ -92,7 +148,11 @@ fn is_written(value: &Value) -> bool
     match value {
         Value::Str(text) => is_text(text.as_slice()),
         Value::StrSeq(texts) => are_strings(texts.as_slice()),
-        _ => true,
+        Value::Int(number) => is_whole(*number),
+        Value::IntSeq(numbers) => are_whole(numbers.as_slice()),
+        Value::Hash(code) => is_code(*code),
+        Value::HashSeq(codes) => are_codes(codes.as_slice()),
+        Value::Missing | Value::Bool(_) | Value::BoolSeq(_) => true,
     }
 }
 
@@ -131,7 +191,7 @@ fn is_constant(infos: &[VarInfo], kept: &Kept, entry: &(VarId, Value)) -> bool
 {
     let (leader, value) = entry;
     leads(&kept.leaders, infos.len(), *leader)
-        && is_of_kind(infos[leader.0 as usize].kind, value)
+        && is_of_kind(kind_of(infos, *leader), value)
         && is_written(value)
         && is_throughout(kept.held.held(), *leader, is_there(value))
 }
@@ -173,7 +233,10 @@ fn is_over(
     requires { length classes.now ≡ length infos.now }
     ensures { IsTrue result ↔ IsOverLeaders grammar infos.now classes.now row vars.now }
 {
-    grammar.has(row) && admits(row, infos, vars) && all_lead(classes, infos.len(), vars)
+    if !grammar.has(row) {
+        return false;
+    }
+    admits(row, infos, vars) && all_lead(classes, infos.len(), vars)
 }
 
 // Whether the row can have the state over leaders that are together in so many samples.
