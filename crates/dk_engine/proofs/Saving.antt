@@ -1,11 +1,13 @@
 -- Kept parts that are read back from what is saved of them.
-use Rattle.std.specs.Prelude.{◌≡◌, ◌<◌, ◌≤◌, ◌^◌, ◌==◌, ℕ, zero, suc, false, All, Contains, List, [], Some, if◌then◌else◌, length, refl}
-use Rattle.std.specs.List.{AllPairs}
+use Rattle.std.specs.Prelude.{◌≡◌, ◌<◌, ◌≤◌, ◌^◌, ◌==◌, ℕ, zero, suc, true, false, All, Contains, List, [], ◌∷◌, Some, if◌then◌else◌, length, refl, sum_by}
+use Rattle.std.specs.List.{AllByRecursion, IsDistinct}
 use Rattle.std.specs.List.Sorted.{IsPermutation}
-use Rattle.std.proofs.Common.{◌∙◌, ap, arith, get_or, subst, sym}
-use Rattle.std.proofs.lemmas.List.{length-map}
-use Rattle.std.proofs.lemmas.List.Elements.{All-weaker, Contains-get_or}
+use Rattle.std.proofs.Common.{◌∙◌, ap, arith, get_or, inl, inr, subst, sym}
+use Rattle.std.proofs.lemmas.Bool.{cases_Bool}
+use Rattle.std.proofs.lemmas.List.Elements.{Contains-get_or}
 use Rattle.std.proofs.lemmas.List.Sorted.{All-permutation, sum_by-IsPermutation}
+use Rattle.std.proofs.lemmas.List.Sums.{sum_by-cons}
+use Rattle.std.proofs.lemmas.Map.Keys.{IsDistinct-head, IsDistinct-tail}
 use Rattle.dk_base.specs.declared.kinds.VarId.{VarId}
 use Rattle.dk_base.specs.declared.kinds.VarInfo.{VarInfo}
 use Rattle.dk_base.specs.declared.values.Value.{Value}
@@ -18,7 +20,8 @@ use Rattle.dk_parts.specs.Classes.{classes_of}
 use Rattle.dk_parts.specs.Entries.{all_known_of}
 use Rattle.dk_parts.specs.Patterns.{patterns_of}
 use Rattle.dk_parts.specs.Restored.{HaveEntries, HaveMembers, HavePatterns}
-use Rattle.dk_presence.specs.Patterns.{capped, counted_by, has, has_all}
+use Rattle.dk_presence.proofs.Sameness.{same_vars-at, same_vars-sym}
+use Rattle.dk_presence.specs.Patterns.{capped, counted_by, has, has_all, held_at, held_patterns, same_vars}
 use Rattle.dk_presence.specs.declared.held.Held.{Held}
 use Rattle.dk_samples.specs.Samples.{is_present}
 use Rattle.dk_suppress.specs.Rules.{is_suppressed}
@@ -28,6 +31,9 @@ use Rattle.dk_template.specs.Templates.{form_of}
 use Rattle.dk_template.specs.declared.grammar.Grammar.{Grammar}
 use Rattle.dk_template.specs.declared.grammar.RowId.{RowId}
 use Rattle.dk_engine.specs.Conditions.{AreParts, CanBeFed, CanBeRead, IsConstantOf, IsSlotOf, IsValueOf}
+use Rattle.dk_engine.proofs.PartsOfSamples.{kept_parts_meet}
+use Rattle.dk_engine.specs.Exact.{ArePatterns, IsKeptOf}
+use Rattle.dk_engine.specs.Laws.{KeptPartsAreSaved}
 use Rattle.dk_engine.specs.Parts.{all_known, known_tuple, slot_at}
 use Rattle.dk_engine.specs.Reading.{ranks, read_leaders, read_slot, read_turned, read_written, state_of_one}
 use Rattle.dk_engine.specs.Restored.{AreOpen, AreShaped, AreUnsuppressed, HaveParts, IsConstant, IsOpenSlot, IsRearranged, IsStateOf}
@@ -157,3 +163,56 @@ module _ (kept : Kept) (held : List Held) (moved : IsPermutation kept.held held)
 
 pub parts_rearranged : (grammar : Grammar) (infos : List VarInfo) (kept other : Kept) → IsRearranged kept other → AreParts grammar infos kept → AreParts grammar infos other
 parts_rearranged grammar infos kept other same are = subst (AreParts grammar infos) (is_with_held kept other same) (parts_moved kept other.held same.held grammar infos are)
+
+pub have_parts : (grammar : Grammar) (infos : List VarInfo) (parts : Parts) (kept : Kept) → AreParts grammar infos kept → parts_of kept ≡ parts → HaveParts (length infos) parts kept
+have_parts grammar infos parts kept are saved = record { shaped = shaped_parts grammar infos kept are; saved = saved }
+
+-- ---- parts of samples
+-- the count at a pattern as a sum
+at_pattern : List VarId → Held → ℕ
+at_pattern pattern h = if same_vars h.leaders pattern then h.count else 0
+
+sum_none : (pattern a : List VarId) (held : List Held) → same_vars a pattern ≡ true → AllByRecursion (λ y. same_vars a y ≡ false) (held_patterns held) → sum_by (at_pattern pattern) held ≡ 0
+unfolding at_pattern
+sum_none pattern a [] e apart = refl
+sum_none pattern a (h ∷ held) e apart =
+    let off : same_vars h.leaders pattern ≡ false = same_vars-sym h.leaders pattern ∙ (sym (same_vars-at a pattern h.leaders e) ∙ apart.0) in
+    let here : at_pattern pattern h ≡ 0 = ap (λ b. if b then h.count else 0) off in
+    omega (arith, sum_by-cons (at_pattern pattern) h held, here, sum_none pattern a held e apart.1)
+
+held_at_sum : (pattern : List VarId) (held : List Held) → IsDistinct same_vars (held_patterns held) → held_at held pattern ≡ sum_by (at_pattern pattern) held
+unfolding at_pattern
+held_at_sum pattern [] once = refl
+held_at_sum pattern (h ∷ held) once = elim (cases_Bool (same_vars h.leaders pattern)) [
+  | inl e ↦
+      let at : held_at (h ∷ held) pattern ≡ h.count = ap (λ b. if b then h.count else held_at held pattern) e in
+      let here : at_pattern pattern h ≡ h.count = ap (λ b. if b then h.count else 0) e in
+      omega (arith, at, here, sum_by-cons (at_pattern pattern) h held, sum_none pattern h.leaders held e (IsDistinct-head same_vars h.leaders (held_patterns held) once))
+  | inr n ↦
+      let at : held_at (h ∷ held) pattern ≡ held_at held pattern = ap (λ b. if b then h.count else held_at held pattern) n in
+      let here : at_pattern pattern h ≡ 0 = ap (λ b. if b then h.count else 0) n in
+      omega (arith, at, here, sum_by-cons (at_pattern pattern) h held, held_at_sum pattern held (IsDistinct-tail same_vars h.leaders (held_patterns held) once))
+]
+
+patterns_of_moved : (leaders : List VarId) (samples : List (List Value)) (held others : List Held) → IsPermutation held others → ArePatterns leaders samples held → ArePatterns leaders samples others
+patterns_of_moved leaders samples held others moved are =
+    let form = held_moved held others moved are.form in
+    record {
+      form = form;
+      counted = λ p. held_at_sum p others form.once ∙ (sum_by-IsPermutation (at_pattern p) held others moved ∙ (sym (held_at_sum p held are.form.once) ∙ are.counted p));
+    }
+
+pub kept_rearranged : (grammar : Grammar) (infos : List VarInfo) (samples : List (List Value)) (kept other : Kept) → IsRearranged kept other → IsKeptOf grammar infos samples kept → IsKeptOf grammar infos samples other
+kept_rearranged grammar infos samples kept other same is = subst (IsKeptOf grammar infos samples) (is_with_held kept other same) (record {
+  number = is.number;
+  leaders = is.leaders;
+  known = is.known;
+  held = patterns_of_moved (own_leaders kept.leaders) samples kept.held other.held same.held is.held;
+  slots = is.slots;
+})
+
+-- what is kept of 1 to 2^40 samples is saved
+pub kept_parts_are_saved : KeptPartsAreSaved
+kept_parts_are_saved grammar infos point samples sampled kept is some few =
+    let number = is.number in
+    record { kept = kept; meets = kept_parts_meet grammar infos point samples sampled kept is; some = omega (arith, number, some); few = omega (arith, number, few); saved = refl }
