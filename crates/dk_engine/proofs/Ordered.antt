@@ -1,6 +1,6 @@
 -- Slots of which each comes before the next are in order.
 use Rattle.std.specs.Prelude.{◌≡◌, ◌<◌, ◌≤◌, ◌+◌, ◌-◌, ℕ, true, List}
-use Rattle.std.proofs.Common.{◌∙◌, ap, arith, get_or, inl, inr, subst, sym}
+use Rattle.std.proofs.Common.{arith, get_or, inl, inr, subst}
 use Rattle.std.proofs.lemmas.Bool.{cases_lt}
 use Rattle.dk_engine.proofs.SlotPlaces.{before_true, earlier, true_before}
 use Rattle.dk_engine.specs.Exact.{SlotBefore}

@@ -1,5 +1,5 @@
 -- Kept parts that are read back from what is saved of them.
-use Rattle.std.specs.Prelude.{◌≡◌, ◌<◌, ◌≤◌, ◌^◌, ◌==◌, ℕ, zero, suc, true, false, All, Contains, List, [], ◌∷◌, Some, if◌then◌else◌, length, refl, sum_by}
+use Rattle.std.specs.Prelude.{◌≡◌, ◌≤◌, ℕ, zero, suc, true, false, All, Contains, List, [], ◌∷◌, Some, if◌then◌else◌, length, refl, sum_by}
 use Rattle.std.specs.List.{AllByRecursion, IsDistinct}
 use Rattle.std.specs.List.Sorted.{IsPermutation}
 use Rattle.std.proofs.Common.{◌∙◌, ap, arith, get_or, inl, inr, subst, sym}
@@ -11,14 +11,11 @@ use Rattle.std.proofs.lemmas.Map.Keys.{IsDistinct-head, IsDistinct-tail}
 use Rattle.dk_base.specs.declared.kinds.VarId.{VarId}
 use Rattle.dk_base.specs.declared.kinds.VarInfo.{VarInfo}
 use Rattle.dk_base.specs.declared.values.Value.{Value}
-use Rattle.dk_classes.specs.Leaders.{AreClasses, leader_at, own_leaders}
+use Rattle.dk_classes.specs.Leaders.{own_leaders}
 use Rattle.dk_constants.proofs.Determined.{entry_found}
 use Rattle.dk_constants.proofs.Feeding.{passes}
-use Rattle.dk_constants.specs.Known.{Entries, known_at}
-use Rattle.dk_parts.proofs.Restoring.{held_moved, patterns_moved}
-use Rattle.dk_parts.specs.Classes.{classes_of}
-use Rattle.dk_parts.specs.Entries.{all_known_of}
-use Rattle.dk_parts.specs.Patterns.{patterns_of}
+use Rattle.dk_constants.specs.Known.{known_at}
+use Rattle.dk_parts.proofs.Restoring.{held_moved}
 use Rattle.dk_parts.specs.Restored.{HaveEntries, HaveMembers, HavePatterns}
 use Rattle.dk_presence.proofs.Sameness.{same_vars-at, same_vars-sym}
 use Rattle.dk_presence.specs.Patterns.{capped, counted_by, has, has_all, held_at, held_patterns, same_vars}
@@ -26,21 +23,17 @@ use Rattle.dk_presence.specs.declared.held.Held.{Held}
 use Rattle.dk_samples.specs.Samples.{is_present}
 use Rattle.dk_suppress.specs.Rules.{is_suppressed}
 use Rattle.dk_template.specs.Exchange.{turned, written}
-use Rattle.dk_template.specs.Proper.{IsProper}
-use Rattle.dk_template.specs.Templates.{form_of}
 use Rattle.dk_template.specs.declared.grammar.Grammar.{Grammar}
-use Rattle.dk_template.specs.declared.grammar.RowId.{RowId}
-use Rattle.dk_engine.specs.Conditions.{AreParts, CanBeFed, CanBeRead, IsConstantOf, IsSlotOf, IsValueOf}
+use Rattle.dk_engine.specs.Conditions.{AreParts, CanBeFed, CanBeRead}
 use Rattle.dk_engine.proofs.PartsOfSamples.{kept_parts_meet}
 use Rattle.dk_engine.specs.Exact.{ArePatterns, IsKeptOf}
 use Rattle.dk_engine.specs.Laws.{KeptPartsAreSaved}
 use Rattle.dk_engine.specs.Parts.{all_known, known_tuple, slot_at}
-use Rattle.dk_engine.specs.Reading.{ranks, read_leaders, read_slot, read_turned, read_written, state_of_one}
-use Rattle.dk_engine.specs.Restored.{AreOpen, AreShaped, AreUnsuppressed, HaveParts, IsConstant, IsOpenSlot, IsRearranged, IsStateOf}
+use Rattle.dk_engine.specs.Reading.{ranks, read_leaders, read_slot, state_of_one}
+use Rattle.dk_engine.specs.Restored.{AreOpen, AreShaped, AreUnsuppressed, HaveParts, IsConstant, IsRearranged}
 use Rattle.dk_engine.specs.Saved.{parts_of}
 use Rattle.dk_engine.specs.declared.kept.Kept.{Kept}
 use Rattle.dk_engine.specs.declared.parts.Parts.{Parts}
-use Rattle.dk_engine.specs.declared.slot.Slot.{Slot}
 
 -- ---- one part after another
 module _ (count : ℕ) (parts : Parts) (kept : Kept) (have : HaveParts count parts kept) where

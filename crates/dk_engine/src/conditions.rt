@@ -44,7 +44,10 @@ fn have_kinds(infos: &[VarInfo], classes: &Classes) -> bool
 {
     for v in 0..infos.len() {
         let member = VarId(v as u32);
-        if !is_same(kind_of(infos, classes.leader(member)), kind_of(infos, member)) {
+        if !is_same(
+            kind_of(infos, classes.leader(member)),
+            kind_of(infos, member),
+        ) {
             return false;
         }
     }

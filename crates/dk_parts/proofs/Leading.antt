@@ -1,5 +1,5 @@
 -- Leaders are read back from the members of their classes.
-use Rattle.std.specs.Prelude.{◌≡◌, ◌<◌, ◌≤◌, ◌+◌, ◌||◌, ℕ, zero, suc, true, false, ◌↔◌, All, Contains, List, [], ◌∷◌, None, Option, Some, filter, length, map, refl, replicate}
+use Rattle.std.specs.Prelude.{◌≡◌, ◌<◌, ◌+◌, ◌||◌, ℕ, zero, suc, true, false, ◌↔◌, All, Contains, List, [], ◌∷◌, None, Option, Some, filter, length, map, refl, replicate}
 use Rattle.std.specs.List.{enumerate_from, list_any}
 use Rattle.std.proofs.Common.{◌∙◌, ◌⊎◌, ap, arith, cond, eqb, get_or, inl, inr, set, subst, sym}
 use Rattle.std.proofs.lemmas.Bool.{cases_Bool, eq-eqb, eqb-true, false_from_ne_true, true≢false}

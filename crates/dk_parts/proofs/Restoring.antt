@@ -1,11 +1,11 @@
 -- Patterns and constants are read back from what is saved of them.
-use Rattle.std.specs.Prelude.{◌≡◌, ◌≢◌, ◌↔◌, ◌<◌, ◌≤◌, ◌+◌, ◌++◌, ◌&&◌, ℕ, Bool, zero, suc, true, false, All, Contains, List, [], ◌∷◌, None, Option, Some, filter, if◌then◌else◌, length, map, refl, slice_index_or, take}
+use Rattle.std.specs.Prelude.{◌≡◌, ◌≢◌, ◌↔◌, ◌<◌, ◌+◌, ◌++◌, ◌&&◌, ℕ, Bool, suc, true, false, All, Contains, List, [], ◌∷◌, None, Option, Some, filter, if◌then◌else◌, length, map, refl, slice_index_or, take}
 use Rattle.std.specs.Bool.{Decides}
-use Rattle.std.specs.List.{AllPairs, IsDistinct, list_any}
+use Rattle.std.specs.List.{IsDistinct, list_any}
 use Rattle.std.specs.List.Sorted.{IsPermutation}
 use Rattle.std.specs.Ordering.{is_gt}
 use Rattle.std.specs.declared.cmp.Ordering.{Ordering}
-use Rattle.std.proofs.Common.{◌∙◌, ap, arith, cond, eqb, get_or, inl, inr, subst, sym}
+use Rattle.std.proofs.Common.{◌∙◌, ap, arith, cond, get_or, inl, inr, subst, sym}
 use Rattle.std.proofs.lemmas.Bool.{cases_Bool, false≢true, or_cases}
 use Rattle.std.proofs.lemmas.List.{get_or-map, get_or-take, get_or_past, length-map, length-take-le, map-append, take_more}
 use Rattle.std.proofs.lemmas.List.Elements.{All-cons, All-head, All-nil, All-tail, Contains-get_or}
@@ -24,7 +24,7 @@ use Rattle.dk_presence.specs.Patterns.{AreHeld, has, held_patterns, same_vars}
 use Rattle.dk_presence.specs.declared.held.Held.{Held}
 use Rattle.dk_samples.specs.Leaders.{Ascend}
 use Rattle.dk_parts.proofs.PatternOrder.{same_patterns}
-use Rattle.dk_parts.specs.Entries.{all_known_of, known_of}
+use Rattle.dk_parts.specs.Entries.{all_known_of}
 use Rattle.dk_parts.specs.Patterns.{pattern_cmp, pattern_of, patterns_of}
 use Rattle.dk_parts.specs.Restored.{HaveEntries, HavePatterns, chosen, entry_of, held_of}
 use Rattle.dk_parts.specs.Sorting.{ascending, put}

@@ -1,8 +1,7 @@
-use Rattle.std.specs.Prelude.{◌≡◌, ◌<◌, ℕ, Contains, refl}
+use Rattle.std.specs.Prelude.{◌≡◌, Contains, refl}
 use Rattle.std.proofs.Common.{◌∙◌, arith, get_or, inl, inr, subst, sym}
 use Rattle.std.proofs.lemmas.Bool.{cases_lt, false≢true}
 use Rattle.std.proofs.lemmas.List.{get_or_default}
-use Rattle.dk_base.specs.declared.kinds.VarId.{VarId}
 use Rattle.dk_classes.specs.Leaders.{own_leaders, var}
 use Rattle.dk_engine.proofs.conditions.all_lead.Goals as goal
 

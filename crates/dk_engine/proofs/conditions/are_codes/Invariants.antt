@@ -1,6 +1,5 @@
-use Rattle.std.specs.Prelude.{◌<◌, ◌^◌, ℕ, ℤ, IsTrue}
+use Rattle.std.specs.Prelude.{◌<◌, ◌^◌, ℕ}
 use Rattle.std.proofs.Common.{get_or}
-use Rattle.dk_base.specs.Numbers.{fits_i64}
 use Rattle.dk_engine.proofs.conditions.are_codes.Given as goal
 
 abbrev pub invariant-loop-code : goal.invariant-loop-code

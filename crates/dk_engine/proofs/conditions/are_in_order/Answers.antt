@@ -1,4 +1,4 @@
-use Rattle.std.specs.Prelude.{◌≡◌, ◌-◌, true}
+use Rattle.std.specs.Prelude.{◌≡◌, ◌-◌}
 use Rattle.std.proofs.Common.{◌∙◌, ap, arith, get_or, subst, sym}
 use Rattle.std.proofs.lemmas.Bool.{false≢true}
 use Rattle.std.proofs.lemmas.List.{get_or_default}
@@ -17,11 +17,10 @@ returns-then-not-is_before c =
     let some = c.loop-i.auto.i in
     let within = c.loop-i-test.true in
     let told : c.is_before.result ≡ is_before next.row next.leaders first = c.is_before.ensures ∙ ap (λ vars. is_before next.row vars first) c.as_slice.ensures.items in
-    let at : get_or slots (i - 1) next ≡ first = sym (c.index-slots-i-in-loop-i.is ∙ get_or_default slots (i - 1) first next (omega (arith, some, within))) in
-    (
+    let at : get_or slots (i - 1) next ≡ first = sym (c.index-slots-i-in-loop-i.is ∙ get_or_default slots (i - 1) first next (omega (arith, some, within))) in (
       λ f. absurd (false≢true f),
       λ all. absurd (false≢true (sym c.if-not-is_before.true ∙ (told ∙ before_test first next (subst (λ s. SlotBefore s next) at
-      (subst (SlotBefore (get_or slots (i - 1) next)) (sym c.index-slots-i.is) (all (i - 1) i next (omega (arith, some)) within)))))),
+          (subst (SlotBefore (get_or slots (i - 1) next)) (sym c.index-slots-i.is) (all (i - 1) i next (omega (arith, some)) within)))))),
     )
 
 pub loop-i-preserved : goal.loop-i-preserved

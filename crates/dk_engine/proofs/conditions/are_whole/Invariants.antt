@@ -1,4 +1,4 @@
-use Rattle.std.specs.Prelude.{◌<◌, ◌^◌, ℕ, ℤ, IsTrue}
+use Rattle.std.specs.Prelude.{◌<◌, ℕ, ℤ, IsTrue}
 use Rattle.std.proofs.Common.{get_or}
 use Rattle.dk_base.specs.Numbers.{fits_i64}
 use Rattle.dk_engine.proofs.conditions.are_whole.Given as goal

@@ -1,9 +1,8 @@
-use Rattle.std.specs.Prelude.{◌≡◌, IfSome, None, Option, Some}
+use Rattle.std.specs.Prelude.{◌≡◌, IfSome}
 use Rattle.std.specs.List.Sorted.{IsPermutation}
 use Rattle.std.proofs.Common.{◌∙◌, ap, refl, subst, sym}
 use Rattle.std.proofs.lemmas.Option.{none-some, same_Some}
 use Rattle.dk_classes.specs.Leaders.{own_leaders}
-use Rattle.dk_presence.specs.declared.held.Held.{Held}
 use Rattle.dk_parts.specs.Restored.{HaveEntries, HaveMembers, HavePatterns}
 use Rattle.dk_engine.proofs.Saving.{entries_kept, have_all, members_kept, patterns_kept}
 use Rattle.dk_engine.specs.declared.kept.Kept.{Kept}
@@ -45,8 +44,7 @@ returns-clause-any c = λ kept have.
     let own : c.leaders-2.result.now ≡ own_leaders kept.leaders = c.leaders-2.ensures.all ∙ ap own_leaders leaders in
     let patterns = subst (λ ls. HavePatterns ls c.as_slice-2.result.now kept.held) (sym own) (subst (λ ps. HavePatterns (own_leaders kept.leaders) ps kept.held) (sym c.as_slice-2.ensures) (patterns_kept count parts kept have)) in
     let entries : known ≡ kept.known = same_Some known kept.known (sym c.in-Some-3.is ∙ (c.in_ok-known.ensures kept.known).1 (entries_kept count parts kept have)) in
-    let slots : c.of.result ≡ kept.slots = c.of.ensures ∙ (c.into_vec.ensures ∙ sym (ap (λ (p : Parts). p.slots) have.saved)) in
-    (
+    let slots : c.of.result ≡ kept.slots = c.of.ensures ∙ (c.into_vec.ensures ∙ sym (ap (λ (p : Parts). p.slots) have.saved)) in (
       λ e. none-some _ (sym e),
       record {
         number = ap (λ (p : Parts). p.samples) have.saved;

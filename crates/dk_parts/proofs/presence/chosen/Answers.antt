@@ -1,7 +1,6 @@
-use Rattle.std.specs.Prelude.{◌≡◌, ◌+◌, ◌++◌, ◌∷◌, [], Bool, List, if◌then◌else◌, slice_index_or, take, true, false}
-use Rattle.std.proofs.Common.{◌∙◌, ap, arith, get_or, sym}
+use Rattle.std.specs.Prelude.{◌≡◌, ◌+◌, ◌++◌, ◌∷◌, [], Bool, if◌then◌else◌, slice_index_or, take, true, false}
+use Rattle.std.proofs.Common.{◌∙◌, ap, get_or, sym}
 use Rattle.dk_classes.specs.Leaders.{var}
-use Rattle.dk_base.specs.declared.kinds.VarId.{VarId}
 use Rattle.dk_parts.proofs.Restoring.{chosen_more}
 use Rattle.dk_parts.specs.Restored.{chosen}
 use Rattle.std.proofs.lemmas.List.{append-nil}

@@ -1,10 +1,10 @@
-use Rattle.std.specs.Prelude.{◌≡◌, ◌<◌, All, IfSome, List, None, Option, Some}
+use Rattle.std.specs.Prelude.{◌≡◌, ◌<◌, All, IfSome}
 use Rattle.std.specs.List.{IsDistinct}
 use Rattle.std.specs.List.Sorted.{IsPermutation}
 use Rattle.std.proofs.Common.{◌∙◌, ap, subst, sym}
 use Rattle.std.proofs.lemmas.Bool.{false≢true}
 use Rattle.std.proofs.lemmas.Option.{none-some}
-use Rattle.dk_presence.specs.Patterns.{AreHeld, held_patterns, same_vars}
+use Rattle.dk_presence.specs.Patterns.{held_patterns, same_vars}
 use Rattle.dk_presence.specs.declared.held.Held.{Held}
 use Rattle.dk_parts.proofs.Restoring.{have_patterns, have_these, held_form}
 use Rattle.dk_parts.specs.Patterns.{patterns_of}

@@ -1,10 +1,9 @@
-use Rattle.std.specs.Prelude.{◌≡◌, IfSome, length}
+use Rattle.std.specs.Prelude.{IfSome}
 use Rattle.std.proofs.Common.{subst, sym}
 use Rattle.dk_engine.proofs.PartsOfSamples.{kept_parts_meet}
 use Rattle.dk_engine.proofs.Saving.{have_parts, kept_rearranged, parts_rearranged}
 use Rattle.dk_engine.specs.Exact.{IsKeptOf}
 use Rattle.dk_engine.specs.Restored.{HaveParts, IsRearranged}
-use Rattle.dk_engine.specs.declared.kept.Kept.{Kept}
 use Rattle.dk_engine.proofs.engine.Engine.from_parts.Goals as goal
 
 pub returns-in-Some-with_kept-clause-stands : goal.returns-in-Some-with_kept-clause-stands
