@@ -1,3 +1,8 @@
+pub mod Fronts
+pub mod Numerals
+pub mod Plain
+pub mod Going
+pub mod Onto
 pub mod Pieces
 pub mod Declared
 pub mod Engines
