@@ -3,6 +3,7 @@ pub mod Numerals
 pub mod Plain
 pub mod Going
 pub mod Onto
+pub mod DeclaredLines
 pub mod Pieces
 pub mod Declared
 pub mod Engines

@@ -1,14 +1,18 @@
 // What is kept of samples, as it is read.
-ghost use Rattle.std.specs.Prelude.{◌≡◌, ◌++◌, ◌-◌, ◌<◌, ◌≤◌, ◌^◌, ◌∷◌, ℕ, IfOk, List, codes, length, nat_eq, refl};
+ghost use Rattle.std.specs.Prelude.{◌≡◌, ◌++◌, ◌-◌, ◌<◌, ◌≤◌, ◌^◌, ◌∷◌, ◌==◌, ℕ, false, Bool, IfOk, List, None, Some, codes, length, map, nat_eq, refl};
 ghost use Rattle.std.specs.Fmt.{decimal};
 ghost use Rattle.std.specs.List.{starts_with};
-ghost use Rattle.dk_base.specs.declared.kinds.VarId.{VarId as Var};
+ghost use Rattle.dk_base.specs.Spelling.{IsWritten, spelling};
+ghost use Rattle.dk_base.specs.Values.{IsOfKind};
+ghost use Rattle.dk_base.specs.declared.values.Value.{Value as Values};
+ghost use Rattle.dk_classes.specs.Classes.{kind_at, kinds_of};
 ghost use Rattle.dk_engine.specs.declared.parts.Parts.{Parts as AllParts};
+ghost use Rattle.dk_template.specs.declared.grammar.RowId.{RowId as Row};
 ghost use Rattle.dk_state.specs.Fitting.{FitsClass, FitsKnown, FitsParts, FitsPattern, FitsPlace, FitsSlot};
-ghost use Rattle.dk_state.specs.Kept.{bits_of, class_line, if_any, known_line, parts_lines, pattern_line, slot_line};
+ghost use Rattle.dk_state.specs.Kept.{behind_samples, bits_of, class_line, if_any, known_line, pattern_line, slot_line};
 ghost use Rattle.dk_state.specs.Lines.{behind_blank, fields_text};
 ghost use Rattle.dk_state.specs.Numbered.{first_of_number};
-ghost use Rattle.dk_state.specs.Reading.{BeginsWith, begins_number, ends_field};
+ghost use Rattle.dk_state.specs.Reading.{BeginsWith, begins_number, ends_field, ends_line};
 
 use crate::entries::{Entry, read_all};
 use crate::front::Front;
@@ -70,7 +74,9 @@ impl Entry for List<VarId> {
 }
 
 // A truth value for each byte, which is true of a `1`.
-fn truths(alloc: Global, bits: &[u8]) -> Result<List<bool>, NoMemory> {
+fn truths(alloc: Global, bits: &[u8]) -> Result<List<bool>, NoMemory>
+    ensures { IfOk result (λ truths. truths ≡ map (λ b. b == 49) bits.now) }
+{
     let mut truths = List::new(alloc);
     for bit in bits {
         truths.push(*bit == b'1')?;
@@ -79,7 +85,10 @@ fn truths(alloc: Global, bits: &[u8]) -> Result<List<bool>, NoMemory> {
 }
 
 // The truth values of a pattern, if any come.
-fn present(alloc: Global, front: &mut Front<'_>) -> Result<List<bool>, NoMemory> {
+fn present(alloc: Global, front: &mut Front<'_>) -> Result<List<bool>, NoMemory>
+    ensures read { (present : List Bool) (rest : List ℕ) → front.old ≡ fields_text (if_any (bits_of present)) ++ 10 ∷ rest → IfOk result (λ own. (own ≡ present) × (front.new ≡ 10 ∷ rest)) }
+    ensures shorter { length front.new ≤ length front.old }
+{
     if !front.is_at(b" ") {
         return Ok(List::new(alloc));
     }
@@ -118,7 +127,10 @@ fn value_of(
     vars: &[VarInfo],
     v: VarId,
     front: &mut Front<'_>,
-) -> Result<Value, NoMemory> {
+) -> Result<Value, NoMemory>
+    ensures read { (x : Values) (rest : List ℕ) → v.0 < length vars.now → IsOfKind (kind_at (kinds_of vars.now) v.0) x → IsWritten x → BeginsWith ends_line rest → front.old ≡ behind_blank (spelling x) ++ rest → IfOk result (λ own. (own ≡ x) × (front.new ≡ rest)) }
+    ensures shorter { length front.new ≤ length front.old }
+{
     let place = v.0 as usize;
     if place < vars.len() {
         front.value(alloc, vars[place].kind)
@@ -155,7 +167,10 @@ impl Entry for Known {
 }
 
 // These leaders, of which there are at most three.
-fn tuple(alloc: Global, vars: &[VarId], front: &mut Front<'_>) -> Tuple {
+fn tuple(alloc: Global, vars: &[VarId], front: &mut Front<'_>) -> Tuple
+    ensures read { length vars.now ≤ 3 → (result ≡ vars.now) × (front.new ≡ front.old) }
+    ensures shorter { length front.new ≤ length front.old }
+{
     if vars.len() <= 3 {
         Tuple::of(alloc, vars)
     } else {
@@ -165,14 +180,16 @@ fn tuple(alloc: Global, vars: &[VarId], front: &mut Front<'_>) -> Tuple {
 }
 
 // The row's number.
-fn row(front: &mut Front<'_>) -> RowId {
-    match u8::try_from(front.natural()) {
-        Ok(number) => RowId(number),
-        Err(_) => {
-            front.give_up();
-            RowId(0)
-        }
+fn row(front: &mut Front<'_>) -> RowId
+    ensures read { (r : Row) (rest : List ℕ) → r.0 < 2 ^ 8 → BeginsWith ends_field rest → front.old ≡ behind_blank (decimal r.0) ++ rest → (result ≡ r) × (front.new ≡ rest) }
+    ensures shorter { length front.new ≤ length front.old - 1 }
+{
+    let number = front.natural();
+    if number < 256 {
+        return RowId(number as u8);
     }
+    front.give_up();
+    RowId(0)
 }
 
 impl Entry for Slot {
@@ -212,7 +229,9 @@ pub(crate) fn parts(
     alloc: Global,
     vars: &[VarInfo],
     front: &mut Front<'_>,
-) -> Result<Parts, NoMemory> {
+) -> Result<Parts, NoMemory>
+    ensures read { (saved : AllParts) (rest : List ℕ) → FitsParts vars.now saved → front.old ≡ behind_blank (decimal saved.samples) ++ 10 ∷ (behind_samples saved ++ rest) → IfOk result (λ own. (own ≡ saved) × (front.new ≡ rest)) }
+{
     let samples = front.natural();
     front.pass(b"\n");
     let classes = read_all(alloc, vars, front)?;
@@ -230,7 +249,10 @@ pub(crate) fn parts(
 }
 
 /// The place of the point whose samples come next, if any do.
-pub(crate) fn next_point(front: &Front<'_>) -> Option<u32> {
+pub(crate) fn next_point(front: &Front<'_>) -> Option<u32>
+    ensures some { (p : ℕ) (rest : List ℕ) → p < 2 ^ 32 → BeginsWith ends_field rest → front.now ≡ codes "samples" ++ (behind_blank (decimal p) ++ rest) → result ≡ Some p }
+    ensures none { starts_with nat_eq front.now (codes "samples ") ≡ false → result ≡ None }
+{
     if !front.is_at(b"samples ") {
         return None;
     }
