@@ -4,6 +4,8 @@ pub mod Plain
 pub mod Going
 pub mod Onto
 pub mod DeclaredLines
+pub mod StateFields
+pub mod KeptLines
 pub mod Pieces
 pub mod Declared
 pub mod Engines

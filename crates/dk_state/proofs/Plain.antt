@@ -81,7 +81,7 @@ pub small_whole : (z : ℤ) → IsTrue (fits_i64 z) → unsigned_abs z < 2 ^ 127
 small_whole (pos n) fits = omega (arith, ltb-true n (2 ^ 63) fits)
 small_whole (negsuc n) fits = omega (arith, ltb-true n (2 ^ 63) fits)
 
-int_plain : (z : ℤ) → IsTrue (fits_i64 z) → HasNone ends_line (signed_decimal z)
+pub int_plain : (z : ℤ) → IsTrue (fits_i64 z) → HasNone ends_line (signed_decimal z)
 int_plain z fits = fields_in_line (signed_decimal z) (number_plain z (small_whole z fits))
 
 closed_plain : (escaped : Bool) (bs : List ℕ) → closes escaped bs ≡ true → HasNone ends_line bs

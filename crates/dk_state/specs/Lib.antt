@@ -13,4 +13,5 @@ pub mod Compact
 pub mod Reading
 pub mod Fitting
 pub mod Numbered
+pub mod StateWords
 pub mod Stub

@@ -230,7 +230,7 @@ pub(crate) fn parts(
     vars: &[VarInfo],
     front: &mut Front<'_>,
 ) -> Result<Parts, NoMemory>
-    ensures read { (saved : AllParts) (rest : List ℕ) → FitsParts vars.now saved → front.old ≡ behind_blank (decimal saved.samples) ++ 10 ∷ (behind_samples saved ++ rest) → IfOk result (λ own. (own ≡ saved) × (front.new ≡ rest)) }
+    ensures { (saved : AllParts) (rest : List ℕ) → FitsParts vars.now saved → front.old ≡ behind_blank (decimal saved.samples) ++ 10 ∷ (behind_samples saved ++ rest) → IfOk result (λ own. (own ≡ saved) × (front.new ≡ rest)) }
 {
     let samples = front.natural();
     front.pass(b"\n");
