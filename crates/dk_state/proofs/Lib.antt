@@ -6,6 +6,7 @@ pub mod Onto
 pub mod DeclaredLines
 pub mod StateFields
 pub mod KeptLines
+pub mod PartsFit
 pub mod Pieces
 pub mod Declared
 pub mod Engines

@@ -12,6 +12,6 @@ pub mod Kept
 pub mod Compact
 pub mod Reading
 pub mod Fitting
+pub mod Loading
 pub mod Numbered
 pub mod StateWords
-pub mod Stub

@@ -5,7 +5,7 @@ use Rattle.std.specs.Option.{option_map_or}
 use Rattle.dk_base.specs.declared.why.Why.{Why}
 use Rattle.dk_decl.specs.declared.decls.PointDecl.{PointDecl}
 use Rattle.dk_engine.specs.Exact.{AreSamples}
-use Rattle.dk_engine.specs.Saved.{parts_of}
+
 use Rattle.dk_engine.specs.declared.parts.Parts.{Parts}
 use Rattle.dk_hierarchy.specs.Samples.{OwnSamples, all_vars_of, own_samples_of}
 use Rattle.dk_points.specs.Declaring.{declared}
@@ -19,7 +19,7 @@ use Rattle.dk_state.specs.Fitting.{FitsSlot}
 use Rattle.dk_state.specs.Given.{CanBeGiven}
 use Rattle.dk_state.specs.Kept.{parts_lines}
 use Rattle.dk_state.specs.Saved.{state_text}
-use Rattle.dk_state.specs.Stub.{AreSavedParts}
+use Rattle.dk_engine.specs.Saved.{AreSavedParts}
 
 -- ---- the table
 -- the table behind the declaration of a new point
@@ -54,15 +54,19 @@ abbrev pub text_of : Content → List ℕ
 text_of c = state_text c.grammar (decls_of c.points) c.implicit (flat_map saved_lines (enumerate_from 0 c.saved))
 
 -- Parts at a declared point that meet the conditions, with numbers within their types.
-pub record AreSavedAt (c : Content) (p : ℕ) (parts : Parts) : Type 0 where
-  pub declared : IsTrue (is_some (decl_of c.points p))
-  pub meet : AreSavedParts c.grammar (all_vars_of c.points p) parts
+pub record AreSavedAt (g : Grammar) (ps : List Point) (p : ℕ) (parts : Parts) : Type 0 where
+  pub declared : IsTrue (is_some (decl_of ps p))
+  pub meet : AreSavedParts g (all_vars_of ps p) parts
   pub within : All FitsSlot parts.slots
+
+abbrev pub IsSavedAt : Grammar → List Point → ℕ → Option Parts → Type 0
+IsSavedAt g ps p None = Unit {0}
+IsSavedAt g ps p (Some parts) = AreSavedAt g ps p parts
 
 pub record IsContent (c : Content) : Type 0 where
   pub table : IsOwnTable c.points
   pub long : length c.saved ≡ length c.points
-  pub saved : (p : ℕ) (parts : Parts) → slice_get c.saved p ≡ Some (Some parts) → AreSavedAt c p parts
+  pub saved : (p : ℕ) (saved : Option Parts) → slice_get c.saved p ≡ Some saved → IsSavedAt c.grammar c.points p saved
 
 -- Some content that meets the conditions has these bytes as its text.
 pub record IsSpelling (bytes : List ℕ) : Type 0 where

@@ -1,8 +1,12 @@
 // Which declarations a block can give.
-ghost use Rattle.std.specs.Prelude.{◌≡◌, ◌↔◌, IfOk, IsTrue};
-ghost use Rattle.dk_state.specs.Given.{CanBeGiven};
+ghost use Rattle.std.specs.Prelude.{◌≡◌, ◌++◌, ◌&&◌, [], IfOk, length, map};
+ghost use Rattle.std.specs.List.{list_all};
+ghost use Rattle.dk_decl.specs.Types.{is_missing};
+ghost use Rattle.dk_state.specs.Given.{all_new, edge_key, has_none, is_constant, is_edge, is_given, is_mapped, is_name, is_var};
 
-use dk_base::{List, NoMemory, Text, Value};
+use crate::fields::{push_field, push_number};
+use crate::front::is_word;
+use dk_base::{NoMemory, Text, Value};
 use dk_decl::{EdgeDecl, ParentVar, PointDecl, VarDecl};
 use dk_graph::Names;
 use std::alloc::Global;
@@ -10,61 +14,96 @@ use std::alloc::Global;
 const TAB: u8 = b'\t';
 
 // Whether none of the bytes is this one.
-fn has_none(bytes: &[u8], other: u8) -> bool {
+fn has_none(bytes: &[u8], other: u8) -> bool
+    ensures { result ≡ has_none bytes.now other }
+{
     bytes.iter().all(|byte| *byte != other)
 }
 
-// Whether a line can end with this name, or begin with it behind its first word: it is not empty, has no LF, and no tab at its ends.
-fn is_name(name: &[u8]) -> bool {
-    match name {
-        [] => false,
-        [first, ..] => *first != TAB && name[name.len() - 1] != TAB && has_none(name, b'\n'),
-    }
+// Whether a line can tell this name.
+fn is_name(name: &[u8]) -> bool
+    ensures { result ≡ is_name name.now }
+{
+    !name.is_empty() && name[0] != TAB && name[name.len() - 1] != TAB && has_none(name, b'\n')
 }
 
-// Whether a name can be a word of a line: besides, it has no tab.
-fn is_word_name(name: &[u8]) -> bool {
-    is_name(name) && has_none(name, TAB)
+fn is_edge(edge: &EdgeDecl) -> bool
+    ensures { result ≡ is_edge edge.now }
+{
+    is_name(edge.parent.as_slice()) && has_none(edge.parent.as_slice(), TAB)
 }
 
-fn is_given_mapped(mapped: &ParentVar, own: &Text, edges: usize) -> bool {
-    mapped.edge < edges as u64
-        && is_name(mapped.name.as_slice())
-        && (has_none(mapped.name.as_slice(), TAB) || mapped.name == *own)
+fn is_mapped(mapped: &ParentVar, own: &[u8], edges: usize) -> bool
+    ensures { result ≡ is_mapped own.now edges mapped.now }
+{
+    let name = mapped.name.as_slice();
+    mapped.edge < edges as u64 && is_name(name) && (has_none(name, TAB) || is_word(name, own))
 }
 
-fn are_given_mapped(parents: &[ParentVar], own: &Text, edges: usize) -> bool {
+fn are_mapped(parents: &[ParentVar], own: &[u8], edges: usize) -> bool
+    ensures { result ≡ list_all (is_mapped own.now edges) parents.now }
+{
     for mapped in parents {
-        if !is_given_mapped(mapped, own, edges) {
+        if !is_mapped(mapped, own, edges) {
             return false;
         }
     }
     true
 }
 
-fn is_missing(value: &Value) -> bool {
+fn is_missing(value: &Value) -> bool
+    ensures { result ≡ is_missing value.now }
+{
     matches!(value, Value::Missing)
 }
 
-// Whether a variable that is opaque, or has a kind, can have this constant.
-fn is_given_constant(var: &VarDecl) -> bool {
+// Whether the variable, which is opaque or has a kind, can have its constant.
+fn is_constant(var: &VarDecl) -> bool
+    ensures { result ≡ is_constant var.now.constant_line var.now.kind var.now.constant }
+{
     match &var.constant {
         None => !var.constant_line || var.kind.is_none(),
         Some(value) => var.constant_line && !is_missing(value),
     }
 }
 
-fn is_given_var(var: &VarDecl, edges: usize) -> bool {
+fn is_var(var: &VarDecl, edges: usize) -> bool
+    ensures { result ≡ is_var edges var.now }
+{
     is_name(var.name.as_slice())
-        && is_given_constant(var)
-        && are_given_mapped(var.parents.as_slice(), &var.name, edges)
+        && is_constant(var)
+        && are_mapped(var.parents.as_slice(), var.name.as_slice(), edges)
 }
 
-// Whether each of the variables can be given, and no two have one name.
-fn are_given_vars(alloc: Global, vars: &[VarDecl], edges: usize) -> Result<bool, NoMemory> {
+fn are_vars(vars: &[VarDecl], edges: usize) -> bool
+    ensures { result ≡ list_all (is_var edges) vars.now }
+{
+    for var in vars {
+        if !is_var(var, edges) {
+            return false;
+        }
+    }
+    true
+}
+
+fn are_edges(edges: &[EdgeDecl]) -> bool
+    ensures { result ≡ list_all is_edge edges.now }
+{
+    for edge in edges {
+        if !is_edge(edge) {
+            return false;
+        }
+    }
+    true
+}
+
+// Whether no two variables have one name.
+fn names_differ(alloc: Global, vars: &[VarDecl]) -> Result<bool, NoMemory>
+    ensures { IfOk result (λ differ. differ ≡ all_new [] (map (λ v. v.name) vars.now)) }
+{
     let mut names = Names::new(alloc);
     for var in vars {
-        if names.find(var.name.as_slice()).is_some() || !is_given_var(var, edges) {
+        if names.find(var.name.as_slice()).is_some() {
             return Ok(false);
         }
         names.push(var.name.as_slice())?;
@@ -72,20 +111,24 @@ fn are_given_vars(alloc: Global, vars: &[VarDecl], edges: usize) -> Result<bool,
     Ok(true)
 }
 
-// The parent's name behind the edge's ID.
-fn edge_key(alloc: Global, edge: &EdgeDecl) -> Result<Text, NoMemory> {
+// The edge's ID and the parent's name.
+fn edge_key(alloc: Global, edge: &EdgeDecl) -> Result<Text, NoMemory>
+    ensures { IfOk result (λ key. key ≡ edge_key edge.now) }
+{
     let mut key = Text::new(alloc);
-    crate::fields::push_number(&mut key, edge.id)?;
-    crate::fields::push_field(&mut key, edge.parent.as_slice())?;
+    push_number(&mut key, edge.id)?;
+    push_field(&mut key, edge.parent.as_slice())?;
     Ok(key)
 }
 
-// Whether each of the edges can be given, and no two have one parent and ID.
-fn are_given_edges(alloc: Global, edges: &[EdgeDecl]) -> Result<bool, NoMemory> {
+// Whether no two edges have one parent and ID.
+fn edges_differ(alloc: Global, edges: &[EdgeDecl]) -> Result<bool, NoMemory>
+    ensures { IfOk result (λ differ. differ ≡ all_new [] (map edge_key edges.now)) }
+{
     let mut keys = Names::new(alloc);
     for edge in edges {
         let key = edge_key(alloc, edge)?;
-        if keys.find(key.as_slice()).is_some() || !is_word_name(edge.parent.as_slice()) {
+        if keys.find(key.as_slice()).is_some() {
             return Ok(false);
         }
         keys.push(key.as_slice())?;
@@ -93,14 +136,15 @@ fn are_given_edges(alloc: Global, edges: &[EdgeDecl]) -> Result<bool, NoMemory> 
     Ok(true)
 }
 
-/// Whether a block can give this declaration.
-pub(crate) fn can_be_given(alloc: Global, decl: &PointDecl) -> Result<bool, NoMemory> {
-    if !is_name(decl.name.as_slice()) {
-        return Ok(false);
-    }
+/// Whether a block can give this declaration, whose numbers and constants fit.
+pub(crate) fn is_given(alloc: Global, decl: &PointDecl) -> Result<bool, NoMemory>
+    ensures { IfOk result (λ given. given ≡ is_given decl.now) }
+{
     let edges = decl.edges.as_slice();
-    if !are_given_edges(alloc, edges)? {
-        return Ok(false);
-    }
-    are_given_vars(alloc, decl.vars.as_slice(), edges.len())
+    let vars = decl.vars.as_slice();
+    let edges_differ = edges_differ(alloc, edges)?;
+    let names_differ = names_differ(alloc, vars)?;
+    Ok(is_name(decl.name.as_slice())
+        && (edges_differ && are_edges(edges))
+        && (names_differ && are_vars(vars, edges.len())))
 }

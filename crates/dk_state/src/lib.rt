@@ -14,7 +14,6 @@ mod reading_kept;
 mod reading_states;
 mod saving;
 mod states;
-mod stub;
 
 pub use loading::{LoadFault, Loaded, load};
 pub use saving::{push_saved, save};
