@@ -7,7 +7,7 @@ use Rattle.std.proofs.lemmas.Bool.{and_parts}
 use Rattle.std.proofs.lemmas.List.{drop_at, take_at}
 use Rattle.dk_state.specs.Reading.{BeginsWith, HasNone}
 
-eqb-self : (b : ℕ) → (b == b) ≡ true
+pub eqb-self : (b : ℕ) → (b == b) ≡ true
 eqb-self b = grind arith
 
 -- bytes begin with what stands in front of them

@@ -7,6 +7,8 @@ pub mod DeclaredLines
 pub mod StateFields
 pub mod KeptLines
 pub mod PartsFit
+pub mod Tables
+pub mod Blocks
 pub mod Pieces
 pub mod Declared
 pub mod Engines

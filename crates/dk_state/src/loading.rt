@@ -65,6 +65,12 @@ impl From<NoMemory> for LoadFault {
     }
 }
 
+fn grammar_of(version: u64) -> Grammar
+    ensures { (g : Grammars) → version ≡ version_of g → result ≡ g }
+{
+    if version == 1 { Grammar::One } else { Grammar::Two }
+}
+
 // The grammar, by its version. Another version is told when the state is saved again.
 fn grammar(front: &mut Front<'_>) -> Grammar
     ensures { (g : Grammars) (rest : List ℕ) → front.old ≡ line "daikon-state" (decimal (version_of g) ∷ []) ++ rest → (result ≡ g) × (front.new ≡ rest) }
@@ -72,7 +78,7 @@ fn grammar(front: &mut Front<'_>) -> Grammar
     front.pass(b"daikon-state");
     let version = front.natural();
     front.pass(b"\n");
-    if version == 1 { Grammar::One } else { Grammar::Two }
+    grammar_of(version)
 }
 
 // Whether the comparability word is `implicit`.
@@ -142,7 +148,7 @@ fn engine_with(
 ) -> Result<Engine, LoadFault>
     requires { p.0 < length points.now }
     ensures engine { IfOk result (IsEngineAt points.now grammar p.0) }
-    ensures read { (saved : AllParts) (more : List (Option AllParts)) → AreSavedAt grammar points.now p.0 saved → front.old ≡ blocks p.0 (Some saved ∷ more) → Loads result (λ e. IsLoadedAs grammar points.now p.0 (Some saved) e × (front.new ≡ blocks (p.0 + 1) more)) }
+    ensures read { (saved : AllParts) (more : List (Option AllParts)) → p.0 < 2 ^ 32 → AreSavedAt grammar points.now p.0 saved → front.old ≡ blocks p.0 (Some saved ∷ more) → Loads result (λ e. IsLoadedAs grammar points.now p.0 (Some saved) e × (front.new ≡ blocks (p.0 + 1) more)) }
 {
     front.pass(b"samples");
     front.place();
@@ -200,7 +206,8 @@ fn engines(
 {
     let mut engines = List::new(alloc);
     for p in 0..points.len() {
-        engines.push(next_engine(alloc, points, PointId(p), grammar, front)?)?;
+        let engine = next_engine(alloc, points, PointId(p), grammar, front)?;
+        engines.push(engine)?;
     }
     Ok(engines)
 }
