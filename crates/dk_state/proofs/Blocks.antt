@@ -12,10 +12,11 @@ use Rattle.dk_graph.proofs.Places.{some-injective}
 use Rattle.dk_points.specs.Table.{Point, decl_if_declared}
 use Rattle.dk_state.specs.Kept.{behind_samples, parts_lines}
 use Rattle.dk_state.specs.Lines.{behind_blank, line}
-use Rattle.dk_state.specs.Loading.{Loads, blocks}
+use Rattle.dk_state.specs.Loading.{IsLoadedAs, Loads, blocks}
 use Rattle.dk_state.specs.Reading.{BeginsWith, ends_field}
 use Rattle.dk_state.specs.Saved.{kept_lines}
-use Rattle.dk_state.specs.Spelling.{saved_lines}
+use Rattle.dk_state.specs.Spelling.{IsSavedAt, saved_lines}
+use Rattle.dk_template.specs.declared.grammar.Grammar.{Grammar}
 use Rattle.dk_state.specs.declared.loading.LoadFault.{LoadFault}
 use Rattle.dk_state.specs.declared.loading.LoadFault.TheVariants.{BadState, NoMemory}
 use Rattle.dk_state.proofs.Onto.{fields_onto, line_onto}
@@ -73,3 +74,29 @@ lines_alike : (p : ℕ) (kept : Kept) (parts : Parts) → 1 ≤ parts.samples �
 lines_alike p kept parts some same =
     let samples : kept.samples ≡ parts.samples = ap (λ (q : Parts). q.samples) same in
     rw (ne_eqb kept.samples 0 (λ e. absurd (omega (arith, e, samples, some)))) (ap (parts_lines p) same)
+
+pub one_alike : (g : Grammar) (ps : List Point) (p : ℕ) (own : Option Parts) (engine : Whole) → IsSavedAt g ps p own → IsLoadedAs g ps p own engine
+    → kept_lines (p, engine.kept) ≡ saved_lines (p, own)
+one_alike g ps p None engine at is = let none : engine.kept.samples ≡ 0 = omega (arith, is.number) in rw none refl
+one_alike g ps p (Some parts) engine at is = lines_alike p engine.kept parts at.meet.some is.0
+
+abbrev AreAlike : ℕ → List (Option Parts) → List Whole → Type 0
+AreAlike n saved engines = (p : ℕ) (own : Option Parts) (engine : Whole) → slice_get saved p ≡ Some own → slice_get engines p ≡ Some engine → kept_lines (n + p, engine.kept) ≡ saved_lines (n + p, own)
+
+-- engines save to what is saved for their points
+pub all_alike : (n : ℕ) (saved : List (Option Parts)) (engines : List Whole) → length engines ≡ length saved → AreAlike n saved engines
+    → flat_map kept_lines (enumerate_from n (map (λ (e : Whole). e.kept) engines)) ≡ flat_map saved_lines (enumerate_from n saved)
+all_alike n [] [] long each = refl
+all_alike n [] (e ∷ engines) long each = absurd (omega (arith, long))
+all_alike n (own ∷ saved) [] long each = absurd (omega (arith, long))
+all_alike n (own ∷ saved) (e ∷ engines) long each =
+    let here : kept_lines (n, e.kept) ≡ saved_lines (n, own) = subst (λ m. kept_lines (m, e.kept) ≡ saved_lines (m, own)) (add_zero n) (each 0 own e refl refl) in
+    let later = all_alike (n + 1) saved engines (omega (arith, long))
+    (λ p other engine there got. subst (λ m. kept_lines (m, engine.kept) ≡ saved_lines (m, other)) (shifted n p) (each (suc p) other engine there got)) in
+    λ i. here i ++ later i
+  where
+    add_zero : (n : ℕ) → n + 0 ≡ n
+    add_zero n = omega arith
+
+    shifted : (n p : ℕ) → n + suc p ≡ n + 1 + p
+    shifted n p = omega arith

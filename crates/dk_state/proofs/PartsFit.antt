@@ -37,7 +37,7 @@ members_fit test n (x ∷ xs) small =
     (λ e. others)
 
 classes_fit : (leaders : List VarId) → length leaders < 2 ^ 32 → All FitsClass (classes_of leaders)
-classes_fit leaders small = All-map FitsClass (λ v. members_of leaders v.0) (own_leaders leaders) (λ k d l. members_fit _ 0 leaders small)
+classes_fit leaders small = All-map FitsClass (λ v. members_of leaders v.0) (own_leaders leaders) (λ k d l. members_fit _ 0 leaders (omega (arith, small)))
 
 -- ---- patterns
 all_put : {X : Type 0} (R : X → X → Ordering) (P : X → Type 0) (x : X) (xs : List X) → P x → All P xs → All P (put R x xs)

@@ -11,6 +11,7 @@ use Rattle.dk_hierarchy.specs.Samples.{all_vars_of}
 use Rattle.dk_points.specs.Table.{Point}
 use Rattle.dk_template.specs.declared.grammar.Grammar.{Grammar}
 use Rattle.dk_state.specs.Spelling.{Content, saved_lines}
+use Rattle.dk_state.specs.declared.loading.Loaded.{Loaded}
 use Rattle.dk_state.specs.declared.loading.LoadFault.{LoadFault}
 use Rattle.dk_state.specs.declared.loading.LoadFault.TheVariants.{BadState, NoMemory}
 
@@ -39,3 +40,7 @@ IsLoadedAs g ps p (Some parts) engine = (parts_of engine.kept ≡ parts)
 pub record AreLoadedAs (g : Grammar) (ps : List Point) (saved : List (Option Parts)) (engines : List Whole) : Type 0 where
   pub long : length engines ≡ length saved
   pub each : (p : ℕ) (own : Option Parts) (engine : Whole) → slice_get saved p ≡ Some own → slice_get engines p ≡ Some engine → IsLoadedAs g ps p own engine
+
+-- what a file of this content says
+abbrev pub IsLoaded : Content → Loaded → Type 0
+IsLoaded c l = (l.grammar ≡ c.grammar) × (l.points ≡ c.points) × (l.implicit ≡ c.implicit) × AreLoadedAs c.grammar c.points c.saved l.engines

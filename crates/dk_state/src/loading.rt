@@ -9,7 +9,7 @@ ghost use Rattle.dk_points.specs.Declaring.{declared};
 ghost use Rattle.dk_points.specs.Table.{Point};
 ghost use Rattle.dk_state.specs.Given.{CanBeGiven, is_given};
 ghost use Rattle.dk_state.specs.Lines.{behind_blank, line};
-ghost use Rattle.dk_state.specs.Loading.{AreLoadedAs, IsEngineAt, IsLoadedAs, Loads, blocks};
+ghost use Rattle.dk_state.specs.Loading.{AreLoadedAs, IsEngineAt, IsLoaded, IsLoadedAs, Loads, blocks};
 ghost use Rattle.dk_state.specs.Reading.{BeginsWith, ends_field};
 ghost use Rattle.dk_state.specs.Saved.{saved_text, version_of, word_of};
 ghost use Rattle.dk_state.specs.Spelling.{AreSavedAt, Content, IsContent, IsSavedAt, IsSpelling, if_new, table_behind, text_of};
@@ -215,7 +215,7 @@ fn engines(
 // What the bytes say, if they are a spelling.
 fn read(alloc: Global, bytes: &[u8]) -> Result<Loaded, LoadFault>
     ensures engines { IfOk result (λ l. AreEnginesOf l.points l.engines × All (λ e. e.grammar ≡ l.grammar) l.engines) }
-    ensures read { (c : Content) → IsContent c → text_of c ≡ bytes.now → Loads result (λ l. (l.grammar ≡ c.grammar) × (l.points ≡ c.points) × (l.implicit ≡ c.implicit) × AreLoadedAs c.grammar c.points c.saved l.engines) }
+    ensures read { (c : Content) → IsContent c → text_of c ≡ bytes.now → Loads result (IsLoaded c) }
 {
     let mut front = Front::of(bytes);
     let grammar = grammar(&mut front);

@@ -1,4 +1,4 @@
-use Rattle.std.specs.Prelude.{◌≡◌, ◌<◌, ◌^◌, ◌+◌, ◌++◌, ◌∷◌, List, length, refl}
+use Rattle.std.specs.Prelude.{◌≡◌, ◌<◌, ◌^◌, ◌+◌, ◌++◌, ◌∷◌, Err, List, length, refl}
 use Rattle.std.specs.Fmt.{decimal}
 use Rattle.std.proofs.Common.{◌∙◌, ap, arith, subst, sym}
 use Rattle.dk_base.specs.declared.kinds.VarInfo.{VarInfo}
@@ -8,6 +8,7 @@ use Rattle.dk_derive.specs.Vars.{with_derived_vars}
 use Rattle.dk_engine.specs.Exact.{AreOfPoint, AreSamples, IsKeptOf}
 use Rattle.dk_engine.specs.Saved.{AreSavedParts, parts_of}
 use Rattle.dk_engine.specs.declared.kept.Kept.{Kept}
+use Rattle.dk_engine.specs.declared.saved.PartsFault.{PartsFault}
 use Rattle.dk_hierarchy.proofs.OfPoint.{of_point}
 use Rattle.dk_hierarchy.specs.Samples.{all_vars_of}
 use Rattle.dk_state.specs.Fitting.{FitsParts}
@@ -63,4 +64,4 @@ returns-in-Err-Bad-clause-read c saved more few at is =
     let fit = subst (λ vars. FitsParts vars saved) (sym seen) (parts_fit g (all_vars_of ps p) saved small at.meet at.within) in
     let parts = c.in_ok-parts.ensures saved rest fit place.1 in
     let meet : AreSavedParts g c.in_ok-vars.vars c.in_ok-parts.parts = subst (λ vars. AreSavedParts g vars c.in_ok-parts.parts) (sym own) (subst (AreSavedParts g (all_vars_of ps p)) (sym parts.0) at.meet) in
-    c.in-Err-Bad.ensures.bad refl meet
+    c.in-Err-Bad.ensures.bad (ap (λ (e : PartsFault). Err e) c.in-Err-Bad.field-0-is) meet

@@ -56,7 +56,7 @@ returns-in_err-engine-clause-read c saved as_many each is =
     let parted : drop p saved ≡ own ∷ left = drop_more saved p None inside in
     let step = c.in_err-engine.ensures.read own left (each p own here) (omega (arith, length-drop (p + 1) saved, as_many, c.len-p-end.ensures.few)) (so_far.0 ∙ ap (blocks p) parted) in
     let fault = err_from_is_err_and c.from_residual.result c.from_residual.ensures.1 in
-    rw (fault.1, fault.2) (loads_err (λ (e : Whole). IsLoadedAs g ps p own e × (c.next_engine-engine.new.front ≡ blocks (p + 1) left)) (AreLoadedAs g ps saved) c.in_err-engine.field-0.0 step)
+    rw (fault.1, fault.2) (loads_err (λ (e : Whole). IsLoadedAs g ps p own e × (c.next_engine.new.front ≡ blocks (p + 1) left)) (AreLoadedAs g ps saved) c.in_err-engine.field-0.0 step)
 
 pub returns-clause-engines : goal.returns-clause-engines
 returns-clause-engines c =
