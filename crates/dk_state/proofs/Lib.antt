@@ -15,4 +15,5 @@ pub mod Engines
 pub mod CompactLeaders
 pub mod CompactParts
 pub mod SameTexts
+pub mod Histories
 mod Examples

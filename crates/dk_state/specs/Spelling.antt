@@ -1,10 +1,10 @@
 -- Which bytes are the spelling of a state.
-use Rattle.std.specs.Prelude.{◌≡◌, ◌≤◌, ◌^◌, ℕ, All, Bool, IsTrue, List, [], ◌∷◌, flat_map, is_none, is_some, length, map, slice_get, slice_index_or, Option, Some, None, option_and_then, Result, Ok, Err}
-use Rattle.std.specs.List.{enumerate_from}
+use Rattle.std.specs.Prelude.{◌≡◌, ◌≤◌, ◌<◌, ◌==◌, ◌^◌, ℕ, All, Bool, IsTrue, List, [], ◌∷◌, flat_map, is_none, is_some, length, map, slice_get, slice_index_or, Option, Some, None, option_and_then, Result, Ok, Err, if◌then◌else◌}
+use Rattle.std.specs.List.{enumerate_from, range_with_len}
 use Rattle.std.specs.Option.{option_map_or}
 use Rattle.dk_base.specs.declared.why.Why.{Why}
 use Rattle.dk_decl.specs.declared.decls.PointDecl.{PointDecl}
-use Rattle.dk_engine.specs.Exact.{AreSamples}
+use Rattle.dk_engine.specs.Exact.{AreOfPoint, AreSamples}
 
 use Rattle.dk_engine.specs.declared.parts.Parts.{Parts}
 use Rattle.dk_hierarchy.specs.Samples.{OwnSamples, all_vars_of, own_samples_of}
@@ -19,7 +19,8 @@ use Rattle.dk_state.specs.Fitting.{FitsSlot}
 use Rattle.dk_state.specs.Given.{CanBeGiven}
 use Rattle.dk_state.specs.Kept.{parts_lines}
 use Rattle.dk_state.specs.Saved.{state_text}
-use Rattle.dk_engine.specs.Saved.{AreSavedParts}
+use Rattle.dk_engine.specs.Saved.{AreSavedParts, parts_of}
+use Rattle.dk_engine.specs.declared.kept.Kept.{Kept}
 
 -- ---- the table
 -- the table behind the declaration of a new point
@@ -75,11 +76,29 @@ pub record IsSpelling (bytes : List ℕ) : Type 0 where
   pub text : text_of content ≡ bytes
 
 -- ---- histories
+-- what is saved of kept parts, which is nothing where there are no samples
+abbrev pub saved_of : Kept → Option Parts
+saved_of kept = if kept.samples == 0 then None else Some (parts_of kept)
+
+-- what is kept of a point's own samples
+abbrev pub form_of : Grammar → List Point → OwnSamples → ℕ → Kept
+form_of g ps own p = kept_of g (all_vars_of ps p) (own_samples_of ps own p)
+
+-- what the state file of a history says
+abbrev pub content_of : Grammar → List Point → Bool → OwnSamples → Content
+content_of g ps implicit own = record {
+  grammar = g;
+  points = ps;
+  implicit = implicit;
+  saved = map (λ p. saved_of (form_of g ps own p)) (range_with_len 0 (length ps));
+}
+
 -- The table of a history is made by its own declarations. Own samples stand at declared points alone, at most 2^40 at each, and with
 -- derived values they are samples of the point's variables; the numbers of their slots are within their types.
 pub record CanBeSaved (g : Grammar) (ps : List Point) (own : OwnSamples) : Type 0 where
   pub table : IsOwnTable ps
+  pub variables : (p : ℕ) → p < length ps → AreOfPoint (all_vars_of ps p)
   pub samples : (p : ℕ) → AreSamples (all_vars_of ps p) (own_samples_of ps own p)
   pub declared : (p : ℕ) → IsTrue (is_none (decl_of ps p)) → slice_index_or own p [] ≡ []
   pub few : (p : ℕ) → length (slice_index_or own p []) ≤ 2 ^ 40
-  pub within : (p : ℕ) → All FitsSlot (kept_of g (all_vars_of ps p) (own_samples_of ps own p)).slots
+  pub within : (p : ℕ) → All FitsSlot (form_of g ps own p).slots

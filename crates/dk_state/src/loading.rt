@@ -4,6 +4,7 @@ ghost use Rattle.std.specs.Fmt.{decimal};
 ghost use Rattle.std.specs.List.{starts_with};
 ghost use Rattle.std.specs.Str.{bytes_eq};
 ghost use Rattle.dk_engine.specs.declared.parts.Parts.{Parts as AllParts};
+ghost use Rattle.dk_hierarchy.specs.Samples.{OwnSamples};
 ghost use Rattle.dk_hierarchy.specs.Standing.{AreEnginesOf};
 ghost use Rattle.dk_points.specs.Declaring.{declared};
 ghost use Rattle.dk_points.specs.Table.{Point};
@@ -11,8 +12,9 @@ ghost use Rattle.dk_state.specs.Given.{CanBeGiven, is_given};
 ghost use Rattle.dk_state.specs.Lines.{behind_blank, line};
 ghost use Rattle.dk_state.specs.Loading.{AreLoadedAs, IsEngineAt, IsLoaded, IsLoadedAs, Loads, blocks};
 ghost use Rattle.dk_state.specs.Reading.{BeginsWith, ends_field};
+ghost use Rattle.dk_state.specs.StateFile.{StandForHistory, state_file_of};
 ghost use Rattle.dk_state.specs.Saved.{saved_text, version_of, word_of};
-ghost use Rattle.dk_state.specs.Spelling.{AreSavedAt, Content, IsContent, IsSavedAt, IsSpelling, if_new, table_behind, text_of};
+ghost use Rattle.dk_state.specs.Spelling.{AreSavedAt, CanBeSaved, Content, IsContent, IsSavedAt, IsSpelling, if_new, table_behind, text_of};
 ghost use Rattle.dk_template.specs.declared.grammar.Grammar.{Grammar as Grammars};
 
 use crate::entries::read_all;
@@ -252,6 +254,7 @@ pub fn load(alloc: Global, bytes: &[u8]) -> Result<Loaded, LoadFault>
     ensures saves { IfOk result (λ l. saved_text l.grammar l.points l.implicit (map (λ e. e.kept) l.engines) ≡ bytes.now) }
     ensures engines { IfOk result (λ l. AreEnginesOf l.points l.engines × All (λ e. e.grammar ≡ l.grammar) l.engines) }
     ensures bad { result ≡ Err LoadFault.BadState → IsSpelling bytes.now → ⊥ }
+    ensures stands { IfOk result (λ l. (g : Grammars) (ps : List Point) (implicit : Bool) (own : OwnSamples) → CanBeSaved g ps own → state_file_of g ps implicit own ≡ bytes.now → (l.grammar ≡ g) × (l.points ≡ ps) × (l.implicit ≡ implicit) × StandForHistory g ps l.engines own) }
 {
     let loaded = read(alloc, bytes)?;
     if saves_to(alloc, &loaded, bytes)? {
