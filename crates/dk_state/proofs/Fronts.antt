@@ -27,6 +27,7 @@ first_behind test (b ∷ field) rest none first =
 pub field_taken : (test : ℕ → Bool) (left found next field rest : List ℕ) (len : ℕ) → left ≡ field ++ rest → HasNone test field → BeginsWith test rest
     → len ≡ position_or_len test left → found ≡ take len left → next ≡ drop len left → (found ≡ field) × (next ≡ rest)
 field_taken test left found next field rest len is none first long front behind =
-    let own : len ≡ length field = long ∙ ap (position_or_len test) is ∙ first_behind test field rest none first in
-    ( front ∙ (λ i. take (own i) (is i)) ∙ take_at field rest (length field) refl
-    , behind ∙ (λ i. drop (own i) (is i)) ∙ drop_at field rest (length field) refl )
+    let own : len ≡ length field = long ∙ ap (position_or_len test) is ∙ first_behind test field rest none first in (
+      front ∙ (λ i. take (own i) (is i)) ∙ take_at field rest (length field) refl,
+      behind ∙ (λ i. drop (own i) (is i)) ∙ drop_at field rest (length field) refl,
+    )

@@ -106,9 +106,9 @@ pub by_word : (P : State → Type 0) (w : Word) (s : State) → Cases w P → w 
 by_word P w s cases e = go s (subst (λ v. Cases v P) e cases)
   where
     go : (s : State) → Cases (word_of s) P → P s
-    go state.Empty given = given 
-    go state.Broken given = given 
-    go state.Holds given = given 
+    go state.Empty given = given
+    go state.Broken given = given
+    go state.Holds given = given
     go (state.Least k) given = given k
     go (state.Greatest k) given = given k
     go (state.Ints ks) given = given ks

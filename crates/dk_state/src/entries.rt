@@ -10,8 +10,11 @@ use std::alloc::Global;
 pub(crate) trait Entry: Drop {
     // how it is saved, which ones can be read where these are the point's variables, what tells that one comes next, and what may follow
     ghost text_of: { Self → List ℕ };
+
     ghost fits: { List VarInfo → Self → Type 0 };
+
     ghost begins: { List ℕ → Bool };
+
     ghost follows: { List ℕ → Type 0 };
 
     /// Whether one comes next.

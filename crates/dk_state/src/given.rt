@@ -144,7 +144,9 @@ pub(crate) fn is_given(alloc: Global, decl: &PointDecl) -> Result<bool, NoMemory
     let vars = decl.vars.as_slice();
     let edges_differ = edges_differ(alloc, edges)?;
     let names_differ = names_differ(alloc, vars)?;
-    Ok(is_name(decl.name.as_slice())
-        && (edges_differ && are_edges(edges))
-        && (names_differ && are_vars(vars, edges.len())))
+    Ok(
+        is_name(decl.name.as_slice())
+            && (edges_differ && are_edges(edges))
+            && (names_differ && are_vars(vars, edges.len())),
+    )
 }

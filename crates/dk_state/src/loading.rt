@@ -70,7 +70,11 @@ impl From<NoMemory> for LoadFault {
 fn grammar_of(version: u64) -> Grammar
     ensures { (g : Grammars) → version ≡ version_of g → result ≡ g }
 {
-    if version == 1 { Grammar::One } else { Grammar::Two }
+    if version == 1 {
+        Grammar::One
+    } else {
+        Grammar::Two
+    }
 }
 
 // The grammar, by its version. Another version is told when the state is saved again.

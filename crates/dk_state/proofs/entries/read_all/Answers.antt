@@ -9,9 +9,9 @@ entries-preserved g c =
     let comes : entry.begins c.entries.front ≡ true = cc in
     record {
       read = λ xs rest all ended last is.
-      one_read entry.text_of (entry.fits vars) entry.begins entry.follows (g.met.T.Entry.first vars) (g.met.T.Entry.follow vars) xs rest c.entries.all c.push.new.self
-      c.entries.front c.read.new.front c.in_ok-entry.entry all ended last comes c.in_ok-entry.ensures.read
-      c.in_ok-push.ensures.ok (c.entries.invariant.read xs rest all ended last is);
+          one_read entry.text_of (entry.fits vars) entry.begins entry.follows (g.met.T.Entry.first vars) (g.met.T.Entry.follow vars) xs rest c.entries.all c.push.new.self
+          c.entries.front c.read.new.front c.in_ok-entry.entry all ended last comes c.in_ok-entry.ensures.read
+          c.in_ok-push.ensures.ok (c.entries.invariant.read xs rest all ended last is);
       shorter = omega (arith, c.in_ok-entry.ensures.shorter, c.entries.invariant.shorter);
     }
 

@@ -31,14 +31,16 @@ loop-p-preserved c =
           let here : slice_get saved p ≡ Some own = slice_get-get_or saved p None inside in
           let left = drop (p + 1) saved in
           let parted : drop p saved ≡ own ∷ left = drop_more saved p None inside in
-          let step = c.in_ok-engine.ensures.read own left (each p own here) (omega (arith, length-drop (p + 1) saved, as_many, c.len-p-end.ensures.few)) (so_far.0 ∙ ap (blocks p) parted) in
-          (step.1, λ q other e there got. elim (got_push before engine q e (ap (λ es. slice_get es q) (sym pushed) ∙ got)) as (λ _. IsLoadedAs g ps q other e) [
-            | inl old ↦ so_far.1 q other e there old
-            | inr last ↦
-                let same : q ≡ p = last.0 ∙ inv.long in
-                let as_own : own ≡ other = some-injective (sym here ∙ ap (slice_get saved) (sym same) ∙ there) in
-                subst (λ n. IsLoadedAs g ps n other e) (sym same) (subst (λ o. IsLoadedAs g ps p o e) as_own (subst (IsLoadedAs g ps p own) last.1 step.0))
-          ]);
+          let step = c.in_ok-engine.ensures.read own left (each p own here) (omega (arith, length-drop (p + 1) saved, as_many, c.len-p-end.ensures.few)) (so_far.0 ∙ ap (blocks p) parted) in (
+            step.1,
+            λ q other e there got. elim (got_push before engine q e (ap (λ es. slice_get es q) (sym pushed) ∙ got)) as (λ _. IsLoadedAs g ps q other e) [
+              | inl old ↦ so_far.1 q other e there old
+              | inr last ↦
+                  let same : q ≡ p = last.0 ∙ inv.long in
+                  let as_own : own ≡ other = some-injective (sym here ∙ ap (slice_get saved) (sym same) ∙ there) in
+                  subst (λ n. IsLoadedAs g ps n other e) (sym same) (subst (λ o. IsLoadedAs g ps p o e) as_own (subst (IsLoadedAs g ps p own) last.1 step.0))
+            ],
+          );
     }
 
 pub returns-in_err-engine-clause-read : goal.returns-in_err-engine-clause-read

@@ -19,6 +19,9 @@ pub returns-then-branch-clause-stands : goal.returns-then-branch-clause-stands
 returns-then-branch-clause-stands c g ps implicit own can text =
     let l = c.in_ok-loaded.loaded in
     let loaded = c.in_ok-loaded.ensures.read (content_of g ps implicit own) (history_meets g ps implicit own can) (content_text g ps implicit own ∙ text) in
-    let are = c.in_ok-loaded.ensures.engines in
-    (loaded.0, loaded.1, loaded.2,
-    loaded_stands g ps implicit own l.engines can (subst (λ points. AreEnginesOf points l.engines) loaded.1 are.0) (subst (λ h. All (λ (e : Whole). e.grammar ≡ h) l.engines) loaded.0 are.1) loaded.3)
+    let are = c.in_ok-loaded.ensures.engines in (
+      loaded.0,
+      loaded.1,
+      loaded.2,
+      loaded_stands g ps implicit own l.engines can (subst (λ points. AreEnginesOf points l.engines) loaded.1 are.0) (subst (λ h. All (λ (e : Whole). e.grammar ≡ h) l.engines) loaded.0 are.1) loaded.3,
+    )

@@ -21,6 +21,7 @@ returns c saved rest fits is =
     let own_classes = c.in_ok-classes.ensures.read saved.classes (patterns ++ (known ++ (slots ++ ended))) fits.classes (no_class saved.patterns saved.known saved.slots rest) tt (passed ∙ parted) in
     let own_patterns = c.in_ok-patterns.ensures.read saved.patterns (known ++ (slots ++ ended)) fits.patterns (no_pattern saved.known saved.slots rest) tt own_classes.1 in
     let own_known = c.in_ok-known.ensures.read saved.known (slots ++ ended) fits.known (no_known saved.slots rest) tt own_patterns.1 in
-    let own_slots = c.in_ok-slots.ensures.read saved.slots ended fits.slots refl tt own_known.1 in
-    ( (λ i. record { samples = samples.0 i; classes = own_classes.0 i; patterns = own_patterns.0 i; known = own_known.0 i; slots = own_slots.0 i })
-    , c.pass-2.ensures.read rest own_slots.1 )
+    let own_slots = c.in_ok-slots.ensures.read saved.slots ended fits.slots refl tt own_known.1 in (
+      (λ i. record { samples = samples.0 i; classes = own_classes.0 i; patterns = own_patterns.0 i; known = own_known.0 i; slots = own_slots.0 i }),
+      c.pass-2.ensures.read rest own_slots.1,
+    )

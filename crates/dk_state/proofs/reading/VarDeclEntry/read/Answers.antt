@@ -30,12 +30,14 @@ returns-clause-read c v rest fits last is =
     (no_constant v.parents rest last.0) ended in
     let parents = c.in_ok-parents.ensures.read v.parents rest fits.parents last.1 tt constant.1 in
     let own_elem = to_z-of_z w64 c.signed-elem.result (record { sfits = c.signed-elem.type_inv }) ∙ first.0 in
-    let own_index = to_z-of_z w64 c.signed-index.result (record { sfits = c.signed-index.type_inv }) ∙ second.0 in
-    ( (λ i. record {
-      name = name.0 i;
-      kind = kind i;
-      compar = record { elem = own_elem i; index = own_index i };
-      constant = (constant.0 i).1;
-      constant_line = (constant.0 i).0;
-      parents = parents.0 i;
-    }), parents.1)
+    let own_index = to_z-of_z w64 c.signed-index.result (record { sfits = c.signed-index.type_inv }) ∙ second.0 in (
+      (λ i. record {
+        name = name.0 i;
+        kind = kind i;
+        compar = record { elem = own_elem i; index = own_index i };
+        constant = (constant.0 i).1;
+        constant_line = (constant.0 i).0;
+        parents = parents.0 i;
+      }),
+      parents.1,
+    )
