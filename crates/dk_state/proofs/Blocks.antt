@@ -1,9 +1,9 @@
 -- What is saved of the points, one after another.
-use Rattle.std.specs.Prelude.{◌≡◌, ◌<◌, ◌≤◌, ◌^◌, ◌+◌, ◌==◌, ◌++◌, ◌∷◌, ◌⊎◌, [], ℕ, zero, suc, Bool, true, false, IsTrue, List, Option, Some, None, Err, codes, flat_map, is_some, length, map, min, nat_eq, option_and_then, option_map, slice_get, refl, if◌then◌else◌}
+use Rattle.std.specs.Prelude.{◌≡◌, ◌<◌, ◌≤◌, ◌^◌, ◌+◌, ◌==◌, ◌++◌, ◌∷◌, ◌⊎◌, [], ℕ, zero, suc, Bool, true, false, IsTrue, List, Option, Some, None, Err, codes, flat_map, is_some, length, map, nat_eq, option_and_then, option_map, slice_get, refl, if◌then◌else◌}
 use Rattle.std.specs.Fmt.{decimal}
 use Rattle.std.specs.List.{enumerate_from, starts_with}
 use Rattle.std.proofs.Common.{◌∙◌, ap, append_assoc, arith, inl, inr, subst, sym}
-use Rattle.std.proofs.lemmas.Bool.{cond_both, eqb-true, false≢true, ne_eqb}
+use Rattle.std.proofs.lemmas.Bool.{false≢true, ne_eqb}
 use Rattle.dk_engine.specs.Levels.{Whole}
 use Rattle.dk_engine.specs.Saved.{parts_of}
 use Rattle.dk_engine.specs.declared.kept.Kept.{Kept}
@@ -19,7 +19,7 @@ use Rattle.dk_state.specs.Spelling.{IsSavedAt, saved_lines}
 use Rattle.dk_template.specs.declared.grammar.Grammar.{Grammar}
 use Rattle.dk_state.specs.declared.loading.LoadFault.{LoadFault}
 use Rattle.dk_state.specs.declared.loading.LoadFault.TheVariants.{BadState, NoMemory}
-use Rattle.dk_state.proofs.Onto.{fields_onto, line_onto}
+use Rattle.dk_state.proofs.Onto.{line_onto}
 
 -- a fault that is passed on
 pub loads_err : {X Y : Type 0} (P : X → Type 0) (Q : Y → Type 0) (e : LoadFault) → Loads {X = X} (Err e) P → Loads {X = Y} (Err e) Q

@@ -1,8 +1,8 @@
 -- What state files of histories say, and what is loaded of them.
-use Rattle.std.specs.Prelude.{◌≡◌, ◌<◌, ◌≤◌, ◌^◌, ◌+◌, ◌==◌, ◌-◌, ◌++◌, ◌∷◌, [], ℕ, zero, suc, Bool, true, false, All, IsTrue, List, Option, Some, None, flat_map, is_none, is_some, length, map, min, slice_get, slice_index_or, refl, if◌then◌else◌}
+use Rattle.std.specs.Prelude.{◌≡◌, ◌<◌, ◌^◌, ◌+◌, ◌==◌, ◌-◌, ◌++◌, ◌∷◌, [], ℕ, zero, suc, Bool, All, IsTrue, List, Option, Some, None, flat_map, is_none, is_some, length, map, min, slice_get, slice_index_or, refl}
 use Rattle.std.specs.List.{enumerate_from, range_with_len}
-use Rattle.std.proofs.Common.{◌∙◌, ap, arith, get_or, subst, sym}
-use Rattle.std.proofs.lemmas.Bool.{cond_both, eqb-true, ne_eqb}
+use Rattle.std.proofs.Common.{◌∙◌, ap, arith, subst, sym}
+use Rattle.std.proofs.lemmas.Bool.{cond_both, eqb-true}
 use Rattle.std.proofs.lemmas.List.{length-map}
 use Rattle.std.proofs.lemmas.List.Elements.{All-get_or}
 use Rattle.std.proofs.lemmas.List.FromFn.{get_or-map-range_with_len, length-range_with_len}
@@ -19,9 +19,7 @@ use Rattle.dk_hierarchy.specs.Samples.{OwnSamples, all_vars_of, own_samples_of}
 use Rattle.dk_hierarchy.specs.Standing.{AreEnginesOf}
 use Rattle.dk_points.specs.Table.{Point, decl_of}
 use Rattle.dk_presence.specs.Patterns.{capped}
-use Rattle.dk_state.specs.Compact.{kept_of}
 use Rattle.dk_state.specs.Declarations.{decls_of}
-use Rattle.dk_state.specs.Kept.{parts_lines}
 use Rattle.dk_state.specs.Loading.{AreLoadedAs, IsLoaded, IsLoadedAs}
 use Rattle.dk_state.specs.Saved.{kept_lines, saved_text, state_text}
 use Rattle.dk_state.specs.Spelling.{CanBeSaved, Content, IsContent, IsSavedAt, content_of, form_of, saved_lines, saved_of, text_of}

@@ -2,7 +2,7 @@
 use Rattle.std.specs.Prelude.{◌≡◌, ◌==◌, ◌++◌, ◌∷◌, [], ℕ, true, false, Bool, List, codes, flat_map, map, nat_eq, refl}
 use Rattle.std.specs.Fmt.{decimal}
 use Rattle.std.specs.List.{starts_with}
-use Rattle.std.proofs.Common.{◌∙◌, ap, append_assoc, sym}
+use Rattle.std.proofs.Common.{◌∙◌, ap, append_assoc}
 use Rattle.std.proofs.lemmas.List.Concat.{flat_map-append}
 use Rattle.dk_base.specs.declared.kinds.VarId.{VarId}
 use Rattle.dk_engine.specs.declared.slot.Slot.{Slot}
@@ -12,7 +12,7 @@ use Rattle.dk_state.specs.Kept.{bits_of, if_any, known_line, pattern_line, slot_
 use Rattle.dk_state.specs.Lines.{behind_blank, fields_text, var_fields}
 use Rattle.dk_state.specs.Reading.{BeginsWith, HasNone, begins_number, ends_field}
 use Rattle.dk_state.specs.States.{state_fields}
-use Rattle.dk_state.proofs.Onto.{fields_of_items, fields_onto, fields_text_onto}
+use Rattle.dk_state.proofs.Onto.{fields_of_items, fields_onto}
 use Rattle.dk_state.proofs.StateFields.{state_first}
 
 pub lf_no_number : (rest : List ℕ) → begins_number (10 ∷ rest) ≡ false

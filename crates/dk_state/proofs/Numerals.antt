@@ -1,7 +1,6 @@
 -- Numbers as fields.
-use Rattle.std.specs.Prelude.{◌≡◌, ◌<◌, ◌^◌, ◌∷◌, ◌==◌, ◌||◌, [], ℕ, ℤ, pos, negsuc, neg_ℤ, zero, suc, Bool, true, false, not, List, Ok, Result, unsigned_abs, refl}
+use Rattle.std.specs.Prelude.{◌≡◌, ◌<◌, ◌^◌, ◌∷◌, ◌==◌, [], ℕ, ℤ, pos, negsuc, neg_ℤ, zero, suc, false, List, Ok, Result, unsigned_abs, refl}
 use Rattle.std.specs.Fmt.{decimal, signed_decimal}
-use Rattle.std.specs.Int.RustNames.{FitsSigned}
 use Rattle.std.specs.Str.{IsAscii, IsUtf8}
 use Rattle.std.specs.Str.Parse.{AllDigits, ParsesSigned}
 use Rattle.std.proofs.Common.{◌∙◌, ap, arith, subst}

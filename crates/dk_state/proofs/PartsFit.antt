@@ -1,28 +1,23 @@
 -- Saved parts can be read.
-use Rattle.std.specs.Prelude.{◌≡◌, ◌<◌, ◌≤◌, ◌^◌, ◌+◌, ◌++◌, ◌∷◌, [], ℕ, zero, suc, Bool, true, false, All, IsTrue, List, filter, length, map, slice_index_or, refl, if◌then◌else◌}
+use Rattle.std.specs.Prelude.{◌≡◌, ◌<◌, ◌≤◌, ◌^◌, ◌+◌, ◌∷◌, [], ℕ, Bool, All, List, filter, length, map, if◌then◌else◌}
 use Rattle.std.specs.List.{enumerate_from, fold}
 use Rattle.std.specs.Ordering.{is_gt}
 use Rattle.std.specs.declared.cmp.Ordering.{Ordering}
-use Rattle.std.proofs.Common.{◌∙◌, ap, arith, get_or, subst, sym}
+use Rattle.std.proofs.Common.{ap, arith, get_or, subst}
 use Rattle.std.proofs.lemmas.Bool.{cond_both}
 use Rattle.std.proofs.lemmas.List.Elements.{All-cons, All-head, All-map, All-nil, All-tail, Contains-get_or}
 use Rattle.dk_base.specs.declared.kinds.VarId.{VarId}
 use Rattle.dk_base.specs.declared.kinds.VarInfo.{VarInfo}
-use Rattle.dk_base.specs.declared.values.Value.{Value}
 use Rattle.dk_classes.proofs.OwnLeaders.{leads_from_own}
 use Rattle.dk_classes.specs.Leaders.{own_leaders, var}
 use Rattle.dk_constants.proofs.Determined.{entry_found}
-use Rattle.dk_engine.specs.Conditions.{AreParts}
-use Rattle.dk_engine.specs.Saved.{AreSavedParts, parts_of}
-use Rattle.dk_engine.specs.declared.kept.Kept.{Kept}
+use Rattle.dk_engine.specs.Saved.{AreSavedParts}
 use Rattle.dk_engine.specs.declared.parts.Parts.{Parts}
 use Rattle.dk_parts.specs.Classes.{classes_of, members_of}
 use Rattle.dk_parts.specs.Entries.{all_known_of, known_of}
 use Rattle.dk_parts.specs.Patterns.{pattern_cmp, pattern_of, patterns_of}
 use Rattle.dk_parts.specs.Sorting.{ascending, put}
-use Rattle.dk_parts.specs.declared.known.Known.{Known}
-use Rattle.dk_parts.specs.declared.pattern.Pattern.{Pattern}
-use Rattle.dk_presence.specs.Patterns.{capped, counted_by, has_all}
+use Rattle.dk_presence.specs.Patterns.{counted_by, has_all}
 use Rattle.dk_presence.specs.declared.held.Held.{Held}
 use Rattle.dk_template.specs.declared.grammar.Grammar.{Grammar}
 use Rattle.dk_state.specs.Fitting.{FitsClass, FitsKnown, FitsParts, FitsPattern, FitsPlace, FitsSlot}

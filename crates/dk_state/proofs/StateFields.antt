@@ -1,7 +1,7 @@
 -- The fields of a state.
-use Rattle.std.specs.Prelude.{◌≡◌, ◌++◌, ◌∷◌, [], ℕ, ℤ, Bool, true, false, List, codes, flat_map, map, refl}
+use Rattle.std.specs.Prelude.{◌≡◌, ◌++◌, ◌∷◌, [], ℕ, ℤ, Bool, false, List, codes, refl}
 use Rattle.std.specs.List.{join_with_byte}
-use Rattle.std.proofs.Common.{◌∙◌, ap, append_assoc, append-nil, subst, sym}
+use Rattle.std.proofs.Common.{ap, append-nil, subst}
 use Rattle.dk_state.specs.Lines.{behind_blank, fields_text}
 use Rattle.dk_state.specs.Reading.{BeginsWith, HasNone, begins_number, ends_field}
 use Rattle.dk_state.specs.StateWords.{told_fields, word_in, word_of}

@@ -11,7 +11,7 @@ use Rattle.dk_base.specs.declared.why.Why.TheVariants.{CyclicParents, DuplicateP
 use Rattle.dk_graph.proofs.Places.{some-injective}
 use Rattle.dk_points.specs.declared.declared.Declared.{Declared}
 use Rattle.dk_points.specs.declared.declared.Declared.TheVariants.{New, Same}
-use Rattle.dk_points.specs.Declaring.{declared, declared_again, declared_at, declared_new, grown, has_many_points, has_many_vars}
+use Rattle.dk_points.specs.Declaring.{declared, declared_again, declared_at, has_many_points, has_many_vars}
 use Rattle.dk_points.specs.Links.{nodes}
 use Rattle.dk_points.specs.Sameness.{same_decl}
 use Rattle.dk_points.specs.Table.{Point, added, decl_of, declared_point, implicit_exit, makes_exit, names}

@@ -1,5 +1,5 @@
 -- What can be read as it is saved: numbers within their types, names without an LF, values that texts write.
-use Rattle.std.specs.Prelude.{◌≡◌, ◌<◌, ◌≤◌, ◌^◌, ℕ, ℤ, Bool, true, false, All, IsTrue, List, [], codes, length, nat_eq, nat_lt, slice_get, unsigned_abs, Option, Some, None, IfSome}
+use Rattle.std.specs.Prelude.{◌≡◌, ◌<◌, ◌≤◌, ◌^◌, ℕ, Bool, true, false, All, IsTrue, List, codes, length, nat_eq, unsigned_abs, Option, Some, None}
 use Rattle.std.specs.List.{starts_with}
 use Rattle.dk_base.specs.Items.{is_text}
 use Rattle.dk_base.specs.Numbers.{fits_i64}

@@ -1,5 +1,5 @@
 use Rattle.std.proofs.Common.{◌≡◌, true, false, arith}
-use Rattle.dk_state.proofs.Going.{all_read, none_read, one_read}
+use Rattle.dk_state.proofs.Going.{all_read, one_read}
 use Rattle.dk_state.proofs.entries.read_all.Goals as goal
 
 pub entries-preserved : goal.entries-preserved

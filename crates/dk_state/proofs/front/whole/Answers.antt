@@ -1,4 +1,3 @@
-use Rattle.std.specs.Prelude.{Result}
 use Rattle.std.specs.Result.{result_ok}
 use Rattle.std.specs.Str.{IsUtf8}
 use Rattle.std.proofs.Common.{◌∙◌, ap, subst, sym}

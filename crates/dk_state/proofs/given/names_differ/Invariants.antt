@@ -1,5 +1,5 @@
 use Rattle.std.proofs.Common.{◌≡◌, [], drop, map}
-use Rattle.dk_state.specs.Given.{all_new, edge_key}
+use Rattle.dk_state.specs.Given.{all_new}
 use Rattle.dk_state.proofs.given.names_differ.Given as goal
 
 abbrev pub invariant-loop-var : goal.invariant-loop-var

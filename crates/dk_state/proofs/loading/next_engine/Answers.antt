@@ -1,4 +1,4 @@
-use Rattle.std.specs.Prelude.{◌+◌, ◌++◌, ◌∷◌, [], Bool, true, Some, None, codes, nat_eq, slice_get, refl}
+use Rattle.std.specs.Prelude.{◌+◌, ◌++◌, ◌∷◌, [], Bool, Some, None, codes, nat_eq, slice_get, refl}
 use Rattle.std.specs.Fmt.{decimal}
 use Rattle.std.specs.List.{starts_with}
 use Rattle.std.proofs.Common.{◌∙◌, ap, arith, subst, sym}

@@ -1,4 +1,4 @@
-use Rattle.std.specs.Prelude.{◌≡◌, ◌==◌, ◌++◌, ◌∷◌, [], ℕ, Bool, IfOk, List, codes, map, nat_eq, refl}
+use Rattle.std.specs.Prelude.{◌≡◌, ◌==◌, ◌++◌, ◌∷◌, [], Bool, IfOk, List, codes, map, nat_eq, refl}
 use Rattle.std.specs.List.{starts_with}
 use Rattle.std.proofs.Common.{◌∙◌, ap, append-nil, sym}
 use Rattle.std.proofs.lemmas.Bool.{false≢true}

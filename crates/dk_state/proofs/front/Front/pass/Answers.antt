@@ -1,4 +1,4 @@
-use Rattle.std.specs.Prelude.{◌≡◌, true, length, nat_eq, take}
+use Rattle.std.specs.Prelude.{length, nat_eq, take}
 use Rattle.std.specs.Cmp.Lexicographic.{pointwise}
 use Rattle.std.proofs.Common.{◌∙◌, ap, sym}
 use Rattle.std.proofs.lemmas.Bool.{false≢true}
