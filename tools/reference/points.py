@@ -102,6 +102,9 @@ class Table:
             self.by_name[point.name] = point
         # There was no cycle before, so a cycle goes through a point that was added.
         if any(self.has_cycle_through(point) for point in added):
+            for point in added:
+                self.points.remove(point)
+                del self.by_name[point.name]
             raise Fault(6, line)
         return True
 

@@ -806,11 +806,13 @@ def order_case(seed, second_form=True, grammar=2):
         groups = [[name] for name in maker.random.choices(
             ["t"] * 8 + ["f", "nowhere", "s", "."], k=maker.random.choice([0, 1, 1, 2, 3]))]
         name = maker.random.choice(resumable)
-        for group, rate in ((["--resume", name], 0.4), (["--resume=" + name], 0.2),
-                            (["--save"], 0.7), (["--stats"], 0.3),
-                            maker.random.choice([(["--every", "1"], 0.4), (["--every", "3"], 0.4),
-                                                 (["--generate", "1"], 0.1)]),
-                            (["--min-samples", "1"], 0.9), (["--ignore-missing-entry"], 0.9)):
+        resume = maker.random.choice([[], ["--resume", name], ["--resume=" + name]])
+        # (the generated records are read only now and then, since they take a while)
+        generates = maker.chance(0.5 if resume and name not in ("s", "daikon.state") else 0.03)
+        for group, rate in ((resume, 1), (["--generate", "1"], generates), (["--save"], 0.7),
+                            (["--stats"], 0.3), (["--min-samples", "1"], 0.9),
+                            (["--every", maker.random.choice(["1", "3"])], not generates and 0.4),
+                            (["--ignore-missing-entry"], 0.9)):
             if maker.chance(rate):
                 groups.insert(maker.random.randint(0, len(groups)), group)
         case.runs.append([word for group in groups for word in group])

@@ -1,3 +1,4 @@
 mod Asking
+mod Judging
 mod Making
 mod Running

@@ -1,9 +1,10 @@
-//! A benchmark: how long the scans of sequences and the rows take, beside plain loops, and what a question to a point with children
-//! costs; and traces for measuring how fast they are read.
+//! A benchmark: how long the scans of sequences and the rows take, beside plain loops, what a question to a point with children
+//! and the facts of an instance cost; and traces for measuring how fast they are read.
 #![tactic(auto)]
 
 mod faults;
 mod hierarchy;
+mod judge;
 mod lending;
 mod noise;
 mod questions;
@@ -19,10 +20,11 @@ use faults::Fault;
 use std::{env, io};
 use traces::{Records, write_trace};
 
-const USAGE: &str = "usage: dk_bench scans | rows | hierarchy | traces KIND COUNT
+const USAGE: &str = "usage: dk_bench scans | rows | hierarchy | judge | traces KIND COUNT
   scans      nanoseconds for each number, of a plain loop and of the scan
   rows       nanoseconds for each slot, of a plain loop, of a sample that changes none, and of a point and a join
   hierarchy  nanoseconds for each question to points with children: a chain, a star, and a parent of 30 variables
+  judge      nanoseconds for the facts of an instance, at a point of 30 variables with two parents
   traces     writes a trace of COUNT records: numbers, short, calls or sequences
 ";
 
@@ -60,6 +62,7 @@ fn main(rt: HostRuntime) -> Result<(), Fault> {
         Some(word) if word.as_str() == "scans" => Ok(scans::print_table(&rt)?),
         Some(word) if word.as_str() == "rows" => Ok(rows::print_table(&rt)?),
         Some(word) if word.as_str() == "hierarchy" => hierarchy::print_table(&rt),
+        Some(word) if word.as_str() == "judge" => judge::print_table(&rt),
         Some(word) if word.as_str() == "traces" => {
             let kind = words.next();
             let count = words.next();

@@ -49,4 +49,6 @@ pub mod Freeing
 pub mod Numbering
 pub mod Swept
 pub mod Opened
+pub mod Ordered
+pub mod Saving
 mod Examples

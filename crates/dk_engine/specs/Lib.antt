@@ -19,3 +19,4 @@ pub mod Memory
 pub mod Sweeps
 pub mod Merged
 pub mod Narrow
+pub mod Restored

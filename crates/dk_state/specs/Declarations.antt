@@ -1,10 +1,11 @@
 -- Declarations, as they are saved.
-use Rattle.std.specs.Prelude.{ℕ, List, [], ◌∷◌, ◌++◌, codes, filter_map, flat_map, unwrap_or, Option, Some, None, if◌then◌else◌}
+use Rattle.std.specs.Prelude.{ℕ, Bool, List, [], ◌∷◌, ◌++◌, codes, filter_map, flat_map, unwrap_or, Option, Some, None, if◌then◌else◌}
 use Rattle.std.specs.Fmt.{decimal, signed_decimal}
 use Rattle.dk_base.specs.Names.{escaped}
 use Rattle.dk_base.specs.Spelling.{spelling}
 use Rattle.dk_base.specs.declared.kinds.Kind.{Kind}
 use Rattle.dk_base.specs.declared.kinds.Kind.TheVariants as kind
+use Rattle.dk_base.specs.declared.values.Value.{Value}
 use Rattle.dk_base.specs.declared.values.Value.TheVariants as value
 use Rattle.dk_decl.specs.declared.decls.EdgeDecl.{EdgeDecl}
 use Rattle.dk_decl.specs.declared.decls.ParentVar.{ParentVar}
@@ -34,8 +35,11 @@ abbrev pub var_line : VarDecl → List ℕ
 var_line v = line "var" (rep_text v.kind ∷ signed_decimal v.compar.elem ∷ signed_decimal v.compar.index ∷ escaped v.name ∷ [])
 
 -- `constant VALUE`, where the variable has one; of an opaque one the value is missing
+abbrev pub constant_text : Bool → Option Value → List ℕ
+constant_text there constant = if there then line "constant" (spelling (unwrap_or constant value.Missing) ∷ []) else []
+
 abbrev pub constant_line : VarDecl → List ℕ
-constant_line v = if v.constant_line then line "constant" (spelling (unwrap_or v.constant value.Missing) ∷ []) else []
+constant_line v = constant_text v.constant_line v.constant
 
 -- `mapped EDGE NAME`, the edge by its place among the edges of the declaration
 abbrev pub mapped_line : ParentVar → List ℕ

@@ -35,13 +35,16 @@ known_line k = line "known" (decimal k.leader.0 ∷ spelling k.value ∷ [])
 abbrev pub slot_line : Slot → List ℕ
 slot_line s = line "slot" (decimal s.row.0 ∷ (var_fields s.leaders ++ state_fields s.state))
 
--- What is kept of samples of the point at this place: `samples POINT N`, each class by its leader, each pattern, ascending, each constant
--- leader, ascending, each slot by row and then by variables, and `end`.
-abbrev pub parts_lines : ℕ → Parts → List ℕ
-parts_lines point parts =
-    line "samples" (decimal point ∷ decimal parts.samples ∷ [])
-    ++ (flat_map class_line parts.classes
+-- what is kept behind the number of samples: each class by its leader, each pattern, ascending, each constant leader, ascending, each slot
+-- by row and then by variables, and `end`
+abbrev pub behind_samples : Parts → List ℕ
+behind_samples parts =
+    flat_map class_line parts.classes
     ++ (flat_map pattern_line parts.patterns
     ++ (flat_map known_line parts.known
     ++ (flat_map slot_line parts.slots
-    ++ line "end" []))))
+    ++ line "end" [])))
+
+-- What is kept of samples of the point at this place: `samples POINT N`, and what is kept.
+abbrev pub parts_lines : ℕ → Parts → List ℕ
+parts_lines point parts = line "samples" (decimal point ∷ decimal parts.samples ∷ []) ++ behind_samples parts

@@ -8,6 +8,7 @@ use Rattle.dk_hierarchy.specs.Samples.{OwnSamples}
 use Rattle.dk_points.specs.Table.{Point}
 use Rattle.dk_template.specs.declared.grammar.Grammar.{Grammar}
 use Rattle.dk_state.specs.Compact.{kept_of}
+use Rattle.dk_state.specs.Spelling.{CanBeSaved, IsSpelling}
 use Rattle.dk_state.specs.StateFile.{state_file_of}
 
 -- the compact form of samples is what an engine keeps of them
@@ -19,3 +20,7 @@ abbrev pub OrderDoesNotMatter : Type 0
 OrderDoesNotMatter =
     (g : Grammar) (ps : List Point) (implicit : Bool) (own others : OwnSamples) → ((p : ℕ) → IsPermutation (slice_index_or own p []) (slice_index_or others p []))
     → state_file_of g ps implicit own ≡ state_file_of g ps implicit others
+
+-- every state file of a history that can be saved is a spelling
+abbrev pub StateFilesAreSpellings : Type 0
+StateFilesAreSpellings = (g : Grammar) (ps : List Point) (implicit : Bool) (own : OwnSamples) → CanBeSaved g ps own → IsSpelling (state_file_of g ps implicit own)

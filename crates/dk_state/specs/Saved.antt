@@ -2,6 +2,7 @@
 use Rattle.std.specs.Prelude.{◌==◌, ℕ, Bool, List, [], ◌∷◌, ◌++◌, codes, flat_map, length, if◌then◌else◌}
 use Rattle.std.specs.Fmt.{decimal}
 use Rattle.std.specs.List.{enumerate_from}
+use Rattle.dk_decl.specs.declared.decls.PointDecl.{PointDecl}
 use Rattle.dk_engine.specs.Saved.{parts_of}
 use Rattle.dk_engine.specs.declared.kept.Kept.{Kept}
 use Rattle.dk_points.specs.Table.{Point}
@@ -25,12 +26,16 @@ abbrev pub kept_lines : ℕ × Kept → List ℕ
 kept_lines e = if e.1.samples == 0 then [] else parts_lines e.0 (parts_of e.1)
 
 -- The text of a state, line by line: the version, which is the grammar's number; the comparability word; the number of declared points;
--- their declarations; for each point with own samples what is kept of them; and the last line.
-unfoldable pub saved_text : Grammar → List Point → Bool → List Kept → List ℕ
-saved_text g ps implicit kept =
+-- their declarations; what is kept of the points' own samples; and the last line.
+abbrev pub state_text : Grammar → List PointDecl → Bool → List ℕ → List ℕ
+state_text g decls implicit kept =
     line "daikon-state" (decimal (version_of g) ∷ [])
     ++ (line "comparability" (word_of implicit ∷ [])
-    ++ (line "points" (decimal (length (decls_of ps)) ∷ [])
-    ++ (flat_map point_lines (decls_of ps)
-    ++ (flat_map kept_lines (enumerate_from 0 kept)
+    ++ (line "points" (decimal (length decls) ∷ [])
+    ++ (flat_map point_lines decls
+    ++ (kept
     ++ line "end-state" []))))
+
+-- the text of a table of points, a comparability word, and what is kept for each point
+unfoldable pub saved_text : Grammar → List Point → Bool → List Kept → List ℕ
+saved_text g ps implicit kept = state_text g (decls_of ps) implicit (flat_map kept_lines (enumerate_from 0 kept))

@@ -2,10 +2,18 @@
 #![tactic(auto)]
 
 mod declarations;
+mod entries;
 mod fields;
+mod front;
+mod given;
 mod kept;
 pub mod laws;
+mod loading;
+mod reading;
+mod reading_kept;
+mod reading_states;
 mod saving;
 mod states;
 
+pub use loading::{LoadFault, Loaded, load};
 pub use saving::{push_saved, save};

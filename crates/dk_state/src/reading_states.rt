@@ -1,0 +1,266 @@
+// States, as they are read.
+ghost use Rattle.std.specs.Prelude.{◌≡◌, ◌++◌, ◌-◌, ◌<◌, ◌≤◌, ◌^◌, ◌∷◌, [], ℕ, ℤ, Bool, IfOk, List, codes, length, map};
+ghost use Rattle.std.specs.Fmt.{signed_decimal};
+ghost use Rattle.dk_base.specs.Spelling.{IsWritten, bool_text, hash_text, spelling};
+ghost use Rattle.dk_base.specs.Values.{IsOfKind};
+ghost use Rattle.dk_base.specs.declared.values.Value.{Value as Values};
+ghost use Rattle.dk_forms.specs.declared.states.State.{State as States};
+ghost use Rattle.dk_state.specs.Fitting.{FitsState};
+ghost use Rattle.dk_state.specs.Lines.{behind_blank, fields_text};
+ghost use Rattle.dk_state.specs.Reading.{HasNone, ends_line};
+ghost use Rattle.dk_state.specs.StateWords.{told_fields, word_in, word_of};
+ghost use Rattle.dk_state.specs.States.{state_fields};
+
+use crate::front::{Front, is_word};
+use dk_base::{Kind, List, NoMemory, Text, Value};
+use dk_template::{Few, State};
+use std::alloc::Global;
+
+// The word that a state begins with.
+#[derive(Clone, Copy)]
+enum Word {
+    Empty,
+    Holds,
+    Least,
+    Greatest,
+    Ints,
+    Truth,
+    Code,
+    Texts,
+    One,
+    Modulus,
+    Spot,
+    Straight,
+    Span,
+    Plane,
+    Offset,
+    Other,
+}
+
+fn word_in(field: &[u8]) -> Word
+    ensures { result ≡ word_in field.now }
+{
+    if is_word(field, b"empty") {
+        Word::Empty
+    } else if is_word(field, b"holds") {
+        Word::Holds
+    } else if is_word(field, b"least") {
+        Word::Least
+    } else if is_word(field, b"greatest") {
+        Word::Greatest
+    } else if is_word(field, b"ints") {
+        Word::Ints
+    } else if is_word(field, b"truth") {
+        Word::Truth
+    } else if is_word(field, b"code") {
+        Word::Code
+    } else if is_word(field, b"texts") {
+        Word::Texts
+    } else if is_word(field, b"one") {
+        Word::One
+    } else if is_word(field, b"modulus") {
+        Word::Modulus
+    } else if is_word(field, b"spot") {
+        Word::Spot
+    } else if is_word(field, b"straight") {
+        Word::Straight
+    } else if is_word(field, b"span") {
+        Word::Span
+    } else if is_word(field, b"plane") {
+        Word::Plane
+    } else if is_word(field, b"offset") {
+        Word::Offset
+    } else {
+        Word::Other
+    }
+}
+
+// Between brackets, the fields that are left of the line are the text of a sequence.
+fn items(alloc: Global, kind: Kind, front: &mut Front<'_>) -> Result<Value, NoMemory>
+    ensures read { (v : Values) (fields rest : List ℕ) → IsOfKind kind v → IsWritten v → HasNone ends_line fields → spelling v ≡ codes "[" ++ (fields ++ codes "]") → front.old ≡ behind_blank fields ++ 10 ∷ rest → IfOk result (λ own. (own ≡ v) × (front.new ≡ 10 ∷ rest)) }
+    ensures shorter { length front.new ≤ length front.old }
+{
+    let fields = front.last_field();
+    let mut text = Text::new(alloc);
+    text.append(b"[")?;
+    text.append(fields)?;
+    text.append(b"]")?;
+    front.valued(alloc, kind, text.as_slice())
+}
+
+// The numbers of the value, at most three.
+fn ints_in(alloc: Global, value: &Value) -> State
+    ensures { (ks : List ℤ) → length ks ≤ 3 → value.now ≡ Value.IntSeq ks → result ≡ State.Ints ks }
+{
+    match value {
+        Value::IntSeq(numbers) => if numbers.len() <= 3 {
+            State::Ints(Few::of(alloc, numbers.as_slice()))
+        } else {
+            State::Empty
+        },
+        _ => State::Empty,
+    }
+}
+
+// The numbers that are left of the line, at most three.
+fn ints(alloc: Global, front: &mut Front<'_>) -> Result<State, NoMemory>
+    ensures read { (ks : List ℤ) (rest : List ℕ) → FitsState (State.Ints ks) → front.old ≡ fields_text (map signed_decimal ks) ++ 10 ∷ rest → IfOk result (λ own. (own ≡ State.Ints ks) × (front.new ≡ 10 ∷ rest)) }
+    ensures shorter { length front.new ≤ length front.old }
+{
+    let value = items(alloc, Kind::IntSeq, front)?;
+    Ok(ints_in(alloc, &value))
+}
+
+// The texts of the value.
+fn texts_in(value: Value) -> State
+    ensures { (ts : List (List ℕ)) → value ≡ Value.StrSeq ts → result ≡ State.Texts ts }
+{
+    match value {
+        Value::StrSeq(texts) => State::Texts(texts),
+        _ => State::Empty,
+    }
+}
+
+// The texts that are left of the line.
+fn texts(alloc: Global, front: &mut Front<'_>) -> Result<State, NoMemory>
+    ensures read { (ts : List (List ℕ)) (rest : List ℕ) → FitsState (State.Texts ts) → front.old ≡ fields_text ts ++ 10 ∷ rest → IfOk result (λ own. (own ≡ State.Texts ts) × (front.new ≡ 10 ∷ rest)) }
+    ensures shorter { length front.new ≤ length front.old }
+{
+    let value = items(alloc, Kind::StrSeq, front)?;
+    Ok(texts_in(value))
+}
+
+// The truth value of the value.
+fn truth_in(value: &Value) -> State
+    ensures { (b : Bool) → value.now ≡ Value.Bool b → result ≡ State.Truth b }
+{
+    match value {
+        Value::Bool(truth) => State::Truth(*truth),
+        _ => State::Empty,
+    }
+}
+
+// The truth value that is left of the line.
+fn truth(alloc: Global, front: &mut Front<'_>) -> Result<State, NoMemory>
+    ensures read { (b : Bool) (rest : List ℕ) → front.old ≡ fields_text (bool_text b ∷ []) ++ 10 ∷ rest → IfOk result (λ own. (own ≡ State.Truth b) × (front.new ≡ 10 ∷ rest)) }
+    ensures shorter { length front.new ≤ length front.old }
+{
+    let value = front.value(alloc, Kind::Bool)?;
+    Ok(truth_in(&value))
+}
+
+// The hash code of the value.
+fn code_in(value: &Value) -> State
+    ensures { (h : ℕ) → value.now ≡ Value.Hash h → result ≡ State.Code h }
+{
+    match value {
+        Value::Hash(code) => State::Code(*code),
+        _ => State::Empty,
+    }
+}
+
+// The hash code that is left of the line.
+fn code(alloc: Global, front: &mut Front<'_>) -> Result<State, NoMemory>
+    ensures read { (h : ℕ) (rest : List ℕ) → h < 2 ^ 64 → front.old ≡ fields_text (hash_text h ∷ []) ++ 10 ∷ rest → IfOk result (λ own. (own ≡ State.Code h) × (front.new ≡ 10 ∷ rest)) }
+    ensures shorter { length front.new ≤ length front.old }
+{
+    let value = front.value(alloc, Kind::Hash)?;
+    Ok(code_in(&value))
+}
+
+// The least and the greatest of points on a line.
+fn span(front: &mut Front<'_>) -> State
+    ensures read { (x1 y1 z1 x2 y2 z2 : ℤ) (rest : List ℕ) → FitsState (State.Span x1 y1 z1 x2 y2 z2) → front.old ≡ fields_text (told_fields (State.Span x1 y1 z1 x2 y2 z2)) ++ 10 ∷ rest → (result ≡ State.Span x1 y1 z1 x2 y2 z2) × (front.new ≡ 10 ∷ rest) }
+    ensures shorter { length front.new ≤ length front.old }
+{
+    let x1 = front.signed();
+    let y1 = front.signed();
+    let z1 = front.signed();
+    let x2 = front.signed();
+    let y2 = front.signed();
+    let z2 = front.signed();
+    State::Span {
+        x1,
+        y1,
+        z1,
+        x2,
+        y2,
+        z2,
+    }
+}
+
+fn straight(front: &mut Front<'_>) -> State
+    ensures read { (a b c : ℤ) (rest : List ℕ) → FitsState (State.Straight a b c) → front.old ≡ fields_text (told_fields (State.Straight a b c)) ++ 10 ∷ rest → (result ≡ State.Straight a b c) × (front.new ≡ 10 ∷ rest) }
+    ensures shorter { length front.new ≤ length front.old }
+{
+    let a = front.wide();
+    let b = front.wide();
+    let c = front.wide();
+    State::Straight { a, b, c }
+}
+
+fn plane(front: &mut Front<'_>) -> State
+    ensures read { (a b c d : ℤ) (rest : List ℕ) → FitsState (State.Plane a b c d) → front.old ≡ fields_text (told_fields (State.Plane a b c d)) ++ 10 ∷ rest → (result ≡ State.Plane a b c d) × (front.new ≡ 10 ∷ rest) }
+    ensures shorter { length front.new ≤ length front.old }
+{
+    let a = front.wide();
+    let b = front.wide();
+    let c = front.wide();
+    let d = front.wide();
+    State::Plane { a, b, c, d }
+}
+
+fn modulus(front: &mut Front<'_>) -> State
+    ensures read { (m r : ℕ) (rest : List ℕ) → FitsState (State.Modulus m r) → front.old ≡ fields_text (told_fields (State.Modulus m r)) ++ 10 ∷ rest → (result ≡ State.Modulus m r) × (front.new ≡ 10 ∷ rest) }
+    ensures shorter { length front.new ≤ length front.old }
+{
+    let m = front.natural();
+    let r = front.natural();
+    State::Modulus { m, r }
+}
+
+fn spot(front: &mut Front<'_>) -> State
+    ensures read { (x y : ℤ) (rest : List ℕ) → FitsState (State.Spot x y) → front.old ≡ fields_text (told_fields (State.Spot x y)) ++ 10 ∷ rest → (result ≡ State.Spot x y) × (front.new ≡ 10 ∷ rest) }
+    ensures shorter { length front.new ≤ length front.old }
+{
+    let x = front.signed();
+    let y = front.signed();
+    State::Spot { x, y }
+}
+
+// What the state tells behind its word.
+fn told(alloc: Global, word: Word, front: &mut Front<'_>) -> Result<State, NoMemory>
+    ensures read { (s : States) (rest : List ℕ) → word ≡ word_of s → FitsState s → front.old ≡ fields_text (told_fields s) ++ 10 ∷ rest → IfOk result (λ own. (own ≡ s) × (front.new ≡ 10 ∷ rest)) }
+    ensures shorter { length front.new ≤ length front.old }
+{
+    match word {
+        Word::Empty => Ok(State::Empty),
+        Word::Holds => Ok(State::Holds),
+        Word::Least => Ok(State::Least(front.signed())),
+        Word::Greatest => Ok(State::Greatest(front.signed())),
+        Word::Ints => ints(alloc, front),
+        Word::Truth => truth(alloc, front),
+        Word::Code => code(alloc, front),
+        Word::Texts => texts(alloc, front),
+        Word::One => Ok(State::One(front.signed())),
+        Word::Modulus => Ok(modulus(front)),
+        Word::Spot => Ok(spot(front)),
+        Word::Straight => Ok(straight(front)),
+        Word::Span => Ok(span(front)),
+        Word::Plane => Ok(plane(front)),
+        Word::Offset => Ok(State::Offset { k: front.wide() }),
+        Word::Other => {
+            front.give_up();
+            Ok(State::Empty)
+        }
+    }
+}
+
+/// The state whose fields are left of the line.
+pub(crate) fn state(alloc: Global, front: &mut Front<'_>) -> Result<State, NoMemory>
+    ensures read { (s : States) (rest : List ℕ) → FitsState s → front.old ≡ fields_text (state_fields s) ++ 10 ∷ rest → IfOk result (λ own. (own ≡ s) × (front.new ≡ 10 ∷ rest)) }
+    ensures shorter { length front.new ≤ length front.old - 1 }
+{
+    let word = word_in(front.field());
+    told(alloc, word, front)
+}
