@@ -2,6 +2,7 @@ pub mod Blocks
 pub mod Runs
 pub mod Fronts
 pub mod History
+pub mod Resuming
 pub mod Sections
 pub mod Selecting
 pub mod Fitting

@@ -6,9 +6,8 @@ use Rattle.dk_io.specs.Streams.{AddsFront, Texts, added}
 use Rattle.dk_io.specs.declared.outside.Stream.{Stream}
 use Rattle.dk_io.specs.declared.outside.Stream.TheVariants.{Report}
 use Rattle.dk_core.specs.History.{History}
-use Rattle.dk_core.specs.Standing.{grammar_of, options_of as options_in}
+use Rattle.dk_core.specs.Standing.{options_of as options_in}
 use Rattle.dk_core.specs.declared.session.Session.{Session}
-use Rattle.dk_template.specs.declared.grammar.Grammar.TheVariants as grammar
 use Rattle.dk_words.specs.declared.command.Command.{Command}
 use Rattle.dk_run.specs.Commands.{options_of}
 use Rattle.dk_run.specs.declared.reporting.Halt.{Halt}
@@ -54,7 +53,6 @@ abbrev pub Tells : {A : Type 0} → (History → Type 0) → (History → List �
 Tells Stands due old new before after (Ok u) = Told Stands due old new before after
 Tells Stands due old new before after (Err halt) = Cut Stands due old new before after halt
 
--- the session reports by what the command says, and by the second grammar
-pub record ReportsBy {F : Type 0} (command : Command) (session : Session F) : Type 0 where
-  pub grammar : grammar_of session ≡ grammar.Two
-  pub options : options_in session ≡ options_of command
+-- the session reports by what the command says
+abbrev pub ReportsBy : {F : Type 0} → Command → Session F → Type 0
+ReportsBy command session = options_in session ≡ options_of command
