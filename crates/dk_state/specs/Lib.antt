@@ -5,4 +5,5 @@ pub mod Kept
 pub mod Saved
 pub mod Compact
 pub mod StateFile
+pub mod Spelling
 pub mod Laws

@@ -5,7 +5,9 @@ mod declarations;
 mod fields;
 mod kept;
 pub mod laws;
+mod loading;
 mod saving;
 mod states;
 
+pub use loading::{LoadFault, Loaded, load};
 pub use saving::{push_saved, save};
