@@ -6,6 +6,7 @@ mod choosing;
 mod messages;
 mod reading;
 mod reporting;
+mod starting;
 mod status;
 mod top;
 mod words;
