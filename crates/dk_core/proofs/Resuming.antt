@@ -9,6 +9,8 @@ use Rattle.dk_engine.specs.Levels.{Whole}
 use Rattle.dk_hierarchy.specs.Samples.{OwnSamples, own_samples_of}
 use Rattle.dk_hierarchy.specs.Standing.{AreEnginesOf, EnginesStandFor}
 use Rattle.dk_points.specs.Table.{Point}
+use Rattle.dk_state.proofs.Spelled.{spelled}
+use Rattle.dk_state.specs.Spelling.{IsSpelling}
 use Rattle.dk_state.specs.StateFile.{StandForHistory, state_file_of}
 use Rattle.dk_template.specs.declared.grammar.Grammar.{Grammar}
 use Rattle.dk_core.specs.History.{History}
@@ -60,3 +62,8 @@ state_told k h engines implicit old new sound stands same word says =
     ∙ ap (λ (g : Grammar). old ++ state_file_of g k.points implicit h.samples) stands.grammar
     ∙ ap (λ (ps : List Point). old ++ state_file_of h.grammar ps implicit h.samples) stands.table
     ∙ ap (λ (b : Bool). old ++ state_file_of h.grammar h.table b h.samples) (word ∙ ap is_implicit stands.header)
+
+-- the state file of a start is one
+pub spelled_start : (h : History) → IsStart h → IsSpelling (state_of h)
+unfolding state_of
+spelled_start h start = spelled h.grammar h.table (is_implicit h.header) h.samples start.saved

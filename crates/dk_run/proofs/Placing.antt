@@ -15,7 +15,7 @@ use Rattle.dk_core.specs.declared.session.Session.{Session}
 use Rattle.dk_words.specs.declared.command.Command.{Command}
 use Rattle.dk_run.specs.AllFiles.{AreReadTo, FilesTroubleGives, HasBrokenAt, placed}
 use Rattle.dk_run.specs.Commands.{generated_count, helds_of, names_of}
-use Rattle.dk_run.specs.Courses.{Start, line_limit}
+use Rattle.dk_run.specs.Courses.{Outset, line_limit}
 use Rattle.dk_run.specs.Starts.{Begins}
 use Rattle.dk_run.specs.Files.{name_at}
 use Rattle.dk_run.specs.Reports.{capped}
@@ -157,15 +157,15 @@ first_text : (command : Command) (file : List ℕ → Held) (n : ℕ) (text xs :
 first_text command file n text xs e is holds = let first = first_held command file n e in cc (first, holds, is)
 
 pub none_generated : (command : Command) (file : List ℕ → Held) (before : Option (List ℕ)) (Stands : History → Type 0) (blocks room : ℕ) → command.generate ≡ None
-    → ((start : Start) → Begins command.resume file start → Stands start.history × (room ≡ start.room)) → blocks ≡ 0
+    → ((start : Outset) → Begins command.resume file start → Stands start.history × (room ≡ start.room)) → blocks ≡ 0
     → AreReadTo command file before before Stands blocks room (generated_count command) []
 none_generated command file before Stands blocks room e stands none =
     let count : 0 ≡ generated_count command = sym (ap (λ (g : Option ℕ). option_map_or (λ n. 1) g 0) e) in
     subst (λ (n : ℕ). AreReadTo command file before before Stands blocks room n []) count (read_none command file before Stands blocks room stands none)
 
 pub generated_on : {F : Type 0} (command : Command) (file : List ℕ → Held) (before : Option (List ℕ)) (s next : Session F) (r last : Reading) (n : ℕ) (bytes text : List ℕ)
-    → command.generate ≡ Some n → bytes ≡ generated_text n → r.limits.line ≡ line_limit 
-    → ((start : Start) → Begins command.resume file start → StandsFor s start.history × (room_of r ≡ start.room)) → blocks_of s ≡ 0
+    → command.generate ≡ Some n → bytes ≡ generated_text n → r.limits.line ≡ line_limit
+    → ((start : Outset) → Begins command.resume file start → StandsFor s start.history × (room_of r ≡ start.room)) → blocks_of s ≡ 0
     → ((h : History) (k : ℕ) → StandsFor s h → blocks_of s ≡ capped k → TextGives command k h r bytes text (Ok next) last)
     → AreReadTo command file before before (StandsFor next) (blocks_of next) (room_of last) (generated_count command) text
 generated_on command file before s next r last n bytes text e is limits stands none gives =
@@ -177,8 +177,8 @@ generated_on command file before s next r last n bytes text e is limits stands n
     (λ h k stands counts xs holds. subst (λ (l : List ℕ). ComesToEnd command k h (fresh r) l text (StandsFor next) (blocks_of next) last (Some [])) (first_text command file n bytes xs e is holds) (gives h k stands counts)))
 
 pub generated_trouble : {F : Type 0} (command : Command) (file : List ℕ → Held) (before : Option (List ℕ)) (s : Session F) (r last : Reading) (n : ℕ) (bytes text : List ℕ) (trouble : Trouble)
-    → command.generate ≡ Some n → bytes ≡ generated_text n → r.limits.line ≡ line_limit 
-    → ((start : Start) → Begins command.resume file start → StandsFor s start.history × (room_of r ≡ start.room)) → blocks_of s ≡ 0
+    → command.generate ≡ Some n → bytes ≡ generated_text n → r.limits.line ≡ line_limit
+    → ((start : Outset) → Begins command.resume file start → StandsFor s start.history × (room_of r ≡ start.room)) → blocks_of s ≡ 0
     → IsNoBreak {A = Session F} (Err trouble)
     → ((h : History) (k : ℕ) → StandsFor s h → blocks_of s ≡ capped k → TextGives {F = F} command k h r bytes text (Err trouble) last)
     → FilesTroubleGives command file before text (placed 0 trouble) before

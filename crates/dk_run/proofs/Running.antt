@@ -20,7 +20,7 @@ use Rattle.dk_core.specs.declared.session.Session.{Session}
 use Rattle.dk_words.specs.declared.command.Command.{Command}
 use Rattle.dk_run.specs.AllFiles.{AreReadTo, FilesTroubleGives, HasBrokenAt, IsRefusedAt, IsShortTo, IsUnreadAt, RunsOn, placed}
 use Rattle.dk_run.specs.Commands.{generated_count, helds_of, names_of}
-use Rattle.dk_run.specs.Courses.{Course, Start, course_of, course_of_file, course_of_files, ends, fault_in, first_fault, goes_on, line_limit, onto, then_files}
+use Rattle.dk_run.specs.Courses.{Course, Outset, course_of, course_of_file, course_of_files, ends, fault_in, first_fault, goes_on, line_limit, onto, then_files}
 use Rattle.dk_run.specs.Starts.{Begins}
 use Rattle.dk_run.specs.Files.{AreHeld, File, FileFault, cut_off, name_at, whole}
 use Rattle.dk_run.specs.Reports.{capped, due_from, due_reports}
@@ -101,17 +101,17 @@ there_more helds place below here k h = elim (cases_lt k place) [
 ]
 
 -- what the run over the files so far comes to
-pub alone : (start : Start) (command : Command) (before rest : Option (List ℕ)) (Stands : History → Type 0) (blocks room place : ℕ) (text : List ℕ) (contents : List (List ℕ))
+pub alone : (start : Outset) (command : Command) (before rest : Option (List ℕ)) (Stands : History → Type 0) (blocks room place : ℕ) (text : List ℕ) (contents : List (List ℕ))
     → (on : RunsOn start command before rest Stands blocks room place text contents) → course_of start command.ignore_missing_entry (map whole contents) ≡ record { after = on.after; end = Ok on.history }
 alone start command before rest Stands blocks room place text contents on =
     ap (course_of start command.ignore_missing_entry) (sym (append-nil (map whole contents))) ∙ on.goes [] ∙ ap (λ (l : List History). record { after = l; end = Ok on.history }) (append-nil on.after)
 
-pub alone_clean : (start : Start) (command : Command) (before rest : Option (List ℕ)) (Stands : History → Type 0) (blocks room place : ℕ) (text : List ℕ) (contents : List (List ℕ))
+pub alone_clean : (start : Outset) (command : Command) (before rest : Option (List ℕ)) (Stands : History → Type 0) (blocks room place : ℕ) (text : List ℕ) (contents : List (List ℕ))
     → RunsOn start command before rest Stands blocks room place text contents → first_fault start command.ignore_missing_entry (map whole contents) ≡ None
 alone_clean start command before rest Stands blocks room place text contents on =
     ap (λ (c : Course FileFault). fault_in c.end) (alone start command before rest Stands blocks room place text contents on)
 
-clean_more : (start : Start) (ignores : Bool) (helds : List Held) (place : ℕ) → AreCleanBehind start ignores helds place
+clean_more : (start : Outset) (ignores : Bool) (helds : List Held) (place : ℕ) → AreCleanBehind start ignores helds place
     → ((contents : List (List ℕ)) → AreHeld (take (place + 1) helds) contents → first_fault start ignores (map whole contents) ≡ None) → AreCleanBehind start ignores helds (place + 1)
 clean_more start ignores helds place clean here k contents h held = elim (cases_lt place k) [
   | inl more ↦ let same : k ≡ place + 1 = omega (arith, more, h) in here contents (subst (λ (n : ℕ). AreHeld (take n helds) contents) same held)
@@ -119,7 +119,7 @@ clean_more start ignores helds place clean here k contents h held = elim (cases_
 ]
 
 -- one file more was read
-runs_on : (start : Start) (command : Command) (helds : List Held) (before mid after left : Option (List ℕ)) (Stands Next : History → Type 0) (blocks more place : ℕ) (r last : Reading) (told text : List ℕ) (contents : List (List ℕ))
+runs_on : (start : Outset) (command : Command) (helds : List Held) (before mid after left : Option (List ℕ)) (Stands Next : History → Type 0) (blocks more place : ℕ) (r last : Reading) (told text : List ℕ) (contents : List (List ℕ))
     → r.limits.line ≡ line_limit → place < length helds
     → ((mid ≡ rest_behind (place - generated_count command) before) → left ≡ Some [] → after ≡ rest_behind (place + 1 - generated_count command) before)
     → ((contents : List (List ℕ)) → AreHeld (take place helds) contents → RunsOn start command before mid Stands blocks (room_of r) place told contents)
@@ -152,7 +152,7 @@ pub read_on : (command : Command) (file : List ℕ → Held) (before mid after l
     → ((h : History) (n : ℕ) → Stands h → blocks ≡ capped n → (xs : List ℕ) → held_at (helds_of command file) place ≡ Holds xs → ComesToEnd command n h (fresh r) xs text Next more last left)
     → AreReadTo command file before after Next more (room_of last) (place + 1) (told ++ text)
 read_on command file before mid after left Stands Next blocks more place r last told text limits within there rest read gives =
-    let runs = λ (start : Start) (begins : Begins command.resume file start) (contents : List (List ℕ)) (held : AreHeld (take (place + 1) (helds_of command file)) contents).
+    let runs = λ (start : Outset) (begins : Begins command.resume file start) (contents : List (List ℕ)) (held : AreHeld (take (place + 1) (helds_of command file)) contents).
     runs_on start command (helds_of command file) before mid after left Stands Next blocks more place r last told text contents limits within rest (read.runs start begins) gives held in
     record {
       there = there_more (helds_of command file) place read.there there;
@@ -186,7 +186,7 @@ refused_on command file before mid Stands blocks place line why r told text limi
 }
 
 -- a part of the next file, behind those that were read
-part_fine : (start : Start) (command : Command) (before mid : Option (List ℕ)) (Stands : History → Type 0) (blocks place : ℕ) (r : Reading) (told text : List ℕ) (contents : List (List ℕ)) (is_ended : Bool) (xs : List ℕ) (after : List History) (next : History)
+part_fine : (start : Outset) (command : Command) (before mid : Option (List ℕ)) (Stands : History → Type 0) (blocks place : ℕ) (r : Reading) (told text : List ℕ) (contents : List (List ℕ)) (is_ended : Bool) (xs : List ℕ) (after : List History) (next : History)
     → r.limits.line ≡ line_limit → (on : RunsOn start command before mid Stands blocks (room_of r) place told contents)
     → text ≡ due_from command (length on.after + 1) after
     → course_behind command.ignore_missing_entry on.history (groups_left false (fresh r) is_ended xs) ≡ record { after = after; end = Ok next }
@@ -277,7 +277,7 @@ short_none command file = record { place = 0; there = λ k h. absurd (omega arit
 
 -- no file was read yet
 pub read_none : (command : Command) (file : List ℕ → Held) (before : Option (List ℕ)) (Stands : History → Type 0) (blocks room : ℕ)
-    → ((start : Start) → Begins command.resume file start → Stands start.history × (room ≡ start.room)) → blocks ≡ 0
+    → ((start : Outset) → Begins command.resume file start → Stands start.history × (room ≡ start.room)) → blocks ≡ 0
     → AreReadTo command file before before Stands blocks room 0 []
 unfolding course_of
 read_none command file before Stands blocks room stands none = record {
@@ -285,12 +285,12 @@ read_none command file before Stands blocks room stands none = record {
   clean = λ start begins k contents h held. nothing_clean start k contents h held;
   runs = λ start begins contents held. nothing_read start (stands start begins) contents held;
 } where
-  nothing_clean : (start : Start) (k : ℕ) (contents : List (List ℕ)) → k ≤ 0 → AreHeld (take k (helds_of command file)) contents → first_fault start command.ignore_missing_entry (map whole contents) ≡ None
+  nothing_clean : (start : Outset) (k : ℕ) (contents : List (List ℕ)) → k ≤ 0 → AreHeld (take k (helds_of command file)) contents → first_fault start command.ignore_missing_entry (map whole contents) ≡ None
   nothing_clean start zero [] h held = refl
   nothing_clean start zero (c ∷ cs) h held = absurd (cc (held))
   nothing_clean start (suc k) contents h held = absurd (omega arith)
 
-  nothing_read : (start : Start) → Stands start.history × (room ≡ start.room) → (contents : List (List ℕ)) → AreHeld (take 0 (helds_of command file)) contents
+  nothing_read : (start : Outset) → Stands start.history × (room ≡ start.room) → (contents : List (List ℕ)) → AreHeld (take 0 (helds_of command file)) contents
       → RunsOn start command before before Stands blocks room 0 [] contents
   nothing_read start stands [] held = record {
     after = [];

@@ -20,8 +20,9 @@ use Rattle.dk_words.specs.declared.request.Request.{Request}
 use Rattle.dk_words.specs.declared.request.Request.TheVariants.{Run, Help, Version}
 use Rattle.dk_run.specs.AllFiles.{AreCalmUnless, AreReadTo, FilesGive, FilesTroubleGives, HasBrokenAt, IsPlaced, IsRefusedAt, IsShortTo, IsUnreadAt, RunGives}
 use Rattle.dk_run.specs.Commands.{generated_count, helds_of, names_of}
-use Rattle.dk_run.specs.Beginning.{IsLeft, StartTroubleGives, StateTroubleGives, state_name}
-use Rattle.dk_run.specs.Courses.{Course, Start, course_of, fault_in}
+use Rattle.dk_run.specs.declared.starting.Beginning.{Beginning}
+use Rattle.dk_run.specs.Beginning.{HasCome, IsLeft, StartTroubleGives, StateTroubleGives, state_name}
+use Rattle.dk_run.specs.Courses.{Course, Outset, course_of, fault_in}
 use Rattle.dk_run.specs.Starts.{Begins, HasBegun}
 use Rattle.dk_run.specs.Ending.{EndsBy, EndsUnbegun, EndsWith, status_of}
 use Rattle.dk_run.specs.Files.{AreHeld, File, FileFault, name_at, whole}
@@ -187,7 +188,7 @@ last_due command blocks h = option_map_or (λ every. end_line blocks) command.ev
 -- the output of a run that was read to its end
 ended_output : (command : Command) (before after : Outside) (rest : Option (List ℕ)) (Stands : History → Type 0) (blocks room : ℕ) (text : List ℕ)
     → (read : AreReadTo command before.file rest after.rest Stands blocks room (length (names_of command)) text)
-    → (start : Start) → Begins command.resume before.file start → (contents : List (List ℕ)) → AreHeld (helds_of command before.file) contents
+    → (start : Outset) → Begins command.resume before.file start → (contents : List (List ℕ)) → AreHeld (helds_of command before.file) contents
     → (h : History) × Stands h × (output_of start command (map whole contents) ≡ with_state (first_line command) (text ++ last_due command blocks h) (saved command h))
 unfolding output_of
 ended_output command before after rest Stands blocks room text read start begins contents held =
@@ -445,6 +446,37 @@ pub read_ends : (command : Command) (trouble : FilesTrouble) (place : ℕ) (name
 read_ends command trouble place name old new before after result is same ended =
     subst (λ (t : FilesTrouble). EndsBy command t old new before after result) (sym is) (unread_ends (unread_line name) (unread_line (name_at (names_of command) place)) old new before after result (ap unread_line same) ended)
 
+-- ---- behind the beginning
+pub behind_of : {F : Type 0} (command : Command) (before now : Outside) (beginning : Beginning F) → HasCome command before now beginning → Begun command before now.rest
+behind_of command before now beginning come = record { begun = come.begun.begun; left = come.left }
+
+-- the first line was not written whole, behind the beginning
+pub first_come : (command : Command) (before after : Outside) (halt : Halt) (mid : Texts) (began : ℕ) → HasBegun command.resume before.file → mid ≡ before.written → began ≡ before.write_faults
+    → CutsText Messages (first_line command) mid after.written began after.write_faults halt → Says (status_of halt) (Some (Run command)) before after
+first_come command before after halt mid began begun same calm cut =
+    first_says command before after halt begun
+    (subst (λ (n : ℕ). CutsText Messages (first_line command) before.written after.written n after.write_faults halt) calm
+    (subst (λ (t : Texts). CutsText Messages (first_line command) t after.written began after.write_faults halt) same cut))
+
+-- ---- behind a trouble with the state file
+pub unstarted_ends : (command : Command) (trouble : StartTrouble) (name : List ℕ) (old new : Texts) (before after : ℕ) (result : Status) → trouble ≡ b.Start → name ≡ state_name command
+    → EndsWith Read Messages (unread_line name) old new before after result → EndsUnbegun command trouble old new before after result
+unstarted_ends command trouble name old new before after result is same ended =
+    subst (λ (t : StartTrouble). EndsUnbegun command t old new before after result) (sym is)
+    (subst (λ (n : List ℕ). EndsWith Read Messages (unread_line n) old new before after result) same ended)
+
+pub unread_state_ends : (command : Command) (trouble : StartTrouble) (name : List ℕ) (old new : Texts) (before after : ℕ) (result : Status) → trouble ≡ b.Read → name ≡ state_name command
+    → EndsWith Read Messages (unread_line name) old new before after result → EndsUnbegun command trouble old new before after result
+unread_state_ends command trouble name old new before after result is same ended =
+    subst (λ (t : StartTrouble). EndsUnbegun command t old new before after result) (sym is)
+    (subst (λ (n : List ℕ). EndsWith Read Messages (unread_line n) old new before after result) same ended)
+
+pub refused_state_ends : (command : Command) (trouble : StartTrouble) (why : Why) (name : List ℕ) (old new : Texts) (before after : ℕ) (result : Status) → trouble ≡ b.Refused why → name ≡ state_name command
+    → EndsWith Refused Messages (fault_line name 0 why) old new before after result → EndsUnbegun command trouble old new before after result
+refused_state_ends command trouble why name old new before after result is same ended =
+    subst (λ (t : StartTrouble). EndsUnbegun command t old new before after result) (sym is)
+    (subst (λ (n : List ℕ). EndsWith Refused Messages (fault_line n 0 why) old new before after result) same ended)
+
 -- ---- a run that does not begin
 refused_begin : (command : Command) (before after : Outside) (name : List ℕ) (why : Why) → command.resume ≡ Some name
     → StateTroubleGives (before.file name) (Rose before.read_faults after.read_faults) before.rest after.rest (b.Refused why)
@@ -454,7 +486,7 @@ refused_begin command before after name why named gives = record {
   named = named;
   there = gives.0;
   why = why;
-  as = gives.1;
+  of_state = gives.1;
   fault = gives.2;
   message = ap (λ (o : Option (List ℕ)). only_on Messages (fault_line (unwrap_or o []) 0 why)) named;
 }

@@ -9,7 +9,7 @@ use Rattle.dk_core.specs.Standing.{StandsFor, blocks_of}
 use Rattle.dk_core.specs.declared.session.Session.{Session}
 use Rattle.dk_words.specs.declared.command.Command.{Command}
 use Rattle.dk_run.specs.Commands.{generated_count, helds_of, names_of}
-use Rattle.dk_run.specs.Courses.{Start, course_of, course_of_files, first_fault, onto}
+use Rattle.dk_run.specs.Courses.{Outset, course_of, course_of_files, first_fault, onto}
 use Rattle.dk_run.specs.Files.{AreHeld, File, whole}
 use Rattle.dk_run.specs.Reports.{capped, due_reports}
 use Rattle.dk_run.specs.Starts.{Begins}
@@ -21,7 +21,7 @@ use Rattle.dk_run.specs.declared.reading.FilesTrouble.TheVariants.{Refused, Star
 
 -- The files in front of this place were read, which hold these contents, and the reports that were due are told: the run over them and any
 -- others, behind this start, goes on from here.
-pub record RunsOn (start : Start) (command : Command) (before rest : Option (List ℕ)) (Stands : History → Type 0) (blocks room place : ℕ) (text : List ℕ) (contents : List (List ℕ)) : Type 0 where
+pub record RunsOn (start : Outset) (command : Command) (before rest : Option (List ℕ)) (Stands : History → Type 0) (blocks room place : ℕ) (text : List ℕ) (contents : List (List ℕ)) : Type 0 where
   pub after : List History
   pub history : History
   pub stands : Stands history
@@ -34,7 +34,7 @@ pub record RunsOn (start : Start) (command : Command) (before rest : Option (Lis
 pub record AreReadTo (command : Command) (file : List ℕ → Held) (before rest : Option (List ℕ)) (Stands : History → Type 0) (blocks room place : ℕ) (text : List ℕ) : Type 0 where
   pub there : (k : ℕ) → k < place → held_at (helds_of command file) k ≢ Absent
   pub clean : AreClean command file place
-  pub runs : (start : Start) → Begins command.resume file start → (contents : List (List ℕ)) → AreHeld (take place (helds_of command file)) contents
+  pub runs : (start : Outset) → Begins command.resume file start → (contents : List (List ℕ)) → AreHeld (take place (helds_of command file)) contents
       → RunsOn start command before rest Stands blocks room place text contents
 
 -- The files up to this place hold this fault as their first, and the reports that were due are told.
@@ -42,12 +42,12 @@ pub record IsRefusedAt (command : Command) (file : List ℕ → Held) (text : Li
   pub named : place < length (helds_of command file)
   pub there : (k : ℕ) → k < place + 1 → held_at (helds_of command file) k ≢ Absent
   pub clean : AreClean command file place
-  pub gives : (start : Start) → Begins command.resume file start → (contents : List (List ℕ)) → AreHeld (take (place + 1) (helds_of command file)) contents →
+  pub gives : (start : Outset) → Begins command.resume file start → (contents : List (List ℕ)) → AreHeld (take (place + 1) (helds_of command file)) contents →
       (after : List History) × (text ≡ due_reports command after)
       × (course_of start command.ignore_missing_entry (map whole contents) ≡ record { after = after; end = Err (record { file = place; line = line; why = why }) })
 
 -- What is told where a file can't be read, behind files of these contents.
-abbrev pub BreakGives : Break → Start → Command → ℕ → Held → Option (List ℕ) → Option (List ℕ) → List ℕ → List (List ℕ) → Type 0
+abbrev pub BreakGives : Break → Outset → Command → ℕ → Held → Option (List ℕ) → Option (List ℕ) → List ℕ → List (List ℕ) → Type 0
 BreakGives AtStart start command place held before rest text contents =
     (rest ≡ rest_behind (place - generated_count command) before) × (text ≡ due_reports command (course_of start command.ignore_missing_entry (map whole contents)).after)
 BreakGives Within start command place held before rest text contents = (xs : List ℕ) → held ≡ Holds xs →
@@ -61,14 +61,14 @@ pub record IsUnreadAt (by : Break) (command : Command) (file : List ℕ → Held
   pub named : place < length (helds_of command file)
   pub there : (k : ℕ) → k < place → held_at (helds_of command file) k ≢ Absent
   pub clean : AreClean command file place
-  pub gives : (start : Start) → Begins command.resume file start → (contents : List (List ℕ)) → AreHeld (take place (helds_of command file)) contents
+  pub gives : (start : Outset) → Begins command.resume file start → (contents : List (List ℕ)) → AreHeld (take place (helds_of command file)) contents
       → BreakGives by start command place (held_at (helds_of command file) place) before rest text contents
 
 -- a front of the reports that are due is told, whatever files follow those in front of a place
 pub record IsShortTo (command : Command) (file : List ℕ → Held) (text : List ℕ) : Type 0 where
   pub place : ℕ
   pub there : (k : ℕ) → k < place → held_at (helds_of command file) k ≢ Absent
-  pub due : (start : Start) → Begins command.resume file start → (contents : List (List ℕ)) → AreHeld (take place (helds_of command file)) contents → (files : List File) →
+  pub due : (start : Outset) → Begins command.resume file start → (contents : List (List ℕ)) → AreHeld (take place (helds_of command file)) contents → (files : List File) →
       StartsWith (due_reports command (course_of start command.ignore_missing_entry (map whole contents ++ files)).after) text
 
 -- what a trouble with the files says

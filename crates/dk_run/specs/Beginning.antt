@@ -12,7 +12,7 @@ use Rattle.dk_core.specs.History.{History}
 use Rattle.dk_core.specs.Resuming.{IsStart, state_of}
 use Rattle.dk_core.specs.Standing.{StandsFor, blocks_of, over_of}
 use Rattle.dk_words.specs.declared.command.Command.{Command}
-use Rattle.dk_run.specs.Courses.{Start, total_limit}
+use Rattle.dk_run.specs.Courses.{Outset, total_limit}
 use Rattle.dk_run.specs.Starts.{Begins, HasBegun, IsRefusedAs, rest_begun}
 use Rattle.dk_run.specs.Statuses.{AtStart, HasBroken, Outside, StateUnreadGives, Within}
 use Rattle.dk_run.specs.Telling.{ReportsBy}
@@ -27,7 +27,7 @@ state_name command = unwrap_or command.resume []
 -- The session stands for what the run begins with, and no block was read.
 pub record IsBegun {F : Type 0} (command : Command) (file : List ℕ → Held) (beginning : Beginning F) : Type 0 where
   pub begun : HasBegun command.resume file
-  pub stands : (start : Start) → Begins command.resume file start → StandsFor beginning.session start.history × (beginning.room ≡ start.room)
+  pub stands : (start : Outset) → Begins command.resume file start → StandsFor beginning.session start.history × (beginning.room ≡ start.room)
   pub room : beginning.room ≤ total_limit
   pub counts : blocks_of beginning.session ≡ 0
   pub over : over_of beginning.session ≡ false
@@ -47,7 +47,7 @@ StartTroubleGives (Some name) file rose before rest trouble = StateTroubleGives 
 
 -- What is left of the inputs when the run has begun.
 abbrev pub IsLeft : Option (List ℕ) → (List ℕ → Held) → Option (List ℕ) → Option (List ℕ) → Type 0
-IsLeft resume file before rest = (start : Start) → Begins resume file start → rest ≡ rest_begun resume before
+IsLeft resume file before rest = (start : Outset) → Begins resume file start → rest ≡ rest_begun resume before
 
 -- The outside at a moment when the run has begun, and before all else.
 pub record HasCome {F : Type 0} (command : Command) (before now : Outside) (beginning : Beginning F) : Type 0 where

@@ -12,7 +12,7 @@ use Rattle.dk_io.specs.declared.outside.Stream.TheVariants.{Report, Messages, St
 use Rattle.dk_words.specs.Texts.{usage_line}
 use Rattle.dk_words.specs.declared.command.Command.{Command}
 use Rattle.dk_run.specs.Commands.{names_of}
-use Rattle.dk_run.specs.Courses.{Course, Start, course_of}
+use Rattle.dk_run.specs.Courses.{Course, Outset, course_of}
 use Rattle.dk_run.specs.Files.{File, FileFault, name_at}
 use Rattle.dk_print.specs.Sections.{fault_line}
 use Rattle.dk_run.specs.Messages.{unread_line}
@@ -55,12 +55,12 @@ abbrev pub output_along : Command → Course FileFault → Output
 output_along command course = output_at command course.after course.end
 
 -- the output of a run over all of its files, the generated one among them, behind its start
-unfoldable pub output_of : Start → Command → List File → Output
+unfoldable pub output_of : Outset → Command → List File → Output
 output_of start command files = output_along command (course_of start command.ignore_missing_entry files)
 
 -- The output of a run that ends since a file of this name can't be read: the reports due within the files that were delivered, of the last of
 -- which it may be a part.
-unfoldable pub unread_output : Start → Command → List File → List ℕ → Output
+unfoldable pub unread_output : Outset → Command → List File → List ℕ → Output
 unread_output start command delivered name = record {
   report = due_reports command (course_of start command.ignore_missing_entry delivered).after;
   messages = first_line command ++ unread_line name;

@@ -8,14 +8,14 @@ use Rattle.dk_state.specs.Spelling.{IsSpelling}
 use Rattle.dk_core.specs.History.{History}
 use Rattle.dk_core.specs.Resuming.{IsStart, state_of}
 use Rattle.dk_words.specs.declared.command.Command.{Command}
-use Rattle.dk_run.specs.Courses.{Start, first_start, total_limit}
+use Rattle.dk_run.specs.Courses.{Outset, first_start, total_limit}
 
 -- a history that is resumed; the bytes of its state file count
-abbrev pub resumed_start : History → Start
+abbrev pub resumed_start : History → Outset
 resumed_start h = record { history = h; room = total_limit - length (state_of h) }
 
 -- A run that names no state file begins with no samples. One that names a state file begins with each history of which the file holds the state.
-abbrev pub Begins : Option (List ℕ) → (List ℕ → Held) → Start → Type 0
+abbrev pub Begins : Option (List ℕ) → (List ℕ → Held) → Outset → Type 0
 Begins None file start = start ≡ first_start
 Begins (Some name) file start = (h : History) × IsStart h × (file name ≡ Holds (state_of h)) × (length (state_of h) ≤ total_limit) × (start ≡ resumed_start h)
 
@@ -30,9 +30,7 @@ IsState xs = (length xs ≤ total_limit) × IsSpelling xs
 
 -- Why it is refused: it has more bytes than all files of a run may have, or else it is none.
 abbrev pub IsRefusedAs : Why → List ℕ → Type 0
-IsRefusedAs TooLong xs = total_limit < length xs
-IsRefusedAs BadState xs = (length xs ≤ total_limit) × (IsSpelling xs → ⊥)
-IsRefusedAs why xs = ⊥
+IsRefusedAs why xs = ((why ≡ TooLong) × (total_limit < length xs)) ⊎ ((why ≡ BadState) × (length xs ≤ total_limit) × (IsSpelling xs → ⊥))
 
 -- The state file is there, and is one where its bytes are told.
 pub record IsThere (held : Held) : Type 0 where

@@ -11,7 +11,7 @@ use Rattle.dk_words.specs.declared.command.Command.{Command}
 use Rattle.dk_words.specs.declared.request.Request.{Request}
 use Rattle.dk_words.specs.declared.request.Request.TheVariants.{Run, Help, Version}
 use Rattle.dk_run.specs.Commands.{generated_count, helds_of, names_of}
-use Rattle.dk_run.specs.Courses.{Start, course_of, first_fault, total_limit}
+use Rattle.dk_run.specs.Courses.{Outset, course_of, first_fault, total_limit}
 use Rattle.dk_run.specs.Starts.{Begins, HasBegun, IsRefusedAs, rest_begun}
 use Rattle.dk_run.specs.Files.{File, FileFault, AreHeld, cut_off, name_at, whole}
 use Rattle.dk_print.specs.Sections.{fault_line}
@@ -65,12 +65,12 @@ HasBroken AtStart held rose = (held ≡ Absent) ⊎ rose
 HasBroken Within held rose = (held ≢ Absent) × rose
 
 -- Behind this start, as far as the first n files are held, from the first on, they hold no fault.
-abbrev pub AreCleanBehind : Start → Bool → List Held → ℕ → Type 0
+abbrev pub AreCleanBehind : Outset → Bool → List Held → ℕ → Type 0
 AreCleanBehind start ignores helds n = (k : ℕ) (contents : List (List ℕ)) → k ≤ n → AreHeld (take k helds) contents → first_fault start ignores (map whole contents) ≡ None
 
 -- So it is behind each start of the run.
 abbrev pub AreClean : Command → (List ℕ → Held) → ℕ → Type 0
-AreClean command file n = (start : Start) → Begins command.resume file start → AreCleanBehind start command.ignore_missing_entry (helds_of command file) n
+AreClean command file n = (start : Outset) → Begins command.resume file start → AreCleanBehind start command.ignore_missing_entry (helds_of command file) n
 
 -- ---- how a run ends
 -- A state file that is named was read whole, and is one. All files were started and read to their ends, and they hold no fault.
@@ -78,7 +78,7 @@ pub record AreRead (command : Command) (before after : Outside) : Type 0 where
   pub begun : HasBegun command.resume before.file
   pub none_absent : All (λ held. held ≢ Absent) (helds_of command before.file)
   pub clean : AreClean command before.file (length (helds_of command before.file))
-  pub all_read : (start : Start) → Begins command.resume before.file start → (contents : List (List ℕ)) → AreHeld (helds_of command before.file) contents
+  pub all_read : (start : Outset) → Begins command.resume before.file start → (contents : List (List ℕ)) → AreHeld (helds_of command before.file) contents
       → after.rest ≡ rest_behind (length command.files) (rest_begun command.resume before.rest)
 
 -- This is the output then.
@@ -86,7 +86,7 @@ pub record IsDone (command : Command) (before after : Outside) (output : Output)
   pub read : AreRead command before after
   pub messages : output.messages ≡ first_line command
   pub unsaved : command.save ≡ false → output.state ≡ []
-  pub defined : (start : Start) → Begins command.resume before.file start → (contents : List (List ℕ)) → AreHeld (helds_of command before.file) contents
+  pub defined : (start : Outset) → Begins command.resume before.file start → (contents : List (List ℕ)) → AreHeld (helds_of command before.file) contents
       → output ≡ output_of start command (map whole contents)
 
 -- The state file is refused, at its line 0. That is all that the run says.
@@ -95,7 +95,7 @@ pub record IsStateRefused (command : Command) (before : Outside) (output : Outpu
   pub named : command.resume ≡ Some name
   pub there : before.file name ≢ Absent
   pub why : Why
-  pub as : (why ≡ TooLong) ⊎ (why ≡ BadState)
+  pub of_state : (why ≡ TooLong) ⊎ (why ≡ BadState)
   pub fault : (xs : List ℕ) → before.file name ≡ Holds xs → IsRefusedAs why xs
   pub message : output ≡ only_on stream.Messages (fault_line name 0 why)
 
@@ -108,9 +108,9 @@ pub record IsRefused (command : Command) (before after : Outside) (output : Outp
   pub messages : output.messages ≡ first_line command ++ fault_line (name_at (names_of command) fault.file) fault.line fault.why
   pub no_state : output.state ≡ []
   pub clean_before : AreClean command before.file fault.file
-  pub first : (start : Start) → Begins command.resume before.file start → (contents : List (List ℕ)) → AreHeld (take (fault.file + 1) (helds_of command before.file)) contents
+  pub first : (start : Outset) → Begins command.resume before.file start → (contents : List (List ℕ)) → AreHeld (take (fault.file + 1) (helds_of command before.file)) contents
       → first_fault start command.ignore_missing_entry (map whole contents) ≡ Some fault
-  pub defined : (start : Start) → Begins command.resume before.file start → (contents : List (List ℕ)) → AreHeld (take (fault.file + 1) (helds_of command before.file)) contents
+  pub defined : (start : Outset) → Begins command.resume before.file start → (contents : List (List ℕ)) → AreHeld (take (fault.file + 1) (helds_of command before.file)) contents
       → output ≡ output_of start command (map whole contents)
 
 -- What was read of a state file that could not be read to its end: nothing, or as many bytes as all files of a run may have, at most.
@@ -129,7 +129,7 @@ pub record IsStateUnread (command : Command) (before after : Outside) (output : 
 
 -- What the output of a run is that ends since a file can't be read, behind files of these contents. A start that fails leaves what is left of
 -- the inputs as it was, and delivers nothing of the file. What was delivered holds no fault.
-abbrev pub UnreadGives : Break → Start → Command → ℕ → Held → Outside → Outside → Output → List (List ℕ) → Type 0
+abbrev pub UnreadGives : Break → Outset → Command → ℕ → Held → Outside → Outside → Output → List (List ℕ) → Type 0
 UnreadGives AtStart start command place held before after output contents =
     (after.rest ≡ rest_behind (place - generated_count command) (rest_begun command.resume before.rest))
     × (output ≡ unread_output start command (map whole contents) (name_at (names_of command) place))
@@ -151,7 +151,7 @@ pub record IsUnread (command : Command) (before after : Outside) (output : Outpu
   pub messages : output.messages ≡ first_line command ++ unread_line (name_at (names_of command) place)
   pub no_state : output.state ≡ []
   pub clean_before : AreClean command before.file place
-  pub defined : (start : Start) → Begins command.resume before.file start → (contents : List (List ℕ)) → AreHeld (take place (helds_of command before.file)) contents →
+  pub defined : (start : Outset) → Begins command.resume before.file start → (contents : List (List ℕ)) → AreHeld (take place (helds_of command before.file)) contents →
       UnreadGives by start command place (held_at (helds_of command before.file) place) before after output contents
 
 -- A run that is asked for so comes to this status, and has this output, unless a write fails or memory runs out before.
@@ -181,7 +181,7 @@ pub record IsCutWithin (command : Command) (before after : Outside) : Type 0 whe
   pub no_state : front.state ≡ []
   pub place : ℕ
   pub none_absent : All (λ held. held ≢ Absent) (take place (helds_of command before.file))
-  pub due : (start : Start) → Begins command.resume before.file start → (contents : List (List ℕ)) → AreHeld (take place (helds_of command before.file)) contents → (files : List File) →
+  pub due : (start : Outset) → Begins command.resume before.file start → (contents : List (List ℕ)) → AreHeld (take place (helds_of command before.file)) contents → (files : List File) →
       StartsWith (due_reports command (course_of start command.ignore_missing_entry (map whole contents ++ files)).after) front.report
 
 -- While the last report or the state is written: each stream got a front of its text.
@@ -191,7 +191,7 @@ pub record IsCutAtEnd (command : Command) (before after : Outside) : Type 0 wher
   pub read : AreRead command before after
   pub messages : front.messages ≡ first_line command
   pub unsaved : command.save ≡ false → front.state ≡ []
-  pub due : (start : Start) → Begins command.resume before.file start → (contents : List (List ℕ)) → AreHeld (helds_of command before.file) contents
+  pub due : (start : Outset) → Begins command.resume before.file start → (contents : List (List ℕ)) → AreHeld (helds_of command before.file) contents
       → IsFront front (output_of start command (map whole contents))
 
 abbrev pub IsCutInRun : Option Request → Outside → Outside → Type 0
@@ -227,10 +227,10 @@ GivesOutput status output result before after = ((result ≡ status) × (after.w
 
 -- Where no fault of the outside rises, a run over files that are held comes to its end. Files behind a faulty one need not be there, behind a state file that is refused, too.
 pub record IsComplete (command : Command) (before after : Outside) (result : Status) : Type 0 where
-  pub done : (start : Start) → Begins command.resume before.file start → (contents : List (List ℕ)) → AreHeld (helds_of command before.file) contents
+  pub done : (start : Outset) → Begins command.resume before.file start → (contents : List (List ℕ)) → AreHeld (helds_of command before.file) contents
       → first_fault start command.ignore_missing_entry (map whole contents) ≡ None
       → GivesOutput Done (output_of start command (map whole contents)) result before after
-  pub refused : (start : Start) → Begins command.resume before.file start → (n : ℕ) (contents : List (List ℕ)) (fault : FileFault) → AreHeld (take n (helds_of command before.file)) contents
+  pub refused : (start : Outset) → Begins command.resume before.file start → (n : ℕ) (contents : List (List ℕ)) (fault : FileFault) → AreHeld (take n (helds_of command before.file)) contents
       → first_fault start command.ignore_missing_entry (map whole contents) ≡ Some fault
       → GivesOutput Refused (output_of start command (map whole contents)) result before after
   pub state_refused : (name xs : List ℕ) (why : Why) → command.resume ≡ Some name → before.file name ≡ Holds xs → IsRefusedAs why xs

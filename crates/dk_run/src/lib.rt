@@ -3,6 +3,7 @@
 #![tactic(auto)]
 
 mod choosing;
+pub mod laws;
 mod messages;
 mod reading;
 mod reporting;

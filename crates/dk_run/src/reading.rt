@@ -9,7 +9,7 @@ ghost use Rattle.dk_core.specs.Selecting.{SelectsBy};
 ghost use Rattle.dk_core.specs.Standing.{ReportsAlike, StandsFor, blocks_of, over_of, select_of};
 ghost use Rattle.dk_run.specs.AllFiles.{AreCalmBut, AreNoBreak, AreReadTo, FilesGive, IsCaused, placed};
 ghost use Rattle.dk_run.specs.Commands.{generated_count, helds_of, is_selected, names_of};
-ghost use Rattle.dk_run.specs.Courses.{Start, line_limit};
+ghost use Rattle.dk_run.specs.Courses.{Outset, line_limit};
 ghost use Rattle.dk_run.specs.Starts.{Begins};
 ghost use Rattle.dk_run.specs.Files.{name_at};
 ghost use Rattle.dk_run.specs.Reports.{capped};
@@ -274,7 +274,7 @@ pub(crate) fn read_generated<F: Fn(&[u8]) -> bool + Drop, S: Sinks>(
     requires callable { F.IsAlwaysCallable (select_of session) }
     requires selects { SelectsBy (F.post (select_of session)) (is_selected command.now) }
     ensures gives { Added (S.written sinks.old) (S.written sinks.new) stream.Report (λ text. (file : List ℕ → Held) (before : Option (List ℕ)) →
-        ((start : Start) → Begins command.now.resume file start → StandsFor session start.history × (room_of lines.old ≡ start.room)) →
+        ((start : Outset) → Begins command.now.resume file start → StandsFor session start.history × (room_of lines.old ≡ start.room)) →
         FilesGive command.now file before (generated_count command.now) text result lines.new before) }
     ensures calm { AreCalmBut (S.faults sinks.old) (S.faults sinks.new) result }
     ensures steady { AreNoBreak result }

@@ -1,8 +1,10 @@
 // What a run begins with: a new session, or that of a state file, which is read whole.
 ghost use Rattle.std.specs.Prelude.{◌≡◌, ◌≤◌, List, ℕ, IfErr, IfOk, None, OnOk, length};
 ghost use Rattle.dk_io.specs.Outside.{Held, Rose};
+ghost use Rattle.dk_core.specs.Selecting.{SelectsBy};
 ghost use Rattle.dk_core.specs.Standing.{select_of};
 ghost use Rattle.dk_run.specs.Beginning.{IsBegun, IsLeft, IsWhole, IsResumed, IsUnloaded, StartTroubleGives, StateTroubleGives, unloaded as unloaded_by, unread as unread_by};
+ghost use Rattle.dk_run.specs.Commands.{is_selected};
 ghost use Rattle.dk_run.specs.Courses.{total_limit};
 
 use crate::choosing::options_of;
@@ -52,11 +54,7 @@ fn unloaded(fault: LoadFault) -> StartTrouble
 }
 
 // Reads a state file whole.
-fn read_state<I: Inputs>(
-    alloc: Global,
-    name: &str,
-    inputs: &mut I,
-) -> Result<Text, StartTrouble>
+fn read_state<I: Inputs>(alloc: Global, name: &str, inputs: &mut I) -> Result<Text, StartTrouble>
     ensures whole { IfOk result (λ text. IsWhole (I.file inputs.old name.now) text (I.rest inputs.new)) }
     ensures trouble { IfErr result (StateTroubleGives (I.file inputs.old name.now) (Rose (I.faults inputs.old) (I.faults inputs.new)) (I.rest inputs.old) (I.rest inputs.new)) }
     ensures files { I.file inputs.new ≡ I.file inputs.old }
@@ -119,9 +117,12 @@ pub(crate) fn begin<F: Fn(&[u8]) -> bool + Drop, I: Inputs>(
     select: F,
     inputs: &mut I,
 ) -> Result<Beginning<F>, StartTrouble>
+    requires callable { F.IsAlwaysCallable select }
+    requires selects { SelectsBy (F.post select) (is_selected command.now) }
     ensures begun { IfOk result (λ b. IsBegun command.now (I.file inputs.old) b) }
     ensures left { OnOk result (IsLeft command.now.resume (I.file inputs.old) (I.rest inputs.old) (I.rest inputs.new)) }
-    ensures select { IfOk result (λ b. select_of b.session ≡ select) }
+    ensures callable { IfOk result (λ b. F.IsAlwaysCallable (select_of b.session)) }
+    ensures selects { IfOk result (λ b. SelectsBy (F.post (select_of b.session)) (is_selected command.now)) }
     ensures trouble { IfErr result (StartTroubleGives command.now.resume (I.file inputs.old) (Rose (I.faults inputs.old) (I.faults inputs.new)) (I.rest inputs.old) (I.rest inputs.new)) }
     ensures files { I.file inputs.new ≡ I.file inputs.old }
     ensures later { I.faults inputs.old ≤ I.faults inputs.new }

@@ -4,4 +4,5 @@ pub mod Engines
 pub mod CompactLeaders
 pub mod CompactParts
 pub mod SameTexts
+pub mod Spelled
 mod Examples

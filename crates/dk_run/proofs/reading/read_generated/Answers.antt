@@ -1,4 +1,4 @@
-use Rattle.std.proofs.Common.{rules, ap, sym, refl, [], ◌∙◌, ◌≡◌, subst}
+use Rattle.std.proofs.Common.{rules, sym, [], subst}
 use Rattle.dk_io.specs.declared.outside.Stream.TheVariants.{Report}
 use Rattle.dk_core.specs.Standing.{StandsFor}
 use Rattle.dk_run.specs.AllFiles.{FilesTroubleGives}

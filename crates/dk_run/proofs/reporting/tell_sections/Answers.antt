@@ -1,5 +1,4 @@
-use Rattle.std.proofs.Common.{◌≡◌, ◌≤◌, ◌<◌, ◌++◌, ℕ, List, length, refl, sym, subst, arith, ap}
-use Rattle.dk_core.specs.History.{History}
+use Rattle.std.proofs.Common.{◌≤◌, ◌<◌, ◌++◌, List, length, refl, subst, arith}
 use Rattle.dk_core.specs.Sections.{section_of, report_of}
 use Rattle.dk_core.specs.Standing.{StandsFor}
 use Rattle.dk_points.specs.Table.{Point}
