@@ -325,6 +325,7 @@ impl<F: Fn(&[u8]) -> bool + Drop> Session<F> {
         ensures select { IfOk result (λ s. select_of s ≡ select) }
         ensures counts { IfOk result (λ s. (blocks_of s ≡ 0) × (file_of s ≡ 0) × (over_of s ≡ false)) }
     {
+        let blocks = 0;
         let calls = match Calls::new(alloc) {
             Ok(calls) => calls,
             Err(NoMemory) => return Err(LoadFault::NoMemory),
@@ -335,7 +336,7 @@ impl<F: Fn(&[u8]) -> bool + Drop> Session<F> {
                 kept: Kept::of_state(alloc, loaded, calls),
                 select,
                 options,
-                blocks: 0,
+                blocks,
                 file: 0,
                 is_over: false,
             }),

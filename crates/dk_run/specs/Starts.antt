@@ -3,11 +3,10 @@ use Rattle.std.specs.Prelude.{◌≡◌, ◌≢◌, ◌≤◌, ◌<◌, ◌⊎�
 use Rattle.std.specs.Option.{option_map_or}
 use Rattle.dk_base.specs.declared.why.Why.{Why}
 use Rattle.dk_base.specs.declared.why.Why.TheVariants.{BadState, TooLong}
-use Rattle.dk_io.specs.Outside.{Held, Absent, DeliversUpTo, Holds}
+use Rattle.dk_io.specs.Outside.{Held, Absent, Holds}
 use Rattle.dk_state.specs.Spelling.{IsSpelling}
 use Rattle.dk_core.specs.History.{History}
 use Rattle.dk_core.specs.Resuming.{IsStart, state_of}
-use Rattle.dk_words.specs.declared.command.Command.{Command}
 use Rattle.dk_run.specs.Courses.{Outset, first_start, total_limit}
 
 -- a history that is resumed; the bytes of its state file count
