@@ -102,6 +102,9 @@ class Table:
             self.by_name[point.name] = point
         # There was no cycle before, so a cycle goes through a point that was added.
         if any(self.has_cycle_through(point) for point in added):
+            for point in added:
+                self.points.remove(point)
+                del self.by_name[point.name]
             raise Fault(6, line)
         return True
 
@@ -306,12 +309,14 @@ def with_derived(variables, base_values):
 class History:
     """A table, the comparability word in force, a grammar, and for each point its own samples:
     those that a state file stands for, and the list of those that were read. A sample holds base
-    and derived values."""
+    and derived values. `newest` is what the last block brought, as its record's first line, its
+    point and its sample, or None."""
     table: Table = field(default_factory=Table)
     implicit: bool = True
     grammar: int = 2
     loaded: dict = field(default_factory=dict)
     own: dict = field(default_factory=dict)
+    newest: object = None
 
 
 @dataclass
@@ -336,6 +341,7 @@ def taken_by(waiting, method, nonce):
 def effect_of(block, history, waiting, ignore_missing_entry):
     """Adds the effect of a block to the history. Gives False where it is no block. `waiting` is
     the list of the file's entries that wait before it."""
+    history.newest = None
     lines = block.each_line()
     anything, first = read_headers(lines, history)
     if first is None:
@@ -371,6 +377,7 @@ def add_record(record, history, waiting, ignore_missing_entry):
         waiting.append(Entry(method, record.nonce, list(record.values)))
     sample = with_derived(point.variables, values)
     history.own.setdefault(point.index, []).append(sample)
+    history.newest = (record.line, point, sample)
 
 
 def orig_values(point, entry):

@@ -1,10 +1,17 @@
 #!/usr/bin/env python3
 """Random declarations and traces by a seed.
 
-usage: traces.py [--one-file] [--first-form] [--first-grammar] SEED FOLDER
+usage: traces.py [--first-form] [--first-grammar] KIND SEED FOLDER
 
 Writes the files of the seed's case into FOLDER and prints its runs, one a line. A case is a list
-of runs in one folder; a run is a list of words. With `--one-file` it is one run with one word.
+of runs in one folder; a run is a list of words. The kinds are
+  one-file   one run with one word
+  full       all words of the command, states saved, changed and resumed
+  cut        a run over some files, and the same files cut into runs that resume each other
+  states     states with changes put in, each resumed alone and with records
+  forms      states with one slot, of each row with each form of a state
+  order      states and files that are right, faulty or not there, in all places of the words
+  split, check, merge   runs of the three other programs
 `--first-form` leaves the second declaration form out, `--first-grammar` states of version 2.
 """
 
@@ -15,8 +22,11 @@ import sys
 from dataclasses import dataclass, field
 from math import gcd
 
+from changes import STATES, changed_state, delete_byte, delete_line, double_line, odd_byte
 from input_language import Fault, blocks_of, lines_of
 from points import History, Table, effect_of
+from report import FILTERS, report
+from rows import ROWS
 from state_file import state_file
 
 VARIABLES = [
@@ -27,6 +37,7 @@ VARIABLES = [
     (b"t[..]", b"String[]"), (b"v[..]", b"java.lang.String[]"), (b"f[..]", b"boolean[]"),
     (b"d", b"double"), (b"dd[..]", b"double[]"),
 ]
+TRUTHS_AND_OTHERS = (b"x", b"y", b"b", b"c", b"h", b"s", b"a[..]", b"f[..]")
 PLAIN_NAMES = [b"P", b"Q", b"R", b"a\\_b", b"C\\\\D", b"S x", b"O:::OBJECT", b"O:::CLASS",
                b"PQ", b"E:::EXIT1x", b"F:::ENTERS"]
 METHODS = [b"M", b"N", b"O.m(int)", b"X:::Y", b"n\\_n"]
@@ -61,10 +72,27 @@ class PointPlan:
     declared: bool = False
 
 
+def resumed(name):
+    """The words of a run that resumes the state, reads nothing more and saves it again."""
+    return ["--resume", name, "--save", "--min-samples", "1", "--stats"]
+
+
 @dataclass
 class Case:
+    """Where `is_cut` is set, the last run ends as the first one does. `changed` names the states
+    that perhaps no samples give."""
     files: dict = field(default_factory=dict)
     runs: list = field(default_factory=list)
+    is_cut: bool = False
+    changed: set = field(default_factory=set)
+
+    def promises_no_report(self, run):
+        """Whether the run reads records behind a state that perhaps no samples give."""
+        return any(name in run and run != resumed(name) for name in self.changed)
+
+    def state_that_stays(self, run):
+        """The state that the run must save again as it is, or None."""
+        return next((text for name, text in self.files.items() if run == resumed(name)), None)
 
 
 class Maker:
@@ -113,6 +141,8 @@ class Maker:
             self.points.append(self.plan_point(name, variables, names))
 
     def themed(self):
+        if self.theme == "truths":
+            return [(name, rep) for name, rep in VARIABLES if name in TRUTHS_AND_OTHERS]
         if self.theme == "lists":
             kinds = self.random.choice([b"int", b"hashcode", b"String", b"int"])
             return [(name, rep) for name, rep in VARIABLES if rep.endswith((kinds, kinds + b"[]"))]
@@ -345,6 +375,15 @@ class Maker:
                 blocks.append(self.record(point))
         return blocks
 
+    def records(self, number):
+        """Sample records of declared points, as far as there are such."""
+        blocks = []
+        for _ in range(20 * number):
+            point = self.random.choice(self.points)
+            if len(blocks) < number and point.declared and self.may_have_record(point):
+                blocks.append(self.record(point))
+        return blocks
+
     def declare(self, point):
         point.declared = True
         return list(point.block)
@@ -422,16 +461,6 @@ ODD_LINES = [
 SECOND_FORM_LINES = [b"DECLARE", b"DECLARE x", b"VarComparability", b"VarComparability x", b"none",
                      b"implicit", b"int", b"int = 4", b"int = a", b"int =", b"int x", b"int =4",
                      b"double =", b"float", b"String = \"a b\""]
-ODD_BYTES = [b" ", b"\t", b"\r", b"\\", b'"', b"[", b"]", b"0", b"-", b"\xff", b"#", b"\n", b"x",
-             b"_", b"."]
-
-
-def delete_line(random_, lines, at):
-    del lines[at]
-
-
-def double_line(random_, lines, at):
-    lines.insert(at, lines[at])
 
 
 def odd_line(random_, lines, at):
@@ -453,17 +482,6 @@ def exchange_lines(random_, lines, at):
 
 def line_of_elsewhere(random_, lines, at):
     lines[at] = random_.choice(lines)
-
-
-def odd_byte(random_, lines, at):
-    k = random_.randint(0, len(lines[at]))
-    keep = k if random_.random() < 0.5 else k + 1
-    lines[at] = lines[at][:k] + random_.choice(ODD_BYTES) + lines[at][keep:]
-
-
-def delete_byte(random_, lines, at):
-    k = random_.randint(0, len(lines[at]))
-    lines[at] = lines[at][:k] + lines[at][k + 1:]
 
 
 def cut_after(random_, lines, at):
@@ -578,7 +596,7 @@ def one_file_case(seed, second_form=True):
 
 # ---------------------------------------------------------------- limits
 
-def block(lines):
+def block_of(lines):
     return b"".join(line + b"\n" for line in lines) + b"\n"
 
 
@@ -586,7 +604,7 @@ def plain_point(name, variables):
     lines = [b"ppt " + name]
     for variable, rep_type in variables:
         lines += [b"variable " + variable, b"rep-type " + rep_type]
-    return block(lines)
+    return block_of(lines)
 
 
 def many_points(random_):
@@ -595,7 +613,7 @@ def many_points(random_):
     names = [b"p%d" % k for k in range(number)]
     if random_.random() < 0.5:
         names[-1] = b"M:::EXIT1"
-    return b"".join(block([b"ppt " + name]) for name in names)
+    return b"".join(block_of([b"ppt " + name]) for name in names)
 
 
 def many_variables(random_):
@@ -663,15 +681,9 @@ def full_case(seed, second_form=True, grammar=2):
 def state_case(maker, case, grammar):
     """A run that resumes the state of the first file and saves it again. With faults put in it
     reads no more files: what comes of a state that no samples give is promised only until then."""
-    history = History(Table(maker.second_form), grammar=maker.random.randint(1, grammar))
-    waiting = []
-    try:
-        for block in blocks_of(*lines_of(case.files["t"])):
-            effect_of(block, history, waiting, True)
-    except Fault:
-        pass
-    text = state_file(history)
-    words = ["--resume", "s", "--save", "--min-samples", "1", "--stats"]
+    text = state_file(history_of(case.files["t"], maker.random.randint(1, grammar),
+                                 maker.second_form))
+    words = resumed("s")
     if maker.chance(0.7):
         case.files = {"s": maker.mutated(text)}
     else:
@@ -681,7 +693,133 @@ def state_case(maker, case, grammar):
     return case
 
 
-def random_options(maker):
+def history_of(text, grammar=2, second_form=True):
+    """The history of the text up to its first fault."""
+    history = History(Table(second_form), grammar=grammar)
+    waiting = []
+    try:
+        for block in blocks_of(*lines_of(text)):
+            effect_of(block, history, waiting, True)
+    except Fault:
+        pass
+    return history
+
+
+def cut_case(seed, second_form=True, grammar=2):
+    """A run over some files; then the same files cut behind one or two of them, or in front of
+    all or behind all. Each part resumes what the one before it saved."""
+    maker = Maker(seed, second_form)
+    maker.plan_points()
+    case = Case(is_cut=True)
+    names = ["t", "u", "v", "w"][:maker.random.choice([1, 2, 2, 3, 4])]
+    for name in names:
+        maker.waiting = []
+        case.files[name] = maker.text(maker.blocks(maker.random.choice([3, 6, 12, 25])))
+    options = random_options(maker, with_every=False) + ["--save"]
+    if "--ignore-missing-entry" not in options:
+        options.append("--ignore-missing-entry")
+    case.runs.append(options + names)
+    cuts = sorted(maker.random.choices(range(len(names) + 1), k=maker.random.choice([1, 1, 2])))
+    resume = []
+    for start, end in zip([0] + cuts, cuts + [len(names)]):
+        case.runs.append(options + resume + names[start:end])
+        resume = ["--resume", "daikon.state"]
+    return case
+
+
+STATES_OF_A_CASE = 10
+
+
+def states_case(seed, second_form=True, grammar=2):
+    """The state of a file, and changed ones: each is resumed and saved again, and resumed with
+    a few records."""
+    maker = Maker(seed, second_form)
+    maker.plan_points()
+    first = maker.text(maker.blocks(maker.random.choice([1, 3, 6, 12])))
+    history = history_of(first, maker.random.randint(1, grammar), second_form)
+    text = state_file(history)
+    maker.waiting = []
+    case = Case({"s": text, "u": maker.text(maker.records(maker.random.choice([1, 1, 2, 5])))})
+    for k in range(STATES_OF_A_CASE):
+        case.files["s%d" % k] = changed_state(maker.random, text)
+        case.changed.add("s%d" % k)
+    for name in sorted(set(case.files) - {"u"}):
+        case.runs.append(resumed(name))
+        case.runs.append(resumed(name) + ["--ignore-missing-entry", "u"])
+    return case
+
+
+FORMS_OF_A_CASE = 20
+ALL_FORMS = [(row, state.encode()) for row in ROWS for state in sorted(set(STATES))
+             if state.split(" ")[0] in ROWS[row].words + ("empty", "holds", "broken")
+             or state in ("least 0", "one 3", "spot 1 2", "offset 3")]
+ALL_KINDS = [(b"x", b"int"), (b"y", b"int"), (b"z", b"int"), (b"b", b"boolean"),
+             (b"c", b"boolean"), (b"h", b"hashcode"), (b"g", b"hashcode"),
+             (b"s", b"java.lang.String"), (b"u", b"java.lang.String"), (b"a", b"int[]"),
+             (b"m", b"int[]"), (b"f", b"boolean[]"), (b"e", b"boolean[]"), (b"q", b"hashcode[]"),
+             (b"r", b"hashcode[]"), (b"t", b"java.lang.String[]"), (b"v", b"java.lang.String[]")]
+RECORD_OF_KIND = {b"int": b"-5", b"boolean": b"true", b"hashcode": b"0x7",
+                  b"java.lang.String": b'"a"', b"int[]": b"[4 2]", b"boolean[]": b"[true]",
+                  b"hashcode[]": b"[1 null]", b"java.lang.String[]": b'["a" null]'}
+
+
+def forms_case(seed, second_form=True, grammar=2):
+    """States of one point with two samples, one of them without any value, and a single slot.
+    Thirty seeds have them all."""
+    declaration = plain_point(b"P", ALL_KINDS)
+    history = history_of(declaration)
+    variables = history.table.points[0].variables
+    classes = b"".join(b"class %d\n" % place for place in range(len(variables)))
+    patterns = [b"pattern 1 " + bit * len(variables) + b"\n" for bit in (b"0", b"1")]
+    start = state_file(history)[:-len(b"end-state\n")] + b"samples 0 2\n" + classes
+    record = b"".join(b"%s\n%s\n1\n" % (name, RECORD_OF_KIND[rep]) for name, rep in ALL_KINDS)
+    case = Case({"u": b"P\n" + record})
+    for k in range(FORMS_OF_A_CASE):
+        row, state = ALL_FORMS[(seed * FORMS_OF_A_CASE + k) % len(ALL_FORMS)]
+        slot = b"slot %d %s %s\n" % (row, leaders_for(row, variables), state)
+        name = "s%d" % k
+        case.files[name] = start + b"".join(patterns) + slot + b"end\nend-state\n"
+        case.changed.add(name)
+        case.runs += [resumed(name), resumed(name) + ["u"]]
+    return case
+
+
+def leaders_for(row, variables):
+    """The first variables of the kinds that the row takes."""
+    ahead = [(variable.kind, place) for place, variable in enumerate(variables)]
+    found = []
+    for kind, _ in ROWS[row].takes:
+        found.append(next(pair for pair in ahead if pair[0] == kind))
+        ahead.remove(found[-1])
+    return b" ".join(b"%d" % place for _, place in found)
+
+
+def order_case(seed, second_form=True, grammar=2):
+    """A run over what is right, faulty or not there, and one that resumes what it saved."""
+    maker = Maker(seed, second_form)
+    maker.plan_points()
+    text = maker.text(maker.blocks(3))
+    state = state_file(history_of(text, maker.random.randint(1, grammar), second_form))
+    case = Case({"t": text, "f": text + b"\n\nundeclared\n", "s": state,
+                 "b": changed_state(maker.random, state) + b"x\n"})
+    for resumable in (["s"] * 6 + ["b", "t", "nowhere", ".", ""], ["daikon.state"]):
+        groups = [[name] for name in maker.random.choices(
+            ["t"] * 8 + ["f", "nowhere", "s", "."], k=maker.random.choice([0, 1, 1, 2, 3]))]
+        name = maker.random.choice(resumable)
+        resume = maker.random.choice([[], ["--resume", name], ["--resume=" + name]])
+        # (the generated records are read only now and then, since they take a while)
+        generates = maker.chance(0.5 if resume and name not in ("s", "daikon.state") else 0.03)
+        for group, rate in ((resume, 1), (["--generate", "1"], generates), (["--save"], 0.7),
+                            (["--stats"], 0.3), (["--min-samples", "1"], 0.9),
+                            (["--every", maker.random.choice(["1", "3"])], not generates and 0.4),
+                            (["--ignore-missing-entry"], 0.9)):
+            if maker.chance(rate):
+                groups.insert(maker.random.randint(0, len(groups)), group)
+        case.runs.append([word for group in groups for word in group])
+    return case
+
+
+def random_options(maker, with_every=True):
     chosen = []
     if maker.chance(0.85):
         chosen += ["--min-samples", maker.random.choice(["1", "1", "1", "2", "+3", "004", "0", "x"]
@@ -692,7 +830,7 @@ def random_options(maker):
             chosen.append(flag)
     if maker.chance(0.7):
         chosen.append("--ignore-missing-entry")
-    if maker.chance(0.1):
+    if with_every and maker.chance(0.1):
         chosen += ["--every", maker.random.choice(["1", "3", "7"])]
     if maker.chance(0.1):
         chosen += [maker.random.choice(["--select=P", "--select=M", "--select=", "--select=a b"])]
@@ -707,10 +845,114 @@ def mixed(maker, options, names):
     return options + names if maker.chance(0.8) else names + options
 
 
-def case_of(seed, one_file=False, second_form=True, grammar=2):
-    if one_file:
-        return one_file_case(seed, second_form)
-    return full_case(seed, second_form, grammar)
+# ---------------------------------------------------------------- the other programs
+
+def several_files(maker, records):
+    """One to three files, now and then with faults put in."""
+    files = {}
+    for name in ["t", "u", "v"][:maker.random.choice([1, 1, 2, 3])]:
+        maker.waiting = []
+        text = maker.text(maker.blocks(maker.random.choice(records)))
+        files[name] = maker.mutated(text) if maker.chance(0.03) else text
+    return files
+
+
+def some_words(maker, *choices):
+    return [word for words, rate in choices if maker.chance(rate) for word in words]
+
+
+def split_case(seed, second_form=True, grammar=2):
+    maker = Maker(seed, second_form)
+    maker.theme = maker.random.choice(["truths", "truths", "mixed"])
+    maker.plan_points()
+    case = Case(several_files(maker, [3, 6, 12, 25]))
+    words = some_words(maker, (["--min-samples", maker.random.choice(["1", "2", "3"])], 0.9),
+                       (["--ignore-missing-entry"], 0.8), (["--save"], 0.01))
+    case.runs.append(words + sorted(case.files))
+    return case
+
+
+def check_case(seed, second_form=True, grammar=2):
+    """The lines of a report about the first file, some of them changed, against the files."""
+    maker = Maker(seed, second_form)
+    maker.plan_points()
+    case = Case(several_files(maker, [3, 6, 12, 25]))
+    filters = [name for name in FILTERS if maker.chance(0.6)]
+    text = report(history_of(case.files["t"]), 1, b"", filters, maker.chance(0.2))
+    lines = text.split(b"\n")
+    for _ in range(maker.random.choice([0, 1, 3, 8])):
+        maker.random.choice(ASSERTION_CHANGES)(maker.random, lines,
+                                               maker.random.randrange(len(lines)))
+        lines = lines or [b""]
+    case.files["a"] = b"\n".join(lines[:400])
+    words = some_words(maker, (["--ignore-missing-entry"], 0.8), (["--stats"], 0.01))
+    names = sorted(set(case.files) - {"a"})
+    names = maker.random.sample(names, maker.random.randint(0, len(names)))
+    case.runs.append(words + ["a"] + names)
+    return case
+
+
+def merge_case(seed, second_form=True, grammar=2):
+    """States of files with the same declarations, or files read in turns."""
+    maker = Maker(seed, second_form)
+    maker.plan_points()
+    declarations = [maker.declare(point) for point in maker.points]
+    names = ["s1", "s2", "s3"][:maker.random.choice([1, 2, 2, 3])]
+    in_turns = maker.chance(0.4)
+    case = Case()
+    least = some_words(maker, (["--min-samples", "1"], 0.9))
+    for name in names:
+        maker.waiting = []
+        blocks = declarations + maker.records(maker.random.choice([0, 1, 3, 6, 12]))
+        if maker.chance(0.1):
+            blocks.insert(maker.random.randint(0, len(blocks)), maker.odd_block())
+        if maker.chance(0.05):
+            blocks.pop(maker.random.randrange(len(blocks)))
+        text = maker.text(blocks)
+        if not in_turns:
+            text = state_file(history_of(text, 1 if maker.chance(0.1) else 2))
+            text = changed_state(maker.random, text) if maker.chance(0.2) else text
+        case.files[name] = text
+    turns = ["--turns", maker.random.choice(["1", "2", "5", "1000000000"])] if in_turns else []
+    case.runs.append(least + turns + names)
+    if not in_turns:
+        case.runs.append(least + names[::-1])
+    return case
+
+
+def heading_line(random_, lines, at):
+    lines.insert(at, random_.choice([b"=", b"==", b"=====", b"= ", b"P", b"P  [4]", b"M:::EXIT",
+                                     b"M:::EXIT  [x]", b"", b" ", b"--- end", b"stats x"]))
+
+
+def other_count(random_, lines, at):
+    lines[at] = re.sub(rb"  \[[0-9]+\]$", random_.choice([b"", b" [4]", b"  []", b"  [4]  [5]",
+                                                          b"  [4] "]), lines[at])
+
+
+def other_number(random_, lines, at):
+    number = random_.choice([b"0", b"1", b"2", b"3", b"-1", b"99999999999999999999", b"01"])
+    lines[at] = re.sub(rb"-?[0-9]+", number, lines[at], count=1)
+
+
+def carriage_return(random_, lines, at):
+    lines[at] += random_.choice([b"\r", b"\r\r", b" "])
+
+
+ASSERTION_CHANGES = [delete_line, double_line, exchange_lines, odd_byte, delete_byte, heading_line,
+                     heading_line, other_count, other_number, other_number, other_number,
+                     carriage_return]
+
+
+# ---------------------------------------------------------------- the case of a seed
+
+def without_grammar(case_of_seed):
+    return lambda seed, second_form, grammar: case_of_seed(seed, second_form)
+
+
+KINDS = {"one-file": without_grammar(one_file_case), "full": full_case, "cut": cut_case,
+         "states": states_case, "forms": forms_case, "order": order_case, "split": split_case,
+         "check": check_case, "merge": merge_case}
 
 
 def write_files(case, folder):
@@ -721,9 +963,9 @@ def write_files(case, folder):
 
 def main(words):
     options = [word for word in words if word.startswith("--")]
-    seed, folder = [word for word in words if not word.startswith("--")]
-    case = case_of(int(seed), "--one-file" in options, "--first-form" not in options,
-                   1 if "--first-grammar" in options else 2)
+    kind, seed, folder = [word for word in words if not word.startswith("--")]
+    case = KINDS[kind](int(seed), "--first-form" not in options,
+                       1 if "--first-grammar" in options else 2)
     write_files(case, folder)
     for run in case.runs:
         print(" ".join(run))

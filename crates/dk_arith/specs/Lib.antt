@@ -1,4 +1,6 @@
+-- cited by public clauses
 pub mod Gcd
 pub mod Directions
-pub mod Vectors
 pub mod Laws
+-- what those are made of, and words for the crates above
+pub mod Vectors

@@ -1,2 +1,3 @@
+mod Asking
 mod Making
 mod Running

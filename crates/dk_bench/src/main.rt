@@ -1,21 +1,29 @@
-//! A benchmark: how long the scans of sequences and the rows take, beside plain loops; and traces for measuring how fast they are read.
+//! A benchmark: how long the scans of sequences and the rows take, beside plain loops, and what a question to a point with children
+//! costs; and traces for measuring how fast they are read.
 #![tactic(auto)]
 
+mod faults;
+mod hierarchy;
 mod lending;
+mod noise;
+mod questions;
 mod rows;
 mod samples;
 mod scans;
 mod slot;
+mod tables;
 mod timing;
 mod traces;
 
+use faults::Fault;
 use std::{env, io};
 use traces::{Records, write_trace};
 
-const USAGE: &str = "usage: dk_bench scans | rows | traces KIND COUNT
-  scans   nanoseconds for each number, of a plain loop and of the scan
-  rows    nanoseconds for each slot, of a plain loop, of a sample that changes none, and of a point and a join
-  traces  writes a trace of COUNT records: numbers, short, calls or sequences
+const USAGE: &str = "usage: dk_bench scans | rows | hierarchy | traces KIND COUNT
+  scans      nanoseconds for each number, of a plain loop and of the scan
+  rows       nanoseconds for each slot, of a plain loop, of a sample that changes none, and of a point and a join
+  hierarchy  nanoseconds for each question to points with children: a chain, a star, and a parent of 30 variables
+  traces     writes a trace of COUNT records: numbers, short, calls or sequences
 ";
 
 // The records that a word names.
@@ -46,20 +54,21 @@ fn traced(
     Ok(true)
 }
 
-fn main(rt: HostRuntime) -> io::Result<()> {
+fn main(rt: HostRuntime) -> Result<(), Fault> {
     let mut words = env::args(&rt)?;
     match words.nth(1) {
-        Some(word) if word.as_str() == "scans" => scans::print_table(&rt),
-        Some(word) if word.as_str() == "rows" => rows::print_table(&rt),
+        Some(word) if word.as_str() == "scans" => Ok(scans::print_table(&rt)?),
+        Some(word) if word.as_str() == "rows" => Ok(rows::print_table(&rt)?),
+        Some(word) if word.as_str() == "hierarchy" => hierarchy::print_table(&rt),
         Some(word) if word.as_str() == "traces" => {
             let kind = words.next();
             let count = words.next();
             if traced(&rt, kind, count)? {
                 Ok(())
             } else {
-                print!(rt; "{USAGE}")
+                Ok(print!(rt; "{USAGE}")?)
             }
         }
-        _ => print!(rt; "{USAGE}"),
+        _ => Ok(print!(rt; "{USAGE}")?),
     }
 }

@@ -229,8 +229,8 @@ fn plain(a: &[i64; 16], b: &[i64; 16], pairs: &[[u8; 2]]) -> u64 {
     found
 }
 
-// The nanoseconds for each pair of the plain loop.
-fn plain_nanos(rt: &(impl Clock + AllocGlobal)) -> io::Result<f64> {
+/// The nanoseconds for each pair of the plain loop.
+pub fn plain_nanos(rt: &(impl Clock + AllocGlobal)) -> io::Result<f64> {
     let a = [0, 1, 2, 3, 4, 5, 6, 7, 8, 9, 10, 11, 12, 13, 14, 15];
     let b = [1, 3, 4, 5, 6, 7, 8, 9, 10, 11, 12, 13, 14, 15, 16, 17];
     let mut pairs = Vec::new(rt.alloc());

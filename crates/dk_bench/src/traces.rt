@@ -1,6 +1,7 @@
 // Traces for measuring how fast they are read.
 ghost use Rattle.std.specs.Prelude.{◌<◌};
 
+use crate::noise::Noise;
 use std::io::{self, BufWriter, Write};
 
 /// What the records of a trace hold.
@@ -14,29 +15,6 @@ pub enum Records {
     Calls,
     /// A sequence of 64 whole numbers, and a string.
     Sequences,
-}
-
-// Numbers without a pattern, the same ones in each run.
-#[derive(Drop)]
-struct Noise {
-    state: u64,
-}
-
-impl Noise {
-    fn next(&mut self) -> u64 {
-        self.state ^= self.state << 13;
-        self.state ^= self.state >> 7;
-        self.state ^= self.state << 17;
-        self.state
-    }
-
-    // A number below the bound.
-    fn below(&mut self, bound: u64) -> u64
-        requires { 0 < bound }
-        ensures { result < bound }
-    {
-        (self.next() >> 8) % bound
-    }
 }
 
 // Declares a point of this type with variables of these names and kinds.
@@ -90,7 +68,7 @@ fn write_all_numbers(
         (f, "int"),
     ];
     declare(out, point, "point", &vars)?;
-    let mut noise = Noise { state: 1 };
+    let mut noise = Noise::new();
     for _ in 0..count {
         write_numbers(out, &mut noise, point, &names, bound)?;
     }
@@ -103,7 +81,7 @@ fn write_calls(out: &mut impl Write, count: u64) -> io::Result<()> {
     declare(out, "Queue.push(int):::ENTER", "enter", &vars)?;
     let vars = [("this.size", "int"), ("item", "int"), ("return", "int")];
     declare(out, "Queue.push(int):::EXIT42", "subexit", &vars)?;
-    let mut noise = Noise { state: 1 };
+    let mut noise = Noise::new();
     for pair in 0..count / 4 {
         let outer = pair.wrapping_mul(2);
         let inner = outer.wrapping_add(1);
@@ -134,7 +112,7 @@ fn write_sequences(out: &mut impl Write, count: u64) -> io::Result<()> {
         ("this.name", "java.lang.String"),
     ];
     declare(out, "Buffer.fill", "point", &vars)?;
-    let mut noise = Noise { state: 1 };
+    let mut noise = Noise::new();
     for _ in 0..count {
         write!(out, "Buffer.fill\nthis.items[..]\n[{}", noise.below(10_000))?;
         for _ in 0..63u8 {

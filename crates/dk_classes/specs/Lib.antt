@@ -1,4 +1,6 @@
+-- cited by public clauses
 pub mod Leaders
 pub mod Classes
-pub mod Keys
 pub mod Laws
+-- inner: cited by the clauses of bodies and in proofs alone
+pub mod Keys

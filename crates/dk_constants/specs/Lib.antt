@@ -1,3 +1,4 @@
+-- cited by public clauses
 pub mod Known
 pub mod Constants
 pub mod Laws

@@ -39,12 +39,16 @@ pub mod Ranking
 pub mod Choices
 pub mod AllParts
 pub mod Narrowing
+pub mod Running
 pub mod Applying
 pub mod Leaving
 pub mod Settling
 pub mod ReachedRows
+pub mod Losing
 pub mod Freeing
 pub mod Numbering
 pub mod Swept
 pub mod Opened
+pub mod Ordered
+pub mod Saving
 mod Examples

@@ -62,13 +62,13 @@ precedes_not_itself (v ∷ vs) h = elim h as (λ _. ⊥) [ inl l ↦ omega (arit
 
 -- ---- slots
 module _ (row : RowId) (vars : List VarId) where
-  before_true : (slot : Slot) → SlotBefore slot (record { row = row; leaders = vars; state = slot.state }) → is_before row vars slot ≡ true
+  pub before_true : (slot : Slot) → SlotBefore slot (record { row = row; leaders = vars; state = slot.state }) → is_before row vars slot ≡ true
   before_true slot h = elim h as (λ _. is_before row vars slot ≡ true) [
     | inl l ↦ or_left (nat_lt slot.row.0 row.0) (slot.row.0 == row.0 && precedes slot.leaders vars) (lt-ltb slot.row.0 row.0 l)
     | inr r ↦ or_right (nat_lt slot.row.0 row.0) (slot.row.0 == row.0 && precedes slot.leaders vars) (both (slot.row.0 == row.0) (precedes slot.leaders vars) (eq-eqb slot.row.0 row.0 (ap (λ (q : RowId). q.0) r.0)) (precedes_true slot.leaders vars r.1))
   ]
 
-  true_before : (slot : Slot) → is_before row vars slot ≡ true → SlotBefore slot (record { row = row; leaders = vars; state = slot.state })
+  pub true_before : (slot : Slot) → is_before row vars slot ≡ true → SlotBefore slot (record { row = row; leaders = vars; state = slot.state })
   true_before slot h = elim (cases_Bool (nat_lt slot.row.0 row.0)) as (λ _. SlotBefore slot (record { row = row; leaders = vars; state = slot.state })) [
     | inl l ↦ inl (ltb-true slot.row.0 row.0 l)
     | inr n ↦
@@ -77,7 +77,7 @@ module _ (row : RowId) (vars : List VarId) where
   ]
 
   -- what stands in front of a slot that comes before the row and variables comes before them too
-  earlier : (a b : Slot) → SlotBefore a b → is_before row vars b ≡ true → is_before row vars a ≡ true
+  pub earlier : (a b : Slot) → SlotBefore a b → is_before row vars b ≡ true → is_before row vars a ≡ true
   earlier a b ab h = before_true a (elim ab as (λ _. SlotBefore a (record { row = row; leaders = vars; state = a.state })) [
     | inl l ↦ elim (true_before b h) as (λ _. SlotBefore a (record { row = row; leaders = vars; state = a.state })) [
       | inl m ↦ inl (omega (arith, l, m))

@@ -1,5 +1,5 @@
 -- What is read from the kept parts of samples is what the samples say.
-use Rattle.std.specs.Prelude.{◌≡◌, ◌↔◌, ◌<◌, ◌++◌, Contains, IsTrue, List, [], ◌∷◌, length}
+use Rattle.std.specs.Prelude.{◌≡◌, ◌↔◌, ◌<◌, ◌≤◌, ◌^◌, ◌++◌, Contains, IsTrue, List, [], ◌∷◌, length}
 use Rattle.std.specs.List.Sorted.{IsPermutation}
 use Rattle.dk_base.specs.declared.kinds.VarId.{VarId}
 use Rattle.dk_base.specs.declared.kinds.VarInfo.{VarInfo}
@@ -23,6 +23,7 @@ use Rattle.dk_engine.specs.Conditions.{AreParts}
 use Rattle.dk_engine.specs.Exact.{AreOfPoint, AreSamples, AreSlots, IsKeptOf}
 use Rattle.dk_engine.specs.Feeding.{IsFed, read_after, slots_of}
 use Rattle.dk_engine.specs.Reading.{agree_read, count_read, read}
+use Rattle.dk_engine.specs.Saved.{AreSavedParts, parts_of}
 use Rattle.dk_engine.specs.declared.kept.Kept.{Kept}
 use Rattle.dk_engine.specs.declared.now.Now.{Now}
 use Rattle.dk_engine.specs.declared.slot.Slot.{Slot}
@@ -50,6 +51,10 @@ AgreeReadIsAgreement = OfKept (λ grammar infos samples kept. (v w : VarId) → 
 -- the conditions
 abbrev pub KeptPartsMeetTheirConditions : Type 0
 KeptPartsMeetTheirConditions = OfKept (λ grammar infos samples kept. AreParts grammar infos kept)
+
+-- what is kept of 1 to 2^40 samples is saved as parts of which an engine can be made
+abbrev pub KeptPartsAreSaved : Type 0
+KeptPartsAreSaved = OfKept (λ grammar infos samples kept. 1 ≤ length samples → length samples ≤ 2 ^ 40 → AreSavedParts grammar infos (parts_of kept))
 
 -- ---- one sample more
 -- the states with one sample more

@@ -1,18 +1,22 @@
-pub mod Parts
-pub mod Ordering
+-- cited by public clauses
 pub mod Exact
 pub mod Reading
 pub mod Conditions
 pub mod Feeding
-pub mod Memory
 pub mod Levels
-pub mod Numbers
-pub mod Reached
-pub mod Sweeps
-pub mod Merged
 pub mod Laws
-pub mod Step
-pub mod Choices
-pub mod Narrow
 pub mod StepLaws
 pub mod Saved
+-- what those are made of, and words for the crates above
+pub mod Parts
+pub mod Numbers
+pub mod Reached
+pub mod Step
+pub mod Choices
+-- inner: cited by the clauses of bodies and in proofs alone
+pub mod Ordering
+pub mod Memory
+pub mod Sweeps
+pub mod Merged
+pub mod Narrow
+pub mod Restored

@@ -1,5 +1,5 @@
 -- The parts of a narrow step: what its functions give, from the slots that are kept, without a sweep.
-use Rattle.std.specs.Prelude.{◌≡◌, ◌≢◌, ◌⊎◌, ◌↔◌, ◌<◌, ◌&&◌, ◌==◌, ◌++◌, ℕ, Bool, true, false, All, Contains, List, [], filter, flat_map, length, map, not, slice_index_or, slice_set, if◌then◌else◌}
+use Rattle.std.specs.Prelude.{◌≡◌, ◌≢◌, ◌⊎◌, ◌↔◌, ◌<◌, ◌≤◌, ◌&&◌, ◌==◌, ◌++◌, ℕ, Bool, true, false, All, Contains, List, [], filter, flat_map, length, map, not, slice_index_or, slice_set, if◌then◌else◌}
 use Rattle.std.specs.List.{AllPairs, list_any}
 use Rattle.dk_base.specs.declared.kinds.VarId.{VarId}
 use Rattle.dk_base.specs.declared.kinds.VarInfo.{VarInfo}
@@ -52,6 +52,14 @@ left_of made slots = filter (λ s. not (is_broken s.state)) (map (λ s. with_sta
 -- the state that is made of a slot is the one that it has, which isn't Broken
 abbrev pub Stays : (Slot → State) → Slot → Type 0
 Stays made slot = (made slot ≡ slot.state) × (slot.state ≢ Broken)
+
+-- those from a place up to another do
+abbrev pub StayBetween : ℕ → ℕ → (Slot → State) → List Slot → Type 0
+StayBetween from to made slots = (k : ℕ) → from ≤ k → k < to → Stays made (slot_in slots k)
+
+-- a slot of the row that isn't Broken and, where it is asked, can't close
+abbrev pub is_in_run : Bool → RowId → Slot → Bool
+is_in_run asked row slot = slot.row.0 == row.0 && (not (is_broken slot.state) && not (asked && can_close slot))
 
 -- a slot's place with the state that is made of it
 pub record IsChange (made : Slot → State) (slots : List Slot) (change : Change) : Type 0 where

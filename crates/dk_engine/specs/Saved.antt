@@ -1,8 +1,12 @@
 -- The kept parts in the order in which they are saved.
+use Rattle.std.specs.Prelude.{◌≡◌, ◌≤◌, ◌^◌, List}
+use Rattle.dk_base.specs.declared.kinds.VarInfo.{VarInfo}
 use Rattle.dk_classes.specs.Leaders.{own_leaders}
 use Rattle.dk_parts.specs.Classes.{classes_of}
 use Rattle.dk_parts.specs.Entries.{all_known_of}
 use Rattle.dk_parts.specs.Patterns.{patterns_of}
+use Rattle.dk_template.specs.declared.grammar.Grammar.{Grammar}
+use Rattle.dk_engine.specs.Conditions.{AreParts}
 use Rattle.dk_engine.specs.declared.kept.Kept.{Kept}
 use Rattle.dk_engine.specs.declared.parts.Parts.{Parts}
 
@@ -15,3 +19,11 @@ parts_of kept = record {
   known = all_known_of kept.known;
   slots = kept.slots;
 }
+
+-- parts of some kept parts that meet the conditions, and of 1 to 2^40 samples
+pub record AreSavedParts (grammar : Grammar) (infos : List VarInfo) (parts : Parts) : Type 0 where
+  pub kept : Kept
+  pub meets : AreParts grammar infos kept
+  pub some : 1 ≤ parts.samples
+  pub few : parts.samples ≤ 2 ^ 40
+  pub saved : parts_of kept ≡ parts

@@ -108,6 +108,14 @@ impl<'a> After<'a> {
         self.engine.vars()
     }
 
+    /// The sample.
+    pub(crate) fn sample(&self) -> &[View<'_>]
+        ensures sample { values_of result.now ≡ self.now.sample }
+        ensures sampled { IsSample self.now.whole.infos self.now.sample }
+    {
+        self.sample
+    }
+
     // The state of a row over variables, with the tuple of the variables in the sample.
     fn with_values(
         &self,

@@ -1,18 +1,18 @@
 // The slots that a sample changes.
-ghost use Rattle.std.specs.Prelude.{◌≡◌, ◌<◌, ◌++◌, ◌∷◌, ◌&&◌, ◌==◌, [], All, IfNone, IfOk, IfSome, length, not};
+ghost use Rattle.std.specs.Prelude.{◌≡◌, ◌<◌, ◌++◌, ◌∷◌, [], All, IfNone, IfOk, IfSome, length};
 ghost use Rattle.std.specs.List.{list_any};
-ghost use Rattle.dk_template.specs.Premises.{row_of, suffices};
 ghost use Rattle.dk_template.specs.Proper.{IsProper};
 ghost use Rattle.dk_template.specs.Templates.{form_of};
 ghost use Rattle.dk_engine.specs.Feeding.{read_after};
-ghost use Rattle.dk_engine.specs.Narrow.{AreChanges, Stays, closes, loses, loses_by, lost_places, may_begin, outcome};
+ghost use Rattle.dk_engine.specs.Narrow.{AreChanges, StayBetween, Stays, closes, loses, loses_by, lost_places, may_begin, outcome, slot_in};
 ghost use Rattle.dk_engine.specs.Step.{IsPlaced, can_close, is_empty, is_of_elements};
 
 use crate::Slot;
 use crate::after::After;
+use crate::runs::still_to;
 use dk_base::{List, NoMemory};
-use dk_suppress::{suppressed, table};
-use dk_template::{Premise, RowId, State, asked_row, suffices_for};
+use dk_suppress::{asked_of, suppressed};
+use dk_template::{RowId, State, suffices_for};
 use std::alloc::Global;
 
 /// A slot's place with the state that a sample makes of it; one that goes is Broken.
@@ -30,7 +30,7 @@ fn is_empty(state: &State) -> bool
 }
 
 // Whether a rule can begin to suppress the slot: it was Empty, or it asks for the least or the greatest element.
-fn can_close(slot: &Slot) -> bool
+pub(crate) fn can_close(slot: &Slot) -> bool
     ensures { result ≡ can_close slot.now }
 {
     is_empty(&slot.state) || slot.row.0 == 38
@@ -61,6 +61,42 @@ fn change_of(after: &After<'_>, asked: bool, slot: &Slot) -> Result<Option<State
     Ok(Some(state))
 }
 
+// Up to where the slots from a place on are known to stay as they are: that far, if it is behind the place, and else what is found.
+fn still_from(after: &After<'_>, asked: bool, slots: &[Slot], place: usize, still: usize) -> usize
+    requires placed { All (λ slot. IsPlaced after.now.whole.grammar after.now.whole.infos after.now.whole.kept.leaders slot.row slot.leaders) slots.now }
+    requires proper { All (λ slot. IsProper (form_of slot.row) slot.state) slots.now }
+    requires within { place < length slots.now }
+    requires still { StayBetween place still (outcome asked (read_after after.now.whole.kept after.now.sample) after.now.sample) slots.now }
+    ensures { StayBetween place result (outcome asked (read_after after.now.whole.kept after.now.sample) after.now.sample) slots.now }
+{
+    if place < still {
+        still
+    } else {
+        still_to(after, asked, slots, place)
+    }
+}
+
+// The state that the sample makes of the slot at a place, if the slot doesn't stay as it is.
+fn change_at(
+    after: &After<'_>,
+    asked: bool,
+    slots: &[Slot],
+    place: usize,
+    still: usize,
+) -> Result<Option<State>, NoMemory>
+    requires placed { All (λ slot. IsPlaced after.now.whole.grammar after.now.whole.infos after.now.whole.kept.leaders slot.row slot.leaders) slots.now }
+    requires proper { All (λ slot. IsProper (form_of slot.row) slot.state) slots.now }
+    requires within { place < length slots.now }
+    requires still { StayBetween place still (outcome asked (read_after after.now.whole.kept after.now.sample) after.now.sample) slots.now }
+    ensures stays { IfOk result (λ o. IfNone o (Stays (outcome asked (read_after after.now.whole.kept after.now.sample) after.now.sample) (slot_in slots.now place))) }
+    ensures state { IfOk result (λ o. IfSome o (λ s. s ≡ outcome asked (read_after after.now.whole.kept after.now.sample) after.now.sample (slot_in slots.now place))) }
+{
+    if place < still {
+        return Ok(None);
+    }
+    change_of(after, asked, &slots[place])
+}
+
 // With the slot's change, if it doesn't stay as it is.
 fn with_change(
     changes: List<Change>,
@@ -89,33 +125,21 @@ pub(crate) fn changes(
     ensures { IfOk result (AreChanges (outcome asked (read_after after.now.whole.kept after.now.sample) after.now.sample) slots.now) }
 {
     let mut changes = List::new(alloc);
-    for (place, slot) in slots.iter().enumerate() {
-        let state = change_of(after, asked, slot)?;
+    let mut still = 0;
+    for place in 0..slots.len() {
+        still = still_from(after, asked, slots, place, still);
+        let state = change_at(after, asked, slots, place, still)?;
         changes = with_change(changes, place, state)?;
     }
     Ok(changes)
 }
 
-// Whether one of the premises is about the row, and is content with the old state and not with the new one.
-fn loses_one(premises: &[Premise], row: RowId, old: &State, new: &State) -> bool
-    ensures { result ≡ list_any (λ p. (row_of p).0 == row.0 && (suffices p old.now && not (suffices p new.now))) premises.now }
-{
-    for premise in premises {
-        if asked_row(premise).0 == row.0
-            && (suffices_for(premise, old) && !suffices_for(premise, new))
-        {
-            return true;
-        }
-    }
-    false
-}
-
-// Whether some rule's is.
+// Whether a premise about the row is content with the old state and not with the new one.
 fn loses(row: RowId, old: &State, new: &State) -> bool
     ensures { result ≡ loses row old.now new.now }
 {
-    for rule in table() {
-        if loses_one(rule.premises, row, old, new) {
+    for premise in asked_of(row) {
+        if suffices_for(premise, old) && !suffices_for(premise, new) {
             return true;
         }
     }

@@ -12,7 +12,7 @@ use dk_base::List;
 use dk_template::State;
 
 // Whether the slot's state is Broken.
-fn is_broken(state: &State) -> bool
+pub(crate) fn is_broken(state: &State) -> bool
     ensures { result ≡ is_broken state.now }
 {
     matches!(state, State::Broken)

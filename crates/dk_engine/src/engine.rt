@@ -141,7 +141,7 @@ impl Engine {
     }
 
     // One level over a lower one.
-    fn over<'a, B: Answers>(&'a self, below: u8, lower: B) -> Over<'a, B>
+    pub(crate) fn over<'a, B: Answers>(&'a self, below: u8, lower: B) -> Over<'a, B>
         requires grammar { B.grammar lower ≡ self.now.grammar }
         requires infos { B.infos lower ≡ self.now.infos }
         requires lower { B.answered lower ≡ read_leaders below self.now.kept }

@@ -1,5 +1,5 @@
 //! What is kept of samples, and what is read from it.
-ghost use Rattle.dk_engine.specs.Laws.{AgreeReadIsAgreement, CountReadIsCount, FedPartsAreExact, KeptPartsAreDetermined, KeptPartsMeetTheirConditions, OrderDoesNotMatter, ReadAfterIsFit, ReadingIsFit, SlotsAreDetermined, SlotsOfFitsAreExact};
+ghost use Rattle.dk_engine.specs.Laws.{AgreeReadIsAgreement, CountReadIsCount, FedPartsAreExact, KeptPartsAreDetermined, KeptPartsAreSaved, KeptPartsMeetTheirConditions, OrderDoesNotMatter, ReadAfterIsFit, ReadingIsFit, SlotsAreDetermined, SlotsOfFitsAreExact};
 
 /// What is read from the kept parts of samples, and from nothing else, is what the samples say: the state of each row over variables
 /// that it admits, in any order and with any repeats; in how many samples variables are present together; and which variables agree.
@@ -12,6 +12,11 @@ pub fn reading_is_exact()
 /// What is kept of samples meets the conditions of kept parts.
 pub fn kept_parts_meet_their_conditions()
     ensures { KeptPartsMeetTheirConditions }
+{}
+
+/// What is kept of 1 to 2^40 samples is saved as parts of which an engine can be made.
+pub fn kept_parts_are_saved()
+    ensures { KeptPartsAreSaved }
 {}
 
 /// What is read from the kept parts, joined with a sample, is what the samples and that one say.

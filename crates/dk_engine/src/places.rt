@@ -42,7 +42,7 @@ fn precedes(vars: &[VarId], others: &[VarId]) -> bool
 }
 
 // Whether the slot is of an earlier row, or of the same row with leaders that precede.
-fn is_before(slot: &Slot, row: RowId, leaders: &[VarId]) -> bool
+pub(crate) fn is_before(slot: &Slot, row: RowId, leaders: &[VarId]) -> bool
     ensures { result ≡ is_before row leaders.now slot.now }
 {
     slot.row.0 < row.0 || (slot.row.0 == row.0 && precedes(slot.leaders.as_slice(), leaders))

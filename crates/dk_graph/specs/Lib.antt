@@ -1,3 +1,4 @@
+-- cited by public clauses
 pub mod Names
 pub mod Notes
 pub mod Graphs

@@ -1,8 +1,10 @@
+-- cited by public clauses
 pub mod Samples
 pub mod Edges
-pub mod Ways
 pub mod Descent
 pub mod Laws
 pub mod WayLaws
 pub mod Merging
 pub mod Standing
+-- what those are made of, and words for the crates above
+pub mod Ways

@@ -3,3 +3,5 @@ pub mod Grouping
 pub mod Present
 pub mod PatternOrder
 pub mod Weights
+pub mod Leading
+pub mod Restoring

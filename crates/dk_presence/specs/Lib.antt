@@ -1,3 +1,4 @@
+-- cited by public clauses
 pub mod Patterns
 pub mod Steps
 pub mod Laws

@@ -1,6 +1,9 @@
-pub mod Parts
+-- cited by public clauses
 pub mod Texts
-pub mod Shown
 pub mod Sections
-pub mod Names
 pub mod Laws
+-- what those are made of, and words for the crates above
+pub mod Parts
+pub mod Names
+-- inner: cited by the clauses of bodies and in proofs alone
+pub mod Shown

@@ -1,5 +1,5 @@
 -- Variables of which what is kept says nothing stand in no instance that holds and that no rule suppresses.
-use Rattle.std.specs.Prelude.{◌≡◌, ◌≢◌, ◌<◌, ◌&&◌, ◌==◌, Bool, true, false, not, All, Contains, List, [], ◌∷◌, filter, if◌then◌else◌, length, Option, Some, None, refl, unwrap_or}
+use Rattle.std.specs.Prelude.{◌≡◌, ◌≢◌, ◌<◌, ◌&&◌, ◌==◌, Bool, true, false, All, Contains, List, [], ◌∷◌, filter, if◌then◌else◌, length, Option, Some, None, refl, unwrap_or}
 use Rattle.std.specs.List.{list_any}
 use Rattle.std.specs.Option.{option_map_or}
 use Rattle.std.proofs.Common.{◌∙◌, ap, arith, get_or, inl, inr, sym}
@@ -34,19 +34,9 @@ use Rattle.dk_template.specs.Fitting.{fits}
 use Rattle.dk_template.specs.Templates.{IsRowOf}
 use Rattle.dk_template.specs.declared.grammar.Grammar.{Grammar}
 use Rattle.dk_template.specs.declared.grammar.RowId.{RowId}
-use Rattle.dk_report.specs.Narrowing.{is_fixed, is_left, is_of_row, says_nothing, stands_in}
+use Rattle.dk_report.specs.Narrowing.{is_fixed, is_left, is_of_row, stands_in}
 
 -- ---- states
-not-nothing : (s : State) → fits s ≡ true → says_nothing s ≡ false
-not-nothing s h = elim (cases_Bool (says_nothing s)) as (λ _. says_nothing s ≡ false) [
-  | inl nothing ↦ absurd (false≢true (ap fits (sym (is-empty s nothing)) ∙ h))
-  | inr some ↦ some
-]
-  where
-    is-empty : (s : State) → says_nothing s ≡ true → s ≡ Empty
-    is-empty Empty e = refl
-    is-empty _ e = absurd (false≢true e)
-
 not-broken : (s : State) → fits s ≡ true → s ≢ Broken
 not-broken s h e = false≢true (ap fits (sym e) ∙ h)
 
@@ -115,7 +105,10 @@ module _ (g : Grammar) (infos : List VarInfo) (samples : List (List Value)) (kep
         })
 
     of-row : is_of_row row slot_is ≡ true
-    of-row = and_from (row.0 == row.0) (not (says_nothing (fit row vars samples))) (eq-eqb row.0 row.0 refl) (ap not (not-nothing (fit row vars samples) holds))
+    of-row =
+        let parts = and_parts (admits row infos vars) (is_written row vars && are_distinct vars) asked in
+        and_from (row.0 == row.0) (fits (fit row vars samples) && are_distinct vars) (eq-eqb row.0 row.0 refl)
+        (and_from (fits (fit row vars samples)) (are_distinct vars) holds (and_parts (is_written row vars) (are_distinct vars) parts.1).1)
 
     pub left : (v : VarId) → IsIn v vars → is_left kept row v ≡ true
     left v i = elim (cases_Bool (all_known kept.known vars)) as (λ _. is_left kept row v ≡ true) [

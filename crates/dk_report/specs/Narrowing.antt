@@ -10,12 +10,12 @@ use Rattle.dk_engine.specs.Levels.{Whole}
 use Rattle.dk_engine.specs.declared.kept.Kept.{Kept}
 use Rattle.dk_engine.specs.declared.slot.Slot.{Slot}
 use Rattle.dk_filters.specs.declared.candidate.Candidate.{Candidate}
-use Rattle.dk_forms.specs.declared.states.State.{State}
-use Rattle.dk_forms.specs.declared.states.State.TheVariants as state
+use Rattle.dk_fits.specs.Instances.{are_distinct}
 use Rattle.dk_hierarchy.specs.Merging.{AreWays, Joint}
 use Rattle.dk_hierarchy.specs.declared.way.Way.{Way}
 use Rattle.dk_presence.specs.Patterns.{has}
 use Rattle.dk_samples.specs.Samples.{is_present}
+use Rattle.dk_template.specs.Fitting.{fits}
 use Rattle.dk_template.specs.Templates.{arity_of}
 use Rattle.dk_template.specs.declared.grammar.RowId.{RowId}
 use Rattle.dk_report.specs.Asked.{over, standing_of}
@@ -28,13 +28,9 @@ use Rattle.dk_report.specs.declared.sweeping.Standing.{Standing}
 abbrev pub is_fixed : Entries → VarId → Bool
 is_fixed known v = option_map_or is_present (known_at known v) false
 
-abbrev pub says_nothing : State → Bool
-says_nothing state.Empty = true
-says_nothing _ = false
-
--- a slot of the row that says something of some samples
+-- a slot of the row that holds, over leaders of which none comes twice
 abbrev pub is_of_row : RowId → Slot → Bool
-is_of_row row slot = slot.row.0 == row.0 && not (says_nothing slot.state)
+is_of_row row slot = slot.row.0 == row.0 && (fits slot.state && are_distinct slot.leaders)
 
 -- the variable stands in one of the slots
 abbrev pub stands_in : List Slot → VarId → Bool

@@ -20,8 +20,8 @@ fn is_none_of(v: VarId, others: &[VarId]) -> bool
     others.iter().all(|w| v.0 != w.0)
 }
 
-// Whether no variable comes twice.
-fn are_distinct(vars: &[VarId]) -> bool
+/// Whether no variable comes twice.
+pub(crate) fn are_distinct(vars: &[VarId]) -> bool
     ensures { result ≡ are_distinct vars.now }
 {
     match vars {

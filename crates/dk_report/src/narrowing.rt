@@ -12,10 +12,10 @@ ghost use Rattle.dk_hierarchy.specs.Standing.{EnginesStandFor};
 ghost use Rattle.dk_presence.specs.Patterns.{has};
 ghost use Rattle.dk_report.specs.Asked.{CanBeAsked, here_of, views_of};
 ghost use Rattle.dk_report.specs.Keeping.{keeps};
-ghost use Rattle.dk_report.specs.Narrowing.{CanNarrow, IsSole, all_lead, brings_samples, is_fixed, is_left, is_narrow, is_of_row, narrowed, says_nothing};
+ghost use Rattle.dk_report.specs.Narrowing.{CanNarrow, IsSole, all_lead, brings_samples, is_fixed, is_left, is_narrow, is_of_row, narrowed};
 ghost use Rattle.dk_template.specs.Templates.{IsRow, IsRowOf};
 
-use crate::asking::Asking;
+use crate::asking::{Asking, are_distinct};
 use crate::sweeping::{Standing, is_equality};
 use dk_base::{List, NoMemory, Value, VarId};
 use dk_classes::Classes;
@@ -23,7 +23,7 @@ use dk_constants::Constants;
 use dk_engine::{Engine, Slot};
 use dk_filters::Candidate;
 use dk_hierarchy::Way;
-use dk_template::{RowId, State, info};
+use dk_template::{RowId, fits, info};
 use std::alloc::Global;
 
 // Whether the variable is constant, and there.
@@ -36,17 +36,11 @@ fn is_fixed(known: &Constants, v: VarId) -> bool
     }
 }
 
-fn says_nothing(state: &State) -> bool
-    ensures { result ≡ says_nothing state.now }
-{
-    matches!(state, State::Empty)
-}
-
-// Whether it is a slot of the row that says something of some samples.
+// Whether it is a slot of the row that holds, over leaders of which none comes twice.
 fn is_of_row(row: RowId, slot: &Slot) -> bool
     ensures { result ≡ is_of_row row slot.now }
 {
-    slot.row.0 == row.0 && !says_nothing(&slot.state)
+    slot.row.0 == row.0 && fits(&slot.state) && are_distinct(slot.leaders.as_slice())
 }
 
 // Such slots.

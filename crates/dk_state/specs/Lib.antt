@@ -1,9 +1,11 @@
+-- cited by public clauses
+pub mod Saved
+pub mod StateFile
+pub mod Spelling
+pub mod Laws
+-- what those are made of, and words for the crates above
 pub mod Lines
 pub mod Declarations
 pub mod States
 pub mod Kept
-pub mod Saved
 pub mod Compact
-pub mod StateFile
-pub mod Spelling
-pub mod Laws

@@ -2,6 +2,7 @@ pub mod Facts
 pub mod Usable
 pub mod Asking
 pub mod Freed
+pub mod AskedRows
 mod Examples
 mod Shown
 pub mod Searching

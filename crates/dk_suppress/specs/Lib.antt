@@ -1,3 +1,4 @@
+-- cited by public clauses
 pub mod Rules
 pub mod Laws
 pub mod Told

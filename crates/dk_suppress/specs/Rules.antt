@@ -1,6 +1,7 @@
 -- The rules of suppression, and what follows from them of a row.
-use Rattle.std.specs.Prelude.{◌&&◌, ◌==◌, ℕ, ℤ, pos, negsuc, Bool, List, [], ◌∷◌, filter, map}
+use Rattle.std.specs.Prelude.{◌&&◌, ◌==◌, ◌++◌, ℕ, ℤ, pos, negsuc, Bool, true, false, List, [], ◌∷◌, filter, flat_map, fold, map, if◌then◌else◌}
 use Rattle.std.specs.List.{dedup, list_all, list_any, range_with_len}
+use Rattle.std.specs.Ordering.{int_eq}
 use Rattle.dk_base.specs.declared.kinds.VarId.{VarId}
 use Rattle.dk_forms.specs.declared.states.State.{State}
 use Rattle.dk_template.specs.Premises.{premise_fits, row_of}
@@ -119,3 +120,24 @@ freed row = dedup (λ (a b : RowId). a.0 == b.0) (map (λ (r : Rule). r.0) (filt
 -- what the rows 0 to 66 free; no premise is about a later row
 abbrev pub freed_by_number : List (List RowId)
 freed_by_number = map (λ n. freed (record { 0 = n })) (range_with_len 0 67)
+
+-- ---- what the rules ask of a row
+-- two premises about one row are content with the same states
+abbrev pub ask_alike : Premise → Premise → Bool
+ask_alike (Holds r a) (Holds s b) = true
+ask_alike (LeastAtLeast r a k) (LeastAtLeast s b l) = int_eq k l
+ask_alike (GreatestAtMost r a k) (GreatestAtMost s b l) = int_eq k l
+ask_alike (Only a k) (Only b l) = int_eq k l
+ask_alike _ _ = false
+
+-- with a premise, unless one of them asks the same
+abbrev pub with_premise : List Premise → Premise → List Premise
+with_premise asked p = if list_any (ask_alike p) asked then asked else asked ++ p ∷ []
+
+-- the premises about a row, of those that ask the same the first
+unfoldable pub asked_of : RowId → List Premise
+asked_of row = fold with_premise [] (filter (λ p. (row_of p).0 == row.0) (flat_map (λ (r : Rule). r.1) rules))
+
+-- those about the rows 0 to 66; no premise is about a later row
+unfoldable pub asked_by_number : List (List Premise)
+asked_by_number = map (λ n. asked_of (record { 0 = n })) (range_with_len 0 67)

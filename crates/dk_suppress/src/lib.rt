@@ -7,5 +7,5 @@ mod rules;
 mod suppressing;
 
 pub use freeing::freed_by;
-pub use rules::{Rule, table};
+pub use rules::{Rule, asked_of, table};
 pub use suppressing::suppressed;

@@ -5,7 +5,7 @@ ghost use Rattle.dk_template.specs.declared.grammar.Grammar.TheVariants as gramm
 ghost use Rattle.dk_engine.specs.Numbers.{IsNumber, IsNumberValue};
 
 use dk_base::{Compar, Form, Kind, List, NoMemory, Text, VarId, VarInfo, View};
-use dk_engine::Engine;
+use dk_engine::{Engine, Parts, PartsFault};
 use dk_template::{Answers, Grammar, RowId, admits, fits};
 use std::alloc::Global;
 use std::test::Fail;
@@ -261,5 +261,38 @@ fn worked_examples(rt: HostRuntime) -> Result<(), Fail> {
             assert!(rt; !is_fit(alloc, &engine, *asked)?);
         }
     }
+    Ok(())
+}
+
+// The engine that is made of parts, in the first grammar.
+fn engine_from(alloc: Global, vars: u8, parts: Parts) -> Result<Engine, PartsFault> {
+    Engine::from_parts(alloc, numbers(alloc, vars)?, parts, Grammar::One)
+}
+
+// The parts of four samples of one number.
+fn parts_of_four(alloc: Global) -> Result<Parts, NoMemory> {
+    engine_of(alloc, 1, &[&[Some(1)], &[Some(2)], &[Some(3)], &[Some(7)]])?.parts()
+}
+
+// The same parts without the class of the number.
+fn without_class(alloc: Global, parts: Parts) -> Parts {
+    let mut parts = parts;
+    parts.classes = List::new(alloc);
+    parts
+}
+
+#[test]
+fn made_of_parts(rt: HostRuntime) -> Result<(), Fail> {
+    let alloc = rt.alloc();
+    match engine_from(alloc, 1, parts_of_four(alloc)?) {
+        Ok(engine) => {
+            let counts = engine.counts();
+            assert!(rt; counts.samples == 4 && counts.leaders == 1 && counts.constants == 0);
+            assert!(rt; counts.patterns == 1 && counts.slots == 4);
+        }
+        Err(_) => assert!(rt; false),
+    }
+    let parts = without_class(alloc, parts_of_four(alloc)?);
+    assert!(rt; matches!(engine_from(alloc, 1, parts), Err(PartsFault::Bad)));
     Ok(())
 }

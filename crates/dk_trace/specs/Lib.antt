@@ -1,12 +1,14 @@
+-- cited by public clauses
 pub mod Answers
-pub mod Marks
-pub mod Values
-pub mod Bodies
 pub mod Records
-pub mod MarksResumed
-pub mod ValuesResumed
-pub mod BodiesResumed
 pub mod RecordsResumed
 pub mod OpenRecords
 pub mod Fitting
 pub mod Positions
+-- what those are made of, and words for the crates above
+pub mod Marks
+pub mod Values
+pub mod Bodies
+pub mod MarksResumed
+pub mod ValuesResumed
+pub mod BodiesResumed

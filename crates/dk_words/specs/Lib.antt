@@ -1,4 +1,6 @@
-pub mod Accepted
+-- cited by public clauses
 pub mod Laws
 pub mod Requests
 pub mod Texts
+-- what those are made of, and words for the crates above
+pub mod Accepted

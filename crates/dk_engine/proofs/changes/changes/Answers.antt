@@ -1,10 +1,9 @@
 use Rattle.std.specs.Prelude.{◌≡◌, ◌+◌, ◌++◌, ◌∷◌, [], IfNone, IfSome, None, Option, Some}
-use Rattle.std.proofs.Common.{◌∙◌, ap, refl, subst, sym}
-use Rattle.std.proofs.lemmas.List.{get_or_default}
+use Rattle.std.proofs.Common.{arith, refl, subst, sym}
 use Rattle.dk_forms.specs.declared.states.State.{State}
 use Rattle.dk_engine.proofs.Narrowing.{change_more, stays_more}
 use Rattle.dk_engine.specs.Feeding.{read_after}
-use Rattle.dk_engine.specs.Narrow.{AreChangesBelow, Stays, no_slot, outcome, slot_in}
+use Rattle.dk_engine.specs.Narrow.{AreChangesBelow, Stays, outcome, slot_in}
 use Rattle.dk_engine.specs.declared.slot.Slot.{Slot}
 use Rattle.dk_engine.proofs.changes.changes.Goals as goal
 
@@ -14,13 +13,16 @@ loop-place-preserved c =
     let o = c.args.after.now in
     let made : Slot → State = outcome c.args.asked (read_after o.whole.kept o.sample) o.sample in
     let place = c.loop-place.place in
-    let item : Slot = c.index-slots-place.result in
-    let at : item ≡ slot_in slots place = c.index-slots-place.is ∙ get_or_default slots place item no_slot c.loop-place-test.true in
+    let item : Slot = slot_in slots place in
     let old = c.loop-place.changes in
     let more = c.in_ok-changes.changes in
+    let below : AreChangesBelow (place + 1) made slots more =
     elim c.in_ok-state.state as (λ (s : Option State). IfNone s (Stays made item) → IfSome s (λ t. t ≡ made item) → IfNone s (more ≡ old) → IfSome s (λ t. more ≡ old ++ record { place = place; state = t } ∷ []) → AreChangesBelow (place + 1) made slots more) [
-      | None ↦ λ stays t same u. subst (AreChangesBelow (place + 1) made slots) (sym same) (stays_more made slots place old c.loop-place.invariant (subst (Stays made) at stays))
+      | None ↦ λ stays t same u. subst (AreChangesBelow (place + 1) made slots) (sym same) (stays_more made slots place old c.loop-place.invariant.0 stays)
       | Some s ↦ λ t state u pushed.
           subst (AreChangesBelow (place + 1) made slots) (sym pushed)
-          (change_more made slots place old c.loop-place.invariant (record { place = place; state = s }) refl (record { within = c.loop-place-test.true; state = state ∙ ap made at }))
-    ] c.in_ok-state.ensures.stays c.in_ok-state.ensures.state c.in_ok-changes.ensures.none c.in_ok-changes.ensures.some
+          (change_more made slots place old c.loop-place.invariant.0 (record { place = place; state = s }) refl (record { within = c.loop-place-test.true; state = state }))
+    ] c.in_ok-state.ensures.stays c.in_ok-state.ensures.state c.in_ok-changes.ensures.none c.in_ok-changes.ensures.some in (
+      below,
+      λ k from to. c.still_from-still.ensures k (omega (arith, from)) to,
+    )

@@ -1,6 +1,6 @@
-use Rattle.std.specs.Prelude.{◌≡◌, ◌<◌, ◌++◌, ◌∷◌, ℕ, zero, suc, [], All, List, true, false, filter, length, refl}
+use Rattle.std.specs.Prelude.{◌≡◌, ◌<◌, ◌++◌, ◌∷◌, ℕ, [], All, List, true, false, filter, length}
 use Rattle.std.specs.List.{list_any}
-use Rattle.std.proofs.Common.{arith, get_or, subst, sym, ◌∙◌, ap}
+use Rattle.std.proofs.Common.{get_or, subst, sym, ◌∙◌, ap}
 use Rattle.std.proofs.lemmas.List.Elements.{All-contains, All-weaker, Contains-get_or}
 use Rattle.std.proofs.lemmas.Result.{IfOk-weaker}
 use Rattle.dk_base.specs.Values.{values_of}

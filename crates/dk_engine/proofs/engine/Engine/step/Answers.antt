@@ -7,7 +7,7 @@ use Rattle.dk_fits.specs.Laws.{IsSample}
 use Rattle.dk_engine.proofs.Emptied.{parts, slots_out, turned_with}
 use Rattle.dk_engine.proofs.Leaving.{left_formed}
 use Rattle.dk_engine.proofs.Opened.{left_numbered, merged_formed, opened_numbered}
-use Rattle.dk_engine.specs.Conditions.{AreFormed, CanBeFed}
+use Rattle.dk_engine.specs.Conditions.{CanBeFed}
 use Rattle.dk_engine.specs.Exact.{SlotBefore}
 use Rattle.dk_engine.specs.Feeding.{IsTurned, parts_after, read_after}
 use Rattle.dk_engine.specs.Levels.{Whole}

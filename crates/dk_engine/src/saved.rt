@@ -1,0 +1,159 @@
+// An engine from saved parts.
+ghost use Rattle.std.specs.Prelude.{◌≡◌, ◌≢◌, ◌<◌, ◌≤◌, ◌^◌, false, All, ◌↔◌, Err, IfOk, IfSome, IsTrue, List, None, length};
+ghost use Rattle.dk_base.specs.declared.values.Value.{Value};
+ghost use Rattle.dk_suppress.specs.Rules.{is_suppressed};
+ghost use Rattle.dk_template.specs.Admitted.{admits};
+ghost use Rattle.dk_engine.specs.Conditions.{AreParts};
+ghost use Rattle.dk_engine.specs.Exact.{AreOfPoint, AreSamples, IsKeptOf};
+ghost use Rattle.dk_engine.specs.Restored.{AreShaped, AreUnsuppressed, HaveParts, IsRearranged};
+ghost use Rattle.dk_engine.specs.Saved.{AreSavedParts, parts_of};
+ghost use Rattle.dk_engine.specs.declared.kept.Kept.{Kept};
+
+use crate::conditions::are_open;
+use crate::nothing::Nothing;
+use crate::{Engine, Kept, Parts, Slot, Slots};
+use dk_base::{List, NoMemory, VarInfo};
+use dk_parts::{classes_from, constants_from, presence_from};
+use dk_suppress::suppressed;
+use dk_template::{Answers, Grammar};
+use std::alloc::Global;
+
+/// Why parts make no engine.
+#[derive(Clone, Copy, Debug, PartialEq, Eq)]
+pub enum PartsFault {
+    /// No kept parts that meet the conditions are saved like this.
+    Bad,
+    /// Memory could not be had.
+    NoMemory,
+}
+
+impl From<NoMemory> for PartsFault {
+    ghost use Rattle.std.specs.Prelude.{◌≡◌};
+    ghost use Rattle.dk_engine.specs.declared.saved.PartsFault.TheVariants as fault;
+
+    ghost from_gives = { λ _ e. e ≡ fault.NoMemory };
+
+    fn from(_: NoMemory) -> Self {
+        PartsFault::NoMemory
+    }
+}
+
+// Whether no rule suppresses a slot, as the answers tell.
+fn none_suppressed<A: Answers>(slots: &[Slot], answers: &A) -> bool
+    requires { All (λ slot. IsTrue (admits slot.row (A.infos answers.now) slot.leaders)) slots.now }
+    ensures { IsTrue result ↔ All (λ slot. is_suppressed (A.answered answers.now) slot.row slot.leaders ≡ false) slots.now }
+{
+    for slot in slots {
+        if suppressed(slot.row, slot.leaders.as_slice(), answers) {
+            return false;
+        }
+    }
+    true
+}
+
+// Kept parts that are saved as these parts, over so many variables; or None where there are none.
+fn kept_from(alloc: Global, count: usize, parts: Parts) -> Result<Option<Kept>, NoMemory>
+    requires { count < 2 ^ 32 }
+    ensures saved { IfOk result (λ found. IfSome found (HaveParts count parts)) }
+    ensures any { IfOk result (λ found. (kept : Kept) → HaveParts count parts kept → (found ≢ None) × IfSome found (IsRearranged kept)) }
+{
+    let Parts {
+        samples,
+        classes,
+        patterns,
+        known,
+        slots,
+    } = parts;
+    let leaders = match classes_from(alloc, count, classes.as_slice())? {
+        Some(leaders) => leaders,
+        None => return Ok(None),
+    };
+    let held = match presence_from(alloc, leaders.leaders(), patterns.as_slice())? {
+        Some(held) => held,
+        None => return Ok(None),
+    };
+    let known = match constants_from(alloc, known)? {
+        Some(known) => known,
+        None => return Ok(None),
+    };
+    Ok(Some(Kept {
+        samples,
+        leaders,
+        known,
+        held,
+        slots: Slots::of(slots.into_vec()),
+    }))
+}
+
+impl Engine {
+    // Whether no rule suppresses a slot in the parts as they stand.
+    fn suppresses_none(&self) -> bool
+        ensures { IsTrue result ↔ AreUnsuppressed self.now.kept }
+    {
+        let lowest = self.over(
+            0,
+            Nothing {
+                grammar: self.grammar,
+                infos: self.infos.as_slice(),
+                kept: &self.kept,
+            },
+        );
+        let levels = self.over(3, self.over(2, self.over(1, lowest)));
+        none_suppressed(self.kept.slots.as_slice(), &levels)
+    }
+
+    // The engine with these parts, or None where they don't meet the conditions.
+    fn with_kept(alloc: Global, vars: List<VarInfo>, kept: Kept, grammar: Grammar) -> Option<Engine>
+        requires point { AreOfPoint vars }
+        requires shaped { AreShaped (length vars) kept }
+        requires some { 1 ≤ kept.samples }
+        ensures grammar { IfSome result (λ e. e.grammar ≡ grammar) }
+        ensures infos { IfSome result (λ e. e.infos ≡ vars) }
+        ensures kept { IfSome result (λ e. e.kept ≡ kept) }
+        ensures meets { IfSome result (λ e. AreParts grammar vars kept) }
+        ensures none { result ≡ None → AreParts grammar vars kept → ⊥ }
+    {
+        if !are_open(grammar, vars.as_slice(), &kept) {
+            return None;
+        }
+        let engine = Engine {
+            alloc,
+            grammar,
+            infos: vars,
+            kept,
+        };
+        if engine.suppresses_none() {
+            Some(engine)
+        } else {
+            None
+        }
+    }
+
+    /// The engine with these parts, over the variables of a point and the rows of a grammar. It stands for every list of samples of
+    /// which these parts are kept. Bad exactly where no kept parts of 1 to 2^40 samples that meet the conditions are saved as these.
+    pub fn from_parts(
+        alloc: Global,
+        vars: List<VarInfo>,
+        parts: Parts,
+        grammar: Grammar,
+    ) -> Result<Engine, PartsFault>
+        requires { AreOfPoint vars }
+        ensures grammar { IfOk result (λ e. e.grammar ≡ grammar) }
+        ensures infos { IfOk result (λ e. e.infos ≡ vars) }
+        ensures parts { IfOk result (λ e. parts_of e.kept ≡ parts) }
+        ensures conditions { IfOk result (λ e. AreSavedParts grammar vars parts) }
+        ensures bad { result ≡ Err PartsFault.Bad → AreSavedParts grammar vars parts → ⊥ }
+        ensures stands { IfOk result (λ e. (samples : List (List Value)) (kept : Kept) → AreSamples vars samples → IsKeptOf grammar vars samples kept → parts_of kept ≡ parts → IsKeptOf grammar vars samples e.kept) }
+    {
+        if parts.samples == 0 || parts.samples > 1 << 40 {
+            return Err(PartsFault::Bad);
+        }
+        match kept_from(alloc, vars.len(), parts)? {
+            Some(kept) => match Engine::with_kept(alloc, vars, kept, grammar) {
+                Some(engine) => Ok(engine),
+                None => Err(PartsFault::Bad),
+            },
+            None => Err(PartsFault::Bad),
+        }
+    }
+}

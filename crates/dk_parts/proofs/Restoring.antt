@@ -1,0 +1,213 @@
+-- Patterns and constants are read back from what is saved of them.
+use Rattle.std.specs.Prelude.{◌≡◌, ◌≢◌, ◌↔◌, ◌<◌, ◌+◌, ◌++◌, ◌&&◌, ℕ, Bool, suc, true, false, All, Contains, List, [], ◌∷◌, None, Option, Some, filter, if◌then◌else◌, length, map, refl, slice_index_or, take}
+use Rattle.std.specs.Bool.{Decides}
+use Rattle.std.specs.List.{IsDistinct, list_any}
+use Rattle.std.specs.List.Sorted.{IsPermutation}
+use Rattle.std.specs.Ordering.{is_gt}
+use Rattle.std.specs.declared.cmp.Ordering.{Ordering}
+use Rattle.std.proofs.Common.{◌∙◌, ap, arith, cond, get_or, inl, inr, subst, sym}
+use Rattle.std.proofs.lemmas.Bool.{cases_Bool, false≢true, or_cases}
+use Rattle.std.proofs.lemmas.List.{get_or-map, get_or-take, get_or_past, length-map, length-take-le, map-append, take_more}
+use Rattle.std.proofs.lemmas.List.Elements.{All-cons, All-head, All-nil, All-tail, Contains-get_or}
+use Rattle.std.proofs.lemmas.List.Kept.{AllPairs-cons, AllPairs-filter}
+use Rattle.std.proofs.lemmas.List.Sorted.{All-permutation, IsPermutation-cons, IsPermutation-map, IsPermutation-middle, IsPermutation-refl, IsPermutation-sym, IsPermutation-trans, sum_by-IsPermutation}
+use Rattle.std.proofs.lemmas.List.Quantifiers.{all_pairs_push}
+use Rattle.std.proofs.lemmas.Map.Made.{AllPairs-from_IsDistinct, IsDistinct-from_AllPairs}
+use Rattle.std.proofs.lemmas.Option.{none-some, same_Some}
+use Rattle.std.proofs.lemmas.Map.Keys.{IsDistinct-IsPermutation}
+use Rattle.dk_base.specs.declared.kinds.VarId.{VarId}
+use Rattle.dk_constants.specs.Known.{Ascend as KnownAscend, Entries}
+use Rattle.dk_presence.proofs.Refining.{any_at, contains-has, has-contains}
+use Rattle.dk_presence.proofs.Sameness.{ascend_rest, same_ascending, same_vars-refl, same_vars-sym, same_vars-true}
+use Rattle.dk_presence.proofs.Sums.{has-filter}
+use Rattle.dk_presence.specs.Patterns.{AreHeld, has, held_patterns, same_vars}
+use Rattle.dk_presence.specs.declared.held.Held.{Held}
+use Rattle.dk_samples.specs.Leaders.{Ascend}
+use Rattle.dk_parts.proofs.PatternOrder.{same_patterns}
+use Rattle.dk_parts.specs.Entries.{all_known_of}
+use Rattle.dk_parts.specs.Patterns.{pattern_cmp, pattern_of, patterns_of}
+use Rattle.dk_parts.specs.Restored.{HaveEntries, HavePatterns, chosen, entry_of, held_of}
+use Rattle.dk_parts.specs.Sorting.{ascending, put}
+use Rattle.dk_parts.specs.declared.known.Known.{Known}
+use Rattle.dk_parts.specs.declared.pattern.Pattern.{Pattern}
+
+-- ---- constants
+known_back : (known : List Known) → all_known_of (map entry_of known) ≡ known
+known_back [] = refl
+known_back (k ∷ known) = ap (λ ks. k ∷ ks) (known_back known)
+
+entries_back : (entries : Entries) → map entry_of (all_known_of entries) ≡ entries
+entries_back [] = refl
+entries_back (e ∷ entries) = ap (λ es. e ∷ es) (entries_back entries)
+
+pub same_entries : (known : List Known) (entries : Entries) → all_known_of entries ≡ known → map entry_of known ≡ entries
+same_entries known entries e = ap (map entry_of) (sym e) ∙ entries_back entries
+
+pub same_known : (known : List Known) (entries : Entries) → entries ≡ map entry_of known → all_known_of entries ≡ known
+same_known known entries e = ap all_known_of e ∙ known_back known
+
+-- ---- present leaders
+chosen_push : (leaders : List VarId) (truths : List Bool) (v : VarId) → chosen (leaders ++ v ∷ []) truths ≡ chosen leaders truths ++ (if slice_index_or truths (length leaders) false then v ∷ [] else [])
+chosen_push [] [] v = refl
+chosen_push [] (t ∷ truths) v = elim t as (λ b. (if b then v ∷ [] else []) ≡ (if b then v ∷ [] else [])) [ true ↦ refl | false ↦ refl ]
+chosen_push (w ∷ leaders) [] v = ap (λ b. if b then v ∷ [] else []) (sym (get_or_past [] (suc (length leaders)) false (omega arith)))
+chosen_push (w ∷ leaders) (t ∷ truths) v =
+    let rest = chosen_push leaders truths v in
+    elim t as (λ b. (if b then w ∷ chosen (leaders ++ v ∷ []) truths else chosen (leaders ++ v ∷ []) truths)
+    ≡ (if b then w ∷ chosen leaders truths else chosen leaders truths) ++ (if slice_index_or truths (length leaders) false then v ∷ [] else [])) [
+      | true ↦ ap (λ vs. w ∷ vs) rest
+      | false ↦ rest
+    ]
+
+pub chosen_more : (leaders : List VarId) (truths : List Bool) (i : ℕ) (d : VarId) → i < length leaders
+    → chosen (take (i + 1) leaders) truths ≡ chosen (take i leaders) truths ++ (if slice_index_or truths i false then get_or leaders i d ∷ [] else [])
+chosen_more leaders truths i d l =
+    ap (λ vs. chosen vs truths) (take_more leaders i d l) ∙ (chosen_push (take i leaders) truths (get_or leaders i d)
+    ∙ ap (λ n. chosen (take i leaders) truths ++ (if slice_index_or truths n false then get_or leaders i d ∷ [] else [])) (length-take-le i leaders (omega arith)))
+
+chosen_all : (P : VarId → Type 0) (leaders : List VarId) (truths : List Bool) → All P leaders → All P (chosen leaders truths)
+chosen_all P [] truths all = All-nil P
+chosen_all P (v ∷ leaders) [] all = All-nil P
+chosen_all P (v ∷ leaders) (t ∷ truths) all =
+    let rest = chosen_all P leaders truths (All-tail P v leaders all) in
+    elim t as (λ b. All P (if b then v ∷ chosen leaders truths else chosen leaders truths)) [ true ↦ All-cons P v (chosen leaders truths) (All-head P v leaders all) rest | false ↦ rest ]
+
+chosen_ascends : (leaders : List VarId) (truths : List Bool) → Ascend leaders → Ascend (chosen leaders truths)
+chosen_ascends [] truths up = up
+chosen_ascends (v ∷ leaders) [] up = λ i j d l m. absurd (omega (arith, m))
+chosen_ascends (v ∷ leaders) (t ∷ truths) up =
+    let rest = chosen_ascends leaders truths (ascend_rest v leaders up) in
+    elim t as (λ b. Ascend (if b then v ∷ chosen leaders truths else chosen leaders truths)) [
+      | true ↦ AllPairs-cons (λ (a b : VarId). a.0 < b.0) v (chosen leaders truths) (chosen_all (λ w. v.0 < w.0) leaders truths (λ k d l. up 0 (suc k) d (omega arith) (omega (arith, l)))) rest
+      | false ↦ rest
+    ]
+
+pub held_lead : (leaders : List VarId) (patterns : List Pattern) → All (λ h. All (Contains leaders) h.leaders) (map (held_of leaders) patterns)
+held_lead leaders [] = All-nil (λ h. All (Contains leaders) h.leaders)
+held_lead leaders (p ∷ patterns) =
+    All-cons (λ h. All (Contains leaders) h.leaders) (held_of leaders p) (map (held_of leaders) patterns) (chosen_all (Contains leaders) leaders p.present (λ k d l. Contains-get_or leaders k d l)) (held_lead leaders patterns)
+
+pub held_ascend : (leaders : List VarId) (patterns : List Pattern) → Ascend leaders → All (λ h. Ascend h.leaders) (map (held_of leaders) patterns)
+held_ascend leaders [] up = All-nil (λ h. Ascend h.leaders)
+held_ascend leaders (p ∷ patterns) up = All-cons (λ h. Ascend h.leaders) (held_of leaders p) (map (held_of leaders) patterns) (chosen_ascends leaders p.present up) (held_ascend leaders patterns up)
+
+chosen_filter : (p : VarId → Bool) (leaders : List VarId) → chosen leaders (map p leaders) ≡ filter p leaders
+chosen_filter p [] = refl
+chosen_filter p (v ∷ leaders) = elim (p v) as (λ b. (if b then v ∷ chosen leaders (map p leaders) else chosen leaders (map p leaders)) ≡ cond b (v ∷ filter p leaders) (filter p leaders)) [
+  | true ↦ ap (λ vs. v ∷ vs) (chosen_filter p leaders)
+  | false ↦ chosen_filter p leaders
+]
+
+-- a pattern of present leaders comes back
+held_back : (leaders : List VarId) → Ascend leaders → (h : Held) → Ascend h.leaders → All (Contains leaders) h.leaders → held_of leaders (pattern_of leaders h) ≡ h
+held_back leaders up h own lead =
+    let told : (v : VarId) → has (filter (has h.leaders) leaders) v ≡ has h.leaders v = λ v. has-filter (has h.leaders) leaders v ∙ elim (cases_Bool (has h.leaders v)) [
+      | inl there ↦
+          let c = contains-has h.leaders v there in
+          let among : Contains leaders v = subst (Contains leaders) c.2 (lead c.0 v c.1) in
+          ap (λ b. b && has h.leaders v) (has-contains leaders v among)
+      | inr none ↦ ap (λ b. has leaders v && b) none ∙ (elim (has leaders v) as (λ b. (b && false) ≡ false) [ true ↦ refl | false ↦ refl ] ∙ sym none)
+    ] in
+    let back : chosen leaders (map (has h.leaders) leaders) ≡ h.leaders = chosen_filter (has h.leaders) leaders ∙ same_ascending (filter (has h.leaders) leaders) h.leaders (AllPairs-filter (λ (v w : VarId). v.0 < w.0) (has h.leaders) leaders up) own told in
+    λ i. record { count = h.count; leaders = back i }
+
+all_back : (leaders : List VarId) → Ascend leaders → (held : List Held) → All (λ h. Ascend h.leaders) held → All (λ h. All (Contains leaders) h.leaders) held → map (held_of leaders) (map (pattern_of leaders) held) ≡ held
+all_back leaders up [] own lead = refl
+all_back leaders up (h ∷ held) own lead =
+    ap (λ k. k ∷ map (held_of leaders) (map (pattern_of leaders) held)) (held_back leaders up h (All-head (λ k. Ascend k.leaders) h held own) (All-head (λ k. All (Contains leaders) k.leaders) h held lead))
+    ∙ ap (λ ks. h ∷ ks) (all_back leaders up held (All-tail (λ k. Ascend k.leaders) h held own) (All-tail (λ k. All (Contains leaders) k.leaders) h held lead))
+
+-- ---- order
+module _ {X : Type 0} (R : X → X → Ordering) where
+  put_moves : (x : X) (ys : List X) → IsPermutation (x ∷ ys) (put R x ys)
+  put_moves x [] = IsPermutation-refl (x ∷ [])
+  put_moves x (y ∷ ys) = elim (is_gt (R x y)) as (λ b. IsPermutation (x ∷ y ∷ ys) (if b then y ∷ put R x ys else x ∷ y ∷ ys)) [
+    | true ↦ IsPermutation-trans (x ∷ y ∷ ys) (y ∷ x ∷ ys) (y ∷ put R x ys)
+        (IsPermutation-sym (y ∷ x ∷ ys) (x ∷ y ∷ ys) (IsPermutation-middle (y ∷ []) x ys)) (IsPermutation-cons y (x ∷ ys) (put R x ys) (put_moves x ys))
+    | false ↦ IsPermutation-refl (x ∷ y ∷ ys)
+  ]
+
+  ascending_moves : (xs : List X) → IsPermutation xs (ascending R xs)
+  ascending_moves [] = IsPermutation-refl []
+  ascending_moves (x ∷ xs) = IsPermutation-trans (x ∷ xs) (x ∷ ascending R xs) (put R x (ascending R xs)) (IsPermutation-cons x xs (ascending R xs) (ascending_moves xs)) (put_moves x (ascending R xs))
+
+-- any patterns that are saved as these are those that are read back, in some order
+pub patterns_back : (leaders : List VarId) → Ascend leaders → (patterns : List Pattern) (held : List Held) → HavePatterns leaders patterns held → IsPermutation held (map (held_of leaders) patterns)
+patterns_back leaders up patterns held have =
+    subst (λ hs. IsPermutation hs (map (held_of leaders) patterns)) (all_back leaders up held have.form.ascend have.lead)
+    (subst (λ ps. IsPermutation (map (held_of leaders) (map (pattern_of leaders) held)) (map (held_of leaders) ps)) have.saved
+    (IsPermutation-map (held_of leaders) (map (pattern_of leaders) held) (patterns_of leaders held) (ascending_moves pattern_cmp (map (pattern_of leaders) held))))
+
+-- what they meet in one order they meet in another
+pub held_moved : (held others : List Held) → IsPermutation held others → AreHeld held → AreHeld others
+held_moved held others moved are = record {
+  once = IsDistinct-IsPermutation same_vars same_vars-sym (held_patterns held) (held_patterns others) (IsPermutation-map (λ (h : Held). h.leaders) held others moved) are.once;
+  some = All-permutation (λ h. 0 < h.count) held others moved are.some;
+  ascend = All-permutation (λ h. Ascend h.leaders) held others moved are.ascend;
+}
+
+pub patterns_moved : (leaders : List VarId) (held others : List Held) → IsPermutation held others → patterns_of leaders others ≡ patterns_of leaders held
+patterns_moved leaders held others moved = same_patterns leaders others held (λ f. sum_by-IsPermutation f held others moved)
+
+-- ---- distinct patterns
+pub vars_decided : (a b : List VarId) → Decides (same_vars a b) (a ≡ b)
+vars_decided a b = (same_vars-true a b, λ e. subst (λ c. same_vars a c ≡ true) e (same_vars-refl a))
+
+pub any_found : (p : List VarId) (ps : List (List VarId)) → list_any (same_vars p) ps ≡ true → Contains ps p
+any_found p [] h = absurd (false≢true h)
+any_found p (q ∷ ps) h = elim (or_cases (same_vars p q) (list_any (same_vars p) ps) h) [
+  | inl here ↦ (0, omega arith, sym (same_vars-true p q here))
+  | inr later ↦ let rest = any_found p ps later in let l = rest.1 in (suc rest.0, omega (arith, l), rest.2)
+]
+
+-- no pattern of a list without repeats stands in front of itself
+pub twice : (held : List Held) (i : ℕ) (d : Held) → i < length held → Contains (held_patterns (take i held)) (get_or held i d).leaders → IsDistinct same_vars (held_patterns held) → ⊥
+twice held i d l there once =
+    let long = length-map held (λ (h : Held). h.leaders) in
+    let m = there.1 in
+    let short : there.0 < i = omega (arith, m, length-map (take i held) (λ (h : Held). h.leaders), length-take-le i held (omega arith)) in
+    let here : get_or (held_patterns held) i [] ≡ (get_or held i d).leaders = get_or-map (λ (h : Held). h.leaders) held i d [] l in
+    let other : get_or (held_patterns held) there.0 [] ≡ (get_or held there.0 d).leaders = get_or-map (λ (h : Held). h.leaders) held there.0 d [] (omega (arith, short, l)) in
+    let taken = get_or-map (λ (h : Held). h.leaders) (take i held) there.0 d (get_or held i d).leaders (omega (arith, m, length-map (take i held) (λ (h : Held). h.leaders))) in
+    let same : (get_or (take i held) there.0 d).leaders ≡ (get_or held there.0 d).leaders = ap (λ (h : Held). h.leaders) (get_or-take i held there.0 d short) in
+    AllPairs-from_IsDistinct vars_decided (held_patterns held) once there.0 i [] short (omega (arith, l, long)) (other ∙ (sym same ∙ (sym taken ∙ (there.2 ∙ sym here))))
+
+-- one pattern more
+pub distinct_more : (held : List Held) (i : ℕ) (d : Held) → i < length held → IsDistinct same_vars (held_patterns (take i held)) → list_any (same_vars (get_or held i d).leaders) (held_patterns (take i held)) ≡ false
+    → IsDistinct same_vars (held_patterns (take (i + 1) held))
+distinct_more held i d l once off =
+    let front = held_patterns (take i held) in
+    let last = (get_or held i d).leaders in
+    let more : held_patterns (take (i + 1) held) ≡ front ++ last ∷ [] = ap held_patterns (take_more held i d l) ∙ map-append (λ (h : Held). h.leaders) (take i held) (get_or held i d ∷ []) in
+    subst (IsDistinct same_vars) (sym more) (IsDistinct-from_AllPairs vars_decided (front ++ last ∷ []) (all_pairs_push (λ a b. a ≢ b) front last (AllPairs-from_IsDistinct vars_decided front once)
+    (λ k e m same. false≢true (sym off ∙ any_at (same_vars last) front k e m ((vars_decided last (get_or front k e)).1 (sym same))))))
+
+-- ---- what is found of constants
+pub some_entries : (known : List Known) (found : Entries) → found ≡ map entry_of known → KnownAscend found → (r : Option Entries) → r ≡ Some found → (entries : Entries) → (r ≡ Some entries) ↔ HaveEntries known entries
+some_entries known found is up r e entries = (
+  λ f. let same = same_Some found entries (sym e ∙ f) in (subst KnownAscend same up, same_known known entries (sym same ∙ is)),
+  λ have. e ∙ ap (λ es. Some es) (is ∙ same_entries known entries have.1),
+)
+
+pub no_entries : (known : List Known) (found : Entries) → found ≡ map entry_of known → (KnownAscend found → ⊥) → (r : Option Entries) → r ≡ None → (entries : Entries) → (r ≡ Some entries) ↔ HaveEntries known entries
+no_entries known found is not r e entries = (
+  λ f. absurd (none-some entries (sym e ∙ f)),
+  λ have. absurd (not (subst KnownAscend (sym (is ∙ same_entries known entries have.1)) have.0)),
+)
+
+-- ---- what is found of patterns
+module _ (leaders : List VarId) (up : Ascend leaders) (patterns : List Pattern) where
+  abbrev found_held : List Held
+  found_held = map (held_of leaders) patterns
+
+  pub held_form : (found : List Held) → found ≡ found_held → All (λ h. 0 < h.count) found → IsDistinct same_vars (held_patterns found) → AreHeld found
+  held_form found is some once = record { once = once; some = some; ascend = subst (All (λ h. Ascend h.leaders)) (sym is) (held_ascend leaders patterns up) }
+
+  pub have_patterns : (found : List Held) → found ≡ found_held → AreHeld found → patterns_of leaders found ≡ patterns → HavePatterns leaders patterns found
+  have_patterns found is form saved = record { form = form; lead = subst (All (λ h. All (Contains leaders) h.leaders)) (sym is) (held_lead leaders patterns); saved = saved }
+
+  -- what any patterns that are saved like that say of these
+  pub have_these : (found : List Held) → found ≡ found_held → (held : List Held) → HavePatterns leaders patterns held → IsPermutation held found × AreHeld found × (patterns_of leaders found ≡ patterns)
+  have_these found is held have =
+      let moved : IsPermutation held found = subst (IsPermutation held) (sym is) (patterns_back leaders up patterns held have) in
+      (moved, held_moved held found moved have.form, patterns_moved leaders held found moved ∙ have.saved)

@@ -1,0 +1,168 @@
+"""What the programs have in common: words, statuses, messages, files and where they write."""
+
+import os
+import re
+from dataclasses import dataclass, field
+
+from input_language import WHY, Fault, blocks_of, lines_of
+from points import effect_of
+
+DONE, REFUSED, USAGE_STATUS, READ, WRITE = 0, 1, 2, 3, 4
+MOST_PERIOD = 1_000_000_000
+
+
+class Usage(Exception):
+    """The words are refused."""
+
+
+class Ended(Exception):
+    """The run ends early, with a status and a message."""
+
+    def __init__(self, status, message):
+        super().__init__(status)
+        self.status = status
+        self.message = message
+
+
+# ---------------------------------------------------------------- words
+
+@dataclass
+class Words:
+    flags: set = field(default_factory=set)
+    values: dict = field(default_factory=dict)
+    files: list = field(default_factory=list)
+
+
+def words_of_command(words, flags, with_value):
+    """Options and FILEs in any order. A flag or option that is given twice, an unknown word, a
+    short option, a prefix of a word, a flag with a value and an option without one are refused.
+    After `--` every word is a FILE; `-` is one too."""
+    for word in words:
+        demand_text(word)
+    found = Words()
+    ahead = list(words)
+    while ahead:
+        word = ahead.pop(0)
+        if word == "--":
+            found.files += ahead
+            break
+        if not word.startswith("-") or word == "-":
+            found.files.append(word)
+            continue
+        name, equals, value = word.partition("=")
+        if name in found.flags or name in found.values:
+            raise Usage
+        if name in flags and not equals:
+            found.flags.add(name)
+        elif name in with_value:
+            if not equals:
+                if not ahead or (ahead[0].startswith("-") and ahead[0] != "-"):
+                    raise Usage
+                value = ahead.pop(0)
+            found.values[name] = value
+        else:
+            raise Usage
+    return found
+
+
+def number_between(text, low, high):
+    """One `+` in front and leading zeros pass."""
+    if not re.fullmatch(r"\+?[0-9]+", text, re.ASCII) or not low <= int(text) <= high:
+        raise Usage
+    return int(text)
+
+
+def least_number(values):
+    """The number of `--min-samples`."""
+    return number_between(values.get("--min-samples", "5"), 1, MOST_PERIOD)
+
+
+def demand_text(word):
+    """A word that isn't UTF-8 is refused."""
+    try:
+        word.encode()
+    except UnicodeEncodeError:
+        raise Usage from None
+
+
+# ---------------------------------------------------------------- files
+
+def refused(name, fault):
+    place = b"daikon: %s:%d: " % (os.fsencode(name), fault.line)
+    return Ended(REFUSED, place + b"%d %s\n" % (fault.why, WHY[fault.why].encode()))
+
+
+def bytes_of_file(folder, name):
+    try:
+        with open(os.path.join(folder, name) if name else name, "rb") as file:
+            return file.read()
+    except (OSError, ValueError):
+        raise Ended(READ, b"daikon: cannot read %s\n" % os.fsencode(name)) from None
+
+
+class Reader:
+    """Adds the effects of files to a history. The bytes of all of them count for the limit."""
+
+    def __init__(self, history, ignore_missing_entry, bytes_before=0):
+        self.history = history
+        self.ignore_missing_entry = ignore_missing_entry
+        self.bytes_before = bytes_before
+
+    def read(self, name, data):
+        """Stops behind each block that counts. Entries wait within their file."""
+        waiting = []
+        lines, cut = lines_of(data, self.bytes_before)
+        try:
+            for block in blocks_of(lines, cut):
+                if effect_of(block, self.history, waiting, self.ignore_missing_entry):
+                    yield
+        except Fault as fault:
+            raise refused(name, fault) from None
+        self.bytes_before += len(data)
+
+
+# ---------------------------------------------------------------- running
+
+class HostSinks:
+    """Standard output, standard error and the file `daikon.state`, which is made anew."""
+
+    def report(self, text):
+        self.write(1, text)
+
+    def message(self, text):
+        self.write(2, text)
+
+    def state(self, text):
+        try:
+            with open("daikon.state", "wb") as file:
+                file.write(text)
+        except OSError:
+            raise Ended(WRITE, b"") from None
+
+    @staticmethod
+    def write(stream, text):
+        try:
+            while text:
+                text = text[os.write(stream, text):]
+        except OSError:
+            raise Ended(WRITE, b"") from None
+
+
+def status_of_run(run, words, sinks, folder, usage):
+    """Runs the words and gives the status."""
+    try:
+        run(words, sinks, folder)
+    except Usage:
+        sinks.message(usage)
+        return USAGE_STATUS
+    except Ended as ended:
+        sinks.message(ended.message)
+        return ended.status
+    return DONE
+
+
+def host_status(status_of, words):
+    try:
+        return status_of(words, HostSinks(), "")
+    except Ended as ended:
+        return ended.status

@@ -1,0 +1,198 @@
+#!/usr/bin/env python3
+"""The checker: the lines of a report against the records of other traces."""
+
+import re
+import sys
+from dataclasses import dataclass
+
+from command import (Reader, Usage, bytes_of_file, host_status, refused, status_of_run,
+                     words_of_command)
+from input_language import MISSING, STRING, lines_of
+from points import History
+from rows import (BROKEN, EMPTY, HOLDS, ROWS, fits, is_proper, join, rows_of, state_of, text_of)
+from samples import capped, instances, moved
+
+USAGE = b"usage: dk_check [--ignore-missing-entry] ASSERTIONS [FILE]...\n"
+GRAMMAR = 2
+ONE_CODE = ("code", 1)
+
+
+# ---------------------------------------------------------------- reading a text
+
+def assertion_of(variables, text):
+    """The first instance that has this text with a state, and that state, which is Empty for the
+    text of only one value; or None."""
+    for number in rows_of(GRAMMAR):
+        for places in instances(number, variables):
+            names = [variables[place].name for place in places]
+            for state in candidates(number, names, text):
+                if (text_of(number, state, names) == text and is_proper(number, state)
+                        and fits(state)):
+                    return number, places, EMPTY if state == ONE_CODE else state
+    return None
+
+
+def candidates(number, names, text):
+    """States of which one has the text, if any state of the row has it."""
+    words = ROWS[number].words
+    if words == ("holds",):
+        return [HOLDS]
+    if words == ("truth",):
+        return [("truth", True), ("truth", False)]
+    if words == ("code",):
+        return [("code", 0), ONE_CODE]
+    return [state for word in words for state in with_numbers(number, word, names, text)]
+
+
+def with_numbers(number, word, names, text):
+    """The states of this word with what stands in the text."""
+    if word in ("least", "greatest"):
+        return [(word, k) for k in numbers_in(rb".* [<>]= (-?[0-9]+)", text)]
+    if word == "ints":
+        items = re.findall(rb"-?[0-9]+", behind_subject(number, names, text))
+        return [(word, tuple(int(item) for item in items))]
+    if word == "texts":
+        items = re.findall(STRING.pattern + rb"|null", behind_subject(number, names, text), re.S)
+        return [(word, tuple(items))]
+    if word == "modulus":
+        return [(word, m, r) for r, m in numbers_in(rb".* == ([0-9]+) \(mod ([0-9]+)\)", text)]
+    if word in ("straight", "plane"):
+        return [(word,) + equation for equation in equations(names, text)]
+    if word == "offset":
+        pattern = re.escape(names[1] + b" == " + names[0]) + rb" ([+-] [0-9]+) \(elementwise\)"
+        return [(word, k) for k in numbers_in(pattern, text)]
+    return []
+
+
+def numbers_in(pattern, text):
+    """The numbers of the pattern's groups, if the whole text has its form."""
+    match = re.fullmatch(pattern, text, re.S)
+    if not match:
+        return []
+    found = tuple(int(group.replace(b" ", b"")) for group in match.groups())
+    return [found if len(found) > 1 else found[0]]
+
+
+def behind_subject(number, names, text):
+    subject = names[0] + (b" elements" if number in (35, 47) else b"")
+    return text[len(subject):]
+
+
+def equations(names, text):
+    """The coefficients of the names and the constant."""
+    pattern = rb"(?:([0-9]+) \* )?" + re.escape(names[0])
+    for name in names[1:]:
+        pattern += rb" ([+-]) (?:([0-9]+) \* )?" + re.escape(name)
+    match = re.fullmatch(pattern + rb"(?: ([+-]) ([0-9]+))? == 0", text, re.S)
+    if not match:
+        return []
+    first, *others = match.groups()
+    numbers = [int(first or 1)]
+    for sign, size in zip(others[:-2:2], others[1:-2:2]):
+        numbers.append(signed(sign, size or 1))
+    return [tuple(numbers) + (signed(others[-2], others[-1] or 0),)]
+
+
+def signed(sign, size):
+    return -int(size) if sign == b"-" else int(size)
+
+
+# ---------------------------------------------------------------- assertion files
+
+@dataclass
+class Line:
+    """An assertion as it stands in the file: the heading's name and the text."""
+    point: bytes
+    text: bytes
+
+
+def without_count(line):
+    """Without a last number in brackets, which follows two blanks."""
+    return re.sub(rb"  \[[0-9]+\]\Z", b"", line)
+
+
+def assertions_in(lines):
+    """Lines of `=` are passed over, and the next other line that isn't blank is a heading."""
+    found = []
+    heading = b""
+    awaits_heading = False
+    for line in lines:
+        if line.strip(b" \t") == b"":
+            continue
+        if re.fullmatch(rb"=+", line):
+            awaits_heading = True
+        elif awaits_heading:
+            heading = without_count(line)
+            awaits_heading = False
+        elif not line.startswith((b"--- ", b"stats ")):
+            found.append(Line(heading, without_count(line)))
+    return found
+
+
+def untrimmed(data):
+    """The lines without LF and without one CR at the end."""
+    pieces = data.split(b"\n")
+    if pieces[-1] == b"":
+        pieces.pop()
+    return [piece[:-1] if piece.endswith(b"\r") else piece for piece in pieces]
+
+
+# ---------------------------------------------------------------- records and verdicts
+
+def reached(table, point, sample):
+    """The points that a sample of the point reaches, once for each path of edges, each with the
+    sample as it is mapped there."""
+    yield point, sample
+    for edge, parent in table.edges_from(point):
+        yield from reached(table, parent, moved(sample, table.partners(edge, point, parent)))
+
+
+def verdict(history, arrivals, line):
+    """`arrivals` lists for each point by its position what reaches it, as (FILE, line, sample)."""
+    point = history.table.find(line.point)
+    found = assertion_of(point.variables, line.text) if point is not None else None
+    if found is None:
+        return b"unknown"
+    number, places, state = found
+    joined = state
+    count = 0
+    for file, at, sample in arrivals.get(point.index, []):
+        values = tuple(sample[place] for place in places)
+        if MISSING in values:
+            continue
+        count += 1
+        joined = join(number, joined, state_of(number, {values}))
+        if joined == BROKEN if state == EMPTY else joined != state:
+            return b"violated at %s:%d" % (file.encode(), at)
+    return b"ok [%d]" % capped(count)
+
+
+def run(words, sinks, folder):
+    found = words_of_command(words, ["--ignore-missing-entry"], [])
+    if not found.files:
+        raise Usage
+    history = History()
+    reader = Reader(history, "--ignore-missing-entry" in found.flags)
+    name, *files = found.files
+    data = bytes_of_file(folder, name)
+    _, fault = lines_of(data)
+    if fault is not None:
+        raise refused(name, fault)
+    reader.bytes_before = len(data)
+    arrivals = {}
+    for file in files:
+        for _ in reader.read(file, bytes_of_file(folder, file)):
+            if history.newest is not None:
+                at, point, sample = history.newest
+                for there, mapped in reached(history.table, point, sample):
+                    arrivals.setdefault(there.index, []).append((file, at, mapped))
+    for line in assertions_in(untrimmed(data)):
+        sinks.report(b"%s: %s: %s\n" % (line.point, line.text, verdict(history, arrivals, line)))
+
+
+def status_of(words, sinks, folder):
+    return status_of_run(run, words, sinks, folder, USAGE)
+
+
+if __name__ == "__main__":
+    sys.exit(host_status(status_of, sys.argv[1:]))

@@ -1,0 +1,147 @@
+#!/usr/bin/env python3
+"""States of one table merged, or the traces of several recorders read in turns."""
+
+import sys
+
+from command import (MOST_PERIOD, Reader, Usage, bytes_of_file, host_status, least_number,
+                     number_between, refused, status_of_run, words_of_command)
+from input_language import WHY, Fault, blocks_of, first_word_and_rest, lines_of
+from points import History
+from report import FILTERS, report
+from samples import Samples
+from state_file import BadState, load, state_file, written
+
+USAGE = b"usage: dk_merge [--min-samples N] [--turns N] FILE...\n"
+BYTES_LIMIT = 1 << 30
+WITHOUT_LIMIT = 1 << 64
+TOO_LONG, BAD_STATE, DIFFERENT_STATE, JOINED_STATE = 17, 18, 19, 20
+WHY.update({DIFFERENT_STATE: "DifferentState", JOINED_STATE: "JoinedState"})
+
+
+# ---------------------------------------------------------------- merging
+
+def declarations_in(state):
+    """What stands in front of the first `samples` line, or of `end-state` where there is none."""
+    lines = state.split(b"\n")
+    ends = [k for k, line in enumerate(lines) if line.startswith((b"samples ", b"end-state"))]
+    return lines[:ends[0]]
+
+
+def joined_form(a, b):
+    """The compact form of two lists together, from theirs."""
+    places = list(range(len(a.variables)))
+    both = Samples(a.variables, a.grammar, {}, [(a, places, 1), (b, places, 1)])
+    return both.compact_form()
+
+
+def merged(name, a, b):
+    """The state of two states together. `name` is the second one's."""
+    if declarations_in(a) != declarations_in(b):
+        raise refused(name, Fault(DIFFERENT_STATE, 0))
+    first, second = load(a), load(b)
+    forms = []
+    for index in sorted(set(first.loaded) | set(second.loaded)):
+        here = [history.loaded[index] for history in (first, second) if index in history.loaded]
+        forms.append((index, joined_form(*here) if len(here) == 2 else here[0]))
+    text = written(first, forms)
+    if not is_spelling(text):
+        raise refused(name, Fault(JOINED_STATE, 0))
+    return text
+
+
+def is_spelling(data):
+    try:
+        load(data)
+    except BadState:
+        return False
+    return True
+
+
+def merged_history(names, folder):
+    """The files are judged one by one."""
+    state = None
+    for name, data in files_of(names, folder):
+        if not is_spelling(data):
+            raise refused(name, Fault(BAD_STATE, 0))
+        state = data if state is None else merged(name, state, data)
+    return load(state)
+
+
+def files_of(names, folder):
+    size = 0
+    for name in names:
+        data = bytes_of_file(folder, name)
+        size += len(data)
+        if size > BYTES_LIMIT:
+            raise refused(name, Fault(TOO_LONG, 0))
+        yield name, data
+
+
+# ---------------------------------------------------------------- turns
+
+def kept_lines(block):
+    """The block's lines without the comments in front of its record, and whether the record is a
+    sample."""
+    kept = []
+    begun = is_sample = awaited = False
+    for _, line in block.lines:
+        if not begun and line.startswith((b"#", b"//")):
+            continue
+        kept.append(line)
+        if begun:
+            continue
+        word, _ = first_word_and_rest(line)
+        if awaited:
+            awaited = False
+        elif line == b"VarComparability":
+            awaited = True
+        elif word not in (b"decl-version", b"var-comparability", b"input-language"):
+            begun = True
+            is_sample = word != b"ppt" and line not in (b"DECLARE", b"ListImplementors")
+    return kept, is_sample
+
+
+def turns(n, files):
+    """The blocks without a sample file by file, then n samples of each file in rounds."""
+    blocks = []
+    samples = []
+    for data in files:
+        lines, _ = lines_of(data, 0, WITHOUT_LIMIT, WITHOUT_LIMIT)
+        found = [kept_lines(block) for block in blocks_of(lines, None)]
+        blocks += [kept for kept, is_sample in found if kept and not is_sample]
+        samples.append([kept for kept, is_sample in found if is_sample])
+    while any(samples):
+        for k, left in enumerate(samples):
+            blocks += left[:n]
+            samples[k] = left[n:]
+    return b"\n".join(b"".join(line + b"\n" for line in block) for block in blocks)
+
+
+def history_in_turns(n, names, folder):
+    history = History()
+    text = turns(n, [data for _, data in files_of(names, folder)])
+    for _ in Reader(history, False).read("turns", text):
+        pass
+    return history
+
+
+def run(words, sinks, folder):
+    found = words_of_command(words, [], ["--min-samples", "--turns"])
+    least = least_number(found.values)
+    if not found.files:
+        raise Usage
+    if "--turns" in found.values:
+        n = number_between(found.values["--turns"], 1, MOST_PERIOD)
+        history = history_in_turns(n, found.files, folder)
+    else:
+        history = merged_history(found.files, folder)
+    sinks.report(report(history, least, b"", list(FILTERS), False))
+    sinks.state(state_file(history))
+
+
+def status_of(words, sinks, folder):
+    return status_of_run(run, words, sinks, folder, USAGE)
+
+
+if __name__ == "__main__":
+    sys.exit(host_status(status_of, sys.argv[1:]))

@@ -1,0 +1,91 @@
+#!/usr/bin/env python3
+"""Implications: what holds where a truth value is true, or where it is false."""
+
+import sys
+from collections import Counter
+
+from command import (Reader, bytes_of_file, host_status, least_number, status_of_run,
+                     words_of_command)
+from points import History
+from report import PointFacts, heading
+from rows import fits, rows_of, text_of
+from samples import Samples, instances
+
+USAGE = b"usage: dk_split [--min-samples N] [--ignore-missing-entry] [FILE]...\n"
+FILTERS = ("few", "incomparable", "member", "implied", "constant")
+
+
+class OneList:
+    """One list of samples for whatever point is asked."""
+
+    def __init__(self, samples):
+        self.samples = samples
+
+    def of(self, point):
+        return self.samples
+
+
+def samples_of(point, samples, grammar):
+    return Samples(point.variables, grammar, Counter(samples), [])
+
+
+def conditions(point, whole):
+    """The base truth values that are the first of those that agree with them."""
+    truths = [place for place, variable in enumerate(point.variables)
+              if variable.kind == "Bool" and variable.is_base()]
+    return [b for b in truths if not any(whole.agree(a, b) for a in truths if a < b)]
+
+
+def implications(point, samples, grammar, least):
+    """Each with its truth value, the half's value, the instance's text and its count there."""
+    whole = samples_of(point, samples, grammar)
+    for b in conditions(point, whole):
+        for value in (True, False):
+            half = samples_of(point, [s for s in samples if s[b] is value], grammar)
+            facts = PointFacts(OneList(half), point, least)
+            for number, places, state in held(facts, whole, b):
+                names = [point.variables[place].name for place in places]
+                yield b, value, text_of(number, state, names), half.count(places)
+
+
+def held(facts, whole, b):
+    """The instances without a variable that agrees with b, that hold on the half with another
+    state than on the whole and that no filter drops there."""
+    half = facts.samples
+    for number in rows_of(half.grammar):
+        for places in instances(number, facts.variables):
+            state = half.fit(number, places)
+            if (fits(state) and state != whole.fit(number, places)
+                    and not any(whole.agree(place, b) for place in places)
+                    and not any(facts.drops(name, number, places, state) for name in FILTERS)):
+                yield number, places, state
+
+
+def section(point, samples, grammar, least):
+    text = heading(point, len(samples))
+    for b, value, instance, count in implications(point, samples, grammar, least):
+        truth = b"true" if value else b"false"
+        text += b"%s == %s ==> %s  [%d]\n" % (point.variables[b].name, truth, instance, count)
+    return text
+
+
+def run(words, sinks, folder):
+    found = words_of_command(words, ["--ignore-missing-entry"], ["--min-samples"])
+    least = least_number(found.values)
+    history = History()
+    reader = Reader(history, "--ignore-missing-entry" in found.flags)
+    for name in found.files:
+        for _ in reader.read(name, bytes_of_file(folder, name)):
+            pass
+    for point in history.table.points:
+        samples = history.own.get(point.index, [])
+        if samples:
+            sinks.report(section(point, samples, history.grammar, least))
+
+
+def status_of(words, sinks, folder):
+    return status_of_run(run, words, sinks, folder, USAGE)
+
+
+if __name__ == "__main__":
+    sys.exit(host_status(status_of, sys.argv[1:]))
