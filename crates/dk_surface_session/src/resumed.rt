@@ -43,7 +43,7 @@ fn answers<F: Fn(&[u8]) -> bool + Drop>(session: &Session<F>) -> Result<[bool; 8
     }
     let p = PointId(0);
     Ok([
-        session.points().name(p) == b"P",
+        session.points().name(p) == b"P".as_slice(),
         session.blocks() == 0,
         matches!(session.grammar(), Grammar::Two),
         session.engine(p).counts().samples == 4,
