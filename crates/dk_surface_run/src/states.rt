@@ -7,12 +7,14 @@ use dk_run::Status;
 use std::alloc::Global;
 use std::test::Fail;
 
-const FIRST: &str = "ppt P\nppt-type point\nvariable x\nrep-type int\n\nP\nx\n1\n1\n\nP\nx\n2\n1\n\n";
+const FIRST: &str =
+    "ppt P\nppt-type point\nvariable x\nrep-type int\n\nP\nx\n1\n1\n\nP\nx\n2\n1\n\n";
 
 const SECOND: &str = "P\nx\n3\n1\n\nP\nx\n7\n1\n\n";
 
 /// The state of the first version of a point that had the values 1, 2, 3 and 7.
-const OLD: &str = "daikon-state 1\ncomparability implicit\npoints 1\npoint P\nvar int -1 -1 x\nend\nsamples 0 4\nclass 0\npattern 4 1\nslot 2 0 least 1\nslot 3 0 greatest 7\nslot 11 0 0 holds\nslot 15 0 0 straight 1 -1 0\nend\nend-state\n";
+const OLD: &str =
+    "daikon-state 1\ncomparability implicit\npoints 1\npoint P\nvar int -1 -1 x\nend\nsamples 0 4\nclass 0\npattern 4 1\nslot 2 0 least 1\nslot 3 0 greatest 7\nslot 11 0 0 holds\nslot 15 0 0 straight 1 -1 0\nend\nend-state\n";
 
 /// A run with these words, where the file `daikon.state` has this text, if any, and `u` the records.
 struct Example {
@@ -65,7 +67,15 @@ static EXAMPLES: [Example; 7] = [
     },
     Example {
         name: "the blocks of a state don't count",
-        words: &["--min-samples", "1", "--every", "2", "--resume", "daikon.state", "u"],
+        words: &[
+            "--min-samples",
+            "1",
+            "--every",
+            "2",
+            "--resume",
+            "daikon.state",
+            "u",
+        ],
         state: Some(OLD),
         status: Status::Done,
         report: "--- after 2 blocks\n@\nP  [6]\nx >= 1  [6]\nx <= 7  [6]\n--- end after 2 blocks\n@\nP  [6]\nx >= 1  [6]\nx <= 7  [6]\n",
@@ -74,7 +84,14 @@ static EXAMPLES: [Example; 7] = [
     },
     Example {
         name: "a state of the first version goes on as one",
-        words: &["--min-samples", "1", "--save", "--resume", "daikon.state", "u"],
+        words: &[
+            "--min-samples",
+            "1",
+            "--save",
+            "--resume",
+            "daikon.state",
+            "u",
+        ],
         state: Some(OLD),
         status: Status::Done,
         report: "@\nP  [6]\nx >= 1  [6]\nx <= 7  [6]\n",
@@ -107,16 +124,33 @@ fn states_are_resumed(rt: HostRuntime) -> Result<(), Fail> {
         let (status, sinks) = ran_over(rt.alloc(), files, example.words, steady(7))?;
         assert_eq!(rt; status, example.status, "{}", example.name);
         let report = ruled(rt.alloc(), example.report)?;
-        assert!(rt; sinks.written(Stream::Report) == report.as_slice(), "{}", example.name);
-        assert!(rt; sinks.written(Stream::Messages) == example.messages.as_bytes(), "{}", example.name);
-        assert!(rt; sinks.written(Stream::State) == example.saved.as_bytes(), "{}", example.name);
+        assert!(rt;
+            sinks.written(Stream::Report) == report.as_slice(),
+            "{}",
+            example.name
+        );
+        assert!(rt;
+            sinks.written(Stream::Messages) == example.messages.as_bytes(),
+            "{}",
+            example.name
+        );
+        assert!(rt;
+            sinks.written(Stream::State) == example.saved.as_bytes(),
+            "{}",
+            example.name
+        );
     }
     Ok(())
 }
 
 // The state of a run over the first file.
 fn saved(alloc: Global) -> Result<Text, Fail> {
-    let (_, sinks) = ran_over(alloc, &[("t", FIRST.as_bytes())], &["--save", "t"], steady(64))?;
+    let (_, sinks) = ran_over(
+        alloc,
+        &[("t", FIRST.as_bytes())],
+        &["--save", "t"],
+        steady(64),
+    )?;
     Ok(Text::from_slice(alloc, sinks.written(Stream::State))?)
 }
 
@@ -126,7 +160,14 @@ fn a_run_in_two_parts_is_the_whole_run(rt: HostRuntime) -> Result<(), Fail> {
     let (status, parts) = ran_over(
         rt.alloc(),
         &[("daikon.state", state.as_slice()), ("u", SECOND.as_bytes())],
-        &["--min-samples", "1", "--save", "--resume", "daikon.state", "u"],
+        &[
+            "--min-samples",
+            "1",
+            "--save",
+            "--resume",
+            "daikon.state",
+            "u",
+        ],
         steady(64),
     )?;
     assert_eq!(rt; status, Status::Done);

@@ -8,9 +8,11 @@ use std::alloc::Global;
 use std::test::Fail;
 
 /// A point that had the values 1, 2, 3 and 7.
-const STATE: &str = "daikon-state 2\ncomparability implicit\npoints 1\npoint P\nvar int -1 -1 x\nend\nsamples 0 4\nclass 0\npattern 4 1\nslot 2 0 least 1\nslot 3 0 greatest 7\nslot 11 0 0 holds\nslot 15 0 0 straight 1 -1 0\nslot 67 0 0 0 span 1 1 1 7 7 7\nend\nend-state\n";
+const STATE: &str =
+    "daikon-state 2\ncomparability implicit\npoints 1\npoint P\nvar int -1 -1 x\nend\nsamples 0 4\nclass 0\npattern 4 1\nslot 2 0 least 1\nslot 3 0 greatest 7\nslot 11 0 0 holds\nslot 15 0 0 straight 1 -1 0\nslot 67 0 0 0 span 1 1 1 7 7 7\nend\nend-state\n";
 
-const SECTION: &str = "===========================================================================\nP  [4]\nx >= 1  [4]\nx <= 7  [4]\n";
+const SECTION: &str =
+    "===========================================================================\nP  [4]\nx >= 1  [4]\nx <= 7  [4]\n";
 
 const STATS: &str = "stats P: samples 4, leaders 1, constants 0, patterns 1, slots 5\n";
 
