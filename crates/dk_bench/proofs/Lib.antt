@@ -2,3 +2,4 @@ mod Asking
 mod Judging
 mod Making
 mod Running
+mod Written

@@ -1,13 +1,15 @@
-//! A benchmark: how long the scans of sequences and the rows take, beside plain loops, what a question to a point with children
-//! and the facts of an instance cost; and traces for measuring how fast they are read.
+//! A benchmark: how long the scans of sequences and the rows take, beside plain loops, what samples cost an engine, and what a question to
+//! a point with children, the facts of an instance and a section cost; and traces for measuring how fast they are read.
 #![tactic(auto)]
 
+mod engine;
 mod faults;
 mod hierarchy;
 mod judge;
 mod lending;
 mod noise;
 mod questions;
+mod report;
 mod rows;
 mod samples;
 mod scans;
@@ -20,11 +22,14 @@ use faults::Fault;
 use std::{env, io};
 use traces::{Records, write_trace};
 
-const USAGE: &str = "usage: dk_bench scans | rows | hierarchy | judge | traces KIND COUNT
+const USAGE: &str =
+    "usage: dk_bench scans | rows | engine | hierarchy | judge | report | traces KIND COUNT
   scans      nanoseconds for each number, of a plain loop and of the scan
   rows       nanoseconds for each slot, of a plain loop, of a sample that changes none, and of a point and a join
+  engine     nanoseconds for each slot, of a sample that changes none; seconds for many samples, without reading
   hierarchy  nanoseconds for each question to points with children: a chain, a star, and a parent of 30 variables
   judge      nanoseconds for the facts of an instance, at a point of 30 variables with two parents
+  report     milliseconds for the section of a point of 100 numbers, and of a parent of 12 variables with 10 children
   traces     writes a trace of COUNT records: numbers, short, calls or sequences
 ";
 
@@ -61,8 +66,10 @@ fn main(rt: HostRuntime) -> Result<(), Fault> {
     match words.nth(1) {
         Some(word) if word.as_str() == "scans" => Ok(scans::print_table(&rt)?),
         Some(word) if word.as_str() == "rows" => Ok(rows::print_table(&rt)?),
+        Some(word) if word.as_str() == "engine" => engine::print_table(&rt),
         Some(word) if word.as_str() == "hierarchy" => hierarchy::print_table(&rt),
         Some(word) if word.as_str() == "judge" => judge::print_table(&rt),
+        Some(word) if word.as_str() == "report" => report::print_table(&rt),
         Some(word) if word.as_str() == "traces" => {
             let kind = words.next();
             let count = words.next();
