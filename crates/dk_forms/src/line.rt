@@ -166,7 +166,7 @@ fn has_point(a: i128, b: i128, c: i128, x: i64, y: i64) -> bool
     requires { IsStraight (a, b, c) }
     ensures { result ≡ (in_limit (x, y) && is_on (a, b, c) (x, y)) }
 {
-    if small::is_factor(a) && small::is_factor(b) && is_small(x) && is_small(y) {
+    if small::are_two_factors(a, b) && is_small(x) && is_small(y) {
         small::is_level(a as i64, b as i64, c, x, y)
     } else {
         wide_meet(a, b, c, x, y)

@@ -451,7 +451,7 @@ fn has_point(n: Plane, p: Point) -> bool
     requires p { IsPoint (triple p) }
     ensures { result ≡ is_in_plane (quadruple n) (triple p) }
 {
-    if small::is_factor(n.a) && small::is_factor(n.b) && small::is_factor(n.c) {
+    if small::are_three_factors(n.a, n.b, n.c) {
         small::is_flat(n.a as i64, n.b as i64, n.c as i64, n.d, p.x, p.y, p.z)
     } else {
         wide_meet(n.a, n.b, n.c, n.d, p.x, p.y, p.z)
