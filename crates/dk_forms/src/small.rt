@@ -5,6 +5,7 @@ ghost use Rattle.dk_forms.specs.Plane.{are_parallel};
 ghost use Rattle.dk_forms.specs.Points.{IsGap, step};
 
 // A number of 64 bits that is below 2^32 only where n is small. It takes the low half of n alone, which tells since n isn't wide.
+#[inline(always)]
 fn spread(n: i128) -> u64
     requires { unsigned_abs n ≤ 2 ^ 63 }
     ensures { result < 2 ^ 32 → unsigned_abs n ≤ 2 ^ 31 }
@@ -14,6 +15,7 @@ fn spread(n: i128) -> u64
 }
 
 /// Whether both numbers are small factors: at most 2^31 by their size.
+#[inline(always)]
 pub(crate) fn are_two_factors(a: i128, b: i128) -> bool
     requires a { unsigned_abs a ≤ 2 ^ 63 }
     requires b { unsigned_abs b ≤ 2 ^ 63 }
@@ -24,6 +26,7 @@ pub(crate) fn are_two_factors(a: i128, b: i128) -> bool
 }
 
 /// Whether the three numbers are small factors.
+#[inline(always)]
 pub(crate) fn are_three_factors(a: i128, b: i128, c: i128) -> bool
     requires a { unsigned_abs a ≤ 2 ^ 63 }
     requires b { unsigned_abs b ≤ 2 ^ 63 }
@@ -36,6 +39,7 @@ pub(crate) fn are_three_factors(a: i128, b: i128, c: i128) -> bool
 }
 
 /// `a * x`, which is exact.
+#[inline(always)]
 pub(crate) fn product(a: i64, x: i64) -> i64
     requires a { unsigned_abs a ≤ 2 ^ 31 }
     requires x { unsigned_abs x ≤ 2 ^ 30 }
@@ -46,6 +50,7 @@ pub(crate) fn product(a: i64, x: i64) -> i64
 }
 
 /// Whether `a * x + b * y + c` is 0. It is exact, with one multiplication of 64 bits for each factor.
+#[inline(always)]
 pub(crate) fn is_level(a: i64, b: i64, c: i128, x: i64, y: i64) -> bool
     requires a { unsigned_abs a ≤ 2 ^ 31 }
     requires b { unsigned_abs b ≤ 2 ^ 31 }
@@ -59,6 +64,7 @@ pub(crate) fn is_level(a: i64, b: i64, c: i128, x: i64, y: i64) -> bool
 }
 
 /// Whether `a * x + b * y + c * z + d` is 0. It is exact, with one multiplication of 64 bits for each factor.
+#[inline(always)]
 pub(crate) fn is_flat(a: i64, b: i64, c: i64, d: i128, x: i64, y: i64, z: i64) -> bool
     requires a { unsigned_abs a ≤ 2 ^ 31 }
     requires b { unsigned_abs b ≤ 2 ^ 31 }
