@@ -7,6 +7,7 @@ ghost use Rattle.dk_template.specs.Rows.{IsTuple};
 ghost use Rattle.dk_template.specs.Templates.{role_kinds};
 
 use crate::rows::join;
+use crate::texts::same_text;
 use dk_base::{NoMemory, View, bool_at, hash_at, text_at};
 use dk_forms::{plain_point, plain_stays};
 use dk_template::{Row, RowId, State};
@@ -38,7 +39,7 @@ impl Scalar {
         match self {
             Scalar::Bool => bool_at(tuple, 0) == bool_at(tuple, 1),
             Scalar::Hash => hash_at(tuple, 0) == hash_at(tuple, 1),
-            Scalar::Str => text_at(tuple, 0) == text_at(tuple, 1),
+            Scalar::Str => same_text(text_at(tuple, 0), text_at(tuple, 1)),
         }
     }
 }
