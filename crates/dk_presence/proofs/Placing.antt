@@ -6,7 +6,7 @@ use Rattle.std.specs.List.{All, AllByRecursion, IsDistinct, list_any, position_o
 use Rattle.std.proofs.lemmas.Bool.{cases_Bool, true≢false}
 use Rattle.std.proofs.lemmas.Bool.Decides.{nat_tests}
 use Rattle.std.proofs.lemmas.List.{get_or-map, get_or-take, length-map, length-take-le, map-append, take_more}
-use Rattle.std.proofs.lemmas.List.Sums.{fails_before_first}
+use Rattle.std.proofs.lemmas.List.Sums.{fails_before_first, position_or_len_is}
 use Rattle.std.proofs.lemmas.List.Elements.{All-cons, All-head, All-nil, All-tail}
 use Rattle.std.proofs.lemmas.Map.Keys.{apart_from_distinct, IsDistinct-cons, IsDistinct-head, IsDistinct-tail}
 use Rattle.std.proofs.lemmas.List.Quantifiers.{position-Some}
@@ -79,6 +79,13 @@ held_none = record { once = tt; some = All-nil (λ h. 0 < h.count); ascend = All
 any_not : (p : List VarId → Bool) (ps : List (List VarId)) → ((k : ℕ) → k < length ps → p (get_or ps k []) ≡ false) → list_any p ps ≡ false
 any_not p [] h = refl
 any_not p (a ∷ ps) h = ap (λ b. b || list_any p ps) (h 0 (omega arith)) ∙ any_not p ps (λ k l. h (suc k) (omega arith))
+
+-- the first place that passes is the one that a look-up finds
+pub position_at : (p : List VarId → Bool) (ps : List (List VarId)) (i : ℕ) → i < length ps → p (get_or ps i []) ≡ true → ((k : ℕ) → k < i → p (get_or ps k []) ≡ false) → position p ps ≡ Some i
+position_at p ps i l here before =
+    let first : position_or_len p ps ≡ i = position_or_len_is p ps i [] (omega (arith, l)) before (λ _. here) in
+    let within : nat_lt i (length ps) ≡ true = grind (arith, nat_tests, l) in
+    ap (λ n. cond (nat_lt n (length ps)) (Some n) None) first ∙ ap (λ b. cond b (Some i) None) within
 
 -- by the place that a look-up finds
 pub added_found : (present : List VarId) (held : List Held) (i : ℕ) → position (same_vars present) (held_patterns held) ≡ Some i

@@ -1,5 +1,5 @@
 // Patterns of present leaders with their counts.
-ghost use Rattle.std.specs.Prelude.{◌≡◌, ◌↔◌, [], ◌∷◌, ◌++◌, ◌<◌, true, All, IfOk, IsTrue, List, map};
+ghost use Rattle.std.specs.Prelude.{◌≡◌, ◌↔◌, [], ◌∷◌, ◌++◌, ◌<◌, true, All, IfOk, IsTrue, List, OnOk, map};
 ghost use Rattle.dk_base.specs.Values.{values_of};
 ghost use Rattle.dk_base.specs.declared.kinds.VarId.{VarId};
 ghost use Rattle.dk_base.specs.declared.values.Value.{Value};
@@ -8,13 +8,15 @@ ghost use Rattle.dk_presence.specs.Patterns.{AreCounted, AreHeld, count_of, coun
 ghost use Rattle.dk_presence.specs.Steps.{AreUnheld, Differ, refined, with_sample_of};
 
 use crate::Held;
+use crate::matching::place_among;
 use crate::places::{place_of, places_of};
-use crate::steps::{refine_all, sum_of, with_one_more, with_pattern};
+use crate::steps::{count_once_more, refine_all, sum_of, with_one_more, with_pattern};
 use dk_base::{List, NoMemory, VarId, View};
 use dk_samples::{is_present, value_at};
 use indexmap::IndexSet;
 use std::alloc::Global;
 use std::marker::Model;
+use std::mem::replace;
 
 /// How often each pattern of present leaders occurs in the samples. Contracts see it as the list of the patterns with their counts.
 #[derive(Drop)]
@@ -101,6 +103,35 @@ impl Presence {
         ensures { IsTrue result ↔ (0 < pattern_count self.now present.now) }
     {
         place_of(&self.places, present).is_some()
+    }
+
+    /// Whether the leaders that are present in the sample are a pattern that is held. It takes no memory where the pattern is one of the
+    /// first.
+    pub fn has_sample(&self, leaders: &[VarId], sample: &[View<'_>]) -> Result<bool, NoMemory>
+        ensures { IfOk result (λ b. IsTrue b ↔ (0 < pattern_count self.now (present_in leaders.now (values_of sample.now)))) }
+    {
+        if place_among(self.held.as_slice(), leaders, sample).is_some() {
+            return Ok(true);
+        }
+        let present = present_leaders(self.alloc, leaders, sample)?;
+        Ok(self.has_pattern(present.as_slice()))
+    }
+
+    /// One sample more, with its pattern of these leaders. It takes no memory where the pattern is one of the first. After want of memory
+    /// nothing is said of the patterns.
+    pub fn count_sample(&mut self, leaders: &[VarId], sample: &[View<'_>]) -> Result<(), NoMemory>
+        requires { VarsAscend leaders.now }
+        ensures { OnOk result (self.new ≡ with_sample_of (present_in leaders.now (values_of sample.now)) self.old) }
+    {
+        if let Some(place) = place_among(self.held.as_slice(), leaders, sample) {
+            count_once_more(&mut self.held, place);
+            return Ok(());
+        }
+        let present = present_leaders(self.alloc, leaders, sample)?;
+        let none = Presence::new(self.alloc)?;
+        let held = replace(self, none);
+        *self = held.add(present.as_slice())?;
+        Ok(())
     }
 
     /// The patterns with a sample more, in which these leaders are present. They ascend.

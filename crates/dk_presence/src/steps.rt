@@ -107,14 +107,22 @@ pub(crate) fn refine_all(
     Ok(all)
 }
 
+/// One sample more at the pattern at this place.
+pub(crate) fn count_once_more(held: &mut Vec<Held>, place: usize)
+    requires { place < length held.old.items }
+    ensures { (d : Held) → held.new.items ≡ slice_set held.old.items place (counted_once_more (slice_index_or held.old.items place d)) }
+{
+    let pattern = &mut held[place];
+    pattern.count = pattern.count.saturating_add(1);
+}
+
 /// The patterns with one sample more at the one at this place.
 pub(crate) fn with_one_more(held: Vec<Held>, place: usize) -> Vec<Held>
     requires { place < length held.items }
     ensures { (d : Held) → result.items ≡ slice_set held.items place (counted_once_more (slice_index_or held.items place d)) }
 {
     let mut more = held;
-    let pattern = &mut more[place];
-    pattern.count = pattern.count.saturating_add(1);
+    count_once_more(&mut more, place);
     more
 }
 

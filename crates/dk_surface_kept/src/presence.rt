@@ -41,6 +41,22 @@ fn three_numbers_split_in_two_steps(rt: HostRuntime) -> Result<(), Fail> {
 }
 
 #[test]
+fn samples_are_counted_by_their_patterns(rt: HostRuntime) -> Result<(), Fail> {
+    let leaders = [VarId(0), VarId(1)];
+    let whole = [View::Int(3), View::Int(4)];
+    let part = [View::Missing, View::Int(4)];
+    let mut held = Presence::new(rt.alloc())?;
+    assert!(rt; !held.has_sample(&leaders, &whole)?);
+    held.count_sample(&leaders, &whole)?;
+    held.count_sample(&leaders, &part)?;
+    held.count_sample(&leaders, &whole)?;
+    assert!(rt; held.has_sample(&leaders, &part)?);
+    assert!(rt; held.count(&[VarId(0)]) == 2);
+    assert!(rt; held.count(&[]) == 3);
+    Ok(())
+}
+
+#[test]
 fn counts_end_at_the_greatest(rt: HostRuntime) -> Result<(), Fail> {
     let alloc = rt.alloc();
     let most = Presence::from_held(alloc, one_held(alloc, u64::MAX, &[VarId(4)])?)?;
