@@ -48,7 +48,7 @@ saves_again c l meets loaded =
     from_zero p = omega arith
 
 -- ---- the content of a history
-saved_alike : (n : ℕ) (ks : List Kept) → flat_map saved_lines (enumerate_from n (map saved_of ks)) ≡ flat_map kept_lines (enumerate_from n ks)
+pub saved_alike : (n : ℕ) (ks : List Kept) → flat_map saved_lines (enumerate_from n (map saved_of ks)) ≡ flat_map kept_lines (enumerate_from n ks)
 saved_alike n [] = refl
 saved_alike n (k ∷ ks) =
     let here : saved_lines (n, saved_of k) ≡ kept_lines (n, k) =
@@ -56,7 +56,7 @@ saved_alike n (k ∷ ks) =
     let later = saved_alike (n + 1) ks in
     λ i. here i ++ later i
 
-map-map : {X Y Z : Type 0} (f : X → Y) (h : Y → Z) (xs : List X) → map h (map f xs) ≡ map (λ x. h (f x)) xs
+pub map-map : {X Y Z : Type 0} (f : X → Y) (h : Y → Z) (xs : List X) → map h (map f xs) ≡ map (λ x. h (f x)) xs
 map-map f h [] = refl
 map-map f h (x ∷ xs) = ap (λ r. h (f x) ∷ r) (map-map f h xs)
 
