@@ -17,6 +17,6 @@ pub mod Engines
 pub mod CompactLeaders
 pub mod CompactParts
 pub mod SameTexts
-pub mod Histories
 pub mod Loads
+pub mod Histories
 mod Examples

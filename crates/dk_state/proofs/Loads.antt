@@ -1,5 +1,5 @@
 -- What was loaded is content that meets the conditions.
-use Rattle.std.specs.Prelude.{◌≡◌, ◌==◌, ◌++◌, ◌∷◌, [], ℕ, All, Bool, IsTrue, List, Option, Some, None, flat_map, is_some, length, map, option_and_then, option_map, slice_get, false, refl, if◌then◌else◌}
+use Rattle.std.specs.Prelude.{◌≡◌, ◌+◌, ◌==◌, ◌++◌, ◌∷◌, [], ℕ, All, Bool, IsTrue, List, Option, Some, None, flat_map, is_some, length, map, option_and_then, option_map, slice_get, false, refl}
 use Rattle.std.specs.List.{enumerate_from}
 use Rattle.std.proofs.Common.{◌∙◌, ap, inl, inr, subst, sym}
 use Rattle.std.proofs.lemmas.Bool.{cond_both}
@@ -15,11 +15,10 @@ use Rattle.dk_points.specs.Table.{Point, decl_if_declared, decl_of}
 use Rattle.dk_state.specs.Declarations.{decls_of}
 use Rattle.dk_state.specs.Fitting.{FitsSlot}
 use Rattle.dk_state.specs.Loading.{AreSaved}
-use Rattle.dk_state.specs.Saved.{saved_text, state_text}
+use Rattle.dk_state.specs.Saved.{kept_lines, saved_text, state_text}
 use Rattle.dk_state.specs.Spelling.{Content, IsContent, IsOwnTable, IsSavedAt, saved_lines, saved_of, text_of}
 use Rattle.dk_state.specs.declared.loading.Loaded.{Loaded}
 use Rattle.dk_state.proofs.Blocks.{got_push}
-use Rattle.dk_state.proofs.Histories.{map-map, saved_alike}
 use Rattle.dk_template.specs.declared.grammar.Grammar.{Grammar}
 
 -- ---- one engine
@@ -48,6 +47,19 @@ more_saved g ps engines engine all own p other got = elim (got_push engines engi
 ]
 
 -- ---- the content
+-- what is saved of kept parts has their lines
+pub saved_alike : (n : ℕ) (ks : List Kept) → flat_map saved_lines (enumerate_from n (map saved_of ks)) ≡ flat_map kept_lines (enumerate_from n ks)
+saved_alike n [] = refl
+saved_alike n (k ∷ ks) =
+    let here : saved_lines (n, saved_of k) ≡ kept_lines (n, k) =
+    cond_both (k.samples == 0) None (Some (parts_of k)) (λ o. saved_lines (n, o) ≡ kept_lines (n, k)) (λ e. rw e refl) (λ e. rw e refl) in
+    let later = saved_alike (n + 1) ks in
+    λ i. here i ++ later i
+
+pub map-map : {X Y Z : Type 0} (f : X → Y) (h : Y → Z) (xs : List X) → map h (map f xs) ≡ map (λ x. h (f x)) xs
+map-map f h [] = refl
+map-map f h (x ∷ xs) = ap (λ r. h (f x) ∷ r) (map-map f h xs)
+
 abbrev pub content_loaded : Loaded → Content
 content_loaded l = record {
   grammar = l.grammar;

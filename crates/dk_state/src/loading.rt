@@ -156,7 +156,7 @@ fn engine_with(
 ) -> Result<Engine, LoadFault>
     requires { p.0 < length points.now }
     ensures engine { IfOk result (IsEngineAt points.now grammar p.0) }
-    ensures saved { IfOk result (λ e. AreSavedParts grammar (all_vars_of points.now p.0) (parts_of e.kept) × All FitsSlot (parts_of e.kept).slots) }
+    ensures saved { IfOk result (λ e. AreSavedParts grammar (all_vars_of points.now p.0) (parts_of e.kept) × All FitsSlot e.kept.slots) }
     ensures read { (saved : AllParts) (more : List (Option AllParts)) → p.0 < 2 ^ 32 → AreSavedAt grammar points.now p.0 saved → front.old ≡ blocks p.0 (Some saved ∷ more) → Loads result (λ e. IsLoadedAs grammar points.now p.0 (Some saved) e × (front.new ≡ blocks (p.0 + 1) more)) }
 {
     front.pass(b"samples");
