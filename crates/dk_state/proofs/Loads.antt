@@ -11,7 +11,7 @@ use Rattle.dk_engine.specs.declared.kept.Kept.{Kept}
 use Rattle.dk_engine.specs.declared.parts.Parts.{Parts}
 use Rattle.dk_graph.proofs.Places.{some-injective}
 use Rattle.dk_hierarchy.specs.Samples.{all_vars_of}
-use Rattle.dk_points.specs.Table.{Point, decl_if_declared, decl_of}
+use Rattle.dk_points.specs.Table.{Point, decl_at, decl_if_declared}
 use Rattle.dk_state.specs.Declarations.{decls_of}
 use Rattle.dk_state.specs.Fitting.{FitsSlot}
 use Rattle.dk_state.specs.Loading.{AreSaved}
@@ -23,7 +23,7 @@ use Rattle.dk_template.specs.declared.grammar.Grammar.{Grammar}
 
 -- ---- one engine
 -- a point that isn't an implicit exit is declared
-pub declared_there : (ps : List Point) (p : ℕ) (is : Bool) → option_map (λ (q : Point). q.is_implicit) (slice_get ps p) ≡ Some is → is ≡ false → IsTrue (is_some (decl_of ps p))
+pub declared_there : (ps : List Point) (p : ℕ) (is : Bool) → option_map (λ (q : Point). q.is_implicit) (slice_get ps p) ≡ Some is → is ≡ false → IsTrue (is_some (decl_at ps p))
 declared_there ps p is e other = go (slice_get ps p) (e ∙ ap (λ (b : Bool). Some b) other)
   where
     go : (o : Option Point) → option_map (λ (q : Point). q.is_implicit) o ≡ Some false → IsTrue (is_some (option_and_then decl_if_declared o))
@@ -34,7 +34,7 @@ module _ (g : Grammar) (ps : List Point) (p : ℕ) (kept : Kept) where
   pub new_saved : kept.samples ≡ 0 → IsSavedAt g ps p (saved_of kept)
   new_saved none = rw none tt
 
-  pub parts_saved : IsTrue (is_some (decl_of ps p)) → AreSavedParts g (all_vars_of ps p) (parts_of kept) → All FitsSlot kept.slots → IsSavedAt g ps p (saved_of kept)
+  pub parts_saved : IsTrue (is_some (decl_at ps p)) → AreSavedParts g (all_vars_of ps p) (parts_of kept) → All FitsSlot kept.slots → IsSavedAt g ps p (saved_of kept)
   parts_saved there meet within =
       cond_both (kept.samples == 0) None (Some (parts_of kept)) (IsSavedAt g ps p) (λ _. tt) (λ _. record { declared = there; meet = meet; within = within })
 

@@ -15,7 +15,7 @@ use Rattle.dk_points.specs.declared.declared.Declared.TheVariants.{New, Same}
 use Rattle.dk_points.specs.Declaring.{declared, declared_again, declared_at, has_many_points, has_many_vars}
 use Rattle.dk_points.specs.Links.{nodes}
 use Rattle.dk_points.specs.Sameness.{same_decl}
-use Rattle.dk_points.specs.Table.{Point, added, decl_if_declared, decl_of, declared_point, implicit_exit, makes_exit, names}
+use Rattle.dk_points.specs.Table.{Point, added_points, decl_at, decl_if_declared, declared_point, implicit_exit, makes_exit, names}
 use Rattle.dk_state.specs.Declarations.{decls_of}
 use Rattle.dk_state.specs.Given.{CanBeGiven}
 use Rattle.dk_state.specs.Spelling.{IsOwnTable, if_new, table_behind}
@@ -45,7 +45,7 @@ next_made ys None all e = absurd (cc)
 next_made ys (Some next) all e = (next, refl)
 
 -- a new point's declaration adds its points to the table, which stays short enough
-pub new_adds : (ps : List Point) (d : PointDecl) (next : List Point) → if_new (declared ps d) ≡ Some next → (ps ++ added ps d ≡ next) × (length next ≤ 65535)
+pub new_adds : (ps : List Point) (d : PointDecl) (next : List Point) → if_new (declared ps d) ≡ Some next → (ps ++ added_points ps d ≡ next) × (length next ≤ 65535)
 unfolding declared
 new_adds ps d next e = go (place_of (names ps) d.name) e
   where
@@ -55,19 +55,19 @@ new_adds ps d next e = go (place_of (names ps) d.name) e
         cond_both (same_decl own d) (Ok (ps, Same (record { 0 = i }))) (Err DuplicatePoint) (λ (r : Result (List Point × Declared) Why). if_new r ≡ Some next → ⊥)
         (λ _ h. cc) (λ _ h. cc) e
 
-    pick : (many vars cycle : Bool) → nat_lt 65535 (length (ps ++ added ps d)) ≡ many
-        → if_new (if many then Err TooManyPoints else if vars then Err TooManyVariables else if cycle then Err CyclicParents else Ok (ps ++ added ps d, New (record { 0 = length (ps ++ added ps d) - 1 }))) ≡ Some next
-        → (ps ++ added ps d ≡ next) × (length next ≤ 65535)
+    pick : (many vars cycle : Bool) → nat_lt 65535 (length (ps ++ added_points ps d)) ≡ many
+        → if_new (if many then Err TooManyPoints else if vars then Err TooManyVariables else if cycle then Err CyclicParents else Ok (ps ++ added_points ps d, New (record { 0 = length (ps ++ added_points ps d) - 1 }))) ≡ Some next
+        → (ps ++ added_points ps d ≡ next) × (length next ≤ 65535)
     pick true vars cycle few e = absurd (cc)
     pick false true cycle few e = absurd (cc)
     pick false false true few e = absurd (cc)
     pick false false false few e =
-        let same : ps ++ added ps d ≡ next = some-injective e in
-        (same, omega (arith, ap length same, ltb-false 65535 (length (ps ++ added ps d)) few))
+        let same : ps ++ added_points ps d ≡ next = some-injective e in
+        (same, omega (arith, ap length same, ltb-false 65535 (length (ps ++ added_points ps d)) few))
 
-    go : (o : Option ℕ) → if_new (declared_at ps d o) ≡ Some next → (ps ++ added ps d ≡ next) × (length next ≤ 65535)
-    go None e = pick (has_many_points (ps ++ added ps d)) (has_many_vars ps d) (has_cycle (nodes (ps ++ added ps d))) refl e
-    go (Some i) e = absurd (again i (decl_of ps i) e)
+    go : (o : Option ℕ) → if_new (declared_at ps d o) ≡ Some next → (ps ++ added_points ps d ≡ next) × (length next ≤ 65535)
+    go None e = pick (has_many_points (ps ++ added_points ps d)) (has_many_vars ps d) (has_cycle (nodes (ps ++ added_points ps d))) refl e
+    go (Some i) e = absurd (again i (decl_at ps i) e)
 
 -- so the table grows
 new_grows : (ps : List Point) (d : PointDecl) (next : List Point) → if_new (declared ps d) ≡ Some next → (length ps < length next) × (length next ≤ 65535)
@@ -75,7 +75,7 @@ new_grows ps d next e =
     let adds = new_adds ps d next e in
     (omega (arith, ap length adds.0, more), adds.1)
   where
-    more : length ps < length (ps ++ added ps d)
+    more : length ps < length (ps ++ added_points ps d)
     more =
         cond_both (makes_exit ps d) (implicit_exit d ∷ declared_point d ∷ []) (declared_point d ∷ []) (λ qs. length ps < length (ps ++ qs))
         (λ _. omega (arith, length-append ps (implicit_exit d ∷ declared_point d ∷ []))) (λ _. omega (arith, length-append ps (declared_point d ∷ [])))
@@ -90,7 +90,7 @@ few_made (d ∷ ds) ps all few e =
 
 -- ---- the declarations of a table
 -- of what a declaration adds it is the only one
-added_declares : (ps : List Point) (d : PointDecl) → decls_of (added ps d) ≡ d ∷ []
+added_declares : (ps : List Point) (d : PointDecl) → decls_of (added_points ps d) ≡ d ∷ []
 added_declares ps d =
     cond_both (makes_exit ps d) (implicit_exit d ∷ declared_point d ∷ []) (declared_point d ∷ []) (λ qs. decls_of qs ≡ d ∷ []) (λ _. refl) (λ _. refl)
 
@@ -101,7 +101,7 @@ declares_more (d ∷ ds) ps all e =
     let next = next_made ds (if_new (declared ps d)) all e in
     let adds = (new_adds ps d next.0 next.1).0 in
     let grown : decls_of next.0 ≡ decls_of ps ++ d ∷ [] =
-    ap decls_of (sym adds) ∙ filter_map-append decl_if_declared ps (added ps d) ∙ ap (λ own. decls_of ps ++ own) (added_declares ps d) in
+    ap decls_of (sym adds) ∙ filter_map-append decl_if_declared ps (added_points ps d) ∙ ap (λ own. decls_of ps ++ own) (added_declares ps d) in
     declares_more ds next.0 all (ap (option_and_then (λ q. table_behind q ds)) (sym next.1) ∙ e)
     ∙ ap (λ own. own ++ ds) grown ∙ append_assoc (decls_of ps) (d ∷ []) ds
 
