@@ -2,12 +2,12 @@
 ghost use Rattle.std.specs.Prelude.{◌<◌, All, IfOk, IfSome, length};
 ghost use Rattle.dk_points.specs.Laws.{IsBaseVar};
 
+use crate::reading::table;
 use bumpalo::collections::into_bump_slice;
 use dk_base::{
-    Arena, BlockFault, Compar, Form, Kind, List, NoMemory, PointId, Text, ValueFault, VarId,
+    Arena, Compar, Form, Kind, List, NoMemory, PointId, Text, ValueFault, VarId,
     VarInfo, View, parse_value, spell,
 };
-use dk_decl::laws::read_block;
 use dk_derive::laws::{
     derive_gives_derived, derived_are_counted, missing_bases_give_missing, partners_are_alike,
     values_are_of_kinds, values_are_within,
@@ -18,44 +18,6 @@ use dk_points::Points;
 use std::alloc::Global;
 use std::process::Abort;
 use std::test::Fail;
-
-fn declare_block(
-    alloc: Global,
-    points: Points,
-    block: &[(u64, &[u8])],
-) -> Result<Points, BlockFault> {
-    match block {
-        [] => Ok(points),
-        [first, rest @ ..] => {
-            let decl = read_block(alloc, true, *first, rest)?;
-            let (more, _) = points.declare(decl, 1)?;
-            Ok(more)
-        }
-    }
-}
-
-fn with_line<'a>(
-    mut block: Vec<(u64, &'a [u8])>,
-    line: &'a [u8],
-) -> Result<Vec<(u64, &'a [u8])>, NoMemory> {
-    block.push((1, line))?;
-    Ok(block)
-}
-
-// The table behind the blocks of a text, which blank lines separate.
-fn table(alloc: Global, text: &[u8]) -> Result<Points, BlockFault> {
-    let mut points = Points::new(alloc)?;
-    let mut block: Vec<(u64, &[u8])> = Vec::new(alloc);
-    for line in text.split(|byte| *byte == b'\n') {
-        if line.is_empty() {
-            points = declare_block(alloc, points, block.as_slice())?;
-            block = Vec::new(alloc);
-        } else {
-            block = with_line(block, line)?;
-        }
-    }
-    declare_block(alloc, points, block.as_slice())
-}
 
 fn last_point(points: &Points) -> Option<PointId>
     ensures { IfSome result (λ p. p.0 < length points.now) }
@@ -112,7 +74,7 @@ fn derived_names(alloc: Global, points: &Points) -> Result<Text, NoMemory> {
 #[test]
 fn derived_variables_have_names(rt: HostRuntime) -> Result<(), Fail> {
     for (blocks, expected) in &NAMES {
-        let points = table(rt.alloc(), blocks)?;
+        let (points, _) = table(rt.alloc(), blocks)?;
         assert_eq!(&rt; derived_names(rt.alloc(), &points)?.as_slice(), *expected);
     }
     Ok(())
@@ -276,7 +238,7 @@ fn block_of(alloc: Global, rep_type: &[u8]) -> Result<Text, NoMemory> {
 fn derived_variables_have_values(rt: HostRuntime) -> Result<(), Fail> {
     for (rep_type, values, expected) in &VALUES {
         let block = block_of(rt.alloc(), rep_type)?;
-        let points = table(rt.alloc(), block.as_slice())?;
+        let (points, _) = table(rt.alloc(), block.as_slice())?;
         let shown = derived_values(rt.alloc(), &points, values)?;
         assert_eq!(&rt; shown.as_slice(), *expected);
     }
@@ -353,7 +315,7 @@ fn first_partners(alloc: Global, points: &Points) -> Result<Text, NoMemory> {
 #[test]
 fn derived_variables_have_partners(rt: HostRuntime) -> Result<(), Fail> {
     for (blocks, expected) in &PARTNERS {
-        let points = table(rt.alloc(), blocks)?;
+        let (points, _) = table(rt.alloc(), blocks)?;
         assert_eq!(&rt; first_partners(rt.alloc(), &points)?.as_slice(), *expected);
     }
     Ok(())
