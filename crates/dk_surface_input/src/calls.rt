@@ -1,7 +1,7 @@
 // What no clause says: that the calls succeed with ample memory; and records in turn with what exits get.
 ghost use Rattle.std.specs.Prelude.{◌<◌, length};
 
-use crate::reading::{show_fault, table};
+use crate::reading::{numbered, show_fault, table};
 use bumpalo::collections::into_bump_slice;
 use dk_base::{Arena, BlockFault, NoMemory, Text, View, parse_integer, spell, words};
 use dk_calls::laws::exit_values_fit;
@@ -183,10 +183,8 @@ fn take_line(
 fn outcome(alloc: Global, points: &Points, records: &[u8]) -> Result<Text, NoMemory> {
     let mut calls = Calls::new(alloc)?;
     let mut shown = Text::new(alloc);
-    let mut line = 0u64;
-    for bytes in records.split(|byte| *byte == b'\n') {
-        line = line.saturating_add(1);
-        take_line(alloc, &mut calls, points, line, bytes, &mut shown)?;
+    for (line, bytes) in numbered(alloc, 1, records)?.as_slice() {
+        take_line(alloc, &mut calls, points, *line, bytes, &mut shown)?;
     }
     calls.clear();
     Ok(shown)

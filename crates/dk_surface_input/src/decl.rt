@@ -542,20 +542,26 @@ fn declare_blocks_have_their_outcomes(rt: HostRuntime) -> Result<(), Fail> {
     Ok(())
 }
 
+// What header lines answer, and what they come to.
+fn show_header(alloc: Global, lines: &[u8]) -> Result<Text, NoMemory> {
+    let mut header = Header::new();
+    let mut shown = Text::new(alloc);
+    for (_, line) in numbered(alloc, 1, lines)?.as_slice() {
+        shown.push(match header.line(line) {
+            Ok(true) => b't',
+            Ok(false) => b'f',
+            Err(_) => b'B',
+        })?;
+    }
+    shown.push(if header.end().is_ok() { b'.' } else { b'E' })?;
+    shown.push(if header.implicit() { b'i' } else { b'n' })?;
+    Ok(shown)
+}
+
 #[test]
 fn header_lines_have_their_outcomes(rt: HostRuntime) -> Result<(), Fail> {
     for (lines, expected) in &HEADERS {
-        let mut header = Header::new();
-        let mut shown = Text::new(rt.alloc());
-        for line in lines.split(|byte| *byte == b'\n') {
-            shown.push(match header.line(line) {
-                Ok(true) => b't',
-                Ok(false) => b'f',
-                Err(_) => b'B',
-            })?;
-        }
-        shown.push(if header.end().is_ok() { b'.' } else { b'E' })?;
-        shown.push(if header.implicit() { b'i' } else { b'n' })?;
+        let shown = show_header(rt.alloc(), lines)?;
         assert_eq!(&rt; shown.as_slice(), *expected);
     }
     Ok(())

@@ -2,7 +2,7 @@
 ghost use Rattle.std.specs.Prelude.{◌<◌, All, IfOk, IfSome, length};
 ghost use Rattle.dk_points.specs.Laws.{IsBaseVar};
 
-use crate::reading::table;
+use crate::reading::{numbered, table};
 use bumpalo::collections::into_bump_slice;
 use dk_base::{
     Arena, Compar, Form, Kind, List, NoMemory, PointId, Text, ValueFault, VarId,
@@ -194,18 +194,14 @@ fn with_value<'a>(
 
 // The values of the base variables, one a line.
 fn base_values<'a>(
+    alloc: Global,
     arena: &'a Arena,
     base: &[VarInfo],
     text: &[u8],
 ) -> Result<&'a [View<'a>], NoMemory> {
     let mut values: Vec<View<'a>, &'a Arena> = Vec::new(arena);
-    let mut place = 0usize;
-    for line in text.split(|byte| *byte == b'\n') {
-        let Some(var) = base.get(place) else {
-            return Err(NoMemory);
-        };
+    for (var, (_, line)) in base.iter().zip(numbered(alloc, 1, text)?.as_slice()) {
         values = with_value(values, parsed(arena, var.kind, line)?)?;
-        place = place.saturating_add(1);
     }
     Ok(into_bump_slice(values))
 }
@@ -218,7 +214,7 @@ fn derived_values(alloc: Global, points: &Points, text: &[u8]) -> Result<Text, N
     let base = points.vars(p);
     let vars = derive(alloc, base)?;
     let arena = Arena::new(alloc);
-    let given = base_values(&arena, base, text)?;
+    let given = base_values(alloc, &arena, base, text)?;
     let values = extend(&arena, vars.as_slice(), given)?;
     for value in values.iter().skip(given.len()) {
         shown.append(spell(alloc, *value)?.as_slice())?;

@@ -57,7 +57,7 @@ pub(crate) fn table(alloc: Global, text: &[u8]) -> Result<(Points, Declared), Bl
     let mut points = Points::new(alloc)?;
     let mut block: Vec<(u64, &[u8])> = Vec::new(alloc);
     let mut number = 1u64;
-    for line in text.split(|byte| *byte == b'\n') {
+    for (_, line) in numbered(alloc, 1, text)?.as_slice() {
         if line.is_empty() {
             points = with_block(alloc, points, block.as_slice(), number)?.0;
             block = Vec::new(alloc);
