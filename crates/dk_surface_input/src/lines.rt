@@ -137,12 +137,7 @@ fn inputs_of(
     Ok(MemoryInputs::new(files, failing, piece))
 }
 
-fn check_case(
-    rt: &impl Abort,
-    alloc: Global,
-    case: &Case,
-    piece: usize,
-) -> Result<(), NoMemory> {
+fn check_case(rt: &impl Abort, alloc: Global, case: &Case, piece: usize) -> Result<(), NoMemory> {
     let mut inputs = inputs_of(rt, alloc, case.bytes, case.failing, piece)?;
     let mut lines = Lines::new(alloc, LIMITS)?;
     check_file(rt, alloc, &mut lines, &mut inputs, "t", case.first)?;

@@ -37,7 +37,12 @@ static READS: [(Result<usize, Failed>, &'static str); 5] = [
     (Ok(0), ""),
 ];
 
-fn check_read(rt: &impl Abort, inputs: &mut MemoryInputs, want: Result<usize, Failed>, bytes: &str) {
+fn check_read(
+    rt: &impl Abort,
+    inputs: &mut MemoryInputs,
+    want: Result<usize, Failed>,
+    bytes: &str,
+) {
     let mut buf = [0u8; 9];
     let answer = inputs.read(&mut buf);
     assert_eq!(rt; answer, want);
@@ -111,7 +116,10 @@ fn sinks_in_memory(rt: HostRuntime) -> Result<(), Fail> {
     let mut sinks = MemorySinks::new(alloc, List::from_slice(alloc, [2].as_slice())?, 3, 5)?;
     for (stream, bytes, want) in &WRITES {
         assert!(rt; !bytes.as_bytes().is_empty());
-        assert!(rt; sinks.write(*stream, bytes.as_bytes()) == *want, "at {bytes}");
+        assert!(rt;
+            sinks.write(*stream, bytes.as_bytes()) == *want,
+            "at {bytes}"
+        );
     }
     assert!(rt; write_all(&mut sinks, Stream::State, b"012345".as_slice()).is_err());
     assert!(rt; sinks.written(Stream::Report) == b"abcde".as_slice());

@@ -265,13 +265,9 @@ fn points_have_few_variables(rt: HostRuntime) -> Result<(), Fail> {
 
 #[test]
 fn names_are_found(rt: HostRuntime) -> Result<(), Fail> {
-    let (points, _) = match table(rt.alloc(), b"ppt A\n\nppt M:::EXIT1") {
-        Ok(declared) => declared,
-        Err(_) => return Err(NoMemory)?,
-    };
-    assert_eq!(&rt; points.find(b"M:::EXIT"), Some(PointId(1)));
-    assert_eq!(&rt; points.find(b"B"), None);
-    assert_eq!(&rt; points.len(), 3);
+    let (points, _) = table(rt.alloc(), b"ppt A\n\nppt M:::EXIT1")?;
+    assert!(&rt; points.find(b"M:::EXIT") == Some(PointId(1)) && points.find(b"B").is_none());
+    assert!(&rt; points.len() == 3);
     assert!(&rt; points.decl(PointId(1)).is_none() && points.decl(PointId(2)).is_some());
     same_is_equal();
     full_table_takes_none();

@@ -1,6 +1,6 @@
 // What no clause says: that the calls succeed with ample memory; and a table of records with their samples or first faults.
 use crate::reading::{numbered, show_fault, table};
-use dk_base::{Arena, NoMemory, Text, View, spell};
+use dk_base::{Arena, BlockFault, NoMemory, Text, View, spell};
 use dk_points::Points;
 use dk_trace::laws::{no_fault_yet, read_record, values_fit};
 use dk_trace::*;
@@ -144,15 +144,23 @@ fn records_have_their_outcomes(rt: HostRuntime) -> Result<(), Fail> {
     Ok(())
 }
 
+fn read_by_lines<'a>(
+    alloc: Global,
+    points: &Points,
+    arena: &'a Arena,
+) -> Result<BaseSample<'a>, BlockFault> {
+    let mut reader = RecordReader::begin(alloc, points, arena, 6, b"P")?;
+    reader.line(points, 7, b"x")?;
+    reader.line(points, 8, b"3")?;
+    reader.line(points, 9, b"1")?;
+    reader.end(points, 10)
+}
+
 #[test]
 fn records_are_read_line_by_line(rt: HostRuntime) -> Result<(), Fail> {
     let (points, _) = table(rt.alloc(), INT)?;
     let arena = Arena::new(rt.alloc());
-    let mut reader = RecordReader::begin(rt.alloc(), &points, &arena, 6, b"P")?;
-    reader.line(&points, 7, b"x")?;
-    reader.line(&points, 8, b"3")?;
-    reader.line(&points, 9, b"1")?;
-    let sample = reader.end(&points, 10)?;
+    let sample = read_by_lines(rt.alloc(), &points, &arena)?;
     assert!(&rt; sample.line == 6 && matches!(sample.values, [View::Int(3)]));
     Ok(())
 }

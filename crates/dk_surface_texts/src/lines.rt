@@ -2,7 +2,9 @@
 use dk_base::{Compar, Form, Kind, List, NoMemory, Text, VarId, VarInfo, Why};
 use dk_engine::Counts;
 use dk_filters::{Candidate, Facts};
-use dk_print::{fault, instance, push_fault, push_instance, push_section, push_stats, section, stats};
+use dk_print::{
+    fault, instance, push_fault, push_instance, push_section, push_stats, section, stats,
+};
 use dk_template::{Few, RowId, State, Tuple};
 use std::alloc::Global;
 use std::test::Fail;
