@@ -43,7 +43,13 @@ fn states_of_two_sequences(rt: HostRuntime) -> Result<(), Fail> {
     check_ints(&rt, rt.alloc(), 61, (&[], &[1]), Want::Broken)?;
     check_ints(&rt, rt.alloc(), 62, (&[1, 2], &[2, 2]), Want::Holds)?;
     check_ints(&rt, rt.alloc(), 63, (&[], &[]), Want::Holds)?;
-    check_ints(&rt, rt.alloc(), 63, (&[i64::MAX, i64::MAX], &NINE), Want::Holds)?;
+    check_ints(
+        &rt,
+        rt.alloc(),
+        63,
+        (&[i64::MAX, i64::MAX], &NINE),
+        Want::Holds,
+    )?;
     check_ints(&rt, rt.alloc(), 63, (&NINE, &[i64::MAX]), Want::Broken)?;
     check_ints(&rt, rt.alloc(), 66, (&[1, 2], &[2, 1]), Want::Holds)?;
     check_ints(&rt, rt.alloc(), 66, (&NINE, &NINE), Want::Broken)?;

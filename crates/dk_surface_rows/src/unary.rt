@@ -84,13 +84,7 @@ fn check_join(
 #[tactic(auto, unfolding(dk_template::specs::Templates::rows))]
 #[test]
 fn states_of_one_number(rt: HostRuntime) -> Result<(), Fail> {
-    check_int(
-        &rt,
-        rt.alloc(),
-        1,
-        -7,
-        Want::Ints(&[-7]),
-    )?;
+    check_int(&rt, rt.alloc(), 1, -7, Want::Ints(&[-7]))?;
     check_int(&rt, rt.alloc(), 2, i64::MIN, Want::Least(i64::MIN))?;
     check_int(&rt, rt.alloc(), 3, i64::MAX, Want::Greatest(i64::MAX))?;
     check_int(&rt, rt.alloc(), 4, 0, Want::Broken)?;
@@ -134,14 +128,7 @@ fn joins_states(rt: HostRuntime) -> Result<(), Fail> {
         &State::Least(4),
         Want::Least(-1),
     )?;
-    check_join(
-        &rt,
-        rt.alloc(),
-        8,
-        State::Empty,
-        &State::Holds,
-        Want::Holds,
-    )?;
+    check_join(&rt, rt.alloc(), 8, State::Empty, &State::Holds, Want::Holds)?;
     Ok(())
 }
 
