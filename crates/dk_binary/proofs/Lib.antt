@@ -1,2 +1,3 @@
 mod Takes
 mod Relating
+mod Words

@@ -4,9 +4,10 @@ ghost use Rattle.dk_base.specs.Values.{values_of};
 ghost use Rattle.dk_binary.specs.Rows.{equality_row, kind_by, same_by};
 ghost use Rattle.dk_rows.specs.Meanings.{relation_of};
 ghost use Rattle.dk_template.specs.Rows.{IsTuple};
-ghost use Rattle.dk_template.specs.Templates.{kinds_of};
+ghost use Rattle.dk_template.specs.Templates.{role_kinds};
 
 use crate::rows::join;
+use crate::texts::same_text;
 use dk_base::{NoMemory, View, bool_at, hash_at, text_at};
 use dk_forms::{plain_point, plain_stays};
 use dk_template::{Row, RowId, State};
@@ -38,7 +39,7 @@ impl Scalar {
         match self {
             Scalar::Bool => bool_at(tuple, 0) == bool_at(tuple, 1),
             Scalar::Hash => hash_at(tuple, 0) == hash_at(tuple, 1),
-            Scalar::Str => text_at(tuple, 0) == text_at(tuple, 1),
+            Scalar::Str => same_text(text_at(tuple, 0), text_at(tuple, 1)),
         }
     }
 }
@@ -65,7 +66,7 @@ impl Equality {
 
     // Whether the two values are as the row states.
     fn holds(self, tuple: &[View<'_>]) -> bool
-        requires { IsTuple (kinds_of (equality_row self)) (values_of tuple.now) }
+        requires { IsTuple (role_kinds (equality_row self)) (values_of tuple.now) }
         ensures { result ≡ relation_of (equality_row self) (values_of tuple.now) }
     {
         same_or_opposite(self.equal, self.kind.are_equal(tuple))
@@ -76,9 +77,9 @@ impl Row for Equality {
     ghost use Rattle.dk_binary.specs.Rows.{equality_is_row, equality_row};
     ghost use Rattle.dk_rows.proofs.RowLaws.{laws_by};
     ghost use Rattle.dk_rows.specs.Meanings.{state_of};
-    ghost use Rattle.dk_template.specs.Templates.{form_of, kinds_of};
+    ghost use Rattle.dk_template.specs.Templates.{form_of, role_kinds};
 
-    ghost kinds = { λ row. kinds_of (equality_row row) };
+    ghost kinds = { λ row. role_kinds (equality_row row) };
 
     ghost form = { λ row. form_of (equality_row row) };
 

@@ -5,6 +5,7 @@ mod compare;
 mod equality;
 mod linear;
 mod rows;
+mod texts;
 
 pub use compare::Compare;
 pub use equality::{Equality, Scalar};

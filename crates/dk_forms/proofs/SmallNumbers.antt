@@ -1,9 +1,12 @@
 -- Numbers in registers of 64 bits that lose nothing.
-use Rattle.std.specs.Prelude.{◌≡◌, ℤ, nat_eq, FitsSigned, ◌<◌, ◌≤◌, ◌^◌, ◌*◌, pos, negsuc, ◌+ℤ◌, ◌-ℤ◌, ◌*ℤ◌, neg_ℤ, unsigned_abs}
+use Rattle.std.specs.Prelude.{◌≡◌, ℕ, ℤ, nat_eq, nat_lt, true, FitsSigned, ◌<◌, ◌≤◌, ◌^◌, ◌*◌, pos, negsuc, ◌+ℤ◌, ◌-ℤ◌, ◌*ℤ◌, neg_ℤ, unsigned_abs}
 use Rattle.std.specs.Int.{w64, w128}
+use Rattle.std.specs.Int.Bits.{bit_or}
 use Rattle.std.specs.Ordering.{int_eq}
 use Rattle.std.proofs.Common.{sym, ap, ◌∙◌, subst, arith, SFits, to_z, of_z}
 use Rattle.std.proofs.lemmas.Int.{ints, to_z-of_z, unsigned_abs-mul}
+use Rattle.std.proofs.lemmas.Nat.{le_or_l, le_or_r}
+use Rattle.std.proofs.lemmas.Bool.{ltb-true}
 use Rattle.std.proofs.lemmas.Bool.Decides.{same_from_decides, Decides-eqb, Decides-int_eq}
 use Rattle.std.proofs.Math.Nat.{mul-le-mul}
 use Rattle.dk_arith.proofs.Registers.{eq_kept, kept, kept64, kept_is}
@@ -77,3 +80,16 @@ opposite_test u z d e h hd =
 -- a wide number that is small, cut to 64 bits
 pub narrow_is : (z : ℤ) → unsigned_abs z ≤ 2 ^ 62 → kept64 (kept z) ≡ z
 narrow_is z h = ap kept64 (kept_is z (omega arith)) ∙ kept64_is z (omega arith)
+
+-- a number is below a bound where the bits of it and of another together are
+pub below_left : (x y k : ℕ) → nat_lt (bit_or x y) k ≡ true → x < k
+below_left x y k h = let l = le_or_l x y in let t = ltb-true (bit_or x y) k h in omega (arith, l, t)
+
+pub below_right : (x y k : ℕ) → nat_lt (bit_or x y) k ≡ true → y < k
+below_right x y k h = let l = le_or_r x y in let t = ltb-true (bit_or x y) k h in omega (arith, l, t)
+
+pub below_first : (x y z k : ℕ) → nat_lt (bit_or (bit_or x y) z) k ≡ true → x < k
+below_first x y z k h = let l = le_or_l x y in let t = below_left (bit_or x y) z k h in omega (arith, l, t)
+
+pub below_second : (x y z k : ℕ) → nat_lt (bit_or (bit_or x y) z) k ≡ true → y < k
+below_second x y z k h = let l = le_or_r x y in let t = below_left (bit_or x y) z k h in omega (arith, l, t)

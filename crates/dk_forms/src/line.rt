@@ -155,6 +155,7 @@ fn wide_meet(a: i128, b: i128, c: i128, x: i64, y: i64) -> bool
     }
 }
 
+#[inline(always)]
 fn is_small(x: i64) -> bool
     ensures { IsTrue result → unsigned_abs x ≤ 2 ^ 30 }
 {
@@ -162,11 +163,12 @@ fn is_small(x: i64) -> bool
 }
 
 // The same, in 64 bits where the numbers are small, as they mostly are.
+#[inline(always)]
 fn has_point(a: i128, b: i128, c: i128, x: i64, y: i64) -> bool
     requires { IsStraight (a, b, c) }
     ensures { result ≡ (in_limit (x, y) && is_on (a, b, c) (x, y)) }
 {
-    if small::is_factor(a) && small::is_factor(b) && is_small(x) && is_small(y) {
+    if small::are_two_factors(a, b) && is_small(x) && is_small(y) {
         small::is_level(a as i64, b as i64, c, x, y)
     } else {
         wide_meet(a, b, c, x, y)
@@ -174,7 +176,7 @@ fn has_point(a: i128, b: i128, c: i128, x: i64, y: i64) -> bool
 }
 
 /// Whether a point leaves the state as it is.
-#[inline]
+#[inline(always)]
 pub fn line_stays(state: &State, x: i64, y: i64) -> bool
     requires { IsLineState state.now }
     ensures { IsTrue result ↔ (line_join state.now (line_of ((x, y) ∷ [])) ≡ state.now) }

@@ -446,12 +446,13 @@ pub fn join_plane(left: State, right: &State) -> State
 }
 
 // Whether the point lies in the plane, in 64 bits where its factors are small, as they mostly are.
+#[inline(always)]
 fn has_point(n: Plane, p: Point) -> bool
     requires n { IsPlane (quadruple n) }
     requires p { IsPoint (triple p) }
     ensures { result ≡ is_in_plane (quadruple n) (triple p) }
 {
-    if small::is_factor(n.a) && small::is_factor(n.b) && small::is_factor(n.c) {
+    if small::are_three_factors(n.a, n.b, n.c) {
         small::is_flat(n.a as i64, n.b as i64, n.c as i64, n.d, p.x, p.y, p.z)
     } else {
         wide_meet(n.a, n.b, n.c, n.d, p.x, p.y, p.z)
@@ -469,6 +470,7 @@ fn wide_meet(a: i128, b: i128, c: i128, d: i128, x: i64, y: i64, z: i64) -> bool
 }
 
 // The same of a point that may be beyond the limit.
+#[inline(always)]
 #[tactic(auto, using(crate::proofs::PlaneFacts::point_of_limit))]
 fn plane_has(n: Plane, p: Point) -> bool
     requires n { IsPlane (quadruple n) }
@@ -519,12 +521,14 @@ fn is_between(p: Point, q: Point, v: Point) -> bool
     }
 }
 
+#[inline(always)]
 fn is_near(x: i64) -> bool
     ensures { result ≡ nat_le (unsigned_abs x) (2 ^ 30) }
 {
     -(1 << 30) <= x && x <= 1 << 30
 }
 
+#[inline(always)]
 fn is_point(p: Point) -> bool
     ensures { result ≡ in_space (triple p) }
 {
@@ -545,7 +549,7 @@ fn span_has(p: Point, q: Point, v: Point) -> bool
 }
 
 /// Whether a point leaves the state as it is.
-#[inline]
+#[inline(always)]
 #[tactic(auto, using(crate::proofs::PlaneStays::empty_moves))]
 pub fn plane_stays(state: &State, x: i64, y: i64, z: i64) -> bool
     requires { IsPlaneState state.now }

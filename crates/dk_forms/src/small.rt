@@ -1,17 +1,45 @@
 // Small numbers, whose products are exact in 64 bits, and numbers of 64 bits among wider ones.
-ghost use Rattle.std.specs.Prelude.{◌≡◌, ◌≤◌, ◌^◌, ◌+ℤ◌, ◌*ℤ◌, ◌-ℤ◌, neg_ℤ, unsigned_abs, IsTrue};
+ghost use Rattle.std.specs.Prelude.{◌≡◌, ◌<◌, ◌≤◌, ◌^◌, ◌+ℤ◌, ◌*ℤ◌, ◌-ℤ◌, neg_ℤ, unsigned_abs, IsTrue};
 ghost use Rattle.std.specs.Ordering.{int_eq};
 ghost use Rattle.dk_forms.specs.Plane.{are_parallel};
 ghost use Rattle.dk_forms.specs.Points.{IsGap, step};
 
-/// Whether the number is a small factor: at most 2^31 by its size.
-pub(crate) fn is_factor(n: i128) -> bool
-    ensures { IsTrue result → unsigned_abs n ≤ 2 ^ 31 }
+// A number of 64 bits that is below 2^32 only where n is small. It takes the low half of n alone, which tells since n isn't wide.
+#[inline(always)]
+fn spread(n: i128) -> u64
+    requires { unsigned_abs n ≤ 2 ^ 63 }
+    ensures { result < 2 ^ 32 → unsigned_abs n ≤ 2 ^ 31 }
 {
-    -(1 << 31) <= n && n < 1 << 31
+    let above_zero = (n + ((1 << 64) + (1 << 31))) as u128;
+    (above_zero & 0xffff_ffff_ffff_ffff) as u64
+}
+
+/// Whether both numbers are small factors: at most 2^31 by their size.
+#[inline(always)]
+pub(crate) fn are_two_factors(a: i128, b: i128) -> bool
+    requires a { unsigned_abs a ≤ 2 ^ 63 }
+    requires b { unsigned_abs b ≤ 2 ^ 63 }
+    ensures a { IsTrue result → unsigned_abs a ≤ 2 ^ 31 }
+    ensures b { IsTrue result → unsigned_abs b ≤ 2 ^ 31 }
+{
+    spread(a) | spread(b) < 1 << 32
+}
+
+/// Whether the three numbers are small factors.
+#[inline(always)]
+pub(crate) fn are_three_factors(a: i128, b: i128, c: i128) -> bool
+    requires a { unsigned_abs a ≤ 2 ^ 63 }
+    requires b { unsigned_abs b ≤ 2 ^ 63 }
+    requires c { unsigned_abs c ≤ 2 ^ 63 }
+    ensures a { IsTrue result → unsigned_abs a ≤ 2 ^ 31 }
+    ensures b { IsTrue result → unsigned_abs b ≤ 2 ^ 31 }
+    ensures c { IsTrue result → unsigned_abs c ≤ 2 ^ 31 }
+{
+    spread(a) | spread(b) | spread(c) < 1 << 32
 }
 
 /// `a * x`, which is exact.
+#[inline(always)]
 pub(crate) fn product(a: i64, x: i64) -> i64
     requires a { unsigned_abs a ≤ 2 ^ 31 }
     requires x { unsigned_abs x ≤ 2 ^ 30 }
@@ -22,6 +50,7 @@ pub(crate) fn product(a: i64, x: i64) -> i64
 }
 
 /// Whether `a * x + b * y + c` is 0. It is exact, with one multiplication of 64 bits for each factor.
+#[inline(always)]
 pub(crate) fn is_level(a: i64, b: i64, c: i128, x: i64, y: i64) -> bool
     requires a { unsigned_abs a ≤ 2 ^ 31 }
     requires b { unsigned_abs b ≤ 2 ^ 31 }
@@ -35,6 +64,7 @@ pub(crate) fn is_level(a: i64, b: i64, c: i128, x: i64, y: i64) -> bool
 }
 
 /// Whether `a * x + b * y + c * z + d` is 0. It is exact, with one multiplication of 64 bits for each factor.
+#[inline(always)]
 pub(crate) fn is_flat(a: i64, b: i64, c: i64, d: i128, x: i64, y: i64, z: i64) -> bool
     requires a { unsigned_abs a ≤ 2 ^ 31 }
     requires b { unsigned_abs b ≤ 2 ^ 31 }

@@ -3,6 +3,7 @@
 
 mod held;
 pub mod laws;
+mod matching;
 mod places;
 mod presence;
 mod steps;

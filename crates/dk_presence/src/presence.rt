@@ -1,20 +1,22 @@
 // Patterns of present leaders with their counts.
-ghost use Rattle.std.specs.Prelude.{◌≡◌, ◌↔◌, [], ◌∷◌, ◌++◌, ◌<◌, true, All, IfOk, IsTrue, List, map};
+ghost use Rattle.std.specs.Prelude.{◌≡◌, ◌↔◌, [], ◌∷◌, ◌++◌, ◌<◌, true, All, IfOk, IsTrue, List, OnOk, map};
 ghost use Rattle.dk_base.specs.Values.{values_of};
 ghost use Rattle.dk_base.specs.declared.kinds.VarId.{VarId};
 ghost use Rattle.dk_base.specs.declared.values.Value.{Value};
-ghost use Rattle.dk_samples.specs.Leaders.{Ascend, LeadNow};
-ghost use Rattle.dk_presence.specs.Patterns.{AreCounted, AreHeld, count_of, counted_by, has, held_at, patterns_of, present_in};
-ghost use Rattle.dk_presence.specs.Steps.{AreUnheld, Differ, added, refined};
+ghost use Rattle.dk_samples.specs.Leaders.{LeadNow, VarsAscend};
+ghost use Rattle.dk_presence.specs.Patterns.{AreCounted, AreHeld, count_of, counted_by, has, pattern_count, patterns_of, present_in};
+ghost use Rattle.dk_presence.specs.Steps.{AreUnheld, Differ, refined, with_sample_of};
 
 use crate::Held;
+use crate::matching::place_among;
 use crate::places::{place_of, places_of};
-use crate::steps::{refine_all, sum_of, with_one_more, with_pattern};
+use crate::steps::{count_once_more, refine_all, sum_of, with_one_more, with_pattern};
 use dk_base::{List, NoMemory, VarId, View};
 use dk_samples::{is_present, value_at};
 use indexmap::IndexSet;
 use std::alloc::Global;
 use std::marker::Model;
+use std::mem::replace;
 
 /// How often each pattern of present leaders occurs in the samples. Contracts see it as the list of the patterns with their counts.
 #[derive(Drop)]
@@ -43,7 +45,7 @@ pub fn present_leaders(
     sample: &[View<'_>],
 ) -> Result<List<VarId>, NoMemory>
     ensures exact { IfOk result (λ present. present ≡ present_in leaders.now (values_of sample.now)) }
-    ensures ascend { IfOk result (λ present. Ascend leaders.now → Ascend present) }
+    ensures ascend { IfOk result (λ present. VarsAscend leaders.now → VarsAscend present) }
 {
     let mut present = List::new(alloc);
     for leader in leaders {
@@ -98,15 +100,44 @@ impl Presence {
 
     /// Whether these leaders are a pattern that is held.
     pub fn has_pattern(&self, present: &[VarId]) -> bool
-        ensures { IsTrue result ↔ (0 < held_at self.now present.now) }
+        ensures { IsTrue result ↔ (0 < pattern_count self.now present.now) }
     {
         place_of(&self.places, present).is_some()
     }
 
+    /// Whether the leaders that are present in the sample are a pattern that is held. It takes no memory where the pattern is one of the
+    /// first.
+    pub fn has_sample(&self, leaders: &[VarId], sample: &[View<'_>]) -> Result<bool, NoMemory>
+        ensures { IfOk result (λ b. IsTrue b ↔ (0 < pattern_count self.now (present_in leaders.now (values_of sample.now)))) }
+    {
+        if place_among(self.held.as_slice(), leaders, sample).is_some() {
+            return Ok(true);
+        }
+        let present = present_leaders(self.alloc, leaders, sample)?;
+        Ok(self.has_pattern(present.as_slice()))
+    }
+
+    /// One sample more, with its pattern of these leaders. It takes no memory where the pattern is one of the first. After want of memory
+    /// nothing is said of the patterns.
+    pub fn count_sample(&mut self, leaders: &[VarId], sample: &[View<'_>]) -> Result<(), NoMemory>
+        requires { VarsAscend leaders.now }
+        ensures { OnOk result (self.new ≡ with_sample_of (present_in leaders.now (values_of sample.now)) self.old) }
+    {
+        if let Some(place) = place_among(self.held.as_slice(), leaders, sample) {
+            count_once_more(&mut self.held, place);
+            return Ok(());
+        }
+        let present = present_leaders(self.alloc, leaders, sample)?;
+        let none = Presence::new(self.alloc)?;
+        let held = replace(self, none);
+        *self = held.add(present.as_slice())?;
+        Ok(())
+    }
+
     /// The patterns with a sample more, in which these leaders are present. They ascend.
     pub fn add(self, present: &[VarId]) -> Result<Presence, NoMemory>
-        requires { Ascend present.now }
-        ensures exact { IfOk result (λ p. p ≡ added present.now self) }
+        requires { VarsAscend present.now }
+        ensures exact { IfOk result (λ p. p ≡ with_sample_of present.now self) }
         ensures stands { IfOk result (λ p. (patterns : List (List VarId)) → AreCounted patterns self → AreCounted (patterns ++ present.now ∷ []) p) }
     {
         let Presence {
@@ -138,7 +169,7 @@ impl Presence {
         requires unheld { AreUnheld new.now self }
         ensures exact { IfOk result (λ p. p ≡ map (refined new.now) self) }
         ensures same { IfOk result (λ p. new.now ≡ [] → p ≡ self) }
-        ensures stands { IfOk result (λ p. (leaders now : List VarId) (samples : List (List Value)) → Ascend leaders → Ascend now → LeadNow leaders new.now samples now → AreCounted (patterns_of leaders samples) self → AreCounted (patterns_of now samples) p) }
+        ensures stands { IfOk result (λ p. (leaders now : List VarId) (samples : List (List Value)) → VarsAscend leaders → VarsAscend now → LeadNow leaders new.now samples now → AreCounted (patterns_of leaders samples) self → AreCounted (patterns_of now samples) p) }
     {
         let Presence {
             alloc,

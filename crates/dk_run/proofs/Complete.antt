@@ -3,16 +3,16 @@ use Rattle.std.proofs.Common.{◌≡◌, ◌≤◌, ◌<◌, ◌+◌, ◌-◌, i
 use Rattle.std.proofs.lemmas.Bool.{cases_lt}
 use Rattle.std.proofs.lemmas.List.{length-take, take-map, take-take, take_all}
 use Rattle.dk_base.specs.Reading.{LineFault}
-use Rattle.dk_io.specs.Outside.{Held, Absent, Holds, Rose}
+use Rattle.dk_io.specs.Outside.{HeldFile, Absent, Holds, Rose}
 use Rattle.dk_core.specs.History.{History, file_ended, no_history}
 use Rattle.dk_words.specs.declared.command.Command.{Command}
 use Rattle.dk_words.specs.declared.request.Request.{Request}
 use Rattle.dk_words.specs.declared.request.Request.TheVariants.{Run, Help, Version}
 use Rattle.dk_run.specs.Commands.{helds_of, names_of}
 use Rattle.dk_run.specs.Courses.{Course, course_of, course_of_file, course_of_files, ends, fault_in, first_fault, onto, then_files, total_limit}
-use Rattle.dk_run.specs.Files.{AreHeld, File, FileFault, whole}
+use Rattle.dk_run.specs.Files.{AreHeldFiles, File, FileFault, whole}
 use Rattle.dk_run.specs.Outputs.{Output, followed, output_along, output_of}
-use Rattle.dk_run.specs.Statuses.{AreClean, AtStart, Break, CompletesCalmly, HasBroken, IsCalm, IsComplete, IsRefused, Outside, Says, Within, held_at}
+use Rattle.dk_run.specs.Statuses.{AreClean, AtStart, Break, CompletesCalmly, HasBroken, IsCalm, IsComplete, IsRefused, Outside, Says, Within, held_file_at}
 use Rattle.dk_run.specs.declared.status.Status.{Status}
 use Rattle.dk_run.specs.declared.status.Status.TheVariants.{Done, Refused, Usage, Read, Write, NoMemory}
 use Rattle.dk_run.proofs.Saying.{held-take, same_length}
@@ -42,21 +42,21 @@ unfolding course_of
 first_front ignores k fs f e = course_front ignores total_limit no_history 0 k fs f (fault_is (course_of_files ignores total_limit no_history 0 (take k fs)).end f e)
 
 -- ---- files that are held
-held_take : (k : ℕ) (helds : List Held) (contents : List (List ℕ)) → AreHeld helds contents → AreHeld (take k helds) (take k contents)
-held_take k helds contents held = ap (λ (l : List Held). take k l) held ∙ take-map Holds k contents
+held_take : (k : ℕ) (helds : List HeldFile) (contents : List (List ℕ)) → AreHeldFiles helds contents → AreHeldFiles (take k helds) (take k contents)
+held_take k helds contents held = ap (λ (l : List HeldFile). take k l) held ∙ take-map Holds k contents
 
-held_whole : (helds : List Held) (contents : List (List ℕ)) → AreHeld helds contents → AreHeld (take (length helds) helds) contents
-held_whole helds contents held = subst (λ (l : List Held). AreHeld l contents) (sym (take_all (length helds) helds (omega arith))) held
+held_whole : (helds : List HeldFile) (contents : List (List ℕ)) → AreHeldFiles helds contents → AreHeldFiles (take (length helds) helds) contents
+held_whole helds contents held = subst (λ (l : List HeldFile). AreHeldFiles l contents) (sym (take_all (length helds) helds (omega arith))) held
 
-held_there : (helds : List Held) (contents : List (List ℕ)) (k : ℕ) → AreHeld helds contents → k < length helds → (xs : List ℕ) × (held_at helds k ≡ Holds xs)
+held_there : (helds : List HeldFile) (contents : List (List ℕ)) (k : ℕ) → AreHeldFiles helds contents → k < length helds → (xs : List ℕ) × (held_file_at helds k ≡ Holds xs)
 held_there [] contents k held h = absurd (omega arith)
 held_there (n ∷ ns) [] k held h = absurd (cc (held))
 held_there (n ∷ ns) (c ∷ cs) zero held h = (c, cc (held))
 held_there (n ∷ ns) (c ∷ cs) (suc k) held h = held_there ns cs k (cc (held)) (omega arith)
 
 -- no file that is held was left unread
-not_unread : (command : Command) (before after : Outside) (by : Break) (place n : ℕ) (contents : List (List ℕ)) → IsCalm before after → AreHeld (take n (helds_of command before.file)) contents → place < n → place < length (names_of command)
-    → HasBroken by (held_at (helds_of command before.file) place) (Rose before.read_faults after.read_faults) → ⊥
+not_unread : (command : Command) (before after : Outside) (by : Break) (place n : ℕ) (contents : List (List ℕ)) → IsCalm before after → AreHeldFiles (take n (helds_of command before.file)) contents → place < n → place < length (names_of command)
+    → HasBroken by (held_file_at (helds_of command before.file) place) (Rose before.read_faults after.read_faults) → ⊥
 not_unread command before after Within place n contents calm held below named cause = calm.read cause.1
 not_unread command before after AtStart place n contents calm held below named (inr rose) = calm.read rose
 not_unread command before after AtStart place n contents calm held below named (inl absent) =
@@ -65,19 +65,19 @@ not_unread command before after AtStart place n contents calm held below named (
     cc (absent, same, there.1)
 
 -- of the first n files the contents are held, and they have a first fault: so the faulty one stands behind the clean ones
-not_clean : (ignores : Bool) (helds : List Held) (k n : ℕ) (contents : List (List ℕ)) (fault : FileFault) → AreClean ignores helds k
-    → AreHeld (take n helds) contents → first_fault ignores (map whole contents) ≡ Some fault → n ≤ k → ⊥
+not_clean : (ignores : Bool) (helds : List HeldFile) (k n : ℕ) (contents : List (List ℕ)) (fault : FileFault) → AreClean ignores helds k
+    → AreHeldFiles (take n helds) contents → first_fault ignores (map whole contents) ≡ Some fault → n ≤ k → ⊥
 not_clean ignores helds k n contents fault clean held first h = let none = clean n contents h held in cc (none, first)
 
 -- what was told of a refused file holds of all files that are held
 told_refused : (command : Command) (before after : Outside) (output : Output) (comes : IsRefused command before after output) (n : ℕ) (contents : List (List ℕ))
-    → comes.fault.file < n → AreHeld (take n (helds_of command before.file)) contents
+    → comes.fault.file < n → AreHeldFiles (take n (helds_of command before.file)) contents
     → (first_fault command.ignore_missing_entry (map whole contents) ≡ Some comes.fault) × (output ≡ output_of command (map whole contents))
 unfolding output_of
 told_refused command before after output comes n contents h held =
     let k = comes.fault.file in
-    let front : AreHeld (take (k + 1) (helds_of command before.file)) (take (k + 1) contents) =
-    subst (λ (l : List Held). AreHeld l (take (k + 1) contents)) (take-take (k + 1) n (helds_of command before.file) (omega arith)) (held_take (k + 1) (take n (helds_of command before.file)) contents held) in
+    let front : AreHeldFiles (take (k + 1) (helds_of command before.file)) (take (k + 1) contents) =
+    subst (λ (l : List HeldFile). AreHeldFiles l (take (k + 1) contents)) (take-take (k + 1) n (helds_of command before.file) (omega arith)) (held_take (k + 1) (take n (helds_of command before.file)) contents held) in
     let first = comes.first (take (k + 1) contents) front in
     let same : course_of command.ignore_missing_entry (map whole (take (k + 1) contents)) ≡ course_of command.ignore_missing_entry (map whole contents) =
     ap (course_of command.ignore_missing_entry) (sym (take-map whole (k + 1) contents))
@@ -91,8 +91,8 @@ complete_of command before after Done (output, comes, written) calm = record {
     | inl below ↦ absurd (not_clean command.ignore_missing_entry (helds_of command before.file) (length (helds_of command before.file)) n contents fault comes.read.clean held first (omega arith))
     | inr above ↦
         let all = take_all n (helds_of command before.file) (omega arith) in
-        let whole_held : AreHeld (take (length (helds_of command before.file)) (helds_of command before.file)) contents =
-        held_whole (helds_of command before.file) contents (subst (λ (l : List Held). AreHeld l contents) all held) in
+        let whole_held : AreHeldFiles (take (length (helds_of command before.file)) (helds_of command before.file)) contents =
+        held_whole (helds_of command before.file) contents (subst (λ (l : List HeldFile). AreHeldFiles l contents) all held) in
         absurd (not_clean command.ignore_missing_entry (helds_of command before.file) (length (helds_of command before.file)) (length (helds_of command before.file)) contents fault comes.read.clean whole_held first (omega arith))
   ];
 }

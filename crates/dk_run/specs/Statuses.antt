@@ -1,7 +1,7 @@
 -- What each status of a run says.
 use Rattle.std.specs.Prelude.{◌≡◌, ◌≢◌, ◌≤◌, ◌<◌, ◌⊎◌, ◌+◌, ◌-◌, ℕ, zero, suc, Bool, true, List, [], ◌∷◌, ◌++◌, map, take, length, All, Option, Some, None, slice_get, unwrap_or}
 use Rattle.std.specs.Io.{StartsWith}
-use Rattle.dk_io.specs.Outside.{Held, Absent, Holds, Untold, Rose}
+use Rattle.dk_io.specs.Outside.{HeldFile, Absent, Holds, Untold, Rose}
 use Rattle.dk_io.specs.Streams.{Texts}
 use Rattle.dk_io.specs.declared.outside.Stream.TheVariants as stream
 use Rattle.dk_words.specs.Texts.{help_text, version_text}
@@ -10,7 +10,7 @@ use Rattle.dk_words.specs.declared.request.Request.{Request}
 use Rattle.dk_words.specs.declared.request.Request.TheVariants.{Run, Help, Version}
 use Rattle.dk_run.specs.Commands.{generated_count, helds_of, names_of}
 use Rattle.dk_run.specs.Courses.{course_of, first_fault}
-use Rattle.dk_run.specs.Files.{File, FileFault, AreHeld, cut_off, name_at, whole}
+use Rattle.dk_run.specs.Files.{File, FileFault, AreHeldFiles, cut_off, name_at, whole}
 use Rattle.dk_print.specs.Sections.{fault_line}
 use Rattle.dk_run.specs.Messages.{unread_line}
 use Rattle.dk_run.specs.Outputs.{IsFront, Output, first_line, followed, only_on, output_of, unread_output, usage_output}
@@ -19,17 +19,17 @@ use Rattle.dk_run.specs.declared.status.Status.{Status}
 use Rattle.dk_run.specs.declared.status.Status.TheVariants.{Done, Refused, Usage, Read, Write, NoMemory}
 
 -- the number of a status, as the program ends with it
-abbrev pub code_of : Status → ℕ
-code_of Done = 0
-code_of Refused = 1
-code_of Usage = 2
-code_of Read = 3
-code_of Write = 4
-code_of NoMemory = 5
+abbrev pub exit_code : Status → ℕ
+exit_code Done = 0
+exit_code Refused = 1
+exit_code Usage = 2
+exit_code Read = 3
+exit_code Write = 4
+exit_code NoMemory = 5
 
 -- What the inputs and the sinks of a run tell at one moment.
 pub record Outside : Type 0 where
-  pub file : List ℕ → Held
+  pub file : List ℕ → HeldFile
   pub rest : Option (List ℕ)
   pub read_faults : ℕ
   pub written : Texts
@@ -42,8 +42,8 @@ rest_behind zero rest = rest
 rest_behind (suc n) rest = Some []
 
 -- what is told of the file at a place
-abbrev pub held_at : List Held → ℕ → Held
-held_at helds place = unwrap_or (slice_get helds place) Untold
+abbrev pub held_file_at : List HeldFile → ℕ → HeldFile
+held_file_at helds place = unwrap_or (slice_get helds place) Untold
 
 -- why a file was not read to its end: it could not be started, or it was, and then a read failed
 pub data Break : Type 0 where
@@ -57,27 +57,27 @@ IsDelivered xs after file = (rest : List ℕ) × (after ≡ Some rest) × (xs �
 
 -- The cause of a break, where this is told of the file: a start fails where the file is absent or a fault of the inputs rose, and a read only
 -- where one rose, of a file that is not absent.
-abbrev pub HasBroken : Break → Held → Type 0 → Type 0
+abbrev pub HasBroken : Break → HeldFile → Type 0 → Type 0
 HasBroken AtStart held rose = (held ≡ Absent) ⊎ rose
 HasBroken Within held rose = (held ≢ Absent) × rose
 
 -- As far as the first n files are held, from the first on, they hold no fault.
-abbrev pub AreClean : Bool → List Held → ℕ → Type 0
-AreClean ignores helds n = (k : ℕ) (contents : List (List ℕ)) → k ≤ n → AreHeld (take k helds) contents → first_fault ignores (map whole contents) ≡ None
+abbrev pub AreClean : Bool → List HeldFile → ℕ → Type 0
+AreClean ignores helds n = (k : ℕ) (contents : List (List ℕ)) → k ≤ n → AreHeldFiles (take k helds) contents → first_fault ignores (map whole contents) ≡ None
 
 -- ---- how a run ends
 -- All files were started and read to their ends, and they hold no fault.
 pub record AreRead (command : Command) (before after : Outside) : Type 0 where
   pub none_absent : All (λ held. held ≢ Absent) (helds_of command before.file)
   pub clean : AreClean command.ignore_missing_entry (helds_of command before.file) (length (helds_of command before.file))
-  pub all_read : (contents : List (List ℕ)) → AreHeld (helds_of command before.file) contents → after.rest ≡ rest_behind (length command.files) before.rest
+  pub all_read : (contents : List (List ℕ)) → AreHeldFiles (helds_of command before.file) contents → after.rest ≡ rest_behind (length command.files) before.rest
 
 -- This is the output then.
 pub record IsDone (command : Command) (before after : Outside) (output : Output) : Type 0 where
   pub read : AreRead command before after
   pub messages : output.messages ≡ first_line command
   pub no_state : output.state ≡ []
-  pub defined : (contents : List (List ℕ)) → AreHeld (helds_of command before.file) contents → output ≡ output_of command (map whole contents)
+  pub defined : (contents : List (List ℕ)) → AreHeldFiles (helds_of command before.file) contents → output ≡ output_of command (map whole contents)
 
 -- The files up to this fault's hold it as their first, and this is the output: its messages end with the fault's line.
 pub record IsRefused (command : Command) (before after : Outside) (output : Output) : Type 0 where
@@ -87,12 +87,12 @@ pub record IsRefused (command : Command) (before after : Outside) (output : Outp
   pub messages : output.messages ≡ first_line command ++ fault_line (name_at (names_of command) fault.file) fault.line fault.why
   pub no_state : output.state ≡ []
   pub clean_before : AreClean command.ignore_missing_entry (helds_of command before.file) fault.file
-  pub first : (contents : List (List ℕ)) → AreHeld (take (fault.file + 1) (helds_of command before.file)) contents → first_fault command.ignore_missing_entry (map whole contents) ≡ Some fault
-  pub defined : (contents : List (List ℕ)) → AreHeld (take (fault.file + 1) (helds_of command before.file)) contents → output ≡ output_of command (map whole contents)
+  pub first : (contents : List (List ℕ)) → AreHeldFiles (take (fault.file + 1) (helds_of command before.file)) contents → first_fault command.ignore_missing_entry (map whole contents) ≡ Some fault
+  pub defined : (contents : List (List ℕ)) → AreHeldFiles (take (fault.file + 1) (helds_of command before.file)) contents → output ≡ output_of command (map whole contents)
 
 -- What the output of a run is that ends since a file can't be read, behind files of these contents. A start that fails leaves what is left of
 -- the inputs as it was, and delivers nothing of the file. What was delivered holds no fault.
-abbrev pub UnreadGives : Break → Command → ℕ → Held → Outside → Outside → Output → List (List ℕ) → Type 0
+abbrev pub UnreadGives : Break → Command → ℕ → HeldFile → Outside → Outside → Output → List (List ℕ) → Type 0
 UnreadGives AtStart command place held before after output contents =
     (after.rest ≡ rest_behind (place - generated_count command) before.rest) × (output ≡ unread_output command (map whole contents) (name_at (names_of command) place))
 UnreadGives Within command place held before after output contents = (xs : List ℕ) → held ≡ Holds xs →
@@ -107,13 +107,13 @@ pub record IsUnread (command : Command) (before after : Outside) (output : Outpu
   pub named : place < length (names_of command)
   pub by_the_words : generated_count command ≤ place
   pub by : Break
-  pub cause : HasBroken by (held_at (helds_of command before.file) place) (Rose before.read_faults after.read_faults)
+  pub cause : HasBroken by (held_file_at (helds_of command before.file) place) (Rose before.read_faults after.read_faults)
   pub none_absent : All (λ held. held ≢ Absent) (take place (helds_of command before.file))
   pub messages : output.messages ≡ first_line command ++ unread_line (name_at (names_of command) place)
   pub no_state : output.state ≡ []
   pub clean_before : AreClean command.ignore_missing_entry (helds_of command before.file) place
-  pub defined : (contents : List (List ℕ)) → AreHeld (take place (helds_of command before.file)) contents →
-      UnreadGives by command place (held_at (helds_of command before.file) place) before after output contents
+  pub defined : (contents : List (List ℕ)) → AreHeldFiles (take place (helds_of command before.file)) contents →
+      UnreadGives by command place (held_file_at (helds_of command before.file) place) before after output contents
 
 -- A run that is asked for so comes to this status, and has this output, unless a write fails or memory runs out before.
 abbrev pub ComesTo : Status → Option Request → Outside → Outside → Output → Type 0
@@ -141,7 +141,7 @@ pub record IsCutWithin (command : Command) (before after : Outside) : Type 0 whe
   pub no_state : front.state ≡ []
   pub place : ℕ
   pub none_absent : All (λ held. held ≢ Absent) (take place (helds_of command before.file))
-  pub due : (contents : List (List ℕ)) → AreHeld (take place (helds_of command before.file)) contents → (files : List File) →
+  pub due : (contents : List (List ℕ)) → AreHeldFiles (take place (helds_of command before.file)) contents → (files : List File) →
       StartsWith (due_reports command (course_of command.ignore_missing_entry (map whole contents ++ files)).after) front.report
 
 -- While the last report is written: it got a front of it.
@@ -151,7 +151,7 @@ pub record IsCutAtEnd (command : Command) (before after : Outside) : Type 0 wher
   pub read : AreRead command before after
   pub messages : front.messages ≡ first_line command
   pub no_state : front.state ≡ []
-  pub due : (contents : List (List ℕ)) → AreHeld (helds_of command before.file) contents → StartsWith (output_of command (map whole contents)).report front.report
+  pub due : (contents : List (List ℕ)) → AreHeldFiles (helds_of command before.file) contents → StartsWith (output_of command (map whole contents)).report front.report
 
 abbrev pub IsCutInRun : Option Request → Outside → Outside → Type 0
 IsCutInRun (Some (Run command)) before after = IsCutWithin command before after ⊎ IsCutAtEnd command before after
@@ -166,13 +166,13 @@ IsCutShort request before after =
 
 -- ---- what each status says
 -- All of the output was written, and no write failed.
-abbrev pub IsWritten : Outside → Outside → Output → Type 0
-IsWritten before after output = (after.written ≡ followed before.written output) × (after.write_faults ≡ before.write_faults)
+abbrev pub OutputIsWritten : Outside → Outside → Output → Type 0
+OutputIsWritten before after output = (after.written ≡ followed before.written output) × (after.write_faults ≡ before.write_faults)
 
 abbrev pub Says : Status → Option Request → Outside → Outside → Type 0
 Says Write request before after = Rose before.write_faults after.write_faults × IsCutShort request before after
 Says NoMemory request before after = (after.write_faults ≡ before.write_faults) × IsCutShort request before after
-Says status request before after = (output : Output) × ComesTo status request before after output × IsWritten before after output
+Says status request before after = (output : Output) × ComesTo status request before after output × OutputIsWritten before after output
 
 -- ---- completeness
 -- no fault of the outside rose
@@ -186,9 +186,9 @@ GivesOutput status output result before after = ((result ≡ status) × (after.w
 
 -- Where no fault of the outside rises, a run over files that are held comes to its end. Files behind a faulty one need not be there.
 pub record IsComplete (command : Command) (before after : Outside) (result : Status) : Type 0 where
-  pub done : (contents : List (List ℕ)) → AreHeld (helds_of command before.file) contents → first_fault command.ignore_missing_entry (map whole contents) ≡ None
+  pub done : (contents : List (List ℕ)) → AreHeldFiles (helds_of command before.file) contents → first_fault command.ignore_missing_entry (map whole contents) ≡ None
       → GivesOutput Done (output_of command (map whole contents)) result before after
-  pub refused : (n : ℕ) (contents : List (List ℕ)) (fault : FileFault) → AreHeld (take n (helds_of command before.file)) contents
+  pub refused : (n : ℕ) (contents : List (List ℕ)) (fault : FileFault) → AreHeldFiles (take n (helds_of command before.file)) contents
       → first_fault command.ignore_missing_entry (map whole contents) ≡ Some fault
       → GivesOutput Refused (output_of command (map whole contents)) result before after
 

@@ -1,14 +1,14 @@
 // The top call.
 ghost use Rattle.std.specs.Prelude.{◌≡◌, ◌≤◌, ◌<◌, ◌∷◌, [], List, ℕ, map, Option, Some, None, IfOk, string_bytes, length};
 ghost use Rattle.dk_io.specs.Outside.{Holds, Rose};
-ghost use Rattle.dk_io.specs.Streams.{Texts, added};
+ghost use Rattle.dk_io.specs.Streams.{Texts, with_bytes};
 ghost use Rattle.dk_io.specs.declared.outside.Stream.TheVariants as stream;
 ghost use Rattle.dk_core.specs.Selecting.{SelectsBy};
 ghost use Rattle.dk_core.specs.Standing.{select_of};
 ghost use Rattle.dk_words.specs.Requests.{request_of};
 ghost use Rattle.dk_words.specs.Texts.{usage_line as usage_text};
 ghost use Rattle.dk_words.specs.declared.request.Request.TheVariants as request;
-ghost use Rattle.dk_run.specs.AllFiles.{AreCalmBut, IsCaused, IsPlaced, RunGives};
+ghost use Rattle.dk_run.specs.AllFiles.{AreCalmBut, IsCaused, IsTroubleOf, RunGives};
 ghost use Rattle.dk_run.specs.Commands.{helds_of, is_selected as selects_name, names_of};
 ghost use Rattle.dk_run.specs.Ending.{EndsBy, EndsWith, status_of as status_by};
 ghost use Rattle.dk_print.specs.Sections.{fault_line as fault_text};
@@ -80,7 +80,7 @@ fn tell_trouble<S: Sinks>(
     trouble: FilesTrouble,
     sinks: &mut S,
 ) -> Status
-    requires { IsPlaced (length (names_of command.now)) trouble }
+    requires { IsTroubleOf (length (names_of command.now)) trouble }
     ensures { EndsBy command.now trouble (S.written sinks.old) (S.written sinks.new) (S.faults sinks.old) (S.faults sinks.new) result }
 {
     match trouble {
@@ -155,7 +155,7 @@ fn run_files<I: Inputs, S: Sinks>(
     inputs: &mut I,
     sinks: &mut S,
 ) -> Status
-    ensures says { (first : Texts) → S.written sinks.old ≡ added first stream.Messages (first_line command.now) →
+    ensures says { (first : Texts) → S.written sinks.old ≡ with_bytes first stream.Messages (first_line command.now) →
         let before : Outside = record {
           file = I.file inputs.old;
           rest = I.rest inputs.old;

@@ -17,7 +17,7 @@ use Rattle.dk_engine.specs.declared.kept.Kept.{Kept}
 use Rattle.dk_engine.specs.declared.parts.Parts.{Parts}
 use Rattle.dk_hierarchy.specs.Samples.{OwnSamples, all_vars_of, own_samples_of}
 use Rattle.dk_hierarchy.specs.Standing.{AreEnginesOf}
-use Rattle.dk_points.specs.Table.{Point, decl_of}
+use Rattle.dk_points.specs.Table.{Point, decl_at}
 use Rattle.dk_presence.specs.Patterns.{capped}
 use Rattle.dk_state.specs.Declarations.{decls_of}
 use Rattle.dk_state.specs.Loading.{AreLoadedAs, IsLoaded, IsLoadedAs}
@@ -27,6 +27,7 @@ use Rattle.dk_state.specs.StateFile.{StandForHistory, state_file_of}
 use Rattle.dk_state.specs.declared.loading.Loaded.{Loaded}
 use Rattle.dk_state.proofs.Blocks.{all_alike, one_alike}
 use Rattle.dk_state.proofs.CompactParts.{kept_exact}
+use Rattle.dk_state.proofs.Loads.{map-map, saved_alike}
 use Rattle.dk_template.specs.declared.grammar.Grammar.{Grammar}
 
 some_within : {X : Type 0} (xs : List X) (i : ℕ) (x : X) → slice_get xs i ≡ Some x → i < length xs
@@ -48,18 +49,6 @@ saves_again c l meets loaded =
     from_zero p = omega arith
 
 -- ---- the content of a history
-saved_alike : (n : ℕ) (ks : List Kept) → flat_map saved_lines (enumerate_from n (map saved_of ks)) ≡ flat_map kept_lines (enumerate_from n ks)
-saved_alike n [] = refl
-saved_alike n (k ∷ ks) =
-    let here : saved_lines (n, saved_of k) ≡ kept_lines (n, k) =
-    cond_both (k.samples == 0) None (Some (parts_of k)) (λ o. saved_lines (n, o) ≡ kept_lines (n, k)) (λ e. rw e refl) (λ e. rw e refl) in
-    let later = saved_alike (n + 1) ks in
-    λ i. here i ++ later i
-
-map-map : {X Y Z : Type 0} (f : X → Y) (h : Y → Z) (xs : List X) → map h (map f xs) ≡ map (λ x. h (f x)) xs
-map-map f h [] = refl
-map-map f h (x ∷ xs) = ap (λ r. h (f x) ∷ r) (map-map f h xs)
-
 pub content_text : (g : Grammar) (ps : List Point) (implicit : Bool) (own : OwnSamples) → text_of (content_of g ps implicit own) ≡ state_file_of g ps implicit own
 unfolding saved_text state_file_of
 content_text g ps implicit own =
@@ -93,7 +82,7 @@ one_saved g ps own can p within =
     (λ e.
     let some : kept.samples ≡ 0 → ⊥ = λ z. absurd (cc) in
     record {
-      declared = declared_there (decl_of ps p) (λ none. some (number ∙ ap (λ (s : List (List Value)). min (length s) (2 ^ 64 - 1)) (can.declared p none)));
+      declared = declared_there (decl_at ps p) (λ none. some (number ∙ ap (λ (s : List (List Value)). min (length s) (2 ^ 64 - 1)) (can.declared p none)));
       meet = kept_parts_are_saved g (all_vars_of ps p) (can.variables p within) samples (can.samples p) kept (kept_exact g (all_vars_of ps p) samples)
           (omega (arith, as_many, number, some)) (omega (arith, as_many, can.few p));
       within = can.within p;

@@ -1,12 +1,13 @@
 -- What the rules ask of a row.
-use Rattle.std.specs.Prelude.{◌≡◌, ◌<◌, ◌≤◌, ◌&&◌, ◌||◌, ◌==◌, ◌++◌, ◌∷◌, ℕ, Bool, true, false, List, [], filter, flat_map, fold, length, map, nat_le, refl, slice_index_or}
+use Rattle.std.specs.Prelude.{◌≡◌, ◌<◌, ◌≤◌, ◌&&◌, ◌||◌, ◌==◌, ◌++◌, ◌∷◌, Bool, true, false, List, [], filter, flat_map, fold, length, map, nat_lt, refl, slice_index_or}
 use Rattle.std.specs.List.{list_all, list_any}
 use Rattle.std.proofs.Common.{ap, ◌∙◌, arith, Bor, cond, inl, inr, subst, sym}
-use Rattle.std.proofs.lemmas.Bool.{and_parts, cases_Bool, false≢true, leb-true, or_left, or_right}
+use Rattle.std.proofs.lemmas.Bool.{cases_Bool, false≢true, or_left, or_right}
 use Rattle.std.proofs.lemmas.List.{get_or-map, length-map}
 use Rattle.std.proofs.lemmas.List.Concat.{flat_map-cons}
 use Rattle.std.proofs.lemmas.List.Folds.{list_any-append}
 use Rattle.std.proofs.lemmas.List.FromFn.{get_or-map-range_with_len}
+use Rattle.dk_suppress.proofs.Numbered.{any_filter, filter_past}
 use Rattle.dk_suppress.specs.Rules.{Rule, ask_alike, asked_by_number, asked_of, rules, with_premise}
 use Rattle.dk_template.specs.Premises.{row_of}
 use Rattle.dk_template.specs.declared.answers.Premise.{Premise}
@@ -47,13 +48,6 @@ module _ (f : Premise → Bool) (alike : (p q : Premise) → ask_alike p q ≡ t
   with_all (p ∷ ps) asked =
       with_all ps (with_premise asked p) ∙ (ap (λ b. b || list_any f ps) (with_one asked p) ∙ or_of_three (list_any f asked) (f p) (list_any f ps))
 
-any_filter : (f g : Premise → Bool) (ps : List Premise) → list_any f (filter g ps) ≡ list_any (λ p. g p && f p) ps
-any_filter f g [] = refl
-any_filter f g (p ∷ ps) = elim (g p) as (λ b. list_any f (cond b (p ∷ filter g ps) (filter g ps)) ≡ ((b && f p) || list_any (λ q. g q && f q) ps)) [
-  | true ↦ ap (λ b. f p || b) (any_filter f g ps)
-  | false ↦ any_filter f g ps
-]
-
 any_of_rules : (f : Premise → Bool) (rs : List Rule) → list_any f (flat_map (λ (r : Rule). r.1) rs) ≡ list_any (λ (r : Rule). list_any f r.1) rs
 any_of_rules f [] = refl
 any_of_rules f (r ∷ rs) =
@@ -70,27 +64,13 @@ asked_any f alike row =
     ∙ (any_filter f about (flat_map (λ (r : Rule). r.1) rules) ∙ any_of_rules (λ p. about p && f p) rules)
 
 -- ---- no premise is about a row past the last
-abbrev is_early : Premise → Bool
-is_early p = nat_le (row_of p).0 66
-
-all_early : list_all is_early (flat_map (λ (r : Rule). r.1) rules) ≡ true
+all_early : list_all (λ p. nat_lt (row_of p).0 67) (flat_map (λ (r : Rule). r.1) rules) ≡ true
 unfolding rules
 all_early = refl
 
-differs : (a b : ℕ) → a < b → (a == b) ≡ false
-differs a b less = grind arith
-
-none_about : (row : RowId) → 66 < row.0 → (ps : List Premise) → list_all is_early ps ≡ true → filter (λ p. (row_of p).0 == row.0) ps ≡ []
-none_about row late [] h = refl
-none_about row late (p ∷ ps) h =
-    let hs = and_parts (is_early p) (list_all is_early ps) h in
-    let early : (row_of p).0 ≤ 66 = leb-true (row_of p).0 66 hs.0 in
-    let behind : List Premise = filter (λ q. (row_of q).0 == row.0) ps in
-    ap (λ b. cond b (p ∷ behind) behind) (differs (row_of p).0 row.0 (omega (arith, early, late))) ∙ none_about row late ps hs.1
-
 none_asked : (row : RowId) → 66 < row.0 → asked_of row ≡ []
 unfolding asked_of
-none_asked row late = ap (fold with_premise []) (none_about row late (flat_map (λ (r : Rule). r.1) rules) all_early)
+none_asked row late = ap (fold with_premise []) (filter_past (λ p. (row_of p).0) 67 row.0 (omega arith) (flat_map (λ (r : Rule). r.1) rules) all_early)
 
 -- ---- the code's table
 length-by_number : length asked_by_number ≡ 67

@@ -1,5 +1,6 @@
 // The table of the rules.
 ghost use Rattle.std.specs.Prelude.{◌≡◌, map};
+ghost use Rattle.dk_suppress.specs.Parts.{rules_of, starts};
 ghost use Rattle.dk_suppress.specs.Rules.{asked_by_number, asked_of, rules};
 ghost use Rattle.dk_suppress.specs.Told.{told};
 
@@ -145,6 +146,38 @@ pub fn table() -> &'static [Rule]
     ensures { map told result.now ≡ rules }
 {
     rules()
+}
+
+// How many rules have a conclusion below each of the rows 0 to 67. The table is in the order of its conclusions, so the rules of a row
+// stand from its number here up to the next.
+const STARTS: &[usize] = &[
+    0, 0, 0, 0, 0, 2, 2, 2, 2, 2, // 0 to 9
+    2, 2, 2, 4, 4, 6, 6, 10, 11, 11, // 10 to 19
+    11, 11, 11, 11, 11, 13, 14, 18, 20, 22, // 20 to 29
+    26, 28, 33, 36, 39, 43, 43, 43, 43, 45, // 30 to 39
+    45, 47, 47, 49, 49, 49, 49, 49, 49, 49, // 40 to 49
+    49, 49, 49, 49, 49, 51, 51, 53, 53, 53, // 50 to 59
+    53, 53, 53, 55, 57, 58, 59, 60, // 60 to 67
+];
+
+// Where the rules of the rows 0 to 66 start in the table, and where those of row 66 end.
+fn starts() -> &'static [usize]
+    ensures { result.now ≡ starts }
+{
+    STARTS
+}
+
+// The rules of a row.
+pub(crate) fn rules_of(row: RowId) -> &'static [Rule]
+    ensures { map told result.now ≡ rules_of row }
+{
+    let starts = starts();
+    let row = row.0 as usize;
+    if row + 1 < starts.len() {
+        &rules()[starts[row]..starts[row + 1]]
+    } else {
+        &[]
+    }
 }
 
 macro_rules! asked {

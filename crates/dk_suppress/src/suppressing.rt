@@ -5,7 +5,7 @@ ghost use Rattle.dk_suppress.specs.Rules.{has_rule, is_suppressed};
 ghost use Rattle.dk_template.specs.Admitted.{admits};
 ghost use Rattle.dk_template.specs.Premises.{IsUsable, premise_fits};
 
-use crate::rules::rules;
+use crate::rules::rules_of;
 use dk_base::VarId;
 use dk_template::{Answers, Premise, RowId};
 
@@ -29,8 +29,8 @@ pub fn suppressed<A: Answers>(row: RowId, vars: &[VarId], answers: &A) -> bool
     requires { IsTrue (has_rule row) → IsTrue (admits row (A.infos answers.now) vars.now) }
     ensures { result ≡ is_suppressed (A.answered answers.now) row vars.now }
 {
-    for rule in rules() {
-        if rule.conclusion == row && all_fit(rule.premises, vars, answers) {
+    for rule in rules_of(row) {
+        if all_fit(rule.premises, vars, answers) {
             return true;
         }
     }

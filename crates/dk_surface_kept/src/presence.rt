@@ -1,6 +1,6 @@
 // Patterns over small lists of samples, as they were worked out by hand.
 ghost use Rattle.std.specs.Prelude.{◌<◌, IfOk};
-ghost use Rattle.dk_samples.specs.Leaders.{Ascend};
+ghost use Rattle.dk_samples.specs.Leaders.{VarsAscend};
 ghost use Rattle.dk_presence.specs.Patterns.{AreHeld};
 
 use dk_base::{List, NoMemory, VarId, View};
@@ -11,7 +11,7 @@ use std::test::Fail;
 
 fn one_held(alloc: Global, count: u64, leaders: &[VarId]) -> Result<List<Held>, NoMemory>
     requires count { 0 < count }
-    requires leaders { Ascend leaders.now }
+    requires leaders { VarsAscend leaders.now }
     ensures { IfOk result AreHeld }
 {
     let mut held = List::new(alloc);
@@ -37,6 +37,22 @@ fn three_numbers_split_in_two_steps(rt: HostRuntime) -> Result<(), Fail> {
     assert!(rt; three.count(&[VarId(2)]) == 3);
     assert!(rt; three.count(&[]) == 3);
     assert!(rt; three.count(&[VarId(3)]) == 0);
+    Ok(())
+}
+
+#[test]
+fn samples_are_counted_by_their_patterns(rt: HostRuntime) -> Result<(), Fail> {
+    let leaders = [VarId(0), VarId(1)];
+    let whole = [View::Int(3), View::Int(4)];
+    let part = [View::Missing, View::Int(4)];
+    let mut held = Presence::new(rt.alloc())?;
+    assert!(rt; !held.has_sample(&leaders, &whole)?);
+    held.count_sample(&leaders, &whole)?;
+    held.count_sample(&leaders, &part)?;
+    held.count_sample(&leaders, &whole)?;
+    assert!(rt; held.has_sample(&leaders, &part)?);
+    assert!(rt; held.count(&[VarId(0)]) == 2);
+    assert!(rt; held.count(&[]) == 3);
     Ok(())
 }
 

@@ -4,7 +4,7 @@ ghost use Rattle.dk_base.specs.Items.{is_text};
 ghost use Rattle.dk_base.specs.Numbers.{fits_i64};
 ghost use Rattle.dk_base.specs.declared.kinds.Kind.TheVariants as kind;
 ghost use Rattle.dk_elements.specs.Rows.{IsElementRow};
-ghost use Rattle.dk_template.specs.Templates.{kinds_of};
+ghost use Rattle.dk_template.specs.Templates.{role_kinds};
 
 use crate::want::{Want, is};
 use dk_base::{NoMemory, View};
@@ -25,7 +25,7 @@ fn check_ints(
     expected: Want,
 ) -> Result<(), NoMemory>
     requires row { IsElementRow (record { 0 = row }) }
-    requires kinds { kinds_of (record { 0 = row }) ≡ kind.IntSeq ∷ [] }
+    requires kinds { role_kinds (record { 0 = row }) ≡ kind.IntSeq ∷ [] }
     requires fit { All (λ z. IsTrue (fits_i64 z)) s.now }
 {
     let found = point(alloc, RowId(row), &[View::IntSeq(s)])?;
@@ -43,7 +43,7 @@ fn check_compared(
     expected: Want,
 ) -> Result<(), NoMemory>
     requires row { IsElementRow (record { 0 = row }) }
-    requires kinds { kinds_of (record { 0 = row }) ≡ kind.IntSeq ∷ kind.Int ∷ [] }
+    requires kinds { role_kinds (record { 0 = row }) ≡ kind.IntSeq ∷ kind.Int ∷ [] }
     requires fit { All (λ z. IsTrue (fits_i64 z)) s.now }
 {
     let found = point(alloc, RowId(row), &[View::IntSeq(s), View::Int(x)])?;
@@ -60,7 +60,7 @@ fn check_bools(
     expected: Want,
 ) -> Result<(), NoMemory>
     requires row { IsElementRow (record { 0 = row }) }
-    requires kinds { kinds_of (record { 0 = row }) ≡ kind.BoolSeq ∷ [] }
+    requires kinds { role_kinds (record { 0 = row }) ≡ kind.BoolSeq ∷ [] }
 {
     let found = point(alloc, RowId(row), &[View::BoolSeq(s)])?;
     assert!(rt; is(&found, expected));
@@ -76,7 +76,7 @@ fn check_hashes(
     expected: Want,
 ) -> Result<(), NoMemory>
     requires row { IsElementRow (record { 0 = row }) }
-    requires kinds { kinds_of (record { 0 = row }) ≡ kind.HashSeq ∷ [] }
+    requires kinds { role_kinds (record { 0 = row }) ≡ kind.HashSeq ∷ [] }
     requires fit { All (λ n. n < 2 ^ 64) s.now }
 {
     let found = point(alloc, RowId(row), &[View::HashSeq(s)])?;
@@ -93,7 +93,7 @@ fn check_strs(
     expected: Want,
 ) -> Result<(), NoMemory>
     requires row { IsElementRow (record { 0 = row }) }
-    requires kinds { kinds_of (record { 0 = row }) ≡ kind.StrSeq ∷ [] }
+    requires kinds { role_kinds (record { 0 = row }) ≡ kind.StrSeq ∷ [] }
     requires texts { All (λ t. IsTrue (is_text t)) (map (λ t. t.now) s.now) }
 {
     let found = point(alloc, RowId(row), &[View::StrSeq(s)])?;

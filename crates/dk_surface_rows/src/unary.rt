@@ -3,7 +3,7 @@ ghost use Rattle.std.specs.Prelude.{◌≡◌, ◌∷◌, [], IsTrue};
 ghost use Rattle.dk_base.specs.Items.{is_text};
 ghost use Rattle.dk_base.specs.declared.kinds.Kind.TheVariants as kind;
 ghost use Rattle.dk_template.specs.Proper.{IsProper};
-ghost use Rattle.dk_template.specs.Templates.{form_of, kinds_of};
+ghost use Rattle.dk_template.specs.Templates.{form_of, role_kinds};
 ghost use Rattle.dk_unary.specs.Rows.{IsUnary};
 
 use crate::want::{Want, is};
@@ -23,7 +23,7 @@ fn check_int(
     expected: Want,
 ) -> Result<(), NoMemory>
     requires row { IsUnary (record { 0 = row }) }
-    requires kinds { kinds_of (record { 0 = row }) ≡ kind.Int ∷ [] }
+    requires kinds { role_kinds (record { 0 = row }) ≡ kind.Int ∷ [] }
 {
     let found = point(alloc, RowId(row), &[View::Int(x)])?;
     assert!(rt; is(&found, expected));
@@ -39,7 +39,7 @@ fn check_hash(
     expected: Want,
 ) -> Result<(), NoMemory>
     requires row { IsUnary (record { 0 = row }) }
-    requires kinds { kinds_of (record { 0 = row }) ≡ kind.Hash ∷ [] }
+    requires kinds { role_kinds (record { 0 = row }) ≡ kind.Hash ∷ [] }
 {
     let found = point(alloc, RowId(row), &[View::Hash(x)])?;
     assert!(rt; is(&found, expected));
@@ -55,7 +55,7 @@ fn check_str(
     expected: Want,
 ) -> Result<(), NoMemory>
     requires row { IsUnary (record { 0 = row }) }
-    requires kinds { kinds_of (record { 0 = row }) ≡ kind.Str ∷ [] }
+    requires kinds { role_kinds (record { 0 = row }) ≡ kind.Str ∷ [] }
     requires text { IsTrue (is_text x.now) }
 {
     let found = point(alloc, RowId(row), &[View::Str(x)])?;

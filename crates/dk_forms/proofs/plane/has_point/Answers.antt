@@ -20,8 +20,8 @@ pub is_flat-requires-clause-c : goal.is_flat-requires-clause-c
 is_flat-requires-clause-c c =
     let h : unsigned_abs c.args.n.c ≤ 2 ^ 31 = search rules in subst (λ t. unsigned_abs t ≤ 2 ^ 31) (sym (narrow_is c.args.n.c (omega arith))) h
 
-pub returns-then-is_factor-3 : goal.returns-then-is_factor-3
-returns-then-is_factor-3 c =
+pub returns-then-are_three_factors : goal.returns-then-are_three_factors
+returns-then-are_three_factors c =
     let n = c.args.n in let p = c.args.p in
     let ha : unsigned_abs n.a ≤ 2 ^ 31 = search rules in let hb : unsigned_abs n.b ≤ 2 ^ 31 = search rules in let hc : unsigned_abs n.c ≤ 2 ^ 31 = search rules in
     let fd : SFits w128 n.d = search rules in

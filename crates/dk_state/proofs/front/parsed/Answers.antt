@@ -2,7 +2,7 @@ use Rattle.std.specs.Result.{result_ok}
 use Rattle.std.specs.Str.{IsUtf8}
 use Rattle.std.proofs.Common.{◌∙◌, ap, subst, sym}
 use Rattle.dk_state.proofs.Numerals.{number_back, number_is_text}
-use Rattle.dk_state.proofs.front.whole.Goals as goal
+use Rattle.dk_state.proofs.front.parsed.Goals as goal
 
 pub returns-in-Ok : goal.returns-in-Ok
 returns-in-Ok c z small is =
