@@ -120,6 +120,9 @@ pub(crate) struct Wanted<'a> {
     pub(crate) messages: &'a [u8],
 }
 
+/// How many bytes a call moves, in turn.
+static PIECES: [usize; 3] = [1, 7, 65_536];
+
 /// A run over files of these names and bytes comes to what is wanted, in whatever pieces the bytes come. Nothing is written to State.
 pub(crate) fn comes_to(
     rt: &impl Abort,
@@ -129,9 +132,9 @@ pub(crate) fn comes_to(
     wanted: Wanted<'_>,
     shows: &str,
 ) -> Result<(), Fail> {
-    for piece in [1usize, 7, 65_536] {
-        assert!(rt; piece > 0);
-        let (status, sinks) = ran_over(alloc, named, words, steady(piece))?;
+    for piece in &PIECES {
+        assert!(rt; *piece > 0);
+        let (status, sinks) = ran_over(alloc, named, words, steady(*piece))?;
         assert!(rt; status == wanted.status, "at {shows}");
         assert!(rt;
             sinks.written(Stream::Report) == wanted.report,
