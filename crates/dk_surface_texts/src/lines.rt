@@ -1,8 +1,10 @@
 // Each call once, with memory enough.
-use super::{fault, instance, push_fault, push_instance, push_section, push_stats, section, stats};
 use dk_base::{Compar, Form, Kind, List, NoMemory, Text, VarId, VarInfo, Why};
 use dk_engine::Counts;
 use dk_filters::{Candidate, Facts};
+use dk_print::{
+    fault, instance, push_fault, push_instance, push_section, push_stats, section, stats,
+};
 use dk_template::{Few, RowId, State, Tuple};
 use std::alloc::Global;
 use std::test::Fail;

@@ -1,5 +1,5 @@
 // The generated input, by an independent writing of its rule.
-use super::{generate, generated_line, generated_name};
+use dk_generate::{generate, generated_line, generated_name};
 use std::test::Fail;
 
 const FIRST_RECORDS: &[u8] = b"

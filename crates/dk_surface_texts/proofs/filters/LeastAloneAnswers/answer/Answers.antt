@@ -4,7 +4,7 @@ use Rattle.dk_forms.specs.declared.states.State.TheVariants.{Least}
 use Rattle.dk_template.specs.Proper.{IsProper}
 use Rattle.dk_template.specs.Templates.{form_of, rows}
 use Rattle.dk_template.specs.declared.grammar.RowId.{RowId}
-use Rattle.dk_filters.proofs.tests.LeastAloneAnswers.answer.Goals as goal
+use Rattle.dk_surface_texts.proofs.filters.LeastAloneAnswers.answer.Goals as goal
 
 least_proper : (row : RowId) → row.0 ≡ 2 → (k : ℤ) → IsProper (form_of row) (Least k)
 unfolding rows

@@ -4,8 +4,8 @@ ghost use Rattle.dk_filters.specs.Candidates.{kept_by};
 ghost use Rattle.dk_forms.specs.declared.states.State.TheVariants as state;
 ghost use Rattle.dk_template.specs.declared.grammar.Grammar.TheVariants as grammar;
 
-use super::*;
 use dk_base::{Compar, Form, Kind, List, NoMemory, Text, VarId, VarInfo};
+use dk_filters::*;
 use dk_template::{Answers, Premise, RowId, State, Tuple, admits};
 use std::alloc::Global;
 use std::process::Abort;
