@@ -1,5 +1,5 @@
 -- What state files of histories say, and what is loaded of them.
-use Rattle.std.specs.Prelude.{◌≡◌, ◌<◌, ◌^◌, ◌+◌, ◌==◌, ◌-◌, ◌++◌, ◌∷◌, [], ℕ, zero, suc, Bool, All, IsTrue, List, Option, Some, None, flat_map, is_none, is_some, length, map, min, slice_get, slice_index_or, refl}
+use Rattle.std.specs.Prelude.{◌≡◌, ◌<◌, ◌^◌, ◌+◌, ◌==◌, ◌-◌, ◌∷◌, [], ℕ, zero, suc, Bool, All, IsTrue, List, Option, Some, None, flat_map, is_none, is_some, length, map, min, slice_get, slice_index_or, refl}
 use Rattle.std.specs.List.{enumerate_from, range_with_len}
 use Rattle.std.proofs.Common.{◌∙◌, ap, arith, subst, sym}
 use Rattle.std.proofs.lemmas.Bool.{cond_both, eqb-true}
@@ -13,7 +13,6 @@ use Rattle.dk_engine.proofs.Saving.{kept_parts_are_saved}
 use Rattle.dk_engine.specs.Exact.{AreSamples, IsKeptOf}
 use Rattle.dk_engine.specs.Levels.{Whole}
 use Rattle.dk_engine.specs.Saved.{parts_of}
-use Rattle.dk_engine.specs.declared.kept.Kept.{Kept}
 use Rattle.dk_engine.specs.declared.parts.Parts.{Parts}
 use Rattle.dk_hierarchy.specs.Samples.{OwnSamples, all_vars_of, own_samples_of}
 use Rattle.dk_hierarchy.specs.Standing.{AreEnginesOf}
