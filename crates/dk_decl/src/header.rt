@@ -27,6 +27,16 @@ impl Header {
         }
     }
 
+    /// This comparability word is in force: `implicit`, or else `none`.
+    pub fn with_word(implicit: bool) -> Header
+        ensures { result ≡ with_word implicit }
+    {
+        Header {
+            implicit,
+            awaits_word: false,
+        }
+    }
+
     /// Whether the line is a header line, which then holds. It is refused as `BadHeader` where it is one that is not allowed.
     /// Only a header line that is taken changes anything.
     #[tactic(auto, unfolding(crate::specs::Headers::header_line))]
