@@ -1,6 +1,6 @@
 // Writing all of a text, and reading all that is left.
 ghost use Rattle.std.specs.Prelude.{◌≡◌, ◌≤◌, ◌<◌, length, IfOk, OnOk, OnErr, IsErrOf, IfSome};
-ghost use Rattle.std.specs.Io.KnownBytes.{IsAtEnd};
+ghost use Rattle.std.specs.Io.KnownBytes.{IsAtEnd, prepend_known};
 ghost use Rattle.dk_io.specs.Outside.{Rose, HasCause, DeliversUpTo};
 ghost use Rattle.dk_io.specs.Streams.{added, AddsFront};
 ghost use Rattle.dk_io.specs.declared.whole.AllFault.TheVariants.{NoMemory as OutOfMemory, Read as Unread};
@@ -79,6 +79,7 @@ pub fn read_all<I: Inputs>(alloc: Global, inputs: &mut I, limit: u64) -> Result<
     ensures files { I.file inputs.new ≡ I.file inputs.old }
     ensures ok { IfOk result (λ text. IfSome (I.rest inputs.old) (λ bytes. text ≡ bytes)) }
     ensures fits { IfOk result (λ text. length text ≤ limit) }
+    ensures delivered { IfOk result (λ text. I.rest inputs.old ≡ prepend_known text (I.rest inputs.new)) }
     ensures end { OnOk result (IsAtEnd (I.rest inputs.new)) }
     ensures too_long { IsErrOf result AllFault.TooLong → IfSome (I.rest inputs.old) (λ bytes. limit < length bytes) }
     // No delivered byte is one too many.
