@@ -303,12 +303,13 @@ recorded_left h ps s fault table is =
 
 -- another header is in force
 pub with_header : (kept kept' : Kept) (h : History) (header : Header) → Stands kept h → kept'.points ≡ kept.points → kept'.header ≡ header → kept'.calls ≡ kept.calls
-    → kept'.engines ≡ kept.engines → Stands kept' (record h { header = header })
+    → kept'.engines ≡ kept.engines → kept'.grammar ≡ kept.grammar → Stands kept' (record h { header = header })
 unfolding Stands
-with_header kept kept' h header stands points is calls engines = record {
+with_header kept kept' h header stands points is calls engines grammar = record {
   table = points ∙ stands.table;
   header = is;
   calls = subst (λ (cs : Calls). CallsStandFor cs h.calls) (sym calls) stands.calls;
   many = stands.many;
   engines = subst (λ (es : List Whole). EnginesStandFor es (own_samples_of h.table h.samples)) (sym engines) stands.engines;
+  grammar = grammar ∙ stands.grammar;
 }
