@@ -188,9 +188,10 @@ parent_given es line (relation ∷ parent ∷ id ∷ []) es' all given e = by (b
     taken n small true is e = absurd (cc e)
     taken n small false is e =
         let same : es ++ edge n ∷ [] ≡ es' = cc e in
-        subst (IsOneMore es) same
-        (one_more es (edge n) given (both _ _ (is_name_spelled name spelled) (unescaped_none 9 refl refl parent word.no_tab)) (record { id = small; parent = spelled.none }) is,
-        omega (arith, length-append es (edge n ∷ [])))
+        subst (IsOneMore es) same (
+          one_more es (edge n) given (both _ _ (is_name_spelled name spelled) (unescaped_none 9 refl refl parent word.no_tab)) (record { id = small; parent = spelled.none }) is,
+          omega (arith, length-append es (edge n ∷ [])),
+        )
 
     at : (o : Option ℕ) → id_of id ≡ o → with_edge es line name o ≡ Ok es' → IsOneMore es es'
     at None is e = absurd (cc e)

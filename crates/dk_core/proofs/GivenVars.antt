@@ -305,7 +305,6 @@ vars_given implicit es vs (g ∷ gs) close vs' few all given e =
     ends [] = refl
     ends (g ∷ gs) = refl
 
-
 -- ---- four by four
 comparability_fits : (implicit : Bool) (l : Line) (c : Compar) → comparability implicit l ≡ Ok c → IsCompar c
 unfolding comparability

@@ -216,26 +216,26 @@ front_is : (header : Header) (last : Option ℕ) (ls : List Line) (front : Front
 front_is header last [] front all e =
     let same : record { header = header; last = last; lines = [] } ≡ front = cc e in
     subst (IsFront header last 0) same (record { spelled = All-nil IsLineSpelled; few = omega arith; none = λ _ is. (is, refl); word = λ some. absurd (some refl) })
-front_is header last (l ∷ ls) front all e = by (is_comment l.bytes) e
+front_is header last (l ∷ ls) front all e =
+    by (is_comment l.bytes) e (λ next from read. front_is next from ls front (All-tail IsLineSpelled l ls all) read)
   where
-    rest : All IsLineSpelled ls
-    rest = All-tail IsLineSpelled l ls all
-
     at : (o : Option (Result Header Why)) → header_line header l.bytes ≡ o
-        → at_header_line o l.number (record { header = header; last = last; lines = l ∷ ls }) (λ next. front_of next (Some l.number) ls) ≡ Ok front → IsFront header last (suc (length ls)) front
-    at None is e =
+        → at_header_line o l.number (record { header = header; last = last; lines = l ∷ ls }) (λ next. front_of next (Some l.number) ls) ≡ Ok front
+        → ((next : Header) (from : Option ℕ) → front_of next from ls ≡ Ok front → IsFront next from (length ls) front) → IsFront header last (suc (length ls)) front
+    at None is e later =
         let same : record { header = header; last = last; lines = l ∷ ls } ≡ front = cc e in
         subst (IsFront header last (suc (length ls))) same
-        (record { spelled = all; few = omega arith; none = λ no _. absurd (cc no); word = λ _. awaits_none header l.bytes is })
-    at (Some (Err why)) is e = absurd (cc e)
-    at (Some (Ok next)) is e =
-        let own = front_is next (Some l.number) ls front rest e in
-        record { spelled = own.spelled; few = omega (arith, own.few); none = λ no is. absurd (cc (own.none no is).0); word = own.word }
+        (record { spelled = all; few = omega arith; none = λ empty _. absurd (cc empty); word = λ _. awaits_none header l.bytes is })
+    at (Some (Err why)) is e later = absurd (cc e)
+    at (Some (Ok next)) is e later =
+        let own = later next (Some l.number) e in
+        record { spelled = own.spelled; few = omega (arith, own.few); none = λ empty ends. absurd (cc (own.none empty ends).0); word = own.word }
 
     by : (b : Bool) → (if b then front_of header last ls
-        else at_header_line (header_line header l.bytes) l.number (record { header = header; last = last; lines = l ∷ ls }) (λ next. front_of next (Some l.number) ls)) ≡ Ok front → IsFront header last (suc (length ls)) front
-    by true e = let own = front_is header last ls front rest e in record { spelled = own.spelled; few = omega (arith, own.few); none = own.none; word = own.word }
-    by false e = at (header_line header l.bytes) refl e
+        else at_header_line (header_line header l.bytes) l.number (record { header = header; last = last; lines = l ∷ ls }) (λ next. front_of next (Some l.number) ls)) ≡ Ok front
+        → ((next : Header) (from : Option ℕ) → front_of next from ls ≡ Ok front → IsFront next from (length ls) front) → IsFront header last (suc (length ls)) front
+    by true e later = let own = later header last e in record { spelled = own.spelled; few = omega (arith, own.few); none = own.none; word = own.word }
+    by false e later = at (header_line header l.bytes) refl e later
 
 -- ---- blocks
 declaration_going : (h : History) (first : Line) (ls : List Line) (close : ℕ) (t : Taken) → IsGoing h → IsLineSpelled first → All IsLineSpelled ls → length ls < 2 ^ 64
@@ -272,16 +272,16 @@ lines_going ignores h front n close t going few is e = by front.lines refl is.sp
     word false is last e = let same : block now ≡ t = cc e in subst (λ (v : Taken). IsGoing v.history) same (headed h front.header going is)
 
     alone : front.lines ≡ [] → (o : Option ℕ) → front.last ≡ o → without_record now o (Some close) ≡ Ok t → IsGoing t.history
-    alone no None none e =
+    alone empty None none e =
         let same : no_block now ≡ t = cc e in
-        let as_before : front.header ≡ h.header = (is.none no none).1 in
+        let as_before : front.header ≡ h.header = (is.none empty none).1 in
         subst (λ (v : Taken). IsGoing v.history) same (headed h front.header going (ap awaits_word as_before ∙ going.word))
-    alone no (Some last) some e = word (awaits_word front.header) refl last e
+    alone empty (Some last) some e = word (awaits_word front.header) refl last e
 
     by : (ls : List Line) → front.lines ≡ ls → All IsLineSpelled ls → length ls ≤ n → after_lines ignores now front.last ls (Some close) ≡ Ok t → IsGoing t.history
-    by [] no all small e = alone no front.last refl e
+    by [] empty all small e = alone empty front.last refl e
     by (l ∷ ls) some all small e =
-        let there : (front.lines ≡ [] → ⊥) = λ no. absurd (cc (some, no)) in
+        let there : (front.lines ≡ [] → ⊥) = λ empty. absurd (cc (some, empty)) in
         record_going ignores now l ls close t (headed h front.header going (is.word there)) (All-head IsLineSpelled l ls all) (All-tail IsLineSpelled l ls all) (omega (arith, few, small)) e
 
 pub block_going : (ignores : Bool) (h : History) (ls : List Line) (close : ℕ) (t : Taken) → IsGoing h → All IsLineSpelled ls → length ls < 2 ^ 64
@@ -313,7 +313,12 @@ start_going h start = record {
 pub ended_going : (h : History) → IsGoing h → IsGoing (file_ended h)
 unfolding file_ended
 ended_going h going = record {
-  table = going.table; many = going.many; word = going.word; declared_alone = going.declared_alone; samples = going.samples; calls = All-nil (CallFits h.table)
+  table = going.table;
+  many = going.many;
+  word = going.word;
+  declared_alone = going.declared_alone;
+  samples = going.samples;
+  calls = All-nil (CallFits h.table);
 }
 
 all_samples : (h : History) → IsGoing h → AreFew h.samples → (p : ℕ) → All (IsSample (all_vars_of h.table p)) (own_samples_of h.table h.samples p)

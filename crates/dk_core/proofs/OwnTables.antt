@@ -1,5 +1,5 @@
 -- Tables that their own declarations make.
-use Rattle.std.proofs.Common.{◌≡◌, ◌∙◌, ◌+◌, ◌-◌, ◌<◌, ◌≤◌, ◌^◌, ◌||◌, ◌++◌, ℕ, zero, suc, nat_lt, All, Bool, true, false, List, [], ◌∷◌, Option, Some, None, Result, Ok, Err, ap, append_assoc, arith, filter_map, length, length-append, map, option_and_then, refl, slice_get, subst, sym, take, if◌then◌else◌}
+use Rattle.std.proofs.Common.{◌≡◌, ◌∙◌, ◌+◌, ◌-◌, ◌<◌, ◌≤◌, ◌^◌, ◌||◌, ◌++◌, ℕ, zero, suc, nat_lt, All, Bool, true, false, List, [], ◌∷◌, Option, Some, None, Result, Ok, Err, ap, append_assoc, arith, filter_map, inl, inr, length, length-append, map, option_and_then, refl, slice_get, subst, sym, take, if◌then◌else◌}
 use Rattle.std.proofs.Math.Seq.{take-append_seam}
 use Rattle.std.proofs.lemmas.Bool.{cases_lt}
 use Rattle.std.proofs.lemmas.List.Elements.{All-head, All-nil, All-push, All-tail, All-weaker, filter_map-append}
@@ -49,14 +49,15 @@ constants_given d given = All-weaker FitsVar HasFittingConstant (λ v fits is. c
 -- each declaration brings its own constants, and so does the exit that it implies
 made_fit : (ds : List PointDecl) (qs ps : List Point) → ConstantsFit qs → All CanBeGiven ds → table_behind qs ds ≡ Some ps → ConstantsFit ps
 made_fit [] qs ps fit given made = let same : qs ≡ ps = cc made in subst ConstantsFit same fit
-made_fit (d ∷ ds) qs ps fit given made = by (declared qs d) refl made
+made_fit (d ∷ ds) qs ps fit given made = by (declared qs d) refl made (λ next now behind. made_fit ds next ps now (All-tail CanBeGiven d ds given) behind)
   where
-    by : (r : Result (List Point × Declared) Why) → declared qs d ≡ r → option_and_then (λ next. table_behind next ds) (if_new r) ≡ Some ps → ConstantsFit ps
-    by (Ok (next, New p)) is made =
+    by : (r : Result (List Point × Declared) Why) → declared qs d ≡ r → option_and_then (λ next. table_behind next ds) (if_new r) ≡ Some ps
+        → ((next : List Point) → ConstantsFit next → table_behind next ds ≡ Some ps → ConstantsFit ps) → ConstantsFit ps
+    by (Ok (next, New p)) is made later =
         let told : at_line 0 (declared qs d) ≡ Ok (next, New p) = ap (λ (r : Result (List Point × Declared) Why). at_line 0 r) is in
-        made_fit ds next ps (constants_still qs next d 0 (New p) told fit (constants_given d (All-head CanBeGiven d ds given))) (All-tail CanBeGiven d ds given) made
-    by (Ok (next, Same p)) is made = absurd (cc made)
-    by (Err why) is made = absurd (cc made)
+        later next (constants_still qs next d 0 (New p) told fit (constants_given d (All-head CanBeGiven d ds given))) made
+    by (Ok (next, Same p)) is made later = absurd (cc made)
+    by (Err why) is made later = absurd (cc made)
 
 pub own_constants : (ps : List Point) → IsOwnTable ps → ConstantsFit ps
 own_constants ps own = made_fit (decls_of ps) [] ps (All-nil (λ (p : Point). HasFittingConstants p.decl)) own.given own.made
@@ -72,6 +73,10 @@ record IsAdded (ps ps' : List Point) (d : PointDecl) : Type 0 where
   added_are : ps' ≡ ps ++ added ps d
   few : has_many_vars ps d ≡ false
 
+-- one answer says one thing
+one_answer : (r : Result (List Point × Declared) Why) (x y : List Point × Declared) → r ≡ Ok x → r ≡ Ok y → x.1 ≡ y.1
+one_answer r x y e f = let same : x ≡ y = cc (e, f) in ap (λ (t : List Point × Declared). t.1) same
+
 new_added : (ps ps' : List Point) (d : PointDecl) (p : ℕ) (o : Option ℕ) → declared_at ps d o ≡ Ok (ps', New (record { 0 = p })) → IsAdded ps ps' d
 new_added ps ps' d p None e = record {
   added_are = new_points ps ps' d (New (record { 0 = p })) e;
@@ -79,8 +84,8 @@ new_added ps ps' d p None e = record {
 }
 new_added ps ps' d p (Some i) e = again (decl_of ps i) e
   where
-    at : (b : Bool) → (if b then Ok (ps, Same (record { 0 = i })) else Err DuplicatePoint) ≡ Ok (ps', New (record { 0 = p })) → IsAdded ps ps' d
-    at true e = absurd (cc e)
+    at : (b : Bool) → if◌then◌else◌ {A = Result (List Point × Declared) Why} b (Ok (ps, Same (record { 0 = i }))) (Err DuplicatePoint) ≡ Ok (ps', New (record { 0 = p })) → IsAdded ps ps' d
+    at true e = absurd (cc (one_answer (Ok (ps, Same (record { 0 = i }))) (ps, Same (record { 0 = i })) (ps', New (record { 0 = p })) refl e))
     at false e = absurd (cc e)
 
     again : (own : Option PointDecl) → declared_again ps d i own ≡ Ok (ps', New (record { 0 = p })) → IsAdded ps ps' d
@@ -95,9 +100,12 @@ same_kept : (ps ps' : List Point) (d : PointDecl) (p : ℕ) (o : Option ℕ) →
 same_kept ps ps' d p None e =
     by (has_cycle (nodes (ps ++ added ps d))) (taken_if (has_many_vars ps d) TooManyVariables _ _ (taken_if (has_many_points (ps ++ added ps d)) TooManyPoints _ _ e))
   where
-    by : (b : Bool) → (if b then Err CyclicParents else Ok (ps ++ added ps d, New (record { 0 = length (ps ++ added ps d) - 1 }))) ≡ Ok (ps', Same (record { 0 = p })) → ps' ≡ ps
+    by : (b : Bool) → if◌then◌else◌ {A = Result (List Point × Declared) Why} b (Err CyclicParents) (Ok (ps ++ added ps d, New (record { 0 = length (ps ++ added ps d) - 1 }))) ≡ Ok (ps', Same (record { 0 = p }))
+        → ps' ≡ ps
     by true e = absurd (cc e)
-    by false e = absurd (cc e)
+    by false e =
+        let n = length (ps ++ added ps d) - 1 in
+        absurd (cc (one_answer (Ok (ps ++ added ps d, New (record { 0 = n }))) (ps ++ added ps d, New (record { 0 = n })) (ps', Same (record { 0 = p })) refl e))
 same_kept ps ps' d p (Some i) e = again_points ps ps' d i (Same (record { 0 = p })) (decl_of ps i) e
 
 decls_added : (ps : List Point) (d : PointDecl) → decls_of (added ps d) ≡ d ∷ []
@@ -192,12 +200,13 @@ few_added qs d few have = by (makes_exit qs d)
 
 made_few : (ds : List PointDecl) (qs ps : List Point) → HaveFew qs → table_behind qs ds ≡ Some ps → HaveFew ps
 made_few [] qs ps have made = let same : qs ≡ ps = cc made in subst HaveFew same have
-made_few (d ∷ ds) qs ps have made = by (declared qs d) refl made
+made_few (d ∷ ds) qs ps have made = by (declared qs d) refl made (λ next now behind. made_few ds next ps now behind)
   where
-    by : (r : Result (List Point × Declared) Why) → declared qs d ≡ r → option_and_then (λ next. table_behind next ds) (if_new r) ≡ Some ps → HaveFew ps
-    by (Ok (next, New p)) is made = let more = declared_added qs next d p.0 is in made_few ds next ps (subst HaveFew (sym more.added_are) (few_added qs d more.few have)) made
-    by (Ok (next, Same p)) is made = absurd (cc made)
-    by (Err why) is made = absurd (cc made)
+    by : (r : Result (List Point × Declared) Why) → declared qs d ≡ r → option_and_then (λ next. table_behind next ds) (if_new r) ≡ Some ps
+        → ((next : List Point) → HaveFew next → table_behind next ds ≡ Some ps → HaveFew ps) → HaveFew ps
+    by (Ok (next, New p)) is made later = let more = declared_added qs next d p.0 is in later next (subst HaveFew (sym more.added_are) (few_added qs d more.few have)) made
+    by (Ok (next, Same p)) is made later = absurd (cc made)
+    by (Err why) is made later = absurd (cc made)
 
 pub own_vars : (ps : List Point) → IsOwnTable ps → (p : ℕ) → p < length ps → AreOfPoint (all_vars_of ps p)
 own_vars ps own p within =
