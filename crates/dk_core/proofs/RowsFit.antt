@@ -8,10 +8,17 @@ use Rattle.dk_base.specs.Tuples.{hash_of, hashes_of, int_of, ints_of, value_at}
 use Rattle.dk_base.specs.declared.kinds.Kind.{Kind}
 use Rattle.dk_base.specs.declared.values.Value.{Value}
 use Rattle.dk_base.specs.declared.values.Value.TheVariants as value
-use Rattle.dk_rows.specs.Meaning.{Meaning}
-use Rattle.dk_rows.specs.Meanings.{elements, itself, meanings, of_one}
+use Rattle.dk_base.specs.declared.kinds.Kind.TheVariants as kind
+use Rattle.dk_rows.specs.Meaning.{Meaning, form_by, relation}
+use Rattle.dk_rows.specs.Meanings.{elements, itself, meaning_of, meanings, of_one}
 use Rattle.dk_template.specs.Rows.{IsTuple}
-use Rattle.dk_template.specs.Templates.{kind_of, roles_of, rows}
+use Rattle.dk_template.specs.Templates.{form_of, row, rows}
+use Rattle.dk_template.specs.declared.grammar.RowId.{RowId}
+use Rattle.dk_template.specs.declared.templates.Role.TheVariants.{Any}
+use Rattle.dk_template.specs.declared.templates.StateForm.{StateForm}
+use Rattle.dk_template.specs.declared.templates.StateForm.TheVariants as form
+use Rattle.dk_template.specs.declared.templates.Symmetry.TheVariants as exchange
+use Rattle.dk_template.specs.declared.templates.Takes.TheVariants.{One}
 use Rattle.dk_template.specs.declared.templates.Template.{Template}
 use Rattle.dk_core.proofs.StatesFit.{FitsCode, FitsInt, IsWithin}
 
@@ -73,3 +80,20 @@ pub row_within : (i : ℕ) → i < 68 → (d : Meaning) (kinds : List Kind) → 
 row_within i there d kinds =
     let long = length-meanings in
     within_at meanings tables_within i (omega (arith, there, long)) d kinds
+
+-- ---- the form of what a row says
+index_map : {X Y : Type 0} (f : X → Y) (xs : List X) (i : ℕ) (d : X) → slice_index_or (map f xs) i (f d) ≡ f (slice_index_or xs i d)
+index_map f [] i d = refl
+index_map f (x ∷ xs) zero d = refl
+index_map f (x ∷ xs) (suc i) d = index_map f xs i d
+
+same_forms : map form_by meanings ≡ map (λ (t : Template). t.form) rows
+unfolding rows meanings
+same_forms = refl
+
+-- it is that of the row's states
+pub row_form : (r : RowId) → form_by (meaning_of r) ≡ form_of r
+row_form r =
+    sym (index_map form_by meanings (r.0 - 1) (relation (λ tuple. false)))
+    ∙ ap (λ (fs : List StateForm). slice_index_or fs (r.0 - 1) form.Plain) same_forms
+    ∙ index_map (λ (t : Template). t.form) rows (r.0 - 1) (row (One (Any kind.Int)) exchange.Fixed form.Plain 0)

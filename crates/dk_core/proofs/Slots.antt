@@ -4,7 +4,7 @@ use Rattle.std.specs.Prelude.{Contains, IsTrue, slice_get, zip}
 use Rattle.std.specs.List.{list_all}
 use Rattle.std.proofs.lemmas.Bool.{eqb-true}
 use Rattle.std.proofs.lemmas.List.{length-map}
-use Rattle.std.proofs.lemmas.List.Elements.{Contains-get_or}
+use Rattle.std.proofs.lemmas.List.Elements.{All-nil, Contains-get_or}
 use Rattle.dk_base.specs.declared.kinds.VarId.{VarId}
 use Rattle.dk_base.specs.declared.kinds.VarInfo.{VarInfo}
 use Rattle.dk_base.specs.declared.values.Value.{Value}
@@ -17,7 +17,6 @@ use Rattle.dk_fits.proofs.Whole.{are_tuples, fit_is_proper}
 use Rattle.dk_fits.specs.Fits.{fit, tuples_of}
 use Rattle.dk_forms.specs.declared.states.State.{State}
 use Rattle.dk_forms.specs.declared.states.State.TheVariants.{Broken}
-use Rattle.dk_rows.proofs.Tables.{agrees}
 use Rattle.dk_rows.specs.Meaning.{Meaning, form_by, relation, state_by}
 use Rattle.dk_rows.specs.Meanings.{meaning_of, state_of}
 use Rattle.dk_state.proofs.CompactParts.{kept_exact}
@@ -35,7 +34,7 @@ use Rattle.dk_template.specs.declared.templates.StateForm.{StateForm}
 use Rattle.dk_template.specs.declared.templates.Takes.{Takes}
 use Rattle.dk_template.specs.declared.templates.Takes.TheVariants.{One, Two, Three}
 use Rattle.dk_template.specs.declared.templates.Template.{Template}
-use Rattle.dk_core.proofs.RowsFit.{row_within}
+use Rattle.dk_core.proofs.RowsFit.{row_form, row_within}
 use Rattle.dk_core.proofs.StatesFit.{meant_fits}
 
 row_of : (g : Grammar) (row : RowId) → IsRowOf g row → IsRow row
@@ -65,9 +64,11 @@ pub fit_fits : (row : RowId) → IsRow row → (infos : List VarInfo) (vars : Li
     → (fit row vars samples ≡ Broken → ⊥) → FitsState (fit row vars samples)
 unfolding fit state_of
 fit_fits row is infos vars a samples all unbroken =
-    let within : row.0 - 1 < 68 = omega (arith, is.0, is.1) in
+    let low = is.0 in
+    let high = is.1 in
+    let within : row.0 - 1 < 68 = omega (arith, low, high) in
     let none : Meaning = relation (λ tuple. false) in
-    let form : form_by (meaning_of row) ≡ form_of row = (agrees (row.0 - 1) within _ none).0 in
+    let form : form_by (meaning_of row) ≡ form_of row = row_form row in
     let proper : IsProper (form_of row) (state_by (meaning_of row) (tuples_of vars samples)) = fit_is_proper row is infos vars a samples all in
     let P : StateForm → Type 0 = λ f. IsProper f (state_by (meaning_of row) (tuples_of vars samples)) in
     meant_fits (kinds_of row) (meaning_of row) (row_within (row.0 - 1) within none (kinds_of row)) (tuples_of vars samples) (are_tuples row infos vars a samples all) (subst P (sym form) proper) unbroken
@@ -96,4 +97,4 @@ slots_fit g infos samples point all =
 
 pub no_slots : (g : Grammar) (infos : List VarInfo) → All FitsSlot (kept_of g infos []).slots
 unfolding kept_of
-no_slots g infos = λ k d none. absurd (omega (arith, none))
+no_slots g infos = All-nil FitsSlot

@@ -5,7 +5,7 @@ use Rattle.dk_core.specs.Standing.{Stands}
 use Rattle.dk_core.proofs.session.Session.resume.Goals as goal
 
 pub of_state-requires-clause-constants : goal.of_state-requires-clause-constants
-of_state-requires-clause-constants g c = own_constants c.in-Ok-load.field-0.points c.in-Ok-load.ensures.table
+of_state-requires-clause-constants g c = own_constants c.in-Ok-load.loaded.points c.in-Ok-load.ensures.table
 
 pub returns-in-Ok-load-clause-stands : goal.returns-in-Ok-load-clause-stands
 returns-in-Ok-load-clause-stands g c h start is =
