@@ -22,11 +22,13 @@ groups_going : (ignores : Bool) (h n : History) (room : ℕ) (gs : Groups) → r
     → (course_of_groups ignores (effect_of ignores h) gs).end ≡ Ok n → IsGoing n
 groups_going ignores h n room (Group ls close rest) few own ended going e =
     by (effect_of ignores h ls (Some close)) (λ t is. block_going ignores h ls close t going own.0 (omega (arith, own.1, few)) is) refl e
+    (λ t now later. groups_going ignores t n room rest few own.2 ended now later)
   where
     by : (r : Result Taken LineFault) → ((t : Taken) → effect_of ignores h ls (Some close) ≡ Ok t → IsGoing t.history) → effect_of ignores h ls (Some close) ≡ r
-        → (goes_on r (λ k. course_of_groups ignores (effect_of ignores k) rest)).end ≡ Ok n → IsGoing n
-    by (Ok t) gives is e = groups_going ignores t.history n room rest few own.2 ended (gives t is) e
-    by (Err fault) gives is e = absurd (cc e)
+        → (goes_on r (λ k. course_of_groups ignores (effect_of ignores k) rest)).end ≡ Ok n
+        → ((k : History) → IsGoing k → (course_of_groups ignores (effect_of ignores k) rest).end ≡ Ok n → IsGoing n) → IsGoing n
+    by (Ok t) gives is e more = more t.history (gives t is) e
+    by (Err fault) gives is e more = absurd (cc e)
 groups_going ignores h n room (Last ls Broken) few own ended going e = absurd ended
 groups_going ignores h n room (Last ls (LongLine line)) few own ended going e = absurd (over_many (effect_of ignores h ls None) _ n e)
 groups_going ignores h n room (Last ls (TooLong line)) few own ended going e = absurd (over_many (effect_of ignores h ls None) _ n e)
@@ -55,12 +57,13 @@ files_going : (ignores : Bool) (room : ℕ) (h n : History) (place : ℕ) (conte
     → (course_of_files ignores room h place (map whole contents)).end ≡ Ok n → IsBetween n
 files_going ignores room h n place [] few is e = let same : h ≡ n = cc e in subst IsBetween same is
 files_going ignores room h n place (content ∷ contents) few is e =
-    by (course_of_file ignores room h (whole content)).end refl e
+    by (course_of_file ignores room h (whole content)).end refl e (λ next now later. files_going ignores (room - length content) next n (place + 1) contents (omega (arith, few)) now later)
   where
     by : (r : Result History LineFault) → (course_of_file ignores room h (whole content)).end ≡ r
-        → (then_files place r (λ next. course_of_files ignores (room - length content) (file_ended next) (place + 1) (map whole contents))).end ≡ Ok n → IsBetween n
-    by (Ok next) got e = files_going ignores (room - length content) (file_ended next) n (place + 1) contents (omega (arith, few)) (between next (file_going ignores room h next content few is.going got)) e
-    by (Err fault) got e = absurd (cc e)
+        → (then_files place r (λ next. course_of_files ignores (room - length content) (file_ended next) (place + 1) (map whole contents))).end ≡ Ok n
+        → ((next : History) → IsBetween next → (course_of_files ignores (room - length content) next (place + 1) (map whole contents)).end ≡ Ok n → IsBetween n) → IsBetween n
+    by (Ok next) got e more = more (file_ended next) (between next (file_going ignores room h next content few is.going got)) e
+    by (Err fault) got e more = absurd (cc e)
 
 pub run_ends : RunsEndAtStarts
 unfolding course_of
