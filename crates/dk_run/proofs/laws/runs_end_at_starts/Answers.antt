@@ -1,4 +1,4 @@
-use Rattle.dk_run.proofs.Starting.{run_ends}
+use Rattle.dk_run.proofs.Between.{run_ends}
 use Rattle.dk_run.proofs.laws.runs_end_at_starts.Goals as goal
 
 pub returns : goal.returns
