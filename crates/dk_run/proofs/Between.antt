@@ -1,6 +1,7 @@
 -- Runs that end where another one can begin.
-use Rattle.std.proofs.Common.{◌≡◌, ◌∙◌, ◌+◌, ◌-◌, ◌<◌, ◌≤◌, ◌^◌, ◌++◌, ℕ, All, Bool, List, [], ◌∷◌, Option, Some, None, Result, Ok, Err, ap, arith, length, map, refl, subst, sym}
+use Rattle.std.proofs.Common.{◌≡◌, ◌∙◌, ◌+◌, ◌-◌, ◌<◌, ◌≤◌, ◌^◌, ◌++◌, ℕ, All, Bool, true, List, [], ◌∷◌, Option, Some, None, Result, Ok, Err, ap, arith, length, map, refl, subst, sym}
 use Rattle.dk_base.specs.Reading.{Line, LineFault, Reads, ◌>>=◌}
+use Rattle.dk_base.specs.declared.why.Why.TheVariants.{LongLine as WhyLong, TooLong as WhyMany}
 use Rattle.dk_lines.specs.Left.{End, Over, Broken, LongLine, TooLong, lined}
 use Rattle.dk_core.proofs.Going.{IsGoing, block_going, ended_going, going_start, start_going}
 use Rattle.dk_core.proofs.GivenVars.{IsLineSpelled}
@@ -30,8 +31,8 @@ groups_going ignores h n room (Group ls close rest) few own ended going e =
     by (Ok t) gives is e more = more t.history (gives t is) e
     by (Err fault) gives is e more = absurd (cc e)
 groups_going ignores h n room (Last ls Broken) few own ended going e = absurd ended
-groups_going ignores h n room (Last ls (LongLine line)) few own ended going e = absurd (over_many (effect_of ignores h ls None) _ n e)
-groups_going ignores h n room (Last ls (TooLong line)) few own ended going e = absurd (over_many (effect_of ignores h ls None) _ n e)
+groups_going ignores h n room (Last ls (LongLine line)) few own ended going e = absurd (over_many (effect_of ignores h ls None) (record { line = line; why = WhyLong }) n e)
+groups_going ignores h n room (Last ls (TooLong line)) few own ended going e = absurd (over_many (effect_of ignores h ls None) (record { line = line; why = WhyMany }) n e)
 groups_going ignores h n room (Last ls (Over line)) few own ended going e =
     by (effect_of ignores h ls (Some line)) (λ t is. block_going ignores h ls line t going own.0 (omega (arith, own.1, few)) is) refl e
   where
