@@ -1,7 +1,7 @@
 -- Small examples, computed from the definitions.
 use Rattle.std.proofs.Common.{◌≡◌, ◌∷◌, [], pos, negsuc, true, Some, None, codes, refl}
 use Rattle.dk_base.specs.Comparability.{comparable}
-use Rattle.dk_base.specs.Items.{code_of, hash_item, int_item, is_quoted, is_text, str_item}
+use Rattle.dk_base.specs.Items.{hash_code_of, hash_item, int_item, is_quoted, is_text, str_item}
 use Rattle.dk_base.specs.Names.{unescaped}
 use Rattle.dk_base.specs.Numbers.{whole_of}
 use Rattle.dk_base.specs.Pieces.{pieces}
@@ -16,11 +16,11 @@ use Rattle.dk_base.specs.declared.values.Value.TheVariants as value
 
 -- a code by its digits in either radix
 hexadecimal : value_of_text kind.Hash (codes "0x1f") ≡ Some (value.Hash 31)
-unfolding hash_item code_of
+unfolding hash_item hash_code_of
 hexadecimal = refl
 
 decimal : value_of_text kind.Hash (codes "31") ≡ Some (value.Hash 31)
-unfolding hash_item code_of whole_of
+unfolding hash_item hash_code_of whole_of
 decimal = refl
 
 -- a text that is no number is no value

@@ -10,7 +10,7 @@ use Rattle.std.proofs.lemmas.Fmt.{digits_is_IsNumeral}
 use Rattle.std.proofs.lemmas.List.{get_or_push, length_push, map-id, take_at}
 use Rattle.std.proofs.lemmas.List.Elements.{All-head, All-map, All-tail, All-weaker}
 use Rattle.std.proofs.lemmas.Slice.Eq.{bytes_eq-Decides}
-use Rattle.dk_base.specs.Items.{bool_item, closes, code_of, hash_item, int_item, is_missing_word, is_quoted, is_text, str_item}
+use Rattle.dk_base.specs.Items.{bool_item, closes_quote, hash_code_of, hash_item, int_item, is_missing_word, is_quoted, is_text, str_item}
 use Rattle.dk_base.specs.Numbers.{fits_i64, numeral_of, whole_of}
 use Rattle.dk_base.specs.Pieces.{behind, is_empty, outside, parts, nonempty, pieces}
 use Rattle.dk_base.specs.Sequences.{all_of, inside, is_bad, is_missing, present, sequence}
@@ -75,7 +75,7 @@ int_back (negsuc n) fits =
     int_back_minus (decimal (suc n)) n h.0 h.1 small
 
 code_back : (ds : List ℕ) (n : ℕ) → IsNumeral 16 ds → digits_value 16 ds ≡ n → n < 2 ^ 64 → hash_item (48 ∷ 120 ∷ ds) ≡ Present n
-unfolding hash_item code_of
+unfolding hash_item hash_code_of
 code_back ds n all is small = rw (numeral_back 16 ds n all is, lt-ltb n (2 ^ 64) small) refl
 
 code_text : (n : ℕ) → hash_text (suc n) ≡ 48 ∷ 120 ∷ digits 16 false (suc n)
@@ -215,16 +215,16 @@ still_open true b h = refl
 still_open false b h = not_from_false (b == 34) h
 
 quoted_step : (escaped : Bool) (b : ℕ) (bs rest : List ℕ)
-    → (closes (not escaped && b == 92) bs ≡ true
+    → (closes_quote (not escaped && b == 92) bs ≡ true
     → parts AtBlanksOutsideQuotes (record { quoted = true; escaped = not escaped && b == 92 }) (bs ++ rest) ≡ behind bs (parts AtBlanksOutsideQuotes outside rest))
-    → closes escaped (b ∷ bs) ≡ true
+    → closes_quote escaped (b ∷ bs) ≡ true
     → parts AtBlanksOutsideQuotes (record { quoted = true; escaped = escaped }) (b ∷ (bs ++ rest)) ≡ behind (b ∷ bs) (parts AtBlanksOutsideQuotes outside rest)
 quoted_step escaped b bs rest later h = go (b == 10) (not escaped && b == 34) refl bs later h
   where
     go : (lf quote : Bool) → (not escaped && b == 34) ≡ quote → (bs : List ℕ)
-        → (closes (not escaped && b == 92) bs ≡ true
+        → (closes_quote (not escaped && b == 92) bs ≡ true
         → parts AtBlanksOutsideQuotes (record { quoted = true; escaped = not escaped && b == 92 }) (bs ++ rest) ≡ behind bs (parts AtBlanksOutsideQuotes outside rest))
-        → (if lf then false else if quote then is_empty bs else closes (not escaped && b == 92) bs) ≡ true
+        → (if lf then false else if quote then is_empty bs else closes_quote (not escaped && b == 92) bs) ≡ true
         → parts AtBlanksOutsideQuotes (record { quoted = true; escaped = escaped }) (b ∷ (bs ++ rest)) ≡ behind (b ∷ bs) (parts AtBlanksOutsideQuotes outside rest)
     go true quote e bs later h = absurd (false≢true h)
     go false true e [] later h =
@@ -235,7 +235,7 @@ quoted_step escaped b bs rest later h = go (b == 10) (not escaped && b == 34) re
         rw (still_open escaped b e) (ap (λ (r : List ℕ × List (List ℕ)). (b ∷ r.0, r.1)) (later h))
 
 -- behind an opening quote, up to the one that closes it
-quoted_whole : (escaped : Bool) (bs rest : List ℕ) → closes escaped bs ≡ true
+quoted_whole : (escaped : Bool) (bs rest : List ℕ) → closes_quote escaped bs ≡ true
     → parts AtBlanksOutsideQuotes (record { quoted = true; escaped = escaped }) (bs ++ rest) ≡ behind bs (parts AtBlanksOutsideQuotes outside rest)
 quoted_whole escaped [] rest h = absurd (false≢true h)
 quoted_whole escaped (b ∷ bs) rest h = quoted_step escaped b bs rest (quoted_whole (not escaped && b == 92) bs rest) h
@@ -244,7 +244,7 @@ in_quotes_whole : (s : List ℕ) → is_quoted s ≡ true → IsWhole s
 unfolding is_quoted
 in_quotes_whole [] h = absurd (false≢true h)
 in_quotes_whole (b ∷ bs) h =
-    let both = and_parts (b == 34) (closes false bs) h in
+    let both = and_parts (b == 34) (closes_quote false bs) h in
     let P : ℕ → Type 0 = λ c. IsWhole (c ∷ bs) in
     subst P (sym (eqb-true b 34 both.0)) (omega arith, λ rest. ap (λ (r : List ℕ × List (List ℕ)). (34 ∷ r.0, r.1)) (quoted_whole false bs rest both.1))
 
@@ -253,7 +253,7 @@ unfolding is_quoted
 in_quotes_no_word [] h = absurd (false≢true h)
 in_quotes_no_word (b ∷ bs) h =
     let P : ℕ → Type 0 = λ c. is_missing_word (c ∷ bs) ≡ false in
-    subst P (sym (eqb-true b 34 (and_parts (b == 34) (closes false bs) h).0)) refl
+    subst P (sym (eqb-true b 34 (and_parts (b == 34) (closes_quote false bs) h).0)) refl
 
 -- `null`, or in quotes
 null_or_quoted : (s : List ℕ) → IsTrue (is_text s) → (s ≡ codes "null") ⊎ (is_quoted s ≡ true)

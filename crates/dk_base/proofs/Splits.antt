@@ -6,10 +6,10 @@ use Rattle.std.proofs.lemmas.List.{take_more, drop_more, take_all, drop_all, len
 use Rattle.dk_base.specs.Pieces.{outside, place_after, cuts, parts, behind, nonempty, is_blank, pieces, BeginsPiece}
 use Rattle.dk_base.specs.declared.splitting.Cut.{Cut}
 use Rattle.dk_base.specs.declared.splitting.Cut.TheVariants.{AtBlanksAndTabs, AtBlanksOutsideQuotes}
-use Rattle.dk_base.specs.declared.splitting.Place.{Place}
+use Rattle.dk_base.specs.declared.splitting.Quoting.{Quoting}
 
 -- what cuts in quotes cuts outside of them
-cuts_outside : (cut : Cut) (p : Place) (b : ℕ) → cuts cut p b ≡ true → cuts cut outside b ≡ true
+cuts_outside : (cut : Cut) (p : Quoting) (b : ℕ) → cuts cut p b ≡ true → cuts cut outside b ≡ true
 cuts_outside AtBlanksAndTabs p b h = h
 cuts_outside AtBlanksOutsideQuotes p b h = go p.quoted b h
   where
@@ -37,13 +37,13 @@ pub begins_at : (cut : Cut) (text : List ℕ) (i : ℕ) → i < length text → 
 begins_at cut text i lt h = let P : List ℕ → Type 0 = BeginsPiece cut in subst P (sym (drop_more text i 0 lt)) h
 
 -- a byte that does not cut goes to the first part
-stays : (cut : Cut) (p : Place) (front : List ℕ) (b : ℕ) (bs : List ℕ) → cuts cut p b ≡ false
+stays : (cut : Cut) (p : Quoting) (front : List ℕ) (b : ℕ) (bs : List ℕ) → cuts cut p b ≡ false
     → behind (front ++ b ∷ []) (parts cut (place_after cut p b) bs) ≡ behind front (parts cut p (b ∷ bs))
 stays cut p front b bs h =
     rw h (ap (λ (first : List ℕ). (first, (parts cut (place_after cut p b) bs).1)) (append_assoc front (b ∷ []) _))
 
 -- one byte more of the first part
-pub longer : (cut : Cut) (p : Place) (text : List ℕ) (i : ℕ) → i < length text → cuts cut p (get_or text i 0) ≡ false
+pub longer : (cut : Cut) (p : Quoting) (text : List ℕ) (i : ℕ) → i < length text → cuts cut p (get_or text i 0) ≡ false
     → behind (take i text) (parts cut p (drop i text)) ≡ parts cut outside text
     → behind (take (i + 1) text) (parts cut (place_after cut p (get_or text i 0)) (drop (i + 1) text)) ≡ parts cut outside text
 longer cut p text i lt h so_far =
@@ -63,13 +63,13 @@ plain_cuts AtBlanksOutsideQuotes b h = go (b == 32) (b == 9) h
 
 plain_place : (cut : Cut) (b : ℕ) → (b == 34) ≡ false → place_after cut outside b ≡ outside
 plain_place AtBlanksAndTabs b h = refl
-plain_place AtBlanksOutsideQuotes b h = ap (λ (x : Bool). let p : Place = record { quoted = x; escaped = false } in p) h
+plain_place AtBlanksOutsideQuotes b h = ap (λ (x : Bool). let p : Quoting = record { quoted = x; escaped = false } in p) h
 
 pub plain_longer : (cut : Cut) (text : List ℕ) (i : ℕ) → i < length text → is_blank (get_or text i 0) ≡ false → (get_or text i 0 == 34) ≡ false
     → behind (take i text) (parts cut outside (drop i text)) ≡ parts cut outside text
     → behind (take (i + 1) text) (parts cut outside (drop (i + 1) text)) ≡ parts cut outside text
 plain_longer cut text i lt blank quote so_far =
-    ap (λ (p : Place). behind (take (i + 1) text) (parts cut p (drop (i + 1) text))) (sym (plain_place cut (get_or text i 0) quote))
+    ap (λ (p : Quoting). behind (take (i + 1) text) (parts cut p (drop (i + 1) text))) (sym (plain_place cut (get_or text i 0) quote))
     ∙ longer cut outside text i lt (plain_cuts cut (get_or text i 0) blank) so_far
 
 pub no_quote : (b : ℕ) → (b ≡ 34 → ⊥) → (b == 34) ≡ false
@@ -84,7 +84,7 @@ pub kept : (first : List ℕ) (others : List (List ℕ)) → 0 < length first �
 kept [] others positive = absurd (omega arith)
 kept (b ∷ bs) others positive = refl
 
-cut_at : (cut : Cut) (p : Place) (text front : List ℕ) (b : ℕ) (bs : List ℕ) → 0 < length front → cuts cut p b ≡ true
+cut_at : (cut : Cut) (p : Quoting) (text front : List ℕ) (b : ℕ) (bs : List ℕ) → 0 < length front → cuts cut p b ≡ true
     → behind front (parts cut p (b ∷ bs)) ≡ parts cut outside text
     → pieces cut text ≡ front ∷ pieces cut (b ∷ bs)
 unfolding pieces
@@ -96,7 +96,7 @@ cut_at cut p text front b bs positive h so_far =
     ∙ ap (λ (ps : List (List ℕ)). front ∷ ps) (sym (pieces_behind_cut cut b bs (cuts_outside cut p b h)))
 
 -- the first piece ends at a cut
-pub ends_at_cut : (cut : Cut) (p : Place) (text : List ℕ) (i : ℕ) → i < length text → 0 < i → cuts cut p (get_or text i 0) ≡ true
+pub ends_at_cut : (cut : Cut) (p : Quoting) (text : List ℕ) (i : ℕ) → i < length text → 0 < i → cuts cut p (get_or text i 0) ≡ true
     → behind (take i text) (parts cut p (drop i text)) ≡ parts cut outside text
     → pieces cut text ≡ take i text ∷ pieces cut (drop i text)
 ends_at_cut cut p text i lt positive h so_far =
@@ -116,7 +116,7 @@ all_one_piece cut text positive so_far =
     ap (λ (found : List ℕ × List (List ℕ)). nonempty (found.0 ∷ found.1)) (sym same) ∙ kept text [] positive
 
 -- the first piece is all that is left
-pub ends_at_end : (cut : Cut) (p : Place) (text : List ℕ) (i : ℕ) → BeginsPiece cut text → length text ≤ i
+pub ends_at_end : (cut : Cut) (p : Quoting) (text : List ℕ) (i : ℕ) → BeginsPiece cut text → length text ≤ i
     → behind (take i text) (parts cut p (drop i text)) ≡ parts cut outside text
     → pieces cut text ≡ take (length text) text ∷ pieces cut (drop (length text) text)
 ends_at_end cut p text i begins over so_far =
@@ -130,7 +130,7 @@ ends_at_end cut p text i begins over so_far =
     ∙ ap (λ ps. take (length text) text ∷ ps) (sym (ap (pieces cut) left ∙ no_pieces cut))
 
 -- the first byte does not cut
-pub not_at_once : (cut : Cut) (p : Place) (text : List ℕ) (i : ℕ) → BeginsPiece cut text → (i ≡ 0 → p ≡ outside) → cuts cut p (get_or text i 0) ≡ true → 0 < i
+pub not_at_once : (cut : Cut) (p : Quoting) (text : List ℕ) (i : ℕ) → BeginsPiece cut text → (i ≡ 0 → p ≡ outside) → cuts cut p (get_or text i 0) ≡ true → 0 < i
 not_at_once cut p [] i begins first h = absurd begins
 not_at_once cut p (b ∷ bs) zero begins first h =
     let at_outside : cuts cut outside b ≡ true = rw (first refl) at h in cc

@@ -5,7 +5,7 @@ use Rattle.std.specs.List.{list_any}
 use Rattle.std.specs.Str.{bytes_eq}
 use Rattle.std.proofs.lemmas.Bool.{false≢true, ltb-true}
 use Rattle.std.proofs.lemmas.List.Elements.{All-nil, All-cons}
-use Rattle.dk_base.specs.Items.{bool_item, code_of, hash_item, held, int_item, is_missing_word, is_text, item_map, str_item}
+use Rattle.dk_base.specs.Items.{bool_item, hash_code_of, hash_item, int_item, is_missing_word, is_text, item_in_range, item_map, str_item}
 use Rattle.dk_base.specs.Numbers.{fits_i64, fits_u64, whole_of}
 use Rattle.dk_base.specs.Pieces.{pieces}
 use Rattle.dk_base.specs.Sequences.{all_of, bracketed, inside, is_bad, is_missing, present, sequence}
@@ -30,7 +30,7 @@ of_choice : {A : Type 0} (P : A → Type 0) (b : Bool) (x y : Item A) → (b ≡
 of_choice P true x y h k = h refl
 of_choice P false x y h k = k refl
 
-held_fits : (fits : ℤ → Bool) (o : Option ℤ) → IfPresent (λ z. IsTrue (fits z)) (held fits o)
+held_fits : (fits : ℤ → Bool) (o : Option ℤ) → IfPresent (λ z. IsTrue (fits z)) (item_in_range fits o)
 held_fits fits None = tt
 held_fits fits (Some z) = of_choice (λ y. IsTrue (fits y)) (fits z) (Present z) Missing (λ e. e) (λ e. tt)
 
@@ -56,7 +56,7 @@ unfolding hash_item
 hash_fits t =
     let P : ℕ → Type 0 = λ n. n < 2 ^ 64 in
     of_choice P (is_missing_word t) _ _ (λ e. tt)
-    (λ e. of_choice P (bytes_eq t (codes "null")) _ _ (λ f. omega arith) (λ f. code_fits (held fits_u64 (code_of t)) (held_fits fits_u64 (code_of t))))
+    (λ e. of_choice P (bytes_eq t (codes "null")) _ _ (λ f. omega arith) (λ f. code_fits (item_in_range fits_u64 (hash_code_of t)) (held_fits fits_u64 (hash_code_of t))))
 
 str_fits : (t : List ℕ) → IfPresent (λ s. IsTrue (is_text s)) (str_item t)
 unfolding str_item

@@ -12,14 +12,14 @@ abbrev pub is_missing_word : List ℕ → Bool
 is_missing_word text = bytes_eq text (codes "nonsensical") || bytes_eq text (codes "uninit") || bytes_eq text (codes "missing")
 
 -- a text that writes no number is no value, and a number outside its type is missing
-abbrev pub held : (ℤ → Bool) → Option ℤ → Item ℤ
-held fits None = Bad
-held fits (Some z) = if fits z then Present z else Missing
+abbrev pub item_in_range : (ℤ → Bool) → Option ℤ → Item ℤ
+item_in_range fits None = Bad
+item_in_range fits (Some z) = if fits z then Present z else Missing
 
 -- the same of a number without a sign
-abbrev pub held_in_u64 : Option ℕ → Item ℕ
-held_in_u64 None = Bad
-held_in_u64 (Some n) = if nat_lt n (2 ^ 64) then Present n else Missing
+abbrev pub item_in_u64 : Option ℕ → Item ℕ
+item_in_u64 None = Bad
+item_in_u64 (Some n) = if nat_lt n (2 ^ 64) then Present n else Missing
 
 abbrev pub item_map : {A B : Type 0} → (A → B) → Item A → Item B
 item_map f Bad = Bad
@@ -40,32 +40,32 @@ int_item text =
     if is_missing_word text then Missing
     else if bytes_eq text (codes "true") then Present (pos 1)
     else if bytes_eq text (codes "false") then Present (pos 0)
-    else held fits_i64 (whole_of text)
+    else item_in_range fits_i64 (whole_of text)
 
 -- `0x` (48, 120) and hexadecimal digits, or decimal digits with an optional minus
-unfoldable pub code_of : List ℕ → Option ℤ
-code_of [] = None
-code_of (b ∷ []) = whole_of (b ∷ [])
-code_of (b ∷ c ∷ bs) = if b == 48 && c == 120 then option_map (signed false) (numeral_of 16 bs) else whole_of (b ∷ c ∷ bs)
+unfoldable pub hash_code_of : List ℕ → Option ℤ
+hash_code_of [] = None
+hash_code_of (b ∷ []) = whole_of (b ∷ [])
+hash_code_of (b ∷ c ∷ bs) = if b == 48 && c == 120 then option_map (signed false) (numeral_of 16 bs) else whole_of (b ∷ c ∷ bs)
 
 -- a hash code; `null` is 0
 unfoldable pub hash_item : List ℕ → Item ℕ
 hash_item text =
     if is_missing_word text then Missing
     else if bytes_eq text (codes "null") then Present 0
-    else item_map unsigned_abs (held fits_u64 (code_of text))
+    else item_map unsigned_abs (item_in_range fits_u64 (hash_code_of text))
 
 -- behind an opening quote: the first quote (34) that no backslash (92) takes with it is the last byte, and no byte is an LF (10)
-abbrev pub closes : Bool → List ℕ → Bool
-closes escaped [] = false
-closes escaped (b ∷ bs) =
+abbrev pub closes_quote : Bool → List ℕ → Bool
+closes_quote escaped [] = false
+closes_quote escaped (b ∷ bs) =
     if b == 10 then false
     else if not escaped && b == 34 then is_empty bs
-    else closes (not escaped && b == 92) bs
+    else closes_quote (not escaped && b == 92) bs
 
 unfoldable pub is_quoted : List ℕ → Bool
 is_quoted [] = false
-is_quoted (b ∷ bs) = b == 34 && closes false bs
+is_quoted (b ∷ bs) = b == 34 && closes_quote false bs
 
 -- `null`, or a text in quotes
 unfoldable pub is_text : List ℕ → Bool

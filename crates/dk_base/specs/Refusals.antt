@@ -4,46 +4,46 @@ use Rattle.std.specs.Fmt.{decimal}
 use Rattle.dk_base.specs.declared.why.Why.{Why}
 use Rattle.dk_base.specs.declared.why.Why.TheVariants.{LongLine, BadHeader, BadPoint, BadVariable, DuplicatePoint, CyclicParents, UnknownPoint, BadNonce, WrongName, BadValue, BadMark, Truncated, ExtraLine, UnmatchedExit, TooManyPoints, TooManyVariables, TooLong, BadState}
 
-abbrev pub number_of : Why → ℕ
-number_of LongLine = 1
-number_of BadHeader = 2
-number_of BadPoint = 3
-number_of BadVariable = 4
-number_of DuplicatePoint = 5
-number_of CyclicParents = 6
-number_of UnknownPoint = 7
-number_of BadNonce = 8
-number_of WrongName = 9
-number_of BadValue = 10
-number_of BadMark = 11
-number_of Truncated = 12
-number_of ExtraLine = 13
-number_of UnmatchedExit = 14
-number_of TooManyPoints = 15
-number_of TooManyVariables = 16
-number_of TooLong = 17
-number_of BadState = 18
+abbrev pub why_number : Why → ℕ
+why_number LongLine = 1
+why_number BadHeader = 2
+why_number BadPoint = 3
+why_number BadVariable = 4
+why_number DuplicatePoint = 5
+why_number CyclicParents = 6
+why_number UnknownPoint = 7
+why_number BadNonce = 8
+why_number WrongName = 9
+why_number BadValue = 10
+why_number BadMark = 11
+why_number Truncated = 12
+why_number ExtraLine = 13
+why_number UnmatchedExit = 14
+why_number TooManyPoints = 15
+why_number TooManyVariables = 16
+why_number TooLong = 17
+why_number BadState = 18
 
-abbrev pub name_of : Why → List ℕ
-name_of LongLine = codes "LongLine"
-name_of BadHeader = codes "BadHeader"
-name_of BadPoint = codes "BadPoint"
-name_of BadVariable = codes "BadVariable"
-name_of DuplicatePoint = codes "DuplicatePoint"
-name_of CyclicParents = codes "CyclicParents"
-name_of UnknownPoint = codes "UnknownPoint"
-name_of BadNonce = codes "BadNonce"
-name_of WrongName = codes "WrongName"
-name_of BadValue = codes "BadValue"
-name_of BadMark = codes "BadMark"
-name_of Truncated = codes "Truncated"
-name_of ExtraLine = codes "ExtraLine"
-name_of UnmatchedExit = codes "UnmatchedExit"
-name_of TooManyPoints = codes "TooManyPoints"
-name_of TooManyVariables = codes "TooManyVariables"
-name_of TooLong = codes "TooLong"
-name_of BadState = codes "BadState"
+abbrev pub why_name : Why → List ℕ
+why_name LongLine = codes "LongLine"
+why_name BadHeader = codes "BadHeader"
+why_name BadPoint = codes "BadPoint"
+why_name BadVariable = codes "BadVariable"
+why_name DuplicatePoint = codes "DuplicatePoint"
+why_name CyclicParents = codes "CyclicParents"
+why_name UnknownPoint = codes "UnknownPoint"
+why_name BadNonce = codes "BadNonce"
+why_name WrongName = codes "WrongName"
+why_name BadValue = codes "BadValue"
+why_name BadMark = codes "BadMark"
+why_name Truncated = codes "Truncated"
+why_name ExtraLine = codes "ExtraLine"
+why_name UnmatchedExit = codes "UnmatchedExit"
+why_name TooManyPoints = codes "TooManyPoints"
+why_name TooManyVariables = codes "TooManyVariables"
+why_name TooLong = codes "TooLong"
+why_name BadState = codes "BadState"
 
 -- number and name, as they are printed
-abbrev pub text_of : Why → List ℕ
-text_of why = decimal (number_of why) ++ codes " " ++ name_of why
+abbrev pub why_text : Why → List ℕ
+why_text why = decimal (why_number why) ++ codes " " ++ why_name why

@@ -1,7 +1,7 @@
 // What a text is as a value of a kind that is no sequence.
 ghost use Rattle.std.specs.Prelude.{◌≡◌, ◌≤◌, true, false, option_map, unsigned_abs};
 ghost use Rattle.std.specs.Str.{bytes_eq};
-ghost use Rattle.dk_base.specs.Items.{bool_item, closes, code_of, hash_item, held, int_item, is_missing_word, is_quoted, is_text, item_map};
+ghost use Rattle.dk_base.specs.Items.{bool_item, closes_quote, hash_code_of, hash_item, int_item, is_missing_word, is_quoted, is_text, item_in_range, item_map};
 ghost use Rattle.dk_base.specs.Numbers.{fits_i64, fits_u64, numeral_of, signed, whole_of};
 
 use crate::numbers::{numeral, whole};
@@ -47,7 +47,7 @@ pub(crate) fn bool_item(text: &[u8]) -> Item<bool>
 /// What a text that is no number is as a whole number.
 #[tactic(auto, unfolding(crate::specs::Items::int_item))]
 fn int_word(text: &[u8]) -> Item<i64>
-    ensures { held fits_i64 (whole_of text.now) ≡ Item.Bad → result ≡ int_item text.now }
+    ensures { item_in_range fits_i64 (whole_of text.now) ≡ Item.Bad → result ≡ int_item text.now }
 {
     if is_missing_word(text) {
         Item::Missing
@@ -70,7 +70,7 @@ pub(crate) fn int_item(text: &[u8]) -> Item<i64>
 }
 
 fn code_below_zero(digits: &[u8]) -> Item<u64>
-    ensures { result ≡ item_map unsigned_abs (held fits_u64 (option_map (signed true) (numeral_of 10 digits.now))) }
+    ensures { result ≡ item_map unsigned_abs (item_in_range fits_u64 (option_map (signed true) (numeral_of 10 digits.now))) }
 {
     match numeral(10, digits) {
         Item::Bad => Item::Bad,
@@ -85,14 +85,14 @@ fn code_below_zero(digits: &[u8]) -> Item<u64>
 
 fn code_above_zero(radix: u8, digits: &[u8]) -> Item<u64>
     requires { 1 ≤ radix }
-    ensures { result ≡ item_map unsigned_abs (held fits_u64 (option_map (signed false) (numeral_of radix digits.now))) }
+    ensures { result ≡ item_map unsigned_abs (item_in_range fits_u64 (option_map (signed false) (numeral_of radix digits.now))) }
 {
     numeral(radix, digits)
 }
 
 #[tactic(auto, unfolding(crate::specs::Numbers::whole_of))]
 fn whole_code(text: &[u8]) -> Item<u64>
-    ensures { result ≡ item_map unsigned_abs (held fits_u64 (whole_of text.now)) }
+    ensures { result ≡ item_map unsigned_abs (item_in_range fits_u64 (whole_of text.now)) }
 {
     match text {
         [] => Item::Bad,
@@ -101,9 +101,9 @@ fn whole_code(text: &[u8]) -> Item<u64>
     }
 }
 
-#[tactic(auto, unfolding(crate::specs::Items::code_of))]
+#[tactic(auto, unfolding(crate::specs::Items::hash_code_of))]
 fn code(text: &[u8]) -> Item<u64>
-    ensures { result ≡ item_map unsigned_abs (held fits_u64 (code_of text.now)) }
+    ensures { result ≡ item_map unsigned_abs (item_in_range fits_u64 (hash_code_of text.now)) }
 {
     match text {
         [] => Item::Bad,
@@ -116,7 +116,7 @@ fn code(text: &[u8]) -> Item<u64>
 /// What a text that is no number is as a hash code.
 #[tactic(auto, unfolding(crate::specs::Items::hash_item))]
 fn hash_word(text: &[u8]) -> Item<u64>
-    ensures { item_map unsigned_abs (held fits_u64 (code_of text.now)) ≡ Item.Bad → result ≡ hash_item text.now }
+    ensures { item_map unsigned_abs (item_in_range fits_u64 (hash_code_of text.now)) ≡ Item.Bad → result ≡ hash_item text.now }
 {
     if is_word(text, b"null") {
         Item::Present(0)
@@ -137,8 +137,8 @@ pub(crate) fn hash_item(text: &[u8]) -> Item<u64>
 }
 
 /// Whether the first quote that no backslash takes with it is the last byte, and no byte is an LF.
-fn closes(text: &[u8]) -> bool
-    ensures { result ≡ closes false text.now }
+fn closes_quote(text: &[u8]) -> bool
+    ensures { result ≡ closes_quote false text.now }
 {
     let mut escaped = false;
     for (i, byte) in text.iter().enumerate() {
@@ -159,7 +159,7 @@ fn is_quoted(text: &[u8]) -> bool
 {
     match text {
         [] => false,
-        [b'"', rest @ ..] => closes(rest),
+        [b'"', rest @ ..] => closes_quote(rest),
         [_, ..] => false,
     }
 }

@@ -1,7 +1,7 @@
 // Whole numbers as text.
 ghost use Rattle.std.specs.Prelude.{◌≡◌, ◌+◌, ◌*◌, ◌≤◌, length, option_and_then, option_map, Some};
 ghost use Rattle.std.specs.Char.{digit_value as value_of_digit};
-ghost use Rattle.dk_base.specs.Items.{held, held_in_u64};
+ghost use Rattle.dk_base.specs.Items.{item_in_range, item_in_u64};
 ghost use Rattle.dk_base.specs.Numbers.{fits_i64, in_u64, integer_of, natural_of, numeral_of, signed, whole_of};
 
 use crate::items::Item;
@@ -33,7 +33,7 @@ fn with_digit(radix: u8, total: Option<u64>, digit: u8) -> Option<u64>
 /// The number that the digits write: missing where 64 bits do not hold it, and bad where the text has other bytes or none.
 pub(crate) fn numeral(radix: u8, text: &[u8]) -> Item<u64>
     requires { 1 ≤ radix }
-    ensures { result ≡ held_in_u64 (numeral_of radix text.now) }
+    ensures { result ≡ item_in_u64 (numeral_of radix text.now) }
 {
     if text.is_empty() {
         return Item::Bad;
@@ -55,7 +55,7 @@ pub(crate) fn numeral(radix: u8, text: &[u8]) -> Item<u64>
 /// The number that at most 18 decimal digits write. 64 bits hold each such number, so no step looks whether they do.
 fn short_numeral(text: &[u8]) -> Item<u64>
     requires { length text.now ≤ 18 }
-    ensures { result ≡ held_in_u64 (numeral_of 10 text.now) }
+    ensures { result ≡ item_in_u64 (numeral_of 10 text.now) }
 {
     if text.is_empty() {
         return Item::Bad;
@@ -73,7 +73,7 @@ fn short_numeral(text: &[u8]) -> Item<u64>
 
 /// The number that decimal digits write: missing where 64 bits do not hold it, and bad where the text has other bytes or none.
 fn decimal(text: &[u8]) -> Item<u64>
-    ensures { result ≡ held_in_u64 (numeral_of 10 text.now) }
+    ensures { result ≡ item_in_u64 (numeral_of 10 text.now) }
 {
     if text.len() <= 18 {
         short_numeral(text)
@@ -83,7 +83,7 @@ fn decimal(text: &[u8]) -> Item<u64>
 }
 
 fn number_of_sign(is_negative: bool, size: u64) -> Item<i64>
-    ensures { result ≡ held fits_i64 (Some (signed is_negative size)) }
+    ensures { result ≡ item_in_range fits_i64 (Some (signed is_negative size)) }
 {
     const LIMIT: u64 = 1 << 63;
     if is_negative {
@@ -100,7 +100,7 @@ fn number_of_sign(is_negative: bool, size: u64) -> Item<i64>
 }
 
 fn signed_numeral(is_negative: bool, text: &[u8]) -> Item<i64>
-    ensures { result ≡ held fits_i64 (option_map (signed is_negative) (numeral_of 10 text.now)) }
+    ensures { result ≡ item_in_range fits_i64 (option_map (signed is_negative) (numeral_of 10 text.now)) }
 {
     match decimal(text) {
         Item::Bad => Item::Bad,
@@ -112,7 +112,7 @@ fn signed_numeral(is_negative: bool, text: &[u8]) -> Item<i64>
 /// The number that decimal digits with an optional minus write: missing where 64 bits do not hold it, and bad where the text is none.
 #[tactic(auto, unfolding(crate::specs::Numbers::whole_of))]
 pub(crate) fn whole(text: &[u8]) -> Item<i64>
-    ensures { result ≡ held fits_i64 (whole_of text.now) }
+    ensures { result ≡ item_in_range fits_i64 (whole_of text.now) }
 {
     match text {
         [] => Item::Bad,

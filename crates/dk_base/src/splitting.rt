@@ -13,12 +13,12 @@ pub(crate) enum Cut {
 
 /// Where a byte stands: in quotes or not, and there behind a backslash or not.
 #[derive(Clone, Copy)]
-pub(crate) struct Place {
+pub(crate) struct Quoting {
     pub(crate) quoted: bool,
     pub(crate) escaped: bool,
 }
 
-const OUTSIDE: Place = Place {
+const OUTSIDE: Quoting = Quoting {
     quoted: false,
     escaped: false,
 };
@@ -30,12 +30,12 @@ pub fn is_blank(byte: u8) -> bool
     byte == b' ' || byte == b'\t'
 }
 
-fn place_after(cut: Cut, place: Place, byte: u8) -> Place
+fn place_after(cut: Cut, place: Quoting, byte: u8) -> Quoting
     ensures { result ≡ place_after cut place byte }
 {
     match cut {
         Cut::AtBlanksAndTabs => place,
-        Cut::AtBlanksOutsideQuotes => Place {
+        Cut::AtBlanksOutsideQuotes => Quoting {
             quoted: if place.quoted {
                 place.escaped || byte != b'"'
             } else {
@@ -46,7 +46,7 @@ fn place_after(cut: Cut, place: Place, byte: u8) -> Place
     }
 }
 
-fn cuts(cut: Cut, place: Place, byte: u8) -> bool
+fn cuts(cut: Cut, place: Quoting, byte: u8) -> bool
     ensures { result ≡ cuts cut place byte }
 {
     match cut {

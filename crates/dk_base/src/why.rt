@@ -1,6 +1,6 @@
 // Why input is refused.
 ghost use Rattle.std.specs.Prelude.{◌≡◌, Some};
-ghost use Rattle.dk_base.specs.Refusals.{number_of, name_of, text_of};
+ghost use Rattle.dk_base.specs.Refusals.{why_number, why_name, why_text};
 
 use std::fmt;
 
@@ -48,14 +48,14 @@ pub enum Why {
 impl Why {
     /// Its number, from 1 to 18.
     pub fn number(self) -> u8
-        ensures { result ≡ number_of self }
+        ensures { result ≡ why_number self }
     {
         self as u8
     }
 
     /// Its name, as in `Truncated`.
     pub fn name(self) -> &'static str
-        ensures { result.now ≡ name_of self }
+        ensures { result.now ≡ why_name self }
     {
         match self {
             Why::LongLine => "LongLine",
@@ -81,7 +81,7 @@ impl Why {
 }
 
 impl fmt::Display for Why {
-    ghost output = { λ why. Some (text_of why) };
+    ghost output = { λ why. Some (why_text why) };
 
     fn fmt<W: fmt::Write>(&self, f: &mut fmt::Formatter<W>) -> fmt::Result {
         let number = self.number();

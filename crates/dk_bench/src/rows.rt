@@ -8,7 +8,7 @@ ghost use Rattle.dk_grammar.specs.Runs.{IsSlot};
 ghost use Rattle.dk_template.specs.Admitted.{admits as are_admitted};
 ghost use Rattle.dk_template.specs.Proper.{IsProper};
 ghost use Rattle.dk_template.specs.Rows.{IsTuple};
-ghost use Rattle.dk_template.specs.Templates.{IsRow, form_of, kinds_of};
+ghost use Rattle.dk_template.specs.Templates.{IsRow, form_of, role_kinds};
 
 use crate::lending::slot_of;
 use crate::samples::{sample_at, variables};
@@ -49,7 +49,7 @@ fn with_tuple(
 ) -> Result<State, NoMemory>
     requires row { IsRow row }
     requires before { IsProper (form_of row) before.now }
-    requires tuple { is_whole (values_of tuple.now) ≡ true → IsTuple (kinds_of row) (values_of tuple.now) }
+    requires tuple { is_whole (values_of tuple.now) ≡ true → IsTuple (role_kinds row) (values_of tuple.now) }
     ensures { IfOk result (λ state. IsProper (form_of row) state) }
 {
     if is_whole(tuple) {
@@ -68,7 +68,7 @@ fn with_sample(
     sample: &[View<'_>],
 ) -> Result<State, NoMemory>
     requires row { IsRow row }
-    requires slot { IsSlot (kinds_of row) (form_of row) (values_of sample.now) vars.now before.now }
+    requires slot { IsSlot (role_kinds row) (form_of row) (values_of sample.now) vars.now before.now }
     ensures { IfOk result (λ state. IsProper (form_of row) state) }
 {
     match vars {

@@ -8,10 +8,10 @@ use Rattle.dk_binary.specs.declared.compare.Compare.TheVariants.{Equal, Differen
 use Rattle.dk_binary.specs.declared.equality.Scalar.{Scalar}
 use Rattle.dk_binary.specs.declared.equality.Scalar.TheVariants.{Bool as BoolScalar, Hash as HashScalar, Str as StrScalar}
 use Rattle.dk_template.specs.Rows.{IsTuple}
-use Rattle.dk_template.specs.Templates.{form_of, kinds_of, rows}
+use Rattle.dk_template.specs.Templates.{form_of, role_kinds, rows}
 use Rattle.dk_template.specs.declared.templates.StateForm.TheVariants as form
 
-pub compare_takes : (r : Compare) (t : List Value) → IsTuple (kinds_of (compare_row r)) t → IsTuple (kind.Int ∷ kind.Int ∷ []) t
+pub compare_takes : (r : Compare) (t : List Value) → IsTuple (role_kinds (compare_row r)) t → IsTuple (kind.Int ∷ kind.Int ∷ []) t
 unfolding rows
 compare_takes Equal t is = is
 compare_takes Different t is = is
@@ -20,11 +20,11 @@ compare_takes AtMost t is = is
 compare_takes Multiple t is = is
 compare_takes Square t is = is
 
-pub linear_takes : (t : List Value) → IsTuple (kinds_of linear_row) t → IsTuple (kind.Int ∷ kind.Int ∷ []) t
+pub linear_takes : (t : List Value) → IsTuple (role_kinds linear_row) t → IsTuple (kind.Int ∷ kind.Int ∷ []) t
 unfolding rows
 linear_takes t is = is
 
-pub equality_takes : (k : Scalar) (equal : Bool) (t : List Value) → IsTuple (kinds_of (record { 0 = equality_number k equal })) t → IsTuple (kind_by k ∷ kind_by k ∷ []) t
+pub equality_takes : (k : Scalar) (equal : Bool) (t : List Value) → IsTuple (role_kinds (record { 0 = equality_number k equal })) t → IsTuple (kind_by k ∷ kind_by k ∷ []) t
 unfolding rows
 equality_takes BoolScalar true t is = is
 equality_takes BoolScalar false t is = is

@@ -4,7 +4,7 @@ ghost use Rattle.dk_base.specs.Values.{values_of};
 ghost use Rattle.dk_binary.specs.Rows.{equality_row, kind_by, same_by};
 ghost use Rattle.dk_rows.specs.Meanings.{relation_of};
 ghost use Rattle.dk_template.specs.Rows.{IsTuple};
-ghost use Rattle.dk_template.specs.Templates.{kinds_of};
+ghost use Rattle.dk_template.specs.Templates.{role_kinds};
 
 use crate::rows::join;
 use dk_base::{NoMemory, View, bool_at, hash_at, text_at};
@@ -65,7 +65,7 @@ impl Equality {
 
     // Whether the two values are as the row states.
     fn holds(self, tuple: &[View<'_>]) -> bool
-        requires { IsTuple (kinds_of (equality_row self)) (values_of tuple.now) }
+        requires { IsTuple (role_kinds (equality_row self)) (values_of tuple.now) }
         ensures { result ≡ relation_of (equality_row self) (values_of tuple.now) }
     {
         same_or_opposite(self.equal, self.kind.are_equal(tuple))
@@ -76,9 +76,9 @@ impl Row for Equality {
     ghost use Rattle.dk_binary.specs.Rows.{equality_is_row, equality_row};
     ghost use Rattle.dk_rows.proofs.RowLaws.{laws_by};
     ghost use Rattle.dk_rows.specs.Meanings.{state_of};
-    ghost use Rattle.dk_template.specs.Templates.{form_of, kinds_of};
+    ghost use Rattle.dk_template.specs.Templates.{form_of, role_kinds};
 
-    ghost kinds = { λ row. kinds_of (equality_row row) };
+    ghost kinds = { λ row. role_kinds (equality_row row) };
 
     ghost form = { λ row. form_of (equality_row row) };
 

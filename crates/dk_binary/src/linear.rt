@@ -47,9 +47,9 @@ impl Row for Linear {
     ghost use Rattle.dk_binary.specs.Rows.{linear_is_row, linear_row};
     ghost use Rattle.dk_rows.proofs.RowLaws.{laws_by};
     ghost use Rattle.dk_rows.specs.Meanings.{state_of};
-    ghost use Rattle.dk_template.specs.Templates.{form_of, kinds_of};
+    ghost use Rattle.dk_template.specs.Templates.{form_of, role_kinds};
 
-    ghost kinds = { λ row. kinds_of linear_row };
+    ghost kinds = { λ row. role_kinds linear_row };
 
     ghost form = { λ row. form_of linear_row };
 

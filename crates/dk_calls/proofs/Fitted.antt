@@ -12,32 +12,32 @@ use Rattle.dk_base.specs.declared.kinds.VarInfo.{VarInfo}
 use Rattle.dk_base.specs.declared.values.Value.{Value}
 use Rattle.dk_decl.specs.declared.decls.PointDecl.{PointDecl}
 use Rattle.dk_decl.specs.declared.decls.VarDecl.{VarDecl}
-use Rattle.dk_points.specs.Table.{Point, decl_if_declared, decl_of}
+use Rattle.dk_points.specs.Table.{Point, decl_at, decl_if_declared}
 use Rattle.dk_points.specs.Vars.{declared_vars, orig_name, orig_of, orig_var, orig_vars, same_kind, vars_of}
-use Rattle.dk_trace.specs.Fitting.{FitKinds, kinds_of}
+use Rattle.dk_trace.specs.Fitting.{FitKinds, declared_kinds}
 use Rattle.dk_calls.specs.Fitting.{ExitValuesFit, base_kinds}
 use Rattle.dk_calls.specs.Origs.{orig_values, own_len, own_vars}
 use Rattle.dk_calls.proofs.Owning.{orig_part, own_part}
 
 -- the kinds of the variables that a block declares
-kinds_declared : (vs : List VarDecl) → base_kinds (declared_vars vs) ≡ kinds_of vs
+kinds_declared : (vs : List VarDecl) → base_kinds (declared_vars vs) ≡ declared_kinds vs
 kinds_declared [] = refl
 kinds_declared (v ∷ vs) = by v.kind (kinds_declared vs)
   where
-    by : (k : Option Kind) → base_kinds (declared_vars vs) ≡ kinds_of vs
-        → base_kinds (cons_option (option_map (λ k. record { name = v.name; kind = k; form = form.Declared; compar = v.compar }) k) (declared_vars vs)) ≡ cons_option k (kinds_of vs)
+    by : (k : Option Kind) → base_kinds (declared_vars vs) ≡ declared_kinds vs
+        → base_kinds (cons_option (option_map (λ k. record { name = v.name; kind = k; form = form.Declared; compar = v.compar }) k) (declared_vars vs)) ≡ cons_option k (declared_kinds vs)
     by None h = h
     by (Some k) h = ap (λ (ks : List Kind). k ∷ ks) h
 
-own_kinds : (ps : List Point) (p : ℕ) (d : PointDecl) → decl_of ps p ≡ Some d → base_kinds (own_vars ps p) ≡ kinds_of d.vars
+own_kinds : (ps : List Point) (p : ℕ) (d : PointDecl) → decl_at ps p ≡ Some d → base_kinds (own_vars ps p) ≡ declared_kinds d.vars
 unfolding own_vars
 own_kinds ps p d e = by (slice_get ps p) e
   where
-    declared : (q : Point) (b : Bool) → (if b then None else Some q.decl) ≡ Some d → base_kinds (declared_vars q.decl.vars) ≡ kinds_of d.vars
+    declared : (q : Point) (b : Bool) → (if b then None else Some q.decl) ≡ Some d → base_kinds (declared_vars q.decl.vars) ≡ declared_kinds d.vars
     declared q true e = absurd (cc e)
-    declared q false e = let same : q.decl ≡ d = cc e in kinds_declared q.decl.vars ∙ ap (λ (x : PointDecl). kinds_of x.vars) same
+    declared q false e = let same : q.decl ≡ d = cc e in kinds_declared q.decl.vars ∙ ap (λ (x : PointDecl). declared_kinds x.vars) same
 
-    by : (o : Option Point) → option_and_then decl_if_declared o ≡ Some d → base_kinds (option_map_or (λ q. declared_vars q.decl.vars) o []) ≡ kinds_of d.vars
+    by : (o : Option Point) → option_and_then decl_if_declared o ≡ Some d → base_kinds (option_map_or (λ q. declared_vars q.decl.vars) o []) ≡ declared_kinds d.vars
     by None e = absurd (cc e)
     by (Some q) e = declared q q.is_implicit e
 

@@ -12,7 +12,7 @@ use Rattle.dk_points.specs.Vars.{entry_before, entry_of}
 use Rattle.dk_points.specs.declared.roles.Role.{Role}
 use Rattle.dk_points.specs.declared.roles.Role.TheVariants as role
 use Rattle.dk_trace.specs.Records.{Sample}
-use Rattle.dk_calls.specs.Nonces.{held, same_key}
+use Rattle.dk_calls.specs.Nonces.{same_key, values_under}
 use Rattle.dk_calls.specs.Origs.{orig_values, own_vars}
 use Rattle.dk_calls.specs.Records.{call_of, entry_with, is_entry, is_entry_at, values_at_exit, with_entry}
 use Rattle.dk_calls.specs.Stacks.{below_first, is_at}
@@ -27,7 +27,7 @@ on_ok (Err e) f h = tt
 
 -- an entry without a nonce
 pub entered_plain : (old new : Calls) (p : ℕ) (v : List Value) (ws : List Entry) → new.plain ≡ record { point = p; values = v } ∷ old.plain
-    → ((q : ℕ) (m : ℤ) → held q m new.nonces ≡ held q m old.nonces) → Holds old ws → Holds new (entry p None v ∷ ws)
+    → ((q : ℕ) (m : ℤ) → values_under q m new.nonces ≡ values_under q m old.nonces) → Holds old ws → Holds new (entry p None v ∷ ws)
 entered_plain old new p v ws pushed same h = record {
   plain = pushed ∙ ap (λ l. record { point = p; values = v } ∷ l) h.plain;
   nonces = λ (q : ℕ) (m : ℤ). same q m ∙ h.nonces q m
@@ -36,21 +36,21 @@ entered_plain old new p v ws pushed same h = record {
 
 -- an entry with a nonce
 pub entered_nonced : (old new : Calls) (p : ℕ) (n : ℤ) (v : List Value) (ws : List Entry) → new.plain ≡ old.plain
-    → ((q : ℕ) (m : ℤ) → held q m new.nonces ≡ (if same_key (p, n) (q, m) then v ∷ held q m old.nonces else held q m old.nonces))
+    → ((q : ℕ) (m : ℤ) → values_under q m new.nonces ≡ (if same_key (p, n) (q, m) then v ∷ values_under q m old.nonces else values_under q m old.nonces))
     → Holds old ws → Holds new (entry p (Some n) v ∷ ws)
 entered_nonced old new p n v ws same pushed h = record {
   plain = same ∙ h.plain;
   nonces = λ (q : ℕ) (m : ℤ). pushed q m ∙ by q m (same_key (p, n) (q, m));
 }
   where
-    by : (q : ℕ) (m : ℤ) (b : Bool) → (if b then v ∷ held q m old.nonces else held q m old.nonces)
+    by : (q : ℕ) (m : ℤ) (b : Bool) → (if b then v ∷ values_under q m old.nonces else values_under q m old.nonces)
         ≡ map (λ (w : Entry). w.values) (if b then entry p (Some n) v ∷ filter (is_of q (Some m)) ws else filter (is_of q (Some m)) ws)
     by q m true = ap (λ (l : List (List Value)). v ∷ l) (h.nonces q m)
     by q m false = h.nonces q m
 
 -- an exit without a nonce
 pub took_plain : (old new : Calls) (e : ℕ) (ws : List Entry) → new.plain ≡ below_first (is_at e) old.plain
-    → ((q : ℕ) (m : ℤ) → held q m new.nonces ≡ held q m old.nonces) → is_some (taken_by e None ws) ≡ true → Holds old ws → Holds new (left_by e None ws)
+    → ((q : ℕ) (m : ℤ) → values_under q m new.nonces ≡ values_under q m old.nonces) → is_some (taken_by e None ws) ≡ true → Holds old ws → Holds new (left_by e None ws)
 took_plain old new e ws cut same taken h =
     let left : left_by e None ws ≡ without_plain e ws = ap (λ (b : Bool). if b then without_plain e ws else ws) (any_taken (is_of e None) ws taken) in
     let P : List Entry → Type 0 = λ l. Holds new l in
@@ -69,7 +69,7 @@ drop_map n false ws = refl
 
 -- an exit with a nonce
 pub took_nonced : (old new : Calls) (e : ℕ) (n : ℤ) (ws : List Entry) → new.plain ≡ old.plain
-    → ((q : ℕ) (m : ℤ) → held q m new.nonces ≡ (if same_key (e, n) (q, m) then drop 1 (held q m old.nonces) else held q m old.nonces))
+    → ((q : ℕ) (m : ℤ) → values_under q m new.nonces ≡ (if same_key (e, n) (q, m) then drop 1 (values_under q m old.nonces) else values_under q m old.nonces))
     → Holds old ws → Holds new (left_by e (Some n) ws)
 took_nonced old new e n ws same popped h = record {
   plain = same ∙ h.plain ∙ sym (ap (map plain_entry) (other_left (is_of e (Some n)) is_plain (nonced_is_not_plain e n) ws));

@@ -7,7 +7,7 @@ use Rattle.std.proofs.lemmas.Bool.{eqb-true}
 use Rattle.std.proofs.lemmas.Bool.Decides.{Decides-int_eq}
 use Rattle.std.proofs.lemmas.List.{reverse-append}
 use Rattle.dk_base.specs.declared.values.Value.{Value}
-use Rattle.dk_calls.specs.Nonces.{listed, same_key}
+use Rattle.dk_calls.specs.Nonces.{latest_first, same_key}
 
 both : (a b : Bool) → (a && b) ≡ true → (a ≡ true) × (b ≡ true)
 both true true e = (refl, refl)
@@ -23,12 +23,12 @@ keys_same (a, n) (b, m) e =
 
 -- one key's entries change as `f` says, and no other's
 pub step : (f : List (List Value) → List (List Value)) (old new : ℕ × ℤ → Option (Vec (List Value))) (key : ℕ × ℤ) (w : Option (Vec (List Value)))
-    → ((q : ℕ × ℤ) → new q ≡ cond (same_key key q) w (old q)) → listed w ≡ f (listed (old key))
-    → (q : ℕ × ℤ) → listed (new q) ≡ (if same_key key q then f (listed (old q)) else listed (old q))
-step f old new key w updates own q = ap listed (updates q) ∙ by (same_key key q) refl
+    → ((q : ℕ × ℤ) → new q ≡ cond (same_key key q) w (old q)) → latest_first w ≡ f (latest_first (old key))
+    → (q : ℕ × ℤ) → latest_first (new q) ≡ (if same_key key q then f (latest_first (old q)) else latest_first (old q))
+step f old new key w updates own q = ap latest_first (updates q) ∙ by (same_key key q) refl
   where
-    by : (b : Bool) → same_key key q ≡ b → listed (cond b w (old q)) ≡ (if b then f (listed (old q)) else listed (old q))
-    by true e = let P : ℕ × ℤ → Type 0 = λ k. listed w ≡ f (listed (old k)) in subst P (keys_same key q e) own
+    by : (b : Bool) → same_key key q ≡ b → latest_first (cond b w (old q)) ≡ (if b then f (latest_first (old q)) else latest_first (old q))
+    by true e = let P : ℕ × ℤ → Type 0 = λ k. latest_first w ≡ f (latest_first (old k)) in subst P (keys_same key q e) own
     by false e = refl
 
 -- one entry more
@@ -50,8 +50,8 @@ one_less xs ys (Some v) n m e cases long = sym (ap (drop 1) (ap reverse e ∙ re
 
 -- no key's entries change
 pub kept : (old new : ℕ × ℤ → Option (Vec (List Value))) (key : ℕ × ℤ) (w : Option (Vec (List Value)))
-    → ((q : ℕ × ℤ) → new q ≡ cond (same_key key q) w (old q)) → listed w ≡ listed (old key) → (q : ℕ × ℤ) → listed (new q) ≡ listed (old q)
-kept old new key w updates own q = step (λ (xs : List (List Value)). xs) old new key w updates own q ∙ either (same_key key q) (listed (old q))
+    → ((q : ℕ × ℤ) → new q ≡ cond (same_key key q) w (old q)) → latest_first w ≡ latest_first (old key) → (q : ℕ × ℤ) → latest_first (new q) ≡ latest_first (old q)
+kept old new key w updates own q = step (λ (xs : List (List Value)). xs) old new key w updates own q ∙ either (same_key key q) (latest_first (old q))
   where
     either : (b : Bool) (xs : List (List Value)) → (if b then xs else xs) ≡ xs
     either true xs = refl

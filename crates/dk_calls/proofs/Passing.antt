@@ -8,7 +8,7 @@ use Rattle.dk_base.specs.declared.kinds.Form.TheVariants as form
 use Rattle.dk_base.specs.declared.kinds.VarInfo.{VarInfo}
 use Rattle.dk_base.specs.declared.values.Value.{Value}
 use Rattle.dk_points.specs.Vars.{number_of_kind, orig_name, orig_of, orig_var, orig_vars, same_kind}
-use Rattle.dk_calls.specs.Origs.{IsPassed, is_next, orig_values, plain_name}
+use Rattle.dk_calls.specs.Origs.{IsPassed, inner_name, is_next, orig_values}
 
 -- the plain name of an orig name
 take_front : (xs : List ℕ) (y n : ℕ) → n ≡ length xs → take n (xs ++ y ∷ []) ≡ xs
@@ -23,7 +23,7 @@ drop_past [] (suc i) past = refl
 drop_past (x ∷ xs) zero past = absurd (omega arith)
 drop_past (x ∷ xs) (suc i) past = drop_past xs i (omega arith)
 
-plain_of_orig : (name : List ℕ) → plain_name (orig_name name) ≡ name
+plain_of_orig : (name : List ℕ) → inner_name (orig_name name) ≡ name
 plain_of_orig name =
     let long : length (name ++ 41 ∷ []) ≡ length name + 1 = length-append name (41 ∷ []) in
     let own : length (orig_name name) - 6 ≡ length name = omega arith in
@@ -47,17 +47,17 @@ is_some_by_name exit v = by (find (λ w. bytes_eq v.name w.name) exit)
     by (Some w) = chosen (same_kind v.kind w.kind) (record { name = orig_name v.name; kind = v.kind; form = form.Orig; compar = w.compar }) w
 
 -- an orig variable has the name and the kind of its variable
-orig_shape : (exit : List VarInfo) (v o : VarInfo) → orig_var exit v ≡ Some o → (plain_name o.name ≡ v.name) × (o.kind ≡ v.kind)
+orig_shape : (exit : List VarInfo) (v o : VarInfo) → orig_var exit v ≡ Some o → (inner_name o.name ≡ v.name) × (o.kind ≡ v.kind)
 orig_shape exit v o is = by (find (λ w. bytes_eq v.name w.name) exit) is
   where
     chosen : (b : Bool) (w : VarInfo) → (if b then Some (record { name = orig_name v.name; kind = v.kind; form = form.Orig; compar = w.compar }) else None) ≡ Some o
-        → (plain_name o.name ≡ v.name) × (o.kind ≡ v.kind)
+        → (inner_name o.name ≡ v.name) × (o.kind ≡ v.kind)
     chosen true w e =
         let same : record { name = orig_name v.name; kind = v.kind; form = form.Orig; compar = w.compar } ≡ o = cc e in
-        (ap (λ (u : VarInfo). plain_name u.name) (sym same) ∙ plain_of_orig v.name, ap (λ (u : VarInfo). u.kind) (sym same))
+        (ap (λ (u : VarInfo). inner_name u.name) (sym same) ∙ plain_of_orig v.name, ap (λ (u : VarInfo). u.kind) (sym same))
     chosen false w e = absurd (cc e)
 
-    by : (found : Option VarInfo) → option_and_then (orig_of v) found ≡ Some o → (plain_name o.name ≡ v.name) × (o.kind ≡ v.kind)
+    by : (found : Option VarInfo) → option_and_then (orig_of v) found ≡ Some o → (inner_name o.name ≡ v.name) × (o.kind ≡ v.kind)
     by None e = absurd (cc e)
     by (Some w) e = chosen (same_kind v.kind w.kind) w e
 
@@ -80,21 +80,21 @@ both false b e = absurd (cc e)
 next_is_own : (exit : List VarInfo) (v : VarInfo) (vs : List VarInfo) → is_next (filter_map (orig_var exit) (v ∷ vs)) v ≡ is_some (orig_var exit v)
 next_is_own exit v vs = by (orig_var exit v) refl
   where
-    matched : (o : VarInfo) → bytes_eq (plain_name o.name) v.name ≡ true → (number_of_kind v.kind == number_of_kind o.kind) ≡ true
-        → (bytes_eq (plain_name o.name) v.name && same_kind v.kind o.kind) ≡ true
+    matched : (o : VarInfo) → bytes_eq (inner_name o.name) v.name ≡ true → (number_of_kind v.kind == number_of_kind o.kind) ≡ true
+        → (bytes_eq (inner_name o.name) v.name && same_kind v.kind o.kind) ≡ true
     matched o name kind = rw (name, kind) refl
 
     other : (os : List VarInfo) → filter_map (orig_var exit) vs ≡ os → orig_var exit v ≡ None → is_next os v ≡ false
     other [] is none = refl
-    other (o ∷ os) is none = test (bytes_eq (plain_name o.name) v.name && same_kind v.kind o.kind) refl
+    other (o ∷ os) is none = test (bytes_eq (inner_name o.name) v.name && same_kind v.kind o.kind) refl
       where
-        test : (b : Bool) → (bytes_eq (plain_name o.name) v.name && same_kind v.kind o.kind) ≡ b → b ≡ false
+        test : (b : Bool) → (bytes_eq (inner_name o.name) v.name && same_kind v.kind o.kind) ≡ b → b ≡ false
         test false e = refl
         test true e =
-            let parts = both (bytes_eq (plain_name o.name) v.name) (same_kind v.kind o.kind) e in
+            let parts = both (bytes_eq (inner_name o.name) v.name) (same_kind v.kind o.kind) e in
             let own = some_own exit vs o os is in
             let shape = orig_shape exit own.0 o own.1 in
-            let names : own.0.name ≡ v.name = sym shape.0 ∙ (bytes_eq-Decides (plain_name o.name) v.name).0 parts.0 in
+            let names : own.0.name ≡ v.name = sym shape.0 ∙ (bytes_eq-Decides (inner_name o.name) v.name).0 parts.0 in
             let kinds : number_of_kind own.0.kind ≡ number_of_kind v.kind =
             ap number_of_kind (sym shape.1) ∙ sym (eqb-true (number_of_kind v.kind) (number_of_kind o.kind) parts.1) in
             let here : has_orig exit v.name (number_of_kind v.kind) ≡ false = sym (is_some_by_name exit v) ∙ ap is_some none in
@@ -106,7 +106,7 @@ next_is_own exit v vs = by (orig_var exit v) refl
     by : (found : Option VarInfo) → orig_var exit v ≡ found → is_next (cons_option found (filter_map (orig_var exit) vs)) v ≡ is_some found
     by None is = other (filter_map (orig_var exit) vs) refl is
     by (Some o) is = let shape = orig_shape exit v o is in
-        matched o ((bytes_eq-Decides (plain_name o.name) v.name).1 shape.0) (eq-eqb (number_of_kind v.kind) (number_of_kind o.kind) (ap number_of_kind (sym shape.1)))
+        matched o ((bytes_eq-Decides (inner_name o.name) v.name).1 shape.0) (eq-eqb (number_of_kind v.kind) (number_of_kind o.kind) (ap number_of_kind (sym shape.1)))
 
 -- the orig variables and the values of a variable in front of others
 left_of : (exit : List VarInfo) (v : VarInfo) (vs os : List VarInfo) (found : Option VarInfo) → orig_var exit v ≡ found → os ≡ orig_vars (v ∷ vs) exit → os ≡ cons_option found (orig_vars vs exit)

@@ -10,10 +10,10 @@ abbrev pub same_key : ℕ × ℤ → ℕ × ℤ → Bool
 same_key a b = nat_eq a.0 b.0 && int_eq a.1 b.1
 
 -- what is kept of a point and a nonce, the latest first
-abbrev pub listed : Option (Vec (List Value)) → List (List Value)
-listed None = []
-listed (Some entries) = reverse entries.items
+abbrev pub latest_first : Option (Vec (List Value)) → List (List Value)
+latest_first None = []
+latest_first (Some entries) = reverse entries.items
 
 -- the values of the waiting entries of a point and a nonce, the latest first
-unfoldable pub held : ℕ → ℤ → Nonces → List (List Value)
-held point n t = listed (get same_key t.table (point, n))
+unfoldable pub values_under : ℕ → ℤ → Nonces → List (List Value)
+values_under point n t = latest_first (get same_key t.table (point, n))

@@ -23,13 +23,13 @@ abbrev pub own_len : List VarInfo → ℕ
 own_len vars = position_or_len (λ v. is_orig v.form) vars
 
 -- the name in an orig variable's name, which stands behind `orig(` and in front of `)`
-abbrev pub plain_name : List ℕ → List ℕ
-plain_name name = take (length name - 6) (drop 5 name)
+abbrev pub inner_name : List ℕ → List ℕ
+inner_name name = take (length name - 6) (drop 5 name)
 
 -- the next orig variable is that of this one
 abbrev pub is_next : List VarInfo → VarInfo → Bool
 is_next [] v = false
-is_next (o ∷ os) v = bytes_eq (plain_name o.name) v.name && same_kind v.kind o.kind
+is_next (o ∷ os) v = bytes_eq (inner_name o.name) v.name && same_kind v.kind o.kind
 
 -- what is left: variables with their values and the orig variables of them, and the values that they come to, with those in front
 pub record IsPassed (exit entry : List VarInfo) (kept : List Value) (origs : List VarInfo) (front whole : List Value) : Type 0 where

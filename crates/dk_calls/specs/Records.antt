@@ -6,7 +6,7 @@ use Rattle.dk_base.specs.declared.values.Value.{Value}
 use Rattle.dk_base.specs.declared.why.Why.TheVariants.{UnmatchedExit}
 use Rattle.dk_decl.specs.Outcomes.{or_refused}
 use Rattle.dk_points.specs.Names.{role_of}
-use Rattle.dk_points.specs.Table.{Point, decl_of}
+use Rattle.dk_points.specs.Table.{Point, decl_at}
 use Rattle.dk_points.specs.Vars.{entry_of}
 use Rattle.dk_points.specs.declared.roles.Role.{Role}
 use Rattle.dk_points.specs.declared.roles.Role.TheVariants as role
@@ -22,7 +22,7 @@ is_entry role.Plain = false
 
 -- the point at this place is an entry that is declared
 unfoldable pub is_entry_at : List Point → ℕ → Bool
-is_entry_at ps p = option_map_or (λ d. is_entry (role_of d.name)) (decl_of ps p) false
+is_entry_at ps p = option_map_or (λ d. is_entry (role_of d.name)) (decl_at ps p) false
 
 -- the entry of a record
 abbrev pub entry_with : Sample → Entry

@@ -105,11 +105,11 @@ fn with_entry<'a>(
 }
 
 impl Calls {
-    ghost use Rattle.dk_calls.specs.Standing.{Holds, StandsFor, WaitAlike};
+    ghost use Rattle.dk_calls.specs.Standing.{CallsStandForRecords, Holds, WaitAlike};
 
     /// No entry waits.
     pub fn new(alloc: Global) -> Result<Calls, NoMemory>
-        ensures { IfOk result (λ calls. StandsFor calls []) }
+        ensures { IfOk result (λ calls. CallsStandForRecords calls []) }
     {
         Ok(Calls {
             alloc,
@@ -120,7 +120,7 @@ impl Calls {
 
     /// No entry waits any more, as behind the end of a file.
     pub fn clear(&mut self)
-        ensures { StandsFor self.new [] }
+        ensures { CallsStandForRecords self.new [] }
     {
         self.plain.clear();
         self.nonces.clear();
@@ -129,7 +129,7 @@ impl Calls {
     /// The entry waits. The record is that of an entry. A refused call leaves what waits as it was.
     pub fn enter(&mut self, points: &Points, sample: &BaseSample<'_>) -> Result<(), NoMemory>
         requires { is_entry_at points.now sample.now.point.0 ≡ true }
-        ensures ok { OnOk result ((earlier : List Call) → StandsFor self.old earlier → StandsFor self.new (call_of points.now (shown sample.now) ∷ earlier)) }
+        ensures ok { OnOk result ((earlier : List Call) → CallsStandForRecords self.old earlier → CallsStandForRecords self.new (call_of points.now (shown sample.now) ∷ earlier)) }
         ensures err { OnErr result (WaitAlike self.old self.new) }
     {
         let values = keep_all(self.alloc, sample.values)?;
@@ -141,7 +141,7 @@ impl Calls {
 
     // The values of the entry that an exit takes.
     fn latest(&self, entry: PointId, nonce: Option<i64>) -> Option<&List<Value>>
-        ensures { (earlier : List Call) → StandsFor self.now earlier
+        ensures { (earlier : List Call) → CallsStandForRecords self.now earlier
             → option_map (λ values. values.now) result ≡ option_map (λ w. w.values) (taken_by entry.0 nonce (waiting_of earlier)) }
     {
         match nonce {
@@ -152,7 +152,7 @@ impl Calls {
 
     // Takes the entry of an exit, and what goes with it.
     fn take(&mut self, entry: PointId, nonce: Option<i64>)
-        ensures { (earlier : List Call) → StandsFor self.old earlier → IsSome (taken_by entry.0 nonce (waiting_of earlier))
+        ensures { (earlier : List Call) → CallsStandForRecords self.old earlier → IsSome (taken_by entry.0 nonce (waiting_of earlier))
             → Holds self.new (left_by entry.0 nonce (waiting_of earlier)) }
     {
         match nonce {
@@ -171,9 +171,9 @@ impl Calls {
     ) -> Result<&'a [View<'a>], BlockFault>
         requires within { sample.now.point.0 < length points.now }
         requires exit { IsSome (entry_of points.now sample.now.point.0) }
-        ensures values { (earlier : List Call) → StandsFor self.old earlier
+        ensures values { (earlier : List Call) → CallsStandForRecords self.old earlier
             → Shows (λ views. values_of views.now) result (values_at_exit points.now (shown sample.now) earlier) }
-        ensures ok { OnOk result ((earlier : List Call) → StandsFor self.old earlier → StandsFor self.new (call_of points.now (shown sample.now) ∷ earlier)) }
+        ensures ok { OnOk result ((earlier : List Call) → CallsStandForRecords self.old earlier → CallsStandForRecords self.new (call_of points.now (shown sample.now) ∷ earlier)) }
         ensures err { OnErr result (self.new ≡ self.old) }
     {
         let Some(entry) = points.entry(sample.point) else {

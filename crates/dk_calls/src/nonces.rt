@@ -13,12 +13,12 @@ pub(crate) struct Nonces {
 }
 
 impl Nonces {
-    ghost use Rattle.dk_calls.specs.Nonces.{held, same_key};
+    ghost use Rattle.dk_calls.specs.Nonces.{same_key, values_under};
 
     /// No entry waits.
-    #[tactic(auto, unfolding(crate::specs::Nonces::held))]
+    #[tactic(auto, unfolding(crate::specs::Nonces::values_under))]
     pub(crate) fn new(alloc: Global) -> Nonces
-        ensures { (q : ℕ) (m : ℤ) → held q m result ≡ [] }
+        ensures { (q : ℕ) (m : ℤ) → values_under q m result ≡ [] }
     {
         Nonces {
             alloc,
@@ -27,9 +27,9 @@ impl Nonces {
     }
 
     /// The values of the latest entry of the point and the nonce that the key holds.
-    #[tactic(auto, unfolding(crate::specs::Nonces::held))]
+    #[tactic(auto, unfolding(crate::specs::Nonces::values_under))]
     pub(crate) fn latest(&self, key: (u32, i64)) -> Option<&List<Value>>
-        ensures { option_map (λ values. values.now) result ≡ slice_get (held key.0 key.1 self.now) 0 }
+        ensures { option_map (λ values. values.now) result ≡ slice_get (values_under key.0 key.1 self.now) 0 }
     {
         match self.table.get(&key) {
             None => None,
@@ -38,10 +38,10 @@ impl Nonces {
     }
 
     /// The entry waits. A refused call leaves the others as they were.
-    #[tactic(auto, unfolding(crate::specs::Nonces::held))]
+    #[tactic(auto, unfolding(crate::specs::Nonces::values_under))]
     pub(crate) fn push(&mut self, key: (u32, i64), values: List<Value>) -> Result<(), NoMemory>
-        ensures ok { OnOk result ((q : ℕ) (m : ℤ) → held q m self.new ≡ (if same_key key (q, m) then values ∷ held q m self.old else held q m self.old)) }
-        ensures err { OnErr result ((q : ℕ) (m : ℤ) → held q m self.new ≡ held q m self.old) }
+        ensures ok { OnOk result ((q : ℕ) (m : ℤ) → values_under q m self.new ≡ (if same_key key (q, m) then values ∷ values_under q m self.old else values_under q m self.old)) }
+        ensures err { OnErr result ((q : ℕ) (m : ℤ) → values_under q m self.new ≡ values_under q m self.old) }
     {
         if let Some(entries) = self.table.get_mut(&key) {
             entries.push(values)?;
@@ -55,9 +55,9 @@ impl Nonces {
     }
 
     /// Takes the latest entry of the point and the nonce that the key holds.
-    #[tactic(auto, unfolding(crate::specs::Nonces::held))]
+    #[tactic(auto, unfolding(crate::specs::Nonces::values_under))]
     pub(crate) fn pop(&mut self, key: (u32, i64))
-        ensures { (q : ℕ) (m : ℤ) → held q m self.new ≡ (if same_key key (q, m) then drop 1 (held q m self.old) else held q m self.old) }
+        ensures { (q : ℕ) (m : ℤ) → values_under q m self.new ≡ (if same_key key (q, m) then drop 1 (values_under q m self.old) else values_under q m self.old) }
     {
         if self.pop_of(key) {
             self.table.swap_remove(&key);
@@ -65,10 +65,10 @@ impl Nonces {
     }
 
     // Takes the latest entry of the key, and tells whether there is no other.
-    #[tactic(auto, unfolding(crate::specs::Nonces::held))]
+    #[tactic(auto, unfolding(crate::specs::Nonces::values_under))]
     fn pop_of(&mut self, key: (u32, i64)) -> bool
-        ensures held { (q : ℕ) (m : ℤ) → held q m self.new ≡ (if same_key key (q, m) then drop 1 (held q m self.old) else held q m self.old) }
-        ensures none { result ≡ true → held key.0 key.1 self.new ≡ [] }
+        ensures held { (q : ℕ) (m : ℤ) → values_under q m self.new ≡ (if same_key key (q, m) then drop 1 (values_under q m self.old) else values_under q m self.old) }
+        ensures none { result ≡ true → values_under key.0 key.1 self.new ≡ [] }
     {
         match self.table.get_mut(&key) {
             None => false,
@@ -80,9 +80,9 @@ impl Nonces {
     }
 
     /// No entry waits.
-    #[tactic(auto, unfolding(crate::specs::Nonces::held))]
+    #[tactic(auto, unfolding(crate::specs::Nonces::values_under))]
     pub(crate) fn clear(&mut self)
-        ensures { (q : ℕ) (m : ℤ) → held q m self.new ≡ [] }
+        ensures { (q : ℕ) (m : ℤ) → values_under q m self.new ≡ [] }
     {
         self.table.clear();
     }

@@ -5,7 +5,7 @@ ghost use Rattle.dk_base.specs.Values.{values_of};
 ghost use Rattle.dk_points.specs.Vars.{orig_vars, same_kind};
 ghost use Rattle.dk_base.specs.declared.kinds.VarInfo.{VarInfo as Variable};
 ghost use Rattle.dk_base.specs.declared.values.Value.{Value as Kept};
-ghost use Rattle.dk_calls.specs.Origs.{IsPassed, is_next, orig_values, own_len, plain_name};
+ghost use Rattle.dk_calls.specs.Origs.{IsPassed, inner_name, is_next, orig_values, own_len};
 
 use dk_base::{Arena, Form, Kind, NoMemory, Value, VarInfo, View};
 
@@ -35,8 +35,8 @@ fn same_kind(a: Kind, b: Kind) -> bool
 }
 
 // The name in an orig variable's name, which stands behind `orig(` and in front of `)`.
-fn plain_name(name: &[u8]) -> &[u8]
-    ensures { result.now ≡ plain_name name.now }
+fn inner_name(name: &[u8]) -> &[u8]
+    ensures { result.now ≡ inner_name name.now }
 {
     if name.len() < 6 {
         &[]
@@ -59,7 +59,7 @@ fn is_next(origs: &[VarInfo], place: usize, var: &VarInfo) -> bool
     match origs.get(place) {
         None => false,
         Some(orig) => {
-            same_name(plain_name(orig.name.as_slice()), var.name.as_slice())
+            same_name(inner_name(orig.name.as_slice()), var.name.as_slice())
                 && same_kind(var.kind, orig.kind)
         }
     }

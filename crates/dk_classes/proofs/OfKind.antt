@@ -8,10 +8,10 @@ use Rattle.dk_base.specs.declared.kinds.Kind.TheVariants as kind
 use Rattle.dk_base.specs.declared.kinds.VarInfo.{VarInfo}
 use Rattle.dk_samples.specs.Samples.{value_in}
 use Rattle.dk_classes.specs.Leaders.{var}
-use Rattle.dk_classes.specs.Classes.{InClass, IsFirst, kind_at, kinds_of}
+use Rattle.dk_classes.specs.Classes.{InClass, IsFirst, kind_at, var_kinds}
 
 -- the kind of the variable that was read
-pub kind_read : (vars : List VarInfo) (v : ℕ) (info : VarInfo) → v < length vars → kind_at (kinds_of vars) v ≡ (get_or vars v info).kind
+pub kind_read : (vars : List VarInfo) (v : ℕ) (info : VarInfo) → v < length vars → kind_at (var_kinds vars) v ≡ (get_or vars v info).kind
 kind_read vars v info l = get_or-map (λ (i : VarInfo). i.kind) vars v info kind.Bool l
 
 -- without samples, the first variable of the kind is the first of the class

@@ -15,8 +15,8 @@ pub record IsFirst (P : ℕ → Type 0) (n : ℕ) : Type 0 where
   pub first : (m : ℕ) → P m → n ≤ m
 
 -- the kinds of the variables
-abbrev pub kinds_of : List VarInfo → List Kind
-kinds_of vars = map (λ info. info.kind) vars
+abbrev pub var_kinds : List VarInfo → List Kind
+var_kinds vars = map (λ info. info.kind) vars
 
 -- the kind of a variable by its number
 abbrev pub kind_at : List Kind → ℕ → Kind

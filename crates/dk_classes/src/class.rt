@@ -3,8 +3,8 @@ ghost use Rattle.std.specs.Prelude.{◌≡◌, ◌↔◌, ◌<◌, ◌^◌, [], 
 ghost use Rattle.dk_base.specs.Values.{values_of};
 ghost use Rattle.dk_base.specs.declared.kinds.Kind.{Kind};
 ghost use Rattle.dk_base.specs.declared.values.Value.{Value};
-ghost use Rattle.dk_samples.specs.Leaders.{Ascend, LeadNow};
-ghost use Rattle.dk_classes.specs.Classes.{AreLeaders, AreNew, IsSplit, kinds_of};
+ghost use Rattle.dk_samples.specs.Leaders.{LeadNow, VarsAscend};
+ghost use Rattle.dk_classes.specs.Classes.{AreLeaders, AreNew, IsSplit, var_kinds};
 ghost use Rattle.dk_classes.specs.Leaders.{AreClasses, leader_at, own_leaders};
 
 use crate::steps::{are_one, first_leaders, leading, split_leaders};
@@ -36,7 +36,7 @@ impl Classes {
     /// The classes of no samples: one for each kind that occurs.
     pub fn new(alloc: Global, vars: &[VarInfo]) -> Result<Classes, NoMemory>
         requires { length vars.now < 2 ^ 32 }
-        ensures { IfOk result (λ c. AreLeaders (kinds_of vars.now) [] c) }
+        ensures { IfOk result (λ c. AreLeaders (var_kinds vars.now) [] c) }
     {
         let leaders = first_leaders(alloc, vars)?;
         let own = leading(alloc, leaders.as_slice())?;
@@ -73,7 +73,7 @@ impl Classes {
     /// The leaders, each once, ascending.
     pub fn leaders(&self) -> &[VarId]
         ensures all { result.now ≡ own_leaders self.now }
-        ensures ascend { Ascend result.now }
+        ensures ascend { VarsAscend result.now }
         ensures classes { AreClasses self.now }
     {
         self.own.as_slice()

@@ -2,7 +2,7 @@
 ghost use Rattle.std.specs.Prelude.{◌≡◌, ◌≢◌, ◌↔◌, ◌<◌, ◌^◌, [], ℕ, true, IfOk, IsTrue, OnOk, length};
 ghost use Rattle.dk_base.specs.Values.{value_of, values_of};
 ghost use Rattle.dk_samples.specs.Samples.{value_in};
-ghost use Rattle.dk_classes.specs.Classes.{AreLeaders, AreNew, InClass, IsFirst, IsLike, IsSplit, NewBelow, kinds_of, new_with};
+ghost use Rattle.dk_classes.specs.Classes.{AreLeaders, AreNew, InClass, IsFirst, IsLike, IsSplit, NewBelow, new_with, var_kinds};
 ghost use Rattle.dk_classes.specs.Keys.{FindsLike, HaveKeys, has_key, key_of};
 ghost use Rattle.dk_classes.specs.Leaders.{AreClasses, leader_at, own_leaders, var};
 
@@ -20,7 +20,7 @@ fn is_same_kind(a: Kind, b: Kind) -> bool
 // The first variable of the kind that the one at v has.
 fn first_of_kind(vars: &[VarInfo], v: u32) -> VarId
     requires { v < length vars.now }
-    ensures { IsFirst (InClass (kinds_of vars.now) [] v) result.0 }
+    ensures { IsFirst (InClass (var_kinds vars.now) [] v) result.0 }
 {
     for w in 0..v {
         if is_same_kind(vars[w as usize].kind, vars[v as usize].kind) {
@@ -33,7 +33,7 @@ fn first_of_kind(vars: &[VarInfo], v: u32) -> VarId
 /// The first variable of its kind for each.
 pub(crate) fn first_leaders(alloc: Global, vars: &[VarInfo]) -> Result<Vec<VarId>, NoMemory>
     requires { length vars.now < 2 ^ 32 }
-    ensures { IfOk result (λ leaders. AreLeaders (kinds_of vars.now) [] leaders.items) }
+    ensures { IfOk result (λ leaders. AreLeaders (var_kinds vars.now) [] leaders.items) }
 {
     let count = vars.len() as u32;
     let mut leaders = Vec::new(alloc);

@@ -11,19 +11,19 @@ use Rattle.dk_samples.proofs.Members.{same_members}
 use Rattle.dk_samples.specs.Leaders.{old_of}
 use Rattle.dk_constants.proofs.Feeding.{some_in}
 use Rattle.dk_constants.specs.Constants.{AreConstants, AreFed}
-use Rattle.dk_constants.specs.Known.{Ascend, Entries, known_at, none_known, var_at}
+use Rattle.dk_constants.specs.Known.{Entries, EntriesAscend, entry_var_at, known_at, none_known}
 use Rattle.dk_constants.specs.Laws.{ConstantsAreDetermined, KnownBefore, NoSamplesHaveNone}
 
 abbrev EntryBefore : VarId × Value → VarId × Value → Type 0
 EntryBefore a b = a.0.0 < b.0.0
 
-entries_ascend : (known : Entries) → Ascend known → AllPairs EntryBefore known
+entries_ascend : (known : Entries) → EntriesAscend known → AllPairs EntryBefore known
 entries_ascend known up i j d l m =
     let a = get_or_default known i d none_known (omega (arith, l, m)) in
     let b = get_or_default known j d none_known m in
     let lt = up i j l m in
-    let x : (get_or known i d).0.0 ≡ var_at known i = ap (λ (e : VarId × Value). e.0.0) a in
-    let y : (get_or known j d).0.0 ≡ var_at known j = ap (λ (e : VarId × Value). e.0.0) b in
+    let x : (get_or known i d).0.0 ≡ entry_var_at known i = ap (λ (e : VarId × Value). e.0.0) a in
+    let y : (get_or known j d).0.0 ≡ entry_var_at known j = ap (λ (e : VarId × Value). e.0.0) b in
     omega (arith, lt, x, y)
 
 -- an entry that is found is there
@@ -49,11 +49,11 @@ entry_of (k ∷ known) up v x (suc n, l, e) =
     ap (λ b. if b then Some k.1 else known_at known v) (ne_eqb k.0.0 v.0 (λ s. omega (arith, s, later)))
     ∙ entry_of known (λ i j d lt m. up (suc i) (suc j) d (omega (arith, lt)) (omega (arith, m))) v x (n, omega (arith, l), e)
 
-pub entry_found : (known : Entries) → Ascend known → (v : VarId) (x : Value) → Contains known (v, x) → known_at known v ≡ Some x
+pub entry_found : (known : Entries) → EntriesAscend known → (v : VarId) (x : Value) → Contains known (v, x) → known_at known v ≡ Some x
 entry_found known up = entry_of known (entries_ascend known up)
 
 -- ascending entries of which the same is known are equal
-pub same_entries : (known others : Entries) → Ascend known → Ascend others → ((v : VarId) (x : Value) → known_at known v ≡ Some x → known_at others v ≡ Some x) → ((v : VarId) (x : Value) → known_at others v ≡ Some x → known_at known v ≡ Some x)
+pub same_entries : (known others : Entries) → EntriesAscend known → EntriesAscend others → ((v : VarId) (x : Value) → known_at known v ≡ Some x → known_at others v ≡ Some x) → ((v : VarId) (x : Value) → known_at others v ≡ Some x → known_at known v ≡ Some x)
     → known ≡ others
 same_entries known others up on to from =
     same_members EntryBefore (λ x y l m. omega (arith, l, m)) known others (entries_ascend known up) (entries_ascend others on)
@@ -77,7 +77,7 @@ no_samples_have_none leaders known = (λ are. constants_are_determined leaders [
 pub known_some : (leaders : List VarId) (samples : List (List Value)) (known : Entries) → AreConstants leaders samples known → (v : VarId) (x : Value) → known_at known v ≡ Some x → 0 < length samples
 known_some leaders samples known are v x e = ((are.each v x).0 e).1.some
 
-pub fed_same : (known : Entries) (sample : List Value) (still : Entries) → Ascend known → AreFed known [] sample still [] → still ≡ known
+pub fed_same : (known : Entries) (sample : List Value) (still : Entries) → EntriesAscend known → AreFed known [] sample still [] → still ≡ known
 fed_same known sample still up fed = same_entries still known fed.still_ascend up (λ v x e. (fed.stays v x e).0) (λ v x e. elim (fed.each v (subst (λ o. IsSome o) (sym e) refl)) [
   | inl s ↦
       let found = some_in (known_at still v) s in

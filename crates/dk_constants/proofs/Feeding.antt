@@ -10,7 +10,7 @@ use Rattle.dk_base.specs.declared.kinds.VarId.{VarId}
 use Rattle.dk_base.specs.declared.values.Value.{Value}
 use Rattle.dk_samples.specs.Leaders.{LeadNow, old_of}
 use Rattle.dk_samples.specs.Samples.{Agree, value_in}
-use Rattle.dk_constants.specs.Known.{Ascend, IsParted, born_of, known_at, none_known, var_at}
+use Rattle.dk_constants.specs.Known.{EntriesAscend, IsParted, born_of, entry_var_at, known_at, none_known}
 use Rattle.dk_constants.specs.Constants.{AreConstants, AreFed, HasAlways, HaveEnded}
 use Rattle.dk_constants.proofs.Parting.{ascend_parted, each_parted, known_parted, parted_flip, same_var}
 
@@ -76,7 +76,7 @@ born_known known (n ∷ new) differ unknown v =
 module _ (known : List (VarId × Value)) (new : List (VarId × VarId)) (sample : List Value)
     (differ : AllPairs (λ m n. m.0.0 ≢ n.0.0) new) (unknown : All (λ n. known_at known n.0 ≡ None) new) where
   -- nothing is born, and the sample has each known value
-  pub fed_quiet : Ascend known → born_of known new ≡ [] → All (λ k. value_in sample k.0 ≡ k.1) known → AreFed known new sample known []
+  pub fed_quiet : EntriesAscend known → born_of known new ≡ [] → All (λ k. value_in sample k.0 ≡ k.1) known → AreFed known new sample known []
   fed_quiet up none still =
       let was : (v : VarId) → known_at known v ≡ known_at known (old_of new v) = λ v. sym (or_none (known_at known v)) ∙ (ap (λ b. option_or (known_at known v) (known_at b v)) (sym none) ∙ born_known known new differ unknown v) in
       record {
@@ -92,7 +92,7 @@ module _ (known : List (VarId × Value)) (new : List (VarId × VarId)) (sample :
       or_none (Some x) = refl
 
   -- all that is known, with those that are born, is parted by the sample
-  pub fed_parted : (all still over : List (VarId × Value)) → Ascend all → ((v : VarId) → known_at all v ≡ option_or (known_at known v) (known_at (born_of known new) v))
+  pub fed_parted : (all still over : List (VarId × Value)) → EntriesAscend all → ((v : VarId) → known_at all v ≡ option_or (known_at known v) (known_at (born_of known new) v))
       → IsParted (λ k. value_in sample k.0 ≡ k.1) (λ k. value_in sample k.0 ≢ k.1) all still over → AreFed known new sample still over
   fed_parted all still over up is parted =
       let P : VarId × Value → Type 0 = λ k. value_in sample k.0 ≡ k.1 in
@@ -208,12 +208,12 @@ first_known (w ∷ leaders) sample v x h e = elim (cases_Bool (eqb w.0 v.0)) [
   | inr there ↦ ap (λ b. cond b (Some (value_in sample w)) (known_at (map (λ u. (u, value_in sample u)) leaders) v)) there ∙ first_known leaders sample v x (contains_rest w leaders v h there) e
 ]
 
-pub ascend_first : (leaders : List VarId) (sample : List Value) → AllPairs (λ v w. v.0 < w.0) leaders → Ascend (map (λ v. (v, value_in sample v)) leaders)
+pub ascend_first : (leaders : List VarId) (sample : List Value) → AllPairs (λ v w. v.0 < w.0) leaders → EntriesAscend (map (λ v. (v, value_in sample v)) leaders)
 ascend_first leaders sample up i j l m =
     let first : VarId → VarId × Value = λ v. (v, value_in sample v) in
     let long = length-map leaders first in
     let none : VarId = record { 0 = 0 } in
-    let at : (k : ℕ) → k < length leaders → var_at (map first leaders) k ≡ (get_or leaders k none).0 = λ k h. ap (λ (e : VarId × Value). e.0.0) (get_or-map first leaders k none none_known h) in
+    let at : (k : ℕ) → k < length leaders → entry_var_at (map first leaders) k ≡ (get_or leaders k none).0 = λ k h. ap (λ (e : VarId × Value). e.0.0) (get_or-map first leaders k none none_known h) in
     let a = at i (omega arith) in
     let b = at j (omega arith) in
     omega (arith, up i j none l (omega arith))

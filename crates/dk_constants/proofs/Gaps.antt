@@ -10,14 +10,14 @@ use Rattle.std.proofs.lemmas.List.Edits.{length-insert, get_or-insert_below, get
 use Rattle.std.proofs.lemmas.Bool.Decides.{nat_tests}
 use Rattle.dk_base.specs.declared.kinds.VarId.{VarId}
 use Rattle.dk_base.specs.declared.values.Value.{Value}
-use Rattle.dk_constants.specs.Known.{Ascend, IsAt, IsGapFor, known_at, none_known, var_at}
+use Rattle.dk_constants.specs.Known.{EntriesAscend, IsAt, IsGapFor, entry_var_at, known_at, none_known}
 use Rattle.dk_constants.proofs.Lookups.{known_absent, known_present, known_at-insert}
 
-module _ (known : List (VarId × Value)) (up : Ascend known) (v : VarId) where
+module _ (known : List (VarId × Value)) (up : EntriesAscend known) (v : VarId) where
   -- the comparisons with the variable rise along the list, as a binary search asks
   comparisons_rise : IsNonDecreasingBy (λ entry. ordering_index (nat_cmp entry.0.0 v.0)) known
   comparisons_rise = IsNonDecreasingBy-from_default (λ entry. ordering_index (nat_cmp entry.0.0 v.0)) known none_known (λ i j le within.
-      let rise : var_at known i ≤ var_at known j = grind (arith, up i j, λ (same : i ≡ j). ap (var_at known) same) in
+      let rise : entry_var_at known i ≤ entry_var_at known j = grind (arith, up i j, λ (same : i ≡ j). ap (entry_var_at known) same) in
       grind (arith, nat_tests))
 
   -- a binary search ends at the variable, or at the gap for it
@@ -32,7 +32,7 @@ module _ (known : List (VarId × Value)) (up : Ascend known) (v : VarId) where
     };
   }
 
-module _ (known : List (VarId × Value)) (up : Ascend known) (v : VarId) (i : ℕ) (at : IsAt known v i) where
+module _ (known : List (VarId × Value)) (up : EntriesAscend known) (v : VarId) (i : ℕ) (at : IsAt known v i) where
   -- the variable is known by the entry at its place
   pub found_at : (k : VarId × Value) → Some (get_or known i k).1 ≡ known_at known v
   found_at k =
@@ -49,12 +49,12 @@ module _ (known : List (VarId × Value)) (k : VarId × Value) (i : ℕ) (gap : I
   known_in_gap = known_at-insert known k i (λ j lt same. omega (arith, gap.lesser j lt))
 
   -- the list still ascends: each entry is an old one below the gap, the new one at it, or an old one moved up by one
-  pub ascend_in_gap : Ascend known → Ascend (insert known i k)
+  pub ascend_in_gap : EntriesAscend known → EntriesAscend (insert known i k)
   ascend_in_gap up a b lt within =
       let more = insert known i k in
       let var = λ (x : VarId × Value). x.0.0 in
       let longer = length-insert known i k gap.within in
-      let below : (j : ℕ) → j < i → var_at more j ≡ var_at known j = λ j l. ap var (get_or-insert_below known i k none_known j l gap.within) in
-      let here : (j : ℕ) → j ≡ i → var_at more j ≡ k.0.0 = λ j e. rw e (ap var (get_or-insert_at known i k none_known gap.within)) in
-      let above : (j : ℕ) → i < j → var_at more j ≡ var_at known (j - 1) = λ j l. subst (λ q. var_at more q ≡ var_at known (j - 1)) {x = j - 1 + 1} (omega arith) (ap var (get_or-insert_above known i k none_known (j - 1) (omega arith) gap.within)) in
+      let below : (j : ℕ) → j < i → entry_var_at more j ≡ entry_var_at known j = λ j l. ap var (get_or-insert_below known i k none_known j l gap.within) in
+      let here : (j : ℕ) → j ≡ i → entry_var_at more j ≡ k.0.0 = λ j e. rw e (ap var (get_or-insert_at known i k none_known gap.within)) in
+      let above : (j : ℕ) → i < j → entry_var_at more j ≡ entry_var_at known (j - 1) = λ j l. subst (λ q. entry_var_at more q ≡ entry_var_at known (j - 1)) {x = j - 1 + 1} (omega arith) (ap var (get_or-insert_above known i k none_known (j - 1) (omega arith) gap.within)) in
       grind (arith, below a, here a, above a, below b, here b, above b, up a b, up a (b - 1), up (a - 1) (b - 1), gap.lesser a, gap.greater (b - 1))

@@ -9,11 +9,11 @@ use Rattle.std.specs.List.{insert}
 use Rattle.std.proofs.lemmas.Bool.Decides.{nat_tests}
 use Rattle.dk_base.specs.declared.kinds.VarId.{VarId}
 use Rattle.dk_base.specs.declared.values.Value.{Value}
-use Rattle.dk_constants.specs.Known.{IsAt, born_of, born_one, known_at, none_known, var_at}
+use Rattle.dk_constants.specs.Known.{IsAt, born_of, born_one, entry_var_at, known_at, none_known}
 
 -- no entry before the place has the variable
 abbrev pub NoneBefore : List (VarId × Value) → VarId → ℕ → Type 0
-NoneBefore known v i = (j : ℕ) → j < i → var_at known j ≢ v.0
+NoneBefore known v i = (j : ℕ) → j < i → entry_var_at known j ≢ v.0
 
 none_before_tail : (k : VarId × Value) (known : List (VarId × Value)) (v : VarId) (i : ℕ) → NoneBefore (k ∷ known) v (suc i) → NoneBefore known v i
 none_before_tail k known v i none j lt = none (suc j) (omega arith)

@@ -3,20 +3,20 @@ use Rattle.std.proofs.Common.{◌≡◌, ℕ, zero, suc, ◌<◌, eqb, ◌⊎◌
 use Rattle.std.proofs.lemmas.Bool.{cases_Bool, eqb-true, false≢true}
 use Rattle.dk_base.specs.declared.kinds.VarId.{VarId}
 use Rattle.dk_base.specs.declared.values.Value.{Value}
-use Rattle.dk_constants.specs.Known.{Ascend, IsParted, known_at, var_at}
+use Rattle.dk_constants.specs.Known.{EntriesAscend, IsParted, entry_var_at, known_at}
 use Rattle.dk_constants.proofs.Lookups.{known_absent}
 
 -- each variable of the list is greater
 abbrev Above : ℕ → List (VarId × Value) → Type 0
-Above n known = (j : ℕ) → j < length known → n < var_at known j
+Above n known = (j : ℕ) → j < length known → n < entry_var_at known j
 
-above_first : (k : VarId × Value) (known : List (VarId × Value)) → Ascend (k ∷ known) → Above k.0.0 known
+above_first : (k : VarId × Value) (known : List (VarId × Value)) → EntriesAscend (k ∷ known) → Above k.0.0 known
 above_first k known up j l = up 0 (suc j) (omega arith) (omega arith)
 
-ascend_rest : (k : VarId × Value) (known : List (VarId × Value)) → Ascend (k ∷ known) → Ascend known
+ascend_rest : (k : VarId × Value) (known : List (VarId × Value)) → EntriesAscend (k ∷ known) → EntriesAscend known
 ascend_rest k known up i j l m = up (suc i) (suc j) (omega arith) (omega arith)
 
-ascend_cons : (k : VarId × Value) (known : List (VarId × Value)) → Above k.0.0 known → Ascend known → Ascend (k ∷ known)
+ascend_cons : (k : VarId × Value) (known : List (VarId × Value)) → Above k.0.0 known → EntriesAscend known → EntriesAscend (k ∷ known)
 ascend_cons k known above up zero zero l m = absurd (omega arith)
 ascend_cons k known above up zero (suc j) l m = above j (omega arith)
 ascend_cons k known above up (suc i) zero l m = absurd (omega arith)
@@ -33,7 +33,7 @@ pub same_var : (v w : VarId) → eqb v.0 w.0 ≡ true → v ≡ w
 same_var v w e = ap (λ n. record { 0 = n }) (eqb-true v.0 w.0 e)
 
 -- the first variable of an ascending list comes once
-once : (k : VarId × Value) (known : List (VarId × Value)) → Ascend (k ∷ known) → known_at known k.0 ≡ None
+once : (k : VarId × Value) (known : List (VarId × Value)) → EntriesAscend (k ∷ known) → known_at known k.0 ≡ None
 once k known up = known_absent known k.0 (λ j l e. omega (arith, above_first k known up j l))
 
 module _ (P Q : VarId × Value → Type 0) where
@@ -54,13 +54,13 @@ module _ (P Q : VarId × Value → Type 0) where
   above_parted n (x ∷ xs) first second (inr h) above = above_parted n xs first h.1.0 h.1.2 (above_rest n x xs above)
 
   -- the first list ascends as the whole does
-  pub ascend_parted : (xs first second : List (VarId × Value)) → IsParted P Q xs first second → Ascend xs → Ascend first
-  ascend_parted [] first second h up = subst Ascend (sym h.0) up
-  ascend_parted (x ∷ xs) first second (inl h) up = subst Ascend (sym h.1.1) (ascend_cons x h.1.0 (above_parted x.0.0 xs h.1.0 second h.1.2 (above_first x xs up)) (ascend_parted xs h.1.0 second h.1.2 (ascend_rest x xs up)))
+  pub ascend_parted : (xs first second : List (VarId × Value)) → IsParted P Q xs first second → EntriesAscend xs → EntriesAscend first
+  ascend_parted [] first second h up = subst EntriesAscend (sym h.0) up
+  ascend_parted (x ∷ xs) first second (inl h) up = subst EntriesAscend (sym h.1.1) (ascend_cons x h.1.0 (above_parted x.0.0 xs h.1.0 second h.1.2 (above_first x xs up)) (ascend_parted xs h.1.0 second h.1.2 (ascend_rest x xs up)))
   ascend_parted (x ∷ xs) first second (inr h) up = ascend_parted xs first h.1.0 h.1.2 (ascend_rest x xs up)
 
   -- what is known in the first list is known in the whole, and passes the first test
-  pub known_parted : (xs first second : List (VarId × Value)) → IsParted P Q xs first second → Ascend xs → (v : VarId) (y : Value) → known_at first v ≡ Some y → (known_at xs v ≡ Some y) × P (v, y)
+  pub known_parted : (xs first second : List (VarId × Value)) → IsParted P Q xs first second → EntriesAscend xs → (v : VarId) (y : Value) → known_at first v ≡ Some y → (known_at xs v ≡ Some y) × P (v, y)
   known_parted [] first second h up v y e = absurd (let none : known_at first v ≡ None = ap (λ ks. known_at ks v) h.0 in cc)
   known_parted (x ∷ xs) first second (inl h) up v y e = elim (cases_Bool (eqb x.0.0 v.0)) [
     | inl here ↦

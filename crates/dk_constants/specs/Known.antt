@@ -19,23 +19,23 @@ abbrev pub none_known : VarId × Value
 none_known = (record { 0 = 0 }, value.Missing)
 
 -- the number of the variable at a place of the list
-abbrev pub var_at : List (VarId × Value) → ℕ → ℕ
-var_at known i = let entry = slice_index_or known i none_known in entry.0.0
+abbrev pub entry_var_at : List (VarId × Value) → ℕ → ℕ
+entry_var_at known i = let entry = slice_index_or known i none_known in entry.0.0
 
 -- the variables ascend, so none comes twice
-abbrev pub Ascend : List (VarId × Value) → Type 0
-Ascend known = (i j : ℕ) → i < j → j < length known → var_at known i < var_at known j
+abbrev pub EntriesAscend : List (VarId × Value) → Type 0
+EntriesAscend known = (i j : ℕ) → i < j → j < length known → entry_var_at known i < entry_var_at known j
 
 -- the variable stands at the place
 pub record IsAt (known : List (VarId × Value)) (v : VarId) (i : ℕ) : Type 0 where
   pub within : i < length known
-  pub var : var_at known i ≡ v.0
+  pub var : entry_var_at known i ≡ v.0
 
 -- the variable would go to the place: lesser ones stand before it, and greater ones from it on
 pub record IsGapFor (known : List (VarId × Value)) (v : VarId) (i : ℕ) : Type 0 where
   pub within : i ≤ length known
-  pub lesser : (j : ℕ) → j < i → var_at known j < v.0
-  pub greater : (j : ℕ) → i ≤ j → j < length known → v.0 < var_at known j
+  pub lesser : (j : ℕ) → j < i → entry_var_at known j < v.0
+  pub greater : (j : ℕ) → i ≤ j → j < length known → v.0 < entry_var_at known j
 
 -- a new leader beside the value of its old one, if that is known
 abbrev pub born_one : List (VarId × Value) → VarId × VarId → Option (VarId × Value)

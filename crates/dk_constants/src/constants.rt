@@ -4,10 +4,10 @@ ghost use Rattle.std.specs.List.{AllPairs};
 ghost use Rattle.dk_base.specs.Values.{values_of};
 ghost use Rattle.dk_base.specs.declared.kinds.VarId.{VarId};
 ghost use Rattle.dk_base.specs.declared.values.Value.{Value};
-ghost use Rattle.dk_samples.specs.Leaders.{Ascend as LeadersAscend, LeadNow};
+ghost use Rattle.dk_samples.specs.Leaders.{LeadNow, VarsAscend as LeadersAscend};
 ghost use Rattle.dk_samples.specs.Samples.{value_in};
 ghost use Rattle.dk_constants.specs.Constants.{AreConstants, AreFed, HaveEnded};
-ghost use Rattle.dk_constants.specs.Known.{Ascend, known_at};
+ghost use Rattle.dk_constants.specs.Known.{EntriesAscend, known_at};
 
 use crate::kept::copies;
 use crate::places::find;
@@ -26,13 +26,13 @@ pub struct Constants {
 }
 
 impl Model for Constants {
-    ghost use Rattle.dk_constants.specs.Known.{Ascend, Entries};
+    ghost use Rattle.dk_constants.specs.Known.{Entries, EntriesAscend};
 
     ghost Value = { Entries };
 
     ghost view = { λ c. c.known.items };
 
-    ghost invariant = { λ c. Ascend c.known.items };
+    ghost invariant = { λ c. EntriesAscend c.known.items };
 }
 
 impl Constants {
@@ -55,7 +55,7 @@ impl Constants {
 
     /// These constant leaders with their values, possibly none. The leaders ascend.
     pub fn from_known(alloc: Global, known: List<(VarId, Value)>) -> Result<Constants, NoMemory>
-        requires { Ascend known }
+        requires { EntriesAscend known }
         ensures { IfOk result (λ c. c ≡ known) }
     {
         Ok(Constants {
@@ -67,7 +67,7 @@ impl Constants {
     /// The constant leaders with their values, ascending.
     pub fn entries(&self) -> &[(VarId, Value)]
         ensures all { result.now ≡ self.now }
-        ensures ascend { Ascend self.now }
+        ensures ascend { EntriesAscend self.now }
     {
         self.known.as_slice()
     }

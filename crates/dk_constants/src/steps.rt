@@ -5,7 +5,7 @@ ghost use Rattle.std.specs.Option.{option_or};
 ghost use Rattle.dk_base.specs.Values.{values_of};
 ghost use Rattle.dk_samples.specs.Samples.{value_in};
 ghost use Rattle.dk_constants.specs.Constants.{AreFed};
-ghost use Rattle.dk_constants.specs.Known.{Ascend, IsParted, born_of, born_one, known_at};
+ghost use Rattle.dk_constants.specs.Known.{EntriesAscend, IsParted, born_of, born_one, known_at};
 
 use crate::kept::{copy, shows};
 use crate::places::{find, search};
@@ -32,7 +32,7 @@ fn entry_born(
     leader: VarId,
     old: VarId,
 ) -> Result<Option<(VarId, Value)>, NoMemory>
-    requires { Ascend known.now }
+    requires { EntriesAscend known.now }
     ensures { IfOk result (λ entry. entry ≡ born_one known.now (leader, old)) }
 {
     match find(known, old) {
@@ -47,7 +47,7 @@ pub(crate) fn values_born(
     known: &[(VarId, Value)],
     new: &[(VarId, VarId)],
 ) -> Result<Vec<(VarId, Value)>, NoMemory>
-    requires { Ascend known.now }
+    requires { EntriesAscend known.now }
     ensures { IfOk result (λ born. born.items ≡ born_of known.now new.now) }
 {
     let mut born = Vec::new(alloc);
@@ -64,8 +64,8 @@ fn with_entry(
     known: Vec<(VarId, Value)>,
     entry: (VarId, Value),
 ) -> Result<Vec<(VarId, Value)>, NoMemory>
-    requires { Ascend known.items }
-    ensures ascend { IfOk result (λ more. Ascend more.items) }
+    requires { EntriesAscend known.items }
+    ensures ascend { IfOk result (λ more. EntriesAscend more.items) }
     ensures known { IfOk result (λ more. (v : VarId) → known_at more.items v ≡ option_or (known_at known.items v) (known_at (entry ∷ []) v)) }
 {
     match search(known.as_slice(), entry.0) {
@@ -83,8 +83,8 @@ pub(crate) fn with_entries(
     known: Vec<(VarId, Value)>,
     entries: Vec<(VarId, Value)>,
 ) -> Result<Vec<(VarId, Value)>, NoMemory>
-    requires { Ascend known.items }
-    ensures ascend { IfOk result (λ more. Ascend more.items) }
+    requires { EntriesAscend known.items }
+    ensures ascend { IfOk result (λ more. EntriesAscend more.items) }
     ensures known { IfOk result (λ more. (v : VarId) → known_at more.items v ≡ option_or (known_at known.items v) (known_at entries.items v)) }
 {
     let mut more = known;
@@ -121,7 +121,7 @@ pub(crate) fn fed(
     new: &[(VarId, VarId)],
     sample: &[View<'_>],
 ) -> Result<(Vec<(VarId, Value)>, List<(VarId, Value)>), NoMemory>
-    requires ascend { Ascend known.items }
+    requires ascend { EntriesAscend known.items }
     requires differ { AllPairs (λ m n. m.0.0 ≢ n.0.0) new.now }
     requires unknown { All (λ n. known_at known.items n.0 ≡ None) new.now }
     ensures { IfOk result (λ r. AreFed known.items new.now (values_of sample.now) r.0.items r.1) }

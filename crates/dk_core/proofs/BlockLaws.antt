@@ -3,7 +3,7 @@ use Rattle.std.proofs.Common.{◌≡◌, ℕ, [], Bool, false, Option, Some, Non
 use Rattle.std.specs.Result.{IsOk}
 use Rattle.dk_base.specs.Reading.{LineFault, ◌>>=◌}
 use Rattle.dk_core.specs.History.{History, Taken, no_block, effect_of}
-use Rattle.dk_core.specs.Standing.{resumed, resumed_by}
+use Rattle.dk_core.specs.Standing.{block_resumed, resumed_by}
 use Rattle.dk_core.specs.declared.block.Block.{Block}
 use Rattle.dk_core.specs.declared.block.State.{State}
 use Rattle.dk_core.specs.declared.block.State.TheVariants as state
@@ -31,8 +31,8 @@ none_in ignores h state.Implementors = refl
 none_in ignores h (state.Record reader) = not_judged _ h (no_fault_in_record h.table reader)
 
 -- a block that is being read is none before its end, and holds no fault
-pub no_block_yet : (ignores : Bool) (h : History) (b : Block) → IsNone (resumed ignores h b [] None)
-unfolding resumed
+pub no_block_yet : (ignores : Bool) (h : History) (b : Block) → IsNone (block_resumed ignores h b [] None)
+unfolding block_resumed
 no_block_yet ignores h b = none_in ignores (record h { header = b.header }) b.state
 
 -- no lines are no block

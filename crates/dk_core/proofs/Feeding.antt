@@ -11,7 +11,7 @@ use Rattle.dk_base.specs.declared.kinds.VarInfo.{VarInfo}
 use Rattle.dk_base.specs.declared.values.Value.{Value}
 use Rattle.dk_derive.proofs.Deriving.{IsDerived, are_with_derived, base_form, given_derived}
 use Rattle.dk_derive.proofs.Typed.{values_of_kinds}
-use Rattle.dk_derive.specs.Laws.{all_vars_of, base_of, kinds_of}
+use Rattle.dk_derive.specs.Laws.{all_vars_of, base_of, var_kinds}
 use Rattle.dk_derive.specs.Values.{values_by_form}
 use Rattle.dk_derive.specs.Vars.{derived_var, with_derived_vars}
 use Rattle.dk_fits.specs.Laws.{IsSample}
@@ -55,19 +55,19 @@ base_again base all =
     ∙ append-nil base
 
 -- values that fit a point's base variables fit the base ones among all of them
-pub base_among : (ps : List Point) (p : ℕ) (values : List Value) → FitKinds (kinds_of (vars_of ps p)) values → FitKinds (kinds_of (base_of (all_vars_of ps p))) values
+pub base_among : (ps : List Point) (p : ℕ) (values : List Value) → FitKinds (var_kinds (vars_of ps p)) values → FitKinds (var_kinds (base_of (all_vars_of ps p))) values
 base_among ps p values fits =
-    let P : List VarInfo → Type 0 = λ vars. FitKinds (kinds_of vars) values in
+    let P : List VarInfo → Type 0 = λ vars. FitKinds (var_kinds vars) values in
     subst P (sym (base_again (vars_of ps p) (vars_are_base ps p))) fits
 
-zipped : (vars : List VarInfo) (values : List Value) → AllZip IsOfKind (kinds_of vars) values → AllZip (λ (v : VarInfo) x. IsOfKind v.kind x) vars values
+zipped : (vars : List VarInfo) (values : List Value) → AllZip IsOfKind (var_kinds vars) values → AllZip (λ (v : VarInfo) x. IsOfKind v.kind x) vars values
 zipped [] [] h = tt
 zipped [] (x ∷ xs) h = absurd h
 zipped (v ∷ vars) [] h = absurd h
 zipped (v ∷ vars) (x ∷ xs) h = (h.0, zipped vars xs h.1)
 
 -- such values give a sample, if the derived ones are written
-pub sample_given : (vars : List VarInfo) (base sample : List Value) → AreWithDerived vars → AllZip IsOfKind (kinds_of (base_of vars)) base → sample ≡ values_by_form vars base → All IsWritten sample
+pub sample_given : (vars : List VarInfo) (base sample : List Value) → AreWithDerived vars → AllZip IsOfKind (var_kinds (base_of vars)) base → sample ≡ values_by_form vars base → All IsWritten sample
     → IsSample vars sample
 sample_given vars base sample derived kinds is written =
     let P : List Value → Type 0 = λ values. AllZip (λ (v : VarInfo) x. IsOfKind v.kind x) vars values in

@@ -4,8 +4,8 @@ use Rattle.dk_base.specs.Reading.{Line, LineFault, Reads, ◌>>=◌}
 use Rattle.dk_base.specs.declared.faults.BlockFault.{BlockFault}
 use Rattle.dk_base.specs.declared.faults.BlockFault.TheVariants.{Refused, NoMemory}
 use Rattle.dk_base.specs.declared.why.Why.{Why}
-use Rattle.dk_decl.specs.Headers.{Answers, header_line}
-use Rattle.dk_decl.specs.Outcomes.{refused, GoesOn as DeclGoesOn, Told, ToldOn as DeclToldOn}
+use Rattle.dk_decl.specs.Headers.{HeaderAnswers, header_line}
+use Rattle.dk_decl.specs.Outcomes.{refused, ReaderGoesOn as DeclGoesOn, FaultAgrees, FaultAgreesOnward as DeclToldOn}
 use Rattle.dk_decl.specs.declared.header.Header.{Header}
 use Rattle.dk_core.specs.Fronts.{Front, at_header_line, front_of, is_comment}
 use Rattle.dk_core.specs.History.{History, Taken, after_declaration, after_front, after_record, after_sample, block, effect_of, is_declaration, is_list_of_implementors, where_it_ends, with_record}
@@ -13,10 +13,10 @@ use Rattle.dk_base.specs.declared.why.Why.TheVariants.{BadHeader}
 use Rattle.std.specs.Prelude.{OnOk}
 use Rattle.dk_points.specs.Table.{Point}
 use Rattle.dk_trace.specs.Records.{Sample}
-use Rattle.dk_trace.specs.RecordsResumed.{resumed as record_resumed}
+use Rattle.dk_trace.specs.RecordsResumed.{record_resumed}
 use Rattle.dk_trace.specs.declared.reader.RecordReader.{RecordReader}
-use Rattle.dk_core.specs.Standing.{Closes, GoesOn, ToldOn, carried, resumed, resumed_by}
-use Rattle.dk_core.specs.Steps.{WordsGive, stopped}
+use Rattle.dk_core.specs.Standing.{BlockGoesOn, Closes, FaultAgreesOnward, block_resumed, left_behind, resumed_by}
+use Rattle.dk_core.specs.Steps.{WordsGive, stop_of_fault}
 use Rattle.dk_core.specs.declared.block.Block.{Block}
 use Rattle.dk_core.specs.declared.block.State.{State}
 use Rattle.dk_core.specs.declared.block.State.TheVariants as state
@@ -45,24 +45,24 @@ pub past_comment : (ignores : Bool) (h : History) (last : Option ℕ) (l : Line)
 past_comment ignores h last l ls close is = ap (λ (r : Result Front LineFault). r >>= λ front. after_front ignores h front close) (front_comment h.header last l ls is)
 
 -- what an answer of a header says of the line
-answered_true : (o : Option (Result Header Why)) (h h' : Header) → Answers o h (Ok true) h' → o ≡ Some (Ok h')
+answered_true : (o : Option (Result Header Why)) (h h' : Header) → HeaderAnswers o h (Ok true) h' → o ≡ Some (Ok h')
 answered_true None h h' a = let e = a.0 in absurd (cc (e))
 answered_true (Some (Ok next)) h h' a = ap (λ (x : Header). let r : Result Header Why = Ok x in Some r) (sym a.1)
 answered_true (Some (Err why)) h h' a = let e = a.0 in absurd (cc (e))
 
-answered_false : (o : Option (Result Header Why)) (h h' : Header) → Answers o h (Ok false) h' → (o ≡ None) × (h' ≡ h)
+answered_false : (o : Option (Result Header Why)) (h h' : Header) → HeaderAnswers o h (Ok false) h' → (o ≡ None) × (h' ≡ h)
 answered_false None h h' a = (refl, a.1)
 answered_false (Some (Ok next)) h h' a = let e = a.0 in absurd (cc (e))
 answered_false (Some (Err why)) h h' a = let e = a.0 in absurd (cc (e))
 
-answered_fault : (o : Option (Result Header Why)) (h h' : Header) (why : Why) → Answers o h (Err why) h' → o ≡ Some (Err why)
+answered_fault : (o : Option (Result Header Why)) (h h' : Header) (why : Why) → HeaderAnswers o h (Err why) h' → o ≡ Some (Err why)
 answered_fault None h h' why a = let e = a.0 in absurd (cc (e))
 answered_fault (Some (Ok next)) h h' why a = let e = a.0 in absurd (cc (e))
 answered_fault (Some (Err w)) h h' why a = let e = a.0 in let same : w ≡ why = cc in ap (λ (x : Why). let r : Result Header Why = Err x in Some r) same
 
 -- a header line, behind which this header is in force
 pub past_header : (ignores : Bool) (h : History) (header : Header) (last : Option ℕ) (l : Line) (ls : List Line) (close : Option ℕ) → is_comment l.bytes ≡ false
-    → Answers (header_line h.header l.bytes) h.header (Ok true) header
+    → HeaderAnswers (header_line h.header l.bytes) h.header (Ok true) header
     → (front_of h.header last (l ∷ ls) >>= λ front. after_front ignores h front close)
     ≡ (front_of header (Some l.number) ls >>= λ front. after_front ignores (record h { header = header }) front close)
 past_header ignores h header last l ls close is answers =
@@ -71,7 +71,7 @@ past_header ignores h header last l ls close is answers =
 
 -- a header line that is refused
 pub bad_header : (ignores : Bool) (h : History) (header : Header) (last : Option ℕ) (l : Line) (why : Why) (ls : List Line) (close : Option ℕ) → is_comment l.bytes ≡ false
-    → Answers (header_line h.header l.bytes) h.header (Err why) header
+    → HeaderAnswers (header_line h.header l.bytes) h.header (Err why) header
     → (front_of h.header last (l ∷ ls) >>= λ front. after_front ignores h front close) ≡ Err (record { line = l.number; why = why })
 bad_header ignores h header last l why ls close is answers =
     ap (λ (r : Result Front LineFault). r >>= λ front. after_front ignores h front close)
@@ -79,7 +79,7 @@ bad_header ignores h header last l why ls close is answers =
 
 -- the first line of the record
 pub at_record : (ignores : Bool) (h : History) (header : Header) (last : Option ℕ) (l : Line) (ls : List Line) (close : Option ℕ) → is_comment l.bytes ≡ false
-    → Answers (header_line h.header l.bytes) h.header (Ok false) header
+    → HeaderAnswers (header_line h.header l.bytes) h.header (Ok false) header
     → (front_of h.header last (l ∷ ls) >>= λ front. after_front ignores h front close) ≡ after_record ignores (record h { header = header }) l ls close
 at_record ignores h header last l ls close is answers =
     let both = answered_false (header_line h.header l.bytes) h.header header answers in
@@ -89,12 +89,12 @@ at_record ignores h header last l ls close is answers =
 -- ---- one reader behind another
 
 -- what is told of a reader is told of what is made of what it reads
-pub told_then : {A : Type 0} (e : BlockFault) (read : Reads A) (f : A → Option ℕ → Result Taken LineFault) → DeclToldOn e read → ToldOn e (λ ls close. read ls close >>= λ x. f x close)
+pub told_then : {A : Type 0} (e : BlockFault) (read : Reads A) (f : A → Option ℕ → Result Taken LineFault) → DeclToldOn e read → FaultAgreesOnward e (λ ls close. read ls close >>= λ x. f x close)
 told_then (Refused line why) read f told = λ ls close. ap (λ (r : Result _ LineFault). r >>= λ x. f x close) (told ls close)
 told_then NoMemory read f told = tt
 
 -- a fault of what is read where the block ends
-pub told_at : {A : Type 0} (e : BlockFault) (read : Result A LineFault) (f : A → Result Taken LineFault) → Told e read → Told e (read >>= f)
+pub told_at : {A : Type 0} (e : BlockFault) (read : Result A LineFault) (f : A → Result Taken LineFault) → FaultAgrees e read → FaultAgrees e (read >>= f)
 told_at (Refused line why) read f told = ap (λ (r : Result _ LineFault). r >>= f) told
 told_at NoMemory read f told = tt
 
@@ -118,7 +118,7 @@ samples ignores h l ls close is list =
 
 -- ---- what goes on as one reader goes on as another that reads the same
 
-pub goes_as : (ignores : Bool) (h : History) (result : Result Block BlockFault) (read more : Reads Taken) → ((ls : List Line) (close : Option ℕ) → read ls close ≡ more ls close) → GoesOn ignores h result more → GoesOn ignores h result read
+pub goes_as : (ignores : Bool) (h : History) (result : Result Block BlockFault) (read more : Reads Taken) → ((ls : List Line) (close : Option ℕ) → read ls close ≡ more ls close) → BlockGoesOn ignores h result more → BlockGoesOn ignores h result read
 goes_as ignores h (Ok b) read more same goes = λ ls close. same ls close ∙ goes ls close
 goes_as ignores h (Err (Refused line why)) read more same told = λ ls close. same ls close ∙ told ls close
 goes_as ignores h (Err NoMemory) read more same told = tt
@@ -130,8 +130,8 @@ if_ok (Err e) P p = tt
 -- a record that goes on in place
 pub record_goes : {A : Type 0} (ignores : Bool) (h : History) (ps : List Point) (b : Block) (r r' : RecordReader) (l : Line) (result : Result A BlockFault)
     → b.state ≡ state.Record r → ps ≡ h.table → DeclGoesOn (λ (x : A). record_resumed ps r') result (λ ls. record_resumed ps r (l ∷ ls))
-    → GoesOn ignores h (carried (record b { state = state.Record r' }) result) (λ ls close. resumed ignores h b (l ∷ ls) close)
-unfolding resumed
+    → BlockGoesOn ignores h (left_behind (record b { state = state.Record r' }) result) (λ ls close. block_resumed ignores h b (l ∷ ls) close)
+unfolding block_resumed
 record_goes ignores h ps b r r' l (Ok x) is table goes = λ ls close.
     let now : History = record h { header = b.header } in
     ap (λ (s : State). resumed_by ignores now s (l ∷ ls) close) is
@@ -145,12 +145,12 @@ record_goes ignores h ps b r r' l (Err e) is table told =
 
 -- ---- the end of a block
 
-pub told_closes : (e : BlockFault) (read : Result Taken LineFault) → Told e read → Closes (Err e) read
+pub told_closes : (e : BlockFault) (read : Result Taken LineFault) → FaultAgrees e read → Closes (Err e) read
 told_closes (Refused line why) read told = told
 told_closes NoMemory read told = tt
 
 -- a line's fault
-pub told_words : (ignores : Bool) (e : BlockFault) (read : Reads Taken) (l : Line) → ToldOn e (λ ls close. read (l ∷ ls) close) → WordsGive ignores read l (Err (stopped e))
+pub told_words : (ignores : Bool) (e : BlockFault) (read : Reads Taken) (l : Line) → FaultAgreesOnward e (λ ls close. read (l ∷ ls) close) → WordsGive ignores read l (Err (stop_of_fault e))
 told_words ignores (Refused line why) read l told = told
 told_words ignores NoMemory read l told = tt
 

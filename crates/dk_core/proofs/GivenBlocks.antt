@@ -7,7 +7,7 @@ use Rattle.dk_base.specs.Reading.{Line, LineFault, ◌>>=◌}
 use Rattle.dk_base.specs.Words.{rest_of_line}
 use Rattle.dk_base.specs.declared.why.Why.TheVariants.{BadPoint}
 use Rattle.dk_decl.proofs.LastLines.{bind_ok}
-use Rattle.dk_decl.specs.Blocks.{decl_of, is_declare}
+use Rattle.dk_decl.specs.Blocks.{block_decl, is_declare}
 use Rattle.dk_decl.specs.DeclareBlock.{declare_lines, from_name, named_point}
 use Rattle.dk_decl.specs.Heads.{head_line}
 use Rattle.dk_decl.specs.LineWords.{each_line, operand}
@@ -73,8 +73,8 @@ declare_gives implicit line (l ∷ ls) close d all e =
 
 -- the declaration of a block whose lines are spelled can be given
 pub block_gives : (implicit : Bool) (first : Line) (ls : List Line) (close : ℕ) (d : PointDecl) → IsLineSpelled first → All IsLineSpelled ls → length ls < 2 ^ 64
-    → decl_of implicit first ls (Some close) ≡ Ok d → CanBeGiven d
-unfolding decl_of
+    → block_decl implicit first ls (Some close) ≡ Ok d → CanBeGiven d
+unfolding block_decl
 block_gives implicit first ls close d own all few e = by (is_declare first) e
   where
     by : (b : Bool) → (if b then declare_lines implicit first.number ls (Some close) else ppt_of implicit first ls (Some close)) ≡ Ok d → CanBeGiven d

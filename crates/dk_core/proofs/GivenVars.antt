@@ -20,15 +20,15 @@ use Rattle.dk_base.specs.declared.kinds.Kind.{Kind}
 use Rattle.dk_base.specs.declared.values.Value.{Value}
 use Rattle.dk_base.specs.declared.why.Why.TheVariants.{BadVariable}
 use Rattle.dk_decl.proofs.LastLines.{bind_ok}
-use Rattle.dk_decl.specs.Brackets.{compar_of, first_index, index_number, index_of, is_index, no_compar, numbers_of, parts, with_numbers}
-use Rattle.dk_decl.specs.DeclareBlock.{comparability, constant_text, cut_short, declared_var, from_comparability, from_name, from_representation, from_type, new_name as new_name_of, represented, representation}
+use Rattle.dk_decl.specs.Brackets.{bracket_parts, compar_of, first_index, index_number, index_of, is_index, no_compar, numbers_of, with_numbers}
+use Rattle.dk_decl.specs.DeclareBlock.{comparability, constant_text, cut_short, old_form_var, from_comparability, from_name, from_representation, from_type, new_name as new_name_of, represented, representation}
 use Rattle.dk_decl.specs.Heads.{id_of, is_edge as same_edge}
 use Rattle.dk_decl.specs.LineWords.{begins, each_line, operand, operands}
 use Rattle.dk_decl.specs.Outcomes.{or_refused, refused}
 use Rattle.dk_decl.specs.PptBlock.{groups, has_ended, is_variable, vars_after, with_var}
-use Rattle.dk_decl.specs.Types.{constant_at, constant_of, is_missing, kind_of, known, rep_type_of}
+use Rattle.dk_decl.specs.Types.{constant_at, constant_of, is_missing, known, rep_kind, rep_type_of}
 use Rattle.dk_decl.specs.VarNames.{has_name}
-use Rattle.dk_decl.specs.Variables.{at_edge, closed, counterparts, new_var, opened, var_line, var_with, with_counterparts}
+use Rattle.dk_decl.specs.Variables.{at_edge, counterparts, new_var, opened, var_decl_of, var_line, var_with, with_counterparts}
 use Rattle.dk_decl.specs.declared.decls.EdgeDecl.{EdgeDecl}
 use Rattle.dk_decl.specs.declared.decls.ParentVar.{ParentVar}
 use Rattle.dk_decl.specs.declared.decls.VarDecl.{VarDecl}
@@ -47,9 +47,9 @@ use Rattle.dk_core.proofs.Spelled.{IsSpelled, IsWord, are_words, both, is_name_s
 abbrev IsTold : Bool → Option Kind → Option Value → Type 0
 IsTold there kind constant = (is_constant there kind constant ≡ true) × FitsConstant there kind constant
 
-constant_told : (rep : RepType) (o : Option Placed) (c : Option Value) → constant_at rep o ≡ Ok c → IsTold (is_some o) (kind_of rep) c
+constant_told : (rep : RepType) (o : Option Placed) (c : Option Value) → constant_at rep o ≡ Ok c → IsTold (is_some o) (rep_kind rep) c
 unfolding constant_at constant_of
-constant_told rep None c e = let is : None ≡ c = cc e in subst (IsTold false (kind_of rep)) is (refl, tt)
+constant_told rep None c e = let is : None ≡ c = cc e in subst (IsTold false (rep_kind rep)) is (refl, tt)
 constant_told Opaque (Some p) c e = let is : None ≡ c = cc e in subst (IsTold true None) is (refl, tt)
 constant_told (Of k) (Some p) c e = by (value_of_text k p.text) refl e
   where
@@ -99,7 +99,7 @@ first_fits (part ∷ more) = by (index_of part) refl
 
 compar_fits : (text : List ℕ) (c : Compar) → compar_of text ≡ Some c → IsCompar c
 unfolding compar_of numbers_of index_number
-compar_fits text c e = by (parts text) e
+compar_fits text c e = by (bracket_parts text) e
   where
     at : (elem : ℤ) → fits_i64 elem ≡ true → (brackets : List (List ℕ)) (b : Bool) → with_numbers (Some elem) (if b then Some (first_index brackets) else None) ≡ Some c → IsCompar c
     at elem fits brackets true e = let same : record { elem = elem; index = first_index brackets } ≡ c = cc e in subst IsCompar same (record { elem = fits; index = first_fits brackets })
@@ -270,8 +270,8 @@ lines_open implicit es vs (l ∷ ls) o o' few none going e =
     bind_ok (var_line implicit es o l) (λ next. each_line (var_line implicit es) next ls) o' e (λ next first rest.
     lines_open implicit es vs ls next o' few (All-tail HasNoLf l ls none) (line_open implicit es vs o l next few (All-head HasNoLf l ls none) going first) rest)
 
-closed_given : (n : ℕ) (vs : List VarDecl) (o : OpenVar) (v : VarDecl) → AreGivenVars n vs → IsGoing n vs o → closed o ≡ Ok v → AreGivenVars n (vs ++ v ∷ [])
-unfolding closed
+closed_given : (n : ℕ) (vs : List VarDecl) (o : OpenVar) (v : VarDecl) → AreGivenVars n vs → IsGoing n vs o → var_decl_of o ≡ Ok v → AreGivenVars n (vs ++ v ∷ [])
+unfolding var_decl_of
 closed_given n vs o v given going e =
     bind_ok (or_refused BadVariable o.line o.rep) (λ rep. constant_at rep o.constant >>= λ constant. Ok (var_with o rep constant)) v e (λ rep is rest.
     bind_ok (constant_at rep o.constant) (λ constant. Ok (var_with o rep constant)) v rest (λ constant told done.
@@ -283,7 +283,7 @@ closed_given n vs o v given going e =
 at_end : (n : ℕ) (vs : List VarDecl) (w : OpenVar) (next : List VarDecl) → AreGivenVars n vs → IsGoing n vs w → with_var vs w true ≡ Ok next → AreGivenVars n next
 unfolding with_var
 at_end n vs w next given going e =
-    bind_ok (closed w) (λ v. Ok (vs ++ v ∷ [])) next e (λ v shut done.
+    bind_ok (var_decl_of w) (λ v. Ok (vs ++ v ∷ [])) next e (λ v shut done.
     let same : vs ++ v ∷ [] ≡ next = cc done in
     subst (AreGivenVars n) same (closed_given n vs w v given going shut))
 
@@ -311,14 +311,14 @@ unfolding comparability
 comparability_fits true l c e = compar_fits l.bytes c (or_refused_some l.number (compar_of l.bytes) c e)
 comparability_fits false l c e = let same : no_compar ≡ c = cc e in subst IsCompar same no_compar_is
 
-represented_told : (l : Line) (r : Represented) → representation l ≡ Ok r → IsTold r.constant_line (kind_of r.rep) r.constant
+represented_told : (l : Line) (r : Represented) → representation l ≡ Ok r → IsTold r.constant_line (rep_kind r.rep) r.constant
 unfolding representation
 represented_told l r e =
     bind_ok (or_refused BadVariable l.number (rep_type_of (first_word l.bytes))) _ r e (λ rep is rest.
     bind_ok (constant_text l) _ r rest (λ text found more.
     bind_ok (constant_at rep text) (λ constant. Ok (represented rep text constant)) r more (λ constant told done.
     let same : represented rep text constant ≡ r = cc done in
-    subst (λ (x : Represented). IsTold x.constant_line (kind_of x.rep) x.constant) same (constant_told rep text constant told))))
+    subst (λ (x : Represented). IsTold x.constant_line (rep_kind x.rep) x.constant) same (constant_told rep text constant told))))
 
 new_by_line : (vs : List VarDecl) (l : Line) (name : List ℕ) → IsSpelled l.bytes → new_name_of vs l ≡ Ok name → IsSpelled name × (has_name name vs ≡ false)
 unfolding new_name_of
@@ -346,5 +346,5 @@ four_given implicit vs (a ∷ b ∷ c ∷ d ∷ ls) close vs' all given e =
     bind_ok (comparability implicit d) _ vs' more (λ compar fits last.
     let named = new_by_line vs a name (All-head IsLineSpelled a (b ∷ c ∷ d ∷ ls) all) is in
     let behind = All-tail IsLineSpelled d ls (All-tail IsLineSpelled c (d ∷ ls) (All-tail IsLineSpelled b (c ∷ d ∷ ls) (All-tail IsLineSpelled a (b ∷ c ∷ d ∷ ls) all))) in
-    four_given implicit (vs ++ declared_var name r compar ∷ []) ls close vs' behind
-    (one_var 0 vs (declared_var name r compar) given named.1 named.0 (comparability_fits implicit d compar fits) (represented_told c r told) (none_mapped name 0)) last)))
+    four_given implicit (vs ++ old_form_var name r compar ∷ []) ls close vs' behind
+    (one_var 0 vs (old_form_var name r compar) given named.1 named.0 (comparability_fits implicit d compar fits) (represented_told c r told) (none_mapped name 0)) last)))

@@ -20,19 +20,19 @@ use Rattle.dk_base.specs.declared.why.Why.TheVariants.{BadHeader}
 use Rattle.dk_calls.specs.Records.{call_of}
 use Rattle.dk_calls.specs.Waiting.{Call}
 use Rattle.dk_decl.proofs.LastLines.{bind_ok}
-use Rattle.dk_decl.specs.Blocks.{decl_of as decl_by}
+use Rattle.dk_decl.specs.Blocks.{block_decl as decl_by}
 use Rattle.dk_decl.specs.Headers.{awaits_word, comparability_word, header_line, is_implicit, with_text}
 use Rattle.dk_decl.specs.LineWords.{begins, operand}
 use Rattle.dk_decl.specs.Outcomes.{refused}
 use Rattle.dk_decl.specs.declared.decls.PointDecl.{PointDecl}
 use Rattle.dk_decl.specs.declared.header.Header.{Header}
 use Rattle.dk_derive.proofs.Written.{back_written, element_written, front_written, value_written}
-use Rattle.dk_derive.specs.Laws.{all_vars_of, base_of, kinds_of}
+use Rattle.dk_derive.specs.Laws.{all_vars_of, base_of, var_kinds}
 use Rattle.dk_derive.specs.Values.{derived_value, next_place, number_of_elements, place, size, value_by_form, values_by_form}
 use Rattle.dk_fits.specs.Laws.{IsSample}
 use Rattle.dk_hierarchy.specs.Samples.{OwnSamples, own_samples_of}
 use Rattle.dk_points.specs.Declaring.{at_line, declared}
-use Rattle.dk_points.specs.Table.{Point, decl_if_declared, decl_of}
+use Rattle.dk_points.specs.Table.{Point, decl_at, decl_if_declared}
 use Rattle.dk_points.specs.declared.declared.Declared.{Declared}
 use Rattle.dk_state.specs.Compact.{kept_of}
 use Rattle.dk_state.specs.Fitting.{FitsSlot}
@@ -107,7 +107,7 @@ pub record IsGoing (h : History) : Type 0 where
   pub table : IsOwnTable h.table
   pub many : length h.samples ≡ length h.table
   pub word : awaits_word h.header ≡ false
-  pub declared_alone : (p : ℕ) → IsTrue (is_none (decl_of h.table p)) → get_or h.samples p [] ≡ []
+  pub declared_alone : (p : ℕ) → IsTrue (is_none (decl_at h.table p)) → get_or h.samples p [] ≡ []
   pub samples : (p : ℕ) → All (GivesSample h.table p) (get_or h.samples p [])
   pub calls : All (CallFits h.table) h.calls
 
@@ -121,8 +121,8 @@ same_place [] more p there = absurd (omega arith)
 same_place (q ∷ ps) more zero there = refl
 same_place (q ∷ ps) more (suc p) there = same_place ps more p (omega arith)
 
-same_decls : (ps ps' : List Point) (p : ℕ) → Extends ps ps' → p < length ps → decl_of ps' p ≡ decl_of ps p
-same_decls ps ps' p (more, is) there = ap (λ (qs : List Point). decl_of qs p) is ∙ ap (option_and_then decl_if_declared) (same_place ps more p there)
+same_decls : (ps ps' : List Point) (p : ℕ) → Extends ps ps' → p < length ps → decl_at ps' p ≡ decl_at ps p
+same_decls ps ps' p (more, is) there = ap (λ (qs : List Point). decl_at qs p) is ∙ ap (option_and_then decl_if_declared) (same_place ps more p there)
 
 declared_going : (h : History) (ps : List Point) (d : PointDecl) (line : ℕ) (x : Declared) → IsGoing h → CanBeGiven d → at_line line (declared h.table d) ≡ Ok (ps, x) → IsGoing (with_table h ps)
 declared_going h ps d line x going given e =
@@ -148,7 +148,7 @@ declared_going h ps d line x going given e =
     }
 
 -- ---- records
-decl_there : (ps : List Point) (p : ℕ) (d : PointDecl) → decl_of ps p ≡ Some d → p < length ps
+decl_there : (ps : List Point) (p : ℕ) (d : PointDecl) → decl_at ps p ≡ Some d → p < length ps
 decl_there [] p d is = absurd (cc is)
 decl_there (q ∷ ps) zero d is = omega arith
 decl_there (q ∷ ps) (suc p) d is = omega (arith, decl_there ps p d is)
@@ -158,7 +158,7 @@ recorded_going h s base going fits e =
     let there : s.point < length h.table = decl_there h.table s.point fits.0 fits.1 in
     let within : s.point < length h.samples = omega (arith, there, going.many) in
     let old = get_or h.samples s.point [] in
-    let kinds : FitKinds (kinds_of (base_of (all_vars_of h.table s.point))) base = base_among h.table s.point base (base_fit h.table s h.calls base fits going.calls e) in
+    let kinds : FitKinds (var_kinds (base_of (all_vars_of h.table s.point))) base = base_among h.table s.point base (base_fit h.table s h.calls base fits going.calls e) in
     let vars = all_vars_of h.table s.point in
     let gives : GivesSample h.table s.point base =
     λ short. sample_given vars base (values_by_form vars base) (are_derived h.table s.point) kinds.0 refl (all_written vars base kinds.1 short) in
@@ -168,7 +168,7 @@ recorded_going h s base going fits e =
       word = going.word;
       declared_alone = λ p none.
           let away : (p ≡ s.point → ⊥) =
-          λ same. let some : is_none (decl_of h.table p) ≡ false = ap is_none (ap (decl_of h.table) same ∙ fits.1) in absurd (cc (some, none)) in
+          λ same. let some : is_none (decl_at h.table p) ≡ false = ap is_none (ap (decl_at h.table) same ∙ fits.1) in absurd (cc (some, none)) in
           get_or-set_other h.samples s.point p (old ++ base ∷ []) [] away ∙ going.declared_alone p none;
       samples = λ p. elim (cases_eq p s.point) as (λ _. All (GivesSample h.table p) (get_or (slice_set h.samples s.point (old ++ base ∷ [])) p [])) [
         | inl same ↦
@@ -337,14 +337,14 @@ going_start h going calls few = record {
     samples = samples;
     declared = going.declared_alone;
     few = few.few;
-    within = λ p. by p (decl_of h.table p) refl;
+    within = λ p. by p (decl_at h.table p) refl;
   };
 }
   where
     samples : (p : ℕ) → All (IsSample (all_vars_of h.table p)) (own_samples_of h.table h.samples p)
     samples = all_samples h going few
 
-    by : (p : ℕ) (o : Option PointDecl) → decl_of h.table p ≡ o → All FitsSlot (form_of h.grammar h.table h.samples p).slots
+    by : (p : ℕ) (o : Option PointDecl) → decl_at h.table p ≡ o → All FitsSlot (form_of h.grammar h.table h.samples p).slots
     by p None none =
         let nothing : get_or h.samples p [] ≡ [] = going.declared_alone p (ap is_none none) in
         subst (λ (own : List (List Value)). All FitsSlot (kept_of h.grammar (all_vars_of h.table p) (map (values_by_form (all_vars_of h.table p)) own)).slots) (sym nothing) (no_slots h.grammar (all_vars_of h.table p))

@@ -15,7 +15,7 @@ use Rattle.dk_graph.specs.Names.{place_of}
 use Rattle.dk_points.specs.Declaring.{at_line, declared, declared_again, declared_at, declared_new, grown, has_many_points, has_many_vars}
 use Rattle.dk_points.specs.Links.{nodes}
 use Rattle.dk_points.specs.Sameness.{same_decl}
-use Rattle.dk_points.specs.Table.{Point, added, decl_of, declared_point, implicit_exit, makes_exit, names}
+use Rattle.dk_points.specs.Table.{Point, added_points, decl_at, declared_point, implicit_exit, makes_exit, names}
 use Rattle.dk_points.specs.Vars.{base_vars, vars_of}
 use Rattle.dk_points.specs.declared.declared.Declared.{Declared}
 use Rattle.dk_points.specs.declared.declared.Declared.TheVariants.{New, Same}
@@ -33,9 +33,9 @@ grown_points ps ps' x e =
     let last : Declared = New (record { 0 = length ps - 1 }) in
     ap (λ (t : List Point × Declared). t.0) (same_ok (Ok (ps, last)) (ps, last) (ps', x) refl (taken_if (has_cycle (nodes ps)) CyclicParents (Ok (ps, last)) (ps', x) e))
 
-pub new_points : (ps ps' : List Point) (d : PointDecl) (x : Declared) → declared_new ps d ≡ Ok (ps', x) → ps' ≡ ps ++ added ps d
+pub new_points : (ps ps' : List Point) (d : PointDecl) (x : Declared) → declared_new ps d ≡ Ok (ps', x) → ps' ≡ ps ++ added_points ps d
 new_points ps ps' d x e =
-    grown_points (ps ++ added ps d) ps' x (taken_if (has_many_vars ps d) TooManyVariables _ _ (taken_if (has_many_points (ps ++ added ps d)) TooManyPoints _ _ e))
+    grown_points (ps ++ added_points ps d) ps' x (taken_if (has_many_vars ps d) TooManyVariables _ _ (taken_if (has_many_points (ps ++ added_points ps d)) TooManyPoints _ _ e))
 
 taken_same : {A : Type 0} (b : Bool) (why : Why) (r : A) (x : A) → (if b then Ok r else Err why) ≡ Ok x → x ≡ r
 taken_same true why r x e = cc
@@ -57,7 +57,7 @@ append-nil : {X : Type 0} (xs : List X) → xs ≡ xs ++ []
 append-nil [] = refl
 append-nil (x ∷ xs) = ap (λ (l : List _). x ∷ l) (append-nil xs)
 
-added_by : (ps : List Point) (d : PointDecl) → AreBy d (added ps d)
+added_by : (ps : List Point) (d : PointDecl) → AreBy d (added_points ps d)
 added_by ps d = by (makes_exit ps d)
   where
     by : (b : Bool) → AreBy d (if b then implicit_exit d ∷ declared_point d ∷ [] else declared_point d ∷ [])
@@ -68,8 +68,8 @@ abbrev ExtendsBy : PointDecl → List Point → List Point → Type 0
 ExtendsBy d ps ps' = (more : List Point) × (ps' ≡ ps ++ more) × AreBy d more
 
 at_points : (ps ps' : List Point) (d : PointDecl) (x : Declared) (o : Option ℕ) → declared_at ps d o ≡ Ok (ps', x) → ExtendsBy d ps ps'
-at_points ps ps' d x None e = (added ps d, new_points ps ps' d x e, added_by ps d)
-at_points ps ps' d x (Some i) e = ([], again_points ps ps' d i x (decl_of ps i) e ∙ append-nil ps, All-nil (λ (p : Point). p.decl ≡ d))
+at_points ps ps' d x None e = (added_points ps d, new_points ps ps' d x e, added_by ps d)
+at_points ps ps' d x (Some i) e = ([], again_points ps ps' d i x (decl_at ps i) e ∙ append-nil ps, All-nil (λ (p : Point). p.decl ≡ d))
 
 pub not_refused : {A : Type 0} (line : ℕ) (r : Result A Why) (x : A) → at_line line r ≡ Ok x → r ≡ Ok x
 not_refused line (Ok y) x e = let same : y ≡ x = cc in ap (λ z. Ok z) same
@@ -110,8 +110,8 @@ same_all_vars ps ps' p extends there = ap with_derived_vars (same_vars ps ps' p 
 
 -- so do declarations, and with them what fits them
 pub still_fits : (ps ps' : List Point) (p : ℕ) (values : List Value) → Extends ps ps' → FitAt ps p values → FitAt ps' p values
-still_fits ps ps' p values (more, is) (d, own, fits) = (d, ap (λ qs. decl_of qs p) is ∙ same_decl_of ps more p d own, fits) where
-  same_decl_of : (ps more : List Point) (p : ℕ) (d : PointDecl) → decl_of ps p ≡ Some d → decl_of (ps ++ more) p ≡ Some d
+still_fits ps ps' p values (more, is) (d, own, fits) = (d, ap (λ qs. decl_at qs p) is ∙ same_decl_of ps more p d own, fits) where
+  same_decl_of : (ps more : List Point) (p : ℕ) (d : PointDecl) → decl_at ps p ≡ Some d → decl_at (ps ++ more) p ≡ Some d
   same_decl_of [] more p d own = absurd (cc own)
   same_decl_of (q ∷ ps) more zero d own = own
   same_decl_of (q ∷ ps) more (suc p) d own = same_decl_of ps more p d own

@@ -9,10 +9,10 @@ use Rattle.dk_base.specs.declared.faults.BlockFault.{BlockFault}
 use Rattle.dk_base.specs.declared.kinds.VarInfo.{VarInfo}
 use Rattle.dk_base.specs.declared.values.Value.{Value}
 use Rattle.dk_calls.specs.Records.{call_of, entry_with, is_entry_at}
-use Rattle.dk_calls.specs.Standing.{StandsFor as CallsStandFor, WaitAlike}
+use Rattle.dk_calls.specs.Standing.{CallsStandForRecords as CallsStandFor, WaitAlike}
 use Rattle.dk_calls.specs.Waiting.{Call, enters, exits, other}
 use Rattle.dk_calls.specs.declared.calls.Calls.{Calls}
-use Rattle.dk_decl.specs.Outcomes.{Told}
+use Rattle.dk_decl.specs.Outcomes.{FaultAgrees}
 use Rattle.dk_decl.specs.declared.decls.PointDecl.{PointDecl}
 use Rattle.dk_decl.specs.declared.header.Header.{Header}
 use Rattle.dk_derive.specs.Values.{values_by_form}
@@ -267,10 +267,10 @@ pub declared_ok : (h : History) (ps ps' : List Point) (line : ℕ) (d : PointDec
 declared_ok h ps ps' line d x table is =
     ap (λ (r : Result (List Point × Declared) LineFault). r >>= λ t. Ok (block (with_table h t.0))) (ap (λ (qs : List Point). at_line line (declared qs d)) (sym table) ∙ is)
 
-pub declared_told : (h : History) (ps : List Point) (line : ℕ) (d : PointDecl) (e : BlockFault) → ps ≡ h.table → Told e (at_line line (declared ps d)) → Closes (Err e) (with_declaration h line d)
+pub declared_told : (h : History) (ps : List Point) (line : ℕ) (d : PointDecl) (e : BlockFault) → ps ≡ h.table → FaultAgrees e (at_line line (declared ps d)) → Closes (Err e) (with_declaration h line d)
 declared_told h ps line d e table told =
     told_closes e (with_declaration h line d)
-    (told_at e (at_line line (declared h.table d)) (λ t. Ok (block (with_table h t.0))) (subst (λ (qs : List Point). Told e (at_line line (declared qs d))) table told))
+    (told_at e (at_line line (declared h.table d)) (λ t. Ok (block (with_table h t.0))) (subst (λ (qs : List Point). FaultAgrees e (at_line line (declared qs d))) table told))
 
 -- ---- records
 
@@ -289,11 +289,11 @@ recorded_ok ignores h ps s values table is =
     ap (λ (r : Result (List Value) LineFault). or_left_out ignores h (r >>= λ vs. Ok (with_values h s vs))) (ap (λ (qs : List Point). base_values qs s h.calls) (sym table) ∙ is)
     ∙ taken_whole ignores h (with_values h s values)
 
-pub recorded_told : (h : History) (ps : List Point) (s : Sample) (e : BlockFault) → ps ≡ h.table → Told e (base_values ps s h.calls) → Closes (Err e) (with_record false h s)
+pub recorded_told : (h : History) (ps : List Point) (s : Sample) (e : BlockFault) → ps ≡ h.table → FaultAgrees e (base_values ps s h.calls) → Closes (Err e) (with_record false h s)
 recorded_told h ps s e table told =
     told_closes e (with_record false h s)
-    (subst (Told e) (sym (refused_whole h (base_values h.table s h.calls >>= λ vs. Ok (with_values h s vs))))
-    (told_at e (base_values h.table s h.calls) (λ vs. Ok (with_values h s vs)) (subst (λ (qs : List Point). Told e (base_values qs s h.calls)) table told)))
+    (subst (FaultAgrees e) (sym (refused_whole h (base_values h.table s h.calls >>= λ vs. Ok (with_values h s vs))))
+    (told_at e (base_values h.table s h.calls) (λ vs. Ok (with_values h s vs)) (subst (λ (qs : List Point). FaultAgrees e (base_values qs s h.calls)) table told)))
 
 pub recorded_left : (h : History) (ps : List Point) (s : Sample) (fault : LineFault) → ps ≡ h.table → base_values ps s h.calls ≡ Err fault → with_record true h s ≡ Ok (block h)
 recorded_left h ps s fault table is =

@@ -22,7 +22,7 @@ use Rattle.dk_points.proofs.Exits.{vars-same}
 use Rattle.dk_points.specs.Declaring.{at_line, declared, declared_again, declared_at, declared_new, grown, has_many_points, has_many_vars}
 use Rattle.dk_points.specs.Links.{nodes}
 use Rattle.dk_points.specs.Sameness.{same_decl}
-use Rattle.dk_points.specs.Table.{Point, added, decl_if_declared, decl_of, declared_point, implicit_exit, makes_exit, names}
+use Rattle.dk_points.specs.Table.{Point, added_points, decl_at, decl_if_declared, declared_point, implicit_exit, makes_exit, names}
 use Rattle.dk_points.specs.Vars.{base_vars, vars_of}
 use Rattle.dk_points.specs.declared.declared.Declared.{Declared}
 use Rattle.dk_points.specs.declared.declared.Declared.TheVariants.{New, Same}
@@ -70,7 +70,7 @@ not_first false why r x e = refl
 
 -- points are added, few enough variables each
 record IsAdded (ps ps' : List Point) (d : PointDecl) : Type 0 where
-  added_are : ps' ≡ ps ++ added ps d
+  added_are : ps' ≡ ps ++ added_points ps d
   few : has_many_vars ps d ≡ false
 
 -- one answer says one thing
@@ -80,9 +80,9 @@ one_answer r x y e f = let same : x ≡ y = cc (e, f) in ap (λ (t : List Point 
 new_added : (ps ps' : List Point) (d : PointDecl) (p : ℕ) (o : Option ℕ) → declared_at ps d o ≡ Ok (ps', New (record { 0 = p })) → IsAdded ps ps' d
 new_added ps ps' d p None e = record {
   added_are = new_points ps ps' d (New (record { 0 = p })) e;
-  few = not_first (has_many_vars ps d) TooManyVariables _ _ (taken_if (has_many_points (ps ++ added ps d)) TooManyPoints _ _ e);
+  few = not_first (has_many_vars ps d) TooManyVariables _ _ (taken_if (has_many_points (ps ++ added_points ps d)) TooManyPoints _ _ e);
 }
-new_added ps ps' d p (Some i) e = again (decl_of ps i) e
+new_added ps ps' d p (Some i) e = again (decl_at ps i) e
   where
     at : (b : Bool) → if◌then◌else◌ {A = Result (List Point × Declared) Why} b (Ok (ps, Same (record { 0 = i }))) (Err DuplicatePoint) ≡ Ok (ps', New (record { 0 = p })) → IsAdded ps ps' d
     at true e = absurd (cc (one_answer (Ok (ps, Same (record { 0 = i }))) (ps, Same (record { 0 = i })) (ps', New (record { 0 = p })) refl e))
@@ -98,17 +98,17 @@ declared_added ps ps' d p e = new_added ps ps' d p (place_of (names ps) d.name) 
 
 same_kept : (ps ps' : List Point) (d : PointDecl) (p : ℕ) (o : Option ℕ) → declared_at ps d o ≡ Ok (ps', Same (record { 0 = p })) → ps' ≡ ps
 same_kept ps ps' d p None e =
-    by (has_cycle (nodes (ps ++ added ps d))) (taken_if (has_many_vars ps d) TooManyVariables _ _ (taken_if (has_many_points (ps ++ added ps d)) TooManyPoints _ _ e))
+    by (has_cycle (nodes (ps ++ added_points ps d))) (taken_if (has_many_vars ps d) TooManyVariables _ _ (taken_if (has_many_points (ps ++ added_points ps d)) TooManyPoints _ _ e))
   where
-    by : (b : Bool) → if◌then◌else◌ {A = Result (List Point × Declared) Why} b (Err CyclicParents) (Ok (ps ++ added ps d, New (record { 0 = length (ps ++ added ps d) - 1 }))) ≡ Ok (ps', Same (record { 0 = p }))
+    by : (b : Bool) → if◌then◌else◌ {A = Result (List Point × Declared) Why} b (Err CyclicParents) (Ok (ps ++ added_points ps d, New (record { 0 = length (ps ++ added_points ps d) - 1 }))) ≡ Ok (ps', Same (record { 0 = p }))
         → ps' ≡ ps
     by true e = absurd (cc e)
     by false e =
-        let n = length (ps ++ added ps d) - 1 in
-        absurd (cc (one_answer (Ok (ps ++ added ps d, New (record { 0 = n }))) (ps ++ added ps d, New (record { 0 = n })) (ps', Same (record { 0 = p })) refl e))
-same_kept ps ps' d p (Some i) e = again_points ps ps' d i (Same (record { 0 = p })) (decl_of ps i) e
+        let n = length (ps ++ added_points ps d) - 1 in
+        absurd (cc (one_answer (Ok (ps ++ added_points ps d, New (record { 0 = n }))) (ps ++ added_points ps d, New (record { 0 = n })) (ps', Same (record { 0 = p })) refl e))
+same_kept ps ps' d p (Some i) e = again_points ps ps' d i (Same (record { 0 = p })) (decl_at ps i) e
 
-decls_added : (ps : List Point) (d : PointDecl) → decls_of (added ps d) ≡ d ∷ []
+decls_added : (ps : List Point) (d : PointDecl) → decls_of (added_points ps d) ≡ d ∷ []
 decls_added ps d = by (makes_exit ps d)
   where
     by : (b : Bool) → decls_of (if b then implicit_exit d ∷ declared_point d ∷ [] else declared_point d ∷ []) ≡ d ∷ []
@@ -136,7 +136,7 @@ own_declared ps ps' d line (Same p) own given e =
 own_declared ps ps' d line (New p) own given e =
     let told : declared ps d ≡ Ok (ps', New p) = not_refused line (declared ps d) (ps', New p) e in
     let is = new_added ps ps' d p.0 (place_of (names ps) d.name) told in
-    let decls : decls_of ps' ≡ decls_of ps ++ d ∷ [] = ap decls_of is.added_are ∙ filter_map-append decl_if_declared ps (added ps d) ∙ ap (λ (l : List PointDecl). decls_of ps ++ l) (decls_added ps d) in
+    let decls : decls_of ps' ≡ decls_of ps ++ d ∷ [] = ap decls_of is.added_are ∙ filter_map-append decl_if_declared ps (added_points ps d) ∙ ap (λ (l : List PointDecl). decls_of ps ++ l) (decls_added ps d) in
     record {
       made = ap (table_behind []) decls ∙ table_push (decls_of ps) [] d ∙ ap (option_and_then (λ t. if_new (declared t d))) own.made ∙ ap (λ (r : Result (List Point × Declared) Why). if_new r) told;
       given = subst (All CanBeGiven) (sym decls) (All-push CanBeGiven (decls_of ps) d own.given given);
@@ -184,7 +184,7 @@ few_push qs q have few p within =
           subst (HasFew (qs ++ q ∷ [])) at (subst (λ (vars : List VarInfo). length (with_derived_vars vars) ≤ 16384) (sym (last_vars qs q)) few)
     ]
 
-few_added : (qs : List Point) (d : PointDecl) → has_many_vars qs d ≡ false → HaveFew qs → HaveFew (qs ++ added qs d)
+few_added : (qs : List Point) (d : PointDecl) → has_many_vars qs d ≡ false → HaveFew qs → HaveFew (qs ++ added_points qs d)
 few_added qs d few have = by (makes_exit qs d)
   where
     own : length (with_derived_vars (base_vars qs d)) ≤ 16384

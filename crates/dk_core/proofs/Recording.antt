@@ -10,11 +10,11 @@ use Rattle.dk_base.specs.declared.faults.BlockFault.TheVariants.{Refused, NoMemo
 use Rattle.dk_base.specs.declared.kinds.VarInfo.{VarInfo}
 use Rattle.dk_base.specs.declared.values.Value.{Value}
 use Rattle.dk_calls.specs.Records.{call_of}
-use Rattle.dk_calls.specs.Standing.{StandsFor as CallsStandFor, WaitAlike}
+use Rattle.dk_calls.specs.Standing.{CallsStandForRecords as CallsStandFor, WaitAlike}
 use Rattle.dk_calls.specs.Waiting.{Call}
 use Rattle.dk_calls.specs.declared.calls.Calls.{Calls}
-use Rattle.dk_decl.specs.Outcomes.{GoesOn as DeclGoesOn, Told}
-use Rattle.dk_derive.specs.Laws.{base_of, kinds_of}
+use Rattle.dk_decl.specs.Outcomes.{FaultAgrees, ReaderGoesOn as DeclGoesOn}
+use Rattle.dk_derive.specs.Laws.{base_of, var_kinds}
 use Rattle.dk_derive.specs.Values.{values_by_form}
 use Rattle.dk_engine.specs.Levels.{Whole}
 use Rattle.dk_hierarchy.specs.Samples.{all_vars_of, own_samples_of}
@@ -22,7 +22,7 @@ use Rattle.dk_hierarchy.specs.Standing.{EngineStandsFor}
 use Rattle.dk_points.specs.Table.{Point}
 use Rattle.dk_trace.specs.Fitting.{FitKinds}
 use Rattle.dk_trace.specs.Records.{Sample, sample_of}
-use Rattle.dk_trace.specs.RecordsResumed.{IsOf, resumed as record_resumed}
+use Rattle.dk_trace.specs.RecordsResumed.{IsOf, record_resumed}
 use Rattle.dk_trace.specs.declared.reader.RecordReader.{RecordReader}
 use Rattle.dk_core.proofs.Feeding.{are_derived, base_among}
 use Rattle.dk_core.proofs.Keeping.{all_get, engines_fed, engines_still, recorded_left, recorded_ok, recorded_told, stand_alike, waiting_more}
@@ -30,8 +30,8 @@ use Rattle.dk_core.proofs.Values.{base_fit, sample_fits}
 use Rattle.dk_core.specs.Fitting.{ConstantsFit, FitAt, ReadsFitting}
 use Rattle.dk_core.specs.History.{History, base_values, with_record, with_sample}
 use Rattle.dk_core.specs.Keeping.{IsSound, Keeping}
-use Rattle.dk_core.specs.Refusing.{answered}
-use Rattle.dk_core.specs.Standing.{Closes, Stands, paired}
+use Rattle.dk_core.specs.Refusing.{unmatched_answer}
+use Rattle.dk_core.specs.Standing.{Closes, Stands, left_with_answer}
 
 -- ---- reading
 
@@ -60,9 +60,9 @@ pub engine_derived : (k : Keeping) (p : ℕ) (old : Whole) → IsSound k → sli
 engine_derived k p old sound at = subst AreWithDerived (sym (sound.engines.variables p old at).0) (are_derived k.points p)
 
 pub base_given : (k : Keeping) (s : Sample) (base : List Value) (old : Whole) → IsSound k → slice_get k.engines s.point ≡ Some old → FitAt k.points s.point s.values
-    → ((earlier : List Call) → CallsStandFor k.calls earlier → base_values k.points s earlier ≡ Ok base) → FitKinds (kinds_of (base_of old.infos)) base
+    → ((earlier : List Call) → CallsStandFor k.calls earlier → base_values k.points s earlier ≡ Ok base) → FitKinds (var_kinds (base_of old.infos)) base
 base_given k s base old sound at fits values =
-    let P : List VarInfo → Type 0 = λ vars. FitKinds (kinds_of (base_of vars)) base in
+    let P : List VarInfo → Type 0 = λ vars. FitKinds (var_kinds (base_of vars)) base in
     let waiting = sound.calls in
     subst P (sym (sound.engines.variables s.point old at).0)
     (base_among k.points s.point base (base_fit k.points s waiting.0 base fits waiting.2 (values waiting.0 waiting.1)))
@@ -105,8 +105,8 @@ record_closes ignores k s base calls old new h sound within at values more fed s
     )
 
 -- a record that is refused or left out
-pub record_refused : (ignores : Bool) (k : Keeping) (s : Sample) (calls : Calls) (e : BlockFault) (h : History) → Told e (base_values k.points s h.calls) → WaitAlike k.calls calls
-    → Stands k h → Closes (paired (record { points = k.points; header = k.header; calls = calls; grammar = k.grammar; engines = k.engines }) (answered ignores e)) (with_record ignores h s)
+pub record_refused : (ignores : Bool) (k : Keeping) (s : Sample) (calls : Calls) (e : BlockFault) (h : History) → FaultAgrees e (base_values k.points s h.calls) → WaitAlike k.calls calls
+    → Stands k h → Closes (left_with_answer (record { points = k.points; header = k.header; calls = calls; grammar = k.grammar; engines = k.engines }) (unmatched_answer ignores e)) (with_record ignores h s)
 unfolding Stands
 record_refused true k s calls (Refused line why) h told alike stands = (
   h,

@@ -1,7 +1,7 @@
 -- What is kept of a state, and what state is saved of it.
 use Rattle.std.proofs.Common.{◌≡◌, ◌∙◌, ◌++◌, All, Bool, false, List, [], ℕ, Result, Ok, Err, refl, sym, ap, subst}
 use Rattle.std.specs.Prelude.{OnOk}
-use Rattle.dk_calls.specs.Standing.{StandsFor as CallsStandFor}
+use Rattle.dk_calls.specs.Standing.{CallsStandForRecords as CallsStandFor}
 use Rattle.dk_calls.specs.Waiting.{Call}
 use Rattle.dk_decl.specs.Headers.{awaits_word, is_implicit, with_word}
 use Rattle.dk_decl.specs.declared.header.Header.{Header}

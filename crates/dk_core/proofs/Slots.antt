@@ -25,7 +25,7 @@ use Rattle.dk_state.specs.Fitting.{FitsPlace, FitsSlot, FitsState}
 use Rattle.dk_template.specs.Admitted.{admits, suits}
 use Rattle.dk_template.specs.Proper.{IsProper}
 use Rattle.dk_template.specs.Rows.{IsTuple}
-use Rattle.dk_template.specs.Templates.{IsRow, IsRowOf, form_of, kinds_of, roles_of, template_of}
+use Rattle.dk_template.specs.Templates.{IsRow, IsRowOf, form_of, role_kinds, roles_of, template_of}
 use Rattle.dk_template.specs.declared.grammar.Grammar.{Grammar}
 use Rattle.dk_template.specs.declared.grammar.Grammar.TheVariants as grammar
 use Rattle.dk_template.specs.declared.grammar.RowId.{RowId}
@@ -71,7 +71,7 @@ fit_fits row is infos vars a samples all unbroken =
     let form : form_by (meaning_of row) ≡ form_of row = row_form row in
     let proper : IsProper (form_of row) (state_by (meaning_of row) (tuples_of vars samples)) = fit_is_proper row is infos vars a samples all in
     let P : StateForm → Type 0 = λ f. IsProper f (state_by (meaning_of row) (tuples_of vars samples)) in
-    meant_fits (kinds_of row) (meaning_of row) (row_within (row.0 - 1) within none (kinds_of row)) (tuples_of vars samples) (are_tuples row infos vars a samples all) (subst P (sym form) proper) unbroken
+    meant_fits (role_kinds row) (meaning_of row) (row_within (row.0 - 1) within none (role_kinds row)) (tuples_of vars samples) (are_tuples row infos vars a samples all) (subst P (sym form) proper) unbroken
 
 slot_fits : (g : Grammar) (infos : List VarInfo) (samples : List (List Value)) (kept : Kept) (slot : Slot) → AreOfPoint infos → AreSamples infos samples → IsKeptOf g infos samples kept
     → IsSlot g infos samples kept.leaders kept.known slot → FitsSlot slot

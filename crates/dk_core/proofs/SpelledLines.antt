@@ -6,7 +6,7 @@ use Rattle.dk_base.specs.Pieces.{is_empty}
 use Rattle.dk_base.specs.Reading.{Line}
 use Rattle.dk_base.specs.Words.{trimmed}
 use Rattle.dk_lines.specs.Left.{End, Over, Broken, LongLine, TooLong, Left, Ends, Next, Piece, is_long, is_over, lined, lined_by, onto_first, pieces, size_of, without_cr}
-use Rattle.dk_core.specs.Blocks.{Group, Groups, Last, grouped, is_blank_line, onto_group, taken}
+use Rattle.dk_core.specs.Blocks.{Group, Groups, Last, grouped, is_blank_line, onto_group, trimmed_line}
 use Rattle.dk_state.specs.Given.{has_none}
 use Rattle.dk_core.proofs.GivenEdges.{HasNoLf}
 use Rattle.dk_core.proofs.GivenVars.{IsLineSpelled}
@@ -96,9 +96,9 @@ groups_spelled : (ls : Left) → ArePlain ls → AreSpelled (lines_in ls) (group
 groups_spelled (Ends end) plain = (All-nil IsLineSpelled, omega arith)
 groups_spelled (Next l rest) plain = by (is_blank_line l) refl (groups_spelled rest plain.1)
   where
-    by : (b : Bool) → is_blank_line l ≡ b → AreSpelled (lines_in rest) (grouped rest) → AreSpelled (suc (lines_in rest)) (if b then Group [] l.number (grouped rest) else onto_group (taken l) (grouped rest))
+    by : (b : Bool) → is_blank_line l ≡ b → AreSpelled (lines_in rest) (grouped rest) → AreSpelled (suc (lines_in rest)) (if b then Group [] l.number (grouped rest) else onto_group (trimmed_line l) (grouped rest))
     by true is all = (All-nil IsLineSpelled, omega arith, more_lines (lines_in rest) (suc (lines_in rest)) (grouped rest) (omega arith) all)
-    by false is all = onto_spelled (lines_in rest) (taken l) (grouped rest) (spelled_trimmed l.bytes is plain.0) all
+    by false is all = onto_spelled (lines_in rest) (trimmed_line l) (grouped rest) (spelled_trimmed l.bytes is plain.0) all
 
 -- the lines of a file's groups are spelled, and in no group more than bytes may come
 pub file_spelled : (limit room n : ℕ) (is_ended : Bool) (bytes : List ℕ) → AreSpelled room (grouped (lined limit room n is_ended bytes))
@@ -132,9 +132,9 @@ grouped_ended : (ls : Left) → EndsSo ls → IsEnded (grouped ls)
 grouped_ended (Ends end) h = h
 grouped_ended (Next l rest) h = by (is_blank_line l) (grouped_ended rest h)
   where
-    by : (b : Bool) → IsEnded (grouped rest) → IsEnded (if b then Group [] l.number (grouped rest) else onto_group (taken l) (grouped rest))
+    by : (b : Bool) → IsEnded (grouped rest) → IsEnded (if b then Group [] l.number (grouped rest) else onto_group (trimmed_line l) (grouped rest))
     by true own = own
-    by false own = onto_ended (taken l) (grouped rest) own
+    by false own = onto_ended (trimmed_line l) (grouped rest) own
 
 lines_ended : (limit room n : ℕ) (ps : List Piece) → EndsSo (lined_by limit room true n ps)
 lines_ended limit room n [] = tt

@@ -3,19 +3,19 @@ use Rattle.std.proofs.Common.{◌≡◌, ◌≤◌, ◌<◌, ◌+◌, ◌-◌, �
 use Rattle.dk_base.specs.Reading.{Line, LineFault, Reads, ◌>>=◌}
 use Rattle.dk_lines.specs.Left.{Left, End, Over, Broken, LongLine, TooLong, Ends, Next, lines_left, OneLine}
 use Rattle.dk_lines.specs.Reading.{Reading, room_of}
-use Rattle.dk_lines.specs.Answers.{IsNext, Gives}
+use Rattle.dk_lines.specs.Answers.{IsNextLine, NextGives}
 use Rattle.dk_lines.specs.declared.lines.Limits.{Limits}
 use Rattle.dk_lines.specs.declared.lines.LineFault as fault
 use Rattle.dk_lines.specs.declared.lines.LineFault.TheVariants as line
 use Rattle.dk_lines.proofs.Lined.{at_break, at_end}
-use Rattle.dk_core.specs.Steps.{unread, Grown, TurnCounts, BlockCounts, BlockGives, Answers, LineShape, EndShape, ShapeAt, ClosesAt, LineStep, LineStepShape, StepShape, StepGives, StepCounts}
+use Rattle.dk_core.specs.Steps.{stop_of_unread, Grown, TurnCounts, BlockCounts, BlockGives, NextBlock, LineShape, EndShape, ShapeAt, ClosesAt, LineStep, LineStepShape, StepShape, StepGives, StepCounts}
 use Rattle.std.specs.Prelude.{◌==◌}
 use Rattle.dk_base.specs.Pieces.{is_empty}
 use Rattle.std.proofs.Math.Dec.{eqb-suc-zero}
-use Rattle.dk_core.specs.Blocks.{Groups, Group, Last, onto_group, is_blank_line, taken, grouped}
+use Rattle.dk_core.specs.Blocks.{Groups, Group, Last, onto_group, is_blank_line, trimmed_line, grouped}
 use Rattle.dk_core.specs.History.{History, Taken, effect_of}
 use Rattle.dk_core.specs.Reading.{after_last, after_all, after_next, stop_or, Stepped}
-use Rattle.dk_core.specs.Standing.{Fits, Stands, ignores_of, resumed}
+use Rattle.dk_core.specs.Standing.{Fits, Stands, block_resumed, ignores_of}
 use Rattle.dk_core.proofs.BlockLaws.{IsNone, no_block_yet, no_lines}
 use Rattle.dk_core.specs.Steps.{IsCutAlike, IsNoBlock, Moves, Steps, Stops, groups_left, LineGives, EndGives, BlankGives, WordsGive, TurnGives}
 use Rattle.dk_base.specs.declared.why.Why.{Why}
@@ -56,10 +56,10 @@ next_same ignores read more (Last ls end) e = ap (λ (r : Result Taken LineFault
 -- ---- one line
 
 grouped_blank : (line : Line) (rest : Left) → is_blank_line line ≡ true → grouped (Next line rest) ≡ Group [] line.number (grouped rest)
-grouped_blank line rest e = ap (λ (b : Bool). if b then Group [] line.number (grouped rest) else onto_group (taken line) (grouped rest)) e
+grouped_blank line rest e = ap (λ (b : Bool). if b then Group [] line.number (grouped rest) else onto_group (trimmed_line line) (grouped rest)) e
 
-grouped_words : (line : Line) (rest : Left) → is_blank_line line ≡ false → grouped (Next line rest) ≡ onto_group (taken line) (grouped rest)
-grouped_words line rest e = ap (λ (b : Bool). if b then Group [] line.number (grouped rest) else onto_group (taken line) (grouped rest)) e
+grouped_words : (line : Line) (rest : Left) → is_blank_line line ≡ false → grouped (Next line rest) ≡ onto_group (trimmed_line line) (grouped rest)
+grouped_words line rest e = ap (λ (b : Bool). if b then Group [] line.number (grouped rest) else onto_group (trimmed_line line) (grouped rest)) e
 
 abbrev next_from : Bool → Groups → Result Taken LineFault → Result Stepped LineFault
 next_from ignores rest r = r >>= λ t. stop_or t rest (after_next ignores (effect_of ignores t.history) rest)
@@ -68,7 +68,7 @@ pub blank_line : (ignores : Bool) (read : Reads Taken) (line : Line) (result : R
 blank_line ignores read line (Ok (Goes kept block)) blank (h, stands, closes, begins) = (
   h,
   stands,
-  λ rest. ap (after_next ignores read) (grouped_blank line rest blank) ∙ ap (next_from ignores (grouped rest)) closes ∙ sym (next_same ignores (resumed ignores h block) (effect_of ignores h) (grouped rest) begins),
+  λ rest. ap (after_next ignores read) (grouped_blank line rest blank) ∙ ap (next_from ignores (grouped rest)) closes ∙ sym (next_same ignores (block_resumed ignores h block) (effect_of ignores h) (grouped rest) begins),
 )
 blank_line ignores read line (Ok (Stands_end end)) blank (h, stands, over, found, closes) = (
   h,
@@ -80,15 +80,15 @@ blank_line ignores read line (Err (Refused n why)) blank closes = λ rest. ap (a
 blank_line ignores read line (Err Read) blank gives = absurd gives
 blank_line ignores read line (Err NoMemory) blank gives = tt
 
-pub words_line : (ignores : Bool) (read : Reads Taken) (line : Line) (result : Result Turn Stop) → is_blank_line line ≡ false → WordsGive ignores read (taken line) result → LineGives ignores read line result
+pub words_line : (ignores : Bool) (read : Reads Taken) (line : Line) (result : Result Turn Stop) → is_blank_line line ≡ false → WordsGive ignores read (trimmed_line line) result → LineGives ignores read line result
 words_line ignores read line (Ok (Goes kept block)) words (h, stands, goes) = (
   h,
   stands,
-  λ rest. ap (after_next ignores read) (grouped_words line rest words) ∙ next_onto ignores read (taken line) (grouped rest) ∙ next_same ignores (λ ls close. read (taken line ∷ ls) close) (resumed ignores h block) (grouped rest) goes,
+  λ rest. ap (after_next ignores read) (grouped_words line rest words) ∙ next_onto ignores read (trimmed_line line) (grouped rest) ∙ next_same ignores (λ ls close. read (trimmed_line line ∷ ls) close) (block_resumed ignores h block) (grouped rest) goes,
 )
 words_line ignores read line (Ok (Stands_end end)) words gives = absurd gives
-words_line ignores read line (Err (Refused n why)) words gives = λ rest. ap (after_next ignores read) (grouped_words line rest words) ∙ next_onto ignores read (taken line) (grouped rest)
-    ∙ next_same ignores (λ ls close. read (taken line ∷ ls) close) (λ ls close. Err (record { line = n; why = why })) (grouped rest) gives ∙ refused (grouped rest) where
+words_line ignores read line (Err (Refused n why)) words gives = λ rest. ap (after_next ignores read) (grouped_words line rest words) ∙ next_onto ignores read (trimmed_line line) (grouped rest)
+    ∙ next_same ignores (λ ls close. read (trimmed_line line ∷ ls) close) (λ ls close. Err (record { line = n; why = why })) (grouped rest) gives ∙ refused (grouped rest) where
       refused : (gs : Groups) → after_next ignores (λ ls close. Err (record { line = n; why = why })) gs ≡ Err (record { line = n; why = why })
       refused (Group ls close rest) = refl
       refused (Last ls (Over m)) = refl
@@ -101,14 +101,14 @@ words_line ignores read line (Err NoMemory) words gives = tt
 -- ---- one line of the bytes that are left
 
 -- the groups that a broken line leaves are no block, and have no fault
-none_broken : (ignores : Bool) (h : History) (b : Block) → IsNoBlock (after_next ignores (resumed ignores h b) (grouped (Ends Broken)))
-none_broken ignores h b = go (resumed ignores h b [] None) (no_block_yet ignores h b) where
+none_broken : (ignores : Bool) (h : History) (b : Block) → IsNoBlock (after_next ignores (block_resumed ignores h b) (grouped (Ends Broken)))
+none_broken ignores h b = go (block_resumed ignores h b [] None) (no_block_yet ignores h b) where
   go : (r : Result Taken LineFault) → IsNone r → IsNoBlock (r >>= λ t. Ok (record { found = t.counts; history = t.history; left = Last [] Broken }))
   go (Ok t) none = none
   go (Err e) none = none
 
 pub turn_line : (ignores : Bool) (h : History) (b : Block) (old new : Reading) (xs ys : List ℕ) (line : Line) (result : Result Turn Stop) (left : Option (List ℕ))
-    → left ≡ Some ys → OneLine old xs line new ys → LineGives ignores (resumed ignores h b) line result → TurnGives ignores (resumed ignores h b) old xs result new left
+    → left ≡ Some ys → OneLine old xs line new ys → LineGives ignores (block_resumed ignores h b) line result → TurnGives ignores (block_resumed ignores h b) old xs result new left
 turn_line ignores h b old new xs ys line (Ok (Goes kept block)) left is one (h', stands, gives) = (
   h',
   stands,
@@ -119,10 +119,10 @@ turn_line ignores h b old new xs ys line (Ok (Goes kept block)) left is one (h',
       front = one.front;
       split = one.split;
       room = one.room;
-      same = ap (λ (l : Left). after_next ignores (resumed ignores h b) (grouped l)) one.ended ∙ gives (lines_left new true ys);
+      same = ap (λ (l : Left). after_next ignores (block_resumed ignores h b) (grouped l)) one.ended ∙ gives (lines_left new true ys);
       cut = λ d rest e. elim (one.cut d rest e) [
-        | inl s ↦ inl (ap (λ (l : Left). after_next ignores (resumed ignores h b) (grouped l)) s ∙ gives (lines_left new false d))
-        | inr s ↦ inr (s.0, subst (λ (l : Left). IsNoBlock (after_next ignores (resumed ignores h b) (grouped l))) (sym s.1) (none_broken ignores h b))
+        | inl s ↦ inl (ap (λ (l : Left). after_next ignores (block_resumed ignores h b) (grouped l)) s ∙ gives (lines_left new false d))
+        | inr s ↦ inr (s.0, subst (λ (l : Left). IsNoBlock (after_next ignores (block_resumed ignores h b) (grouped l))) (sym s.1) (none_broken ignores h b))
       ];
     },
   ),
@@ -138,17 +138,17 @@ turn_line ignores h b old new xs ys line (Ok (Stands_end end)) left is one (h', 
       split = one.split;
       room = one.room;
       nothing = λ first last. absurd (cc (last, over));
-      takes = ap (λ (l : Left). after_next ignores (resumed ignores h b) (grouped l)) one.ended ∙ gives (lines_left new true ys)
+      takes = ap (λ (l : Left). after_next ignores (block_resumed ignores h b) (grouped l)) one.ended ∙ gives (lines_left new true ys)
           ∙ ap (λ (o : Bool). Ok (record { found = end.found; history = h'; left = groups_left o new true ys })) (sym over);
       cut = λ d rest e. elim (one.cut d rest e) [
-        | inl s ↦ inl (ap (λ (l : Left). after_next ignores (resumed ignores h b) (grouped l)) s ∙ gives (lines_left new false d)
+        | inl s ↦ inl (ap (λ (l : Left). after_next ignores (block_resumed ignores h b) (grouped l)) s ∙ gives (lines_left new false d)
             ∙ ap (λ (o : Bool). Ok (record { found = end.found; history = h'; left = groups_left o new false d })) (sym over))
-        | inr s ↦ inr (s.0, subst (λ (l : Left). IsNoBlock (after_next ignores (resumed ignores h b) (grouped l))) (sym s.1) (none_broken ignores h b))
+        | inr s ↦ inr (s.0, subst (λ (l : Left). IsNoBlock (after_next ignores (block_resumed ignores h b) (grouped l))) (sym s.1) (none_broken ignores h b))
       ];
     },
   ),
 )
-turn_line ignores h b old new xs ys line (Err (Refused n why)) left is one gives = ap (λ (l : Left). after_next ignores (resumed ignores h b) (grouped l)) one.ended ∙ gives (lines_left new true ys)
+turn_line ignores h b old new xs ys line (Err (Refused n why)) left is one gives = ap (λ (l : Left). after_next ignores (block_resumed ignores h b) (grouped l)) one.ended ∙ gives (lines_left new true ys)
 turn_line ignores h b old new xs ys line (Err Read) left is one gives = absurd gives
 turn_line ignores h b old new xs ys line (Err NoMemory) left is one gives = tt
 
@@ -162,7 +162,7 @@ nothing_behind (b ∷ bs) zs e = absurd (cc (e))
 
 pub turn_end : (ignores : Bool) (h : History) (b : Block) (old new : Reading) (xs : List ℕ) (result : Result Turn Stop) (left : Option (List ℕ))
     → left ≡ Some [] → xs ≡ [] → lines_left old true xs ≡ Ends (Over (old.number + 1)) → new.number ≡ old.number → room_of new ≡ room_of old
-    → EndGives ignores (resumed ignores h b) (old.number + 1) result → TurnGives ignores (resumed ignores h b) old xs result new left
+    → EndGives ignores (block_resumed ignores h b) (old.number + 1) result → TurnGives ignores (block_resumed ignores h b) old xs result new left
 turn_end ignores h b old new xs (Ok (Goes kept block)) left is none over number room gives = absurd gives
 turn_end ignores h b old new xs (Ok (Stands_end end)) left is none over number room (h', stands, ends, gives) = (
   h',
@@ -175,63 +175,63 @@ turn_end ignores h b old new xs (Ok (Stands_end end)) left is none over number r
       split = none;
       room = room ∙ omega arith;
       nothing = λ first last. refl;
-      takes = ap (λ (l : Left). after_next ignores (resumed ignores h b) (grouped l)) over ∙ gives
+      takes = ap (λ (l : Left). after_next ignores (block_resumed ignores h b) (grouped l)) over ∙ gives
           ∙ ap (λ (n : ℕ). Ok (record { found = end.found; history = h'; left = Last [] (Over (n + 1)) })) (sym number)
           ∙ ap (λ (o : Bool). Ok (record { found = end.found; history = h'; left = groups_left o new true [] })) (sym ends);
       cut = λ d rest e. let none = nothing_left d rest e in
           inr (
             refl,
-            subst (λ (l : List ℕ). IsNoBlock (after_next ignores (resumed ignores h b) (grouped (lines_left old false l)))) (sym none)
-                (subst (λ (l : Left). IsNoBlock (after_next ignores (resumed ignores h b) (grouped l))) (sym (at_break old)) (none_broken ignores h b)),
+            subst (λ (l : List ℕ). IsNoBlock (after_next ignores (block_resumed ignores h b) (grouped (lines_left old false l)))) (sym none)
+                (subst (λ (l : Left). IsNoBlock (after_next ignores (block_resumed ignores h b) (grouped l))) (sym (at_break old)) (none_broken ignores h b)),
           );
     },
   ),
 )
-turn_end ignores h b old new xs (Err (Refused n why)) left is none over number room gives = ap (λ (l : Left). after_next ignores (resumed ignores h b) (grouped l)) over ∙ gives
+turn_end ignores h b old new xs (Err (Refused n why)) left is none over number room gives = ap (λ (l : Left). after_next ignores (block_resumed ignores h b) (grouped l)) over ∙ gives
 turn_end ignores h b old new xs (Err Read) left is none over number room gives = absurd gives
 turn_end ignores h b old new xs (Err NoMemory) left is none over number room gives = tt
 
 -- the fault of a line that is too long, behind a block that holds none
-faulty : (ignores : Bool) (h : History) (b : Block) (n : ℕ) (why : Why) → then_fault n why (resumed ignores h b [] None) ≡ Err (record { line = n; why = why })
-faulty ignores h b n why = go (resumed ignores h b [] None) (no_block_yet ignores h b) where
+faulty : (ignores : Bool) (h : History) (b : Block) (n : ℕ) (why : Why) → then_fault n why (block_resumed ignores h b [] None) ≡ Err (record { line = n; why = why })
+faulty ignores h b n why = go (block_resumed ignores h b [] None) (no_block_yet ignores h b) where
   go : (r : Result Taken LineFault) → IsNone r → then_fault n why r ≡ Err (record { line = n; why = why })
   go (Ok t) none = refl
   go (Err e) none = absurd none
 
 pub turn_fault : (ignores : Bool) (h : History) (b : Block) (old new : Reading) (xs : List ℕ) (left : Option (List ℕ)) (fault : fault.LineFault)
-    → Gives old xs (Err fault) new left → TurnGives ignores (resumed ignores h b) old xs (Err (unread fault)) new left
+    → NextGives old xs (Err fault) new left → TurnGives ignores (block_resumed ignores h b) old xs (Err (stop_of_unread fault)) new left
 turn_fault ignores h b old new xs left line.Read gives = record {
   front = gives.0;
   rest = gives.1.0;
   split = gives.1.1;
   left_is = gives.1.2;
-  fine = subst (λ (l : Left). IsNoBlock (after_next ignores (resumed ignores h b) (grouped l))) (sym gives.1.3) (none_broken ignores h b);
+  fine = subst (λ (l : Left). IsNoBlock (after_next ignores (block_resumed ignores h b) (grouped l))) (sym gives.1.3) (none_broken ignores h b);
 }
 turn_fault ignores h b old new xs left (line.LongLine n) gives =
-    ap (λ (l : Left). after_next ignores (resumed ignores h b) (grouped l)) (gives true)
+    ap (λ (l : Left). after_next ignores (block_resumed ignores h b) (grouped l)) (gives true)
     ∙ ap (λ (r : Result Taken LineFault). r >>= λ t. Ok (record { found = t.counts; history = t.history; left = Last [] (LongLine n) })) (faulty ignores h b n WhyLong)
 turn_fault ignores h b old new xs left (line.TooLong n) gives =
-    ap (λ (l : Left). after_next ignores (resumed ignores h b) (grouped l)) (gives true)
+    ap (λ (l : Left). after_next ignores (block_resumed ignores h b) (grouped l)) (gives true)
     ∙ ap (λ (r : Result Taken LineFault). r >>= λ t. Ok (record { found = t.counts; history = t.history; left = Last [] (TooLong n) })) (faulty ignores h b n WhyMany)
 turn_fault ignores h b old new xs left line.NoMemory gives = tt
 
 -- ---- what one call of `next` tells
 
 pub told_line : (ignores : Bool) (h : History) (b : Block) (old new : Reading) (o left : Option (List ℕ)) (line : Line) (result : Result Turn Stop)
-    → IsNext old o (Ok (Some line)) new left → LineGives ignores (resumed ignores h b) line result → IfSome o (λ xs. TurnGives ignores (resumed ignores h b) old xs result new left)
+    → IsNextLine old o (Ok (Some line)) new left → LineGives ignores (block_resumed ignores h b) line result → IfSome o (λ xs. TurnGives ignores (block_resumed ignores h b) old xs result new left)
 told_line ignores h b old new None left line result next does = tt
 told_line ignores h b old new (Some xs) left line result next does =
     turn_line ignores h b old new xs next.gives.0 line result left next.gives.1 next.gives.2 does
 
 pub told_end : (ignores : Bool) (h : History) (b : Block) (old new : Reading) (o left : Option (List ℕ)) (result : Result Turn Stop)
-    → IsNext old o (Ok None) new left → EndGives ignores (resumed ignores h b) (old.number + 1) result → IfSome o (λ xs. TurnGives ignores (resumed ignores h b) old xs result new left)
+    → IsNextLine old o (Ok None) new left → EndGives ignores (block_resumed ignores h b) (old.number + 1) result → IfSome o (λ xs. TurnGives ignores (block_resumed ignores h b) old xs result new left)
 told_end ignores h b old new None left result next does = tt
 told_end ignores h b old new (Some xs) left result next does =
     let room : room_of new ≡ room_of old = ap (λ (l : Limits). l.total - new.total) next.limits_stay ∙ ap (λ (t : ℕ). old.limits.total - t) next.counts.1 in
     turn_end ignores h b old new xs result left next.gives.1 next.gives.0 (ap (lines_left old true) next.gives.0 ∙ at_end old) next.counts.2 room does
 
 pub told_fault : (ignores : Bool) (h : History) (b : Block) (old new : Reading) (o left : Option (List ℕ)) (fault : fault.LineFault)
-    → IsNext old o (Err fault) new left → IfSome o (λ xs. TurnGives ignores (resumed ignores h b) old xs (Err (unread fault)) new left)
+    → IsNextLine old o (Err fault) new left → IfSome o (λ xs. TurnGives ignores (block_resumed ignores h b) old xs (Err (stop_of_unread fault)) new left)
 told_fault ignores h b old new None left fault next = tt
 told_fault ignores h b old new (Some xs) left fault next = turn_fault ignores h b old new xs left fault next.gives
 
@@ -244,13 +244,13 @@ grown_true : (over : Bool) (r new : Reading) → over ≡ true → r.total ≤ n
 grown_true over r new e a = subst (λ (o : Bool). Grown o r new) (sym e) a
 
 pub counts_line : (old new : Reading) (o left : Option (List ℕ)) (line : Line) (result : Result Turn Stop)
-    → IsNext old o (Ok (Some line)) new left → LineShape result → TurnCounts old result new
+    → IsNextLine old o (Ok (Some line)) new left → LineShape result → TurnCounts old result new
 counts_line old new o left line (Ok (Goes kept block)) gives shape = (gives.limits_stay, gives.counts.2, gives.counts.4, gives.counts.5)
 counts_line old new o left line (Ok (Stands_end end)) gives shape = (gives.limits_stay, (gives.counts.2 ∙ ap not (sym shape.0), grown_false end.is_over old new shape.0 gives.counts.4 gives.counts.5, λ none. absurd (cc (none, shape.1))))
 counts_line old new o left line (Err e) gives shape = gives.limits_stay
 
 pub counts_end : (old new : Reading) (o left : Option (List ℕ)) (result : Result Turn Stop)
-    → IsNext old o (Ok None) new left → EndShape result → TurnCounts old result new
+    → IsNextLine old o (Ok None) new left → EndShape result → TurnCounts old result new
 counts_end old new o left (Ok (Goes kept block)) gives shape = absurd shape
 counts_end old new o left (Ok (Stands_end end)) gives shape = (gives.limits_stay, (gives.counts.0 ∙ ap not (sym shape), grown_true end.is_over old new shape (omega (arith, gives.counts.1)), λ none. shape))
 counts_end old new o left (Err e) gives shape = gives.limits_stay
@@ -276,7 +276,7 @@ Goes_to ignores read r xs kept block new left = TurnGives ignores read r xs (Ok 
 
 -- no line was read yet
 pub begun : (ignores : Bool) (h : History) (kept : Kept) (block : Block) (r : Reading) (o : Option (List ℕ)) → Stands kept h
-    → ((ls : List Line) (close : Option ℕ) → resumed ignores h block ls close ≡ effect_of ignores h ls close) → IfSome o (λ xs. Goes_to ignores (effect_of ignores h) r xs kept block r o)
+    → ((ls : List Line) (close : Option ℕ) → block_resumed ignores h block ls close ≡ effect_of ignores h ls close) → IfSome o (λ xs. Goes_to ignores (effect_of ignores h) r xs kept block r o)
 begun ignores h kept block r None stands begins = tt
 begun ignores h kept block r (Some xs) stands begins = (
   h,
@@ -288,8 +288,8 @@ begun ignores h kept block r (Some xs) stands begins = (
       front = [];
       split = refl;
       room = omega arith;
-      same = sym (next_same ignores (resumed ignores h block) (effect_of ignores h) (groups_left false r true xs) begins);
-      cut = λ d rest e. inl (sym (next_same ignores (resumed ignores h block) (effect_of ignores h) (groups_left false r false d) begins));
+      same = sym (next_same ignores (block_resumed ignores h block) (effect_of ignores h) (groups_left false r true xs) begins);
+      cut = λ d rest e. inl (sym (next_same ignores (block_resumed ignores h block) (effect_of ignores h) (groups_left false r false d) begins));
     },
   ),
 )
@@ -338,19 +338,19 @@ stops_on ignores read mid r new xs ys left a b = record {
 
 pub turn_on : (ignores : Bool) (read : Reads Taken) (r new last : Reading) (xs : List ℕ) (kept : Kept) (block : Block) (mid left : Option (List ℕ)) (result : Result Turn Stop)
     → Goes_to ignores read r xs kept block new mid
-    → ((h : History) → Stands kept h → IfSome mid (λ ys. TurnGives ignores (resumed ignores h block) new ys result last left))
+    → ((h : History) → Stands kept h → IfSome mid (λ ys. TurnGives ignores (block_resumed ignores h block) new ys result last left))
     → TurnGives ignores read r xs result last left
-turn_on ignores read r new last xs kept block mid left result (h, stands, (ys, is, moves)) turn = go result (subst (λ (o : Option (List ℕ)). IfSome o (λ ys. TurnGives ignores (resumed ignores h block) new ys result last left)) is (turn h stands)) where
-  go : (result : Result Turn Stop) → TurnGives ignores (resumed ignores h block) new ys result last left → TurnGives ignores read r xs result last left
-  go (Ok (Goes k b)) (h', s, (zs, e, m)) = (h', s, (zs, e, moves_on ignores read (resumed ignores h block) (resumed ignores h' b) r new last xs ys zs moves m))
-  go (Ok (Stands_end end)) (h', s, (zs, e, m)) = (h', s, (zs, e, steps_on ignores read (resumed ignores h block) r new last xs ys zs end.found end.is_over h' moves m))
+turn_on ignores read r new last xs kept block mid left result (h, stands, (ys, is, moves)) turn = go result (subst (λ (o : Option (List ℕ)). IfSome o (λ ys. TurnGives ignores (block_resumed ignores h block) new ys result last left)) is (turn h stands)) where
+  go : (result : Result Turn Stop) → TurnGives ignores (block_resumed ignores h block) new ys result last left → TurnGives ignores read r xs result last left
+  go (Ok (Goes k b)) (h', s, (zs, e, m)) = (h', s, (zs, e, moves_on ignores read (block_resumed ignores h block) (block_resumed ignores h' b) r new last xs ys zs moves m))
+  go (Ok (Stands_end end)) (h', s, (zs, e, m)) = (h', s, (zs, e, steps_on ignores read (block_resumed ignores h block) r new last xs ys zs end.found end.is_over h' moves m))
   go (Err (Refused line why)) gives = moves.same ∙ gives
-  go (Err Read) gives = stops_on ignores read (resumed ignores h block) r new xs ys left moves gives
+  go (Err Read) gives = stops_on ignores read (block_resumed ignores h block) r new xs ys left moves gives
   go (Err NoMemory) gives = tt
 
 pub told_on : (ignores : Bool) (read : Reads Taken) (r new last : Reading) (o mid left : Option (List ℕ)) (kept : Kept) (block : Block) (result : Result Turn Stop)
     → IfSome o (λ xs. Goes_to ignores read r xs kept block new mid)
-    → ((h : History) → Stands kept h → IfSome mid (λ ys. TurnGives ignores (resumed ignores h block) new ys result last left))
+    → ((h : History) → Stands kept h → IfSome mid (λ ys. TurnGives ignores (block_resumed ignores h block) new ys result last left))
     → IfSome o (λ xs. TurnGives ignores read r xs result last left)
 told_on ignores read r new last None mid left kept block result goes turn = tt
 told_on ignores read r new last (Some xs) mid left kept block result goes turn = turn_on ignores read r new last xs kept block mid left result goes turn
@@ -362,7 +362,7 @@ told_stop ignores read r last (Some xs) left Read gives = gives
 told_stop ignores read r last (Some xs) left NoMemory gives = gives
 
 -- at the file's end nothing is read
-pub still_over : {F : Type 0} (s : Session F) (h : History) (r : Reading) (o : Option (List ℕ)) → s.is_over ≡ true → Stands s.kept h → IfSome o (λ xs. Answers s h r xs (Ok (s, false)) r o)
+pub still_over : {F : Type 0} (s : Session F) (h : History) (r : Reading) (o : Option (List ℕ)) → s.is_over ≡ true → Stands s.kept h → IfSome o (λ xs. NextBlock s h r xs (Ok (s, false)) r o)
 still_over s h r None over stands = tt
 still_over s h r (Some xs) over stands = (
   h,
@@ -428,40 +428,40 @@ empty_len (b ∷ bs) = eqb-suc-zero (length bs)
 
 -- ---- one line, whose end of a block is made apart
 
-pub words_step : (ignores : Bool) (kept : Kept) (read : Reads Taken) (line : Line) (block : Block) → is_blank_line line ≡ false → WordsGive ignores read (taken line) (Ok (Goes kept block)) → LineStep ignores kept block read line (Ok More)
+pub words_step : (ignores : Bool) (kept : Kept) (read : Reads Taken) (line : Line) (block : Block) → is_blank_line line ≡ false → WordsGive ignores read (trimmed_line line) (Ok (Goes kept block)) → LineStep ignores kept block read line (Ok More)
 words_step ignores kept read line block words gives = words_line ignores read line (Ok (Goes kept block)) words gives
 
-pub words_fault : (ignores : Bool) (kept : Kept) (block : Block) (read : Reads Taken) (line : Line) (stop : Stop) → is_blank_line line ≡ false → WordsGive ignores read (taken line) (Err stop) → LineStep ignores kept block read line (Err stop)
+pub words_fault : (ignores : Bool) (kept : Kept) (block : Block) (read : Reads Taken) (line : Line) (stop : Stop) → is_blank_line line ≡ false → WordsGive ignores read (trimmed_line line) (Err stop) → LineStep ignores kept block read line (Err stop)
 words_fault ignores kept block read line stop words gives = words_line ignores read line (Err stop) words gives
 
 pub blank_step : (ignores : Bool) (kept : Kept) (read : Reads Taken) (line : Line) (block : Block) → is_blank_line line ≡ true → LineStep ignores kept block read line (Ok (Ended line.number false))
 blank_step ignores kept read line block blank turn gives = blank_line ignores read line turn blank gives
 
 pub step_line : (ignores : Bool) (h : History) (kept : Kept) (b block : Block) (old new : Reading) (o left : Option (List ℕ)) (line : Line) (result : Result Step Stop)
-    → IsNext old o (Ok (Some line)) new left → LineStep ignores kept block (resumed ignores h b) line result → IfSome o (λ xs. StepGives ignores kept block (resumed ignores h b) old xs result new left)
+    → IsNextLine old o (Ok (Some line)) new left → LineStep ignores kept block (block_resumed ignores h b) line result → IfSome o (λ xs. StepGives ignores kept block (block_resumed ignores h b) old xs result new left)
 step_line ignores h kept b block old new None left line result next does = tt
 step_line ignores h kept b block old new (Some xs) left line (Ok More) next does = told_line ignores h b old new (Some xs) left line (Ok (Goes kept block)) next does
 step_line ignores h kept b block old new (Some xs) left line (Ok (Ended number over)) next does = λ turn closes. told_line ignores h b old new (Some xs) left line turn next (does turn closes)
 step_line ignores h kept b block old new (Some xs) left line (Err stop) next does = told_line ignores h b old new (Some xs) left line (Err stop) next does
 
 pub step_end : (ignores : Bool) (h : History) (kept : Kept) (b block : Block) (old new : Reading) (o left : Option (List ℕ)) (number : ℕ) → number ≡ old.number + 1
-    → IsNext old o (Ok None) new left → IfSome o (λ xs. StepGives ignores kept block (resumed ignores h b) old xs (Ok (Ended number true)) new left)
+    → IsNextLine old o (Ok None) new left → IfSome o (λ xs. StepGives ignores kept block (block_resumed ignores h b) old xs (Ok (Ended number true)) new left)
 step_end ignores h kept b block old new None left number is next = tt
 step_end ignores h kept b block old new (Some xs) left number is next =
-    λ turn closes. told_end ignores h b old new (Some xs) left turn next (subst (λ (n : ℕ). EndGives ignores (resumed ignores h b) n turn) is closes)
+    λ turn closes. told_end ignores h b old new (Some xs) left turn next (subst (λ (n : ℕ). EndGives ignores (block_resumed ignores h b) n turn) is closes)
 
 pub step_fault : (ignores : Bool) (h : History) (kept : Kept) (b block : Block) (old new : Reading) (o left : Option (List ℕ)) (fault : fault.LineFault)
-    → IsNext old o (Err fault) new left → IfSome o (λ xs. StepGives ignores kept block (resumed ignores h b) old xs (Err (unread fault)) new left)
+    → IsNextLine old o (Err fault) new left → IfSome o (λ xs. StepGives ignores kept block (block_resumed ignores h b) old xs (Err (stop_of_unread fault)) new left)
 step_fault ignores h kept b block old new None left fault next = tt
 step_fault ignores h kept b block old new (Some xs) left fault next = told_fault ignores h b old new (Some xs) left fault next
 
 pub step_counts : (kept : Kept) (b block : Block) (old new : Reading) (o left : Option (List ℕ)) (line : Line) (result : Result Step Stop)
-    → IsNext old o (Ok (Some line)) new left → LineStepShape kept b block result → StepCounts old result new
+    → IsNextLine old o (Ok (Some line)) new left → LineStepShape kept b block result → StepCounts old result new
 step_counts kept b block old new o left line (Ok More) gives shape = (gives.limits_stay, gives.counts.2, gives.counts.4, gives.counts.5)
 step_counts kept b block old new o left line (Ok (Ended number over)) gives shape = λ turn closes. counts_line old new o left line turn gives (subst (λ (o : Bool). ShapeAt o turn) shape.1 closes)
 step_counts kept b block old new o left line (Err e) gives shape = gives.limits_stay
 
-pub end_counts : (old new : Reading) (o left : Option (List ℕ)) (number : ℕ) → IsNext old o (Ok None) new left → StepCounts old (Ok (Ended number true)) new
+pub end_counts : (old new : Reading) (o left : Option (List ℕ)) (number : ℕ) → IsNextLine old o (Ok None) new left → StepCounts old (Ok (Ended number true)) new
 end_counts old new o left number gives = λ turn closes. counts_end old new o left turn gives closes
 
 pub line_step_shape : (kept : Kept) (b block : Block) (result : Result Step Stop) → LineStepShape kept b block result → StepShape kept b block result
@@ -488,16 +488,16 @@ fits_at false kept block shape = shape
 
 -- the turn that a line and the end of its block make
 pub closed_on : (ignores : Bool) (h : History) (kept : Kept) (b block : Block) (r new : Reading) (number : ℕ) (over : Bool) (o left : Option (List ℕ)) (turn : Result Turn Stop)
-    → block ≡ b → IfSome o (λ xs. StepGives ignores kept block (resumed ignores h b) r xs (Ok (Ended number over)) new left) → ClosesAt ignores over (resumed ignores h block) number turn
-    → IfSome o (λ xs. TurnGives ignores (resumed ignores h b) r xs turn new left)
+    → block ≡ b → IfSome o (λ xs. StepGives ignores kept block (block_resumed ignores h b) r xs (Ok (Ended number over)) new left) → ClosesAt ignores over (block_resumed ignores h block) number turn
+    → IfSome o (λ xs. TurnGives ignores (block_resumed ignores h b) r xs turn new left)
 closed_on ignores h kept b block r new number over None left turn same gives closes = tt
-closed_on ignores h kept b block r new number over (Some xs) left turn same gives closes = gives turn (subst (λ (c : Block). ClosesAt ignores over (resumed ignores h c) number turn) same closes)
+closed_on ignores h kept b block r new number over (Some xs) left turn same gives closes = gives turn (subst (λ (c : Block). ClosesAt ignores over (block_resumed ignores h c) number turn) same closes)
 
 -- ---- the session behind the end of a block
 
 pub block_answers : {F : Type 0} (s : Session F) (h : History) (r new : Reading) (o left : Option (List ℕ)) (end : Ending) (a : Session F × Bool) → s.is_over ≡ false
     → a.0.kept ≡ end.kept → a.0.is_over ≡ end.is_over → a.1 ≡ end.found
-    → IfSome o (λ xs. BlockGives (ignores_of s) (effect_of (ignores_of s) h) false r xs (Ok end) new left) → IfSome o (λ xs. Answers s h r xs (Ok a) new left)
+    → IfSome o (λ xs. BlockGives (ignores_of s) (effect_of (ignores_of s) h) false r xs (Ok end) new left) → IfSome o (λ xs. NextBlock s h r xs (Ok a) new left)
 block_answers s h r new None left end a begun kept over found gives = tt
 block_answers s h r new (Some xs) left end a begun kept over found (h', stands, (ys, is, steps)) = (
   h',

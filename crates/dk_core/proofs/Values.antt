@@ -21,18 +21,18 @@ use Rattle.dk_decl.specs.declared.decls.PointDecl.{PointDecl}
 use Rattle.dk_decl.specs.declared.decls.VarDecl.{VarDecl}
 use Rattle.dk_graph.specs.Names.{place_of}
 use Rattle.dk_points.proofs.Keeping.{base-vars-none, entry-within}
-use Rattle.dk_points.specs.Table.{Point, decl_if_declared, decl_of, names}
+use Rattle.dk_points.specs.Table.{Point, decl_at, decl_if_declared, names}
 use Rattle.dk_points.specs.Vars.{base_vars, declared_vars, entry_before, entry_of, vars_of}
 use Rattle.dk_trace.proofs.Fitted.{samples_fit}
 use Rattle.dk_trace.specs.Bodies.{body_of}
-use Rattle.dk_trace.specs.Fitting.{FitKinds, HasFittingConstant, kinds_of}
-use Rattle.dk_trace.specs.Records.{Sample, declared_place, declared_vars as vars_declared, point_at, sample_of, sample_with}
+use Rattle.dk_trace.specs.Fitting.{FitKinds, HasFittingConstant, declared_kinds}
+use Rattle.dk_trace.specs.Records.{Sample, declared_place, point_named_by, sample_of, sample_with, var_decls_at as vars_declared}
 use Rattle.dk_core.specs.Fitting.{CallFits, ConstantsFit, FitAt, HasFittingConstants}
 use Rattle.dk_core.specs.History.{base_values}
 
 -- ---- records
 -- the declaration of a declared point is that of the point
-decl_constants : (ps : List Point) (p : ℕ) (d : PointDecl) → ConstantsFit ps → decl_of ps p ≡ Some d → HasFittingConstants d
+decl_constants : (ps : List Point) (p : ℕ) (d : PointDecl) → ConstantsFit ps → decl_at ps p ≡ Some d → HasFittingConstants d
 decl_constants [] p d all is = absurd (cc is)
 decl_constants (q ∷ ps) zero d all is = by q.is_implicit is
   where
@@ -42,28 +42,28 @@ decl_constants (q ∷ ps) zero d all is = by q.is_implicit is
 decl_constants (q ∷ ps) (suc p) d all is = decl_constants ps p d (All-tail (λ (x : Point). HasFittingConstants x.decl) q ps all) is
 
 -- a record is of a declared point
-declared_there : (ps : List Point) (first : Line) (p : ℕ) → point_at ps first ≡ Ok p → (d : PointDecl) × (decl_of ps p ≡ Some d)
-unfolding point_at
+declared_there : (ps : List Point) (first : Line) (p : ℕ) → point_named_by ps first ≡ Ok p → (d : PointDecl) × (decl_at ps p ≡ Some d)
+unfolding point_named_by
 declared_there ps first p e = by (place_of (names ps) (unescaped first.bytes)) e
   where
-    at : (q : ℕ) (o : Option PointDecl) → decl_of ps q ≡ o → or_refused UnknownPoint first.number (option_map (λ _. q) o) ≡ Ok p → (d : PointDecl) × (decl_of ps p ≡ Some d)
+    at : (q : ℕ) (o : Option PointDecl) → decl_at ps q ≡ o → or_refused UnknownPoint first.number (option_map (λ _. q) o) ≡ Ok p → (d : PointDecl) × (decl_at ps p ≡ Some d)
     at q None is e = absurd (cc e)
-    at q (Some d) is e = let same : q ≡ p = cc e in (d, subst (λ (k : ℕ). decl_of ps k ≡ Some d) same is)
+    at q (Some d) is e = let same : q ≡ p = cc e in (d, subst (λ (k : ℕ). decl_at ps k ≡ Some d) same is)
 
-    by : (o : Option ℕ) → or_refused UnknownPoint first.number (option_and_then (λ q. option_map (λ _. q) (decl_of ps q)) o) ≡ Ok p → (d : PointDecl) × (decl_of ps p ≡ Some d)
+    by : (o : Option ℕ) → or_refused UnknownPoint first.number (option_and_then (λ q. option_map (λ _. q) (decl_at ps q)) o) ≡ Ok p → (d : PointDecl) × (decl_at ps p ≡ Some d)
     by None e = absurd (cc e)
-    by (Some q) e = at q (decl_of ps q) refl e
+    by (Some q) e = at q (decl_at ps q) refl e
 
 pub sample_fits : (ps : List Point) (first : Line) (ls : List Line) (close : ℕ) (s : Sample) → ConstantsFit ps → sample_of ps first ls (Some close) ≡ Ok s → FitAt ps s.point s.values
 unfolding sample_of vars_declared
 sample_fits ps first ls close s all e =
-    bind_ok (point_at ps first) (λ p. sample_with p first.number (body_of (vars_declared ps p) ls (Some close))) s e (λ p is read.
+    bind_ok (point_named_by ps first) (λ p. sample_with p first.number (body_of (vars_declared ps p) ls (Some close))) s e (λ p is read.
     bind_ok (body_of (vars_declared ps p) ls (Some close)) (λ b. Ok (record { point = p; line = first.number; nonce = b.nonce; values = b.values })) s read (λ b body whole.
     let point : p ≡ s.point = cc whole in
     let there = declared_there ps first p is in
-    let here : decl_of ps s.point ≡ Some there.0 = subst (λ (k : ℕ). decl_of ps k ≡ Some there.0) point there.1 in
+    let here : decl_at ps s.point ≡ Some there.0 = subst (λ (k : ℕ). decl_at ps k ≡ Some there.0) point there.1 in
     let vars : vars_declared ps s.point ≡ there.0.vars = ap (λ (o : Option PointDecl). option_map_or (λ d. d.vars) o []) here in
-    let P : List VarDecl → Type 0 = λ vs. FitKinds (kinds_of vs) s.values in
+    let P : List VarDecl → Type 0 = λ vs. FitKinds (declared_kinds vs) s.values in
     (there.0, here, subst P vars (samples_fit ps first ls close s (subst (All HasFittingConstant) (sym vars) (decl_constants ps s.point there.0 all here)) e))))
 
 -- ---- entries
@@ -126,17 +126,17 @@ entry_first ps p e is = by (slice_get ps p) is
         let within : e < length (take p ps) = subst (λ (o : Option ℕ). IfSome o (λ i. i < length (take p ps))) is (entry-within (take p ps) q.decl.name) in
         omega (arith, within, length-take p ps)
 
-kinds_declared : (vs : List VarDecl) → base_kinds (declared_vars vs) ≡ kinds_of vs
+kinds_declared : (vs : List VarDecl) → base_kinds (declared_vars vs) ≡ declared_kinds vs
 kinds_declared [] = refl
 kinds_declared (v ∷ vs) = by v.kind (kinds_declared vs)
   where
-    by : (k : Option Kind) → base_kinds (declared_vars vs) ≡ kinds_of vs
-        → base_kinds (cons_option (option_map (λ k. record { name = v.name; kind = k; form = form.Declared; compar = v.compar }) k) (declared_vars vs)) ≡ cons_option k (kinds_of vs)
+    by : (k : Option Kind) → base_kinds (declared_vars vs) ≡ declared_kinds vs
+        → base_kinds (cons_option (option_map (λ k. record { name = v.name; kind = k; form = form.Declared; compar = v.compar }) k) (declared_vars vs)) ≡ cons_option k (declared_kinds vs)
     by None h = h
     by (Some k) h = ap (λ (ks : List Kind). k ∷ ks) h
 
 -- a point without an entry has the variables that it declares
-plain_kinds : (ps : List Point) (p : ℕ) (d : PointDecl) → decl_of ps p ≡ Some d → entry_of ps p ≡ None → base_kinds (vars_of ps p) ≡ kinds_of d.vars
+plain_kinds : (ps : List Point) (p : ℕ) (d : PointDecl) → decl_at ps p ≡ Some d → entry_of ps p ≡ None → base_kinds (vars_of ps p) ≡ declared_kinds d.vars
 unfolding vars_of entry_of
 plain_kinds ps p d is none = by (slice_get ps p) is none
   where
@@ -145,11 +145,11 @@ plain_kinds ps p d is none = by (slice_get ps p) is none
     declared q false is = cc is
 
     by : (o : Option Point) → option_and_then decl_if_declared o ≡ Some d → option_and_then (λ q. entry_before (take p ps) q.decl.name) o ≡ None
-        → base_kinds (option_map_or (λ q. base_vars (take p ps) q.decl) o []) ≡ kinds_of d.vars
+        → base_kinds (option_map_or (λ q. base_vars (take p ps) q.decl) o []) ≡ declared_kinds d.vars
     by None is none = absurd (cc is)
     by (Some q) is none =
         let same : q.decl ≡ d = declared q q.is_implicit is in
-        ap base_kinds (base-vars-none (take p ps) q.decl none) ∙ kinds_declared q.decl.vars ∙ ap (λ (x : PointDecl). kinds_of x.vars) same
+        ap base_kinds (base-vars-none (take p ps) q.decl none) ∙ kinds_declared q.decl.vars ∙ ap (λ (x : PointDecl). declared_kinds x.vars) same
 
 -- the call of a record
 pub call_fits : (ps : List Point) (s : Sample) → FitAt ps s.point s.values → CallFits ps (call_of ps s)
@@ -183,5 +183,5 @@ base_fit ps s earlier values fits all e = by (entry_of ps s.point) refl e
     by None is e =
         let same : s.values ≡ values = cc e in
         let P : List Kind → Type 0 = λ ks. FitKinds ks values in
-        subst P (sym (plain_kinds ps s.point fits.0 fits.1 is)) (subst (FitKinds (kinds_of fits.0.vars)) same fits.2)
+        subst P (sym (plain_kinds ps s.point fits.0 fits.1 is)) (subst (FitKinds (declared_kinds fits.0.vars)) same fits.2)
     by (Some p) is e = at_exit p is (find (is_of p s.nonce) (waiting_of earlier)) refl e

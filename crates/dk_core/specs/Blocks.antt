@@ -18,9 +18,9 @@ abbrev pub is_blank_line : Line → Bool
 is_blank_line l = is_empty (trimmed l.bytes)
 
 -- without the blanks at its two ends
-abbrev pub taken : Line → Line
-taken l = record l { bytes = trimmed l.bytes }
+abbrev pub trimmed_line : Line → Line
+trimmed_line l = record l { bytes = trimmed l.bytes }
 
 abbrev pub grouped : Left → Groups
 grouped (Ends end) = Last [] end
-grouped (Next l rest) = if is_blank_line l then Group [] l.number (grouped rest) else onto_group (taken l) (grouped rest)
+grouped (Next l rest) = if is_blank_line l then Group [] l.number (grouped rest) else onto_group (trimmed_line l) (grouped rest)

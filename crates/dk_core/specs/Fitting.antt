@@ -2,16 +2,16 @@
 use Rattle.std.specs.Prelude.{◌≡◌, ℕ, ⊤, All, List, Ok, Some}
 use Rattle.dk_base.specs.Reading.{Line}
 use Rattle.dk_base.specs.declared.values.Value.{Value}
-use Rattle.dk_calls.specs.Standing.{StandsFor as CallsStandFor}
+use Rattle.dk_calls.specs.Standing.{CallsStandForRecords as CallsStandFor}
 use Rattle.dk_calls.specs.Waiting.{Call, enters, exits, other}
 use Rattle.dk_calls.specs.declared.calls.Calls.{Calls}
-use Rattle.dk_decl.specs.Blocks.{resumed as decl_resumed}
+use Rattle.dk_decl.specs.Blocks.{decl_resumed}
 use Rattle.dk_decl.specs.declared.block.DeclBlock.{DeclBlock}
 use Rattle.dk_decl.specs.declared.decls.PointDecl.{PointDecl}
-use Rattle.dk_points.specs.Table.{Point, decl_of}
-use Rattle.dk_trace.specs.Fitting.{FitKinds, HasFittingConstant, kinds_of}
+use Rattle.dk_points.specs.Table.{Point, decl_at}
+use Rattle.dk_trace.specs.Fitting.{FitKinds, HasFittingConstant, declared_kinds}
 use Rattle.dk_trace.specs.Records.{Sample}
-use Rattle.dk_trace.specs.RecordsResumed.{resumed as record_resumed}
+use Rattle.dk_trace.specs.RecordsResumed.{record_resumed}
 use Rattle.dk_trace.specs.declared.reader.RecordReader.{RecordReader}
 
 -- ---- constants
@@ -29,7 +29,7 @@ DeclaresFitting reader = (ls : List Line) (close : ℕ) (d : PointDecl) → decl
 -- ---- records
 -- a record's values are of the variables that the point at this place declares
 abbrev pub FitAt : List Point → ℕ → List Value → Type 0
-FitAt ps p values = (d : PointDecl) × (decl_of ps p ≡ Some d) × FitKinds (kinds_of d.vars) values
+FitAt ps p values = (d : PointDecl) × (decl_at ps p ≡ Some d) × FitKinds (declared_kinds d.vars) values
 
 -- whatever lines are left, the record's values are
 abbrev pub ReadsFitting : List Point → RecordReader → Type 0

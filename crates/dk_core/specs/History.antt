@@ -5,7 +5,7 @@ use Rattle.dk_base.specs.Reading.{Line, LineFault, Reads, ◌>>=◌}
 use Rattle.dk_base.specs.Words.{first_word}
 use Rattle.dk_base.specs.declared.values.Value.{Value}
 use Rattle.dk_base.specs.declared.why.Why.TheVariants.{BadHeader}
-use Rattle.dk_decl.specs.Blocks.{decl_of}
+use Rattle.dk_decl.specs.Blocks.{block_decl}
 use Rattle.dk_decl.specs.Headers.{awaits_word, first_header, is_implicit}
 use Rattle.dk_decl.specs.Outcomes.{refused}
 use Rattle.dk_decl.specs.declared.decls.PointDecl.{PointDecl}
@@ -95,7 +95,7 @@ is_list_of_implementors bytes = bytes_eq bytes (codes "ListImplementors")
 
 -- what the lines of a declaration do, behind its first line
 abbrev pub after_declaration : History → Line → Reads Taken
-after_declaration h first ls close = decl_of (is_implicit h.header) first ls close >>= λ d. where_it_ends close h (with_declaration h first.number d)
+after_declaration h first ls close = block_decl (is_implicit h.header) first ls close >>= λ d. where_it_ends close h (with_declaration h first.number d)
 
 -- what the lines of a sample record do, behind its first line
 abbrev pub after_sample : Bool → History → Line → Reads Taken

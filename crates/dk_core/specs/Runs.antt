@@ -2,7 +2,7 @@
 use Rattle.std.specs.Prelude.{◌≡◌, false, true, All, List, [], ◌∷◌, map}
 use Rattle.dk_base.specs.Reading.{Line}
 use Rattle.dk_lines.specs.Left.{Left, Ends, Next}
-use Rattle.dk_core.specs.Blocks.{Groups, Group, Last, grouped, is_blank_line, taken}
+use Rattle.dk_core.specs.Blocks.{Groups, Group, Last, grouped, is_blank_line, trimmed_line}
 
 -- these lines, and then what is left
 abbrev pub in_front : List Line → Left → Left
@@ -13,7 +13,7 @@ in_front (l ∷ ls) rest = Next l (in_front ls rest)
 pub record IsRun (run : List Line) (left rest : Left) : Type 0 where
   pub lines : List Line
   pub none_blank : All (λ l. is_blank_line l ≡ false) lines
-  pub are_taken : run ≡ map taken lines
+  pub are_taken : run ≡ map trimmed_line lines
   pub stand : left ≡ in_front lines rest
 
 -- The groups are the runs of what is left, one behind the other: each ends at a blank line, the last one where the lines end.

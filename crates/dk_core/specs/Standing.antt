@@ -3,14 +3,14 @@ use Rattle.std.specs.Prelude.{◌≡◌, ℕ, Bool, true, List, length, ⊤, Opt
 use Rattle.dk_base.specs.Reading.{Line, LineFault, Reads, ◌>>=◌}
 use Rattle.dk_base.specs.declared.faults.BlockFault.{BlockFault}
 use Rattle.dk_base.specs.declared.faults.BlockFault.TheVariants.{Refused, NoMemory}
-use Rattle.dk_decl.specs.Blocks.{resumed as decl_resumed}
+use Rattle.dk_decl.specs.Blocks.{decl_resumed}
 use Rattle.dk_hierarchy.specs.Samples.{own_samples_of}
 use Rattle.dk_hierarchy.specs.Standing.{EnginesStandFor}
 use Rattle.dk_points.specs.Table.{Point}
 use Rattle.dk_report.specs.declared.options.Options.{Options}
 use Rattle.dk_template.specs.declared.grammar.Grammar.{Grammar}
-use Rattle.dk_trace.specs.RecordsResumed.{IsOf, resumed as record_resumed}
-use Rattle.dk_calls.specs.Standing.{StandsFor as CallsStandFor}
+use Rattle.dk_trace.specs.RecordsResumed.{IsOf, record_resumed}
+use Rattle.dk_calls.specs.Standing.{CallsStandForRecords as CallsStandFor}
 use Rattle.dk_core.specs.Fitting.{DeclaresFitting, ReadsFitting}
 use Rattle.dk_core.specs.Fronts.{front_of}
 use Rattle.dk_core.specs.History.{History, Taken, after_front, block, where_it_ends, with_declaration, with_record}
@@ -40,8 +40,8 @@ resumed_by ignores h (state.Declaration line reader) ls close = decl_resumed rea
 resumed_by ignores h state.Implementors ls close = where_it_ends close h (Ok (block h))
 resumed_by ignores h (state.Record reader) ls close = record_resumed h.table reader ls close >>= λ s. where_it_ends close h (with_record ignores h s)
 
-unfoldable pub resumed : Bool → History → Block → Reads Taken
-resumed ignores h b ls close = resumed_by ignores (record h { header = b.header }) b.state ls close
+unfoldable pub block_resumed : Bool → History → Block → Reads Taken
+block_resumed ignores h b ls close = resumed_by ignores (record h { header = b.header }) b.state ls close
 
 -- a record that is read is of a point of the table, and gives values of its variables; a declaration gives constants that are such values
 abbrev pub StateFits : List Point → State → Type 0
@@ -61,14 +61,14 @@ IsDeclared state.Implementors = ⊥
 IsDeclared (state.Record reader) = ⊥
 
 -- What a call leaves behind its reference, if it succeeds; after a fault nothing is said of it.
-abbrev pub carried : {A B E : Type 0} → B → Result A E → Result B E
-carried b (Ok x) = Ok b
-carried b (Err e) = Err e
+abbrev pub left_behind : {A B E : Type 0} → B → Result A E → Result B E
+left_behind b (Ok x) = Ok b
+left_behind b (Err e) = Err e
 
 -- what a call leaves behind its reference, beside what it answers
-abbrev pub paired : {A B E : Type 0} → B → Result A E → Result (B × A) E
-paired b (Ok x) = Ok (b, x)
-paired b (Err e) = Err e
+abbrev pub left_with_answer : {A B E : Type 0} → B → Result A E → Result (B × A) E
+left_with_answer b (Ok x) = Ok (b, x)
+left_with_answer b (Err e) = Err e
 
 -- what a call leaves that answers what is kept behind a block
 abbrev pub as_block : Result Kept BlockFault → Result (Kept × Bool) BlockFault
@@ -76,14 +76,14 @@ as_block (Ok kept) = Ok (kept, true)
 as_block (Err e) = Err e
 
 -- A fault that was found is what `read` says, whatever is left.
-abbrev pub ToldOn : BlockFault → Reads Taken → Type 0
-ToldOn (Refused line why) read = (ls : List Line) (close : Option ℕ) → read ls close ≡ Err (record { line = line; why = why })
-ToldOn NoMemory read = ⊤
+abbrev pub FaultAgreesOnward : BlockFault → Reads Taken → Type 0
+FaultAgreesOnward (Refused line why) read = (ls : List Line) (close : Option ℕ) → read ls close ≡ Err (record { line = line; why = why })
+FaultAgreesOnward NoMemory read = ⊤
 
 -- The block goes on as `read` says, whatever is left.
-abbrev pub GoesOn : Bool → History → Result Block BlockFault → Reads Taken → Type 0
-GoesOn ignores h (Ok b) read = (ls : List Line) (close : Option ℕ) → read ls close ≡ resumed ignores h b ls close
-GoesOn ignores h (Err e) read = ToldOn e read
+abbrev pub BlockGoesOn : Bool → History → Result Block BlockFault → Reads Taken → Type 0
+BlockGoesOn ignores h (Ok b) read = (ls : List Line) (close : Option ℕ) → read ls close ≡ block_resumed ignores h b ls close
+BlockGoesOn ignores h (Err e) read = FaultAgreesOnward e read
 
 -- The block's end gives what was read, or the fault that was.
 abbrev pub Closes : Result (Kept × Bool) BlockFault → Result Taken LineFault → Type 0
@@ -93,8 +93,8 @@ Closes (Err NoMemory) read = ⊤
 
 -- ---- sessions
 -- a session stands for a history
-abbrev pub StandsFor : {F : Type 0} → Session F → History → Type 0
-StandsFor s h = Stands s.kept h
+abbrev pub SessionStandsFor : {F : Type 0} → Session F → History → Type 0
+SessionStandsFor s h = Stands s.kept h
 
 -- its points
 abbrev pub points_of : {F : Type 0} → Session F → List Point

@@ -11,7 +11,7 @@ use Rattle.dk_lines.specs.declared.lines.LineFault.TheVariants as f
 use Rattle.dk_core.specs.Blocks.{Groups, Last, grouped}
 use Rattle.dk_core.specs.History.{Taken, History, effect_of}
 use Rattle.dk_core.specs.Reading.{Stepped, after_next}
-use Rattle.dk_core.specs.Standing.{Fits, Stands, ignores_of, resumed}
+use Rattle.dk_core.specs.Standing.{Fits, Stands, block_resumed, ignores_of}
 use Rattle.dk_core.specs.declared.block.Block.{Block}
 use Rattle.dk_core.specs.declared.kept.Kept.{Kept}
 use Rattle.dk_core.specs.declared.session.Step.{Step}
@@ -66,7 +66,7 @@ pub record Stops (ignores : Bool) (read : Reads Taken) (over : Bool) (r : Readin
 
 -- what one line does to a block
 abbrev pub TurnGives : Bool → Reads Taken → Reading → List ℕ → Result Turn Stop → Reading → Option (List ℕ) → Type 0
-TurnGives ignores read r xs (Ok (Goes kept block)) r' left' = (h : History) × Stands kept h × ((ys : List ℕ) × (left' ≡ Some ys) × Moves ignores read r xs (resumed ignores h block) r' ys)
+TurnGives ignores read r xs (Ok (Goes kept block)) r' left' = (h : History) × Stands kept h × ((ys : List ℕ) × (left' ≡ Some ys) × Moves ignores read r xs (block_resumed ignores h block) r' ys)
 TurnGives ignores read r xs (Ok (Ends end)) r' left' = (h : History) × Stands end.kept h × ((ys : List ℕ) × (left' ≡ Some ys) × Steps ignores read false r xs end.found h end.is_over r' ys)
 TurnGives ignores read r xs (Err (Refused line why)) r' left' = after_next ignores read (groups_left false r true xs) ≡ Err (record { line = line; why = why })
 TurnGives ignores read r xs (Err Read) r' left' = Stops ignores read false r xs left'
@@ -75,7 +75,7 @@ TurnGives ignores read r xs (Err NoMemory) r' left' = ⊤
 -- what a line does to a block, whatever follows it
 abbrev pub LineGives : Bool → Reads Taken → Line → Result Turn Stop → Type 0
 LineGives ignores read line (Ok (Goes kept block)) = (h : History) × Stands kept h × ((rest : Left) →
-    after_next ignores read (grouped (Next line rest)) ≡ after_next ignores (resumed ignores h block) (grouped rest))
+    after_next ignores read (grouped (Next line rest)) ≡ after_next ignores (block_resumed ignores h block) (grouped rest))
 LineGives ignores read line (Ok (Ends end)) = (h : History) × Stands end.kept h × (end.is_over ≡ false) × ((rest : Left) →
     after_next ignores read (grouped (Next line rest)) ≡ Ok (record { found = end.found; history = h; left = grouped rest }))
 LineGives ignores read line (Err (Refused number why)) = (rest : Left) → after_next ignores read (grouped (Next line rest)) ≡ Err (record { line = number; why = why })
@@ -108,7 +108,7 @@ TurnCounts r (Err e) r' = r'.limits ≡ r.limits
 -- what a blank line of this number does to a block, whatever follows it
 abbrev pub BlankGives : Bool → Reads Taken → ℕ → Result Turn Stop → Type 0
 BlankGives ignores read number (Ok (Goes kept block)) = (h : History) × Stands kept h × (read [] (Some number) ≡ Ok (record { history = h; counts = false }))
-    × ((ls : List Line) (close : Option ℕ) → resumed ignores h block ls close ≡ effect_of ignores h ls close)
+    × ((ls : List Line) (close : Option ℕ) → block_resumed ignores h block ls close ≡ effect_of ignores h ls close)
 BlankGives ignores read number (Ok (Ends end)) = (h : History) × Stands end.kept h × (end.is_over ≡ false) × (end.found ≡ true) × (read [] (Some number) ≡ Ok (record { history = h; counts = true }))
 BlankGives ignores read number (Err (Refused line why)) = read [] (Some number) ≡ Err (record { line = line; why = why })
 BlankGives ignores read number (Err Read) = ⊥
@@ -116,21 +116,21 @@ BlankGives ignores read number (Err NoMemory) = ⊤
 
 -- what a line that isn't blank does
 abbrev pub WordsGive : Bool → Reads Taken → Line → Result Turn Stop → Type 0
-WordsGive ignores read line (Ok (Goes kept block)) = (h : History) × Stands kept h × ((ls : List Line) (close : Option ℕ) → read (line ∷ ls) close ≡ resumed ignores h block ls close)
+WordsGive ignores read line (Ok (Goes kept block)) = (h : History) × Stands kept h × ((ls : List Line) (close : Option ℕ) → read (line ∷ ls) close ≡ block_resumed ignores h block ls close)
 WordsGive ignores read line (Ok (Ends end)) = ⊥
 WordsGive ignores read line (Err (Refused number why)) = (ls : List Line) (close : Option ℕ) → read (line ∷ ls) close ≡ Err (record { line = number; why = why })
 WordsGive ignores read line (Err Read) = ⊥
 WordsGive ignores read line (Err NoMemory) = ⊤
 
-abbrev pub stopped : BlockFault → Stop
-stopped (r.Refused line why) = Refused line why
-stopped r.NoMemory = NoMemory
+abbrev pub stop_of_fault : BlockFault → Stop
+stop_of_fault (r.Refused line why) = Refused line why
+stop_of_fault r.NoMemory = NoMemory
 
-abbrev pub unread : LineFault → Stop
-unread f.Read = Read
-unread (f.LongLine line) = Refused line WhyLong
-unread (f.TooLong line) = Refused line WhyMany
-unread f.NoMemory = NoMemory
+abbrev pub stop_of_unread : LineFault → Stop
+stop_of_unread f.Read = Read
+stop_of_unread (f.LongLine line) = Refused line WhyLong
+stop_of_unread (f.TooLong line) = Refused line WhyMany
+stop_of_unread f.NoMemory = NoMemory
 
 -- the forms that an answer has, whatever is told
 abbrev pub LineShape : Result Turn Stop → Type 0
@@ -148,9 +148,9 @@ EndShape (Err Read) = ⊥
 EndShape (Err NoMemory) = ⊤
 
 -- the turn of a line that isn't blank
-abbrev pub turned : Kept → Result Block Stop → Result Turn Stop
-turned kept (Ok block) = Ok (Goes kept block)
-turned kept (Err stop) = Err stop
+abbrev pub line_turn : Kept → Result Block Stop → Result Turn Stop
+line_turn kept (Ok block) = Ok (Goes kept block)
+line_turn kept (Err stop) = Err stop
 
 -- what the end of a block's lines comes to, at the file's end or at a blank line
 abbrev pub ClosesAt : Bool → Bool → Reads Taken → ℕ → Result Turn Stop → Type 0
@@ -209,9 +209,9 @@ FaultAnswers ignores read over r xs (x.Read file) left' = Stops ignores read ove
 FaultAnswers ignores read over r xs x.NoMemory left' = ⊤
 
 -- what `block` answers: the session after the next block, and whether there was one
-abbrev pub Answers : {F : Type 0} → Session F → History → Reading → List ℕ → Result (Session F × Bool) Fault → Reading → Option (List ℕ) → Type 0
-Answers s h r xs (Ok a) r' left' = (h' : History) × Stands a.0.kept h' × ((ys : List ℕ) × (left' ≡ Some ys) × Steps (ignores_of s) (effect_of (ignores_of s) h) s.is_over r xs a.1 h' a.0.is_over r' ys)
-Answers s h r xs (Err fault) r' left' = FaultAnswers (ignores_of s) (effect_of (ignores_of s) h) s.is_over r xs fault left'
+abbrev pub NextBlock : {F : Type 0} → Session F → History → Reading → List ℕ → Result (Session F × Bool) Fault → Reading → Option (List ℕ) → Type 0
+NextBlock s h r xs (Ok a) r' left' = (h' : History) × Stands a.0.kept h' × ((ys : List ℕ) × (left' ≡ Some ys) × Steps (ignores_of s) (effect_of (ignores_of s) h) s.is_over r xs a.1 h' a.0.is_over r' ys)
+NextBlock s h r xs (Err fault) r' left' = FaultAnswers (ignores_of s) (effect_of (ignores_of s) h) s.is_over r xs fault left'
 
 -- a fault has this file number
 abbrev pub IsInFile : ℕ → Fault → Type 0
@@ -220,13 +220,13 @@ IsInFile n (x.Read file) = file ≡ n
 IsInFile n x.NoMemory = ⊤
 
 -- numbers of lines, bytes, blocks and files, whatever is told
-abbrev pub Counts : {F : Type 0} → Session F → Reading → Result (Session F × Bool) Fault → Reading → Type 0
-Counts s r (Ok a) r' = (r'.limits ≡ r.limits) × (r'.is_started ≡ not a.0.is_over) × (a.0.file ≡ s.file)
+abbrev pub SessionCounts : {F : Type 0} → Session F → Reading → Result (Session F × Bool) Fault → Reading → Type 0
+SessionCounts s r (Ok a) r' = (r'.limits ≡ r.limits) × (r'.is_started ≡ not a.0.is_over) × (a.0.file ≡ s.file)
     × (a.0.blocks ≡ (if a.1 then min (s.blocks + 1) (2 ^ 64 - 1) else s.blocks)) × (a.1 ≡ false → a.0.is_over ≡ true)
     × (a.1 ≡ true → s.is_over ≡ false) × (a.1 ≡ true → Grown a.0.is_over r r')
-Counts s r (Err fault) r' = (r'.limits ≡ r.limits) × IsInFile s.file fault
+SessionCounts s r (Err fault) r' = (r'.limits ≡ r.limits) × IsInFile s.file fault
 
-abbrev pub named : ℕ → Stop → Fault
-named file (Refused line why) = x.Refused file line why
-named file Read = x.Read file
-named file NoMemory = x.NoMemory
+abbrev pub fault_in_file : ℕ → Stop → Fault
+fault_in_file file (Refused line why) = x.Refused file line why
+fault_in_file file Read = x.Read file
+fault_in_file file NoMemory = x.NoMemory

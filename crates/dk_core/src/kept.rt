@@ -5,9 +5,9 @@ ghost use Rattle.dk_base.specs.Shapes.{AreWithDerived};
 ghost use Rattle.dk_base.specs.Values.{values_of};
 ghost use Rattle.dk_base.specs.declared.values.Value.{Value};
 ghost use Rattle.dk_calls.specs.Records.{call_of};
-ghost use Rattle.dk_calls.specs.Standing.{StandsFor as CallsStandFor, WaitAlike};
+ghost use Rattle.dk_calls.specs.Standing.{CallsStandForRecords as CallsStandFor, WaitAlike};
 ghost use Rattle.dk_calls.specs.Waiting.{Call};
-ghost use Rattle.dk_derive.specs.Laws.{base_of, kinds_of};
+ghost use Rattle.dk_derive.specs.Laws.{base_of, var_kinds};
 ghost use Rattle.dk_derive.specs.Values.{values_by_form};
 ghost use Rattle.dk_hierarchy.specs.Samples.{own_samples_of};
 ghost use Rattle.dk_decl.specs.Headers.{is_implicit};
@@ -23,7 +23,7 @@ ghost use Rattle.dk_core.specs.Growing.{AreGrown};
 ghost use Rattle.dk_core.specs.History.{History, after_declaration, after_record, after_sample, base_values, effect_of, file_ended, nothing_by, with_declaration, with_record, without_record};
 ghost use Rattle.dk_core.specs.Resuming.{IsStart, state_of};
 ghost use Rattle.dk_core.specs.Sections.{has_own_samples, has_samples, stats_of};
-ghost use Rattle.dk_core.specs.Refusing.{answered};
+ghost use Rattle.dk_core.specs.Refusing.{unmatched_answer};
 
 use crate::block::{Block, State, is_comment, is_declaration, is_list_of_implementors};
 use crate::first_lines::is_plainly_sample;
@@ -106,7 +106,7 @@ fn base_values<'a>(
 // One sample more for an engine, from the values of its base variables.
 fn feed<'a>(arena: &'a Bump, engine: &mut Engine, base: &[View<'a>]) -> Result<(), NoMemory>
     requires derived { AreWithDerived engine.old.infos }
-    requires fits { FitKinds (kinds_of (base_of engine.old.infos)) (values_of base.now) }
+    requires fits { FitKinds (var_kinds (base_of engine.old.infos)) (values_of base.now) }
     ensures grammar { engine.new.grammar ≡ engine.old.grammar }
     ensures infos { engine.new.infos ≡ engine.old.infos }
     ensures stands { OnOk result ((samples : List (List Value)) → EngineStandsFor engine.old samples → EngineStandsFor engine.new (samples ++ values_by_form engine.old.infos (values_of base.now) ∷ [])) }
@@ -117,7 +117,7 @@ fn feed<'a>(arena: &'a Bump, engine: &mut Engine, base: &[View<'a>]) -> Result<(
 
 // What a record comes to that is refused, as an exit without an entry: where those are left out, its block counts.
 fn or_left_out(ignores: bool, fault: BlockFault) -> Result<bool, BlockFault>
-    ensures { result ≡ answered ignores fault }
+    ensures { result ≡ unmatched_answer ignores fault }
 {
     match fault {
         BlockFault::Refused { .. } if ignores => Ok(true),
@@ -126,7 +126,7 @@ fn or_left_out(ignores: bool, fault: BlockFault) -> Result<bool, BlockFault>
 }
 
 impl Kept {
-    ghost use Rattle.dk_core.specs.Standing.{Stands, Fits, GoesOn, Closes, IsDeclared, as_block, carried, paired, resumed, resumed_by};
+    ghost use Rattle.dk_core.specs.Standing.{Stands, Fits, BlockGoesOn, Closes, IsDeclared, as_block, left_behind, left_with_answer, block_resumed, resumed_by};
 
     /// No points.
     #[tactic(auto, unfolding(crate::specs::Standing::Stands))]
@@ -169,9 +169,9 @@ impl Kept {
     }
 
     /// A block of which no line was read.
-    #[tactic(auto, unfolding(crate::specs::Standing::resumed, crate::specs::Standing::Stands, crate::specs::Standing::Fits, crate::specs::History::effect_of))]
+    #[tactic(auto, unfolding(crate::specs::Standing::block_resumed, crate::specs::Standing::Stands, crate::specs::Standing::Fits, crate::specs::History::effect_of))]
     pub(crate) fn begin<'a>(&self, arena: &'a Bump) -> Block<'a>
-        ensures resumes { (ignores : Bool) (h : History) → Stands self.now h → (ls : List Line) (close : Option ℕ) → resumed ignores h result ls close ≡ effect_of ignores h ls close }
+        ensures resumes { (ignores : Bool) (h : History) → Stands self.now h → (ls : List Line) (close : Option ℕ) → block_resumed ignores h result ls close ≡ effect_of ignores h ls close }
         ensures fits { Fits self.now result }
     {
         Block {
@@ -182,9 +182,9 @@ impl Kept {
     }
 
     /// The next block begins in place of this one.
-    #[tactic(auto, unfolding(crate::specs::Standing::resumed, crate::specs::Standing::Stands, crate::specs::Standing::Fits, crate::specs::History::effect_of))]
+    #[tactic(auto, unfolding(crate::specs::Standing::block_resumed, crate::specs::Standing::Stands, crate::specs::Standing::Fits, crate::specs::History::effect_of))]
     pub(crate) fn begin_again<'a>(&self, block: &mut Block<'a>)
-        ensures resumes { (ignores : Bool) (h : History) → Stands self.now h → (ls : List Line) (close : Option ℕ) → resumed ignores h block.new ls close ≡ effect_of ignores h ls close }
+        ensures resumes { (ignores : Bool) (h : History) → Stands self.now h → (ls : List Line) (close : Option ℕ) → block_resumed ignores h block.new ls close ≡ effect_of ignores h ls close }
         ensures fits { Fits self.now block.new }
     {
         block.header = self.header;
@@ -199,7 +199,7 @@ impl Kept {
         bytes: &[u8],
     ) -> Result<(), BlockFault>
         requires { Fits self.now block.old }
-        ensures goes_on { (ignores : Bool) (h : History) → Stands self.now h → GoesOn ignores h (carried block.new result) (λ ls close. resumed ignores h block.old (record { number = number; bytes = bytes.now } ∷ ls) close) }
+        ensures goes_on { (ignores : Bool) (h : History) → Stands self.now h → BlockGoesOn ignores h (left_behind block.new result) (λ ls close. block_resumed ignores h block.old (record { number = number; bytes = bytes.now } ∷ ls) close) }
         ensures fits { OnOk result (Fits self.now block.new) }
     {
         match &mut block.state {
@@ -223,7 +223,7 @@ impl Kept {
         number: u64,
         bytes: &[u8],
     ) -> Result<(), BlockFault>
-        ensures goes_on { (ignores : Bool) (h : History) → Stands self.now h → GoesOn ignores h (carried block.new result) (λ ls close. resumed_by ignores (record h { header = block.old.header }) (State.Front last) (record { number = number; bytes = bytes.now } ∷ ls) close) }
+        ensures goes_on { (ignores : Bool) (h : History) → Stands self.now h → BlockGoesOn ignores h (left_behind block.new result) (λ ls close. resumed_by ignores (record h { header = block.old.header }) (State.Front last) (record { number = number; bytes = bytes.now } ∷ ls) close) }
         ensures fits { OnOk result (Fits self.now block.new) }
     {
         if is_comment(bytes) {
@@ -250,7 +250,7 @@ impl Kept {
         number: u64,
         bytes: &[u8],
     ) -> Result<(), BlockFault>
-        ensures goes_on { (ignores : Bool) (h : History) → Stands self.now h → GoesOn ignores h (carried block.new result) (λ ls close. after_record ignores (record h { header = block.old.header }) (record { number = number; bytes = bytes.now }) ls close) }
+        ensures goes_on { (ignores : Bool) (h : History) → Stands self.now h → BlockGoesOn ignores h (left_behind block.new result) (λ ls close. after_record ignores (record h { header = block.old.header }) (record { number = number; bytes = bytes.now }) ls close) }
         ensures fits { OnOk result (Fits self.now block.new) }
     {
         if is_declaration(bytes) {
@@ -271,7 +271,7 @@ impl Kept {
         number: u64,
         bytes: &[u8],
     ) -> Result<(), BlockFault>
-        ensures goes_on { (ignores : Bool) (h : History) → GoesOn ignores h (carried block.new result) (λ ls close. after_declaration (record h { header = block.old.header }) (record { number = number; bytes = bytes.now }) ls close) }
+        ensures goes_on { (ignores : Bool) (h : History) → BlockGoesOn ignores h (left_behind block.new result) (λ ls close. after_declaration (record h { header = block.old.header }) (record { number = number; bytes = bytes.now }) ls close) }
         ensures fits { OnOk result (Fits self.now block.new) }
     {
         match DeclBlock::begin(self.alloc, number, bytes, block.header.implicit()) {
@@ -293,7 +293,7 @@ impl Kept {
         number: u64,
         bytes: &[u8],
     ) -> Result<(), BlockFault>
-        ensures goes_on { (ignores : Bool) (h : History) → Stands self.now h → GoesOn ignores h (carried block.new result) (λ ls close. after_sample ignores (record h { header = block.old.header }) (record { number = number; bytes = bytes.now }) ls close) }
+        ensures goes_on { (ignores : Bool) (h : History) → Stands self.now h → BlockGoesOn ignores h (left_behind block.new result) (λ ls close. after_sample ignores (record h { header = block.old.header }) (record { number = number; bytes = bytes.now }) ls close) }
         ensures fits { OnOk result (Fits self.now block.new) }
     {
         match RecordReader::begin(self.alloc, &self.points, block.arena, number, bytes) {
@@ -315,7 +315,7 @@ impl Kept {
     ) -> Result<(), BlockFault>
         requires declared { IsDeclared block.old.state }
         requires fits { Fits self.now block.old }
-        ensures goes_on { (ignores : Bool) (h : History) → GoesOn ignores h (carried block.new result) (λ ls close. resumed ignores h block.old (record { number = number; bytes = bytes.now } ∷ ls) close) }
+        ensures goes_on { (ignores : Bool) (h : History) → BlockGoesOn ignores h (left_behind block.new result) (λ ls close. block_resumed ignores h block.old (record { number = number; bytes = bytes.now } ∷ ls) close) }
         ensures fits { OnOk result (Fits self.now block.new) }
     {
         match replace(&mut block.state, State::Implementors) {
@@ -340,7 +340,7 @@ impl Kept {
         ignores: bool,
     ) -> Result<bool, BlockFault>
         requires { Fits self.old block.old }
-        ensures closes { (h : History) → Stands self.old h → Closes (paired self.new result) (resumed ignores h block.old [] (Some number)) }
+        ensures closes { (h : History) → Stands self.old h → Closes (left_with_answer self.new result) (block_resumed ignores h block.old [] (Some number)) }
         ensures grammar { self.new.grammar ≡ self.old.grammar }
     {
         self.header = block.header;
@@ -360,7 +360,7 @@ impl Kept {
 
     // A block ends whose last header line has this number, and that has no record.
     fn without_record(&self, last: Option<u64>) -> Result<bool, BlockFault>
-        ensures { (h : History) → Stands self.now h → (close : ℕ) → Closes (paired self.now result) (without_record h last (Some close)) }
+        ensures { (h : History) → Stands self.now h → (close : ℕ) → Closes (left_with_answer self.now result) (without_record h last (Some close)) }
     {
         let Some(line) = last else {
             return Ok(false);
@@ -381,7 +381,7 @@ impl Kept {
     ) -> Result<bool, BlockFault>
         requires declared { IsDeclared block.old.state }
         requires fits { Fits self.old block.old }
-        ensures closes { (ignores : Bool) (h : History) → Stands self.old h → Closes (paired self.new result) (resumed_by ignores h block.old.state [] (Some number)) }
+        ensures closes { (ignores : Bool) (h : History) → Stands self.old h → Closes (left_with_answer self.new result) (resumed_by ignores h block.old.state [] (Some number)) }
         ensures grammar { self.new.grammar ≡ self.old.grammar }
     {
         match replace(&mut block.state, State::Implementors) {
@@ -396,7 +396,7 @@ impl Kept {
     // With a declaration, whose block begins at this line.
     fn with_declaration(&mut self, line: u64, decl: PointDecl) -> Result<bool, BlockFault>
         requires { HasFittingConstants decl }
-        ensures closes { (h : History) → Stands self.old h → Closes (paired self.new result) (with_declaration h line decl) }
+        ensures closes { (h : History) → Stands self.old h → Closes (left_with_answer self.new result) (with_declaration h line decl) }
         ensures grammar { self.new.grammar ≡ self.old.grammar }
     {
         let none = Kept::new(self.alloc, self.grammar)?;
@@ -448,7 +448,7 @@ impl Kept {
     ) -> Result<bool, BlockFault>
         requires within { sample.now.point.0 < length self.old.points }
         requires fits { FitAt self.old.points sample.now.point.0 (values_of sample.now.values.now) }
-        ensures closes { (h : History) → Stands self.old h → Closes (paired self.new result) (with_record ignores h (shown sample.now)) }
+        ensures closes { (h : History) → Stands self.old h → Closes (left_with_answer self.new result) (with_record ignores h (shown sample.now)) }
         ensures grammar { self.new.grammar ≡ self.old.grammar }
     {
         match base_values(&self.points, &mut self.calls, arena, sample) {

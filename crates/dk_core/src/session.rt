@@ -9,8 +9,8 @@ ghost use Rattle.dk_core.specs.History.{History, effect_of, no_history, file_end
 ghost use Rattle.dk_core.specs.Resuming.{IsStart, state_of};
 ghost use Rattle.dk_core.specs.Sections.{has_own_samples, has_section, section_of, some_if, stats_of};
 ghost use Rattle.dk_core.specs.Selecting.{SelectsBy};
-ghost use Rattle.dk_core.specs.Standing.{Fits, ReportsAlike, Stands, StandsFor, blocks_of, carried, file_of, grammar_of, options_of, over_of, paired, points_of, resumed, select_of};
-ghost use Rattle.dk_core.specs.Steps.{LineGives, EndGives, BlankGives, WordsGive, Answers, Counts, named, BlockGives, BlockCounts, LineShape, EndShape, ShapeAt, ClosesAt, LineStep, LineStepShape, StepShape, StepGives, StepCounts, turned, stopped, unread};
+ghost use Rattle.dk_core.specs.Standing.{Fits, ReportsAlike, SessionStandsFor, Stands, block_resumed, blocks_of, file_of, grammar_of, left_behind, left_with_answer, options_of, over_of, points_of, select_of};
+ghost use Rattle.dk_core.specs.Steps.{LineGives, EndGives, BlankGives, WordsGive, NextBlock, SessionCounts, fault_in_file, BlockGives, BlockCounts, LineShape, EndShape, ShapeAt, ClosesAt, LineStep, LineStepShape, StepShape, StepGives, StepCounts, line_turn, stop_of_fault, stop_of_unread};
 ghost use Rattle.dk_core.specs.Turns.{turn_of, ending_of};
 
 use crate::block::Block;
@@ -72,7 +72,7 @@ pub(crate) enum After {
 }
 
 fn stop_of(fault: BlockFault) -> Stop
-    ensures { result ≡ stopped fault }
+    ensures { result ≡ stop_of_fault fault }
 {
     match fault {
         BlockFault::Refused { line, why } => Stop::Refused { line, why },
@@ -81,7 +81,7 @@ fn stop_of(fault: BlockFault) -> Stop
 }
 
 fn line_stop(fault: LineFault) -> Stop
-    ensures { result ≡ unread fault }
+    ensures { result ≡ stop_of_unread fault }
 {
     match fault {
         LineFault::Read => Stop::Read,
@@ -106,7 +106,7 @@ fn at_blank<'a>(
 ) -> Result<After, Stop>
     requires { Fits kept.old block.old }
     ensures shape { LineShape (turn_of kept.new block.new result) }
-    ensures gives { (h : History) → Stands kept.old h → BlankGives ignores (resumed ignores h block.old) number (turn_of kept.new block.new result) }
+    ensures gives { (h : History) → Stands kept.old h → BlankGives ignores (block_resumed ignores h block.old) number (turn_of kept.new block.new result) }
     ensures grammar { kept.new.grammar ≡ kept.old.grammar }
 {
     match kept.close(block, number, ignores) {
@@ -131,7 +131,7 @@ fn at_end<'a>(
 ) -> Result<After, Stop>
     requires { Fits kept.old block.old }
     ensures shape { EndShape (turn_of kept.new block.new result) }
-    ensures gives { (h : History) → Stands kept.old h → EndGives ignores (resumed ignores h block.old) number (turn_of kept.new block.new result) }
+    ensures gives { (h : History) → Stands kept.old h → EndGives ignores (block_resumed ignores h block.old) number (turn_of kept.new block.new result) }
     ensures grammar { kept.new.grammar ≡ kept.old.grammar }
 {
     match kept.close(block, number, ignores) {
@@ -144,7 +144,7 @@ fn at_end<'a>(
 }
 
 // The end of a block: at a blank line, or where the file ends in front of the line of this number.
-fn closed<'a>(
+fn close_block<'a>(
     kept: &mut Kept,
     block: &mut Block<'a>,
     number: u64,
@@ -153,7 +153,7 @@ fn closed<'a>(
 ) -> Result<After, Stop>
     requires { Fits kept.old block.old }
     ensures shape { ShapeAt is_over (turn_of kept.new block.new result) }
-    ensures gives { (h : History) → Stands kept.old h → ClosesAt ignores is_over (resumed ignores h block.old) number (turn_of kept.new block.new result) }
+    ensures gives { (h : History) → Stands kept.old h → ClosesAt ignores is_over (block_resumed ignores h block.old) number (turn_of kept.new block.new result) }
     ensures grammar { kept.new.grammar ≡ kept.old.grammar }
 {
     if is_over {
@@ -167,8 +167,8 @@ fn closed<'a>(
 fn at_words<'a>(kept: &Kept, block: &mut Block<'a>, number: u64, bytes: &[u8]) -> Result<(), Stop>
     requires { Fits kept.now block.old }
     ensures fits { OnOk result (Fits kept.now block.new) }
-    ensures shape { LineShape (turned kept.now (carried block.new result)) }
-    ensures gives { (ignores : Bool) (h : History) → Stands kept.now h → WordsGive ignores (resumed ignores h block.old) (record { number = number; bytes = bytes.now }) (turned kept.now (carried block.new result)) }
+    ensures shape { LineShape (line_turn kept.now (left_behind block.new result)) }
+    ensures gives { (ignores : Bool) (h : History) → Stands kept.now h → WordsGive ignores (block_resumed ignores h block.old) (record { number = number; bytes = bytes.now }) (line_turn kept.now (left_behind block.new result)) }
 {
     match kept.line(block, number, bytes) {
         Ok(()) => Ok(()),
@@ -185,7 +185,7 @@ fn with_line<'a>(
 ) -> Result<Step, Stop>
     requires { Fits kept.now block.old }
     ensures shape { LineStepShape kept.now block.old block.new result }
-    ensures gives { (ignores : Bool) (h : History) → Stands kept.now h → LineStep ignores kept.now block.new (resumed ignores h block.old) (record { number = number; bytes = bytes.now }) result }
+    ensures gives { (ignores : Bool) (h : History) → Stands kept.now h → LineStep ignores kept.now block.new (block_resumed ignores h block.old) (record { number = number; bytes = bytes.now }) result }
 {
     let words = trimmed(bytes);
     if words.is_empty() {
@@ -211,7 +211,7 @@ fn take_line<'a, I: Inputs>(
     requires fits { Fits kept.now block.old }
     ensures shape { StepShape kept.now block.old block.new result }
     ensures gives { (ignores : Bool) (h : History) → Stands kept.now h → IfSome (left_of lines.old (I.rest inputs.old))
-        (λ xs. StepGives ignores kept.now block.new (resumed ignores h block.old) lines.old xs result lines.new (left_of lines.new (I.rest inputs.new))) }
+        (λ xs. StepGives ignores kept.now block.new (block_resumed ignores h block.old) lines.old xs result lines.new (left_of lines.new (I.rest inputs.new))) }
     ensures counts { StepCounts lines.old result lines.new }
     ensures emptied { IsErrOf result Stop.Read → lines.new.ahead ≡ [] }
     ensures files { I.file inputs.new ≡ I.file inputs.old }
@@ -253,7 +253,7 @@ fn read_block<I: Inputs>(
     'reading: loop {
         match take_line(kept, &mut block, inputs, lines) {
             Ok(Step::More) => continue 'reading,
-            Ok(Step::Ended { number, is_over }) => match closed(
+            Ok(Step::Ended { number, is_over }) => match close_block(
                 kept, &mut block, number, is_over, ignores,
             ) {
                 Ok(After::Goes) => continue 'reading,
@@ -267,7 +267,7 @@ fn read_block<I: Inputs>(
 
 // The fault with the number of its file.
 fn fault_of(file: u32, stop: Stop) -> Fault
-    ensures { result ≡ named file stop }
+    ensures { result ≡ fault_in_file file stop }
 {
     match stop {
         Stop::Refused { line, why } => Fault::Refused { file, line, why },
@@ -292,7 +292,7 @@ impl<F: Fn(&[u8]) -> bool + Drop> Session<F> {
     /// may be asked of any name, any number of times.
     #[tactic(auto, unfolding(crate::specs::History::no_history))]
     pub fn new(alloc: Global, select: F, options: Options) -> Result<Session<F>, NoMemory>
-        ensures stands { IfOk result (λ s. StandsFor s no_history) }
+        ensures stands { IfOk result (λ s. SessionStandsFor s no_history) }
         ensures grammar { IfOk result (λ s. grammar_of s ≡ Grammar.Two) }
         ensures options { IfOk result (λ s. options_of s ≡ options) }
         ensures select { IfOk result (λ s. select_of s ≡ select) }
@@ -318,7 +318,7 @@ impl<F: Fn(&[u8]) -> bool + Drop> Session<F> {
         options: Options,
         state: &[u8],
     ) -> Result<Session<F>, LoadFault>
-        ensures stands { IfOk result (λ s. (h : History) → IsStart h → state_of h ≡ state.now → StandsFor s h) }
+        ensures stands { IfOk result (λ s. (h : History) → IsStart h → state_of h ≡ state.now → SessionStandsFor s h) }
         ensures spelling { IfOk result (λ s. IsSpelling state.now) }
         ensures bad { result ≡ Err LoadFault.BadState → IsSpelling state.now → ⊥ }
         ensures options { IfOk result (λ s. options_of s ≡ options) }
@@ -348,9 +348,9 @@ impl<F: Fn(&[u8]) -> bool + Drop> Session<F> {
     /// history.
     pub fn block<I: Inputs>(&mut self, inputs: &mut I, lines: &mut Lines) -> Result<bool, Fault>
         requires { lines.old.is_started ≡ not (over_of self.old) }
-        ensures gives { (h : History) → StandsFor self.old h → IfSome (left_of lines.old (I.rest inputs.old))
-            (λ xs. Answers self.old h lines.old xs (paired self.new result) lines.new (left_of lines.new (I.rest inputs.new))) }
-        ensures counts { Counts self.old lines.old (paired self.new result) lines.new }
+        ensures gives { (h : History) → SessionStandsFor self.old h → IfSome (left_of lines.old (I.rest inputs.old))
+            (λ xs. NextBlock self.old h lines.old xs (left_with_answer self.new result) lines.new (left_of lines.new (I.rest inputs.new))) }
+        ensures counts { SessionCounts self.old lines.old (left_with_answer self.new result) lines.new }
         // Grammar, options and selection stay.
         ensures alike { ReportsAlike self.old self.new }
         // At the file's end nothing is read.
@@ -377,7 +377,7 @@ impl<F: Fn(&[u8]) -> bool + Drop> Session<F> {
 
     /// Without what ends with a file. The next block is of the next file.
     pub fn end_file(self) -> Session<F>
-        ensures stands { (h : History) → StandsFor self h → StandsFor result (file_ended h) }
+        ensures stands { (h : History) → SessionStandsFor self h → SessionStandsFor result (file_ended h) }
         ensures counts { (blocks_of result ≡ blocks_of self) × (file_of result ≡ min (file_of self + 1) (2 ^ 32 - 1)) × (over_of result ≡ false) }
         ensures alike { ReportsAlike self result }
     {
@@ -391,7 +391,7 @@ impl<F: Fn(&[u8]) -> bool + Drop> Session<F> {
     /// The table of points.
     pub fn points(&self) -> &Points
         ensures points { result.now ≡ points_of self.now }
-        ensures table { (h : History) → StandsFor self.now h → result.now ≡ h.table }
+        ensures table { (h : History) → SessionStandsFor self.now h → result.now ≡ h.table }
     {
         self.kept.points()
     }
@@ -406,7 +406,7 @@ impl<F: Fn(&[u8]) -> bool + Drop> Session<F> {
     /// The grammar of its engines.
     pub fn grammar(&self) -> Grammar
         ensures grammar { result ≡ grammar_of self.now }
-        ensures history { (h : History) → StandsFor self.now h → result ≡ h.grammar }
+        ensures history { (h : History) → SessionStandsFor self.now h → result ≡ h.grammar }
     {
         self.kept.grammar()
     }
@@ -415,7 +415,7 @@ impl<F: Fn(&[u8]) -> bool + Drop> Session<F> {
     pub fn engine(&self, p: PointId) -> &Engine
         requires { p.0 < length (points_of self.now) }
         ensures grammar { result.now.grammar ≡ grammar_of self.now }
-        ensures stands { (h : History) → StandsFor self.now h → EngineStandsFor result.now (own_samples_of h.table h.samples p.0) }
+        ensures stands { (h : History) → SessionStandsFor self.now h → EngineStandsFor result.now (own_samples_of h.table h.samples p.0) }
     {
         self.kept.engine(p)
     }
@@ -425,8 +425,8 @@ impl<F: Fn(&[u8]) -> bool + Drop> Session<F> {
     pub fn push_section(&self, text: &mut Text, p: PointId) -> Result<bool, NoMemory>
         requires within { p.0 < length (points_of self.now) }
         requires callable { F.IsAlwaysCallable (select_of self.now) }
-        ensures has { (h : History) → StandsFor self.now h → (selects : List ℕ → Bool) → SelectsBy (F.post (select_of self.now)) selects → IfOk result (λ has. has ≡ has_section selects h p.0) }
-        ensures text { (h : History) → StandsFor self.now h → (selects : List ℕ → Bool) → SelectsBy (F.post (select_of self.now)) selects
+        ensures has { (h : History) → SessionStandsFor self.now h → (selects : List ℕ → Bool) → SelectsBy (F.post (select_of self.now)) selects → IfOk result (λ has. has ≡ has_section selects h p.0) }
+        ensures text { (h : History) → SessionStandsFor self.now h → (selects : List ℕ → Bool) → SelectsBy (F.post (select_of self.now)) selects
             → IfOk result (λ _. text.new ≡ text.old ++ section_of (options_of self.now) selects h p.0) }
     {
         if !(self.select)(self.kept.points().name(p)) {
@@ -439,7 +439,7 @@ impl<F: Fn(&[u8]) -> bool + Drop> Session<F> {
     pub fn section(&self, p: PointId) -> Result<Option<Text>, NoMemory>
         requires within { p.0 < length (points_of self.now) }
         requires callable { F.IsAlwaysCallable (select_of self.now) }
-        ensures { (h : History) → StandsFor self.now h → (selects : List ℕ → Bool) → SelectsBy (F.post (select_of self.now)) selects
+        ensures { (h : History) → SessionStandsFor self.now h → (selects : List ℕ → Bool) → SelectsBy (F.post (select_of self.now)) selects
             → IfOk result (λ section. section ≡ some_if (has_section selects h p.0) (section_of (options_of self.now) selects h p.0)) }
     {
         let mut text = Text::new(self.alloc);
@@ -451,8 +451,8 @@ impl<F: Fn(&[u8]) -> bool + Drop> Session<F> {
     /// may hold a part of it.
     pub fn push_stats(&self, text: &mut Text, p: PointId) -> Result<bool, NoMemory>
         requires { p.0 < length (points_of self.now) }
-        ensures has { (h : History) → StandsFor self.now h → IfOk result (λ has. has ≡ has_own_samples h p.0) }
-        ensures text { (h : History) → StandsFor self.now h → IfOk result (λ _. text.new ≡ text.old ++ stats_of h p.0) }
+        ensures has { (h : History) → SessionStandsFor self.now h → IfOk result (λ has. has ≡ has_own_samples h p.0) }
+        ensures text { (h : History) → SessionStandsFor self.now h → IfOk result (λ _. text.new ≡ text.old ++ stats_of h p.0) }
     {
         self.kept.push_stats(text, p)
     }
@@ -460,7 +460,7 @@ impl<F: Fn(&[u8]) -> bool + Drop> Session<F> {
     /// The line of the point's sizes; none without own samples.
     pub fn stats(&self, p: PointId) -> Result<Option<Text>, NoMemory>
         requires { p.0 < length (points_of self.now) }
-        ensures { (h : History) → StandsFor self.now h → IfOk result (λ stats. stats ≡ some_if (has_own_samples h p.0) (stats_of h p.0)) }
+        ensures { (h : History) → SessionStandsFor self.now h → IfOk result (λ stats. stats ≡ some_if (has_own_samples h p.0) (stats_of h p.0)) }
     {
         let mut text = Text::new(self.alloc);
         let has = self.push_stats(&mut text, p)?;
@@ -469,14 +469,14 @@ impl<F: Fn(&[u8]) -> bool + Drop> Session<F> {
 
     /// Writes the state behind the text. After an error the text may hold a part of it.
     pub fn push_state(&self, text: &mut Text) -> Result<(), NoMemory>
-        ensures { OnOk result ((h : History) → StandsFor self.now h → text.new ≡ text.old ++ state_of h) }
+        ensures { OnOk result ((h : History) → SessionStandsFor self.now h → text.new ≡ text.old ++ state_of h) }
     {
         self.kept.push_state(text)
     }
 
     /// The state, as a session can begin with.
     pub fn state(&self) -> Result<Text, NoMemory>
-        ensures { IfOk result (λ text. (h : History) → StandsFor self.now h → text ≡ state_of h) }
+        ensures { IfOk result (λ text. (h : History) → SessionStandsFor self.now h → text ≡ state_of h) }
     {
         let mut text = Text::new(self.alloc);
         self.push_state(&mut text)?;

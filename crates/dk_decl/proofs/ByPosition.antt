@@ -5,7 +5,7 @@ use Rattle.dk_base.specs.Names.{unescaped}
 use Rattle.dk_base.specs.Reading.{Line, LineFault}
 use Rattle.dk_base.specs.declared.why.Why.TheVariants.{BadVariable}
 use Rattle.dk_decl.proofs.LastLines.{bind_ok}
-use Rattle.dk_decl.specs.DeclareBlock.{comparability, declare_lines, declared_var, from_comparability, from_name, from_type, new_name, representation}
+use Rattle.dk_decl.specs.DeclareBlock.{comparability, declare_lines, from_comparability, from_name, from_type, new_name, old_form_var, representation}
 use Rattle.dk_decl.specs.Outcomes.{refused}
 use Rattle.dk_decl.specs.Positions.{IsDeclaredByFour, LinesCountByPosition, fours}
 use Rattle.dk_decl.specs.VarNames.{has_name}
@@ -45,8 +45,8 @@ in_order implicit vs (a ∷ b ∷ c ∷ []) close ws e =
 in_order implicit vs (a ∷ b ∷ c ∷ d ∷ ls) close ws e =
     bind_ok (new_name vs a) (λ name. from_type implicit vs a.number name (b ∷ c ∷ d ∷ ls) (Some close)) ws e (λ name named then_c.
     bind_ok (representation c) (λ r. from_comparability implicit vs a.number name r (d ∷ ls) (Some close)) ws then_c (λ r said then_d.
-    bind_ok (comparability implicit d) (λ q. from_name implicit (vs ++ declared_var name r q ∷ []) ls (Some close)) ws then_d (λ q compared rest.
-    let v : VarDecl = declared_var name r q in
+    bind_ok (comparability implicit d) (λ q. from_name implicit (vs ++ old_form_var name r q ∷ []) ls (Some close)) ws then_d (λ q compared rest.
+    let v : VarDecl = old_form_var name r q in
     let b = in_order implicit (vs ++ v ∷ []) ls close ws rest in
     record {
       more = v ∷ b.more;

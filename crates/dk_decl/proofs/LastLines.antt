@@ -14,9 +14,9 @@ use Rattle.dk_decl.specs.Laws.{IsDeclaredBy, LastLinesCount, compar_at, constant
 use Rattle.dk_decl.specs.LineWords.{begins, each_line, operand, operands}
 use Rattle.dk_decl.specs.Outcomes.{or_refused, refused}
 use Rattle.dk_decl.specs.PptBlock.{groups, has_ended, point_name, point_with, ppt_lines, ppt_of, vars_after, with_var}
-use Rattle.dk_decl.specs.Types.{constant_at, kind_of, rep_type_of}
+use Rattle.dk_decl.specs.Types.{constant_at, rep_kind, rep_type_of}
 use Rattle.dk_decl.specs.VarNames.{has_name}
-use Rattle.dk_decl.specs.Variables.{closed, counterparts, new_var, opened, var_line, var_with, with_counterparts}
+use Rattle.dk_decl.specs.Variables.{counterparts, new_var, opened, var_decl_of, var_line, var_with, with_counterparts}
 use Rattle.dk_decl.specs.declared.decls.EdgeDecl.{EdgeDecl}
 use Rattle.dk_decl.specs.declared.decls.VarDecl.{VarDecl}
 use Rattle.dk_decl.specs.declared.variables.OpenVar.{OpenVar}
@@ -190,8 +190,8 @@ opened_as vs l o e = go (is_empty (operand l.bytes) || has_name (unescaped (oper
 
 -- a variable is what its lines say
 declared_by : (implicit : Bool) (es : List EdgeDecl) (vs : List VarDecl) (g : Line × List Line) (o w : OpenVar) (v : VarDecl)
-    → opened vs g.0 ≡ Ok o → each_line (var_line implicit es) o g.1 ≡ Ok w → closed w ≡ Ok v → IsDeclaredBy implicit es g v
-unfolding closed
+    → opened vs g.0 ≡ Ok o → each_line (var_line implicit es) o g.1 ≡ Ok w → var_decl_of w ≡ Ok v → IsDeclaredBy implicit es g v
+unfolding var_decl_of
 declared_by implicit es vs g o w v open_is lines_are closed_is =
     bind_ok (or_refused BadVariable w.line w.rep) (λ rep. constant_at rep w.constant >>= λ constant. Ok (var_with w rep constant)) v closed_is (λ rep rep_found then_constant.
     bind_ok (constant_at rep w.constant) (λ constant. Ok (var_with w rep constant)) v then_constant (λ constant constant_found whole.
@@ -210,7 +210,7 @@ declared_by implicit es vs g o w v open_is lines_are closed_is =
     let own : v.name ≡ o.name = ap (λ x. x.name) v_is ∙ name_kept in
     record {
       name = own ∙ ap (λ x. x.name) begun;
-      kind = ap (option_map kind_of) rep_is ∙ ap (λ x. Some x.kind) (sym v_is);
+      kind = ap (option_map rep_kind) rep_is ∙ ap (λ x. Some x.kind) (sym v_is);
       compar = ap (λ x. x.compar) v_is ∙ compars;
       constant = ap (option_map (λ r. constant_at r (last_constant g.1))) rep_is ∙ ap (λ c. Some (constant_at rep c)) (sym constants) ∙ ap Some (constant_found ∙ ap (λ x. Ok x.constant) (sym v_is));
       constant_line = ap (λ x. x.constant_line) v_is ∙ ap is_some constants;
@@ -231,7 +231,7 @@ declared_in_order implicit es vs (g ∷ gs) close ws e =
     bind_ok (opened vs g.0) (λ o. each_line (var_line implicit es) o g.1 >>= λ w. with_var vs w (has_ended gs (Some close)) >>= λ more. vars_after implicit es more gs (Some close)) ws e (λ o open_is e1.
     bind_ok (each_line (var_line implicit es) o g.1) (λ w. with_var vs w (has_ended gs (Some close)) >>= λ more. vars_after implicit es more gs (Some close)) ws e1 (λ w lines_are e2.
     bind_ok (with_var vs w (has_ended gs (Some close))) (λ more. vars_after implicit es more gs (Some close)) ws e2 (λ longer with_is e3.
-    bind_ok (closed w) (λ v. Ok (vs ++ v ∷ [])) longer (ap (with_var vs w) (sym (ended gs close)) ∙ with_is) (λ v closed_is longer_is.
+    bind_ok (var_decl_of w) (λ v. Ok (vs ++ v ∷ [])) longer (ap (with_var vs w) (sym (ended gs close)) ∙ with_is) (λ v closed_is longer_is.
     let rest = declared_in_order implicit es longer gs close ws e3 in
     let longer_as : longer ≡ vs ++ v ∷ [] = cc in
     (v ∷ rest.0, rest.1 ∙ ap (λ l. l ++ rest.0) longer_as ∙ append_assoc vs (v ∷ []) rest.0, (declared_by implicit es vs g o w v open_is lines_are closed_is, rest.2))))))

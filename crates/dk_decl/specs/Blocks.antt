@@ -5,8 +5,8 @@ use Rattle.dk_base.specs.Reading.{Line, Reads}
 use Rattle.dk_decl.specs.DeclareBlock.{declare_lines, declare_resumed}
 use Rattle.dk_decl.specs.PptBlock.{ppt_of, ppt_resumed}
 use Rattle.dk_decl.specs.declared.block.DeclBlock.{DeclBlock}
-use Rattle.dk_decl.specs.declared.block.Form.{Form}
-use Rattle.dk_decl.specs.declared.block.Form.TheVariants.{Ppt, Declare}
+use Rattle.dk_decl.specs.declared.block.BlockForm.{BlockForm}
+use Rattle.dk_decl.specs.declared.block.BlockForm.TheVariants.{Ppt, Declare}
 use Rattle.dk_decl.specs.declared.decls.PointDecl.{PointDecl}
 
 -- the whole line `DECLARE`
@@ -15,15 +15,15 @@ is_declare l = bytes_eq l.bytes (codes "DECLARE")
 
 -- What the lines of a block declare, the first of which is a `ppt` line or `DECLARE`, or their first fault. A block that is cut off has
 -- the faults of the lines that are there; the variable at which it is cut off is not judged, and does not stand in the declaration.
-unfoldable pub decl_of : Bool → Line → Reads PointDecl
-decl_of implicit first ls close =
+unfoldable pub block_decl : Bool → Line → Reads PointDecl
+block_decl implicit first ls close =
     if is_declare first then declare_lines implicit first.number ls close
     else ppt_of implicit first ls close
 
-abbrev pub resumed_in : Bool → Form → Reads PointDecl
+abbrev pub resumed_in : Bool → BlockForm → Reads PointDecl
 resumed_in implicit (Ppt b) ls close = ppt_resumed implicit b ls close
 resumed_in implicit (Declare b) ls close = declare_resumed implicit b ls close
 
 -- what a block that has been read so far declares, together with the lines that are left
-unfoldable pub resumed : DeclBlock → Reads PointDecl
-resumed b ls close = resumed_in b.implicit b.form ls close
+unfoldable pub decl_resumed : DeclBlock → Reads PointDecl
+decl_resumed b ls close = resumed_in b.implicit b.form ls close

@@ -6,8 +6,8 @@ use Rattle.dk_base.specs.Numbers.{integer_of}
 use Rattle.dk_base.specs.declared.kinds.Compar.{Compar}
 
 -- the parts of a text between its `[` (91)
-unfoldable pub parts : List ℕ → List (List ℕ)
-parts text = slice_split (λ b. b == 91) text
+unfoldable pub bracket_parts : List ℕ → List (List ℕ)
+bracket_parts text = slice_split (λ b. b == 91) text
 
 -- the number in front of the `]` (93) that ends the part
 unfoldable pub index_of : List ℕ → Option ℤ
@@ -38,7 +38,7 @@ numbers_of (front ∷ brackets) = with_numbers (integer_of front) (index_number 
 
 -- the element number, and the index number in the first brackets; further brackets have no effect
 unfoldable pub compar_of : List ℕ → Option Compar
-compar_of text = numbers_of (parts text)
+compar_of text = numbers_of (bracket_parts text)
 
 -- of a variable without such a line, or under the word `none`
 abbrev pub no_compar : Compar

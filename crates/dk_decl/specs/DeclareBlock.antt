@@ -10,14 +10,14 @@ use Rattle.dk_base.specs.declared.why.Why.TheVariants.{BadPoint, BadVariable}
 use Rattle.dk_decl.specs.Brackets.{compar_of, no_compar}
 use Rattle.dk_decl.specs.LineWords.{begins, operand}
 use Rattle.dk_decl.specs.Outcomes.{refused, or_refused}
-use Rattle.dk_decl.specs.Types.{constant_at, kind_of, rep_type_of}
+use Rattle.dk_decl.specs.Types.{constant_at, rep_kind, rep_type_of}
 use Rattle.dk_decl.specs.VarNames.{has_name}
 use Rattle.dk_decl.specs.declared.decls.VarDecl.{VarDecl}
 use Rattle.dk_decl.specs.declared.decls.PointDecl.{PointDecl}
 use Rattle.dk_decl.specs.declared.declare.DeclareBlock.{DeclareBlock}
 use Rattle.dk_decl.specs.declared.declare.DeclareBlock.TheVariants.{Begun, Going}
-use Rattle.dk_decl.specs.declared.declare.Place.{Place}
-use Rattle.dk_decl.specs.declared.declare.Place.TheVariants.{AtName, AtType, AtRepresentation, AtComparability}
+use Rattle.dk_decl.specs.declared.declare.NextLine.{NextLine}
+use Rattle.dk_decl.specs.declared.declare.NextLine.TheVariants.{AtName, AtType, AtRepresentation, AtComparability}
 use Rattle.dk_decl.specs.declared.declare.Represented.{Represented}
 use Rattle.dk_decl.specs.declared.types.RepType.{RepType}
 use Rattle.dk_decl.specs.declared.types.Placed.{Placed}
@@ -47,10 +47,10 @@ unfoldable pub comparability : Bool → Line → Result Compar LineFault
 comparability true l = or_refused BadVariable l.number (compar_of l.bytes)
 comparability false l = Ok no_compar
 
-abbrev pub declared_var : List ℕ → Represented → Compar → VarDecl
-declared_var name r compar = record {
+abbrev pub old_form_var : List ℕ → Represented → Compar → VarDecl
+old_form_var name r compar = record {
   name = name;
-  kind = kind_of r.rep;
+  kind = rep_kind r.rep;
   compar = compar;
   constant = r.constant;
   constant_line = r.constant_line;
@@ -79,7 +79,7 @@ abbrev mutual
   pub from_comparability : Bool → List VarDecl → ℕ → List ℕ → Represented → Reads (List VarDecl)
   from_comparability implicit vs line name r [] close = cut_short vs line close
   from_comparability implicit vs line name r (l ∷ ls) close =
-      comparability implicit l >>= λ c. from_name implicit (vs ++ declared_var name r c ∷ []) ls close
+      comparability implicit l >>= λ c. from_name implicit (vs ++ old_form_var name r c ∷ []) ls close
 
 abbrev pub named_point : List ℕ → Result (List VarDecl) LineFault → Result PointDecl LineFault
 named_point name vars = vars >>= λ vs. Ok (record { name = name; edges = []; vars = vs })
@@ -90,13 +90,13 @@ declare_lines implicit first [] None = Ok (record { name = []; edges = []; vars 
 declare_lines implicit first [] (Some close) = refused BadPoint first
 declare_lines implicit first (l ∷ ls) close = named_point (unescaped l.bytes) (from_name implicit [] ls close)
 
-abbrev pub from_place : Bool → List VarDecl → Place → Reads (List VarDecl)
-from_place implicit vs AtName ls close = from_name implicit vs ls close
-from_place implicit vs (AtType line name) ls close = from_type implicit vs line name ls close
-from_place implicit vs (AtRepresentation line name) ls close = from_representation implicit vs line name ls close
-from_place implicit vs (AtComparability line name r) ls close = from_comparability implicit vs line name r ls close
+abbrev pub from_next_line : Bool → List VarDecl → NextLine → Reads (List VarDecl)
+from_next_line implicit vs AtName ls close = from_name implicit vs ls close
+from_next_line implicit vs (AtType line name) ls close = from_type implicit vs line name ls close
+from_next_line implicit vs (AtRepresentation line name) ls close = from_representation implicit vs line name ls close
+from_next_line implicit vs (AtComparability line name r) ls close = from_comparability implicit vs line name r ls close
 
 -- what a block that has been read so far declares, together with the lines that are left
 unfoldable pub declare_resumed : Bool → DeclareBlock → Reads PointDecl
 declare_resumed implicit (Begun first) ls close = declare_lines implicit first ls close
-declare_resumed implicit (Going name vs place) ls close = named_point name (from_place implicit vs place ls close)
+declare_resumed implicit (Going name vs place) ls close = named_point name (from_next_line implicit vs place ls close)

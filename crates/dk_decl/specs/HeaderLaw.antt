@@ -8,15 +8,15 @@ use Rattle.dk_decl.specs.Headers.{awaits_word, comparability_word, header_line, 
 use Rattle.dk_decl.specs.LineWords.{begins, operand}
 use Rattle.dk_decl.specs.declared.header.Header.{Header}
 
-abbrev pub taken : Option (Result Header Why) → Option Header
-taken (Some (Ok h)) = Some h
-taken (Some (Err why)) = None
-taken None = None
+abbrev pub header_taken : Option (Result Header Why) → Option Header
+header_taken (Some (Ok h)) = Some h
+header_taken (Some (Err why)) = None
+header_taken None = None
 
 -- what these header lines leave in force, if each of them is a header line and is taken
 abbrev pub header_after : Header → List (List ℕ) → Option Header
 header_after h [] = Some h
-header_after h (line ∷ lines) = option_and_then (λ next. header_after next lines) (taken (header_line h line))
+header_after h (line ∷ lines) = option_and_then (λ next. header_after next lines) (header_taken (header_line h line))
 
 -- the word that a header line says
 abbrev pub word_in : List ℕ → List Bool

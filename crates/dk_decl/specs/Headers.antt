@@ -44,7 +44,7 @@ header_line h line =
     else None
 
 -- The answer at a line: false where it is no header line, and the fault where it is refused; these two change nothing.
-abbrev pub Answers : Option (Result Header Why) → Header → Result Bool Why → Header → Type 0
-Answers None h answer h' = (answer ≡ Ok false) × (h' ≡ h)
-Answers (Some (Ok next)) h answer h' = (answer ≡ Ok true) × (h' ≡ next)
-Answers (Some (Err why)) h answer h' = (answer ≡ Err why) × (h' ≡ h)
+abbrev pub HeaderAnswers : Option (Result Header Why) → Header → Result Bool Why → Header → Type 0
+HeaderAnswers None h answer h' = (answer ≡ Ok false) × (h' ≡ h)
+HeaderAnswers (Some (Ok next)) h answer h' = (answer ≡ Ok true) × (h' ≡ next)
+HeaderAnswers (Some (Err why)) h answer h' = (answer ≡ Err why) × (h' ≡ h)

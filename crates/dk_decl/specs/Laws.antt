@@ -8,7 +8,7 @@ use Rattle.dk_base.specs.declared.kinds.Compar.{Compar}
 use Rattle.dk_decl.specs.Brackets.{compar_of, no_compar}
 use Rattle.dk_decl.specs.LineWords.{begins, operand, operands}
 use Rattle.dk_decl.specs.PptBlock.{groups, ppt_of}
-use Rattle.dk_decl.specs.Types.{constant_at, kind_of, rep_type_of}
+use Rattle.dk_decl.specs.Types.{constant_at, rep_kind, rep_type_of}
 use Rattle.dk_decl.specs.Variables.{counterparts}
 use Rattle.dk_decl.specs.declared.decls.EdgeDecl.{EdgeDecl}
 use Rattle.dk_decl.specs.declared.decls.ParentVar.{ParentVar}
@@ -55,7 +55,7 @@ last_constant ls = option_map constant_in (last_line (codes "constant") ls)
 -- The variable of a `variable` line and of its lines: of a repeated line the last one counts, and each `parent` line does.
 pub record IsDeclaredBy (implicit : Bool) (es : List EdgeDecl) (g : Line × List Line) (v : VarDecl) : Type 0 where
   pub name : v.name ≡ unescaped (operand g.0.bytes)
-  pub kind : option_map kind_of (last_rep_type g.1) ≡ Some v.kind
+  pub kind : option_map rep_kind (last_rep_type g.1) ≡ Some v.kind
   pub compar : v.compar ≡ (if implicit then last_compar g.1 else no_compar)
   pub constant : option_map (λ rep. constant_at rep (last_constant g.1)) (last_rep_type g.1) ≡ Some (Ok v.constant)
   pub constant_line : v.constant_line ≡ is_some (last_constant g.1)

@@ -15,21 +15,21 @@ or_refused why line None = refused why line
 or_refused why line (Some x) = Ok x
 
 -- the fault is what reading gives; want of memory says nothing of it
-abbrev pub Told : {A : Type 0} → BlockFault → Result A LineFault → Type 0
-Told (Refused line why) read = read ≡ refused why line
-Told NoMemory read = Unit {0}
+abbrev pub FaultAgrees : {A : Type 0} → BlockFault → Result A LineFault → Type 0
+FaultAgrees (Refused line why) read = read ≡ refused why line
+FaultAgrees NoMemory read = Unit {0}
 
 -- the answer is what reading gives, unless memory ran out
-abbrev pub Gives : {A : Type 0} → Result A BlockFault → Result A LineFault → Type 0
-Gives (Ok x) read = read ≡ Ok x
-Gives (Err e) read = Told e read
+abbrev pub AnswerAgrees : {A : Type 0} → Result A BlockFault → Result A LineFault → Type 0
+AnswerAgrees (Ok x) read = read ≡ Ok x
+AnswerAgrees (Err e) read = FaultAgrees e read
 
 -- the fault is what reading gives, whatever lines are left
-abbrev pub ToldOn : {A : Type 0} → BlockFault → Reads A → Type 0
-ToldOn (Refused line why) read = (ls : List Line) (close : Option ℕ) → read ls close ≡ refused why line
-ToldOn NoMemory read = Unit {0}
+abbrev pub FaultAgreesOnward : {A : Type 0} → BlockFault → Reads A → Type 0
+FaultAgreesOnward (Refused line why) read = (ls : List Line) (close : Option ℕ) → read ls close ≡ refused why line
+FaultAgreesOnward NoMemory read = Unit {0}
 
 -- Reading goes on from the answer as it does here, whatever lines are left; or the fault is what reading gives, whatever they are.
-abbrev pub GoesOn : {A B : Type 0} → (B → Reads A) → Result B BlockFault → Reads A → Type 0
-GoesOn resumed (Ok b) read = (ls : List Line) (close : Option ℕ) → read ls close ≡ resumed b ls close
-GoesOn resumed (Err e) read = ToldOn e read
+abbrev pub ReaderGoesOn : {A B : Type 0} → (B → Reads A) → Result B BlockFault → Reads A → Type 0
+ReaderGoesOn resumed (Ok b) read = (ls : List Line) (close : Option ℕ) → read ls close ≡ resumed b ls close
+ReaderGoesOn resumed (Err e) read = FaultAgreesOnward e read

@@ -4,7 +4,7 @@ use Rattle.std.specs.List.{AllZip}
 use Rattle.dk_base.specs.Names.{unescaped}
 use Rattle.dk_base.specs.Reading.{Line}
 use Rattle.dk_decl.specs.DeclareBlock.{comparability, declare_lines, representation}
-use Rattle.dk_decl.specs.Types.{kind_of}
+use Rattle.dk_decl.specs.Types.{rep_kind}
 use Rattle.dk_decl.specs.declared.declare.Represented.{Represented}
 use Rattle.dk_decl.specs.declared.decls.PointDecl.{PointDecl}
 use Rattle.dk_decl.specs.declared.decls.VarDecl.{VarDecl}
@@ -23,7 +23,7 @@ fours _ = []
 
 -- the variable is what a representation says
 pub record IsRepresented (v : VarDecl) (r : Represented) : Type 0 where
-  pub kind : v.kind ≡ kind_of r.rep
+  pub kind : v.kind ≡ rep_kind r.rep
   pub constant : v.constant ≡ r.constant
   pub constant_line : v.constant_line ≡ r.constant_line
 

@@ -7,7 +7,7 @@ use Rattle.dk_base.specs.declared.why.Why.TheVariants.{BadPoint}
 use Rattle.dk_decl.specs.Heads.{head_line}
 use Rattle.dk_decl.specs.LineWords.{begins, each_line, operand}
 use Rattle.dk_decl.specs.Outcomes.{refused}
-use Rattle.dk_decl.specs.Variables.{closed, opened, var_line}
+use Rattle.dk_decl.specs.Variables.{opened, var_decl_of, var_line}
 use Rattle.dk_decl.specs.declared.decls.EdgeDecl.{EdgeDecl}
 use Rattle.dk_decl.specs.declared.decls.VarDecl.{VarDecl}
 use Rattle.dk_decl.specs.declared.decls.PointDecl.{PointDecl}
@@ -32,7 +32,7 @@ has_ended (g ∷ gs) close = true
 
 -- the variables with this one, if it has ended
 unfoldable pub with_var : List VarDecl → OpenVar → Bool → Result (List VarDecl) LineFault
-with_var vs o true = closed o >>= λ v. Ok (vs ++ v ∷ [])
+with_var vs o true = var_decl_of o >>= λ v. Ok (vs ++ v ∷ [])
 with_var vs o false = Ok vs
 
 -- the variables, each opened, its lines read, and judged when it ends; where the block is cut off the last one is not judged

@@ -28,9 +28,9 @@ rep_type_of text =
     else None
 
 -- the kind of the variable's values; an opaque one has none
-abbrev pub kind_of : RepType → Option Kind
-kind_of (Of k) = Some k
-kind_of Opaque = None
+abbrev pub rep_kind : RepType → Option Kind
+rep_kind (Of k) = Some k
+rep_kind Opaque = None
 
 abbrev pub is_missing : Value → Bool
 is_missing value.Missing = true

@@ -11,7 +11,7 @@ use Rattle.dk_decl.specs.Brackets.{compar_of, no_compar}
 use Rattle.dk_decl.specs.Heads.{id_of, is_edge}
 use Rattle.dk_decl.specs.LineWords.{begins, operand, operands}
 use Rattle.dk_decl.specs.Outcomes.{refused, or_refused}
-use Rattle.dk_decl.specs.Types.{constant_at, kind_of, rep_type_of}
+use Rattle.dk_decl.specs.Types.{constant_at, rep_kind, rep_type_of}
 use Rattle.dk_decl.specs.VarNames.{has_name}
 use Rattle.dk_decl.specs.declared.decls.EdgeDecl.{EdgeDecl}
 use Rattle.dk_decl.specs.declared.decls.ParentVar.{ParentVar}
@@ -57,7 +57,7 @@ var_line implicit es o l =
 abbrev pub var_with : OpenVar → RepType → Option Value → VarDecl
 var_with o rep constant = record {
   name = o.name;
-  kind = kind_of rep;
+  kind = rep_kind rep;
   compar = o.compar;
   constant = constant;
   constant_line = is_some o.constant;
@@ -65,5 +65,5 @@ var_with o rep constant = record {
 }
 
 -- A variable is judged when it ends: it has a rep-type, and then its constant is a value.
-unfoldable pub closed : OpenVar → Result VarDecl LineFault
-closed o = or_refused BadVariable o.line o.rep >>= λ rep. constant_at rep o.constant >>= λ constant. Ok (var_with o rep constant)
+unfoldable pub var_decl_of : OpenVar → Result VarDecl LineFault
+var_decl_of o = or_refused BadVariable o.line o.rep >>= λ rep. constant_at rep o.constant >>= λ constant. Ok (var_with o rep constant)

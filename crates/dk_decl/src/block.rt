@@ -10,7 +10,7 @@ use std::alloc::Global;
 
 /// The form that the declaration has.
 #[derive(Drop)]
-pub(crate) enum Form {
+pub(crate) enum BlockForm {
     Ppt(PptBlock),
     Declare(DeclareBlock),
 }
@@ -20,28 +20,28 @@ pub(crate) enum Form {
 pub struct DeclBlock {
     pub(crate) alloc: Global,
     pub(crate) implicit: bool,
-    pub(crate) form: Form,
+    pub(crate) form: BlockForm,
 }
 
 impl DeclBlock {
-    ghost use Rattle.dk_decl.specs.Blocks.{decl_of, resumed};
-    ghost use Rattle.dk_decl.specs.Outcomes.{Gives, GoesOn};
+    ghost use Rattle.dk_decl.specs.Blocks.{block_decl, decl_resumed};
+    ghost use Rattle.dk_decl.specs.Outcomes.{AnswerAgrees, ReaderGoesOn};
 
     /// A declaration that begins with this line, `ppt NAME` or `DECLARE`, under the comparability word `implicit` or `none`.
     /// It is refused as `BadPoint` where `ppt` has no name.
-    #[tactic(auto, unfolding(crate::specs::Blocks::decl_of, crate::specs::Blocks::resumed))]
+    #[tactic(auto, unfolding(crate::specs::Blocks::block_decl, crate::specs::Blocks::decl_resumed))]
     pub fn begin(
         alloc: Global,
         line: u64,
         bytes: &[u8],
         implicit: bool,
     ) -> Result<DeclBlock, BlockFault>
-        ensures { GoesOn resumed result (decl_of implicit (record { number = line; bytes = bytes.now })) }
+        ensures { ReaderGoesOn decl_resumed result (block_decl implicit (record { number = line; bytes = bytes.now })) }
     {
         let form = if is_word(bytes, b"DECLARE") {
-            Form::Declare(DeclareBlock::begin(line))
+            BlockForm::Declare(DeclareBlock::begin(line))
         } else {
-            Form::Ppt(PptBlock::begin(alloc, line, bytes)?)
+            BlockForm::Ppt(PptBlock::begin(alloc, line, bytes)?)
         };
         Ok(DeclBlock {
             alloc,
@@ -51,9 +51,9 @@ impl DeclBlock {
     }
 
     /// The declaration with one line more. It is refused as `BadPoint` or `BadVariable` as soon as no lines behind it can make it good.
-    #[tactic(auto, unfolding(crate::specs::Blocks::resumed))]
+    #[tactic(auto, unfolding(crate::specs::Blocks::decl_resumed))]
     pub fn line(self, line: u64, bytes: &[u8]) -> Result<DeclBlock, BlockFault>
-        ensures { GoesOn resumed result (λ ls. resumed self (record { number = line; bytes = bytes.now } ∷ ls)) }
+        ensures { ReaderGoesOn decl_resumed result (λ ls. decl_resumed self (record { number = line; bytes = bytes.now } ∷ ls)) }
     {
         let DeclBlock {
             alloc,
@@ -61,8 +61,10 @@ impl DeclBlock {
             form,
         } = self;
         let form = match form {
-            Form::Ppt(block) => Form::Ppt(block.line(alloc, implicit, line, bytes)?),
-            Form::Declare(block) => Form::Declare(block.line(alloc, implicit, line, bytes)?),
+            BlockForm::Ppt(block) => BlockForm::Ppt(block.line(alloc, implicit, line, bytes)?),
+            BlockForm::Declare(block) => BlockForm::Declare(block.line(
+                alloc, implicit, line, bytes,
+            )?),
         };
         Ok(DeclBlock {
             alloc,
@@ -72,9 +74,9 @@ impl DeclBlock {
     }
 
     /// What the block declares, where it ends here.
-    #[tactic(auto, unfolding(crate::specs::Blocks::resumed))]
+    #[tactic(auto, unfolding(crate::specs::Blocks::decl_resumed))]
     pub fn end(self) -> Result<PointDecl, BlockFault>
-        ensures { (close : ℕ) → Gives result (resumed self [] (Some close)) }
+        ensures { (close : ℕ) → AnswerAgrees result (decl_resumed self [] (Some close)) }
     {
         let DeclBlock {
             alloc,
@@ -82,8 +84,8 @@ impl DeclBlock {
             form,
         } = self;
         match form {
-            Form::Ppt(block) => block.end(alloc),
-            Form::Declare(block) => block.end(alloc),
+            BlockForm::Ppt(block) => block.end(alloc),
+            BlockForm::Declare(block) => block.end(alloc),
         }
     }
 }

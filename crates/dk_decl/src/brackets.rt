@@ -1,15 +1,15 @@
 // What a variable may be compared with, as text.
 ghost use Rattle.std.specs.Prelude.{◌≡◌, IfOk, map};
 ghost use Rattle.std.specs.List.{list_all};
-ghost use Rattle.dk_decl.specs.Brackets.{compar_of, first_index, index_number, index_of, is_index, numbers_of, parts};
+ghost use Rattle.dk_decl.specs.Brackets.{bracket_parts, compar_of, first_index, index_number, index_of, is_index, numbers_of};
 
 use dk_base::{Compar, NoMemory, parse_integer};
 use std::alloc::{AllocError, Global};
 
 /// The parts of the text between its `[`.
-#[tactic(auto, unfolding(crate::specs::Brackets::parts))]
-fn parts(alloc: Global, text: &[u8]) -> Result<Vec<&[u8]>, AllocError>
-    ensures { IfOk result (λ found. map (λ part. part.now) found.items ≡ parts text.entry.now) }
+#[tactic(auto, unfolding(crate::specs::Brackets::bracket_parts))]
+fn bracket_parts(alloc: Global, text: &[u8]) -> Result<Vec<&[u8]>, AllocError>
+    ensures { IfOk result (λ found. map (λ part. part.now) found.items ≡ bracket_parts text.entry.now) }
 {
     text.split(|byte| *byte == b'[').collect(alloc)
 }
@@ -78,6 +78,6 @@ fn numbers_of(parts: &[&[u8]]) -> Option<Compar>
 pub(crate) fn compar_of(alloc: Global, text: &[u8]) -> Result<Option<Compar>, NoMemory>
     ensures { IfOk result (λ found. found ≡ compar_of text.now) }
 {
-    let parts = parts(alloc, text)?;
+    let parts = bracket_parts(alloc, text)?;
     Ok(numbers_of(parts.as_slice()))
 }

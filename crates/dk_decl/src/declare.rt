@@ -1,13 +1,13 @@
 // A declaration that begins with `DECLARE`, whose lines are read by their positions.
 ghost use Rattle.std.specs.Prelude.{◌≡◌, [], ◌∷◌, ℕ, Bool, List, Option};
 ghost use Rattle.dk_base.specs.Reading.{Line};
-ghost use Rattle.dk_decl.specs.Outcomes.{Gives};
+ghost use Rattle.dk_decl.specs.Outcomes.{AnswerAgrees};
 
 use crate::brackets::compar_of;
 use crate::decls::{PointDecl, VarDecl};
 use crate::line_words::{begins, operand};
 use crate::outcomes::{bad_point, bad_variable, in_memory, or_bad_variable};
-use crate::types::{Placed, RepType, constant_at, kind_of, rep_type_of};
+use crate::types::{Placed, RepType, constant_at, rep_kind, rep_type_of};
 use crate::variables::NO_COMPAR;
 use crate::vars::Vars;
 use dk_base::{BlockFault, Compar, List, Text, Value, first_word, unescape};
@@ -23,7 +23,7 @@ pub(crate) struct Represented {
 
 /// What the next line is, if there is one. Of a variable that has begun, its name and the line of its name are kept.
 #[derive(Drop)]
-pub(crate) enum Place {
+pub(crate) enum NextLine {
     /// The name of another variable.
     AtName,
     /// A variable's declared type.
@@ -55,18 +55,18 @@ pub(crate) enum DeclareBlock {
     Going {
         name: Text,
         vars: Vars,
-        place: Place,
+        place: NextLine,
     },
 }
 
 impl DeclareBlock {
-    ghost use Rattle.dk_decl.specs.DeclareBlock.{comparability, constant_text, declare_lines, declare_resumed, declared_var, from_name, from_place, new_name, representation};
-    ghost use Rattle.dk_decl.specs.Outcomes.{GoesOn};
+    ghost use Rattle.dk_decl.specs.DeclareBlock.{comparability, constant_text, declare_lines, declare_resumed, from_name, from_next_line, new_name, old_form_var, representation};
+    ghost use Rattle.dk_decl.specs.Outcomes.{ReaderGoesOn};
 
     // The name of a variable, which no earlier one has.
     #[tactic(auto, unfolding(crate::specs::DeclareBlock::new_name))]
     fn new_name(alloc: Global, vars: &Vars, line: u64, bytes: &[u8]) -> Result<Text, BlockFault>
-        ensures { Gives result (new_name vars.now (record { number = line; bytes = bytes.now })) }
+        ensures { AnswerAgrees result (new_name vars.now (record { number = line; bytes = bytes.now })) }
     {
         let name = in_memory(unescape(alloc, bytes))?;
         if vars.has(name.as_slice()) {
@@ -78,7 +78,7 @@ impl DeclareBlock {
     // The constant's text, where one follows the rep-type.
     #[tactic(auto, unfolding(crate::specs::DeclareBlock::constant_text))]
     fn constant_text(alloc: Global, line: u64, bytes: &[u8]) -> Result<Option<Placed>, BlockFault>
-        ensures { Gives result (constant_text (record { number = line; bytes = bytes.now })) }
+        ensures { AnswerAgrees result (constant_text (record { number = line; bytes = bytes.now })) }
     {
         let rest = operand(bytes);
         if rest.is_empty() {
@@ -94,7 +94,7 @@ impl DeclareBlock {
     // The rep-type, and the constant if one follows.
     #[tactic(auto, unfolding(crate::specs::DeclareBlock::representation))]
     fn representation(alloc: Global, line: u64, bytes: &[u8]) -> Result<Represented, BlockFault>
-        ensures { Gives result (representation (record { number = line; bytes = bytes.now })) }
+        ensures { AnswerAgrees result (representation (record { number = line; bytes = bytes.now })) }
     {
         let rep = or_bad_variable(rep_type_of(first_word(bytes)), line)?;
         let text = DeclareBlock::constant_text(alloc, line, bytes)?;
@@ -113,7 +113,7 @@ impl DeclareBlock {
         line: u64,
         bytes: &[u8],
     ) -> Result<Compar, BlockFault>
-        ensures { Gives result (comparability implicit (record { number = line; bytes = bytes.now })) }
+        ensures { AnswerAgrees result (comparability implicit (record { number = line; bytes = bytes.now })) }
     {
         if !implicit {
             return Ok(NO_COMPAR);
@@ -122,7 +122,7 @@ impl DeclareBlock {
     }
 
     fn declared_var(alloc: Global, name: Text, represented: Represented, compar: Compar) -> VarDecl
-        ensures { result ≡ declared_var name represented compar }
+        ensures { result ≡ old_form_var name represented compar }
     {
         let Represented {
             rep,
@@ -131,7 +131,7 @@ impl DeclareBlock {
         } = represented;
         VarDecl {
             name,
-            kind: kind_of(rep),
+            kind: rep_kind(rep),
             compar,
             constant,
             constant_line,
@@ -154,39 +154,39 @@ impl DeclareBlock {
         implicit: bool,
         name: Text,
         vars: Vars,
-        place: Place,
+        place: NextLine,
         line: u64,
         bytes: &[u8],
     ) -> Result<DeclareBlock, BlockFault>
-        ensures { GoesOn (declare_resumed implicit) result (λ ls. declare_resumed implicit (DeclareBlock.Going name vars place) (record { number = line; bytes = bytes.now } ∷ ls)) }
+        ensures { ReaderGoesOn (declare_resumed implicit) result (λ ls. declare_resumed implicit (DeclareBlock.Going name vars place) (record { number = line; bytes = bytes.now } ∷ ls)) }
     {
         match place {
-            Place::AtName => {
+            NextLine::AtName => {
                 let own = DeclareBlock::new_name(alloc, &vars, line, bytes)?;
                 Ok(DeclareBlock::Going {
                     name,
                     vars,
-                    place: Place::AtType { line, own },
+                    place: NextLine::AtType { line, own },
                 })
             }
-            Place::AtType { line, own } => Ok(DeclareBlock::Going {
+            NextLine::AtType { line, own } => Ok(DeclareBlock::Going {
                 name,
                 vars,
-                place: Place::AtRepresentation { line, own },
+                place: NextLine::AtRepresentation { line, own },
             }),
-            Place::AtRepresentation { line: begun, own } => {
+            NextLine::AtRepresentation { line: begun, own } => {
                 let represented = DeclareBlock::representation(alloc, line, bytes)?;
                 Ok(DeclareBlock::Going {
                     name,
                     vars,
-                    place: Place::AtComparability {
+                    place: NextLine::AtComparability {
                         line: begun,
                         own,
                         represented,
                     },
                 })
             }
-            Place::AtComparability {
+            NextLine::AtComparability {
                 line: _,
                 own,
                 represented,
@@ -197,7 +197,7 @@ impl DeclareBlock {
                 Ok(DeclareBlock::Going {
                     name,
                     vars,
-                    place: Place::AtName,
+                    place: NextLine::AtName,
                 })
             }
         }
@@ -212,7 +212,7 @@ impl DeclareBlock {
         line: u64,
         bytes: &[u8],
     ) -> Result<DeclareBlock, BlockFault>
-        ensures { GoesOn (declare_resumed implicit) result (λ ls. declare_resumed implicit self (record { number = line; bytes = bytes.now } ∷ ls)) }
+        ensures { ReaderGoesOn (declare_resumed implicit) result (λ ls. declare_resumed implicit self (record { number = line; bytes = bytes.now } ∷ ls)) }
     {
         match self {
             DeclareBlock::Begun { line: _ } => {
@@ -220,7 +220,7 @@ impl DeclareBlock {
                 Ok(DeclareBlock::Going {
                     name,
                     vars: Vars::new(alloc),
-                    place: Place::AtName,
+                    place: NextLine::AtName,
                 })
             }
             DeclareBlock::Going { name, vars, place } => {
@@ -231,18 +231,23 @@ impl DeclareBlock {
 
     // The block's end behind the point's name: a variable that has begun has all its lines.
     #[tactic(auto, unfolding(crate::specs::DeclareBlock::declare_resumed))]
-    fn whole(alloc: Global, name: Text, vars: Vars, place: Place) -> Result<PointDecl, BlockFault>
-        ensures { (implicit : Bool) (close : ℕ) → Gives result (declare_resumed implicit (DeclareBlock.Going name vars place) [] (Some close)) }
+    fn whole(
+        alloc: Global,
+        name: Text,
+        vars: Vars,
+        place: NextLine,
+    ) -> Result<PointDecl, BlockFault>
+        ensures { (implicit : Bool) (close : ℕ) → AnswerAgrees result (declare_resumed implicit (DeclareBlock.Going name vars place) [] (Some close)) }
     {
         match place {
-            Place::AtName => Ok(PointDecl {
+            NextLine::AtName => Ok(PointDecl {
                 name,
                 edges: List::new(alloc),
                 vars: vars.into_list(),
             }),
-            Place::AtType { line, own: _ } => Err(bad_variable(line)),
-            Place::AtRepresentation { line, own: _ } => Err(bad_variable(line)),
-            Place::AtComparability {
+            NextLine::AtType { line, own: _ } => Err(bad_variable(line)),
+            NextLine::AtRepresentation { line, own: _ } => Err(bad_variable(line)),
+            NextLine::AtComparability {
                 line,
                 own: _,
                 represented: _,
@@ -253,7 +258,7 @@ impl DeclareBlock {
     /// The block's end: it has a name, and a variable that has begun has all its lines.
     #[tactic(auto, unfolding(crate::specs::DeclareBlock::declare_resumed, crate::specs::DeclareBlock::declare_lines))]
     pub(crate) fn end(self, alloc: Global) -> Result<PointDecl, BlockFault>
-        ensures { (implicit : Bool) (close : ℕ) → Gives result (declare_resumed implicit self [] (Some close)) }
+        ensures { (implicit : Bool) (close : ℕ) → AnswerAgrees result (declare_resumed implicit self [] (Some close)) }
     {
         match self {
             DeclareBlock::Begun { line } => Err(bad_point(line)),

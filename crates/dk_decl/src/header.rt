@@ -15,7 +15,7 @@ pub struct Header {
 }
 
 impl Header {
-    ghost use Rattle.dk_decl.specs.Headers.{Answers, awaits_word, comparability_word, first_header, header_line, is_implicit, with_text, with_word};
+    ghost use Rattle.dk_decl.specs.Headers.{HeaderAnswers, awaits_word, comparability_word, first_header, header_line, is_implicit, with_text, with_word};
 
     /// Before any header line: the comparability word is `implicit`.
     pub fn new() -> Header
@@ -41,7 +41,7 @@ impl Header {
     /// Only a header line that is taken changes anything.
     #[tactic(auto, unfolding(crate::specs::Headers::header_line))]
     pub fn line(&mut self, bytes: &[u8]) -> Result<bool, Why>
-        ensures { Answers (header_line self.old bytes.now) self.old result self.new }
+        ensures { HeaderAnswers (header_line self.old bytes.now) self.old result self.new }
     {
         if self.awaits_word {
             self.word(bytes)
@@ -64,7 +64,7 @@ impl Header {
     // The comparability word is put in force.
     #[tactic(auto, unfolding(crate::specs::Headers::comparability_word))]
     fn word(&mut self, text: &[u8]) -> Result<bool, Why>
-        ensures { Answers (Some (with_text (comparability_word text.now))) self.old result self.new }
+        ensures { HeaderAnswers (Some (with_text (comparability_word text.now))) self.old result self.new }
     {
         if is_word(text, b"implicit") {
             *self = Header {

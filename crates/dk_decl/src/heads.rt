@@ -4,7 +4,7 @@ ghost use Rattle.std.specs.Char.{to_ascii_lowercase};
 ghost use Rattle.std.specs.List.{list_any, position};
 ghost use Rattle.std.specs.Str.{bytes_eq};
 ghost use Rattle.dk_decl.specs.Heads.{head_line, id_of, is_edge, is_point_type, parent_line, with_edge, with_relation};
-ghost use Rattle.dk_decl.specs.Outcomes.{Gives};
+ghost use Rattle.dk_decl.specs.Outcomes.{AnswerAgrees};
 
 use crate::decls::EdgeDecl;
 use crate::line_words::{begins, is_word, operand, operands};
@@ -48,7 +48,7 @@ fn with_edge(
     parent: Text,
     id: Option<u32>,
 ) -> Result<List<EdgeDecl>, BlockFault>
-    ensures { Gives result (with_edge edges line parent id) }
+    ensures { AnswerAgrees result (with_edge edges line parent id) }
 {
     match id {
         None => Err(bad_point(line)),
@@ -69,7 +69,7 @@ fn with_relation(
     parent: Text,
     id: Option<u32>,
 ) -> Result<List<EdgeDecl>, BlockFault>
-    ensures { Gives result (with_relation edges line relation.now parent id) }
+    ensures { AnswerAgrees result (with_relation edges line relation.now parent id) }
 {
     if is_word(relation, b"parent") {
         with_edge(edges, line, parent, id)
@@ -87,7 +87,7 @@ fn parent_line(
     line: u64,
     words: &[&[u8]],
 ) -> Result<List<EdgeDecl>, BlockFault>
-    ensures { Gives result (parent_line edges line (map (λ word. word.now) words.now)) }
+    ensures { AnswerAgrees result (parent_line edges line (map (λ word. word.now) words.now)) }
 {
     match words {
         [relation, parent, id] => {
@@ -124,7 +124,7 @@ pub(crate) fn head_line(
     line: u64,
     bytes: &[u8],
 ) -> Result<List<EdgeDecl>, BlockFault>
-    ensures { Gives result (head_line edges (record { number = line; bytes = bytes.now })) }
+    ensures { AnswerAgrees result (head_line edges (record { number = line; bytes = bytes.now })) }
 {
     if begins(b"ppt-type", bytes) {
         if is_point_type(operand(bytes)) {

@@ -1,12 +1,12 @@
 //! What the definitions of blocks come to, in the words of the format.
 ghost use Rattle.std.specs.Prelude.{map, Some, ℕ};
-ghost use Rattle.dk_decl.specs.Blocks.{decl_of};
+ghost use Rattle.dk_decl.specs.Blocks.{block_decl};
 ghost use Rattle.dk_decl.specs.HeaderLaw.{LastWordHolds};
 ghost use Rattle.dk_decl.specs.Laws.{LastLinesCount, line_of};
 ghost use Rattle.dk_decl.specs.OpenBlocks.{NoFaultYet};
 ghost use Rattle.dk_decl.specs.Positions.{LinesCountByPosition};
 ghost use Rattle.dk_decl.specs.ReadPast.{CommentsAreReadPast, OtherLinesAreReadPast};
-ghost use Rattle.dk_decl.specs.Outcomes.{Gives};
+ghost use Rattle.dk_decl.specs.Outcomes.{AnswerAgrees};
 
 use crate::block::DeclBlock;
 use crate::decls::PointDecl;
@@ -20,7 +20,7 @@ pub fn read_block(
     first: (u64, &[u8]),
     rest: &[(u64, &[u8])],
 ) -> Result<PointDecl, BlockFault>
-    ensures { (close : ℕ) → Gives result (decl_of implicit (line_of first.entry) (map line_of rest.entry.now) (Some close)) }
+    ensures { (close : ℕ) → AnswerAgrees result (block_decl implicit (line_of first.entry) (map line_of rest.entry.now) (Some close)) }
 {
     let mut block = DeclBlock::begin(alloc, first.0, first.1, implicit)?;
     for (number, bytes) in rest {

@@ -1,6 +1,6 @@
 // Faults of lines.
 ghost use Rattle.std.specs.Prelude.{◌≡◌, MatchResult, Ok, Err};
-ghost use Rattle.dk_decl.specs.Outcomes.{Gives, or_refused};
+ghost use Rattle.dk_decl.specs.Outcomes.{AnswerAgrees, or_refused};
 
 use dk_base::{BlockFault, NoMemory, Why};
 
@@ -26,7 +26,7 @@ pub(crate) fn bad_variable(line: u64) -> BlockFault
 
 /// What is there, or a fault of the variable at this line.
 pub(crate) fn or_bad_variable<T>(found: Option<T>, line: u64) -> Result<T, BlockFault>
-    ensures { Gives result (or_refused Why.BadVariable line found) }
+    ensures { AnswerAgrees result (or_refused Why.BadVariable line found) }
 {
     match found {
         Some(found) => Ok(found),

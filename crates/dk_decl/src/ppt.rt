@@ -1,13 +1,13 @@
 // A declaration that begins with `ppt`.
 ghost use Rattle.std.specs.Prelude.{◌≡◌, [], ◌∷◌, true, false, ℕ, Bool, List, Option};
 ghost use Rattle.dk_base.specs.Reading.{Line};
-ghost use Rattle.dk_decl.specs.Outcomes.{Gives};
+ghost use Rattle.dk_decl.specs.Outcomes.{AnswerAgrees};
 
 use crate::decls::{EdgeDecl, PointDecl};
 use crate::heads::head_line;
 use crate::line_words::{begins, operand};
 use crate::outcomes::{bad_point, in_memory};
-use crate::variables::{OpenVar, closed, opened, var_line};
+use crate::variables::{OpenVar, close_var, opened, var_line};
 use crate::vars::Vars;
 use dk_base::{BlockFault, List, Text, unescape};
 use std::alloc::Global;
@@ -22,13 +22,13 @@ pub(crate) struct PptBlock {
 }
 
 impl PptBlock {
-    ghost use Rattle.dk_decl.specs.Outcomes.{GoesOn};
+    ghost use Rattle.dk_decl.specs.Outcomes.{ReaderGoesOn};
     ghost use Rattle.dk_decl.specs.PptBlock.{is_variable, point_name, ppt_lines, ppt_of, ppt_resumed, with_var};
 
     // The point's name, by the first line.
     #[tactic(auto, unfolding(crate::specs::PptBlock::point_name))]
     fn point_name(alloc: Global, line: u64, bytes: &[u8]) -> Result<Text, BlockFault>
-        ensures { Gives result (point_name (record { number = line; bytes = bytes.now })) }
+        ensures { AnswerAgrees result (point_name (record { number = line; bytes = bytes.now })) }
     {
         let rest = operand(bytes);
         if rest.is_empty() {
@@ -53,7 +53,7 @@ impl PptBlock {
     /// A block that begins with this line.
     #[tactic(auto, unfolding(crate::specs::PptBlock::ppt_of))]
     pub(crate) fn begin(alloc: Global, line: u64, bytes: &[u8]) -> Result<PptBlock, BlockFault>
-        ensures { (implicit : Bool) → GoesOn (ppt_resumed implicit) result (ppt_of implicit (record { number = line; bytes = bytes.now })) }
+        ensures { (implicit : Bool) → ReaderGoesOn (ppt_resumed implicit) result (ppt_of implicit (record { number = line; bytes = bytes.now })) }
     {
         let name = PptBlock::point_name(alloc, line, bytes)?;
         Ok(PptBlock::named(alloc, name))
@@ -69,9 +69,9 @@ impl PptBlock {
     // The variables with the one that ends here.
     #[tactic(auto, unfolding(crate::specs::PptBlock::with_var))]
     fn with_var(alloc: Global, vars: Vars, current: OpenVar) -> Result<Vars, BlockFault>
-        ensures { Gives result (with_var vars current true) }
+        ensures { AnswerAgrees result (with_var vars current true) }
     {
-        let ended = closed(alloc, current)?;
+        let ended = close_var(alloc, current)?;
         in_memory(vars.with(ended))
     }
 
@@ -83,7 +83,7 @@ impl PptBlock {
         line: u64,
         bytes: &[u8],
     ) -> Result<PptBlock, BlockFault>
-        ensures { GoesOn (ppt_resumed implicit) result (λ ls. ppt_resumed implicit self (record { number = line; bytes = bytes.now } ∷ ls)) }
+        ensures { ReaderGoesOn (ppt_resumed implicit) result (λ ls. ppt_resumed implicit self (record { number = line; bytes = bytes.now } ∷ ls)) }
     {
         if PptBlock::is_variable(line, bytes) {
             self.next_variable(alloc, implicit, line, bytes)
@@ -102,7 +102,7 @@ impl PptBlock {
         bytes: &[u8],
     ) -> Result<PptBlock, BlockFault>
         requires { is_variable (record { number = line; bytes = bytes.now }) ≡ true }
-        ensures { GoesOn (ppt_resumed implicit) result (λ ls. ppt_resumed implicit self (record { number = line; bytes = bytes.now } ∷ ls)) }
+        ensures { ReaderGoesOn (ppt_resumed implicit) result (λ ls. ppt_resumed implicit self (record { number = line; bytes = bytes.now } ∷ ls)) }
     {
         let PptBlock {
             name,
@@ -132,7 +132,7 @@ impl PptBlock {
         bytes: &[u8],
     ) -> Result<PptBlock, BlockFault>
         requires { is_variable (record { number = line; bytes = bytes.now }) ≡ false }
-        ensures { GoesOn (ppt_resumed implicit) result (λ ls. ppt_resumed implicit self (record { number = line; bytes = bytes.now } ∷ ls)) }
+        ensures { ReaderGoesOn (ppt_resumed implicit) result (λ ls. ppt_resumed implicit self (record { number = line; bytes = bytes.now } ∷ ls)) }
     {
         let PptBlock {
             name,
@@ -165,7 +165,7 @@ impl PptBlock {
     /// The block's end, which ends the last variable.
     #[tactic(auto, unfolding(crate::specs::PptBlock::ppt_resumed))]
     pub(crate) fn end(self, alloc: Global) -> Result<PointDecl, BlockFault>
-        ensures { (implicit : Bool) (close : ℕ) → Gives result (ppt_resumed implicit self [] (Some close)) }
+        ensures { (implicit : Bool) (close : ℕ) → AnswerAgrees result (ppt_resumed implicit self [] (Some close)) }
     {
         let PptBlock {
             name,

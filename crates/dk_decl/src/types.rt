@@ -1,8 +1,8 @@
 // Rep-types, and the constants that they take.
 ghost use Rattle.std.specs.Prelude.{◌≡◌};
 ghost use Rattle.dk_base.specs.Values.{value_of};
-ghost use Rattle.dk_decl.specs.Outcomes.{Gives};
-ghost use Rattle.dk_decl.specs.Types.{constant_at, constant_of, is_missing, kind_of, rep_type_of};
+ghost use Rattle.dk_decl.specs.Outcomes.{AnswerAgrees};
+ghost use Rattle.dk_decl.specs.Types.{constant_at, constant_of, is_missing, rep_kind, rep_type_of};
 
 use crate::line_words::is_word;
 use crate::outcomes::{bad_variable, in_memory};
@@ -52,8 +52,8 @@ pub(crate) fn rep_type_of(text: &[u8]) -> Option<RepType>
 }
 
 /// The kind of the variable's values.
-pub(crate) fn kind_of(rep: RepType) -> Option<Kind>
-    ensures { result ≡ kind_of rep }
+pub(crate) fn rep_kind(rep: RepType) -> Option<Kind>
+    ensures { result ≡ rep_kind rep }
 {
     match rep {
         RepType::Of(kind) => Some(kind),
@@ -75,7 +75,7 @@ fn constant_of(
     line: u64,
     text: &[u8],
 ) -> Result<Option<Value>, BlockFault>
-    ensures { Gives result (constant_of rep line text.now) }
+    ensures { AnswerAgrees result (constant_of rep line text.now) }
 {
     match rep {
         RepType::Opaque => Ok(None),
@@ -103,7 +103,7 @@ pub(crate) fn constant_at(
     rep: RepType,
     constant: &Option<Placed>,
 ) -> Result<Option<Value>, BlockFault>
-    ensures { Gives result (constant_at rep constant.now) }
+    ensures { AnswerAgrees result (constant_at rep constant.now) }
 {
     match constant {
         None => Ok(None),

@@ -1,14 +1,14 @@
 // The lines of a variable in a `ppt` block.
 ghost use Rattle.std.specs.Prelude.{◌≡◌, map, option_map};
-ghost use Rattle.dk_decl.specs.Outcomes.{Gives};
-ghost use Rattle.dk_decl.specs.Variables.{at_edge, closed, counterparts, opened, var_line, with_counterparts};
+ghost use Rattle.dk_decl.specs.Outcomes.{AnswerAgrees};
+ghost use Rattle.dk_decl.specs.Variables.{at_edge, counterparts, opened, var_decl_of, var_line, with_counterparts};
 
 use crate::brackets::compar_of;
 use crate::decls::{EdgeDecl, ParentVar, VarDecl};
 use crate::heads::{edge_at, id_of};
 use crate::line_words::{begins, operand, operands};
 use crate::outcomes::{bad_variable, in_memory, or_bad_variable};
-use crate::types::{Placed, RepType, constant_at, kind_of, rep_type_of};
+use crate::types::{Placed, RepType, constant_at, rep_kind, rep_type_of};
 use crate::vars::Vars;
 use dk_base::{BlockFault, Compar, List, Text, unescape};
 use std::alloc::Global;
@@ -38,7 +38,7 @@ pub(crate) fn opened(
     line: u64,
     bytes: &[u8],
 ) -> Result<OpenVar, BlockFault>
-    ensures { Gives result (opened vars.now (record { number = line; bytes = bytes.now })) }
+    ensures { AnswerAgrees result (opened vars.now (record { number = line; bytes = bytes.now })) }
 {
     let rest = operand(bytes);
     if rest.is_empty() {
@@ -66,7 +66,7 @@ fn with_counterpart(
     name: Text,
     id: Option<u32>,
 ) -> Result<List<ParentVar>, BlockFault>
-    ensures { Gives result (with_counterparts parents line (option_map (at_edge edges.now parent.now name) id)) }
+    ensures { AnswerAgrees result (with_counterparts parents line (option_map (at_edge edges.now parent.now name) id)) }
 {
     match id {
         None => Err(bad_variable(line)),
@@ -92,7 +92,7 @@ fn with_counterparts(
     line: u64,
     words: &[&[u8]],
 ) -> Result<List<ParentVar>, BlockFault>
-    ensures { Gives result (with_counterparts parents line (counterparts edges.now own.now (map (λ word. word.now) words.now))) }
+    ensures { AnswerAgrees result (with_counterparts parents line (counterparts edges.now own.now (map (λ word. word.now) words.now))) }
 {
     match words {
         [parent, id] => {
@@ -119,7 +119,7 @@ pub(crate) fn var_line(
     line: u64,
     bytes: &[u8],
 ) -> Result<OpenVar, BlockFault>
-    ensures { Gives result (var_line implicit edges.now current (record { number = line; bytes = bytes.now })) }
+    ensures { AnswerAgrees result (var_line implicit edges.now current (record { number = line; bytes = bytes.now })) }
 {
     if begins(b"rep-type", bytes) {
         let rep = or_bad_variable(rep_type_of(operand(bytes)), line)?;
@@ -162,9 +162,9 @@ pub(crate) fn var_line(
 }
 
 /// The variable, judged when it ends.
-#[tactic(auto, unfolding(crate::specs::Variables::closed))]
-pub(crate) fn closed(alloc: Global, current: OpenVar) -> Result<VarDecl, BlockFault>
-    ensures { Gives result (closed current) }
+#[tactic(auto, unfolding(crate::specs::Variables::var_decl_of))]
+pub(crate) fn close_var(alloc: Global, current: OpenVar) -> Result<VarDecl, BlockFault>
+    ensures { AnswerAgrees result (var_decl_of current) }
 {
     let OpenVar {
         line,
@@ -178,7 +178,7 @@ pub(crate) fn closed(alloc: Global, current: OpenVar) -> Result<VarDecl, BlockFa
     let value = constant_at(alloc, rep, &constant)?;
     Ok(VarDecl {
         name,
-        kind: kind_of(rep),
+        kind: rep_kind(rep),
         compar,
         constant: value,
         constant_line: constant.is_some(),

@@ -15,7 +15,7 @@ use Rattle.dk_base.specs.declared.kinds.VarInfo.{VarInfo}
 use Rattle.dk_base.specs.declared.values.Value.{Value}
 use Rattle.dk_base.specs.declared.values.Value.TheVariants as value
 use Rattle.dk_derive.proofs.Parts.{Each, all_flat_map, all_of}
-use Rattle.dk_derive.specs.Laws.{ValuesAreOfKinds, base_of, kinds_of}
+use Rattle.dk_derive.specs.Laws.{ValuesAreOfKinds, base_of, var_kinds}
 use Rattle.dk_derive.specs.Values.{back, element, front, next_place, number_of_elements, place, size, value_by_form}
 
 -- ---- one value
@@ -195,7 +195,7 @@ with-derived-kinds base bs all zips =
 
 -- ---- shapes of variables
 
-shape-kinds : (vars : List VarInfo) → kinds (map shape_of vars) ≡ kinds_of vars
+shape-kinds : (vars : List VarInfo) → kinds (map shape_of vars) ≡ var_kinds vars
 shape-kinds [] = refl
 shape-kinds (v ∷ vars) = ap (λ ks. v.kind ∷ ks) (shape-kinds vars)
 
@@ -206,12 +206,12 @@ shape-values base n (v ∷ vars) = ap (λ vs. value_by_form base n v.form ∷ vs
 abbrev base_shapes : List Shape → List Shape
 base_shapes ss = filter (λ s. is_base_form s.form) ss
 
-base-shape-kinds : (vars : List VarInfo) → kinds (base_shapes (map shape_of vars)) ≡ kinds_of (base_of vars)
+base-shape-kinds : (vars : List VarInfo) → kinds (base_shapes (map shape_of vars)) ≡ var_kinds (base_of vars)
 base-shape-kinds [] = refl
 base-shape-kinds (v ∷ vars) = go (is_base_form v.form) (base-shape-kinds vars)
   where
-    go : (b : Bool) → kinds (base_shapes (map shape_of vars)) ≡ kinds_of (base_of vars)
-        → kinds (cond b (shape_of v ∷ base_shapes (map shape_of vars)) (base_shapes (map shape_of vars))) ≡ kinds_of (cond b (v ∷ base_of vars) (base_of vars))
+    go : (b : Bool) → kinds (base_shapes (map shape_of vars)) ≡ var_kinds (base_of vars)
+        → kinds (cond b (shape_of v ∷ base_shapes (map shape_of vars)) (base_shapes (map shape_of vars))) ≡ var_kinds (cond b (v ∷ base_of vars) (base_of vars))
     go true h = ap (λ ks. v.kind ∷ ks) h
     go false h = h
 
@@ -230,5 +230,5 @@ values_of_kinds vars base derived zips =
     let Q : List Shape → Type 0 = λ ss. AllZip IsOfKind (kinds ss) (values base 0 ss) in
     let all : Q (map shape_of vars) = subst Q derived (with-derived-kinds base bs (kept-base (map shape_of vars)) (subst P (sym (base-shape-kinds vars)) zips)) in
     let R : List Kind → Type 0 = λ ks. AllZip IsOfKind ks (values base 0 (map shape_of vars)) in
-    let S : List Value → Type 0 = λ vs. AllZip IsOfKind (kinds_of vars) vs in
+    let S : List Value → Type 0 = λ vs. AllZip IsOfKind (var_kinds vars) vs in
     subst S (shape-values base 0 vars) (subst R (shape-kinds vars) all)

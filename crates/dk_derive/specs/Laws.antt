@@ -20,8 +20,8 @@ use Rattle.dk_derive.specs.Partners.{partner_with_derived}
 use Rattle.dk_derive.specs.Values.{at, derived_value, size, values_by_form}
 use Rattle.dk_derive.specs.Vars.{bases_of, var_at, with_derived_vars}
 
-abbrev pub kinds_of : List VarInfo → List Kind
-kinds_of vars = map (λ v. v.kind) vars
+abbrev pub var_kinds : List VarInfo → List Kind
+var_kinds vars = map (λ v. v.kind) vars
 
 -- the base variables among base and derived ones
 abbrev pub base_of : List VarInfo → List VarInfo
@@ -29,7 +29,7 @@ base_of vars = filter (λ v. is_base_form v.form) vars
 
 -- Where each value of the base variables is missing or of its variable's kind, so is each value of all variables.
 abbrev pub ValuesAreOfKinds : Type 0
-ValuesAreOfKinds = (vars : List VarInfo) (base : List Value) → AreWithDerived vars → AllZip IsOfKind (kinds_of (base_of vars)) base → AllZip IsOfKind (kinds_of vars) (values_by_form vars base)
+ValuesAreOfKinds = (vars : List VarInfo) (base : List Value) → AreWithDerived vars → AllZip IsOfKind (var_kinds (base_of vars)) base → AllZip IsOfKind (var_kinds vars) (values_by_form vars base)
 
 -- what is derived of base variables are base variables and derived ones
 abbrev pub GivesDerived : Type 0

@@ -12,29 +12,29 @@ use Rattle.dk_elements.specs.declared.one_of.OneOf.TheVariants as one_of
 use Rattle.dk_lanes.specs.declared.relation.Rel.{Rel}
 use Rattle.dk_lanes.specs.declared.relation.Rel.TheVariants.{Eq, Lt, Le, Gt, Ge}
 use Rattle.dk_template.specs.Rows.{IsTuple}
-use Rattle.dk_template.specs.Templates.{form_of, kinds_of, rows}
+use Rattle.dk_template.specs.Templates.{form_of, role_kinds, rows}
 use Rattle.dk_template.specs.declared.templates.StateForm.TheVariants as form
 
 -- ---- kinds
-pub one_of_takes : (r : OneOf) (t : List Value) → IsTuple (kinds_of (one_of_row r)) t → IsTuple (one_of_kind r ∷ []) t
+pub one_of_takes : (r : OneOf) (t : List Value) → IsTuple (role_kinds (one_of_row r)) t → IsTuple (one_of_kind r ∷ []) t
 unfolding rows
 one_of_takes one_of.Int t is = is
 one_of_takes one_of.Bool t is = is
 one_of_takes one_of.Hash t is = is
 one_of_takes one_of.Str t is = is
 
-pub bound_takes : (r : Bound) (t : List Value) → IsTuple (kinds_of (bound_row r)) t → IsTuple (kind.IntSeq ∷ []) t
+pub bound_takes : (r : Bound) (t : List Value) → IsTuple (role_kinds (bound_row r)) t → IsTuple (kind.IntSeq ∷ []) t
 unfolding rows
 bound_takes bound.Lower t is = is
 bound_takes bound.Upper t is = is
 
-pub non_null_takes : (r : NonNull) (t : List Value) → IsTuple (kinds_of (non_null_row r)) t → IsTuple (non_null_kind r ∷ []) t
+pub non_null_takes : (r : NonNull) (t : List Value) → IsTuple (role_kinds (non_null_row r)) t → IsTuple (non_null_kind r ∷ []) t
 unfolding rows
 non_null_takes non_null.Int t is = is
 non_null_takes non_null.Hash t is = is
 non_null_takes non_null.Str t is = is
 
-pub sorted_takes : (rel : Rel) (t : List Value) → IsTuple (kinds_of (record { 0 = sorted_number rel })) t → IsTuple (kind.IntSeq ∷ []) t
+pub sorted_takes : (rel : Rel) (t : List Value) → IsTuple (role_kinds (record { 0 = sorted_number rel })) t → IsTuple (kind.IntSeq ∷ []) t
 unfolding rows
 sorted_takes Eq t is = is
 sorted_takes Lt t is = is
@@ -42,7 +42,7 @@ sorted_takes Le t is = is
 sorted_takes Gt t is = is
 sorted_takes Ge t is = is
 
-pub compare_takes : (rel : Rel) (t : List Value) → IsTuple (kinds_of (record { 0 = compare_number rel })) t → IsTuple (kind.IntSeq ∷ kind.Int ∷ []) t
+pub compare_takes : (rel : Rel) (t : List Value) → IsTuple (role_kinds (record { 0 = compare_number rel })) t → IsTuple (kind.IntSeq ∷ kind.Int ∷ []) t
 unfolding rows
 compare_takes Eq t is = is
 compare_takes Lt t is = is

@@ -62,9 +62,9 @@ impl Row for Bound {
     ghost use Rattle.dk_elements.specs.Rows.{bound_is_row, bound_row};
     ghost use Rattle.dk_rows.proofs.RowLaws.{laws_by};
     ghost use Rattle.dk_rows.specs.Meanings.{state_of};
-    ghost use Rattle.dk_template.specs.Templates.{form_of, kinds_of};
+    ghost use Rattle.dk_template.specs.Templates.{form_of, role_kinds};
 
-    ghost kinds = { λ row. kinds_of (bound_row row) };
+    ghost kinds = { λ row. role_kinds (bound_row row) };
 
     ghost form = { λ row. form_of (bound_row row) };
 

@@ -45,9 +45,9 @@ impl Row for Compare {
     ghost use Rattle.dk_elements.specs.Rows.{compare_is_row, compare_row};
     ghost use Rattle.dk_rows.proofs.RowLaws.{laws_by};
     ghost use Rattle.dk_rows.specs.Meanings.{state_of};
-    ghost use Rattle.dk_template.specs.Templates.{form_of, kinds_of};
+    ghost use Rattle.dk_template.specs.Templates.{form_of, role_kinds};
 
-    ghost kinds = { λ row. kinds_of (compare_row row) };
+    ghost kinds = { λ row. role_kinds (compare_row row) };
 
     ghost form = { λ row. form_of (compare_row row) };
 

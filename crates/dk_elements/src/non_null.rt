@@ -79,9 +79,9 @@ impl Row for NonNull {
     ghost use Rattle.dk_elements.specs.Rows.{non_null_is_row, non_null_row};
     ghost use Rattle.dk_rows.proofs.RowLaws.{laws_by};
     ghost use Rattle.dk_rows.specs.Meanings.{state_of};
-    ghost use Rattle.dk_template.specs.Templates.{form_of, kinds_of};
+    ghost use Rattle.dk_template.specs.Templates.{form_of, role_kinds};
 
-    ghost kinds = { λ row. kinds_of (non_null_row row) };
+    ghost kinds = { λ row. role_kinds (non_null_row row) };
 
     ghost form = { λ row. form_of (non_null_row row) };
 

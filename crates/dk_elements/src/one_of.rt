@@ -74,9 +74,9 @@ impl Row for OneOf {
     ghost use Rattle.dk_elements.specs.Rows.{one_of_is_row, one_of_row};
     ghost use Rattle.dk_rows.proofs.RowLaws.{laws_by};
     ghost use Rattle.dk_rows.specs.Meanings.{state_of};
-    ghost use Rattle.dk_template.specs.Templates.{form_of, kinds_of};
+    ghost use Rattle.dk_template.specs.Templates.{form_of, role_kinds};
 
-    ghost kinds = { λ row. kinds_of (one_of_row row) };
+    ghost kinds = { λ row. role_kinds (one_of_row row) };
 
     ghost form = { λ row. form_of (one_of_row row) };
 

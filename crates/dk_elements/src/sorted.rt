@@ -45,9 +45,9 @@ impl Row for Sorted {
     ghost use Rattle.dk_elements.specs.Rows.{sorted_is_row, sorted_row};
     ghost use Rattle.dk_rows.proofs.RowLaws.{laws_by};
     ghost use Rattle.dk_rows.specs.Meanings.{state_of};
-    ghost use Rattle.dk_template.specs.Templates.{form_of, kinds_of};
+    ghost use Rattle.dk_template.specs.Templates.{form_of, role_kinds};
 
-    ghost kinds = { λ row. kinds_of (sorted_row row) };
+    ghost kinds = { λ row. role_kinds (sorted_row row) };
 
     ghost form = { λ row. form_of (sorted_row row) };
 

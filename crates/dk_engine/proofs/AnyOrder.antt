@@ -8,7 +8,7 @@ use Rattle.dk_base.specs.declared.kinds.VarId.{VarId}
 use Rattle.dk_base.specs.declared.kinds.VarInfo.{VarInfo}
 use Rattle.dk_base.specs.declared.values.Value.{Value}
 use Rattle.dk_classes.proofs.Firsts.{first_same}
-use Rattle.dk_classes.specs.Classes.{InClass, kinds_of}
+use Rattle.dk_classes.specs.Classes.{InClass, var_kinds}
 use Rattle.dk_classes.specs.Leaders.{leader_at, own_leaders, var}
 use Rattle.dk_constants.specs.Constants.{HasAlways}
 use Rattle.dk_constants.specs.Known.{Entries}
@@ -69,8 +69,8 @@ order_does_not_matter g infos samples others same kept is =
       number = is.number ∙ ap capped (sym long);
       leaders = record {
         long = is.leaders.long;
-        each = λ v l. first_same (InClass (kinds_of infos) samples v) (InClass (kinds_of infos) others v) (leader_at kept.leaders v)
-            (λ w c. class_moved samples others same (kinds_of infos) v w c) (λ w c. class_moved others samples back (kinds_of infos) v w c) (is.leaders.each v l);
+        each = λ v l. first_same (InClass (var_kinds infos) samples v) (InClass (var_kinds infos) others v) (leader_at kept.leaders v)
+            (λ w c. class_moved samples others same (var_kinds infos) v w c) (λ w c. class_moved others samples back (var_kinds infos) v w c) (is.leaders.each v l);
       };
       known = record {
         ascend = is.known.ascend;

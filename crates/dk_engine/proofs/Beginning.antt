@@ -5,13 +5,13 @@ use Rattle.std.proofs.Common.{ap, ◌∙◌, arith}
 use Rattle.std.proofs.lemmas.List.Elements.{All-nil}
 use Rattle.dk_base.specs.declared.kinds.VarId.{VarId}
 use Rattle.dk_base.specs.declared.kinds.VarInfo.{VarInfo}
-use Rattle.dk_classes.specs.Classes.{AreLeaders, kinds_of}
+use Rattle.dk_classes.specs.Classes.{AreLeaders, var_kinds}
 use Rattle.dk_classes.specs.Leaders.{own_leaders}
 use Rattle.dk_constants.proofs.Determined.{no_samples_have_none}
 use Rattle.dk_constants.specs.Known.{Entries}
 use Rattle.dk_presence.specs.Patterns.{held_patterns, same_vars}
 use Rattle.dk_presence.specs.declared.held.Held.{Held}
-use Rattle.dk_samples.specs.Leaders.{Ascend}
+use Rattle.dk_samples.specs.Leaders.{VarsAscend}
 use Rattle.dk_template.specs.declared.grammar.Grammar.{Grammar}
 use Rattle.dk_engine.specs.Exact.{IsKeptOf}
 use Rattle.dk_engine.specs.declared.kept.Kept.{Kept}
@@ -31,13 +31,13 @@ unfolding IsDistinct
 none_twice = tt
 
 -- one class for each kind, and nothing else
-pub nothing_kept : (g : Grammar) (infos : List VarInfo) (leaders : List VarId) → AreLeaders (kinds_of infos) [] leaders → IsKeptOf g infos [] (nothing leaders)
+pub nothing_kept : (g : Grammar) (infos : List VarInfo) (leaders : List VarId) → AreLeaders (var_kinds infos) [] leaders → IsKeptOf g infos [] (nothing leaders)
 nothing_kept g infos leaders are = record {
   number = refl;
   leaders = are;
   known = (no_samples_have_none (own_leaders leaders) []).1 refl;
   held = record {
-    form = record { once = none_twice; some = All-nil (λ (h : Held). 0 < h.count); ascend = All-nil (λ (h : Held). Ascend h.leaders) };
+    form = record { once = none_twice; some = All-nil (λ (h : Held). 0 < h.count); ascend = All-nil (λ (h : Held). VarsAscend h.leaders) };
     counted = λ p. refl;
   };
   slots = record {

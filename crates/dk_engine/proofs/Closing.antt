@@ -16,7 +16,7 @@ use Rattle.dk_fits.proofs.Pushing.{fit_push}
 use Rattle.dk_forms.specs.Laws.{IsIn}
 use Rattle.dk_forms.specs.declared.states.State.{State}
 use Rattle.dk_forms.specs.declared.states.State.TheVariants.{Broken, Empty}
-use Rattle.dk_presence.specs.Patterns.{AreCounted, capped, held_at, patterns_of, present_in, same_vars, times}
+use Rattle.dk_presence.specs.Patterns.{AreCounted, capped, pattern_count, patterns_of, present_in, same_vars, times}
 use Rattle.dk_presence.specs.declared.held.Held.{Held}
 use Rattle.dk_presence.proofs.Adding.{times-cons}
 use Rattle.dk_presence.proofs.Sameness.{same_vars-true}
@@ -82,7 +82,7 @@ times_there pattern (p ∷ patterns) h = elim (cases_Bool (same_vars pattern p))
       (suc rest.0, omega (arith, l), rest.2)
 ]
 
-held_there : (patterns : List (List VarId)) (held : List Held) (pattern : List VarId) → AreCounted patterns held → 0 < held_at held pattern → Contains patterns pattern
+held_there : (patterns : List (List VarId)) (held : List Held) (pattern : List VarId) → AreCounted patterns held → 0 < pattern_count held pattern → Contains patterns pattern
 held_there patterns held pattern counted h = times_there pattern patterns (some (times pattern patterns) (subst (λ n. 0 < n) (counted pattern) h))
   where
     some : (n : ℕ) → 0 < capped n → 0 < n
@@ -94,7 +94,7 @@ pub record SeenTogether (leaders : List VarId) (samples : List (List Value)) (sa
 
 -- where the pattern of the sample is held
 pub seen_by_held : (leaders : List VarId) (samples : List (List Value)) (sample : List Value) (held : List Held) → ArePatterns (own_leaders leaders) samples held
-    → 0 < held_at held (present_in (own_leaders leaders) sample) → SeenTogether leaders samples sample
+    → 0 < pattern_count held (present_in (own_leaders leaders) sample) → SeenTogether leaders samples sample
 seen_by_held leaders samples sample held are h =
     let own = own_leaders leaders in
     let c = held_there (patterns_of own samples) held (present_in own sample) are.counted h in
@@ -215,7 +215,7 @@ few_slots_close grammar infos samples sample kept now step after tells held are 
           let empty = empty_alone_begins row is vars p can.formed is_own can.roles other samples sample begun.2 in
           inl (
             had.state ∙ empty.1,
-            elim (cases_eq (held_at held (present_in (own_leaders now.leaders) sample)) 0) [
+            elim (cases_eq (pattern_count held (present_in (own_leaders now.leaders) sample)) 0) [
               | inl none ↦ none
               | inr some ↦
                   let seen = seen_by_held now.leaders samples sample held are (omega (arith, some)) in

@@ -10,7 +10,7 @@ use Rattle.dk_base.specs.declared.kinds.VarInfo.{VarInfo}
 use Rattle.dk_base.specs.declared.values.Value.{Value}
 use Rattle.dk_classes.proofs.Agreement.{lead_now, leaders_split}
 use Rattle.dk_classes.proofs.OwnLeaders.{own_ascend}
-use Rattle.dk_classes.specs.Classes.{AreLeaders, kinds_of}
+use Rattle.dk_classes.specs.Classes.{AreLeaders, var_kinds}
 use Rattle.dk_classes.specs.Leaders.{own_leaders}
 use Rattle.dk_constants.proofs.Feeding.{constants_fed, constants_first, ended_fed}
 use Rattle.dk_constants.specs.Constants.{AreConstants, AreFed}
@@ -19,7 +19,7 @@ use Rattle.dk_presence.proofs.Adding.{counted_added}
 use Rattle.dk_presence.proofs.Placing.{held_added}
 use Rattle.dk_presence.proofs.Refining.{are_refined, counted_now, led_has}
 use Rattle.dk_presence.specs.Patterns.{AreCounted, patterns_of, present_in}
-use Rattle.dk_presence.specs.Steps.{added, refined}
+use Rattle.dk_presence.specs.Steps.{refined, with_sample_of}
 use Rattle.dk_samples.specs.Leaders.{LeadNow}
 use Rattle.dk_samples.specs.Samples.{is_present, value_in}
 use Rattle.dk_template.specs.declared.grammar.Grammar.{Grammar}
@@ -47,13 +47,13 @@ module _ (g : Grammar) (infos : List VarInfo) (point : AreOfPoint infos) (sample
   led = own_leaders now.leaders
 
   lead : LeadNow old now.new samples led
-  lead = lead_now kept.leaders sample now.leaders now.new (are_leaders_of infos samples kept.leaders is.leaders point.few).classes turned.leaders turned.born (kinds_of infos) samples is.leaders
+  lead = lead_now kept.leaders sample now.leaders now.new (are_leaders_of infos samples kept.leaders is.leaders point.few).classes turned.leaders turned.born (var_kinds infos) samples is.leaders
 
   some_now : 0 < length (samples ++ sample ∷ [])
   some_now = let long = length_push samples sample in omega arith
 
-  leaders_now : AreLeaders (kinds_of infos) (samples ++ sample ∷ []) now.leaders
-  leaders_now = leaders_split (kinds_of infos) samples kept.leaders is.leaders sample now.leaders turned.leaders
+  leaders_now : AreLeaders (var_kinds infos) (samples ++ sample ∷ []) now.leaders
+  leaders_now = leaders_split (var_kinds infos) samples kept.leaders is.leaders sample now.leaders turned.leaders
 
   -- ---- constants
   known_first : length samples ≡ 0 → AreConstants led (samples ++ sample ∷ []) now.known
@@ -89,7 +89,7 @@ module _ (g : Grammar) (infos : List VarInfo) (point : AreOfPoint infos) (sample
   can : CanBeFed g infos kept
   can = parts_can_be_fed g infos kept (parts_of_kept g infos point samples sampled kept is)
 
-  pub patterns_now : ArePatterns led (samples ++ sample ∷ []) (added (present_in led sample) (map (refined now.new) kept.held))
+  pub patterns_now : ArePatterns led (samples ++ sample ∷ []) (with_sample_of (present_in led sample) (map (refined now.new) kept.held))
   patterns_now =
       let present = present_in led sample in
       let up = AllPairs-filter (λ (v w : VarId). v.0 < w.0) (λ v. is_present (value_in sample v)) led (own_ascend now.leaders) in
@@ -99,7 +99,7 @@ module _ (g : Grammar) (infos : List VarInfo) (point : AreOfPoint infos) (sample
       let counted = counted_now old now.new led differs (own_ascend kept.leaders) (own_ascend now.leaders) (led_has old now.new samples led lead) samples lead kept.held is.held.form away is.held.counted in
       record {
         form = held_added present (map (refined now.new) kept.held) up form;
-        counted = subst (λ ps. AreCounted ps (added present (map (refined now.new) kept.held))) (sym (map-append (present_in led) samples (sample ∷ []))) (counted_added (patterns_of led samples) (map (refined now.new) kept.held) present counted);
+        counted = subst (λ ps. AreCounted ps (with_sample_of present (map (refined now.new) kept.held))) (sym (map-append (present_in led) samples (sample ∷ []))) (counted_added (patterns_of led samples) (map (refined now.new) kept.held) present counted);
       }
 
   -- ---- all parts, by exact slots

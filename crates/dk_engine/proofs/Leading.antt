@@ -13,7 +13,7 @@ use Rattle.dk_base.specs.declared.values.Value.{Value}
 use Rattle.dk_classes.proofs.Agreement.{classes_of_leaders}
 use Rattle.dk_classes.proofs.OfKind.{kind_read}
 use Rattle.dk_classes.proofs.OwnLeaders.{own_from_leads}
-use Rattle.dk_classes.specs.Classes.{AreLeaders, kinds_of}
+use Rattle.dk_classes.specs.Classes.{AreLeaders, var_kinds}
 use Rattle.dk_classes.specs.Leaders.{own_leaders}
 use Rattle.dk_fits.specs.Laws.{AreAlike}
 use Rattle.dk_template.specs.Admitted.{admits, same_kind, suits}
@@ -123,7 +123,7 @@ module _ (infos : List VarInfo) (point : AreOfPoint infos) (leaders : List VarId
       (ap (λ n. n == length roles) (length-map vars (leader_of leaders)) ∙ hs.0) (suit_all roles vars hs.1)
 
 -- ---- leaders of samples
-module _ (infos : List VarInfo) (samples : List (List Value)) (leaders : List VarId) (are : AreLeaders (kinds_of infos) samples leaders) where
+module _ (infos : List VarInfo) (samples : List (List Value)) (leaders : List VarId) (are : AreLeaders (var_kinds infos) samples leaders) where
   -- as many leaders as variables
   pub long_leaders : length leaders ≡ length infos
   long_leaders = are.long ∙ length-map infos (λ (i : VarInfo). i.kind)
@@ -131,7 +131,7 @@ module _ (infos : List VarInfo) (samples : List (List Value)) (leaders : List Va
   pub are_leaders_of : length infos < 2 ^ 32 → AreLeadersOf infos leaders
   are_leaders_of few = record {
     long = long_leaders;
-    classes = classes_of_leaders (kinds_of infos) samples leaders are (let long = long_leaders in omega arith);
+    classes = classes_of_leaders (var_kinds infos) samples leaders are (let long = long_leaders in omega arith);
     kinds = λ v l. (are.each v l).holds.kind;
   }
 

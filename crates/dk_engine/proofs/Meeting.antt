@@ -8,7 +8,7 @@ use Rattle.dk_base.specs.Values.{IsOfKind}
 use Rattle.dk_base.specs.declared.kinds.VarId.{VarId}
 use Rattle.dk_base.specs.declared.kinds.VarInfo.{VarInfo}
 use Rattle.dk_base.specs.declared.values.Value.{Value}
-use Rattle.dk_classes.specs.Classes.{kind_at, kinds_of}
+use Rattle.dk_classes.specs.Classes.{kind_at, var_kinds}
 use Rattle.dk_presence.proofs.Refining.{contains-has, has-contains}
 use Rattle.dk_presence.proofs.Sameness.{same_vars-true}
 use Rattle.dk_presence.proofs.Sums.{count_at, has-filter, occurs_not}
@@ -18,7 +18,7 @@ use Rattle.dk_samples.specs.Samples.{is_present, value_in}
 
 -- ---- values of samples
 -- the value of a variable in a sample is of the variable's kind
-pub kind_of_value : (infos : List VarInfo) (sample : List Value) → AllZip (λ (info : VarInfo) x. IsOfKind info.kind x) infos sample → (v : ℕ) → v < length infos → IsOfKind (kind_at (kinds_of infos) v) (value_at sample v)
+pub kind_of_value : (infos : List VarInfo) (sample : List Value) → AllZip (λ (info : VarInfo) x. IsOfKind info.kind x) infos sample → (v : ℕ) → v < length infos → IsOfKind (kind_at (var_kinds infos) v) (value_at sample v)
 kind_of_value [] sample h v l = absurd (omega (arith, l))
 kind_of_value (info ∷ infos) [] h v l = absurd h
 kind_of_value (info ∷ infos) (x ∷ sample) h zero l = h.0

@@ -22,7 +22,7 @@ use Rattle.dk_rows.specs.Meanings.{meanings, relation_of, state_of}
 use Rattle.dk_rows.specs.Relations.{are_pairwise}
 use Rattle.dk_template.specs.Admitted.{same_kind}
 use Rattle.dk_template.specs.Rows.{IsTuple}
-use Rattle.dk_template.specs.Templates.{IsRow, form_of, kinds_of, rows}
+use Rattle.dk_template.specs.Templates.{IsRow, form_of, role_kinds, rows}
 use Rattle.dk_template.specs.declared.grammar.RowId.{RowId}
 use Rattle.dk_template.specs.declared.templates.StateForm.{StateForm}
 use Rattle.dk_template.specs.declared.templates.StateForm.TheVariants as form
@@ -34,7 +34,7 @@ is_texts form.Texts = true
 is_texts _ = false
 
 abbrev has_strings : RowId → Bool
-has_strings row = list_any (same_kind kind.StrSeq) (kinds_of row)
+has_strings row = list_any (same_kind kind.StrSeq) (role_kinds row)
 
 abbrev is_told : RowId → Bool
 is_told row = (wants_memory row || not (is_texts (form_of row))) && (wants_memory row || (row.0 == 60 || not (has_strings row)))
@@ -77,14 +77,14 @@ some_is test (l ∷ kinds) (suc role) k h t = ap (λ b. test l || b) (some_is te
     or_true false = refl
 
 -- and so does one over sequences of strings, but for the one that asks whether two are the same
-pub strings_want : (row : RowId) → IsRow row → row ≢ same_texts_row → (role : ℕ) → slice_get (kinds_of row) role ≡ Some kind.StrSeq → wants_memory row ≡ true
+pub strings_want : (row : RowId) → IsRow row → row ≢ same_texts_row → (role : ℕ) → slice_get (role_kinds row) role ≡ Some kind.StrSeq → wants_memory row ≡ true
 strings_want row is other role e =
     let h = (and_parts (wants_memory row || not (is_texts (form_of row))) (wants_memory row || (row.0 == 60 || not (has_strings row))) (told row is)).1 in
     elim (or_cases (wants_memory row) (row.0 == 60 || not (has_strings row)) h) [
       | inl w ↦ w
       | inr n ↦ elim (or_cases (row.0 == 60) (not (has_strings row)) n) [
         | inl same ↦ absurd (other (ap (λ (m : ℕ). record { 0 = m }) (eqb-true row.0 60 same)))
-        | inr no_strings ↦ absurd (not_true (has_strings row) no_strings (some_is (same_kind kind.StrSeq) (kinds_of row) role kind.StrSeq e refl))
+        | inr no_strings ↦ absurd (not_true (has_strings row) no_strings (some_is (same_kind kind.StrSeq) (role_kinds row) role kind.StrSeq e refl))
       ]
     ]
 
@@ -134,31 +134,31 @@ pub on_err : {T E P : Type 0} (r : Result T E) → P → OnErr r P
 on_err (Ok x) p = tt
 on_err (Err e) p = p
 
-two_kinds : length (kinds_of same_texts_row) ≡ 2
+two_kinds : length (role_kinds same_texts_row) ≡ 2
 unfolding rows
 two_kinds = refl
 
 -- a row of one value, or of three, isn't the row of the same sequences
-pub other_row : (row : RowId) (tuple : List Value) → IsTuple (kinds_of row) tuple → (length tuple ≡ 2 → ⊥) → row ≢ same_texts_row
-other_row row tuple is n e = n (is.arity ∙ (ap (λ (r : RowId). length (kinds_of r)) e ∙ two_kinds))
+pub other_row : (row : RowId) (tuple : List Value) → IsTuple (role_kinds row) tuple → (length tuple ≡ 2 → ⊥) → row ≢ same_texts_row
+other_row row tuple is n e = n (is.arity ∙ (ap (λ (r : RowId). length (role_kinds r)) e ∙ two_kinds))
 
 -- a sequence of strings in a tuple of another row
-pub strings_in_tuple : (row : RowId) → IsRow row → (tuple : List Value) → IsTuple (kinds_of row) tuple → row ≢ same_texts_row → (role : ℕ) → kind_of (value_at tuple role) ≡ Some kind.StrSeq → wants_memory row ≡ true
+pub strings_in_tuple : (row : RowId) → IsRow row → (tuple : List Value) → IsTuple (role_kinds row) tuple → row ≢ same_texts_row → (role : ℕ) → kind_of (value_at tuple role) ≡ Some kind.StrSeq → wants_memory row ≡ true
 strings_in_tuple row is tuple tuple_is other role e = strings_want row is other role (sym (tuple_is.each role) ∙ e)
 
 -- ---- the row of the same sequences, of its tuple
-kinds_there : (role : ℕ) → role < 2 → slice_get (kinds_of same_texts_row) role ≡ Some kind.StrSeq
+kinds_there : (role : ℕ) → role < 2 → slice_get (role_kinds same_texts_row) role ≡ Some kind.StrSeq
 unfolding rows
 kinds_there zero l = refl
 kinds_there (suc zero) l = refl
 kinds_there (suc (suc n)) l = absurd (omega (arith, l))
 
-module _ (row : RowId) (same : row.0 ≡ 60) (a b : Value) (is : IsTuple (kinds_of row) (a ∷ b ∷ [])) where
+module _ (row : RowId) (same : row.0 ≡ 60) (a b : Value) (is : IsTuple (role_kinds row) (a ∷ b ∷ [])) where
   row_same : same_texts_row ≡ row
   row_same = ap (λ (n : ℕ). record { 0 = n }) (sym same)
 
   kinds_same : (role : ℕ) → role < 2 → kind_of (value_at (a ∷ b ∷ []) role) ≡ Some kind.StrSeq
-  kinds_same role l = is.each role ∙ (ap (λ (r : RowId). slice_get (kinds_of r) role) (sym row_same) ∙ kinds_there role l)
+  kinds_same role l = is.each role ∙ (ap (λ (r : RowId). slice_get (role_kinds r) role) (sym row_same) ∙ kinds_there role l)
 
   pub same_told : a ≡ b → state.Holds ≡ state_of row ((a ∷ b ∷ []) ∷ [])
   same_told e = same_texts a b (kinds_same 0 (omega arith)) (kinds_same 1 (omega arith)) e ∙ ap (λ r. state_of r ((a ∷ b ∷ []) ∷ [])) row_same

@@ -12,7 +12,7 @@ use Rattle.dk_base.specs.declared.kinds.VarInfo.{VarInfo}
 use Rattle.dk_base.specs.declared.values.Value.{Value}
 use Rattle.dk_base.specs.declared.values.Value.TheVariants as value
 use Rattle.dk_classes.proofs.OwnLeaders.{leads_from_own}
-use Rattle.dk_classes.specs.Classes.{kind_at, kinds_of}
+use Rattle.dk_classes.specs.Classes.{kind_at, var_kinds}
 use Rattle.dk_classes.specs.Leaders.{own_leaders}
 use Rattle.dk_constants.proofs.Determined.{known_some}
 use Rattle.dk_constants.specs.Known.{Entries, known_at}
@@ -88,7 +88,7 @@ module _ (g : Grammar) (infos : List VarInfo) (point : AreOfPoint infos) (sample
 
     value_of_kept : IsValueOf infos v x
     value_of_kept = record {
-      kind = subst (IsOfKind (kind_at (kinds_of infos) v.0)) (always 0 [] some) (kind_of_value infos (get_or samples 0 []) (sampled 0 [] some).kinds v.0 within);
+      kind = subst (IsOfKind (kind_at (var_kinds infos) v.0)) (always 0 [] some) (kind_of_value infos (get_or samples 0 []) (sampled 0 [] some).kinds v.0 within);
       written = subst IsWritten (always 0 [] some) (written_value (get_or samples 0 []) (sampled 0 [] some).written);
     }
       where

@@ -26,7 +26,7 @@ use Rattle.dk_suppress.specs.Laws.{AllPremises}
 use Rattle.dk_suppress.specs.Rules.{Rule, asks, rules}
 use Rattle.dk_template.proofs.WrittenOrder.{arranged_ascends, written_tuples_are_admitted}
 use Rattle.dk_template.specs.Admitted.{admits}
-use Rattle.dk_template.specs.Exchange.{arranged, back, descends, disarranged, exchange, exchanged, ordered, written}
+use Rattle.dk_template.specs.Exchange.{arranged, descends, disarranged, exchange, exchanged, exchanged_back, ordered, written}
 use Rattle.dk_template.specs.Fitting.{fits}
 use Rattle.dk_template.specs.Premises.{IsUsable, at_role, roles_read, row_of, suffices, vars_of}
 use Rattle.dk_template.specs.Templates.{IsRow, IsRowOf, arity_of, form_of, is_plain, rank_of, roles_of, template_of}
@@ -173,14 +173,14 @@ plain_exchanged Last state.Broken h = refl
 plain_exchanged Last state.Holds h = refl
 plain_exchanged _ _ h = absurd h
 
-plain_back : (e : Exchange) (vars : List VarId) (s : State) → IsPlainState s → back e vars s ≡ s
+plain_back : (e : Exchange) (vars : List VarId) (s : State) → IsPlainState s → exchanged_back e vars s ≡ s
 plain_back e vars s h = elim (descends e vars) as (λ b. cond b (exchanged e s) s ≡ s) [ true ↦ plain_exchanged e s h | false ↦ refl ]
 
 plain_disarranged : (y : Symmetry) (vars : List VarId) (s : State) → IsPlainState s → disarranged y vars s ≡ s
 plain_disarranged symmetry.Fixed vars s h = refl
 plain_disarranged symmetry.All vars s h =
     let one = ordered Last vars in
-    ap (λ t. back Last vars (back First one t)) (plain_back Last (ordered First one) s h) ∙ (ap (back Last vars) (plain_back First one s h) ∙ plain_back Last vars s h)
+    ap (λ t. exchanged_back Last vars (exchanged_back First one t)) (plain_back Last (ordered First one) s h) ∙ (ap (exchanged_back Last vars) (plain_back First one s h) ∙ plain_back Last vars s h)
 plain_disarranged symmetry.Arguments vars s h = plain_back Last vars s h
 
 plain_of_list : (bs : List Bool) → IsPlainState (plain_of bs)

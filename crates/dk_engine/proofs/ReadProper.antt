@@ -19,7 +19,7 @@ use Rattle.dk_template.specs.Exchange.{written}
 use Rattle.dk_template.specs.Joins.{joined}
 use Rattle.dk_template.specs.Proper.{IsProper}
 use Rattle.dk_template.specs.Rows.{IsTuple}
-use Rattle.dk_template.specs.Templates.{IsRow, IsRowOf, form_of, kinds_of, template_of}
+use Rattle.dk_template.specs.Templates.{IsRow, IsRowOf, form_of, role_kinds, template_of}
 use Rattle.dk_template.specs.declared.grammar.Grammar.{Grammar}
 use Rattle.dk_template.specs.declared.grammar.RowId.{RowId}
 use Rattle.dk_engine.proofs.Leading.{admit_all}
@@ -38,7 +38,7 @@ module _ (infos : List VarInfo) (sample : List Value) (sampled : IsSample infos 
       let t = tuple_in vars sample in
       elim (is_whole t) as (λ b. is_whole t ≡ b → IsProper (form_of row) (cond b (joined (form_of row) s (state_of row (t ∷ []))) s)) [
         | true ↦ λ w. (proper_laws (form_of row)).closed s (state_of row (t ∷ [])) p
-            ((laws_of row is).proper (t ∷ []) (All-cons (IsTuple (kinds_of row)) t [] (is_tuple infos sample sampled row vars a w) (All-nil (IsTuple (kinds_of row)))))
+            ((laws_of row is).proper (t ∷ []) (All-cons (IsTuple (role_kinds row)) t [] (is_tuple infos sample sampled row vars a w) (All-nil (IsTuple (role_kinds row)))))
         | false ↦ λ w. p
       ] refl
 

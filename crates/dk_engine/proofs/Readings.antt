@@ -10,7 +10,7 @@ use Rattle.dk_base.specs.declared.kinds.VarInfo.{VarInfo}
 use Rattle.dk_base.specs.declared.values.Value.{Value}
 use Rattle.dk_base.specs.declared.values.Value.TheVariants as value
 use Rattle.dk_classes.proofs.Agreement.{class_from_leader, one_leader}
-use Rattle.dk_classes.specs.Classes.{kind_at, kinds_of}
+use Rattle.dk_classes.specs.Classes.{kind_at, var_kinds}
 use Rattle.dk_classes.specs.Leaders.{leader_at, own_leaders}
 use Rattle.dk_constants.specs.Constants.{AreConstants}
 use Rattle.dk_constants.specs.Known.{Entries, known_at}
@@ -32,7 +32,7 @@ use Rattle.dk_suppress.specs.Soundness.{fit_of, holds_of}
 use Rattle.dk_template.proofs.WrittenOrder.{written_tuples_are_admitted}
 use Rattle.dk_template.proofs.WrittenTuples.{admitted_arity, admitted_few, rank_below, written_all, written_is_written}
 use Rattle.dk_template.specs.Admitted.{admits, is_written}
-use Rattle.dk_template.specs.Exchange.{turned, written}
+use Rattle.dk_template.specs.Exchange.{turned_state, written}
 use Rattle.dk_template.specs.Premises.{AreThere}
 use Rattle.dk_template.specs.Templates.{IsRow, IsRowOf, rank_of}
 use Rattle.dk_template.specs.declared.grammar.Grammar.{Grammar}
@@ -140,7 +140,7 @@ module _ (g : Grammar) (infos : List VarInfo) (point : AreOfPoint infos) (sample
         let same = suppressed_alike g infos (Contains (own_leaders kept.leaders)) (read_leaders n kept) (fit_of samples) row
         (λ r of lower vs a all. read_leaders_fits n r vs (record { of_grammar = of; admitted = a; lead = all }) (omega (arith, below, lower)))
         (written row vars) admitted lead in
-        ap (turned row vars) (read_written_fits row (written row vars) (record { of_grammar = over.of_grammar; admitted = admitted; lead = lead })
+        ap (turned_state row vars) (read_written_fits row (written row vars) (record { of_grammar = over.of_grammar; admitted = admitted; lead = lead })
         (written_is_written row vars (admitted_few row infos vars over.admitted)) (read_leaders n kept) same)
         ∙ sym (fits_turn row isrow vars (admitted_arity row infos vars over.admitted) samples)
 
@@ -179,17 +179,17 @@ module _ (g : Grammar) (infos : List VarInfo) (point : AreOfPoint infos) (sample
       ∙ sym (count_alike samples vars (leaders_of kept.leaders vars) (agree_all infos samples kept.leaders is.leaders vars there))
 
   pub agreement_read : (v w : VarId) → v.0 < length infos → w.0 < length infos
-      → IsTrue (agree_read kept v w) ↔ ((kind_at (kinds_of infos) v.0 ≡ kind_at (kinds_of infos) w.0) × Agree samples v w)
+      → IsTrue (agree_read kept v w) ↔ ((kind_at (var_kinds infos) v.0 ≡ kind_at (var_kinds infos) w.0) × Agree samples v w)
   agreement_read v w there also =
       let long = long_leaders infos samples kept.leaders is.leaders in
       let kinds = length-map infos (λ (i : VarInfo). i.kind) in
       let lv : v.0 < length kept.leaders = omega arith in
       let lw : w.0 < length kept.leaders = omega arith in (
         λ h.
-            let class = class_from_leader (kinds_of infos) samples kept.leaders is.leaders w.0 v.0 lw lv (eqb-true (leader_at kept.leaders v.0) (leader_at kept.leaders w.0) h) in
+            let class = class_from_leader (var_kinds infos) samples kept.leaders is.leaders w.0 v.0 lw lv (eqb-true (leader_at kept.leaders v.0) (leader_at kept.leaders w.0) h) in
             (class.kind, class.agree),
         λ h. eq-eqb (leader_at kept.leaders v.0) (leader_at kept.leaders w.0)
-            (one_leader (kinds_of infos) samples kept.leaders is.leaders w.0 v.0 lw lv (record { within = omega arith; kind = h.0; agree = h.1 })),
+            (one_leader (var_kinds infos) samples kept.leaders is.leaders w.0 v.0 lw lv (record { within = omega arith; kind = h.0; agree = h.1 })),
       )
 
 -- ---- the reading theorem

@@ -12,7 +12,7 @@ use Rattle.dk_forms.specs.declared.states.State.TheVariants.{Broken}
 use Rattle.dk_grammar.proofs.Slots.{slot_of}
 use Rattle.dk_grammar.specs.Runs.{IsSlot}
 use Rattle.dk_template.specs.Proper.{IsProper}
-use Rattle.dk_template.specs.Templates.{form_of, kinds_of}
+use Rattle.dk_template.specs.Templates.{form_of, role_kinds}
 use Rattle.dk_template.specs.declared.grammar.Grammar.{Grammar}
 use Rattle.dk_template.specs.declared.grammar.RowId.{RowId}
 use Rattle.dk_engine.specs.Feeding.{is_broken, with_sample}
@@ -95,14 +95,14 @@ module _ (slots : List Slot) (place n : ℕ) where
 
     pub run_of_slots : (g : Grammar) (infos : List VarInfo) (leaders : List VarId) (sample : List Value) → IsSample infos sample
         → All (λ (s : Slot). IsPlaced g infos leaders s.row s.leaders) slots → All (λ (s : Slot). IsProper (form_of s.row) s.state) slots
-        → All (λ (s : Slot). IsSlot (kinds_of row) (form_of row) sample s.leaders s.state) (take n behind)
+        → All (λ (s : Slot). IsSlot (role_kinds row) (form_of row) sample s.leaders s.state) (take n behind)
     run_of_slots g infos leaders sample is placed proper k d l =
         let w = within k l in
         let slot = slot_in slots (place + k) in
-        let own : IsSlot (kinds_of slot.row) (form_of slot.row) sample slot.leaders slot.state =
+        let own : IsSlot (role_kinds slot.row) (form_of slot.row) sample slot.leaders slot.state =
         slot_of slot.row infos sample is slot.leaders (placed (place + k) no_slot w.1).over.admitted slot.state (proper (place + k) no_slot w.1) in
-        subst (λ (s : Slot). IsSlot (kinds_of row) (form_of row) sample s.leaders s.state) (sym (at_run k d l))
-        (subst (λ (r : RowId). IsSlot (kinds_of r) (form_of r) sample slot.leaders slot.state) (of_row asked row slot (in_run k l)) own)
+        subst (λ (s : Slot). IsSlot (role_kinds row) (form_of row) sample s.leaders s.state) (sym (at_run k d l))
+        (subst (λ (r : RowId). IsSlot (role_kinds r) (form_of r) sample slot.leaders slot.state) (of_row asked row slot (in_run k l)) own)
 
     pub still_between : (after : Answer) (sample : List Value) (m : ℕ) → m ≤ length (take n behind) → ((k : ℕ) → k < m → IsStill row sample (slot_in (take n behind) k))
         → StayBetween place (place + m) (outcome asked after sample) slots

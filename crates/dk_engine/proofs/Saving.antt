@@ -18,11 +18,11 @@ use Rattle.dk_constants.specs.Known.{known_at}
 use Rattle.dk_parts.proofs.Restoring.{held_moved}
 use Rattle.dk_parts.specs.Restored.{HaveEntries, HaveMembers, HavePatterns}
 use Rattle.dk_presence.proofs.Sameness.{same_vars-at, same_vars-sym}
-use Rattle.dk_presence.specs.Patterns.{capped, counted_by, has, has_all, held_at, held_patterns, same_vars}
+use Rattle.dk_presence.specs.Patterns.{capped, counted_by, has, has_all, held_patterns, pattern_count, same_vars}
 use Rattle.dk_presence.specs.declared.held.Held.{Held}
 use Rattle.dk_samples.specs.Samples.{is_present}
 use Rattle.dk_suppress.specs.Rules.{is_suppressed}
-use Rattle.dk_template.specs.Exchange.{turned, written}
+use Rattle.dk_template.specs.Exchange.{turned_state, written}
 use Rattle.dk_template.specs.declared.grammar.Grammar.{Grammar}
 use Rattle.dk_engine.specs.Conditions.{AreParts, CanBeFed, CanBeRead}
 use Rattle.dk_engine.proofs.PartsOfSamples.{kept_parts_meet}
@@ -123,7 +123,7 @@ module _ (kept : Kept) (held : List Held) (moved : IsPermutation kept.held held)
   read_moved : (n : ℕ) → read_leaders n (with_held kept held) ≡ read_leaders n kept
   unfolding read_leaders
   read_moved zero = refl
-  read_moved (suc n) = λ i row vars. turned row vars (
+  read_moved (suc n) = λ i row vars. turned_state row vars (
       if all_known kept.known (written row vars) then state_of_one row (known_tuple kept.known (written row vars))
       else read_slot (slot_at kept.slots row (written row vars)) (is_suppressed (read_moved n i) row (written row vars)) (counted_moved (written row vars) i))
 
@@ -173,16 +173,16 @@ sum_none pattern a (h ∷ held) e apart =
     let here : at_pattern pattern h ≡ 0 = ap (λ b. if b then h.count else 0) off in
     omega (arith, sum_by-cons (at_pattern pattern) h held, here, sum_none pattern a held e apart.1)
 
-held_at_sum : (pattern : List VarId) (held : List Held) → IsDistinct same_vars (held_patterns held) → held_at held pattern ≡ sum_by (at_pattern pattern) held
+held_at_sum : (pattern : List VarId) (held : List Held) → IsDistinct same_vars (held_patterns held) → pattern_count held pattern ≡ sum_by (at_pattern pattern) held
 unfolding at_pattern
 held_at_sum pattern [] once = refl
 held_at_sum pattern (h ∷ held) once = elim (cases_Bool (same_vars h.leaders pattern)) [
   | inl e ↦
-      let at : held_at (h ∷ held) pattern ≡ h.count = ap (λ b. if b then h.count else held_at held pattern) e in
+      let at : pattern_count (h ∷ held) pattern ≡ h.count = ap (λ b. if b then h.count else pattern_count held pattern) e in
       let here : at_pattern pattern h ≡ h.count = ap (λ b. if b then h.count else 0) e in
       omega (arith, at, here, sum_by-cons (at_pattern pattern) h held, sum_none pattern h.leaders held e (IsDistinct-head same_vars h.leaders (held_patterns held) once))
   | inr n ↦
-      let at : held_at (h ∷ held) pattern ≡ held_at held pattern = ap (λ b. if b then h.count else held_at held pattern) n in
+      let at : pattern_count (h ∷ held) pattern ≡ pattern_count held pattern = ap (λ b. if b then h.count else pattern_count held pattern) n in
       let here : at_pattern pattern h ≡ 0 = ap (λ b. if b then h.count else 0) n in
       omega (arith, at, here, sum_by-cons (at_pattern pattern) h held, held_at_sum pattern held (IsDistinct-tail same_vars h.leaders (held_patterns held) once))
 ]

@@ -17,7 +17,7 @@ use Rattle.dk_fits.specs.Instances.{Precedes, rows_of, tuples_over}
 use Rattle.dk_forms.specs.Laws.{IsIn}
 use Rattle.dk_forms.specs.declared.states.State.{State}
 use Rattle.dk_forms.specs.declared.states.State.TheVariants.{Broken}
-use Rattle.dk_samples.specs.Leaders.{Ascend as LeadersAscend}
+use Rattle.dk_samples.specs.Leaders.{VarsAscend as LeadersAscend}
 use Rattle.dk_suppress.proofs.Asking.{suppressed_alike}
 use Rattle.dk_suppress.specs.Rules.{is_suppressed}
 use Rattle.dk_suppress.specs.Soundness.{fit_of}

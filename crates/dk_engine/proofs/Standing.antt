@@ -10,7 +10,7 @@ use Rattle.dk_base.specs.declared.kinds.VarInfo.{VarInfo}
 use Rattle.dk_base.specs.declared.values.Value.{Value}
 use Rattle.dk_classes.proofs.Firsts.{one_first}
 use Rattle.dk_classes.proofs.OwnLeaders.{leads_from_own, own_from_leads}
-use Rattle.dk_classes.specs.Classes.{InClass, kinds_of}
+use Rattle.dk_classes.specs.Classes.{InClass, var_kinds}
 use Rattle.dk_classes.specs.Leaders.{leader_at, own_leaders, var}
 use Rattle.dk_constants.proofs.Feeding.{has_front, has_push}
 use Rattle.dk_constants.specs.Constants.{AreConstants}
@@ -71,7 +71,7 @@ module _ {grammar : Grammar} {infos : List VarInfo} {samples : List (List Value)
       let own = leads_from_own kept.leaders v leads in
       let l : v.0 < length now.leaders = omega (arith, own.0, step.before.leaders.long, step.after.leaders.long) in
       let was = (step.before.leaders.each v.0 own.0).first in
-      let Now : ℕ → Type 0 = InClass (kinds_of infos) (samples ++ sample ∷ []) v.0 in
+      let Now : ℕ → Type 0 = InClass (var_kinds infos) (samples ++ sample ∷ []) v.0 in
       own_from_leads now.leaders v l (one_first Now (leader_at now.leaders v.0) v.0 (step.after.leaders.each v.0 l) (record {
         holds = record { within = omega (arith, l, step.after.leaders.long); kind = refl; agree = λ k d m. refl };
         first = λ m c.

@@ -11,7 +11,7 @@ use Rattle.dk_base.specs.declared.values.Value.{Value}
 use Rattle.dk_base.specs.declared.values.Value.TheVariants as value
 use Rattle.dk_classes.proofs.Agreement.{classes_of_split, leads_now, still_leads}
 use Rattle.dk_classes.proofs.OwnLeaders.{leads_from_own, own_ascend, own_from_leads}
-use Rattle.dk_classes.specs.Classes.{AreNew, kind_at, kinds_of}
+use Rattle.dk_classes.specs.Classes.{AreNew, kind_at, var_kinds}
 use Rattle.dk_classes.specs.Leaders.{leader_at, own_leaders}
 use Rattle.dk_constants.proofs.Feeding.{constants_first}
 use Rattle.dk_constants.specs.Known.{Entries, known_at}
@@ -19,7 +19,7 @@ use Rattle.dk_fits.specs.Laws.{IsSample}
 use Rattle.dk_presence.proofs.Placing.{all_added}
 use Rattle.dk_presence.proofs.Refining.{contains-has}
 use Rattle.dk_presence.specs.Patterns.{has, present_in}
-use Rattle.dk_presence.specs.Steps.{AreUnheld, Differ, added, put, refined, with_new}
+use Rattle.dk_presence.specs.Steps.{AreUnheld, Differ, put, refined, with_new, with_sample_of}
 use Rattle.dk_presence.specs.declared.held.Held.{Held}
 use Rattle.dk_samples.specs.Samples.{value_in}
 use Rattle.dk_template.specs.declared.grammar.Grammar.{Grammar}
@@ -99,7 +99,7 @@ module _ (g : Grammar) (infos : List VarInfo) (kept : Kept) (can : CanBeFed g in
         let lv : v < length kept.leaders = let long = turned.leaders.long in omega arith in
         let like = (turned.leaders.each v lv).holds in
         let w = leader_at now.leaders v in
-        sym (can.readable.leaders.kinds w like.within) ∙ (ap (kind_at (kinds_of infos)) like.class ∙ can.readable.leaders.kinds v lv);
+        sym (can.readable.leaders.kinds w like.within) ∙ (ap (kind_at (var_kinds infos)) like.class ∙ can.readable.leaders.kinds v lv);
   }
 
   pub still : (v : VarId) → Contains old v → Contains led v
@@ -135,7 +135,7 @@ module _ (g : Grammar) (infos : List VarInfo) (kept : Kept) (can : CanBeFed g in
   pub constants_now_lead : (v : VarId) (x : Value) → known_at now.known v ≡ Some x → Contains led v
   constants_now_lead v x h = (known_leads v x h).0
 
-  pub patterns_now_lead : All (λ h. All (Contains led) h.leaders) (added (present_in led sample) (map (refined now.new) kept.held))
+  pub patterns_now_lead : All (λ h. All (Contains led) h.leaders) (with_sample_of (present_in led sample) (map (refined now.new) kept.held))
   patterns_now_lead =
       let P : Held → Type 0 = λ h. All (Contains led) h.leaders in
       all_added P (present_in led sample) (λ k d l. in_pattern led sample (get_or (present_in led sample) k d) (Contains-get_or (present_in led sample) k d l)) (λ h a. a) (map (refined now.new) kept.held)

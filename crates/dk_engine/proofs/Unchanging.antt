@@ -13,7 +13,7 @@ use Rattle.dk_fits.specs.Fits.{fit, premise_holds}
 use Rattle.dk_fits.proofs.Pushing.{fit_push}
 use Rattle.dk_forms.specs.declared.states.State.{State}
 use Rattle.dk_samples.specs.Samples.{value_in}
-use Rattle.dk_presence.specs.Patterns.{held_at, present_in}
+use Rattle.dk_presence.specs.Patterns.{pattern_count, present_in}
 use Rattle.dk_suppress.specs.Rules.{is_suppressed}
 use Rattle.dk_suppress.specs.Soundness.{fit_of}
 use Rattle.dk_template.specs.Premises.{row_of, suffices}
@@ -69,7 +69,7 @@ module _ {grammar : Grammar} {infos : List VarInfo} {samples : List (List Value)
   seen : SeenTogether kept.leaders samples sample
   seen =
       seen_by_held kept.leaders samples sample kept.held step.before.held
-      (subst (λ own. 0 < held_at kept.held (present_in own sample)) (unsplit_leaders_stay grammar infos samples sample kept now step quiet.unsplit) quiet.seen)
+      (subst (λ own. 0 < pattern_count kept.held (present_in own sample)) (unsplit_leaders_stay grammar infos samples sample kept now step quiet.unsplit) quiet.seen)
 
   nothing_begins : (row : RowId) (vars : List VarId) → IsPlaced grammar infos kept.leaders row vars → (p : Premise) → IsPremiseOf row p → is_begun (fit_of samples) (fit_of more) p vars ≡ false
   nothing_begins row vars placed p of =

@@ -10,7 +10,7 @@ use Rattle.dk_base.specs.declared.kinds.VarId.{VarId}
 use Rattle.dk_classes.specs.Leaders.{own_leaders}
 use Rattle.dk_presence.proofs.Sameness.{same_ascending, same_id}
 use Rattle.dk_presence.specs.Patterns.{has}
-use Rattle.dk_samples.specs.Leaders.{Ascend}
+use Rattle.dk_samples.specs.Leaders.{VarsAscend}
 use Rattle.dk_engine.proofs.Standing.{led_before, leads_on}
 use Rattle.dk_engine.specs.Step.{is_new}
 use Rattle.dk_engine.specs.StepLaws.{OwnLeadersAscend, UnsplitLeadersStay}
@@ -39,7 +39,7 @@ from_on n (x ∷ xs) =
       | inr e ↦ subst (λ b. All P (own_with b n x xs)) (sym e) rest
     ]
 
-ascend_from : (n : ℕ) (xs : List VarId) → Ascend (own_from n xs)
+ascend_from : (n : ℕ) (xs : List VarId) → VarsAscend (own_from n xs)
 ascend_from n [] = λ i j d l m. absurd (omega (arith, m))
 ascend_from n (x ∷ xs) =
     let R : VarId → VarId → Type 0 = λ v w. v.0 < w.0 in

@@ -15,7 +15,7 @@ use Rattle.dk_base.specs.declared.kinds.VarInfo.{VarInfo}
 use Rattle.dk_base.specs.declared.values.Value.{Value}
 use Rattle.dk_base.specs.declared.values.Value.TheVariants as value
 use Rattle.dk_classes.proofs.OfKind.{kind_read}
-use Rattle.dk_classes.specs.Classes.{kind_at, kinds_of as kinds_of_vars}
+use Rattle.dk_classes.specs.Classes.{kind_at, var_kinds as kinds_of_vars}
 use Rattle.dk_constants.specs.Known.{known_at}
 use Rattle.dk_fits.proofs.Whole.{kind_alike, kind_is}
 use Rattle.dk_fits.specs.Fits.{is_whole}
@@ -33,7 +33,7 @@ use Rattle.dk_template.specs.Admitted.{admits, same_kind, suits}
 use Rattle.dk_template.specs.Premises.{premise_fits}
 use Rattle.dk_template.specs.Proper.{IsProper}
 use Rattle.dk_template.specs.Rows.{IsTuple}
-use Rattle.dk_template.specs.Templates.{IsRow, IsRowOf, form_of, is_base, is_plain, kind_of as kind_of_role, kinds_of, roles_of, template_of}
+use Rattle.dk_template.specs.Templates.{IsRow, IsRowOf, form_of, is_base, is_plain, kind_of as kind_of_role, role_kinds, roles_of, template_of}
 use Rattle.dk_template.specs.declared.grammar.Grammar.{Grammar}
 use Rattle.dk_template.specs.declared.grammar.RowId.{RowId}
 use Rattle.dk_template.specs.declared.templates.Role.{Role}
@@ -117,7 +117,7 @@ module _ (g : Grammar) (infos : List VarInfo) (kept : Kept) (are : CanBeRead inf
       All-cons IsWritten (known_value v) (known_tuple kept.known vars) (are.values v (known_value v) (some_known (known_at kept.known v) ks.0)).written (constants_written vars ks.1)
 
   -- the values of constants that a row admits are a tuple of it
-  pub constants_tuple : (row : RowId) (vars : List VarId) → admits row infos vars ≡ true → all_known kept.known vars ≡ true → is_whole (known_tuple kept.known vars) ≡ true → IsTuple (kinds_of row) (known_tuple kept.known vars)
+  pub constants_tuple : (row : RowId) (vars : List VarId) → admits row infos vars ≡ true → all_known kept.known vars ≡ true → is_whole (known_tuple kept.known vars) ≡ true → IsTuple (role_kinds row) (known_tuple kept.known vars)
   constants_tuple row vars a k w =
       let roles = roles_of (template_of row).takes in
       let parts = and_parts (length vars == length roles) (list_all is_suited (zip roles vars)) a in
@@ -133,7 +133,7 @@ module _ (g : Grammar) (infos : List VarInfo) (kept : Kept) (are : CanBeRead inf
   constants_proper row vars is a k =
       let t = known_tuple kept.known vars in
       elim (is_whole t) as (λ b. is_whole t ≡ b → IsProper (form_of row) (if b then state_of row (t ∷ []) else state.Empty)) [
-        | true ↦ λ e. (laws_of row is).proper (t ∷ []) (All-cons (IsTuple (kinds_of row)) t [] (constants_tuple row vars a k e) (All-nil (IsTuple (kinds_of row))))
+        | true ↦ λ e. (laws_of row is).proper (t ∷ []) (All-cons (IsTuple (role_kinds row)) t [] (constants_tuple row vars a k e) (All-nil (IsTuple (role_kinds row))))
         | false ↦ λ e. (proper_laws (form_of row)).empty_proper
       ] refl
 

@@ -6,9 +6,9 @@ use Rattle.dk_base.specs.Values.{IsOfKind}
 use Rattle.dk_base.specs.declared.kinds.VarId.{VarId}
 use Rattle.dk_base.specs.declared.kinds.VarInfo.{VarInfo}
 use Rattle.dk_base.specs.declared.values.Value.{Value}
-use Rattle.dk_classes.specs.Classes.{kind_at, kinds_of}
+use Rattle.dk_classes.specs.Classes.{kind_at, var_kinds}
 use Rattle.dk_classes.specs.Leaders.{AreClasses, leader_at, own_leaders}
-use Rattle.dk_constants.specs.Known.{Ascend, known_at}
+use Rattle.dk_constants.specs.Known.{EntriesAscend, known_at}
 use Rattle.dk_forms.specs.declared.states.State.TheVariants.{Broken, Empty}
 use Rattle.dk_presence.specs.Patterns.{AreHeld, counted_by, has}
 use Rattle.dk_samples.specs.Samples.{is_present}
@@ -29,11 +29,11 @@ use Rattle.dk_engine.specs.declared.slot.Slot.{Slot}
 pub record AreLeadersOf (infos : List VarInfo) (leaders : List VarId) : Type 0 where
   pub long : length leaders ≡ length infos
   pub classes : AreClasses leaders
-  pub kinds : (v : ℕ) → v < length leaders → kind_at (kinds_of infos) (leader_at leaders v) ≡ kind_at (kinds_of infos) v
+  pub kinds : (v : ℕ) → v < length leaders → kind_at (var_kinds infos) (leader_at leaders v) ≡ kind_at (var_kinds infos) v
 
 -- a value of the variable's kind, one that some text writes
 pub record IsValueOf (infos : List VarInfo) (v : VarId) (x : Value) : Type 0 where
-  pub kind : IsOfKind (kind_at (kinds_of infos) v.0) x
+  pub kind : IsOfKind (kind_at (var_kinds infos) v.0) x
   pub written : IsWritten x
 
 -- What is enough to read parts: leaders of their variables' kinds, values of the constants' kinds, and proper states.
@@ -83,7 +83,7 @@ pub record IsSlotOf (grammar : Grammar) (infos : List VarInfo) (kept : Kept) (sl
 pub record AreParts (grammar : Grammar) (infos : List VarInfo) (kept : Kept) : Type 0 where
   pub readable : CanBeRead infos kept
   pub patterns : ArePatternsOf kept
-  pub ascend : Ascend kept.known
+  pub ascend : EntriesAscend kept.known
   pub constants : (v : VarId) (x : Value) → known_at kept.known v ≡ Some x → IsConstantOf kept v x
   pub in_order : AllPairs SlotBefore kept.slots
   pub slots : All (IsSlotOf grammar infos kept) kept.slots

@@ -6,7 +6,7 @@ use Rattle.dk_base.specs.Values.{IsOfKind}
 use Rattle.dk_base.specs.declared.kinds.VarId.{VarId}
 use Rattle.dk_base.specs.declared.kinds.VarInfo.{VarInfo}
 use Rattle.dk_base.specs.declared.values.Value.{Value}
-use Rattle.dk_classes.specs.Classes.{AreLeaders, kinds_of}
+use Rattle.dk_classes.specs.Classes.{AreLeaders, var_kinds}
 use Rattle.dk_classes.specs.Leaders.{own_leaders}
 use Rattle.dk_constants.specs.Constants.{AreConstants}
 use Rattle.dk_constants.specs.Known.{Entries}
@@ -67,7 +67,7 @@ pub record ArePatterns (leaders : List VarId) (samples : List (List Value)) (hel
 -- The parts are what an engine keeps of the samples. Of no samples it keeps one class for each kind that occurs, and nothing else.
 pub record IsKeptOf (grammar : Grammar) (infos : List VarInfo) (samples : List (List Value)) (kept : Kept) : Type 0 where
   pub number : kept.samples ≡ capped (length samples)
-  pub leaders : AreLeaders (kinds_of infos) samples kept.leaders
+  pub leaders : AreLeaders (var_kinds infos) samples kept.leaders
   pub known : AreConstants (own_leaders kept.leaders) samples kept.known
   pub held : ArePatterns (own_leaders kept.leaders) samples kept.held
   pub slots : AreSlots grammar infos samples kept.leaders kept.known kept.slots

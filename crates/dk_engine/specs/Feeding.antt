@@ -12,7 +12,7 @@ use Rattle.dk_fits.specs.Instances.{rows_of, tuples_over}
 use Rattle.dk_forms.specs.declared.states.State.{State}
 use Rattle.dk_forms.specs.declared.states.State.TheVariants.{Broken}
 use Rattle.dk_presence.specs.Patterns.{capped, present_in}
-use Rattle.dk_presence.specs.Steps.{added, refined}
+use Rattle.dk_presence.specs.Steps.{refined, with_sample_of}
 use Rattle.dk_presence.specs.declared.held.Held.{Held}
 use Rattle.dk_rows.specs.Meanings.{state_of}
 use Rattle.dk_samples.specs.Samples.{value_in}
@@ -81,7 +81,7 @@ parts_after n held sample now slots = record {
   samples = capped (n + 1);
   leaders = now.leaders;
   known = now.known;
-  held = added (present_in (own_leaders now.leaders) sample) (map (refined now.new) held);
+  held = with_sample_of (present_in (own_leaders now.leaders) sample) (map (refined now.new) held);
   slots = slots;
 }
 

@@ -4,14 +4,14 @@ use Rattle.std.specs.List.Sorted.{IsPermutation}
 use Rattle.dk_base.specs.declared.kinds.VarId.{VarId}
 use Rattle.dk_base.specs.declared.kinds.VarInfo.{VarInfo}
 use Rattle.dk_base.specs.declared.values.Value.{Value}
-use Rattle.dk_classes.specs.Classes.{kind_at, kinds_of}
+use Rattle.dk_classes.specs.Classes.{kind_at, var_kinds}
 use Rattle.dk_classes.specs.Leaders.{own_leaders}
 use Rattle.dk_constants.specs.Known.{Entries}
 use Rattle.dk_fits.specs.Fits.{fit}
 use Rattle.dk_fits.specs.Laws.{IsSample}
 use Rattle.dk_presence.specs.Patterns.{count_of}
 use Rattle.dk_presence.specs.declared.held.Held.{Held}
-use Rattle.dk_samples.specs.Leaders.{Ascend}
+use Rattle.dk_samples.specs.Leaders.{VarsAscend}
 use Rattle.dk_samples.specs.Samples.{Agree}
 use Rattle.dk_suppress.specs.Soundness.{fit_of}
 use Rattle.dk_template.specs.Admitted.{admits}
@@ -46,7 +46,7 @@ CountReadIsCount = OfKept (λ grammar infos samples kept. (vars : List VarId) �
 -- agreement
 abbrev pub AgreeReadIsAgreement : Type 0
 AgreeReadIsAgreement = OfKept (λ grammar infos samples kept. (v w : VarId) → v.0 < length infos → w.0 < length infos
-    → IsTrue (agree_read kept v w) ↔ ((kind_at (kinds_of infos) v.0 ≡ kind_at (kinds_of infos) w.0) × Agree samples v w))
+    → IsTrue (agree_read kept v w) ↔ ((kind_at (var_kinds infos) v.0 ≡ kind_at (var_kinds infos) w.0) × Agree samples v w))
 
 -- the conditions
 abbrev pub KeptPartsMeetTheirConditions : Type 0
@@ -65,7 +65,7 @@ ReadAfterIsFit = OfKept (λ grammar infos samples kept. (sample : List Value) �
 -- the slots that the fits of some samples give are the slots of the samples
 abbrev pub SlotsOfFitsAreExact : Type 0
 SlotsOfFitsAreExact =
-    (grammar : Grammar) (infos : List VarInfo) (samples : List (List Value)) → 0 < length samples → (leaders : List VarId) → Ascend (own_leaders leaders) → (known : Entries)
+    (grammar : Grammar) (infos : List VarInfo) (samples : List (List Value)) → 0 < length samples → (leaders : List VarId) → VarsAscend (own_leaders leaders) → (known : Entries)
     → AreSlots grammar infos samples leaders known (slots_of grammar infos (own_leaders leaders) known (fit_of samples))
 
 -- the parts with one sample more are what an engine keeps of the samples and that one

@@ -8,7 +8,7 @@ use Rattle.dk_classes.specs.Leaders.{own_leaders}
 use Rattle.dk_constants.specs.Known.{Entries}
 use Rattle.dk_forms.specs.declared.states.State.{State}
 use Rattle.dk_forms.specs.declared.states.State.TheVariants.{Broken, Empty}
-use Rattle.dk_presence.specs.Patterns.{held_at, present_in}
+use Rattle.dk_presence.specs.Patterns.{pattern_count, present_in}
 use Rattle.dk_suppress.specs.Rules.{Rule, is_suppressed, rules}
 use Rattle.dk_template.specs.Premises.{row_of, suffices}
 use Rattle.dk_template.specs.declared.grammar.Grammar.{Grammar}
@@ -93,7 +93,7 @@ may_begin slots change = is_empty (slot_in slots change.place).state && is_of_el
 
 -- No rule begins to suppress a slot: the pattern is held, and no change lets the least or the greatest element begin to be known.
 pub record IsShut (sample : List Value) (kept : Kept) (changes : List Change) : Type 0 where
-  pub seen : 0 < held_at kept.held (present_in (own_leaders kept.leaders) sample)
+  pub seen : 0 < pattern_count kept.held (present_in (own_leaders kept.leaders) sample)
   pub bounds : list_any (may_begin kept.slots) changes ≡ false
 
 -- what the sample leaves of the slots, ascending

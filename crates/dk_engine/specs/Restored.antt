@@ -5,9 +5,9 @@ use Rattle.std.specs.List.Sorted.{IsPermutation}
 use Rattle.dk_base.specs.declared.kinds.VarId.{VarId}
 use Rattle.dk_base.specs.declared.kinds.VarInfo.{VarInfo}
 use Rattle.dk_base.specs.declared.values.Value.{Value}
-use Rattle.dk_classes.specs.Classes.{kind_at, kinds_of}
+use Rattle.dk_classes.specs.Classes.{kind_at, var_kinds}
 use Rattle.dk_classes.specs.Leaders.{AreClasses, leader_at, own_leaders}
-use Rattle.dk_constants.specs.Known.{Ascend}
+use Rattle.dk_constants.specs.Known.{EntriesAscend}
 use Rattle.dk_forms.specs.declared.states.State.{State}
 use Rattle.dk_forms.specs.declared.states.State.TheVariants.{Broken, Empty}
 use Rattle.dk_presence.specs.Patterns.{AreHeld, counted_by}
@@ -33,7 +33,7 @@ pub record AreShaped (count : ℕ) (kept : Kept) : Type 0 where
   pub long : length kept.leaders ≡ count
   pub form : AreHeld kept.held
   pub lead : All (λ h. All (Contains (own_leaders kept.leaders)) h.leaders) kept.held
-  pub ascend : Ascend kept.known
+  pub ascend : EntriesAscend kept.known
 
 -- such parts, which are saved as these
 pub record HaveParts (count : ℕ) (parts : Parts) (kept : Kept) : Type 0 where
@@ -51,7 +51,7 @@ pub record IsRearranged (kept other : Kept) : Type 0 where
 -- ---- what is tested
 -- each variable is of its leader's kind
 abbrev pub HaveKinds : List VarInfo → List VarId → Type 0
-HaveKinds infos leaders = (v : ℕ) → v < length leaders → kind_at (kinds_of infos) (leader_at leaders v) ≡ kind_at (kinds_of infos) v
+HaveKinds infos leaders = (v : ℕ) → v < length leaders → kind_at (var_kinds infos) (leader_at leaders v) ≡ kind_at (var_kinds infos) v
 
 -- the value of a constant
 pub record IsConstant (infos : List VarInfo) (kept : Kept) (entry : VarId × Value) : Type 0 where

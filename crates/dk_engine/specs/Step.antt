@@ -4,14 +4,14 @@ use Rattle.std.specs.List.{AllPairs, list_any}
 use Rattle.dk_base.specs.declared.kinds.VarId.{VarId}
 use Rattle.dk_base.specs.declared.kinds.VarInfo.{VarInfo}
 use Rattle.dk_base.specs.declared.values.Value.{Value}
-use Rattle.dk_classes.specs.Classes.{AreLeaders, AreNew, kinds_of}
+use Rattle.dk_classes.specs.Classes.{AreLeaders, AreNew, var_kinds}
 use Rattle.dk_classes.specs.Leaders.{own_leaders}
 use Rattle.dk_constants.specs.Constants.{AreConstants, HaveEnded}
 use Rattle.dk_constants.specs.Known.{Entries, known_at}
 use Rattle.dk_fits.specs.Fits.{fit}
 use Rattle.dk_forms.specs.declared.states.State.{State}
 use Rattle.dk_forms.specs.declared.states.State.TheVariants.{Broken, Empty}
-use Rattle.dk_presence.specs.Patterns.{held_at, present_in}
+use Rattle.dk_presence.specs.Patterns.{pattern_count, present_in}
 use Rattle.dk_suppress.specs.Rules.{Rule, asks, is_suppressed, rules}
 use Rattle.dk_template.specs.Admitted.{admits, is_written}
 use Rattle.dk_template.specs.Exchange.{written}
@@ -31,7 +31,7 @@ use Rattle.dk_engine.specs.declared.slot.Slot.{Slot}
 -- ---- the other parts
 -- what the sample made of the other parts: they are those of the samples with one more
 pub record IsNow (infos : List VarInfo) (samples : List (List Value)) (sample : List Value) (kept : Kept) (now : Now) : Type 0 where
-  pub leaders : AreLeaders (kinds_of infos) (samples ++ sample ∷ []) now.leaders
+  pub leaders : AreLeaders (var_kinds infos) (samples ++ sample ∷ []) now.leaders
   pub known : AreConstants (own_leaders now.leaders) (samples ++ sample ∷ []) now.known
   pub new : AreNew kept.leaders now.leaders now.new
   pub ended : HaveEnded (own_leaders now.leaders) samples sample now.ended
@@ -182,5 +182,5 @@ pub record IsStepped (after : Answer) (sample : List Value) (slots : List Slot) 
 pub record ChangesNothing (sample : List Value) (kept : Kept) (now : Now) : Type 0 where
   pub unsplit : now.new ≡ []
   pub unended : now.ended ≡ []
-  pub seen : 0 < held_at kept.held (present_in (own_leaders now.leaders) sample)
+  pub seen : 0 < pattern_count kept.held (present_in (own_leaders now.leaders) sample)
   pub stays : All (λ (slot : Slot). with_sample slot.row slot.leaders sample slot.state ≡ slot.state) kept.slots

@@ -3,14 +3,14 @@ use Rattle.std.specs.Prelude.{◌≡◌, ◌⊎◌, ◌↔◌, ◌+◌, ◌<◌,
 use Rattle.dk_base.specs.declared.kinds.VarId.{VarId}
 use Rattle.dk_base.specs.declared.kinds.VarInfo.{VarInfo}
 use Rattle.dk_base.specs.declared.values.Value.{Value}
-use Rattle.dk_classes.specs.Classes.{AreLeaders, kinds_of}
+use Rattle.dk_classes.specs.Classes.{AreLeaders, var_kinds}
 use Rattle.dk_classes.specs.Leaders.{own_leaders}
 use Rattle.dk_constants.specs.Constants.{AreConstants}
 use Rattle.dk_constants.specs.Known.{Entries}
 use Rattle.dk_forms.specs.declared.states.State.TheVariants.{Broken, Empty}
-use Rattle.dk_presence.specs.Patterns.{capped, held_at, present_in}
+use Rattle.dk_presence.specs.Patterns.{capped, pattern_count, present_in}
 use Rattle.dk_presence.specs.declared.held.Held.{Held}
-use Rattle.dk_samples.specs.Leaders.{Ascend}
+use Rattle.dk_samples.specs.Leaders.{VarsAscend}
 use Rattle.dk_suppress.specs.Rules.{is_suppressed}
 use Rattle.dk_template.specs.Admitted.{admits}
 use Rattle.dk_template.specs.Premises.{at_role, premise_fits, roles_read, row_of, suffices}
@@ -109,11 +109,11 @@ abbrev pub FewSlotsClose : Type 0
 FewSlotsClose = OfStep (λ grammar infos samples sample kept now. (after : Answer) → Tells grammar infos (samples ++ sample ∷ []) after
     → (held : List Held) → ArePatterns (own_leaders now.leaders) samples held
     → (slot : Slot) → Contains kept.slots slot → is_suppressed after slot.row slot.leaders ≡ true
-    → ((slot.state ≡ Empty) × (held_at held (present_in (own_leaders now.leaders) sample) ≡ 0)) ⊎ ((bound : Slot) × IsBegunBound kept.slots sample slot bound))
+    → ((slot.state ≡ Empty) × (pattern_count held (present_in (own_leaders now.leaders) sample) ≡ 0)) ⊎ ((bound : Slot) × IsBegunBound kept.slots sample slot bound))
 
 -- the own leaders ascend, and where no class splits they stay
 abbrev pub OwnLeadersAscend : Type 0
-OwnLeadersAscend = (leaders : List VarId) → Ascend (own_leaders leaders)
+OwnLeadersAscend = (leaders : List VarId) → VarsAscend (own_leaders leaders)
 
 abbrev pub UnsplitLeadersStay : Type 0
 UnsplitLeadersStay = OfStep (λ grammar infos samples sample kept now. now.new ≡ [] → own_leaders now.leaders ≡ own_leaders kept.leaders)
@@ -121,7 +121,7 @@ UnsplitLeadersStay = OfStep (λ grammar infos samples sample kept now. now.new �
 -- of the first sample alone there are no slots, since each leader has one value
 abbrev pub FirstSampleHasNoSlots : Type 0
 FirstSampleHasNoSlots =
-    (grammar : Grammar) (infos : List VarInfo) (sample : List Value) (leaders : List VarId) → AreLeaders (kinds_of infos) (sample ∷ []) leaders
+    (grammar : Grammar) (infos : List VarInfo) (sample : List Value) (leaders : List VarId) → AreLeaders (var_kinds infos) (sample ∷ []) leaders
     → (known : Entries) → AreConstants (own_leaders leaders) (sample ∷ []) known → AreSlots grammar infos (sample ∷ []) leaders known []
 
 -- ---- all parts
@@ -134,6 +134,6 @@ FedPartsAreKept = OfStep (λ grammar infos samples sample kept now. (held : List
 -- what is kept of the first sample
 abbrev pub FirstPartsAreKept : Type 0
 FirstPartsAreKept =
-    (grammar : Grammar) (infos : List VarInfo) (sample : List Value) (leaders : List VarId) → AreLeaders (kinds_of infos) (sample ∷ []) leaders
+    (grammar : Grammar) (infos : List VarInfo) (sample : List Value) (leaders : List VarId) → AreLeaders (var_kinds infos) (sample ∷ []) leaders
     → (known : Entries) → AreConstants (own_leaders leaders) (sample ∷ []) known → (held : List Held) → ArePatterns (own_leaders leaders) (sample ∷ []) held
     → IsKeptOf grammar infos (sample ∷ []) (record { samples = 1; leaders = leaders; known = known; held = held; slots = [] })

@@ -10,7 +10,7 @@ ghost use Rattle.dk_template.specs.Admitted.{admits};
 ghost use Rattle.dk_template.specs.Joins.{joined};
 ghost use Rattle.dk_template.specs.Proper.{IsProper};
 ghost use Rattle.dk_template.specs.Rows.{IsTuple};
-ghost use Rattle.dk_template.specs.Templates.{IsRow, IsRowOf, form_of, kinds_of};
+ghost use Rattle.dk_template.specs.Templates.{IsRow, IsRowOf, form_of, role_kinds};
 ghost use Rattle.dk_engine.specs.Feeding.{agree_after, count_after, read_after, with_sample};
 ghost use Rattle.dk_engine.specs.Memory.{wants_memory};
 ghost use Rattle.dk_engine.specs.Reading.{read};
@@ -45,7 +45,7 @@ fn with_tuple(
 ) -> Result<State, NoMemory>
     requires row { IsRow row }
     requires before { IsProper (form_of row) before }
-    requires tuple { is_whole (values_of tuple.now) ≡ true → IsTuple (kinds_of row) (values_of tuple.now) }
+    requires tuple { is_whole (values_of tuple.now) ≡ true → IsTuple (role_kinds row) (values_of tuple.now) }
     ensures state { IfOk result (λ s. s ≡ (if is_whole (values_of tuple.now) then joined (form_of row) before (state_of row (values_of tuple.now ∷ [])) else before)) }
     ensures proper { IfOk result (λ s. IsProper (form_of row) s) }
     ensures err { OnErr result (IsTrue (wants_memory row)) }
@@ -62,7 +62,7 @@ fn with_tuple(
 fn tuple_stays(row: RowId, state: &State, tuple: &[View<'_>]) -> bool
     requires row { IsRow row }
     requires state { IsProper (form_of row) state.now }
-    requires tuple { is_whole (values_of tuple.now) ≡ true → IsTuple (kinds_of row) (values_of tuple.now) }
+    requires tuple { is_whole (values_of tuple.now) ≡ true → IsTuple (role_kinds row) (values_of tuple.now) }
     ensures { IsTrue result → (if is_whole (values_of tuple.now) then joined (form_of row) state.now (state_of row (values_of tuple.now ∷ [])) else state.now) ≡ state.now }
 {
     !are_present(tuple) || stays(row, state, tuple)

@@ -5,12 +5,12 @@ ghost use Rattle.dk_base.specs.Items.{is_text as is_string};
 ghost use Rattle.dk_base.specs.Numbers.{fits_i64};
 ghost use Rattle.dk_base.specs.Spelling.{IsWritten};
 ghost use Rattle.dk_base.specs.Values.{IsOfKind};
-ghost use Rattle.dk_classes.specs.Classes.{kind_at, kinds_of};
+ghost use Rattle.dk_classes.specs.Classes.{kind_at, var_kinds};
 ghost use Rattle.dk_classes.specs.Leaders.{AreClasses, own_leaders};
 ghost use Rattle.dk_engine.specs.Exact.{IsOverLeaders, Lead, SlotBefore};
 ghost use Rattle.dk_engine.specs.Restored.{AreOpen, AreShaped, HaveKinds, IsConstant, IsOpenSlot, IsStateOf};
 ghost use Rattle.dk_presence.specs.Patterns.{has};
-ghost use Rattle.dk_samples.specs.Leaders.{Ascend};
+ghost use Rattle.dk_samples.specs.Leaders.{VarsAscend};
 ghost use Rattle.dk_samples.specs.Samples.{is_present};
 ghost use Rattle.dk_template.specs.Templates.{IsRow, form_of};
 
@@ -25,7 +25,7 @@ use dk_template::{Grammar, RowId, State, admits, info, is_written as stands_writ
 // The kind of a variable.
 fn kind_of(infos: &[VarInfo], v: VarId) -> Kind
     requires { v.0 < length infos.now }
-    ensures { result ≡ kind_at (kinds_of infos.now) v.0 }
+    ensures { result ≡ kind_at (var_kinds infos.now) v.0 }
 {
     infos[v.0 as usize].kind
 }
@@ -161,7 +161,7 @@ fn is_written(value: &Value) -> bool
 
 // Whether the variable is one of these, which ascend.
 fn has(vars: &[VarId], v: VarId) -> bool
-    requires { Ascend vars.now }
+    requires { VarsAscend vars.now }
     ensures { result ≡ has vars.now v }
 {
     vars.binary_search_by_key(&v.0, |w| w.0).is_ok()
@@ -169,7 +169,7 @@ fn has(vars: &[VarId], v: VarId) -> bool
 
 // Whether the leader is present in all patterns, or absent from all.
 fn is_throughout(held: &[Held], leader: VarId, present: bool) -> bool
-    requires { All (λ h. Ascend h.leaders) held.now }
+    requires { All (λ h. VarsAscend h.leaders) held.now }
     ensures { IsTrue result ↔ All (λ h. has h.leaders leader ≡ present) held.now }
 {
     for pattern in held {

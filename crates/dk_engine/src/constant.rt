@@ -4,7 +4,7 @@ ghost use Rattle.dk_constants.specs.Known.{known_at};
 ghost use Rattle.dk_fits.specs.Fits.{is_whole};
 ghost use Rattle.dk_samples.specs.Samples.{is_present};
 ghost use Rattle.dk_template.specs.Rows.{IsTuple};
-ghost use Rattle.dk_template.specs.Templates.{IsRow, kinds_of};
+ghost use Rattle.dk_template.specs.Templates.{IsRow, role_kinds};
 ghost use Rattle.dk_engine.specs.Memory.{wants_memory};
 ghost use Rattle.dk_engine.specs.Parts.{all_known, known_tuple};
 ghost use Rattle.dk_engine.specs.Reading.{state_of_one};
@@ -56,7 +56,7 @@ pub(crate) fn constant_state(
     requires some { 1 ≤ length vars.now }
     requires few { length vars.now ≤ 3 }
     requires known { all_known known.now vars.now ≡ true }
-    requires tuple { is_whole (known_tuple known.now vars.now) ≡ true → IsTuple (kinds_of row) (known_tuple known.now vars.now) }
+    requires tuple { is_whole (known_tuple known.now vars.now) ≡ true → IsTuple (role_kinds row) (known_tuple known.now vars.now) }
     ensures state { IfOk result (λ s. s ≡ state_of_one row (known_tuple known.now vars.now)) }
     ensures err { OnErr result (IsTrue (wants_memory row)) }
 {

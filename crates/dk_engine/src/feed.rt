@@ -5,8 +5,8 @@ ghost use Rattle.dk_base.specs.declared.values.Value.{Value as SampleValue};
 ghost use Rattle.dk_classes.specs.Leaders.{own_leaders};
 ghost use Rattle.dk_fits.specs.Laws.{IsSample};
 ghost use Rattle.dk_presence.specs.Patterns.{present_in};
-ghost use Rattle.dk_presence.specs.Steps.{AreUnheld, Differ, added, refined};
-ghost use Rattle.dk_samples.specs.Leaders.{Ascend};
+ghost use Rattle.dk_presence.specs.Steps.{AreUnheld, Differ, refined, with_sample_of};
+ghost use Rattle.dk_samples.specs.Leaders.{VarsAscend};
 ghost use Rattle.dk_engine.specs.Conditions.{AreFormed};
 ghost use Rattle.dk_engine.specs.Exact.{AreOfPoint, AreSamples, IsKeptOf};
 ghost use Rattle.dk_engine.specs.Feeding.{IsTurned, parts_after, read_after, slots_of, unturned};
@@ -34,10 +34,10 @@ fn held_after(
     new: &[(VarId, VarId)],
     sample: &[View<'_>],
 ) -> Result<Presence, NoMemory>
-    requires ascend { Ascend leaders.now }
+    requires ascend { VarsAscend leaders.now }
     requires differ { Differ new.now }
     requires unheld { AreUnheld new.now held }
-    ensures { IfOk result (λ h. h ≡ added (present_in leaders.now (values_of sample.now)) (map (refined new.now) held)) }
+    ensures { IfOk result (λ h. h ≡ with_sample_of (present_in leaders.now (values_of sample.now)) (map (refined new.now) held)) }
 {
     let present = present_leaders(alloc, leaders, sample)?;
     let refined = held.refine(new)?;

@@ -3,7 +3,7 @@ ghost use Rattle.std.specs.Prelude.{◌≡◌, [], ◌∷◌, IfOk, IsTrue, OnEr
 ghost use Rattle.dk_base.specs.Values.{kind_of, value_of};
 ghost use Rattle.dk_rows.specs.Meanings.{state_of};
 ghost use Rattle.dk_template.specs.Rows.{IsTuple};
-ghost use Rattle.dk_template.specs.Templates.{IsRow, kinds_of};
+ghost use Rattle.dk_template.specs.Templates.{IsRow, role_kinds};
 ghost use Rattle.dk_engine.specs.Memory.{IsLaidOut, wants_memory};
 
 use crate::points::point;
@@ -51,7 +51,7 @@ fn point_of_one_shown<'x>(
     first: &'x [&'x [u8]],
 ) -> Result<State, NoMemory>
     requires row { IsRow row }
-    requires tuple { IsTuple (kinds_of row) (a.now ∷ []) }
+    requires tuple { IsTuple (role_kinds row) (a.now ∷ []) }
     requires first { IsLaidOut a.now first.now }
     ensures state { IfOk result (λ s. s ≡ state_of row ((a.now ∷ []) ∷ [])) }
     ensures err { OnErr result (IsTrue (wants_memory row)) }
@@ -63,7 +63,7 @@ fn point_of_one_shown<'x>(
 /// A row's state of the tuple of one value.
 pub(crate) fn point_of_one(alloc: Global, row: RowId, a: &Value) -> Result<State, NoMemory>
     requires row { IsRow row }
-    requires tuple { IsTuple (kinds_of row) (a.now ∷ []) }
+    requires tuple { IsTuple (role_kinds row) (a.now ∷ []) }
     ensures state { IfOk result (λ s. s ≡ state_of row ((a.now ∷ []) ∷ [])) }
     ensures err { OnErr result (IsTrue (wants_memory row)) }
 {
@@ -81,7 +81,7 @@ fn point_of_two_shown<'x>(
     second: &'x [&'x [u8]],
 ) -> Result<State, NoMemory>
     requires row { IsRow row }
-    requires tuple { IsTuple (kinds_of row) (a.now ∷ b.now ∷ []) }
+    requires tuple { IsTuple (role_kinds row) (a.now ∷ b.now ∷ []) }
     requires first { IsLaidOut a.now first.now }
     requires second { IsLaidOut b.now second.now }
     ensures state { IfOk result (λ s. s ≡ state_of row ((a.now ∷ b.now ∷ []) ∷ [])) }
@@ -99,7 +99,7 @@ pub(crate) fn point_of_two(
     b: &Value,
 ) -> Result<State, NoMemory>
     requires row { IsRow row }
-    requires tuple { IsTuple (kinds_of row) (a.now ∷ b.now ∷ []) }
+    requires tuple { IsTuple (role_kinds row) (a.now ∷ b.now ∷ []) }
     ensures state { IfOk result (λ s. s ≡ state_of row ((a.now ∷ b.now ∷ []) ∷ [])) }
     ensures err { OnErr result (IsTrue (wants_memory row)) }
 {
@@ -127,7 +127,7 @@ fn point_of_three_shown<'x>(
     third: &'x [&'x [u8]],
 ) -> Result<State, NoMemory>
     requires row { IsRow row }
-    requires tuple { IsTuple (kinds_of row) (a.now ∷ b.now ∷ c.now ∷ []) }
+    requires tuple { IsTuple (role_kinds row) (a.now ∷ b.now ∷ c.now ∷ []) }
     requires first { IsLaidOut a.now first.now }
     requires second { IsLaidOut b.now second.now }
     requires third { IsLaidOut c.now third.now }
@@ -147,7 +147,7 @@ pub(crate) fn point_of_three(
     c: &Value,
 ) -> Result<State, NoMemory>
     requires row { IsRow row }
-    requires tuple { IsTuple (kinds_of row) (a.now ∷ b.now ∷ c.now ∷ []) }
+    requires tuple { IsTuple (role_kinds row) (a.now ∷ b.now ∷ c.now ∷ []) }
     ensures state { IfOk result (λ s. s ≡ state_of row ((a.now ∷ b.now ∷ c.now ∷ []) ∷ [])) }
     ensures err { OnErr result (IsTrue (wants_memory row)) }
 {

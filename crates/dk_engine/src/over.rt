@@ -16,7 +16,7 @@ use crate::constant::{are_known, constant_state};
 use crate::places::find;
 use dk_base::{NoMemory, VarId, VarInfo};
 use dk_suppress::suppressed;
-use dk_template::{Answers, Grammar, RowId, State, turned, written};
+use dk_template::{Answers, Grammar, RowId, State, turn_state, written};
 use std::alloc::Global;
 use std::marker::Model;
 
@@ -81,7 +81,7 @@ impl<'a, B: Answers> Over<'a, B> {
     {
         let ordered = written(row, self.alloc, vars);
         let state = self.state_written(row, ordered.as_slice())?;
-        Ok(turned(row, self.alloc, vars, state))
+        Ok(turn_state(row, self.alloc, vars, state))
     }
 }
 

@@ -5,7 +5,7 @@ ghost use Rattle.dk_rows.specs.Meanings.{state_of};
 ghost use Rattle.dk_template.specs.Joins.{joined};
 ghost use Rattle.dk_template.specs.Proper.{IsProper};
 ghost use Rattle.dk_template.specs.Rows.{IsTuple};
-ghost use Rattle.dk_template.specs.Templates.{IsRow, form_of, kinds_of};
+ghost use Rattle.dk_template.specs.Templates.{IsRow, form_of, role_kinds};
 ghost use Rattle.dk_template.specs.declared.templates.StateForm.{StateForm};
 
 use dk_base::{NoMemory, View};
@@ -15,7 +15,7 @@ use std::alloc::Global;
 /// A row's state of one tuple. Only texts want memory.
 pub fn point(alloc: Global, row: RowId, tuple: &[View<'_>]) -> Result<State, NoMemory>
     requires row { IsRow row }
-    requires tuple { IsTuple (kinds_of row) (values_of tuple.now) }
+    requires tuple { IsTuple (role_kinds row) (values_of tuple.now) }
     ensures state { IfOk result (λ state. state ≡ state_of row (values_of tuple.now ∷ [])) }
     ensures err { OnErr result (form_of row ≡ StateForm.Texts) }
 {
@@ -37,7 +37,7 @@ pub fn point(alloc: Global, row: RowId, tuple: &[View<'_>]) -> Result<State, NoM
 pub fn stays(row: RowId, state: &State, tuple: &[View<'_>]) -> bool
     requires row { IsRow row }
     requires state { IsProper (form_of row) state.now }
-    requires tuple { IsTuple (kinds_of row) (values_of tuple.now) }
+    requires tuple { IsTuple (role_kinds row) (values_of tuple.now) }
     ensures { IsTrue result ↔ (joined (form_of row) state.now (state_of row (values_of tuple.now ∷ [])) ≡ state.now) }
 {
     let n = row.0;

@@ -11,7 +11,7 @@ use Rattle.dk_fits.specs.Laws.{FitsTurn, SymmetricRowsExchange, may_exchange}
 use Rattle.dk_forms.specs.declared.states.State.{State}
 use Rattle.dk_rows.specs.Meanings.{state_of}
 use Rattle.dk_samples.specs.Samples.{is_present, value_in}
-use Rattle.dk_template.specs.Exchange.{arranged, back, descends, disarranged, exchange, exchanged, ordered}
+use Rattle.dk_template.specs.Exchange.{arranged, descends, disarranged, exchange, exchanged, exchanged_back, ordered}
 use Rattle.dk_template.specs.Templates.{arity_of, template_of}
 use Rattle.dk_template.specs.declared.exchange.Exchange.{Exchange}
 use Rattle.dk_template.specs.declared.exchange.Exchange.TheVariants.{First, Last}
@@ -88,7 +88,7 @@ length_ordered e vars = elim (descends e vars) as (λ b. length (if b then excha
 
 -- what is said of variables, in whose order it exchanges as the roles of the symmetry may
 module _ (s : Symmetry) (n : ℕ) (said : List VarId → State) (exchanges : (e : Exchange) → may_exchange s e ≡ true → (vars : List VarId) → length vars ≡ n → said (exchange e vars) ≡ exchanged e (said vars)) where
-  step : (e : Exchange) → may_exchange s e ≡ true → (vars : List VarId) → length vars ≡ n → said vars ≡ back e vars (said (ordered e vars))
+  step : (e : Exchange) → may_exchange s e ≡ true → (vars : List VarId) → length vars ≡ n → said vars ≡ exchanged_back e vars (said (ordered e vars))
   step e may vars long =
       elim (descends e vars) as (λ b. said vars ≡ (if b then exchanged e (said (if b then exchange e vars else vars)) else said (if b then exchange e vars else vars))) [
         | true ↦ ap said (sym (exchange_twice e vars)) ∙ exchanges e may (exchange e vars) (length_exchange e vars ∙ long)
@@ -105,7 +105,7 @@ turns symmetry.All n said exchanges vars long =
     let long1 = length_ordered Last vars ∙ long in
     let long2 = length_ordered First one ∙ long1 in
     step symmetry.All n said exchanges Last refl vars long
-    ∙ ap (back Last vars) (step symmetry.All n said exchanges First refl one long1 ∙ ap (back First one) (step symmetry.All n said exchanges Last refl two long2))
+    ∙ ap (exchanged_back Last vars) (step symmetry.All n said exchanges First refl one long1 ∙ ap (exchanged_back First one) (step symmetry.All n said exchanges Last refl two long2))
 
 pub fits_turn : FitsTurn
 fits_turn row is vars long samples =

@@ -21,7 +21,7 @@ use Rattle.dk_rows.proofs.RowLaws.{laws_of}
 use Rattle.dk_samples.specs.Samples.{is_present, value_in}
 use Rattle.dk_template.specs.Admitted.{admits, same_kind, suits}
 use Rattle.dk_template.specs.Rows.{IsTuple}
-use Rattle.dk_template.specs.Templates.{is_base, kind_of as kind_of_role, kinds_of, roles_of, template_of}
+use Rattle.dk_template.specs.Templates.{is_base, kind_of as kind_of_role, role_kinds, roles_of, template_of}
 use Rattle.dk_template.specs.declared.grammar.RowId.{RowId}
 use Rattle.dk_template.specs.declared.templates.Role.{Role}
 
@@ -82,7 +82,7 @@ module _ (infos : List VarInfo) (sample : List Value) (is : IsSample infos sampl
     | inr n ↦ subst IsWritten (sym (get_or_past sample v.0 value.Missing n)) tt
   ]
 
-  pub is_tuple : (row : RowId) (vars : List VarId) → admits row infos vars ≡ true → is_whole (tuple_in vars sample) ≡ true → IsTuple (kinds_of row) (tuple_in vars sample)
+  pub is_tuple : (row : RowId) (vars : List VarId) → admits row infos vars ≡ true → is_whole (tuple_in vars sample) ≡ true → IsTuple (role_kinds row) (tuple_in vars sample)
   is_tuple row vars a w =
       let roles = roles_of (template_of row).takes in
       let parts = and_parts (length vars == length roles) (list_all (λ (p : Role × VarId). suits p.0 (slice_get infos p.1.0)) (zip roles vars)) a in
@@ -94,9 +94,9 @@ module _ (infos : List VarInfo) (sample : List Value) (is : IsSample infos sampl
       }
 
 -- ---- the tuples in samples
-pub are_tuples : (row : RowId) (infos : List VarInfo) (vars : List VarId) → admits row infos vars ≡ true → (samples : List (List Value)) → All (IsSample infos) samples → All (IsTuple (kinds_of row)) (tuples_of vars samples)
+pub are_tuples : (row : RowId) (infos : List VarInfo) (vars : List VarId) → admits row infos vars ≡ true → (samples : List (List Value)) → All (IsSample infos) samples → All (IsTuple (role_kinds row)) (tuples_of vars samples)
 are_tuples row infos vars a samples all =
-    let P : List Value → Type 0 = λ t. is_whole t ≡ true → IsTuple (kinds_of row) t in
+    let P : List Value → Type 0 = λ t. is_whole t ≡ true → IsTuple (role_kinds row) t in
     let each : All P (map (tuple_in vars) samples) = All-map P (tuple_in vars) samples (λ k d l w. is_tuple infos (get_or samples k d) (all k d l) row vars a w) in
     let kept : All P (tuples_of vars samples) = All-filter is_whole P (map (tuple_in vars) samples) each in
     λ k d l. kept k d l (filter_passes is_whole (map (tuple_in vars) samples) k d l)

@@ -14,7 +14,7 @@ use Rattle.dk_presence.specs.Patterns.{capped, count_of}
 use Rattle.dk_rows.specs.Meanings.{relation_of, state_of}
 use Rattle.dk_samples.specs.Samples.{Agree}
 use Rattle.dk_template.specs.Admitted.{admits}
-use Rattle.dk_template.specs.Exchange.{exchange, exchanged, turned, written as written_order}
+use Rattle.dk_template.specs.Exchange.{exchange, exchanged, turned_state, written as written_order}
 use Rattle.dk_template.specs.Joins.{joined}
 use Rattle.dk_template.specs.Proper.{IsProper}
 use Rattle.dk_template.specs.Templates.{IsRow, arity_of, form_of, template_of}
@@ -95,7 +95,7 @@ SymmetricRowsExchange =
 -- over variables in any order: the fit over them in written order, turned
 abbrev pub FitsTurn : Type 0
 FitsTurn =
-    (row : RowId) → IsRow row → (vars : List VarId) → length vars ≡ arity_of row → (samples : List (List Value)) → fit row vars samples ≡ turned row vars (fit row (written_order row vars) samples)
+    (row : RowId) → IsRow row → (vars : List VarId) → length vars ≡ arity_of row → (samples : List (List Value)) → fit row vars samples ≡ turned_state row vars (fit row (written_order row vars) samples)
 
 -- ---- counts
 -- the number of the tuples

@@ -12,23 +12,23 @@ use std::cmp::Ordering;
 
 // Where a value stands among ascending values: it is there, or belongs before an index.
 #[derive(Clone, Copy)]
-pub(crate) enum Place {
+pub(crate) enum FoundPlace {
     There,
     Before(usize),
 }
 
 // Where a number stands among ascending numbers.
-fn find_place(items: &[i64], x: i64) -> Place
+fn find_place(items: &[i64], x: i64) -> FoundPlace
     ensures { IsPlace items.now x result }
 {
     for (i, y) in items.iter().enumerate() {
         match x.cmp(y) {
-            Ordering::Less => return Place::Before(i),
-            Ordering::Equal => return Place::There,
+            Ordering::Less => return FoundPlace::Before(i),
+            Ordering::Equal => return FoundPlace::There,
             Ordering::Greater => {}
         }
     }
-    Place::Before(items.len())
+    FoundPlace::Before(items.len())
 }
 
 // With one number more, or none where that makes more than three.
@@ -36,8 +36,8 @@ fn with(few: Few, x: i64) -> Option<Few>
     ensures { MatchOption result (3 < length (put int_cmp x few)) (λ more. (more ≡ put int_cmp x few) × (length more ≤ 3)) }
 {
     match find_place(few.as_slice(), x) {
-        Place::There => Some(few),
-        Place::Before(at) => {
+        FoundPlace::There => Some(few),
+        FoundPlace::Before(at) => {
             if few.as_slice().len() < 3 {
                 Some(few.insert(at, x))
             } else {

@@ -9,23 +9,23 @@ ghost use Rattle.dk_forms.specs.Place.{IsTextPlace};
 ghost use Rattle.dk_forms.specs.Texts.{texts_state, texts_join, texts_of, IsTextsState};
 
 use crate::State;
-use crate::ints::Place;
+use crate::ints::FoundPlace;
 use dk_base::{List, NoMemory, Text};
 use std::alloc::Global;
 use std::cmp::Ordering;
 
 // Where a text stands among ascending texts.
-fn find_text(items: &[Text], x: &[u8]) -> Place
+fn find_text(items: &[Text], x: &[u8]) -> FoundPlace
     ensures { IsTextPlace items.now x.now result }
 {
     for (i, y) in items.iter().enumerate() {
         match x.cmp(y.as_slice()) {
-            Ordering::Less => return Place::Before(i),
-            Ordering::Equal => return Place::There,
+            Ordering::Less => return FoundPlace::Before(i),
+            Ordering::Equal => return FoundPlace::There,
             Ordering::Greater => {}
         }
     }
-    Place::Before(items.len())
+    FoundPlace::Before(items.len())
 }
 
 // Copies of these texts.
@@ -71,8 +71,8 @@ fn with_text(alloc: Global, texts: List<Text>, text: &[u8]) -> Result<Option<Lis
     ensures { IfOk result (λ found. MatchOption found (3 < length (put (slice_cmp nat_cmp) text.now texts)) (λ more. (more ≡ put (slice_cmp nat_cmp) text.now texts) × (length more ≤ 3))) }
 {
     match find_text(texts.as_slice(), text) {
-        Place::There => Ok(Some(texts)),
-        Place::Before(at) => {
+        FoundPlace::There => Ok(Some(texts)),
+        FoundPlace::Before(at) => {
             if texts.len() < 3 {
                 Ok(Some(inserted(alloc, texts, at, text)?))
             } else {

@@ -1,7 +1,7 @@
 -- The first calls and their records, computed from the definitions.
 use Rattle.std.proofs.Common.{◌≡◌, ◌∷◌, [], codes, refl}
 use Rattle.std.specs.Fmt.{digits}
-use Rattle.dk_generate.specs.Calls.{call_of}
+use Rattle.dk_generate.specs.Calls.{drawn_call}
 use Rattle.dk_generate.specs.Draws.{drawn, next_state}
 use Rattle.dk_generate.specs.Generated.{calls_text, first_turn, turn_after}
 use Rattle.dk_generate.specs.Records.{call_text, head_text, items_text, nonce_text, number_text, pop_text, push_text, stack_text, top_text}
@@ -10,7 +10,7 @@ use Rattle.dk_generate.specs.declared.calls.Call.TheVariants.{Push, Pop}
 first_draw : drawn (next_state 1) ≡ 908834774
 first_draw = refl
 
-first_call : call_of (first_turn 1) ≡ Push 53
+first_call : drawn_call (first_turn 1) ≡ Push 53
 first_call = refl
 
 -- after three calls three items lie on the stack

@@ -11,8 +11,8 @@ abbrev pub is_push : ℕ → ℕ → Bool
 is_push height number = height == 0 || (nat_lt height 8 && number % 2 == 0)
 
 -- the next call; what a push puts on the stack is a further draw
-abbrev pub call_of : Turn → Call
-call_of turn =
+abbrev pub drawn_call : Turn → Call
+drawn_call turn =
     let state = next_state turn.draws in
     if is_push turn.stack.height (drawn state) then Push (drawn (next_state state) % 100) else Pop
 
@@ -27,8 +27,8 @@ after_call stack (Push item) = record { height = stack.height + 1; items = slice
 after_call stack Pop = record { height = stack.height - 1; items = stack.items }
 
 -- what the next call leaves
-abbrev pub turned : Turn → Turn
-turned turn = let call = call_of turn in record { draws = draws_after turn.draws call; stack = after_call turn.stack call }
+abbrev pub next_turn : Turn → Turn
+next_turn turn = let call = drawn_call turn in record { draws = draws_after turn.draws call; stack = after_call turn.stack call }
 
 -- the last of the items that lie on the stack
 abbrev pub last_item : Stack → ℕ

@@ -1,6 +1,6 @@
 // The calls that work on the stack.
 ghost use Rattle.std.specs.Prelude.{◌≡◌, ◌≤◌, ◌<◌};
-ghost use Rattle.dk_generate.specs.Calls.{IsAllowed, after_call, call_of, draws_after, is_push, turned};
+ghost use Rattle.dk_generate.specs.Calls.{IsAllowed, after_call, drawn_call, draws_after, is_push, next_turn};
 
 use crate::draws::{drawn, next_state};
 
@@ -38,9 +38,9 @@ fn is_push(height: usize, number: u64) -> bool
 }
 
 /// The next call.
-pub(crate) fn call_of(turn: Turn) -> Call
+pub(crate) fn drawn_call(turn: Turn) -> Call
     requires { turn.stack.height ≤ 8 }
-    ensures call { result ≡ call_of turn }
+    ensures call { result ≡ drawn_call turn }
     ensures allowed { IsAllowed turn.stack result }
 {
     let state = next_state(turn.draws);
@@ -85,10 +85,10 @@ pub(crate) fn after_call(stack: Stack, call: Call) -> Stack
 }
 
 /// What the call leaves.
-pub(crate) fn turned(turn: Turn, call: Call) -> Turn
+pub(crate) fn next_turn(turn: Turn, call: Call) -> Turn
     requires allowed { IsAllowed turn.stack call }
-    requires call { call ≡ call_of turn }
-    ensures { result ≡ turned turn }
+    requires call { call ≡ drawn_call turn }
+    ensures { result ≡ next_turn turn }
 {
     Turn {
         draws: draws_after(turn.draws, call),

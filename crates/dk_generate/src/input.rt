@@ -2,7 +2,7 @@
 ghost use Rattle.std.specs.Prelude.{◌≡◌, IfOk};
 ghost use Rattle.dk_generate.specs.Generated.{first_turn, generated_text};
 
-use crate::calls::{ROOM, Stack, Turn, call_of, turned};
+use crate::calls::{ROOM, Stack, Turn, drawn_call, next_turn};
 use crate::records::push_call;
 use crate::texts::declarations;
 use dk_base::{NoMemory, Text};
@@ -30,9 +30,9 @@ pub fn generate(alloc: Global, n: u64) -> Result<Text, NoMemory>
     let mut text = Text::from_slice(alloc, declarations().as_bytes())?;
     let mut turn = first_turn(n);
     for done in 0..CALLS {
-        let call = call_of(turn);
+        let call = drawn_call(turn);
         push_call(&mut text, done + 1, &turn.stack, call)?;
-        turn = turned(turn, call);
+        turn = next_turn(turn, call);
     }
     Ok(text)
 }

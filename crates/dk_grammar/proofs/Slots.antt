@@ -14,7 +14,7 @@ use Rattle.dk_forms.specs.declared.states.State.{State}
 use Rattle.dk_grammar.specs.Runs.{IsSlot}
 use Rattle.dk_template.specs.Admitted.{admits, suits}
 use Rattle.dk_template.specs.Proper.{IsProper}
-use Rattle.dk_template.specs.Templates.{form_of, kinds_of, roles_of, template_of}
+use Rattle.dk_template.specs.Templates.{form_of, role_kinds, roles_of, template_of}
 use Rattle.dk_template.specs.declared.grammar.RowId.{RowId}
 use Rattle.dk_template.specs.declared.templates.Role.{Role}
 use Rattle.dk_template.specs.declared.templates.Takes.{Takes}
@@ -48,7 +48,7 @@ are_there infos sample h (r ∷ roles) (v ∷ vars) e s =
     All-cons (λ (w : VarId). w.0 < length sample) v vars (there r infos sample v.0 h s0.0) (are_there infos sample h roles vars (omega (arith, e)) s0.1)
 
 pub slot_of : (row : RowId) (infos : List VarInfo) (sample : List Value) → IsSample infos sample → (vars : List VarId) → admits row infos vars ≡ true → (state : State) → IsProper (form_of row) state
-    → IsSlot (kinds_of row) (form_of row) sample vars state
+    → IsSlot (role_kinds row) (form_of row) sample vars state
 slot_of row infos sample is vars a state proper =
     let roles = roles_of (template_of row).takes in
     let parts = and_parts (length vars == length roles) (list_all (λ (p : Role × VarId). suits p.0 (slice_get infos p.1.0)) (zip roles vars)) a in

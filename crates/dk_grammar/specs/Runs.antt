@@ -9,7 +9,7 @@ use Rattle.dk_rows.specs.Meanings.{state_of}
 use Rattle.dk_template.specs.Joins.{joined}
 use Rattle.dk_template.specs.Proper.{IsProper}
 use Rattle.dk_template.specs.Rows.{IsTuple}
-use Rattle.dk_template.specs.Templates.{form_of, kinds_of}
+use Rattle.dk_template.specs.Templates.{form_of, role_kinds}
 use Rattle.dk_template.specs.declared.grammar.RowId.{RowId}
 use Rattle.dk_template.specs.declared.templates.StateForm.{StateForm}
 
@@ -43,7 +43,7 @@ IsFirstWithout P items (Some n) = All P (take n items) × IsSomeAnd (slice_get i
 module _ {S : Type 0} (vars : S → List VarId) (state : S → State) (row : RowId) (sample : List Value) where
   -- each is a slot of the row
   abbrev pub AreSlots : List S → Type 0
-  AreSlots run = All (λ slot. IsSlot (kinds_of row) (form_of row) sample (vars slot) (state slot)) run
+  AreSlots run = All (λ slot. IsSlot (role_kinds row) (form_of row) sample (vars slot) (state slot)) run
 
   -- what is found is the place of the first slot of which the row's state with the sample is another; nothing is, where the sample
   -- leaves all as they are

@@ -3,8 +3,8 @@ use Rattle.std.proofs.Common.{◌≡◌, ◌∙◌, ℕ, suc, ◌+◌, ◌<◌, 
 use Rattle.std.specs.List.{cons_option}
 use Rattle.std.proofs.lemmas.List.Elements.{filter-append, filter_map-append}
 use Rattle.dk_graph.specs.Names.{place_of}
-use Rattle.dk_graph.specs.Graphs.{Link, names, links, links_of, edge_of, edges, edges_from, edges_into}
-use Rattle.dk_graph.specs.Kept.{links_to, waiting_of}
+use Rattle.dk_graph.specs.Graphs.{Link, node_names, links, links_to_parents, edge_of, edges, edges_from, edges_into}
+use Rattle.dk_graph.specs.Kept.{links_to, waiting_link}
 use Rattle.dk_graph.specs.Rows.{edge_to}
 use Rattle.dk_graph.specs.declared.nodes.Edge.{Edge}
 use Rattle.dk_graph.specs.declared.nodes.Node.{Node}
@@ -76,7 +76,7 @@ module _ (all : List (List ℕ)) (name : List ℕ) (none : place_of all name ≡
   come-above p l ls later own e there =
       let found = has-filter (from_child p) (come ls) e there in
       let waits = has-map (edge_to (record { 0 = length all })) (to_name ls name) e found.0 in
-      let link = has-map waiting_of (filter (λ m. bytes_eq m.parent name) ls) waits.0 waits.1 in
+      let link = has-map waiting_link (filter (λ m. bytes_eq m.parent name) ls) waits.0 waits.1 in
       let one = has-filter (λ m. bytes_eq m.parent name) ls link.0 link.1 in
       let number : link.0.number ≡ e.number = ap (λ w. w.number) link.2 ∙ ap (λ f. f.number) waits.2 in
       let own-child : link.0.child ≡ e.child.0 = ap (λ w. w.child.0) link.2 ∙ ap (λ f. f.child.0) waits.2 in
@@ -97,7 +97,7 @@ module _ (all : List (List ℕ)) (name : List ℕ) (none : place_of all name ≡
           → (l.child == p ≡ true → AllAbove l.number (filter (from_child p) (before ls)))
           → (l.child == p ≡ true → AllAbove l.number (filter (from_child p) (come ls)))
           → put_in (filter (from_child p) (cons_option (option_map (edge_from l) o) (before ls)))
-          (filter (from_child p) (map (edge_to (record { 0 = length all })) (map waiting_of (cond b (l ∷ filter (λ m. bytes_eq m.parent name) ls) (filter (λ m. bytes_eq m.parent name) ls)))))
+          (filter (from_child p) (map (edge_to (record { 0 = length all })) (map waiting_link (cond b (l ∷ filter (λ m. bytes_eq m.parent name) ls) (filter (λ m. bytes_eq m.parent name) ls)))))
           ≡ filter (from_child p) (cons_option (option_map (edge_from l) (or_last o b (length all))) (after ls))
       by (Some j) found true same rest old new = absurd (not-found l j found same)
       by (Some j) found false other rest old new =
@@ -130,7 +130,7 @@ module _ (all : List (List ℕ)) (name : List ℕ) (none : place_of all name ≡
 
       by : (o : Option ℕ) → place_of all l.parent ≡ o → (b : Bool) → bytes_eq l.parent name ≡ b → filter (into_parent (length all)) (after ls) ≡ come ls
           → filter (into_parent (length all)) (cons_option (option_map (edge_from l) (or_last o b (length all))) (after ls))
-          ≡ map (edge_to (record { 0 = length all })) (map waiting_of (cond b (l ∷ filter (λ m. bytes_eq m.parent name) ls) (filter (λ m. bytes_eq m.parent name) ls)))
+          ≡ map (edge_to (record { 0 = length all })) (map waiting_link (cond b (l ∷ filter (λ m. bytes_eq m.parent name) ls) (filter (λ m. bytes_eq m.parent name) ls)))
       by (Some j) found true same rest = absurd (not-found l j found same)
       by (Some j) found false other rest =
           ap (λ b. cond b (edge_from l j ∷ filter (into_parent (length all)) (after ls)) (filter (into_parent (length all)) (after ls))) (eq-false j (length all) (below j (place-below all l.parent j found))) ∙ rest
@@ -141,63 +141,63 @@ module _ (all : List (List ℕ)) (name : List ℕ) (none : place_of all name ≡
 
 -- ---- the point and its own links
 
-module _ (ns : List Node) (n : Node) (none : place_of (names ns) n.name ≡ None) where
+module _ (ns : List Node) (n : Node) (none : place_of (node_names ns) n.name ≡ None) where
   abbrev pub own : List Edge
-  own = filter_map (edge_of (names ns ++ n.name ∷ [])) (links_of (length ns) n.links)
+  own = filter_map (edge_of (node_names ns ++ n.name ∷ [])) (links_to_parents (length ns) n.links)
 
-  names-push : names (ns ++ n ∷ []) ≡ names ns ++ n.name ∷ []
+  names-push : node_names (ns ++ n ∷ []) ≡ node_names ns ++ n.name ∷ []
   names-push = map-append (λ m. m.name) ns (n ∷ [])
 
-  length-names : length (names ns) ≡ length ns
+  length-names : length (node_names ns) ≡ length ns
   length-names = length-map (λ m. m.name) ns
 
-  pub edges-push : edges (ns ++ n ∷ []) ≡ after (names ns) n.name none (links ns) ++ own
+  pub edges-push : edges (ns ++ n ∷ []) ≡ after (node_names ns) n.name none (links ns) ++ own
   unfolding edges
   edges-push =
       ap (λ xs. filter_map (edge_of xs) (links (ns ++ n ∷ []))) names-push
-      ∙ ap (filter_map (edge_of (names ns ++ n.name ∷ []))) (links-push ns n)
-      ∙ filter_map-append (edge_of (names ns ++ n.name ∷ [])) (links ns) (links_of (length ns) n.links)
+      ∙ ap (filter_map (edge_of (node_names ns ++ n.name ∷ []))) (links-push ns n)
+      ∙ filter_map-append (edge_of (node_names ns ++ n.name ∷ [])) (links ns) (links_to_parents (length ns) n.links)
 
   pub own-edge : (e : Edge) → Has own e → (e.child.0 ≡ length ns) × (e.parent.0 < length ns + 1)
   own-edge e h =
-      let link = has-filter_map (edge_of (names ns ++ n.name ∷ [])) (links_of (length ns) n.links) e h in
-      let is = is-edge-of (names ns ++ n.name ∷ []) link.0 e link.2 in (
+      let link = has-filter_map (edge_of (node_names ns ++ n.name ∷ [])) (links_to_parents (length ns) n.links) e h in
+      let is = is-edge-of (node_names ns ++ n.name ∷ []) link.0 e link.2 in (
         is.1 ∙ own-child (length ns) n.links link.0 link.1,
-        subst (λ k. e.parent.0 < k) (long ns) (place-below (names ns ++ n.name ∷ []) link.0.parent e.parent.0 is.0),
+        subst (λ k. e.parent.0 < k) (long ns) (place-below (node_names ns ++ n.name ∷ []) link.0.parent e.parent.0 is.0),
       )
     where
-      long : (ns : List Node) → length (names ns ++ n.name ∷ []) ≡ length ns + 1
+      long : (ns : List Node) → length (node_names ns ++ n.name ∷ []) ≡ length ns + 1
       long [] = refl
       long (m ∷ ns) = ap suc (long ns) ∙ plus (length ns)
         where
           plus : (k : ℕ) → suc (k + 1) ≡ suc k + 1
           plus k = omega arith
 
-  pub old-edge : (e : Edge) → Has (after (names ns) n.name none (links ns)) e → e.child.0 < length ns
+  pub old-edge : (e : Edge) → Has (after (node_names ns) n.name none (links ns)) e → e.child.0 < length ns
   old-edge e h =
-      let link = has-filter_map (edge_of (names ns ++ n.name ∷ [])) (links ns) e h in
-      let is = is-edge-of (names ns ++ n.name ∷ []) link.0 e link.2 in
+      let link = has-filter_map (edge_of (node_names ns ++ n.name ∷ [])) (links ns) e h in
+      let is = is-edge-of (node_names ns ++ n.name ∷ []) link.0 e link.2 in
       subst (λ c. c < length ns) (sym is.1) (link-below ns link.0 link.1)
 
   -- the edges from a point that was there
-  pub from-old : (p : ℕ) → (p ≢ length ns) → edges_from (ns ++ n ∷ []) p ≡ put_in (edges_from ns p) (filter (from_child p) (come (names ns) n.name none (links ns)))
+  pub from-old : (p : ℕ) → (p ≢ length ns) → edges_from (ns ++ n ∷ []) p ≡ put_in (edges_from ns p) (filter (from_child p) (come (node_names ns) n.name none (links ns)))
   unfolding edges_from edges
   from-old p not =
       ap (filter (from_child p)) edges-push
-      ∙ filter-append (from_child p) (after (names ns) n.name none (links ns)) own
-      ∙ ap (λ es. filter (from_child p) (after (names ns) n.name none (links ns)) ++ es)
+      ∙ filter-append (from_child p) (after (node_names ns) n.name none (links ns)) own
+      ∙ ap (λ es. filter (from_child p) (after (node_names ns) n.name none (links ns)) ++ es)
       (filter-none (from_child p) own (λ e h. eq-false e.child.0 p (λ same. not (sym same ∙ (own-edge e h).0))))
-      ∙ append-nil (filter (from_child p) (after (names ns) n.name none (links ns)))
-      ∙ sym (row-after (names ns) n.name none p (links ns) (ascends-links ns))
+      ∙ append-nil (filter (from_child p) (after (node_names ns) n.name none (links ns)))
+      ∙ sym (row-after (node_names ns) n.name none p (links ns) (ascends-links ns))
 
   -- the edges from the new point
   pub from-new : edges_from (ns ++ n ∷ []) (length ns) ≡ own
   unfolding edges_from
   from-new =
       ap (filter (from_child (length ns))) edges-push
-      ∙ filter-append (from_child (length ns)) (after (names ns) n.name none (links ns)) own
+      ∙ filter-append (from_child (length ns)) (after (node_names ns) n.name none (links ns)) own
       ∙ ap (λ es. es ++ filter (from_child (length ns)) own)
-      (filter-none (from_child (length ns)) (after (names ns) n.name none (links ns)) (λ e h. eq-false e.child.0 (length ns) (λ same. below e.child.0 (length ns) same (old-edge e h))))
+      (filter-none (from_child (length ns)) (after (node_names ns) n.name none (links ns)) (λ e h. eq-false e.child.0 (length ns) (λ same. below e.child.0 (length ns) same (old-edge e h))))
       ∙ filter-all (from_child (length ns)) own (λ e h. ap (λ c. c == length ns) (own-edge e h).0 ∙ eqb_same (length ns))
     where
       below : (c k : ℕ) → c ≡ k → c < k → ⊥
@@ -208,20 +208,20 @@ module _ (ns : List Node) (n : Node) (none : place_of (names ns) n.name ≡ None
   unfolding edges_into edges
   into-old p not =
       ap (filter (into_parent p)) edges-push
-      ∙ filter-append (into_parent p) (after (names ns) n.name none (links ns)) own
-      ∙ ap (λ es. es ++ filter (into_parent p) own) (into-other (names ns) n.name none p (λ same. not (same ∙ length-names)) (links ns))
+      ∙ filter-append (into_parent p) (after (node_names ns) n.name none (links ns)) own
+      ∙ ap (λ es. es ++ filter (into_parent p) own) (into-other (node_names ns) n.name none p (λ same. not (same ∙ length-names)) (links ns))
 
-  pub into-come : edges_into (ns ++ n ∷ []) (length ns) ≡ come (names ns) n.name none (links ns) ++ filter (into_parent (length ns)) own
+  pub into-come : edges_into (ns ++ n ∷ []) (length ns) ≡ come (node_names ns) n.name none (links ns) ++ filter (into_parent (length ns)) own
   unfolding edges_into
   into-come =
       ap (filter (into_parent (length ns))) edges-push
-      ∙ filter-append (into_parent (length ns)) (after (names ns) n.name none (links ns)) own
+      ∙ filter-append (into_parent (length ns)) (after (node_names ns) n.name none (links ns)) own
       ∙ ap (λ es. es ++ filter (into_parent (length ns)) own)
-      (ap (λ k. filter (into_parent k) (after (names ns) n.name none (links ns))) (sym length-names) ∙ into-new (names ns) n.name none (links ns))
+      (ap (λ k. filter (into_parent k) (after (node_names ns) n.name none (links ns))) (sym length-names) ∙ into-new (node_names ns) n.name none (links ns))
 
   -- the links to a name
-  pub links_to-push : (name : List ℕ) → links_to (ns ++ n ∷ []) name ≡ links_to ns name ++ to_name (links_of (length ns) n.links) name
+  pub links_to-push : (name : List ℕ) → links_to (ns ++ n ∷ []) name ≡ links_to ns name ++ to_name (links_to_parents (length ns) n.links) name
   links_to-push name =
-      ap (λ ls. map waiting_of (filter (λ l. bytes_eq l.parent name) ls)) (links-push ns n)
-      ∙ ap (map waiting_of) (filter-append (λ l. bytes_eq l.parent name) (links ns) (links_of (length ns) n.links))
-      ∙ map-append waiting_of (filter (λ l. bytes_eq l.parent name) (links ns)) (filter (λ l. bytes_eq l.parent name) (links_of (length ns) n.links))
+      ap (λ ls. map waiting_link (filter (λ l. bytes_eq l.parent name) ls)) (links-push ns n)
+      ∙ ap (map waiting_link) (filter-append (λ l. bytes_eq l.parent name) (links ns) (links_to_parents (length ns) n.links))
+      ∙ map-append waiting_link (filter (λ l. bytes_eq l.parent name) (links ns)) (filter (λ l. bytes_eq l.parent name) (links_to_parents (length ns) n.links))

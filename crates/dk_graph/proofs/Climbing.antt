@@ -3,7 +3,7 @@ use Rattle.std.proofs.Common.{◌≡◌, ◌∙◌, ℕ, zero, suc, ◌+◌, ◌
 use Rattle.std.proofs.lemmas.List.{get_or_append_left, get_or_at}
 use Rattle.std.proofs.lemmas.List.Elements.{Contains-append_left, Contains-push, Contains-push_cases}
 use Rattle.dk_graph.specs.Names.{place_of}
-use Rattle.dk_graph.specs.Graphs.{names, links, edges, edges_into, height}
+use Rattle.dk_graph.specs.Graphs.{node_names, links, edges, edges_into, height}
 use Rattle.dk_graph.specs.Kept.{HasRisingDepths}
 use Rattle.dk_graph.specs.Raising.{Raising, IsSettled, IsReached, IsLow, depth}
 use Rattle.dk_graph.specs.Rows.{above_children}
@@ -87,27 +87,27 @@ split q n = by (nat_lt q n) refl (nat_lt n q) refl
     by false h true k = inr (inr (lt_true n q k))
     by false h false k = let less = lt_false q n h in let more = lt_false n q k in inr (inl (omega (arith, less, more)))
 
-module _ (ns : List Node) (n : Node) (none : place_of (names ns) n.name ≡ None) (ds queue : List ℕ) (kept : HasRisingDepths ns ds queue) where
+module _ (ns : List Node) (n : Node) (none : place_of (node_names ns) n.name ≡ None) (ds queue : List ℕ) (kept : HasRisingDepths ns ds queue) where
   -- edges that were there stay, and no other goes to a point that was there from one that was
   kept-edge : (e : Edge) → Has (edges ns) e → Has (edges (ns ++ n ∷ [])) e
   unfolding edges
   kept-edge e h =
       let parent = (edge-has ns e h).1 in
-      let here : Has (filter (into_parent e.parent.0) (after (names ns) n.name none (links ns))) e =
-      subst (λ es. Has es e) (sym (into-other (names ns) n.name none e.parent.0 (below e.parent.0 parent) (links ns)))
+      let here : Has (filter (into_parent e.parent.0) (after (node_names ns) n.name none (links ns))) e =
+      subst (λ es. Has es e) (sym (into-other (node_names ns) n.name none e.parent.0 (below e.parent.0 parent) (links ns)))
       (filter-has (into_parent e.parent.0) (edges ns) e h (eqb_same e.parent.0)) in
       subst (λ es. Has es e) (sym (edges-push ns n none))
-      (has-left (after (names ns) n.name none (links ns)) (own ns n none) e (has-filter (into_parent e.parent.0) (after (names ns) n.name none (links ns)) e here).0)
+      (has-left (after (node_names ns) n.name none (links ns)) (own ns n none) e (has-filter (into_parent e.parent.0) (after (node_names ns) n.name none (links ns)) e here).0)
     where
-      below : (p : ℕ) → p < length ns → (p ≢ length (names ns))
+      below : (p : ℕ) → p < length ns → (p ≢ length (node_names ns))
       below p h same = omega (arith, same, h, length-map (λ m. m.name) ns)
 
-  old-has : (e : Edge) → Has (after (names ns) n.name none (links ns)) e → (e.parent.0 ≢ length ns) → Has (edges ns) e
+  old-has : (e : Edge) → Has (after (node_names ns) n.name none (links ns)) e → (e.parent.0 ≢ length ns) → Has (edges ns) e
   unfolding edges
   old-has e h not =
       let here : Has (filter (into_parent e.parent.0) (edges ns)) e =
-      subst (λ es. Has es e) (into-other (names ns) n.name none e.parent.0 (λ same. not (same ∙ length-map (λ m. m.name) ns)) (links ns))
-      (filter-has (into_parent e.parent.0) (after (names ns) n.name none (links ns)) e h (eqb_same e.parent.0)) in
+      subst (λ es. Has es e) (into-other (node_names ns) n.name none e.parent.0 (λ same. not (same ∙ length-map (λ m. m.name) ns)) (links ns))
+      (filter-has (into_parent e.parent.0) (after (node_names ns) n.name none (links ns)) e h (eqb_same e.parent.0)) in
       (has-filter (into_parent e.parent.0) (edges ns) e here).0
 
   module _ (d : ℕ) (is : d ≡ above_children ds (edges_into (ns ++ n ∷ []) (length ns))) where
@@ -122,7 +122,7 @@ module _ (ns : List Node) (n : Node) (none : place_of (names ns) n.name ≡ None
     unfolding edges_into
     has-into e h = let found = has-filter (into_parent (length ns)) (edges (ns ++ n ∷ [])) e h in (found.0, eqb_true e.parent.0 (length ns) found.1)
 
-    settled-old : (e : Edge) → Has (after (names ns) n.name none (links ns)) e → Has (edges (ns ++ n ∷ [])) e → IsSettled new e.child.0 e.parent.0
+    settled-old : (e : Edge) → Has (after (node_names ns) n.name none (links ns)) e → Has (edges (ns ++ n ∷ [])) e → IsSettled new e.child.0 e.parent.0
     settled-old e old h =
         let child : e.child.0 < length ds = let below = old-edge ns n none e old in omega (arith, below, kept.all) in
         let at-child : slice_index (ds ++ d ∷ []) e.child.0 ≡ slice_index ds e.child.0 = index-old ds d e.child.0 child in
@@ -148,7 +148,7 @@ module _ (ns : List Node) (n : Node) (none : place_of (names ns) n.name ≡ None
     settled : (e : Edge) → Contains (edges (ns ++ n ∷ [])) e → IsSettled new e.child.0 e.parent.0
     settled e there =
         let h : Has (edges (ns ++ n ∷ [])) e = has-contained (edges (ns ++ n ∷ [])) e there in
-        elim (has-append (after (names ns) n.name none (links ns)) (own ns n none) e (subst (λ es. Has es e) (edges-push ns n none) h)) [
+        elim (has-append (after (node_names ns) n.name none (links ns)) (own ns n none) e (subst (λ es. Has es e) (edges-push ns n none) h)) [
           | inl old ↦ settled-old e old h
           | inr mine ↦ inr (subst (Contains (queue ++ length ns ∷ [])) (sym (own-edge ns n none e mine).0) (Contains-push queue (length ns)))
         ]

@@ -3,7 +3,7 @@ use Rattle.std.proofs.Common.{◌≡◌, ◌∙◌, ℕ, ◌+◌, ◌<◌, inl, 
 use Rattle.std.specs.List.{enumerate_from}
 use Rattle.std.proofs.lemmas.List.Quantifiers.{position-Some}
 use Rattle.dk_graph.specs.Names.{place_of}
-use Rattle.dk_graph.specs.Graphs.{Link, names, links, links_at, edge_of, edges}
+use Rattle.dk_graph.specs.Graphs.{Link, node_names, links, links_at, edge_of, edges}
 use Rattle.dk_graph.specs.declared.nodes.Edge.{Edge}
 use Rattle.dk_graph.specs.declared.nodes.Node.{Node}
 use Rattle.dk_graph.proofs.Places.{some-injective, length-map}
@@ -47,10 +47,10 @@ link-below ns l h = subst (λ n. l.child < n) (zero-plus (length ns)) (links-bel
 pub edge-has : (ns : List Node) (e : Edge) → Has (edges ns) e → (e.child.0 < length ns) × (e.parent.0 < length ns)
 unfolding edges
 edge-has ns e h =
-    let found = has-filter_map (edge_of (names ns)) (links ns) e h in
-    let is = is-edge-of (names ns) found.0 e found.2 in (
+    let found = has-filter_map (edge_of (node_names ns)) (links ns) e h in
+    let is = is-edge-of (node_names ns) found.0 e found.2 in (
       subst (λ c. c < length ns) (sym is.1) (link-below ns found.0 found.1),
-      subst (λ n. e.parent.0 < n) (length-map (λ n. n.name) ns) (place-below (names ns) found.0.parent e.parent.0 is.0),
+      subst (λ n. e.parent.0 < n) (length-map (λ n. n.name) ns) (place-below (node_names ns) found.0.parent e.parent.0 is.0),
     )
 
 pub edge-below : (ns : List Node) (e : Edge) → Contains (edges ns) e → (e.child.0 < length ns) × (e.parent.0 < length ns)

@@ -3,7 +3,7 @@ use Rattle.std.proofs.Common.{◌≡◌, ◌∙◌, ℕ, Bool, true, false, List
 use Rattle.dk_graph.specs.Names.{place_of}
 use Rattle.dk_graph.specs.Notes.{noted, noted_under}
 use Rattle.dk_graph.specs.Graphs.{Link}
-use Rattle.dk_graph.specs.Kept.{waited, waiting_of}
+use Rattle.dk_graph.specs.Kept.{waited, waiting_link}
 use Rattle.dk_graph.specs.declared.nodes.Waiting.{Waiting}
 use Rattle.dk_graph.proofs.Places.{bytes_eq-same, bytes_eq-true}
 
@@ -28,19 +28,19 @@ noted_under-noted {X = X} (n ∷ notes) at x name = by (bytes_eq at n.0) refl (b
 
 -- the links of a list to a name
 abbrev pub to_name : List Link → List ℕ → List Waiting
-to_name ls name = map waiting_of (filter (λ l. bytes_eq l.parent name) ls)
+to_name ls name = map waiting_link (filter (λ l. bytes_eq l.parent name) ls)
 
 -- under a name that no point has, the new links to it go last
 pub waited-under : (all : List (List ℕ)) (ls : List Link) (notes : List (List ℕ × List Waiting)) (name : List ℕ) → place_of all name ≡ None
     → noted_under (waited all ls notes) name ≡ noted_under notes name ++ to_name ls name
 waited-under all [] notes name none = sym (append-nil (noted_under notes name))
 waited-under all (l ∷ ls) notes name none =
-    waited-under all ls (if is_none (place_of all l.parent) then noted notes l.parent (waiting_of l) else notes) name none
+    waited-under all ls (if is_none (place_of all l.parent) then noted notes l.parent (waiting_link l) else notes) name none
     ∙ by (place_of all l.parent) refl (bytes_eq l.parent name) refl
   where
     by : (o : Option ℕ) → place_of all l.parent ≡ o → (b : Bool) → bytes_eq l.parent name ≡ b
-        → noted_under (if is_none o then noted notes l.parent (waiting_of l) else notes) name ++ to_name ls name
-        ≡ noted_under notes name ++ map waiting_of (if b then l ∷ filter (λ l. bytes_eq l.parent name) ls else filter (λ l. bytes_eq l.parent name) ls)
+        → noted_under (if is_none o then noted notes l.parent (waiting_link l) else notes) name ++ to_name ls name
+        ≡ noted_under notes name ++ map waiting_link (if b then l ∷ filter (λ l. bytes_eq l.parent name) ls else filter (λ l. bytes_eq l.parent name) ls)
     by (Some j) found true is = absurd (some-none (sym found ∙ ap (place_of all) (bytes_eq-true l.parent name is) ∙ none))
       where
         some-none : Some j ≡ None → ⊥
@@ -48,11 +48,11 @@ waited-under all (l ∷ ls) notes name none =
     by (Some j) found false is = refl
     by None found true is =
         let same : name ≡ l.parent = sym (bytes_eq-true l.parent name is) in
-        ap (λ xs. xs ++ to_name ls name) (noted_under-noted notes l.parent (waiting_of l) name ∙ ap (λ b. if b then noted_under notes name ++ waiting_of l ∷ [] else noted_under notes name)
+        ap (λ xs. xs ++ to_name ls name) (noted_under-noted notes l.parent (waiting_link l) name ∙ ap (λ b. if b then noted_under notes name ++ waiting_link l ∷ [] else noted_under notes name)
         (ap (bytes_eq name) (sym same) ∙ bytes_eq-same name))
-        ∙ append_assoc (noted_under notes name) (waiting_of l ∷ []) (to_name ls name)
+        ∙ append_assoc (noted_under notes name) (waiting_link l ∷ []) (to_name ls name)
     by None found false is =
-        ap (λ xs. xs ++ to_name ls name) (noted_under-noted notes l.parent (waiting_of l) name ∙ ap (λ b. if b then noted_under notes name ++ waiting_of l ∷ [] else noted_under notes name)
+        ap (λ xs. xs ++ to_name ls name) (noted_under-noted notes l.parent (waiting_link l) name ∙ ap (λ b. if b then noted_under notes name ++ waiting_link l ∷ [] else noted_under notes name)
         (other (bytes_eq name l.parent) refl))
       where
         other : (b : Bool) → bytes_eq name l.parent ≡ b → bytes_eq name l.parent ≡ false

@@ -11,8 +11,8 @@ abbrev pub place_in : PointId → ℕ
 place_in p = p.0
 
 -- the names of the points
-abbrev pub names : List Node → List (List ℕ)
-names ns = map (λ n. n.name) ns
+abbrev pub node_names : List Node → List (List ℕ)
+node_names ns = map (λ n. n.name) ns
 
 -- A link: the point that has it, its place among that point's links, and the name of the parent.
 pub record Link : Type 0 where
@@ -21,11 +21,11 @@ pub record Link : Type 0 where
   pub parent : List ℕ
 
 -- the links of a point that stands at a place, from the names of its parents
-abbrev pub links_of : ℕ → List (List ℕ) → List Link
-links_of place parents = map (λ l. record { child = place; number = l.0; parent = l.1 }) (enumerate_from 0 parents)
+abbrev pub links_to_parents : ℕ → List (List ℕ) → List Link
+links_to_parents place parents = map (λ l. record { child = place; number = l.0; parent = l.1 }) (enumerate_from 0 parents)
 
 abbrev pub links_at : ℕ × Node → List Link
-links_at p = links_of p.0 p.1.links
+links_at p = links_to_parents p.0 p.1.links
 
 -- All links, by child and then by number.
 unfoldable pub links : List Node → List Link
@@ -37,7 +37,7 @@ edge_of all l = option_map (λ j. record { child = record { 0 = l.child }; paren
 
 -- All edges, by child and then by number.
 unfoldable pub edges : List Node → List Edge
-edges ns = filter_map (edge_of (names ns)) (links ns)
+edges ns = filter_map (edge_of (node_names ns)) (links ns)
 
 -- The edges from a child to its parents.
 unfoldable pub edges_from : List Node → ℕ → List Edge
@@ -71,9 +71,9 @@ unfoldable pub has_cycle : List Node → Bool
 has_cycle ns = some_below (λ q. nat_le (length ns) (depth_of ns q)) (length ns)
 
 -- These points, which have no cycle; or none, since they have one.
-abbrev pub Grows : Option (List Node) → List Node → Type 0
-Grows (Some g) ns = (g ≡ ns) × (has_cycle ns ≡ false)
-Grows None ns = has_cycle ns ≡ true
+abbrev pub GraphGrows : Option (List Node) → List Node → Type 0
+GraphGrows (Some g) ns = (g ≡ ns) × (has_cycle ns ≡ false)
+GraphGrows None ns = has_cycle ns ≡ true
 
 -- The depth of a child is less than that of its parent.
 abbrev pub ParentsAreDeeper : List Node → Type 0

@@ -2,7 +2,7 @@
 use Rattle.std.specs.Prelude.{◌≡◌, ℕ, ◌≤◌, List, [], ◌∷◌, length, map, filter, is_none, None, bytes_eq, if◌then◌else◌}
 use Rattle.dk_graph.specs.Names.{place_of}
 use Rattle.dk_graph.specs.Notes.{noted, noted_under}
-use Rattle.dk_graph.specs.Graphs.{Link, names, links, edges, edges_from, edges_into}
+use Rattle.dk_graph.specs.Graphs.{Link, node_names, links, edges, edges_from, edges_into}
 use Rattle.dk_graph.specs.Raising.{IsRisen, IsRising}
 use Rattle.dk_graph.specs.Rows.{row}
 use Rattle.dk_graph.specs.declared.nodes.Edge.{Edge}
@@ -10,20 +10,20 @@ use Rattle.dk_graph.specs.declared.nodes.Node.{Node}
 use Rattle.dk_graph.specs.declared.nodes.Waiting.{Waiting}
 
 -- a link as it waits for its parent
-abbrev pub waiting_of : Link → Waiting
-waiting_of l = record { child = record { 0 = l.child }; number = l.number }
+abbrev pub waiting_link : Link → Waiting
+waiting_link l = record { child = record { 0 = l.child }; number = l.number }
 
 -- links whose parents are not among the names are noted under them
 abbrev pub waited : List (List ℕ) → List Link → List (List ℕ × List Waiting) → List (List ℕ × List Waiting)
 waited all [] notes = notes
-waited all (l ∷ ls) notes = waited all ls (if is_none (place_of all l.parent) then noted notes l.parent (waiting_of l) else notes)
+waited all (l ∷ ls) notes = waited all ls (if is_none (place_of all l.parent) then noted notes l.parent (waiting_link l) else notes)
 
 -- the links to a name, by child and then by number
 abbrev pub links_to : List Node → List ℕ → List Waiting
-links_to ns name = map waiting_of (filter (λ l. bytes_eq l.parent name) (links ns))
+links_to ns name = map waiting_link (filter (λ l. bytes_eq l.parent name) (links ns))
 
 pub record IsJoined (ns : List Node) (all : List (List ℕ)) (waiting : List (List ℕ × List Waiting)) (from into : List (List Edge)) : Type 0 where
-  pub named : all ≡ names ns
+  pub named : all ≡ node_names ns
   pub from_all : length from ≡ length ns
   pub from_are : (p : ℕ) → row from p ≡ edges_from ns p
   pub into_all : length into ≡ length ns

@@ -1,14 +1,14 @@
 // Points with their edges by child and by parent.
 ghost use Rattle.std.specs.Prelude.{◌≡◌, ◌∷◌, ◌++◌, [], ◌<◌, ◌≤◌, length, None, Some, IfOk, OnOk, IfSome, slice_get, option_map, filter_map};
 ghost use Rattle.dk_graph.specs.Names.{place_of};
-ghost use Rattle.dk_graph.specs.Graphs.{names, edges_from, edges_into, place_in, edge_of, links_of};
+ghost use Rattle.dk_graph.specs.Graphs.{node_names, edges_from, edges_into, place_in, edge_of, links_to_parents};
 ghost use Rattle.dk_graph.specs.Kept.{waited};
 ghost use Rattle.dk_graph.specs.Joined.{AreJoined};
 
 use crate::names::Names;
 use crate::nodes::{Edge, Node, Waiting};
 use crate::notes::Notes;
-use crate::rows::{Row, edges_of_waiting, insert_by_child, push_by_parent};
+use crate::rows::{EdgeRow, edges_of_waiting, insert_by_child, push_by_parent};
 use dk_base::{List, NoMemory, PointId, Text};
 use std::alloc::Global;
 use std::marker::Model;
@@ -20,8 +20,8 @@ pub(crate) struct Parts {
     nodes: List<Node>,
     names: Names,
     waiting: Notes,
-    from: Vec<Row>,
-    into: Vec<Row>,
+    from: Vec<EdgeRow>,
+    into: Vec<EdgeRow>,
 }
 
 // Points with their edges. There may be cycles.
@@ -70,7 +70,7 @@ impl Edges {
 
     // The point of a name.
     pub fn find(&self, name: &[u8]) -> Option<PointId>
-        ensures place { option_map place_in result ≡ place_of (names self.now) name.now }
+        ensures place { option_map place_in result ≡ place_of (node_names self.now) name.now }
         ensures within { IfSome result (λ p. p.0 < length self.now) }
     {
         match self.parts.names.find(name) {
@@ -82,7 +82,7 @@ impl Edges {
     // The name of a point.
     pub fn name(&self, p: PointId) -> &[u8]
         requires { p.0 < length self.now }
-        ensures { slice_get (names self.now) p.0 ≡ Some result.now }
+        ensures { slice_get (node_names self.now) p.0 ≡ Some result.now }
     {
         self.parts.names.get(p.0 as usize)
     }
@@ -109,12 +109,12 @@ fn sort_links(
     names: &Names,
     child: PointId,
     links: &[Text],
-    own: &mut Row,
+    own: &mut EdgeRow,
     waiting: &mut Notes,
 ) -> Result<(), NoMemory>
     requires { length names.now ≤ 65535 }
-    ensures own { OnOk result (own.new ≡ own.old ++ filter_map (edge_of names.now) (links_of child.0 links.now)) }
-    ensures waiting { OnOk result (waiting.new ≡ waited names.now (links_of child.0 links.now) waiting.old) }
+    ensures own { OnOk result (own.new ≡ own.old ++ filter_map (edge_of names.now) (links_to_parents child.0 links.now)) }
+    ensures waiting { OnOk result (waiting.new ≡ waited names.now (links_to_parents child.0 links.now) waiting.old) }
 {
     for (number, link) in links.iter().enumerate() {
         match names.find(link.as_slice()) {
@@ -139,7 +139,7 @@ impl Parts {
     // One point more, which goes last. After a refusal nothing is said of the parts.
     fn push(&mut self, alloc: Global, node: Node) -> Result<(), NoMemory>
         requires joined { AreJoined self.old }
-        requires new { place_of (names self.old.nodes) node.name ≡ None }
+        requires new { place_of (node_names self.old.nodes) node.name ≡ None }
         requires few { length self.old.nodes < 65535 }
         ensures nodes { OnOk result (self.new.nodes ≡ self.old.nodes ++ node ∷ []) }
         ensures joined { OnOk result (AreJoined self.new) }
@@ -149,7 +149,7 @@ impl Parts {
         insert_by_child(children.as_slice(), &mut self.from)?;
         self.into.push(children)?;
         self.names.push(node.name.as_slice())?;
-        let mut own = Row::new(alloc);
+        let mut own = EdgeRow::new(alloc);
         sort_links(
             &self.names,
             place,
@@ -171,7 +171,7 @@ impl Edges {
 
     // One point more, which goes last.
     pub fn with(self, node: Node) -> Result<Edges, NoMemory>
-        requires new { place_of (names self) node.name ≡ None }
+        requires new { place_of (node_names self) node.name ≡ None }
         requires few { length self < 65535 }
         ensures { IfOk result (λ edges. edges ≡ self ++ node ∷ []) }
     {

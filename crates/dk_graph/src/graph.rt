@@ -1,7 +1,7 @@
 // Points with their edges and depths, without cycles.
 ghost use Rattle.std.specs.Prelude.{◌≡◌, ◌∷◌, ◌++◌, [], ◌<◌, ◌≤◌, length, None, Some, IfOk, IfSome, slice_get, option_map, false, bytes_eq};
 ghost use Rattle.dk_graph.specs.Names.{place_of};
-ghost use Rattle.dk_graph.specs.Graphs.{names, edges_from, edges_into, depth_of, has_cycle, place_in, Grows, ParentsAreDeeper};
+ghost use Rattle.dk_graph.specs.Graphs.{node_names, edges_from, edges_into, depth_of, has_cycle, place_in, GraphGrows, ParentsAreDeeper};
 
 use crate::edges::Edges;
 use crate::growing::Growing;
@@ -51,7 +51,7 @@ impl Graph {
 
     /// The point of a name. It takes no memory.
     pub fn find(&self, name: &[u8]) -> Option<PointId>
-        ensures place { option_map place_in result ≡ place_of (names self.now) name.now }
+        ensures place { option_map place_in result ≡ place_of (node_names self.now) name.now }
         ensures within { IfSome result (λ p. p.0 < length self.now) }
     {
         self.edges.find(name)
@@ -60,7 +60,7 @@ impl Graph {
     /// The name of a point.
     pub fn name(&self, p: PointId) -> &[u8]
         requires { p.0 < length self.now }
-        ensures { slice_get (names self.now) p.0 ≡ Some result.now }
+        ensures { slice_get (node_names self.now) p.0 ≡ Some result.now }
     {
         self.edges.name(p)
     }
@@ -92,20 +92,20 @@ impl Graph {
 
     /// One point more, which goes last. None where the edges would have a cycle, also one of the point to itself.
     pub fn with_one(self, node: Node) -> Result<Option<Graph>, NoMemory>
-        requires new { place_of (names self) node.name ≡ None }
+        requires new { place_of (node_names self) node.name ≡ None }
         requires few { length self < 65535 }
-        ensures { IfOk result (λ g. Grows g (self ++ node ∷ [])) }
+        ensures { IfOk result (λ g. GraphGrows g (self ++ node ∷ [])) }
     {
         Growing::new(self).with(node)?.judged()
     }
 
     /// Two points more, which go last together. None where the edges would have a cycle.
     pub fn with_two(self, first: Node, second: Node) -> Result<Option<Graph>, NoMemory>
-        requires first_new { place_of (names self) first.name ≡ None }
-        requires second_new { place_of (names self) second.name ≡ None }
+        requires first_new { place_of (node_names self) first.name ≡ None }
+        requires second_new { place_of (node_names self) second.name ≡ None }
         requires differ { bytes_eq first.name second.name ≡ false }
         requires few { length self < 65534 }
-        ensures { IfOk result (λ g. Grows g (self ++ first ∷ second ∷ [])) }
+        ensures { IfOk result (λ g. GraphGrows g (self ++ first ∷ second ∷ [])) }
     {
         Growing::new(self).with(first)?.with(second)?.judged()
     }

@@ -1,7 +1,7 @@
 // A graph to which points are added.
 ghost use Rattle.std.specs.Prelude.{◌≡◌, ◌∷◌, ◌++◌, [], ◌<◌, length, None, IfOk};
 ghost use Rattle.dk_graph.specs.Names.{place_of};
-ghost use Rattle.dk_graph.specs.Graphs.{names, Grows};
+ghost use Rattle.dk_graph.specs.Graphs.{node_names, GraphGrows};
 
 use crate::edges::Edges;
 use crate::graph::Graph;
@@ -47,7 +47,7 @@ impl Growing {
 
     // One point more, which goes last. Its own depth is known; its parents are still to be raised.
     pub fn with(self, node: Node) -> Result<Growing, NoMemory>
-        requires new { place_of (names self) node.name ≡ None }
+        requires new { place_of (node_names self) node.name ≡ None }
         requires few { length self < 65535 }
         ensures { IfOk result (λ g. g ≡ self ++ node ∷ []) }
     {
@@ -70,7 +70,7 @@ impl Growing {
 
     // The graph of these points, once all parents have been raised. None where there is a cycle.
     pub fn judged(self) -> Result<Option<Graph>, NoMemory>
-        ensures { IfOk result (λ g. Grows g self) }
+        ensures { IfOk result (λ g. GraphGrows g self) }
     {
         let Growing {
             edges,

@@ -12,11 +12,11 @@ use std::marker::Model;
 
 // Edges in a row, which contracts see as a list. One or two lie inline.
 #[derive(Drop)]
-pub struct Row {
+pub struct EdgeRow {
     kept: SmallVec<Edge, 2>,
 }
 
-impl Model for Row {
+impl Model for EdgeRow {
     ghost use Rattle.std.specs.Prelude.{List};
     ghost use Rattle.dk_graph.specs.declared.nodes.Edge.{Edge};
 
@@ -25,12 +25,12 @@ impl Model for Row {
     ghost view = { λ r. r.kept.items };
 }
 
-impl Row {
+impl EdgeRow {
     // No edges.
-    pub fn new(alloc: Global) -> Row
+    pub fn new(alloc: Global) -> EdgeRow
         ensures { result ≡ [] }
     {
-        Row {
+        EdgeRow {
             kept: SmallVec::new(alloc),
         }
     }
@@ -64,7 +64,7 @@ fn place_by_number(number: u64, row: &[Edge]) -> usize
     row.len()
 }
 
-impl Row {
+impl EdgeRow {
     // The edge goes before the first with a greater number.
     fn insert_by_number(&mut self, edge: Edge) -> Result<(), NoMemory>
         ensures { OnOk result (self.new ≡ by_number edge self.old) }
@@ -76,10 +76,14 @@ impl Row {
 }
 
 // The edges that links become once their parent has come.
-pub fn edges_of_waiting(alloc: Global, parent: PointId, links: &[Waiting]) -> Result<Row, NoMemory>
+pub fn edges_of_waiting(
+    alloc: Global,
+    parent: PointId,
+    links: &[Waiting],
+) -> Result<EdgeRow, NoMemory>
     ensures { IfOk result (λ row. row ≡ map (edge_to parent) links.now) }
 {
-    let mut row = Row::new(alloc);
+    let mut row = EdgeRow::new(alloc);
     for link in links {
         row.push(Edge {
             child: link.child,
@@ -91,7 +95,7 @@ pub fn edges_of_waiting(alloc: Global, parent: PointId, links: &[Waiting]) -> Re
 }
 
 // The edges go to the rows of their children, by number.
-pub fn insert_by_child(edges: &[Edge], from: &mut Vec<Row>) -> Result<(), NoMemory>
+pub fn insert_by_child(edges: &[Edge], from: &mut Vec<EdgeRow>) -> Result<(), NoMemory>
     requires { ChildrenBelow (length from.old.items) edges.now }
     ensures { OnOk result (from.new.items ≡ inserted from.old.items edges.now) }
 {
@@ -102,7 +106,7 @@ pub fn insert_by_child(edges: &[Edge], from: &mut Vec<Row>) -> Result<(), NoMemo
 }
 
 // The edges go to the rows of their parents, last.
-pub fn push_by_parent(edges: &[Edge], into: &mut Vec<Row>) -> Result<(), NoMemory>
+pub fn push_by_parent(edges: &[Edge], into: &mut Vec<EdgeRow>) -> Result<(), NoMemory>
     requires { ParentsBelow (length into.old.items) edges.now }
     ensures { OnOk result (into.new.items ≡ spread into.old.items edges.now) }
 {

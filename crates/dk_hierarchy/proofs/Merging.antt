@@ -13,7 +13,7 @@ use Rattle.dk_base.specs.declared.kinds.Kind.TheVariants as kind
 use Rattle.dk_base.specs.declared.kinds.VarId.{VarId}
 use Rattle.dk_base.specs.declared.values.Value.{Value}
 use Rattle.dk_base.specs.declared.values.Value.TheVariants as value
-use Rattle.dk_classes.specs.Classes.{kind_at, kinds_of}
+use Rattle.dk_classes.specs.Classes.{kind_at, var_kinds}
 use Rattle.dk_engine.proofs.Readings.{agreement_read, counts_read, read_fits, row_is}
 use Rattle.dk_engine.specs.Levels.{Whole}
 use Rattle.dk_engine.specs.Reading.{count_read, read}
@@ -145,7 +145,7 @@ module _ (joint : Joint) (are : AreWays joint) (samples : ℕ → Samples) (stan
         )
 
     -- two variables of one kind, by their partners
-    module _ (v w : VarId) (kinds : kind_at (kinds_of joint.here.infos) v.0 ≡ kind_at (kinds_of joint.here.infos) w.0) where
+    module _ (v w : VarId) (kinds : kind_at (var_kinds joint.here.infos) v.0 ≡ kind_at (var_kinds joint.here.infos) w.0) where
       abbrev AgreeBy : Option VarId → Option VarId → Type 0
       AgreeBy a b = All (λ s. of_partner s a ≡ of_partner s b) there
 
@@ -200,7 +200,7 @@ module _ (joint : Joint) (are : AreWays joint) (samples : ℕ → Samples) (stan
       ends : (a b : ℕ) → capped (a + b) ≡ capped (capped a + capped b)
       ends a b = omega arith
 
-  agree_all_brought : (v w : VarId) → kind_at (kinds_of joint.here.infos) v.0 ≡ kind_at (kinds_of joint.here.infos) w.0 → (ways : List Way) → All (IsWay joint) ways → All IsSome ways
+  agree_all_brought : (v w : VarId) → kind_at (var_kinds joint.here.infos) v.0 ≡ kind_at (var_kinds joint.here.infos) w.0 → (ways : List Way) → All (IsWay joint) ways → All IsSome ways
       → IsTrue (list_all (agree_through joint v w) ways) ↔ Agree (all_brought samples ways) v w
   agree_all_brought v w kinds [] all some = (λ h. All-nil (λ s. value_in s v ≡ value_in s w), λ h. refl)
   agree_all_brought v w kinds (way ∷ ways) all some =
@@ -232,11 +232,11 @@ module _ (joint : Joint) (are : AreWays joint) (samples : ℕ → Samples) (stan
     agree = λ v w first second. (
       λ h.
           let hs = and_parts (same_kinds joint.here.infos v w) (list_all (agree_through joint v w) joint.ways) h in
-          let kinds = kind_alike (kind_at (kinds_of joint.here.infos) v.0) (kind_at (kinds_of joint.here.infos) w.0) hs.0 in
+          let kinds = kind_alike (kind_at (var_kinds joint.here.infos) v.0) (kind_at (var_kinds joint.here.infos) w.0) hs.0 in
           (kinds, (agree_all_brought v w kinds joint.ways are some).0 hs.1),
       λ h.
           and_from (same_kinds joint.here.infos v w) (list_all (agree_through joint v w) joint.ways)
-          (kinds_tested (kind_at (kinds_of joint.here.infos) v.0) (kind_at (kinds_of joint.here.infos) w.0) h.0) ((agree_all_brought v w h.0 joint.ways are some).1 h.1),
+          (kinds_tested (kind_at (var_kinds joint.here.infos) v.0) (kind_at (var_kinds joint.here.infos) w.0) h.0) ((agree_all_brought v w h.0 joint.ways are some).1 h.1),
     );
   }
 

@@ -8,7 +8,7 @@ use Rattle.std.proofs.lemmas.Option.{slice_get_within}
 use Rattle.dk_base.specs.Shapes.{is_base_form}
 use Rattle.dk_base.specs.declared.kinds.VarId.{VarId}
 use Rattle.dk_base.specs.declared.kinds.VarInfo.{VarInfo}
-use Rattle.dk_classes.specs.Classes.{kind_at, kinds_of}
+use Rattle.dk_classes.specs.Classes.{kind_at, var_kinds}
 use Rattle.dk_derive.specs.Laws.{IsAlike}
 use Rattle.dk_graph.proofs.Places.{some-injective}
 use Rattle.dk_template.specs.Admitted.{admits, same_kind, suits}
@@ -60,12 +60,12 @@ module _ (infos there : List VarInfo) (partners : List (Option VarId)) (are : Ar
       ap length parts.4 ∙ ap suc (partners_long vars parts.1 parts.3)
 
   -- ---- kinds
-  pub partner_kind : (v w : VarId) → partner_at partners v ≡ Some w → kind_at (kinds_of infos) v.0 ≡ kind_at (kinds_of there) w.0
+  pub partner_kind : (v w : VarId) → partner_at partners v ≡ Some w → kind_at (var_kinds infos) v.0 ≡ kind_at (var_kinds there) w.0
   partner_kind v w is =
       let b = both v w is in
       kind_got infos v.0 b.0 b.2 ∙ (b.4.0 ∙ sym (kind_got there w.0 b.1 b.3))
     where
-      kind_got : (is : List VarInfo) (n : ℕ) (a : VarInfo) → slice_get is n ≡ Some a → kind_at (kinds_of is) n ≡ a.kind
+      kind_got : (is : List VarInfo) (n : ℕ) (a : VarInfo) → slice_get is n ≡ Some a → kind_at (var_kinds is) n ≡ a.kind
       kind_got [] n a at = absurd (cc)
       kind_got (i ∷ is) zero a at = ap (λ (x : VarInfo). x.kind) (some-injective at)
       kind_got (i ∷ is) (suc n) a at = kind_got is n a at

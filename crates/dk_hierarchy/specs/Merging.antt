@@ -4,7 +4,7 @@ use Rattle.std.specs.List.{list_all}
 use Rattle.std.specs.Option.{option_map_or}
 use Rattle.dk_base.specs.declared.kinds.VarId.{VarId}
 use Rattle.dk_base.specs.declared.kinds.VarInfo.{VarInfo}
-use Rattle.dk_classes.specs.Classes.{kind_at, kinds_of}
+use Rattle.dk_classes.specs.Classes.{kind_at, var_kinds}
 use Rattle.dk_engine.specs.Levels.{Whole}
 use Rattle.dk_engine.specs.Reading.{agree_read, count_read, read}
 use Rattle.dk_engine.specs.declared.kept.Kept.{Kept}
@@ -61,7 +61,7 @@ merged_count joint vars = capped (sum_by (count_through joint vars) joint.ways)
 
 -- whether two variables are of one kind, and agree through each way
 abbrev pub same_kinds : List VarInfo → VarId → VarId → Bool
-same_kinds infos v w = same_kind (kind_at (kinds_of infos) v.0) (kind_at (kinds_of infos) w.0)
+same_kinds infos v w = same_kind (kind_at (var_kinds infos) v.0) (kind_at (var_kinds infos) w.0)
 
 unfoldable pub merged_agree : Joint → VarId → VarId → Bool
 merged_agree joint v w = same_kinds joint.here.infos v w && list_all (agree_through joint v w) joint.ways

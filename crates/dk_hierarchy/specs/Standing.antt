@@ -2,7 +2,7 @@
 use Rattle.std.specs.Prelude.{◌≡◌, ◌↔◌, ◌<◌, ℕ, All, IsTrue, List, [], length, slice_get, Some}
 use Rattle.dk_base.specs.declared.kinds.VarId.{VarId}
 use Rattle.dk_base.specs.declared.values.Value.{Value}
-use Rattle.dk_classes.specs.Classes.{kind_at, kinds_of}
+use Rattle.dk_classes.specs.Classes.{kind_at, var_kinds}
 use Rattle.dk_engine.specs.Exact.{AreOfPoint, AreSamples, IsKeptOf}
 use Rattle.dk_engine.specs.Levels.{Whole}
 use Rattle.dk_fits.specs.Fits.{fit}
@@ -35,7 +35,7 @@ pub record JointStandsFor (joint : Joint) (samples : List (List Value)) : Type 0
   pub state : (row : RowId) → IsRowOf joint.here.grammar row → (vars : List VarId) → IsTrue (admits row joint.here.infos vars) → merged_state joint row vars ≡ fit row vars samples
   pub count : (vars : List VarId) → AreThere joint.here.infos vars → merged_count joint vars ≡ count_of vars samples
   pub agree : (v w : VarId) → v.0 < length joint.here.infos → w.0 < length joint.here.infos
-      → IsTrue (merged_agree joint v w) ↔ ((kind_at (kinds_of joint.here.infos) v.0 ≡ kind_at (kinds_of joint.here.infos) w.0) × Agree samples v w)
+      → IsTrue (merged_agree joint v w) ↔ ((kind_at (var_kinds joint.here.infos) v.0 ≡ kind_at (var_kinds joint.here.infos) w.0) × Agree samples v w)
 
 -- So do engines that stand for their points' samples, through ways with at least one path each, for what these ways bring.
 abbrev pub MergedStandForWhatIsBrought : Type 0

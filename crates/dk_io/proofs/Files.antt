@@ -3,7 +3,7 @@ use Rattle.std.proofs.Common.{◌≡◌, ◌≤◌, ◌<◌, ◌+◌, ◌-◌, �
 use Rattle.std.proofs.lemmas.List.{take_at, take_all, drop-drop, take-append-drop}
 use Rattle.std.specs.Str.{bytes_eq}
 use Rattle.dk_io.specs.Outside.{Holds}
-use Rattle.dk_io.specs.NamedFiles.{held_in, bytes_at}
+use Rattle.dk_io.specs.NamedFiles.{named_file, bytes_at}
 
 pub bytes_at_get : (files : List (List ℕ × List ℕ)) (place : ℕ) (file : List ℕ × List ℕ) → place < length files → file ≡ get_or files place file → bytes_at files place ≡ file.1
 bytes_at_get [] place file h e = absurd (omega arith)
@@ -22,11 +22,11 @@ behind files = take (length files - 1) (drop 1 files)
 behind_cons : (f : List ℕ × List ℕ) (fs : List (List ℕ × List ℕ)) → behind (f ∷ fs) ≡ fs
 behind_cons f fs = take_all (length (f ∷ fs) - 1) fs (omega arith)
 
-pub held_step : (rest : List (List ℕ × List ℕ)) (file : List ℕ × List ℕ) (name : List ℕ) → 1 ≤ length rest → file ≡ get_or rest 0 file → held_in rest name ≡ cond (bytes_eq file.0 name) (Holds file.1) (held_in (behind rest) name)
+pub held_step : (rest : List (List ℕ × List ℕ)) (file : List ℕ × List ℕ) (name : List ℕ) → 1 ≤ length rest → file ≡ get_or rest 0 file → named_file rest name ≡ cond (bytes_eq file.0 name) (Holds file.1) (named_file (behind rest) name)
 held_step [] file name h e = absurd (omega arith)
 held_step (f ∷ fs) file name h e =
-    ap (λ (g : List ℕ × List ℕ). cond (bytes_eq g.0 name) (Holds g.1) (held_in fs name)) (sym e)
-    ∙ ap (λ (l : List (List ℕ × List ℕ)). cond (bytes_eq file.0 name) (Holds file.1) (held_in l name)) (sym (behind_cons f fs))
+    ap (λ (g : List ℕ × List ℕ). cond (bytes_eq g.0 name) (Holds g.1) (named_file fs name)) (sym e)
+    ∙ ap (λ (l : List (List ℕ × List ℕ)). cond (bytes_eq file.0 name) (Holds file.1) (named_file l name)) (sym (behind_cons f fs))
 
 pub bytes_step : (rest : List (List ℕ × List ℕ)) (k : ℕ) → 1 ≤ length rest → bytes_at rest (suc k) ≡ bytes_at (behind rest) k
 bytes_step [] k h = absurd (omega arith)

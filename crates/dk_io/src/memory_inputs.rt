@@ -2,7 +2,7 @@
 ghost use Rattle.std.specs.Prelude.{◌≡◌, ◌≤◌, ◌<◌, ◌⊎◌, ◌↔◌, [], length, take, min, Some, IsTrue, IfOk, OnOk, OnErr, IsErr};
 ghost use Rattle.std.specs.Io.KnownBytes.{prepend_known, IsAtEnd};
 ghost use Rattle.dk_io.specs.Outside.{Absent, Rose, HasCause, Starts};
-ghost use Rattle.dk_io.specs.NamedFiles.{held_in};
+ghost use Rattle.dk_io.specs.NamedFiles.{named_file};
 ghost use Rattle.dk_io.specs.Calls.{uncalled, next_fails, counted};
 
 use crate::listed_calls::ListedCalls;
@@ -54,22 +54,22 @@ impl MemoryInputs {
 }
 
 impl Inputs for MemoryInputs {
-    ghost file = { λ m. held_in m.files.named };
+    ghost file = { λ m. named_file m.files.named };
 
     ghost rest = { λ m. Some m.files.rest };
 
     ghost faults = { λ m. m.calls.faults };
 
     fn start(&mut self, name: &str) -> Result<(), Failed>
-        ensures files { held_in self.new.files.named ≡ held_in self.old.files.named }
-        ensures rest { OnOk result (Starts (held_in self.old.files.named name.now) (Some self.new.files.rest)) }
+        ensures files { named_file self.new.files.named ≡ named_file self.old.files.named }
+        ensures rest { OnOk result (Starts (named_file self.old.files.named name.now) (Some self.new.files.rest)) }
         ensures err { OnErr result (Some self.new.files.rest ≡ Some self.old.files.rest) }
         ensures later { self.old.calls.faults ≤ self.new.calls.faults }
-        ensures cause { OnErr result ((held_in self.old.files.named name.now ≡ Absent) ⊎ Rose self.old.calls.faults self.new.calls.faults) }
+        ensures cause { OnErr result ((named_file self.old.files.named name.now ≡ Absent) ⊎ Rose self.old.calls.faults self.new.calls.faults) }
 
         // The call is refused exactly where it is listed or the name is absent. The count of faults rises exactly where it is listed.
         ensures listed { IsTrue (next_fails self.old.calls) → IsErr result }
-        ensures fails { IsErr result → IsTrue (next_fails self.old.calls) ⊎ (held_in self.old.files.named name.now ≡ Absent) }
+        ensures fails { IsErr result → IsTrue (next_fails self.old.calls) ⊎ (named_file self.old.files.named name.now ≡ Absent) }
         ensures counted { self.new.calls ≡ counted (next_fails self.old.calls) self.old.calls }
         ensures stays { self.new.files ≡ record self.old.files { rest = self.new.files.rest } }
     {
@@ -85,7 +85,7 @@ impl Inputs for MemoryInputs {
 
     fn read(&mut self, buf: &mut [u8]) -> Result<usize, Failed>
         requires { 0 < length buf.old }
-        ensures files { held_in self.new.files.named ≡ held_in self.old.files.named }
+        ensures files { named_file self.new.files.named ≡ named_file self.old.files.named }
         ensures bound { IfOk result (λ n. n ≤ length buf.new) }
         ensures bytes { IfOk result (λ n. Some self.old.files.rest ≡ prepend_known (take n buf.new) (Some self.new.files.rest)) }
         ensures end { IfOk result (λ n. n ≡ 0 → IsAtEnd (Some self.new.files.rest)) }

@@ -1,7 +1,7 @@
 // Sinks in memory, some of whose calls fail, and whose room is limited.
 ghost use Rattle.std.specs.Prelude.{◌≡◌, ◌≤◌, ◌<◌, ◌-◌, ◌↔◌, ◌++◌, [], false, length, take, min, IsTrue, IfOk, OnOk, OnErr, IsErr, vec_capacity};
 ghost use Rattle.dk_io.specs.Outside.{Rose, HasCause};
-ghost use Rattle.dk_io.specs.Streams.{added};
+ghost use Rattle.dk_io.specs.Streams.{with_bytes};
 ghost use Rattle.dk_io.specs.Calls.{uncalled, counted};
 ghost use Rattle.dk_io.specs.InMemory.{kept_of, longer, texts_of, write_fails};
 
@@ -108,7 +108,7 @@ impl Sinks for MemorySinks {
         requires { 0 < length bytes.now }
         ensures some { IfOk result (λ n. 0 < n) }
         ensures bound { IfOk result (λ n. n ≤ length bytes.now) }
-        ensures bytes { IfOk result (λ n. texts_of self.new ≡ added (texts_of self.old) stream (take n bytes.now)) }
+        ensures bytes { IfOk result (λ n. texts_of self.new ≡ with_bytes (texts_of self.old) stream (take n bytes.now)) }
         ensures err { OnErr result (texts_of self.new ≡ texts_of self.old) }
         ensures calm { OnOk result (self.new.calls.faults ≡ self.old.calls.faults) }
         ensures cause { HasCause self.old.calls.faults self.new.calls.faults result }

@@ -2,7 +2,7 @@
 ghost use Rattle.std.specs.Prelude.{◌≡◌, ◌≤◌, ◌<◌, ◌++◌, [], length, take, min, MatchOption};
 ghost use Rattle.std.specs.Bool.{OnTrue, OnFalse};
 ghost use Rattle.dk_io.specs.Outside.{Absent, Holds};
-ghost use Rattle.dk_io.specs.NamedFiles.{Files, held_in, bytes_at};
+ghost use Rattle.dk_io.specs.NamedFiles.{Files, named_file, bytes_at};
 
 use dk_base::{List, Text};
 use std::marker::Model;
@@ -29,7 +29,7 @@ impl Model for NamedFiles {
 
 // The place of the first file of a name.
 fn place_of(files: &[(Text, Text)], name: &[u8]) -> Option<usize>
-    ensures { MatchOption result (held_in files.now name.now ≡ Absent) (λ place. held_in files.now name.now ≡ Holds (bytes_at files.now place)) }
+    ensures { MatchOption result (named_file files.now name.now ≡ Absent) (λ place. named_file files.now name.now ≡ Holds (bytes_at files.now place)) }
 {
     let mut rest = files;
     let mut place = 0usize;
@@ -71,8 +71,8 @@ impl NamedFiles {
 
     /// Goes to the front of the first file of the name. False where there is none, and then nothing changes.
     pub(crate) fn start(&mut self, name: &[u8]) -> bool
-        ensures found { OnTrue result (held_in self.old.named name.now ≡ Holds self.new.rest) }
-        ensures absent { OnFalse result (held_in self.old.named name.now ≡ Absent) }
+        ensures found { OnTrue result (named_file self.old.named name.now ≡ Holds self.new.rest) }
+        ensures absent { OnFalse result (named_file self.old.named name.now ≡ Absent) }
         ensures same { OnFalse result (self.new ≡ self.old) }
         ensures stays { self.new ≡ record self.old { rest = self.new.rest } }
     {

@@ -2,7 +2,7 @@
 ghost use Rattle.std.specs.Prelude.{◌≡◌, ◌≤◌, ◌<◌, length, IfOk, OnOk, OnErr, IsErrOf, IfSome};
 ghost use Rattle.std.specs.Io.KnownBytes.{IsAtEnd, prepend_known};
 ghost use Rattle.dk_io.specs.Outside.{Rose, HasCause, DeliversUpTo};
-ghost use Rattle.dk_io.specs.Streams.{added, AddsFront};
+ghost use Rattle.dk_io.specs.Streams.{with_bytes, AddsFront};
 ghost use Rattle.dk_io.specs.declared.whole.AllFault.TheVariants.{NoMemory as OutOfMemory, Read as Unread};
 
 use crate::{Failed, Inputs, Sinks, Stream};
@@ -15,7 +15,7 @@ const PIECE: usize = 65_536;
 
 /// Adds all the bytes to the stream. A failed call has added a front of them.
 pub fn write_all<S: Sinks>(sinks: &mut S, stream: Stream, bytes: &[u8]) -> Result<(), Failed>
-    ensures ok { OnOk result (S.written sinks.new ≡ added (S.written sinks.old) stream bytes.now) }
+    ensures ok { OnOk result (S.written sinks.new ≡ with_bytes (S.written sinks.old) stream bytes.now) }
     ensures err { OnErr result (AddsFront (S.written sinks.old) (S.written sinks.new) stream bytes.now) }
     ensures calm { OnOk result (S.faults sinks.new ≡ S.faults sinks.old) }
     ensures cause { HasCause (S.faults sinks.old) (S.faults sinks.new) result }

@@ -5,7 +5,7 @@ ghost use Rattle.dk_lanes.specs.Bounds.{bounds_of};
 
 // The least and the greatest of the first number and of the rest.
 #[inline(always)]
-fn widened(first: i64, rest: &[i64]) -> (i64, i64)
+fn least_and_greatest(first: i64, rest: &[i64]) -> (i64, i64)
     ensures least { result.0 ≡ fold int_min first rest.now }
     ensures greatest { result.1 ≡ fold int_max first rest.now }
 {
@@ -24,7 +24,7 @@ fn bounds_found(s: &[i64]) -> Option<(i64, i64)>
 {
     match s {
         [] => None,
-        [first, ..] => Some(widened(*first, s)),
+        [first, ..] => Some(least_and_greatest(*first, s)),
     }
 }
 

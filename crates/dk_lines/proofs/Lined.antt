@@ -10,7 +10,7 @@ use Rattle.dk_lines.specs.Cutting.{line_len, line_bytes, line_used, behind_line,
 use Rattle.dk_lines.proofs.Cut.{len_lf, len_other, len_le, len_open, len_found}
 use Rattle.dk_lines.specs.Left.{Left, Over, Broken, LongLine, TooLong, Ends, Next, Piece, onto_first, pieces, size_of, lined_by, lined, lines_left, without_cr, OneLine}
 use Rattle.dk_lines.specs.Reading.{Reading, room_of}
-use Rattle.dk_lines.specs.Answers.{Counts, Gives, IsNext}
+use Rattle.dk_lines.specs.Answers.{IsNextLine, NextCounts, NextGives}
 use Rattle.dk_lines.specs.Gathering.{GivesFirst}
 use Rattle.dk_lines.specs.declared.lines.Limits.{Limits}
 use Rattle.dk_lines.specs.declared.lines.LineFault.{LineFault}
@@ -232,7 +232,7 @@ one_from r new xs line p limits number total here =
       ];
     }
 
-one_line : (r new : Reading) (xs : List ℕ) (line : Line) (left : Option (List ℕ)) → new.limits ≡ r.limits → Counts r (Ok (Some line)) new → GivesFirst r xs (Ok (Some line)) new left → Gives r xs (Ok (Some line)) new left
+one_line : (r new : Reading) (xs : List ℕ) (line : Line) (left : Option (List ℕ)) → new.limits ≡ r.limits → NextCounts r (Ok (Some line)) new → GivesFirst r xs (Ok (Some line)) new left → NextGives r xs (Ok (Some line)) new left
 one_line r new xs line left limits counts first =
     let some = has_bytes r.limits.line (room_of r) (line_used xs) xs first.0 in
     let p = plain r.limits.line (room_of r) r.number xs (line_used xs) some (judged_of r.limits.line (room_of r) xs (Whole (line_used xs)) some first.0) in
@@ -284,7 +284,7 @@ open_breaks r (b ∷ bs) h =
       fits limit room k used a c = grind (arith, nat_tests)
 
 -- what an answer by the first line says of all lines that are left
-told : (r new : Reading) (xs : List ℕ) (answer : Result (Option Line) LineFault) (left : Option (List ℕ)) → new.limits ≡ r.limits → Counts r answer new → GivesFirst r xs answer new left → Gives r xs answer new left
+told : (r new : Reading) (xs : List ℕ) (answer : Result (Option Line) LineFault) (left : Option (List ℕ)) → new.limits ≡ r.limits → NextCounts r answer new → GivesFirst r xs answer new left → NextGives r xs answer new left
 told r new xs (Ok (Some line)) left limits counts answers = one_line r new xs line left limits counts answers
 told r new xs (Ok None) left limits counts answers = answers
 told r new xs (Err fault.Read) left limits counts answers = (answers.0, (answers.1, answers.3, answers.2, open_breaks r answers.0 answers.4, answers.5))
@@ -292,8 +292,8 @@ told r new xs (Err (fault.LongLine n)) left limits counts answers = λ e. at_lon
 told r new xs (Err (fault.TooLong n)) left limits counts answers = λ e. at_many r e xs answers ∙ ap (λ (k : ℕ). Ends (TooLong k)) (sym counts.0)
 told r new xs (Err fault.NoMemory) left limits counts answers = tt
 
-pub is_next : {r new : Reading} {before after : Option (List ℕ)} {answer : Result (Option Line) LineFault} → new.limits ≡ r.limits → Counts r answer new → IfSome before (λ xs. GivesFirst r xs answer new after) → IsNext r before answer new after
+pub is_next : {r new : Reading} {before after : Option (List ℕ)} {answer : Result (Option Line) LineFault} → new.limits ≡ r.limits → NextCounts r answer new → IfSome before (λ xs. GivesFirst r xs answer new after) → IsNextLine r before answer new after
 is_next {r} {new} {before} {after} {answer} limits counts answers = record { limits_stay = limits; counts = counts; gives = go before answers } where
-  go : (o : Option (List ℕ)) → IfSome o (λ xs. GivesFirst r xs answer new after) → IfSome o (λ xs. Gives r xs answer new after)
+  go : (o : Option (List ℕ)) → IfSome o (λ xs. GivesFirst r xs answer new after) → IfSome o (λ xs. NextGives r xs answer new after)
   go None none = tt
   go (Some xs) some = told r new xs answer after limits counts some

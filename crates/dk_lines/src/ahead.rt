@@ -2,7 +2,7 @@
 ghost use Rattle.std.specs.Prelude.{◌≡◌, ◌≤◌, ◌<◌, ◌+◌, [], length, take, drop, IfOk, OnOk, OnErr, IsTrue, Ok, false};
 ghost use Rattle.std.specs.Io.KnownBytes.{prepend_known, IsAtEnd};
 ghost use Rattle.dk_io.specs.Outside.{HasCause};
-ghost use Rattle.dk_lines.specs.Gathering.{Cut};
+ghost use Rattle.dk_lines.specs.Gathering.{CutLine};
 
 use dk_base::NoMemory;
 use dk_io::{Failed, Inputs};
@@ -21,9 +21,9 @@ pub(crate) struct Ahead {
 
 impl Model for Ahead {
     ghost use Rattle.std.specs.Prelude.{◌≤◌, ◌<◌, ◌-◌, length, take, drop};
-    ghost use Rattle.dk_lines.specs.Gathering.{Cut};
+    ghost use Rattle.dk_lines.specs.Gathering.{CutLine};
 
-    ghost Value = { Cut };
+    ghost Value = { CutLine };
 
     ghost view = { λ a. record { bytes = take (a.to - a.from) (drop a.from a.piece.items); line = take (a.line_to - a.line_from) (drop a.line_from a.piece.items) } };
 

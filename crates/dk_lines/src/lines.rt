@@ -68,11 +68,11 @@ pub struct Lines {
 impl Model for Lines {
     ghost use Rattle.std.specs.Prelude.{◌≤◌, ◌<◌, ◌+◌, ◌-◌, ◌^◌};
     ghost use Rattle.dk_lines.specs.Reading.{Reading};
-    ghost use Rattle.dk_lines.specs.Gathering.{last_line};
+    ghost use Rattle.dk_lines.specs.Gathering.{gathered_line};
 
     ghost Value = { Reading };
 
-    ghost view = { λ l. record { limits = l.limits; is_started = l.is_started; number = l.number; total = l.total; ahead = l.ahead.bytes; line = last_line l.line.items l.ahead.line } };
+    ghost view = { λ l. record { limits = l.limits; is_started = l.is_started; number = l.number; total = l.total; ahead = l.ahead.bytes; line = gathered_line l.line.items l.ahead.line } };
 
     ghost invariant = { λ l. (l.limits.total < 2 ^ 64 - 1) × (l.total ≤ l.limits.total + 1) × (l.number ≤ l.total) × (l.number ≤ l.limits.total) };
 }
@@ -81,8 +81,8 @@ impl Lines {
     ghost use Rattle.std.specs.Borrow.{sem};
     ghost use Rattle.std.specs.Io.BufRead.{Rests};
     ghost use Rattle.dk_lines.specs.Reading.{left_of};
-    ghost use Rattle.dk_lines.specs.Answers.{heard, IsNext};
-    ghost use Rattle.dk_lines.specs.Gathering.{answered};
+    ghost use Rattle.dk_lines.specs.Answers.{heard, IsNextLine};
+    ghost use Rattle.dk_lines.specs.Gathering.{next_answer};
     ghost use Rattle.dk_lines.specs.contracts.lines.Lines.{the_row};
 
     /// No file is started.
@@ -126,7 +126,7 @@ impl Lines {
     pub fn next<I: Inputs>(&mut self, inputs: &mut I) -> Result<Option<Line<'_>>, LineFault>
         requires { self.old.is_started ≡ true }
         ensures* next { sem 𝓛 (Rests the_row self.entry (λ new.
-            IsNext self.old (left_of self.old (I.rest inputs.old)) (heard result) new (left_of new (I.rest inputs.new)))) }
+            IsNextLine self.old (left_of self.old (I.rest inputs.old)) (heard result) new (left_of new (I.rest inputs.new)))) }
         ensures files { I.file inputs.new ≡ I.file inputs.old }
         ensures later { I.faults inputs.old ≤ I.faults inputs.new }
         ensures cause { IsErrOf result LineFault.Read → Rose (I.faults inputs.old) (I.faults inputs.new) }
@@ -170,7 +170,7 @@ impl Lines {
     // Goes to the next line, where there is one.
     fn advance<I: Inputs>(&mut self, inputs: &mut I) -> Result<bool, LineFault>
         requires { self.old.is_started ≡ true }
-        ensures next { IsNext self.old (left_of self.old (I.rest inputs.old)) (answered self.new result) self.new (left_of self.new (I.rest inputs.new)) }
+        ensures next { IsNextLine self.old (left_of self.old (I.rest inputs.old)) (next_answer self.new result) self.new (left_of self.new (I.rest inputs.new)) }
         ensures files { I.file inputs.new ≡ I.file inputs.old }
         ensures later { I.faults inputs.old ≤ I.faults inputs.new }
         ensures cause { IsErrOf result LineFault.Read → Rose (I.faults inputs.old) (I.faults inputs.new) }

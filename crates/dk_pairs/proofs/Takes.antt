@@ -12,35 +12,35 @@ use Rattle.dk_pairs.specs.declared.partners.Partners.TheVariants as partners
 use Rattle.dk_pairs.specs.declared.subsets.Subset.{Subset}
 use Rattle.dk_pairs.specs.declared.subsets.Subset.TheVariants as subset
 use Rattle.dk_template.specs.Rows.{IsTuple}
-use Rattle.dk_template.specs.Templates.{form_of, kinds_of, rows}
+use Rattle.dk_template.specs.Templates.{form_of, role_kinds, rows}
 use Rattle.dk_template.specs.declared.templates.StateForm.TheVariants as form
 
-pub member_takes : (r : Member) (t : List Value) → IsTuple (kinds_of (member_row r)) t → IsTuple (element_kind r ∷ member_kind r ∷ []) t
+pub member_takes : (r : Member) (t : List Value) → IsTuple (role_kinds (member_row r)) t → IsTuple (element_kind r ∷ member_kind r ∷ []) t
 unfolding rows
 member_takes member.Int t is = is
 member_takes member.Hash t is = is
 member_takes member.Str t is = is
 
-pub equal_takes : (r : EqualSequences) (t : List Value) → IsTuple (kinds_of (equal_row r)) t → IsTuple (equal_kind r ∷ equal_kind r ∷ []) t
+pub equal_takes : (r : EqualSequences) (t : List Value) → IsTuple (role_kinds (equal_row r)) t → IsTuple (equal_kind r ∷ equal_kind r ∷ []) t
 unfolding rows
 equal_takes equal.Int t is = is
 equal_takes equal.Bool t is = is
 equal_takes equal.Hash t is = is
 equal_takes equal.Str t is = is
 
-pub partners_takes : (r : Partners) (t : List Value) → IsTuple (kinds_of (partners_row r)) t → IsTuple (kind.IntSeq ∷ kind.IntSeq ∷ []) t
+pub partners_takes : (r : Partners) (t : List Value) → IsTuple (role_kinds (partners_row r)) t → IsTuple (kind.IntSeq ∷ kind.IntSeq ∷ []) t
 unfolding rows
 partners_takes partners.Less t is = is
 partners_takes partners.AtMost t is = is
 partners_takes partners.Reversed t is = is
 
-pub subset_takes : (r : Subset) (t : List Value) → IsTuple (kinds_of (subset_row r)) t → IsTuple (subset_kind r ∷ subset_kind r ∷ []) t
+pub subset_takes : (r : Subset) (t : List Value) → IsTuple (role_kinds (subset_row r)) t → IsTuple (subset_kind r ∷ subset_kind r ∷ []) t
 unfolding rows
 subset_takes subset.Int t is = is
 subset_takes subset.Hash t is = is
 subset_takes subset.Str t is = is
 
-pub offset_takes : (t : List Value) → IsTuple (kinds_of offset_row) t → IsTuple (kind.IntSeq ∷ kind.IntSeq ∷ []) t
+pub offset_takes : (t : List Value) → IsTuple (role_kinds offset_row) t → IsTuple (kind.IntSeq ∷ kind.IntSeq ∷ []) t
 unfolding rows
 offset_takes t is = is
 

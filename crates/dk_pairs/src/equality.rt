@@ -67,9 +67,9 @@ impl Row for EqualSequences {
     ghost use Rattle.dk_pairs.specs.Rows.{equal_is_row, equal_row};
     ghost use Rattle.dk_rows.proofs.RowLaws.{laws_by};
     ghost use Rattle.dk_rows.specs.Meanings.{state_of};
-    ghost use Rattle.dk_template.specs.Templates.{form_of, kinds_of};
+    ghost use Rattle.dk_template.specs.Templates.{form_of, role_kinds};
 
-    ghost kinds = { λ row. kinds_of (equal_row row) };
+    ghost kinds = { λ row. role_kinds (equal_row row) };
 
     ghost form = { λ row. form_of (equal_row row) };
 

@@ -63,9 +63,9 @@ impl Row for Member {
     ghost use Rattle.dk_pairs.specs.Rows.{member_is_row, member_row};
     ghost use Rattle.dk_rows.proofs.RowLaws.{laws_by};
     ghost use Rattle.dk_rows.specs.Meanings.{state_of};
-    ghost use Rattle.dk_template.specs.Templates.{form_of, kinds_of};
+    ghost use Rattle.dk_template.specs.Templates.{form_of, role_kinds};
 
-    ghost kinds = { λ row. kinds_of (member_row row) };
+    ghost kinds = { λ row. role_kinds (member_row row) };
 
     ghost form = { λ row. form_of (member_row row) };
 

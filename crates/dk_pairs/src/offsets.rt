@@ -61,9 +61,9 @@ impl Row for PairOffset {
     ghost use Rattle.dk_pairs.specs.Rows.{offset_is_row, offset_row};
     ghost use Rattle.dk_rows.proofs.RowLaws.{laws_by};
     ghost use Rattle.dk_rows.specs.Meanings.{state_of};
-    ghost use Rattle.dk_template.specs.Templates.{form_of, kinds_of};
+    ghost use Rattle.dk_template.specs.Templates.{form_of, role_kinds};
 
-    ghost kinds = { λ row. kinds_of offset_row };
+    ghost kinds = { λ row. role_kinds offset_row };
 
     ghost form = { λ row. form_of offset_row };
 

@@ -69,9 +69,9 @@ impl Row for Partners {
     ghost use Rattle.dk_pairs.specs.Rows.{partners_is_row, partners_row};
     ghost use Rattle.dk_rows.proofs.RowLaws.{laws_by};
     ghost use Rattle.dk_rows.specs.Meanings.{state_of};
-    ghost use Rattle.dk_template.specs.Templates.{form_of, kinds_of};
+    ghost use Rattle.dk_template.specs.Templates.{form_of, role_kinds};
 
-    ghost kinds = { λ row. kinds_of (partners_row row) };
+    ghost kinds = { λ row. role_kinds (partners_row row) };
 
     ghost form = { λ row. form_of (partners_row row) };
 

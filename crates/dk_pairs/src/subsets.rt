@@ -74,9 +74,9 @@ impl Row for Subset {
     ghost use Rattle.dk_pairs.specs.Rows.{subset_is_row, subset_row};
     ghost use Rattle.dk_rows.proofs.RowLaws.{laws_by};
     ghost use Rattle.dk_rows.specs.Meanings.{state_of};
-    ghost use Rattle.dk_template.specs.Templates.{form_of, kinds_of};
+    ghost use Rattle.dk_template.specs.Templates.{form_of, role_kinds};
 
-    ghost kinds = { λ row. kinds_of (subset_row row) };
+    ghost kinds = { λ row. role_kinds (subset_row row) };
 
     ghost form = { λ row. form_of (subset_row row) };
 

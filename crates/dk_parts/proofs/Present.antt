@@ -4,18 +4,18 @@ use Rattle.std.proofs.Common.{◌∙◌, ap, arith, eqb, get_or, inl, inr, sym}
 use Rattle.std.proofs.lemmas.Bool.{cases_Bool, eqb-true, ltb-false, ltb-true}
 use Rattle.dk_base.specs.declared.kinds.VarId.{VarId}
 use Rattle.dk_presence.specs.Patterns.{has}
-use Rattle.dk_samples.specs.Leaders.{Ascend}
+use Rattle.dk_samples.specs.Leaders.{VarsAscend}
 use Rattle.dk_parts.specs.Patterns.{from_var, is_first}
 
 apart : (m n : ℕ) → m < n → eqb m n ≡ false
 apart m n l = elim (cases_Bool (eqb m n)) [ inl e ↦ let same = eqb-true m n e in absurd (omega (arith, same)) | inr e ↦ e ]
 
-rest : (w : VarId) (vars : List VarId) → Ascend (w ∷ vars) → Ascend vars
+rest : (w : VarId) (vars : List VarId) → VarsAscend (w ∷ vars) → VarsAscend vars
 rest w vars up i j d l m = up (suc i) (suc j) d (omega (arith, l)) (omega (arith, m))
 
-pub from_ascends : (v : VarId) (vars : List VarId) → Ascend vars → Ascend (from_var v vars)
+pub from_ascends : (v : VarId) (vars : List VarId) → VarsAscend vars → VarsAscend (from_var v vars)
 from_ascends v [] up = up
-from_ascends v (w ∷ vars) up = elim (nat_lt w.0 v.0) as (λ b. Ascend (if b then from_var v vars else w ∷ vars)) [
+from_ascends v (w ∷ vars) up = elim (nat_lt w.0 v.0) as (λ b. VarsAscend (if b then from_var v vars else w ∷ vars)) [
   | true ↦ from_ascends v vars (rest w vars up)
   | false ↦ up
 ]
@@ -37,7 +37,7 @@ none_before v (w ∷ vars) before =
     let at : eqb w.0 v.0 ≡ false = elim (cases_Bool (eqb w.0 v.0)) [ inl e ↦ let same = eqb-true w.0 v.0 e in absurd (omega (arith, same, before 0 w (omega arith))) | inr e ↦ e ] in
     ap (λ b. b || has vars v) at ∙ none_before v vars (λ k d l. before (suc k) d (omega (arith, l)))
 
-pub first_if_there : (v : VarId) (vars : List VarId) → Ascend vars → is_first v (from_var v vars) ≡ has vars v
+pub first_if_there : (v : VarId) (vars : List VarId) → VarsAscend vars → is_first v (from_var v vars) ≡ has vars v
 first_if_there v [] up = refl
 first_if_there v (w ∷ vars) up = elim (cases_Bool (nat_lt w.0 v.0)) [
   | inl before ↦
@@ -51,7 +51,7 @@ first_if_there v (w ∷ vars) up = elim (cases_Bool (nat_lt w.0 v.0)) [
 ]
 
 -- what is present stays told of the leaders that are left
-pub step : (leaders left present : List VarId) (i : ℕ) (d : VarId) → Ascend leaders → i < length leaders
+pub step : (leaders left present : List VarId) (i : ℕ) (d : VarId) → VarsAscend leaders → i < length leaders
     → ((j : ℕ) → i ≤ j → j < length leaders → has left (get_or leaders j d) ≡ has present (get_or leaders j d))
     → (j : ℕ) → i + 1 ≤ j → j < length leaders → has (from_var (get_or leaders i d) left) (get_or leaders j d) ≡ has present (get_or leaders j d)
 step leaders left present i d up l same j m n =

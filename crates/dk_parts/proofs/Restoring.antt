@@ -16,13 +16,13 @@ use Rattle.std.proofs.lemmas.Map.Made.{AllPairs-from_IsDistinct, IsDistinct-from
 use Rattle.std.proofs.lemmas.Option.{none-some, same_Some}
 use Rattle.std.proofs.lemmas.Map.Keys.{IsDistinct-IsPermutation}
 use Rattle.dk_base.specs.declared.kinds.VarId.{VarId}
-use Rattle.dk_constants.specs.Known.{Ascend as KnownAscend, Entries}
+use Rattle.dk_constants.specs.Known.{Entries, EntriesAscend as KnownAscend}
 use Rattle.dk_presence.proofs.Refining.{any_at, contains-has, has-contains}
 use Rattle.dk_presence.proofs.Sameness.{ascend_rest, same_ascending, same_vars-refl, same_vars-sym, same_vars-true}
 use Rattle.dk_presence.proofs.Sums.{has-filter}
 use Rattle.dk_presence.specs.Patterns.{AreHeld, has, held_patterns, same_vars}
 use Rattle.dk_presence.specs.declared.held.Held.{Held}
-use Rattle.dk_samples.specs.Leaders.{Ascend}
+use Rattle.dk_samples.specs.Leaders.{VarsAscend}
 use Rattle.dk_parts.proofs.PatternOrder.{same_patterns}
 use Rattle.dk_parts.specs.Entries.{all_known_of}
 use Rattle.dk_parts.specs.Patterns.{pattern_cmp, pattern_of, patterns_of}
@@ -72,12 +72,12 @@ chosen_all P (v ∷ leaders) (t ∷ truths) all =
     let rest = chosen_all P leaders truths (All-tail P v leaders all) in
     elim t as (λ b. All P (if b then v ∷ chosen leaders truths else chosen leaders truths)) [ true ↦ All-cons P v (chosen leaders truths) (All-head P v leaders all) rest | false ↦ rest ]
 
-chosen_ascends : (leaders : List VarId) (truths : List Bool) → Ascend leaders → Ascend (chosen leaders truths)
+chosen_ascends : (leaders : List VarId) (truths : List Bool) → VarsAscend leaders → VarsAscend (chosen leaders truths)
 chosen_ascends [] truths up = up
 chosen_ascends (v ∷ leaders) [] up = λ i j d l m. absurd (omega (arith, m))
 chosen_ascends (v ∷ leaders) (t ∷ truths) up =
     let rest = chosen_ascends leaders truths (ascend_rest v leaders up) in
-    elim t as (λ b. Ascend (if b then v ∷ chosen leaders truths else chosen leaders truths)) [
+    elim t as (λ b. VarsAscend (if b then v ∷ chosen leaders truths else chosen leaders truths)) [
       | true ↦ AllPairs-cons (λ (a b : VarId). a.0 < b.0) v (chosen leaders truths) (chosen_all (λ w. v.0 < w.0) leaders truths (λ k d l. up 0 (suc k) d (omega arith) (omega (arith, l)))) rest
       | false ↦ rest
     ]
@@ -87,9 +87,9 @@ held_lead leaders [] = All-nil (λ h. All (Contains leaders) h.leaders)
 held_lead leaders (p ∷ patterns) =
     All-cons (λ h. All (Contains leaders) h.leaders) (held_of leaders p) (map (held_of leaders) patterns) (chosen_all (Contains leaders) leaders p.present (λ k d l. Contains-get_or leaders k d l)) (held_lead leaders patterns)
 
-pub held_ascend : (leaders : List VarId) (patterns : List Pattern) → Ascend leaders → All (λ h. Ascend h.leaders) (map (held_of leaders) patterns)
-held_ascend leaders [] up = All-nil (λ h. Ascend h.leaders)
-held_ascend leaders (p ∷ patterns) up = All-cons (λ h. Ascend h.leaders) (held_of leaders p) (map (held_of leaders) patterns) (chosen_ascends leaders p.present up) (held_ascend leaders patterns up)
+pub held_ascend : (leaders : List VarId) (patterns : List Pattern) → VarsAscend leaders → All (λ h. VarsAscend h.leaders) (map (held_of leaders) patterns)
+held_ascend leaders [] up = All-nil (λ h. VarsAscend h.leaders)
+held_ascend leaders (p ∷ patterns) up = All-cons (λ h. VarsAscend h.leaders) (held_of leaders p) (map (held_of leaders) patterns) (chosen_ascends leaders p.present up) (held_ascend leaders patterns up)
 
 chosen_filter : (p : VarId → Bool) (leaders : List VarId) → chosen leaders (map p leaders) ≡ filter p leaders
 chosen_filter p [] = refl
@@ -99,7 +99,7 @@ chosen_filter p (v ∷ leaders) = elim (p v) as (λ b. (if b then v ∷ chosen l
 ]
 
 -- a pattern of present leaders comes back
-held_back : (leaders : List VarId) → Ascend leaders → (h : Held) → Ascend h.leaders → All (Contains leaders) h.leaders → held_of leaders (pattern_of leaders h) ≡ h
+held_back : (leaders : List VarId) → VarsAscend leaders → (h : Held) → VarsAscend h.leaders → All (Contains leaders) h.leaders → held_of leaders (pattern_of leaders h) ≡ h
 held_back leaders up h own lead =
     let told : (v : VarId) → has (filter (has h.leaders) leaders) v ≡ has h.leaders v = λ v. has-filter (has h.leaders) leaders v ∙ elim (cases_Bool (has h.leaders v)) [
       | inl there ↦
@@ -111,11 +111,11 @@ held_back leaders up h own lead =
     let back : chosen leaders (map (has h.leaders) leaders) ≡ h.leaders = chosen_filter (has h.leaders) leaders ∙ same_ascending (filter (has h.leaders) leaders) h.leaders (AllPairs-filter (λ (v w : VarId). v.0 < w.0) (has h.leaders) leaders up) own told in
     λ i. record { count = h.count; leaders = back i }
 
-all_back : (leaders : List VarId) → Ascend leaders → (held : List Held) → All (λ h. Ascend h.leaders) held → All (λ h. All (Contains leaders) h.leaders) held → map (held_of leaders) (map (pattern_of leaders) held) ≡ held
+all_back : (leaders : List VarId) → VarsAscend leaders → (held : List Held) → All (λ h. VarsAscend h.leaders) held → All (λ h. All (Contains leaders) h.leaders) held → map (held_of leaders) (map (pattern_of leaders) held) ≡ held
 all_back leaders up [] own lead = refl
 all_back leaders up (h ∷ held) own lead =
-    ap (λ k. k ∷ map (held_of leaders) (map (pattern_of leaders) held)) (held_back leaders up h (All-head (λ k. Ascend k.leaders) h held own) (All-head (λ k. All (Contains leaders) k.leaders) h held lead))
-    ∙ ap (λ ks. h ∷ ks) (all_back leaders up held (All-tail (λ k. Ascend k.leaders) h held own) (All-tail (λ k. All (Contains leaders) k.leaders) h held lead))
+    ap (λ k. k ∷ map (held_of leaders) (map (pattern_of leaders) held)) (held_back leaders up h (All-head (λ k. VarsAscend k.leaders) h held own) (All-head (λ k. All (Contains leaders) k.leaders) h held lead))
+    ∙ ap (λ ks. h ∷ ks) (all_back leaders up held (All-tail (λ k. VarsAscend k.leaders) h held own) (All-tail (λ k. All (Contains leaders) k.leaders) h held lead))
 
 -- ---- order
 module _ {X : Type 0} (R : X → X → Ordering) where
@@ -132,7 +132,7 @@ module _ {X : Type 0} (R : X → X → Ordering) where
   ascending_moves (x ∷ xs) = IsPermutation-trans (x ∷ xs) (x ∷ ascending R xs) (put R x (ascending R xs)) (IsPermutation-cons x xs (ascending R xs) (ascending_moves xs)) (put_moves x (ascending R xs))
 
 -- any patterns that are saved as these are those that are read back, in some order
-pub patterns_back : (leaders : List VarId) → Ascend leaders → (patterns : List Pattern) (held : List Held) → HavePatterns leaders patterns held → IsPermutation held (map (held_of leaders) patterns)
+pub patterns_back : (leaders : List VarId) → VarsAscend leaders → (patterns : List Pattern) (held : List Held) → HavePatterns leaders patterns held → IsPermutation held (map (held_of leaders) patterns)
 patterns_back leaders up patterns held have =
     subst (λ hs. IsPermutation hs (map (held_of leaders) patterns)) (all_back leaders up held have.form.ascend have.lead)
     (subst (λ ps. IsPermutation (map (held_of leaders) (map (pattern_of leaders) held)) (map (held_of leaders) ps)) have.saved
@@ -143,7 +143,7 @@ pub held_moved : (held others : List Held) → IsPermutation held others → Are
 held_moved held others moved are = record {
   once = IsDistinct-IsPermutation same_vars same_vars-sym (held_patterns held) (held_patterns others) (IsPermutation-map (λ (h : Held). h.leaders) held others moved) are.once;
   some = All-permutation (λ h. 0 < h.count) held others moved are.some;
-  ascend = All-permutation (λ h. Ascend h.leaders) held others moved are.ascend;
+  ascend = All-permutation (λ h. VarsAscend h.leaders) held others moved are.ascend;
 }
 
 pub patterns_moved : (leaders : List VarId) (held others : List Held) → IsPermutation held others → patterns_of leaders others ≡ patterns_of leaders held
@@ -196,12 +196,12 @@ no_entries known found is not r e entries = (
 )
 
 -- ---- what is found of patterns
-module _ (leaders : List VarId) (up : Ascend leaders) (patterns : List Pattern) where
+module _ (leaders : List VarId) (up : VarsAscend leaders) (patterns : List Pattern) where
   abbrev found_held : List Held
   found_held = map (held_of leaders) patterns
 
   pub held_form : (found : List Held) → found ≡ found_held → All (λ h. 0 < h.count) found → IsDistinct same_vars (held_patterns found) → AreHeld found
-  held_form found is some once = record { once = once; some = some; ascend = subst (All (λ h. Ascend h.leaders)) (sym is) (held_ascend leaders patterns up) }
+  held_form found is some once = record { once = once; some = some; ascend = subst (All (λ h. VarsAscend h.leaders)) (sym is) (held_ascend leaders patterns up) }
 
   pub have_patterns : (found : List Held) → found ≡ found_held → AreHeld found → patterns_of leaders found ≡ patterns → HavePatterns leaders patterns found
   have_patterns found is form saved = record { form = form; lead = subst (All (λ h. All (Contains leaders) h.leaders)) (sym is) (held_lead leaders patterns); saved = saved }

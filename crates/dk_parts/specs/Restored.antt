@@ -3,7 +3,7 @@ use Rattle.std.specs.Prelude.{◌≡◌, ℕ, Bool, All, Contains, List, [], ◌
 use Rattle.dk_base.specs.declared.kinds.VarId.{VarId}
 use Rattle.dk_base.specs.declared.values.Value.{Value}
 use Rattle.dk_classes.specs.Leaders.{AreClasses}
-use Rattle.dk_constants.specs.Known.{Ascend, Entries}
+use Rattle.dk_constants.specs.Known.{Entries, EntriesAscend}
 use Rattle.dk_presence.specs.Patterns.{AreHeld}
 use Rattle.dk_presence.specs.declared.held.Held.{Held}
 use Rattle.dk_parts.specs.Classes.{classes_of}
@@ -27,7 +27,7 @@ pub record HavePatterns (leaders : List VarId) (patterns : List Pattern) (held :
 
 -- entries that ascend, and are saved as these constants
 abbrev pub HaveEntries : List Known → Entries → Type 0
-HaveEntries known entries = Ascend entries × (all_known_of entries ≡ known)
+HaveEntries known entries = EntriesAscend entries × (all_known_of entries ≡ known)
 
 -- ---- how they are read back
 -- these members get this leader

@@ -1,6 +1,6 @@
 // Constants that are read back from their list.
 ghost use Rattle.std.specs.Prelude.{◌≡◌, ◌↔◌, IfOk, IsTrue, Some, map};
-ghost use Rattle.dk_constants.specs.Known.{Ascend, Entries};
+ghost use Rattle.dk_constants.specs.Known.{Entries, EntriesAscend};
 ghost use Rattle.dk_parts.specs.Restored.{HaveEntries, entry_of};
 
 use crate::Known;
@@ -21,7 +21,7 @@ fn entries_of(alloc: Global, known: List<Known>) -> Result<List<(VarId, Value)>,
 
 // Whether the leaders ascend.
 fn ascend(entries: &[(VarId, Value)]) -> bool
-    ensures { IsTrue result ↔ Ascend entries.now }
+    ensures { IsTrue result ↔ EntriesAscend entries.now }
 {
     for i in 1..entries.len() {
         if entries[i].0.0 <= entries[i - 1].0.0 {

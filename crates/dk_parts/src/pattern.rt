@@ -1,6 +1,6 @@
 // Patterns with a truth value for each leader.
 ghost use Rattle.std.specs.Prelude.{◌≡◌, IfOk, List, map};
-ghost use Rattle.dk_samples.specs.Leaders.{Ascend};
+ghost use Rattle.dk_samples.specs.Leaders.{VarsAscend};
 ghost use Rattle.dk_presence.specs.Patterns.{AreHeld, has};
 ghost use Rattle.dk_parts.specs.Patterns.{from_var, is_first, pattern_cmp, pattern_of, patterns_of, seen};
 ghost use Rattle.dk_parts.specs.Sorting.{ascending};
@@ -42,8 +42,8 @@ fn is_first(vars: &[VarId], v: VarId) -> bool
 
 // For each leader whether it is one of the present ones.
 fn presence_of(alloc: Global, leaders: &[VarId], present: &[VarId]) -> Result<Vec<bool>, NoMemory>
-    requires leaders { Ascend leaders.now }
-    requires present { Ascend present.now }
+    requires leaders { VarsAscend leaders.now }
+    requires present { VarsAscend present.now }
     ensures { IfOk result (λ truths. truths.items ≡ map (has present.now) leaders.now) }
 {
     let mut truths = Vec::new(alloc);
@@ -61,7 +61,7 @@ fn with_truths(
     leaders: &[VarId],
     held: &[Held],
 ) -> Result<Vec<(Vec<bool>, u64)>, NoMemory>
-    requires leaders { Ascend leaders.now }
+    requires leaders { VarsAscend leaders.now }
     requires held { AreHeld held.now }
     ensures { IfOk result (λ all. map seen all.items ≡ map (pattern_of leaders.now) held.now) }
 {
@@ -102,7 +102,7 @@ pub fn patterns_in_order(
     leaders: &[VarId],
     held: &[Held],
 ) -> Result<List<Pattern>, NoMemory>
-    requires leaders { Ascend leaders.now }
+    requires leaders { VarsAscend leaders.now }
     requires held { AreHeld held.now }
     ensures { IfOk result (λ patterns. patterns ≡ patterns_of leaders.now held.now) }
 {

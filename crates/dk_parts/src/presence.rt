@@ -5,7 +5,7 @@ ghost use Rattle.std.specs.List.Sorted.{IsPermutation};
 ghost use Rattle.dk_presence.specs.Patterns.{held_patterns, same_vars};
 ghost use Rattle.dk_presence.specs.declared.held.Held.{Held};
 ghost use Rattle.dk_parts.specs.Restored.{HavePatterns, chosen, held_of};
-ghost use Rattle.dk_samples.specs.Leaders.{Ascend};
+ghost use Rattle.dk_samples.specs.Leaders.{VarsAscend};
 
 use crate::{Pattern, patterns_in_order};
 use dk_base::{List, NoMemory, VarId};
@@ -110,7 +110,7 @@ pub fn presence_from(
     leaders: &[VarId],
     patterns: &[Pattern],
 ) -> Result<Option<Presence>, NoMemory>
-    requires { Ascend leaders.now }
+    requires { VarsAscend leaders.now }
     ensures saved { IfOk result (λ found. IfSome found (HavePatterns leaders.now patterns.now)) }
     ensures any { IfOk result (λ found. (held : List Held) → HavePatterns leaders.now patterns.now held → (found ≢ None) × IfSome found (IsPermutation held)) }
 {

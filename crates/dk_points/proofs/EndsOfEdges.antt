@@ -4,7 +4,7 @@ use Rattle.std.proofs.lemmas.Bool.Decides.{Decides-eqb}
 use Rattle.std.proofs.lemmas.List.{length-map}
 use Rattle.std.proofs.lemmas.List.Elements.{All-append, All-cons, All-filter, All-head, All-map, All-nil, All-tail, filter_passes}
 use Rattle.std.specs.List.{cons_option, enumerate_from, flat_map}
-use Rattle.dk_graph.specs.Graphs.{Link, edge_of, edges, edges_from, edges_into, links, links_at, names}
+use Rattle.dk_graph.specs.Graphs.{Link, edge_of, edges, edges_from, edges_into, links, links_at, node_names}
 use Rattle.dk_graph.specs.Names.{place_of}
 use Rattle.dk_graph.specs.declared.nodes.Edge.{Edge}
 use Rattle.dk_graph.specs.declared.nodes.Node.{Node}
@@ -38,8 +38,8 @@ links-behind n (x ∷ ns) =
 abbrev IsBetween : ℕ → Edge → Type 0
 IsBetween n e = (e.child.0 < n) × (e.parent.0 < n)
 
-edge-between : (ns : List Node) (l : Link) → l.child < length ns → IfSome (edge_of (names ns) l) (IsBetween (length ns))
-edge-between ns l h = go (place_of (names ns) l.parent) (subst (λ n. IfSome (place_of (names ns) l.parent) (λ i. i < n)) (length-map ns (λ n. n.name)) (place-within (names ns) l.parent))
+edge-between : (ns : List Node) (l : Link) → l.child < length ns → IfSome (edge_of (node_names ns) l) (IsBetween (length ns))
+edge-between ns l h = go (place_of (node_names ns) l.parent) (subst (λ n. IfSome (place_of (node_names ns) l.parent) (λ i. i < n)) (length-map ns (λ n. n.name)) (place-within (node_names ns) l.parent))
   where
     go : (o : Option ℕ) → IfSome o (λ i. i < length ns) → IfSome (option_map (λ j. record { child = record { 0 = l.child }; parent = record { 0 = j }; number = l.number }) o) (IsBetween (length ns))
     go None p = tt
@@ -48,7 +48,7 @@ edge-between ns l h = go (place_of (names ns) l.parent) (subst (λ n. IfSome (pl
 edges-between : (ns : List Node) → All (IsBetween (length ns)) (edges ns)
 unfolding edges links
 edges-between ns =
-    all-filter_map (edge_of (names ns)) (λ l. l.child < length ns) (IsBetween (length ns)) (edge-between ns) (flat_map links_at (enumerate_from 0 ns))
+    all-filter_map (edge_of (node_names ns)) (λ l. l.child < length ns) (IsBetween (length ns)) (edge-between ns) (flat_map links_at (enumerate_from 0 ns))
     (subst (λ m. All (λ l. l.child < m) (flat_map links_at (enumerate_from 0 ns))) (zero_plus (length ns)) (links-behind 0 ns))
   where
     zero_plus : (n : ℕ) → 0 + n ≡ n

@@ -15,7 +15,7 @@ use Rattle.dk_points.specs.Links.{kept_edges, nodes}
 use Rattle.dk_points.specs.Names.{method_len, role_of}
 use Rattle.dk_points.specs.Partners.{partner_of}
 use Rattle.dk_points.specs.Sameness.{same_decl}
-use Rattle.dk_points.specs.Table.{Point, added, declared_point, implicit_exit, names}
+use Rattle.dk_points.specs.Table.{Point, added_points, declared_point, implicit_exit, names}
 use Rattle.dk_points.specs.Vars.{entry_before, entry_of, orig_vars, vars_of}
 use Rattle.dk_points.specs.declared.declared.Declared.TheVariants.{New, Same}
 use Rattle.dk_points.specs.declared.roles.Role.TheVariants.{Entry, Combined, Subexit, Plain}
@@ -47,7 +47,7 @@ exit = point (codes "M:::EXIT1") [] (int (codes "x") ∷ [])
 abbrev calls : List Point
 calls = declared_point entry ∷ implicit_exit exit ∷ declared_point exit ∷ []
 
-subexit_adds_its_combined_exit : added (declared_point entry ∷ []) exit ≡ implicit_exit exit ∷ declared_point exit ∷ []
+subexit_adds_its_combined_exit : added_points (declared_point entry ∷ []) exit ≡ implicit_exit exit ∷ declared_point exit ∷ []
 unfolding role_of method_len place_of
 subexit_adds_its_combined_exit = refl
 

@@ -15,7 +15,7 @@ use Rattle.dk_points.proofs.Keeping.{entry-within}
 use Rattle.dk_points.proofs.KeptBy.{kept-implicit}
 use Rattle.dk_points.proofs.PlacesOfNames.{place-push_new, place-push_other}
 use Rattle.dk_points.specs.Declaring.{has_many_vars}
-use Rattle.dk_points.specs.Kept.{IsKept, IsOwnBehind, IsPlaceBehind, point_at, seen}
+use Rattle.dk_points.specs.Kept.{IsKept, IsOwnBehind, IsPlaceBehind, point_of_place, points_of_places}
 use Rattle.dk_points.specs.KeptEdges.{kept_by}
 use Rattle.dk_points.specs.Links.{edges_of_implicit, is_to, kept_edges, links_of, node_of, same_edge}
 use Rattle.dk_points.specs.Next.{IsNext}
@@ -24,7 +24,7 @@ use Rattle.dk_points.specs.Table.{Point, declared_point, implicit_exit, makes_ex
 use Rattle.dk_points.specs.Vars.{base_vars, declared_vars, entry_before, orig_vars, vars_of_entry}
 use Rattle.dk_points.specs.declared.growing.Added.{Added}
 use Rattle.dk_points.specs.declared.places.Own.{Own}
-use Rattle.dk_points.specs.declared.places.Place.{Place}
+use Rattle.dk_points.specs.declared.places.KeptPoint.{KeptPoint}
 use Rattle.dk_points.specs.declared.roles.Role.TheVariants.{Entry, Combined, Subexit, Plain}
 
 -- ---- names
@@ -168,7 +168,7 @@ module _ (ps : List Point) (d : PointDecl) where
 
 -- ---- both points
 
-pub exit-point : (o : Own) (l : Place) → l.own.value ≡ o → l.is_implicit ≡ true → point_at l ≡ implicit_exit o.decl
+pub exit-point : (o : Own) (l : KeptPoint) → l.own.value ≡ o → l.is_implicit ≡ true → point_of_place l ≡ implicit_exit o.decl
 exit-point o l lo li = λ i. record { decl = (lo i).decl; is_implicit = li i }
 
 pub exit-next : (self : List Point) (o : Own) → makes_exit self o.decl ≡ true → IsOwnBehind self o → has_many_vars self o.decl ≡ false
@@ -198,7 +198,7 @@ subexit-next self o makes own few_vars a mo mi n combined c mk ms =
     let d = o.decl in
     let m = a.place in
     let behind = self ++ implicit_exit d ∷ [] in
-    let point : point_at m ≡ declared_point d = λ i. record { decl = (mo i).decl; is_implicit = mi i } in
+    let point : point_of_place m ≡ declared_point d = λ i. record { decl = (mo i).decl; is_implicit = mi i } in
     let links-are : a.node.links ≡ links_of behind (declared_point d) = ms ∙ ap (λ x. x ∷ []) c ∙ sym (subexit-links self d makes) in
     let node-is : a.node ≡ node_of behind (declared_point d) = λ i. record { name = n i; links = links-are i } in
     record {

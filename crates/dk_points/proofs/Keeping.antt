@@ -13,21 +13,21 @@ use Rattle.dk_graph.specs.declared.nodes.Node.{Node}
 use Rattle.dk_decl.specs.declared.decls.PointDecl.{PointDecl}
 use Rattle.dk_points.proofs.Counting.{length-with_derived}
 use Rattle.dk_points.specs.Declaring.{has_many_vars}
-use Rattle.dk_points.specs.Kept.{IsKept, IsPlaceBehind, point_at, seen}
+use Rattle.dk_points.specs.Kept.{IsKept, IsPlaceBehind, point_of_place, points_of_places}
 use Rattle.dk_points.specs.Names.{entry_name, is_exit, role_of}
 use Rattle.dk_points.specs.Partners.{is_like, partner_name, partner_of, plain_name}
-use Rattle.dk_points.specs.Table.{Point, decl_of, decl_if_declared, name_of, names}
+use Rattle.dk_points.specs.Table.{Point, decl_at, decl_if_declared, name_of, names}
 use Rattle.dk_points.specs.Vars.{base_vars, declared_vars, entry_before, entry_of, orig_vars, vars_of}
-use Rattle.dk_points.specs.declared.places.Place.{Place}
+use Rattle.dk_points.specs.declared.places.KeptPoint.{KeptPoint}
 use Rattle.dk_points.specs.Links.{nodes}
 
-pub kept-nothing : (graph : List Node) (places : List Place) → graph ≡ [] → places ≡ [] → IsKept graph places
-unfolding seen nodes
+pub kept-nothing : (graph : List Node) (places : List KeptPoint) → graph ≡ [] → places ≡ [] → IsKept graph places
+unfolding points_of_places nodes
 kept-nothing graph places g p = rw (g, p) (record { joined = refl; places_are = λ i l at. absurd (cc); few = omega arith })
 
-pub length-seen : (places : List Place) → length (seen places) ≡ length places
-unfolding seen
-length-seen places = length-map places point_at
+pub length-seen : (places : List KeptPoint) → length (points_of_places places) ≡ length places
+unfolding points_of_places
+length-seen places = length-map places point_of_place
 
 get-map : {X Y : Type 0} (f : X → Y) (xs : List X) (i : ℕ) (x : X) → slice_get xs i ≡ Some x → slice_get (map f xs) i ≡ Some (f x)
 get-map f [] i x at = absurd (cc)
@@ -40,22 +40,22 @@ get_at (y ∷ xs) zero x h e = ap Some (sym e)
 get_at (y ∷ xs) (suc i) x h e = get_at xs i x (omega (arith, h)) e
 
 -- what is kept at a point's place
-pub kept-at : (graph : List Node) (places : List Place) (ps : List Point) (p : ℕ) (l : Place) → IsKept graph places → seen places ≡ ps → p < length places → l ≡ get_or places p l
-    → (slice_get ps p ≡ Some (point_at l)) × IsPlaceBehind (take p ps) l
-unfolding seen
+pub kept-at : (graph : List Node) (places : List KeptPoint) (ps : List Point) (p : ℕ) (l : KeptPoint) → IsKept graph places → points_of_places places ≡ ps → p < length places → l ≡ get_or places p l
+    → (slice_get ps p ≡ Some (point_of_place l)) × IsPlaceBehind (take p ps) l
+unfolding points_of_places
 kept-at graph places ps p l kept is h e =
     let at : slice_get places p ≡ Some l = get_at places p l h e in
-    (sym (ap (λ xs. slice_get xs p) is) ∙ get-map point_at places p l at, subst (λ xs. IsPlaceBehind (take p xs) l) is (kept.places_are p l at))
+    (sym (ap (λ xs. slice_get xs p) is) ∙ get-map point_of_place places p l at, subst (λ xs. IsPlaceBehind (take p xs) l) is (kept.places_are p l at))
 
-pub vars-at : (ps : List Point) (p : ℕ) (l : Place) → slice_get ps p ≡ Some (point_at l) → IsPlaceBehind (take p ps) l → vars_of ps p ≡ l.own.value.vars
+pub vars-at : (ps : List Point) (p : ℕ) (l : KeptPoint) → slice_get ps p ≡ Some (point_of_place l) → IsPlaceBehind (take p ps) l → vars_of ps p ≡ l.own.value.vars
 unfolding vars_of
 vars-at ps p l at kept = rw at kept.own.vars
 
-pub entry-at : (ps : List Point) (p : ℕ) (l : Place) → slice_get ps p ≡ Some (point_at l) → IsPlaceBehind (take p ps) l → entry_of ps p ≡ option_map place_in l.own.value.entry
+pub entry-at : (ps : List Point) (p : ℕ) (l : KeptPoint) → slice_get ps p ≡ Some (point_of_place l) → IsPlaceBehind (take p ps) l → entry_of ps p ≡ option_map place_in l.own.value.entry
 unfolding entry_of
 entry-at ps p l at kept = rw at kept.own.entry
 
-pub decl-at : (ps : List Point) (p : ℕ) (l : Place) → slice_get ps p ≡ Some (point_at l) → decl_of ps p ≡ decl_if_declared (point_at l)
+pub decl-at : (ps : List Point) (p : ℕ) (l : KeptPoint) → slice_get ps p ≡ Some (point_of_place l) → decl_at ps p ≡ decl_if_declared (point_of_place l)
 decl-at ps p l at = rw at refl
 
 -- a place that a look-up finds is one of the names
@@ -76,7 +76,7 @@ entry-within ps name = go (is_exit (role_of name))
     go false = tt
 
 -- an entry stands before its exits
-pub entry-before : (ps : List Point) (p : ℕ) (l : Place) → IsPlaceBehind (take p ps) l → IfSome l.own.value.entry (λ e. e.0 < p)
+pub entry-before : (ps : List Point) (p : ℕ) (l : KeptPoint) → IsPlaceBehind (take p ps) l → IfSome l.own.value.entry (λ e. e.0 < p)
 entry-before ps p l kept = go l.own.value.entry kept.own.entry
   where
     go : (o : Option PointId) → entry_before (take p ps) l.own.value.decl.name ≡ option_map place_in o → IfSome o (λ e. e.0 < p)
@@ -86,7 +86,7 @@ entry-before ps p l kept = go l.own.value.entry kept.own.entry
         omega (arith, within, length-take p ps)
 
 -- the partner, by what is kept of the child
-pub partner-at : (ps : List Point) (e : Edge) (w : ℕ) (v : VarInfo) (l : Place) → slice_get (vars_of ps e.parent.0) w ≡ Some v → slice_get ps e.child.0 ≡ Some (point_at l)
+pub partner-at : (ps : List Point) (e : Edge) (w : ℕ) (v : VarInfo) (l : KeptPoint) → slice_get (vars_of ps e.parent.0) w ≡ Some v → slice_get ps e.child.0 ≡ Some (point_of_place l)
     → IsPlaceBehind (take e.child.0 ps) l
     → partner_of ps e w ≡ option_and_then (λ name. position (is_like v name) l.own.value.vars) (partner_name l.own.value.decl (slice_get l.kept e.number) (plain_name v))
 unfolding partner_of
@@ -97,13 +97,13 @@ or_right true b h = cc
 or_right false b h = h
 
 -- with the derived ones there are few variables
-pub few-vars-at : (ps : List Point) (l : Place) → IsPlaceBehind ps l → length (with_derived (map shape_of l.own.value.vars)) ≤ 16384
+pub few-vars-at : (ps : List Point) (l : KeptPoint) → IsPlaceBehind ps l → length (with_derived (map shape_of l.own.value.vars)) ≤ 16384
 unfolding has_many_vars
 few-vars-at ps l kept =
     let few : nat_lt 16384 (length (with_derived (map shape_of (base_vars ps l.own.value.decl)))) ≡ false = or_right (nat_lt 1024 (length l.own.value.decl.vars)) _ kept.few_vars in
     subst (λ vs. length (with_derived (map shape_of vs)) ≤ 16384) kept.own.vars (grind (arith, few))
 
-pub few-base-vars-at : (ps : List Point) (l : Place) → IsPlaceBehind ps l → length l.own.value.vars ≤ 16384
+pub few-base-vars-at : (ps : List Point) (l : KeptPoint) → IsPlaceBehind ps l → length l.own.value.vars ≤ 16384
 few-base-vars-at ps l kept =
     let few = few-vars-at ps l kept in
     let all = length-with_derived l.own.value.vars in

@@ -7,14 +7,14 @@ use Rattle.dk_graph.specs.declared.nodes.Node.{Node}
 use Rattle.dk_points.proofs.Keeping.{length-seen}
 use Rattle.dk_points.proofs.Nodes.{nodes-push}
 use Rattle.dk_points.specs.Declaring.{has_many_vars}
-use Rattle.dk_points.specs.Kept.{IsKept, IsOwnBehind, IsPlaceBehind, point_at, seen}
+use Rattle.dk_points.specs.Kept.{IsKept, IsOwnBehind, IsPlaceBehind, point_of_place, points_of_places}
 use Rattle.dk_points.specs.Links.{kept_edges, links_of, node_of, nodes}
 use Rattle.dk_points.specs.Next.{IsNext}
 use Rattle.dk_points.specs.Names.{combined_name, combined_of, is_subexit, role_of}
 use Rattle.dk_points.specs.Table.{Point, declared_point}
 use Rattle.dk_points.specs.declared.growing.Added.{Added}
 use Rattle.dk_points.specs.declared.places.Own.{Own}
-use Rattle.dk_points.specs.declared.places.Place.{Place}
+use Rattle.dk_points.specs.declared.places.KeptPoint.{KeptPoint}
 
 get_push : {X : Type 0} (xs : List X) (x y : X) (i : ℕ) → slice_get (xs ++ x ∷ []) i ≡ Some y → ((i < length xs) × (slice_get xs i ≡ Some y)) ⊎ ((i ≡ length xs) × (x ≡ y))
 get_push [] x y zero at = inr (refl, cc)
@@ -22,48 +22,48 @@ get_push [] x y (suc i) at = absurd (cc)
 get_push (z ∷ xs) x y zero at = inl (omega arith, at)
 get_push (z ∷ xs) x y (suc i) at = ⊎_elim (λ h. inl (omega (arith, h.0), h.1)) (λ h. inr (ap suc h.0, h.1)) (get_push xs x y i at)
 
-pub seen-push : (places : List Place) (l : Place) → seen (places ++ l ∷ []) ≡ seen places ++ point_at l ∷ []
-unfolding seen
-seen-push places l = map-append point_at places (l ∷ [])
+pub seen-push : (places : List KeptPoint) (l : KeptPoint) → points_of_places (places ++ l ∷ []) ≡ points_of_places places ++ point_of_place l ∷ []
+unfolding points_of_places
+seen-push places l = map-append point_of_place places (l ∷ [])
 
 -- what is kept of one point more, and the node that it makes
-pub kept-more : (graph : List Node) (places : List Place) (l : Place) → IsKept graph places → length places < 65535 → IsPlaceBehind (seen places) l
-    → IsKept (graph ++ node_of (seen places) (point_at l) ∷ []) (places ++ l ∷ [])
+pub kept-more : (graph : List Node) (places : List KeptPoint) (l : KeptPoint) → IsKept graph places → length places < 65535 → IsPlaceBehind (points_of_places places) l
+    → IsKept (graph ++ node_of (points_of_places places) (point_of_place l) ∷ []) (places ++ l ∷ [])
 kept-more graph places l kept few behind = record {
-  joined = ap (λ ns. ns ++ node_of (seen places) (point_at l) ∷ []) kept.joined ∙ sym (nodes-push (seen places) (point_at l)) ∙ ap nodes (sym (seen-push places l));
+  joined = ap (λ ns. ns ++ node_of (points_of_places places) (point_of_place l) ∷ []) kept.joined ∙ sym (nodes-push (points_of_places places) (point_of_place l)) ∙ ap nodes (sym (seen-push places l));
   places_are = λ i m at. ⊎_elim
-      (λ h. let before : i ≤ length (seen places) = omega (arith, h.0, length-seen places) in
-      subst (λ ps. IsPlaceBehind ps m) (sym (ap (take i) (seen-push places l) ∙ take-append-le i (seen places) (point_at l ∷ []) before)) (kept.places_are i m h.1))
-      (λ h. let all : take i (seen (places ++ l ∷ [])) ≡ seen places =
-      ap (take i) (seen-push places l) ∙ take-append-le i (seen places) (point_at l ∷ []) (omega (arith, h.0, length-seen places)) ∙ take_all i (seen places) (omega (arith, h.0, length-seen places)) in
-      subst (λ ps. IsPlaceBehind ps m) (sym all) (subst (IsPlaceBehind (seen places)) h.1 behind))
+      (λ h. let before : i ≤ length (points_of_places places) = omega (arith, h.0, length-seen places) in
+      subst (λ ps. IsPlaceBehind ps m) (sym (ap (take i) (seen-push places l) ∙ take-append-le i (points_of_places places) (point_of_place l ∷ []) before)) (kept.places_are i m h.1))
+      (λ h. let all : take i (points_of_places (places ++ l ∷ [])) ≡ points_of_places places =
+      ap (take i) (seen-push places l) ∙ take-append-le i (points_of_places places) (point_of_place l ∷ []) (omega (arith, h.0, length-seen places)) ∙ take_all i (points_of_places places) (omega (arith, h.0, length-seen places)) in
+      subst (λ ps. IsPlaceBehind ps m) (sym all) (subst (IsPlaceBehind (points_of_places places)) h.1 behind))
       (get_push places l m i at);
   few = omega (arith, few, length-append places (l ∷ []));
 }
 
 -- the table with one point more, whose node the graph has
-pub record IsMore (self : List Point) (graph : List Node) (places : List Place) (q : Point) (l : Place) (node : Node) : Type 0 where
+pub record IsMore (self : List Point) (graph : List Node) (places : List KeptPoint) (q : Point) (l : KeptPoint) (node : Node) : Type 0 where
   pub kept : IsKept (graph ++ node ∷ []) (places ++ l ∷ [])
-  pub sees : seen (places ++ l ∷ []) ≡ self ++ q ∷ []
+  pub sees : points_of_places (places ++ l ∷ []) ≡ self ++ q ∷ []
   pub are_nodes : graph ++ node ∷ [] ≡ nodes (self ++ q ∷ [])
 
-pub more : (self : List Point) (graph : List Node) (places : List Place) → seen places ≡ self → IsKept graph places
-    → (q : Point) (l : Place) → point_at l ≡ q → IsPlaceBehind self l → length self < 65535 → (node : Node) → node ≡ node_of self q → IsMore self graph places q l node
+pub more : (self : List Point) (graph : List Node) (places : List KeptPoint) → points_of_places places ≡ self → IsKept graph places
+    → (q : Point) (l : KeptPoint) → point_of_place l ≡ q → IsPlaceBehind self l → length self < 65535 → (node : Node) → node ≡ node_of self q → IsMore self graph places q l node
 more self graph places is kept q l point-is behind few node node-is =
-    let more-graph : graph ++ node ∷ [] ≡ graph ++ node_of (seen places) (point_at l) ∷ [] =
-    ap (λ n. graph ++ n ∷ []) (node-is ∙ ap (λ ps. node_of ps q) (sym is) ∙ ap (node_of (seen places)) (sym point-is)) in
+    let more-graph : graph ++ node ∷ [] ≡ graph ++ node_of (points_of_places places) (point_of_place l) ∷ [] =
+    ap (λ n. graph ++ n ∷ []) (node-is ∙ ap (λ ps. node_of ps q) (sym is) ∙ ap (node_of (points_of_places places)) (sym point-is)) in
     let both : IsKept (graph ++ node ∷ []) (places ++ l ∷ []) =
     subst (λ g. IsKept g (places ++ l ∷ [])) (sym more-graph)
     (kept-more graph places l kept (omega (arith, few, ap length is, length-seen places)) (subst (λ ps. IsPlaceBehind ps l) (sym is) behind)) in
-    let sees : seen (places ++ l ∷ []) ≡ self ++ q ∷ [] =
-    seen-push places l ∙ ap (λ ps. ps ++ point_at l ∷ []) is ∙ ap (λ p. self ++ p ∷ []) point-is in
+    let sees : points_of_places (places ++ l ∷ []) ≡ self ++ q ∷ [] =
+    seen-push places l ∙ ap (λ ps. ps ++ point_of_place l ∷ []) is ∙ ap (λ p. self ++ p ∷ []) point-is in
     record { kept = both; sees = sees; are_nodes = both.joined ∙ ap nodes sees }
 
 -- a declared point, from the parts that the code makes
-pub declared-point-at : (o : Own) (l : Place) → l.own.value ≡ o → l.is_implicit ≡ false → point_at l ≡ declared_point o.decl
+pub declared-point-at : (o : Own) (l : KeptPoint) → l.own.value ≡ o → l.is_implicit ≡ false → point_of_place l ≡ declared_point o.decl
 declared-point-at o l own plain = λ i. record { decl = (own i).decl; is_implicit = plain i }
 
-pub declared-behind : (self : List Point) (o : Own) (l : Place) → l.own.value ≡ o → l.is_implicit ≡ false → IsOwnBehind self o → has_many_vars self o.decl ≡ false
+pub declared-behind : (self : List Point) (o : Own) (l : KeptPoint) → l.own.value ≡ o → l.is_implicit ≡ false → IsOwnBehind self o → has_many_vars self o.decl ≡ false
     → l.kept ≡ map (λ e. e.0) (kept_edges self (declared_point o.decl)) → IsPlaceBehind self l
 declared-behind self o l own plain behind few kept = record {
   own = subst (IsOwnBehind self) (sym own) behind;
@@ -95,6 +95,6 @@ declared-next self o behind few_vars a own plain n kept combined ls k c edges = 
 }
 
 -- the table with what comes next
-pub next-more : (self : List Point) (graph : List Node) (places : List Place) → seen places ≡ self → IsKept graph places → length self < 65535
-    → (a : Added) → IsNext self a → IsMore self graph places (point_at a.place) a.place a.node
-next-more self graph places is kept few a next = more self graph places is kept (point_at a.place) a.place refl next.place few a.node next.node
+pub next-more : (self : List Point) (graph : List Node) (places : List KeptPoint) → points_of_places places ≡ self → IsKept graph places → length self < 65535
+    → (a : Added) → IsNext self a → IsMore self graph places (point_of_place a.place) a.place a.node
+next-more self graph places is kept few a next = more self graph places is kept (point_of_place a.place) a.place refl next.place few a.node next.node

@@ -1,6 +1,6 @@
 -- The graph of the points, point by point.
 use Rattle.std.proofs.Common.{◌≡◌, ◌∙◌, suc, List, [], ◌∷◌, ◌++◌, length, refl, sym, ap, append_assoc}
-use Rattle.dk_graph.specs.Graphs.{names as graph_names}
+use Rattle.dk_graph.specs.Graphs.{node_names as graph_names}
 use Rattle.dk_points.specs.Links.{node_of, nodes, nodes_behind}
 use Rattle.dk_points.specs.Table.{Point, name_of, names}
 

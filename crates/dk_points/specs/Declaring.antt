@@ -10,7 +10,7 @@ use Rattle.dk_graph.specs.Graphs.{has_cycle}
 use Rattle.dk_graph.specs.Names.{place_of}
 use Rattle.dk_points.specs.Links.{nodes}
 use Rattle.dk_points.specs.Sameness.{same_decl}
-use Rattle.dk_points.specs.Table.{Point, added, decl_of, names}
+use Rattle.dk_points.specs.Table.{Point, added_points, decl_at, names}
 use Rattle.dk_points.specs.Vars.{base_vars}
 use Rattle.dk_points.specs.declared.declared.Declared.{Declared}
 use Rattle.dk_points.specs.declared.declared.Declared.TheVariants.{New, Same}
@@ -30,9 +30,9 @@ grown ps = if has_cycle (nodes ps) then Err CyclicParents else Ok (ps, New (reco
 -- a new name: the first of these refusals, or the points that are added
 abbrev pub declared_new : List Point → PointDecl → Result (List Point × Declared) Why
 declared_new ps d =
-    if has_many_points (ps ++ added ps d) then Err TooManyPoints
+    if has_many_points (ps ++ added_points ps d) then Err TooManyPoints
     else if has_many_vars ps d then Err TooManyVariables
-    else grown (ps ++ added ps d)
+    else grown (ps ++ added_points ps d)
 
 -- a known name: only the declaration that the point has is taken again, and it changes nothing
 abbrev pub declared_again : List Point → PointDecl → ℕ → Option PointDecl → Result (List Point × Declared) Why
@@ -41,7 +41,7 @@ declared_again ps d i (Some own) = if same_decl own d then Ok (ps, Same (record 
 
 abbrev pub declared_at : List Point → PointDecl → Option ℕ → Result (List Point × Declared) Why
 declared_at ps d None = declared_new ps d
-declared_at ps d (Some i) = declared_again ps d i (decl_of ps i)
+declared_at ps d (Some i) = declared_again ps d i (decl_at ps i)
 
 -- The table behind a declaration and what it was, or why it is refused.
 unfoldable pub declared : List Point → PointDecl → Result (List Point × Declared) Why

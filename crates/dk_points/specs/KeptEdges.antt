@@ -6,8 +6,8 @@ use Rattle.dk_decl.specs.declared.decls.EdgeDecl.{EdgeDecl}
 use Rattle.dk_points.specs.Links.{is_to, same_edge}
 
 -- an edge to the combined exit, if there is one, and an edge that is taken already
-abbrev pub drops : Option (List ℕ) → List EdgeDecl → EdgeDecl → Bool
-drops combined taken e = option_map_or (λ name. is_to name e) combined false || list_any (same_edge e) taken
+abbrev pub is_dropped : Option (List ℕ) → List EdgeDecl → EdgeDecl → Bool
+is_dropped combined taken e = option_map_or (λ name. is_to name e) combined false || list_any (same_edge e) taken
 
 abbrev pub kept_by : Option (List ℕ) → List EdgeDecl → List EdgeDecl → List (ℕ × EdgeDecl)
-kept_by combined taken es = filter (λ e. not (drops combined taken e.1)) (enumerate_from 0 es)
+kept_by combined taken es = filter (λ e. not (is_dropped combined taken e.1)) (enumerate_from 0 es)

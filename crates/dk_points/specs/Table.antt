@@ -30,12 +30,12 @@ abbrev pub makes_exit : List Point → PointDecl → Bool
 makes_exit ps d = is_subexit (role_of d.name) && is_none (place_of (names ps) (combined_name d.name))
 
 -- the points that the declaration of a new name adds; an implicit exit stands just before its subexit
-abbrev pub added : List Point → PointDecl → List Point
-added ps d = if makes_exit ps d then implicit_exit d ∷ declared_point d ∷ [] else declared_point d ∷ []
+abbrev pub added_points : List Point → PointDecl → List Point
+added_points ps d = if makes_exit ps d then implicit_exit d ∷ declared_point d ∷ [] else declared_point d ∷ []
 
 -- the declaration of the point at this place; an implicit exit has none
 abbrev pub decl_if_declared : Point → Option PointDecl
 decl_if_declared p = if p.is_implicit then None else Some p.decl
 
-abbrev pub decl_of : List Point → ℕ → Option PointDecl
-decl_of ps i = option_and_then decl_if_declared (slice_get ps i)
+abbrev pub decl_at : List Point → ℕ → Option PointDecl
+decl_at ps i = option_and_then decl_if_declared (slice_get ps i)

@@ -1,13 +1,13 @@
 // What a declaration does to the table.
 ghost use Rattle.std.specs.Prelude.{◌≡◌, ◌<◌, ◌∷◌, ◌++◌, [], IfOk, None, false, length};
 ghost use Rattle.std.specs.Option.{option_map_or};
-ghost use Rattle.dk_decl.specs.Outcomes.{Gives};
+ghost use Rattle.dk_decl.specs.Outcomes.{AnswerAgrees};
 ghost use Rattle.dk_graph.specs.Names.{place_of};
 ghost use Rattle.dk_points.specs.Declaring.{at_line, declared, declared_again, declared_new, has_many_points, has_many_vars};
-ghost use Rattle.dk_points.specs.Kept.{Grows, IsOwnBehind, Judges};
+ghost use Rattle.dk_points.specs.Kept.{IsOwnBehind, Judges, TableGrows};
 ghost use Rattle.dk_points.specs.Names.{combined_of};
 ghost use Rattle.dk_points.specs.Sameness.{same_decl};
-ghost use Rattle.dk_points.specs.Table.{added, decl_of, declared_point, makes_exit, names};
+ghost use Rattle.dk_points.specs.Table.{added_points, decl_at, declared_point, makes_exit, names};
 
 use crate::declared::Declared;
 use crate::limits::has_many_vars;
@@ -28,7 +28,7 @@ impl Points {
     // Whether the points that the declaration adds are too many; it makes an implicit exit or none.
     fn has_many_points(&self, decl: &PointDecl, makes: bool) -> bool
         requires { makes ≡ makes_exit self.now decl.now }
-        ensures { result ≡ has_many_points (self.now ++ added self.now decl.now) }
+        ensures { result ≡ has_many_points (self.now ++ added_points self.now decl.now) }
     {
         let more = if makes { 2 } else { 1 };
         self.len() + more > 65535
@@ -57,12 +57,12 @@ impl Points {
         makes: bool,
     ) -> Result<Option<Points>, NoMemory>
         requires new { place_of (names self) own.decl.name ≡ None }
-        requires few { has_many_points (self ++ added self own.decl) ≡ false }
+        requires few { has_many_points (self ++ added_points self own.decl) ≡ false }
         requires own { IsOwnBehind self own }
         requires few_vars { has_many_vars self own.decl ≡ false }
         requires combined { combined ≡ combined_of own.decl.name }
         requires makes { makes ≡ makes_exit self own.decl }
-        ensures { IfOk result (λ points. Grows points (self ++ added self own.decl)) }
+        ensures { IfOk result (λ points. TableGrows points (self ++ added_points self own.decl)) }
     {
         match combined {
             None => self.with_declared(own, None),
@@ -76,7 +76,7 @@ impl Points {
 
     fn declare_new(self, decl: PointDecl, line: u64) -> Result<(Points, Declared), BlockFault>
         requires new { place_of (names self) decl.name ≡ None }
-        ensures { Gives result (at_line line (declared_new self decl)) }
+        ensures { AnswerAgrees result (at_line line (declared_new self decl)) }
     {
         let combined = combined_of(self.alloc, decl.name.as_slice())?;
         let makes = self.makes_exit(&decl, combined.as_ref());
@@ -93,7 +93,7 @@ impl Points {
     // Whether the point has this declaration.
     fn has_decl(&self, p: PointId, decl: &PointDecl) -> bool
         requires { p.0 < length self.now }
-        ensures { result ≡ option_map_or (λ own. same_decl own decl.now) (decl_of self.now p.0) false }
+        ensures { result ≡ option_map_or (λ own. same_decl own decl.now) (decl_at self.now p.0) false }
     {
         match self.decl(p) {
             None => false,
@@ -108,7 +108,7 @@ impl Points {
         line: u64,
     ) -> Result<(Points, Declared), BlockFault>
         requires { p.0 < length self }
-        ensures { Gives result (at_line line (declared_again self decl p.0 (decl_of self p.0))) }
+        ensures { AnswerAgrees result (at_line line (declared_again self decl p.0 (decl_at self p.0))) }
     {
         if self.has_decl(p, &decl) {
             Ok((self, Declared::Same(p)))
@@ -124,7 +124,7 @@ impl Points {
     /// answered.
     #[tactic(auto, unfolding(crate::specs::Declaring::declared))]
     pub fn declare(self, decl: PointDecl, line: u64) -> Result<(Points, Declared), BlockFault>
-        ensures { Gives result (at_line line (declared self decl)) }
+        ensures { AnswerAgrees result (at_line line (declared self decl)) }
     {
         match self.find(decl.name.as_slice()) {
             None => self.declare_new(decl, line),

@@ -3,15 +3,15 @@ ghost use Rattle.std.specs.Prelude.{◌≡◌, ◌<◌, ◌∷◌, ◌++◌, [],
 ghost use Rattle.std.specs.Option.{option_map, option_to_list};
 ghost use Rattle.dk_graph.specs.Names.{place_of};
 ghost use Rattle.dk_points.specs.Declaring.{has_many_vars};
-ghost use Rattle.dk_points.specs.Kept.{Grows, IsOwnBehind, point_at};
+ghost use Rattle.dk_points.specs.Kept.{IsOwnBehind, TableGrows, point_of_place};
 ghost use Rattle.dk_points.specs.KeptEdges.{kept_by};
 ghost use Rattle.dk_points.specs.Next.{IsNext};
 ghost use Rattle.dk_points.specs.Links.{kept_edges};
 ghost use Rattle.dk_points.specs.Names.{combined_name, combined_of};
-ghost use Rattle.dk_points.specs.Table.{added, declared_point, implicit_exit, makes_exit, names};
+ghost use Rattle.dk_points.specs.Table.{added_points, declared_point, implicit_exit, makes_exit, names};
 
 use crate::links::{Kept, kept_edges};
-use crate::places::{Own, Place};
+use crate::places::{KeptPoint, Own};
 use crate::points::Points;
 use dk_base::{List, NoMemory, Text};
 use dk_graph::Node;
@@ -41,7 +41,7 @@ fn only(alloc: Global, name: &Text) -> Result<List<Text>, NoMemory>
 #[derive(Drop)]
 pub(crate) struct Added {
     pub(crate) node: Node,
-    pub(crate) place: Place,
+    pub(crate) place: KeptPoint,
 }
 
 // The declared point, with the edges that it keeps and the one to its combined exit.
@@ -62,7 +62,7 @@ fn declared_point(
     let own = Rc::new(alloc, own)?;
     Ok(Added {
         node: Node { name, links },
-        place: Place {
+        place: KeptPoint {
             own,
             is_implicit: false,
             kept: kept.places,
@@ -84,7 +84,7 @@ fn implicit_exit(alloc: Global, own: &Rc<Own>, combined: Text) -> Result<Added, 
             name: combined,
             links: kept.links,
         },
-        place: Place {
+        place: KeptPoint {
             own: own.clone()?,
             is_implicit: true,
             kept: kept.places,
@@ -104,7 +104,7 @@ fn subexit(alloc: Global, own: Rc<Own>, combined: &Text) -> Result<Added, NoMemo
     let links = only(alloc, combined)?;
     Ok(Added {
         node: Node { name, links },
-        place: Place {
+        place: KeptPoint {
             own,
             is_implicit: false,
             kept: List::new(alloc),
@@ -118,7 +118,7 @@ impl Points {
         requires new { place_of (names self) added.node.name ≡ None }
         requires few { length self < 65535 }
         requires next { IsNext self added }
-        ensures { IfOk result (λ points. Grows points (self ++ point_at added.place ∷ [])) }
+        ensures { IfOk result (λ points. TableGrows points (self ++ point_of_place added.place ∷ [])) }
     {
         let Points {
             alloc,
@@ -143,8 +143,8 @@ impl Points {
         requires differ { bytes_eq first.node.name second.node.name ≡ false }
         requires few { length self < 65534 }
         requires first { IsNext self first }
-        requires second { IsNext (self ++ point_at first.place ∷ []) second }
-        ensures { IfOk result (λ points. Grows points (self ++ point_at first.place ∷ point_at second.place ∷ [])) }
+        requires second { IsNext (self ++ point_of_place first.place ∷ []) second }
+        ensures { IfOk result (λ points. TableGrows points (self ++ point_of_place first.place ∷ point_of_place second.place ∷ [])) }
     {
         let Points {
             alloc,
@@ -174,7 +174,7 @@ impl Points {
         requires own { IsOwnBehind self own }
         requires few_vars { has_many_vars self own.decl ≡ false }
         requires combined { combined ≡ combined_of own.decl.name }
-        ensures { IfOk result (λ points. Grows points (self ++ declared_point own.decl ∷ [])) }
+        ensures { IfOk result (λ points. TableGrows points (self ++ declared_point own.decl ∷ [])) }
     {
         let kept = self.kept_edges(&own.decl, combined.as_ref())?;
         let added = declared_point(self.alloc, own, kept, combined)?;
@@ -189,7 +189,7 @@ impl Points {
         requires own { IsOwnBehind self own }
         requires few_vars { has_many_vars self own.decl ≡ false }
         requires combined { combined ≡ combined_name own.decl.name }
-        ensures { IfOk result (λ points. Grows points (self ++ implicit_exit own.decl ∷ declared_point own.decl ∷ [])) }
+        ensures { IfOk result (λ points. TableGrows points (self ++ implicit_exit own.decl ∷ declared_point own.decl ∷ [])) }
     {
         let own = Rc::new(self.alloc, own)?;
         let point = subexit(self.alloc, own.clone()?, &combined)?;

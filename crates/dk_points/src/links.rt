@@ -2,7 +2,7 @@
 ghost use Rattle.std.specs.Prelude.{◌≡◌, ◌||◌, Bool, false, IfOk, map};
 ghost use Rattle.std.specs.List.{list_any};
 ghost use Rattle.std.specs.Option.{option_map, option_map_or};
-ghost use Rattle.dk_points.specs.KeptEdges.{drops, kept_by};
+ghost use Rattle.dk_points.specs.KeptEdges.{is_dropped, kept_by};
 ghost use Rattle.dk_points.specs.Links.{is_to, same_edge};
 
 use crate::roles::is_text;
@@ -36,8 +36,8 @@ fn is_to_combined(edge: &EdgeDecl, combined: Option<&Text>) -> bool
     }
 }
 
-fn drops(combined: Option<&Text>, taken: &[EdgeDecl], edge: &EdgeDecl) -> bool
-    ensures { result ≡ drops (option_map (λ c. c.now) combined.entry) taken.now edge.now }
+fn is_dropped(combined: Option<&Text>, taken: &[EdgeDecl], edge: &EdgeDecl) -> bool
+    ensures { result ≡ is_dropped (option_map (λ c. c.now) combined.entry) taken.now edge.now }
 {
     is_to_combined(edge, combined) || has_edge(taken, edge)
 }
@@ -62,7 +62,7 @@ pub(crate) fn kept_edges(
     let mut places = List::new(alloc);
     let mut links = List::new(alloc);
     for (place, edge) in edges.iter().enumerate() {
-        if !drops(combined, taken, edge) {
+        if !is_dropped(combined, taken, edge) {
             places.push(place as u64)?;
             links.push(Text::from_slice(alloc, edge.parent.as_slice())?)?;
         }

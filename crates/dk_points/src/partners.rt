@@ -4,7 +4,7 @@ ghost use Rattle.std.specs.Option.{option_map};
 ghost use Rattle.dk_base.specs.Shapes.{is_orig};
 ghost use Rattle.dk_points.specs.Partners.{gives, is_like, partner_name, plain_name};
 
-use crate::places::Place;
+use crate::places::KeptPoint;
 use crate::roles::is_text;
 use crate::variables::same_kind;
 use dk_base::{Form, VarInfo};
@@ -94,7 +94,7 @@ pub(crate) fn place_like(vars: &[VarInfo], w: &VarInfo, name: &[u8]) -> Option<u
 }
 
 /// The place among the child's variables of the partner of `w`, through the child's edge of this number.
-pub(crate) fn partner_in(child: &Place, number: u64, w: &VarInfo) -> Option<usize>
+pub(crate) fn partner_in(child: &KeptPoint, number: u64, w: &VarInfo) -> Option<usize>
     ensures place { result ≡ option_and_then (λ name. position (is_like w.now name) child.now.own.value.vars) (partner_name child.now.own.value.decl (slice_get child.now.kept number) (plain_name w.now)) }
     ensures within { IfSome result (λ i. i < length child.now.own.value.vars) }
 {

@@ -15,7 +15,7 @@ pub struct Own {
 
 // A point: its declaration, or the one that made it as its implicit exit; and the declared edges that it keeps, by their places.
 #[derive(Drop)]
-pub struct Place {
+pub struct KeptPoint {
     pub(crate) own: Rc<Own>,
     pub(crate) is_implicit: bool,
     pub(crate) kept: List<u64>,

@@ -5,16 +5,16 @@ ghost use Rattle.dk_base.specs.Shapes.{shape_of, with_derived};
 ghost use Rattle.dk_graph.specs.Graphs.{ParentsAreDeeper, depth_of, edges_from, edges_into, has_cycle, place_in};
 ghost use Rattle.dk_graph.specs.Names.{place_of};
 ghost use Rattle.dk_points.specs.Ends.{AreFrom, AreInto};
-ghost use Rattle.dk_points.specs.Kept.{IsPlaceBehind, point_at};
+ghost use Rattle.dk_points.specs.Kept.{IsPlaceBehind, point_of_place};
 ghost use Rattle.dk_points.specs.Laws.{IsBaseVar};
 ghost use Rattle.dk_points.specs.Links.{nodes};
 ghost use Rattle.dk_points.specs.Names.{role_of};
 ghost use Rattle.dk_points.specs.Partners.{partner_of};
-ghost use Rattle.dk_points.specs.Table.{decl_of, name_of, names};
+ghost use Rattle.dk_points.specs.Table.{decl_at, name_of, names};
 ghost use Rattle.dk_points.specs.Vars.{entry_of, vars_of};
 
 use crate::partners::partner_in;
-use crate::places::Place;
+use crate::places::KeptPoint;
 use crate::roles::Role;
 use dk_base::{List, NoMemory, PointId, VarId, VarInfo};
 use dk_decl::PointDecl;
@@ -27,17 +27,17 @@ use std::marker::Model;
 pub struct Points {
     pub(crate) alloc: Global,
     pub(crate) graph: Graph,
-    pub(crate) places: List<Place>,
+    pub(crate) places: List<KeptPoint>,
 }
 
 impl Model for Points {
     ghost use Rattle.std.specs.Prelude.{List};
-    ghost use Rattle.dk_points.specs.Kept.{IsKept, seen};
+    ghost use Rattle.dk_points.specs.Kept.{IsKept, points_of_places};
     ghost use Rattle.dk_points.specs.Table.{Point};
 
     ghost Value = { List Point };
 
-    ghost view = { λ t. seen t.places };
+    ghost view = { λ t. points_of_places t.places };
 
     ghost invariant = { λ t. IsKept t.graph t.places };
 }
@@ -81,9 +81,9 @@ impl Points {
     }
 
     // What is kept of a point.
-    pub(crate) fn place(&self, p: PointId) -> &Place
+    pub(crate) fn place(&self, p: PointId) -> &KeptPoint
         requires { p.0 < length self.now }
-        ensures point { slice_get self.now p.0 ≡ Some (point_at result.now) }
+        ensures point { slice_get self.now p.0 ≡ Some (point_of_place result.now) }
         ensures kept { IsPlaceBehind (take p.0 self.now) result.now }
     {
         &self.places.as_slice()[p.0 as usize]
@@ -100,7 +100,7 @@ impl Points {
     /// The point's declaration. An implicit exit has none.
     pub fn decl(&self, p: PointId) -> Option<&PointDecl>
         requires { p.0 < length self.now }
-        ensures { option_map (λ d. d.now) result ≡ decl_of self.now p.0 }
+        ensures { option_map (λ d. d.now) result ≡ decl_at self.now p.0 }
     {
         let place = self.place(p);
         if place.is_implicit {
@@ -113,7 +113,7 @@ impl Points {
     /// The role of the point in the calls of its method, by its declaration's name. An implicit exit, which no block declares, has none.
     pub fn role(&self, p: PointId) -> Option<Role>
         requires { p.0 < length self.now }
-        ensures { result ≡ option_map (λ d. role_of d.name) (decl_of self.now p.0) }
+        ensures { result ≡ option_map (λ d. role_of d.name) (decl_at self.now p.0) }
     {
         let place = self.place(p);
         if place.is_implicit {

@@ -4,8 +4,8 @@ use Rattle.dk_base.specs.declared.kinds.VarId.{VarId}
 use Rattle.dk_base.specs.declared.values.Value.{Value}
 use Rattle.dk_base.specs.declared.values.Value.TheVariants as value
 use Rattle.dk_presence.specs.declared.held.Held.{Held}
-use Rattle.dk_presence.specs.Patterns.{capped, count_of, counted_by, held_at, patterns_of, present_in, times}
-use Rattle.dk_presence.specs.Steps.{added, refined}
+use Rattle.dk_presence.specs.Patterns.{capped, count_of, counted_by, pattern_count, patterns_of, present_in, times}
+use Rattle.dk_presence.specs.Steps.{refined, with_sample_of}
 
 var : ℕ → VarId
 var n = record { 0 = n }
@@ -31,7 +31,7 @@ missing : present_in leaders (int 3 ∷ value.Missing ∷ int 5 ∷ []) ≡ var 
 unfolding leaders var int
 missing = refl
 
-all_three : held_at patterns leaders ≡ capped (times leaders (patterns_of leaders samples))
+all_three : pattern_count patterns leaders ≡ capped (times leaders (patterns_of leaders samples))
 unfolding patterns held samples leaders var int
 all_three = refl
 
@@ -49,14 +49,14 @@ unfolding held leaders var
 new_leader = refl
 
 -- a sample more, of a pattern that is held and of another
-known : added (var 0 ∷ var 2 ∷ []) patterns ≡ held 2 leaders ∷ held 2 (var 0 ∷ var 2 ∷ []) ∷ []
+known : with_sample_of (var 0 ∷ var 2 ∷ []) patterns ≡ held 2 leaders ∷ held 2 (var 0 ∷ var 2 ∷ []) ∷ []
 unfolding patterns held leaders var
 known = refl
 
-unknown : added [] patterns ≡ held 2 leaders ∷ held 1 (var 0 ∷ var 2 ∷ []) ∷ held 1 [] ∷ []
+unknown : with_sample_of [] patterns ≡ held 2 leaders ∷ held 1 (var 0 ∷ var 2 ∷ []) ∷ held 1 [] ∷ []
 unfolding patterns held leaders var
 unknown = refl
 
-most : added [] (held (2 ^ 64 - 1) [] ∷ []) ≡ held (2 ^ 64 - 1) [] ∷ []
+most : with_sample_of [] (held (2 ^ 64 - 1) [] ∷ []) ≡ held (2 ^ 64 - 1) [] ∷ []
 unfolding held
 most = refl

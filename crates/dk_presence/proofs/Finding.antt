@@ -9,7 +9,7 @@ use Rattle.std.proofs.lemmas.Bool.Decides.{nat_tests}
 use Rattle.std.proofs.lemmas.Cmp.{ranked}
 use Rattle.std.proofs.lemmas.List.Sorted.{IsNonDecreasingBy-from_default}
 use Rattle.dk_base.specs.declared.kinds.VarId.{VarId}
-use Rattle.dk_samples.specs.Leaders.{Ascend}
+use Rattle.dk_samples.specs.Leaders.{VarsAscend}
 use Rattle.dk_presence.specs.Patterns.{has}
 use Rattle.dk_presence.specs.Steps.{put}
 
@@ -27,7 +27,7 @@ has_not (w ∷ vs) v d h =
     let apart : eqb w.0 v.0 ≡ false = grind (arith, nat_tests, h 0 (omega arith)) in
     ap (λ b. b || has vs v) apart ∙ has_not vs v d (λ k l. h (suc k) (omega arith))
 
-module _ (vars : List VarId) (up : Ascend vars) (v : VarId) where
+module _ (vars : List VarId) (up : VarsAscend vars) (v : VarId) where
   comparisons_rise : IsNonDecreasingBy (λ w. ordering_index (nat_cmp w.0 v.0)) vars
   comparisons_rise = IsNonDecreasingBy-from_default (λ w. ordering_index (nat_cmp w.0 v.0)) vars (record { 0 = 0 }) (λ i j le within.
       let at : ℕ → ℕ = λ k. (get_or vars k (record { 0 = 0 })).0 in
@@ -43,7 +43,7 @@ module _ (vars : List VarId) (up : Ascend vars) (v : VarId) where
       grind (arith, low, high, e)))
 
 -- the numbers of ascending variables do not fall
-pub numbers_rise : (vars : List VarId) → Ascend vars → IsNonDecreasingBy (λ w. w.0) vars
+pub numbers_rise : (vars : List VarId) → VarsAscend vars → IsNonDecreasingBy (λ w. w.0) vars
 numbers_rise vars up = IsNonDecreasingBy-from_default (λ w. w.0) vars (record { 0 = 0 }) (λ i j le within.
     let at : ℕ → ℕ = λ k. (get_or vars k (record { 0 = 0 })).0 in
     grind (arith, up i j (record { 0 = 0 }), λ (same : i ≡ j). ap at same))

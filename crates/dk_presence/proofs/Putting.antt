@@ -7,7 +7,7 @@ use Rattle.std.proofs.lemmas.Bool.Decides.{nat_tests}
 use Rattle.std.proofs.lemmas.List.{get_or_default, take_more}
 use Rattle.std.proofs.lemmas.List.Elements.{All-head, All-tail}
 use Rattle.dk_base.specs.declared.kinds.VarId.{VarId}
-use Rattle.dk_samples.specs.Leaders.{Ascend, old_of}
+use Rattle.dk_samples.specs.Leaders.{VarsAscend, old_of}
 use Rattle.dk_presence.specs.Patterns.{has}
 use Rattle.dk_presence.specs.Steps.{Differ, put, with_new}
 use Rattle.dk_presence.proofs.Sameness.{above, ascend_rest, same_ascending, same_id}
@@ -28,7 +28,7 @@ has-at [] i d l = absurd (omega arith)
 has-at (v ∷ vs) zero d l = ap (λ b. b || has vs v) (eq-eqb v.0 v.0 refl)
 has-at (v ∷ vs) (suc i) d l = elim (eqb v.0 (get_or vs i d).0) as (λ b. (b || has vs (get_or vs i d)) ≡ true) [ true ↦ refl | false ↦ has-at vs i d (omega arith) ]
 
-pub ascend_cons : (v : VarId) (vs : List VarId) → ((w : VarId) → has vs w ≡ true → v.0 < w.0) → Ascend vs → Ascend (v ∷ vs)
+pub ascend_cons : (v : VarId) (vs : List VarId) → ((w : VarId) → has vs w ≡ true → v.0 < w.0) → VarsAscend vs → VarsAscend (v ∷ vs)
 ascend_cons v vs low up zero zero d l m = absurd (omega arith)
 ascend_cons v vs low up zero (suc j) d l m = low (get_or vs j d) (has-at vs j d (omega arith))
 ascend_cons v vs low up (suc i) zero d l m = absurd (omega arith)
@@ -42,16 +42,16 @@ has-put v (u ∷ vs) w = elim (nat_lt v.0 u.0) as (λ b. has (cond b (v ∷ u �
   | false ↦ ap (λ b. eqb u.0 w.0 || b) (has-put v vs w) ∙ or_swap (eqb u.0 w.0) (eqb v.0 w.0) (has vs w)
 ]
 
-pub ascend-put : (v : VarId) (vs : List VarId) → Ascend vs → has vs v ≡ false → Ascend (put v vs)
+pub ascend-put : (v : VarId) (vs : List VarId) → VarsAscend vs → has vs v ≡ false → VarsAscend (put v vs)
 ascend-put v [] up off = ascend_cons v [] (λ w h. absurd (false≢true h)) up
 ascend-put v (u ∷ vs) up off = elim (cases_Bool (nat_lt v.0 u.0)) [
-  | inl lt ↦ subst Ascend (sym (ap (λ b. cond b (v ∷ u ∷ vs) (u ∷ put v vs)) lt))
+  | inl lt ↦ subst VarsAscend (sym (ap (λ b. cond b (v ∷ u ∷ vs) (u ∷ put v vs)) lt))
       (let low : v.0 < u.0 = grind (arith, nat_tests, lt) in
       ascend_cons v (u ∷ vs) (λ w h. elim (cases_Bool (eqb u.0 w.0)) [
         | inl e ↦ subst (λ n. v.0 < n) (eqb-true u.0 w.0 e) low
         | inr n ↦ let later = above u vs up w (ap (λ b. b || has vs w) (sym n) ∙ h) in omega (arith, low, later)
       ]) up)
-  | inr ge ↦ subst Ascend (sym (ap (λ b. cond b (v ∷ u ∷ vs) (u ∷ put v vs)) ge))
+  | inr ge ↦ subst VarsAscend (sym (ap (λ b. cond b (v ∷ u ∷ vs) (u ∷ put v vs)) ge))
       (let apart : eqb u.0 v.0 ≡ false = first_off (eqb u.0 v.0) (has vs v) off in
       let off_rest : has vs v ≡ false = ap (λ b. b || has vs v) (sym apart) ∙ off in
       let low : u.0 < v.0 = grind (arith, nat_tests, ge, apart) in
@@ -125,11 +125,11 @@ has_now leaders new differ off v = has-with_new new leaders leaders v ∙ by new
     ]
 
 -- they ascend
-pub ascend_with : (new : List (VarId × VarId)) (leaders more : List VarId) → Differ new → All (λ n. has more n.0 ≡ false) new → Ascend more → Ascend (with_new new leaders more)
+pub ascend_with : (new : List (VarId × VarId)) (leaders more : List VarId) → Differ new → All (λ n. has more n.0 ≡ false) new → VarsAscend more → VarsAscend (with_new new leaders more)
 ascend_with [] leaders more differ off up = up
 ascend_with (n ∷ new) leaders more differ off up =
     let rest = All-tail (λ m. has more m.0 ≡ false) n new off in
-    elim (has leaders n.1) as (λ b. Ascend (with_new new leaders (cond b (put n.0 more) more))) [
+    elim (has leaders n.1) as (λ b. VarsAscend (with_new new leaders (cond b (put n.0 more) more))) [
       | true ↦ ascend_with new leaders (put n.0 more) (differ_rest n new differ)
           (λ k d l.
           let apart : eqb n.0.0 (get_or new k d).0.0 ≡ false = grind (arith, nat_tests, differ_first n new differ k d l) in
@@ -150,7 +150,7 @@ new_cases (n ∷ new) v = elim (cases_Bool (eqb n.0.0 v.0)) [
 ]
 
 -- leaders without new ones can be read from those with them
-pub same_before : (new : List (VarId × VarId)) → Differ new → (a b : List VarId) → Ascend a → Ascend b → All (λ n. has a n.0 ≡ false) new → All (λ n. has b n.0 ≡ false) new → with_new new a a ≡ with_new new b b → a ≡ b
+pub same_before : (new : List (VarId × VarId)) → Differ new → (a b : List VarId) → VarsAscend a → VarsAscend b → All (λ n. has a n.0 ≡ false) new → All (λ n. has b n.0 ≡ false) new → with_new new a a ≡ with_new new b b → a ≡ b
 same_before new differ a b up on off_a off_b same = same_ascending a b up on (λ v. elim (new_cases new v) [
   | inl found ↦
       let d : VarId × VarId = (v, v) in

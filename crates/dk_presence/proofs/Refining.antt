@@ -8,10 +8,10 @@ use Rattle.std.proofs.lemmas.List.Kept.{AllPairs-filter}
 use Rattle.std.proofs.lemmas.Map.Keys.{IsDistinct-cons, IsDistinct-head, IsDistinct-tail}
 use Rattle.dk_base.specs.declared.kinds.VarId.{VarId}
 use Rattle.dk_base.specs.declared.values.Value.{Value}
-use Rattle.dk_samples.specs.Leaders.{Ascend, LeadNow, old_of}
+use Rattle.dk_samples.specs.Leaders.{LeadNow, VarsAscend, old_of}
 use Rattle.dk_samples.specs.Samples.{Agree, is_present, value_in}
 use Rattle.dk_presence.specs.declared.held.Held.{Held}
-use Rattle.dk_presence.specs.Patterns.{AreCounted, AreHeld, capped, has, held_at, held_patterns, patterns_of, present_in, same_vars, times}
+use Rattle.dk_presence.specs.Patterns.{AreCounted, AreHeld, capped, has, held_patterns, pattern_count, patterns_of, present_in, same_vars, times}
 use Rattle.dk_presence.specs.Steps.{AreUnheld, Differ, refined, with_new}
 use Rattle.dk_presence.proofs.Sameness.{same_ascending, same_id, same_vars-refl, same_vars-true}
 use Rattle.dk_presence.proofs.Adding.{times-cons}
@@ -40,7 +40,7 @@ module _ (new : List (VarId × VarId)) (differ : Differ new) where
 
   -- ascending, and without new leaders
   pub record IsOld (a : List VarId) : Type 0 where
-    pub ascend : Ascend a
+    pub ascend : VarsAscend a
     pub off : All (λ n. has a n.0 ≡ false) new
 
   same_refined : (a b : List VarId) → IsOld a → IsOld b → same_vars (with_new new a a) (with_new new b b) ≡ same_vars a b
@@ -54,10 +54,10 @@ module _ (new : List (VarId × VarId)) (differ : Differ new) where
     ]
   ]
 
-  held_refined : (held : List Held) → All (λ h. IsOld h.leaders) held → (a : List VarId) → IsOld a → held_at (map (refined new) held) (with_new new a a) ≡ held_at held a
+  held_refined : (held : List Held) → All (λ h. IsOld h.leaders) held → (a : List VarId) → IsOld a → pattern_count (map (refined new) held) (with_new new a a) ≡ pattern_count held a
   held_refined [] all a oa = refl
   held_refined (h ∷ held) all a oa =
-      ap (λ b. cond b h.count (held_at (map (refined new) held) (with_new new a a))) (same_refined h.leaders a (All-head (λ k. IsOld k.leaders) h held all) oa)
+      ap (λ b. cond b h.count (pattern_count (map (refined new) held) (with_new new a a))) (same_refined h.leaders a (All-head (λ k. IsOld k.leaders) h held all) oa)
       ∙ ap (λ n. cond (same_vars h.leaders a) h.count n) (held_refined held (All-tail (λ k. IsOld k.leaders) h held all) a oa)
 
   times_refined : (ps : List (List VarId)) → All IsOld ps → (a : List VarId) → IsOld a → times (with_new new a a) (map (λ p. with_new new p p) ps) ≡ times a ps
@@ -97,7 +97,7 @@ module _ (new : List (VarId × VarId)) (differ : Differ new) where
     are_refined = record {
       once = distinct_refined held old_held are.once;
       some = All-map (λ h. 0 < h.count) (refined new) held are.some;
-      ascend = All-map (λ h. Ascend h.leaders) (refined new) held (λ k d l. ascend_with new (get_or held k d).leaders (get_or held k d).leaders differ (off k d l) (are.ascend k d l));
+      ascend = All-map (λ h. VarsAscend h.leaders) (refined new) held (λ k d l. ascend_with new (get_or held k d).leaders (get_or held k d).leaders differ (off k d l) (are.ascend k d l));
     }
 
     module _ (patterns : List (List VarId)) (counted : AreCounted patterns held) where
@@ -122,20 +122,20 @@ module _ (new : List (VarId × VarId)) (differ : Differ new) where
             | inr n ↦ let none = occurs_not h.leaders patterns n in absurd (omega (arith, some, is, none))
           ]
 
-      counted_found : (b : List VarId) → list_any (same_vars b) (map (λ p. with_new new p p) patterns) ≡ true → held_at (map (refined new) held) b ≡ capped (times b (map (λ p. with_new new p p) patterns))
+      counted_found : (b : List VarId) → list_any (same_vars b) (map (λ p. with_new new p p) patterns) ≡ true → pattern_count (map (refined new) held) b ≡ capped (times b (map (λ p. with_new new p p) patterns))
       counted_found b h =
           let found = place_of (same_vars b) (map (λ p. with_new new p p) patterns) h in
           let lk : found.0 < length patterns = omega (arith, found.1, length-map patterns (λ p. with_new new p p)) in
           let a = get_or patterns found.0 [] in
           let oa = old_patterns found.0 [] lk in
           let is : b ≡ with_new new a a = same_vars-true b (get_or (map (λ p. with_new new p p) patterns) found.0 []) found.2 ∙ get_or-map (λ p. with_new new p p) patterns found.0 [] [] lk in
-          subst (λ x. held_at (map (refined new) held) x ≡ capped (times x (map (λ p. with_new new p p) patterns))) (sym is)
+          subst (λ x. pattern_count (map (refined new) held) x ≡ capped (times x (map (λ p. with_new new p p) patterns))) (sym is)
           (held_refined held old_held a oa ∙ (counted a ∙ sym (ap capped (times_refined patterns old_patterns a oa))))
 
-      counted_none : (b : List VarId) → list_any (same_vars b) (map (λ p. with_new new p p) patterns) ≡ false → held_at (map (refined new) held) b ≡ capped (times b (map (λ p. with_new new p p) patterns))
+      counted_none : (b : List VarId) → list_any (same_vars b) (map (λ p. with_new new p p) patterns) ≡ false → pattern_count (map (refined new) held) b ≡ capped (times b (map (λ p. with_new new p p) patterns))
       counted_none b n =
           let none = occurs_not b (map (λ p. with_new new p p) patterns) n in
-          let zero_held : held_at (map (refined new) held) b ≡ 0 = elim (cases_Bool (list_any (λ p. same_vars p b) (held_patterns (map (refined new) held)))) [
+          let zero_held : pattern_count (map (refined new) held) b ≡ 0 = elim (cases_Bool (list_any (λ p. same_vars p b) (held_patterns (map (refined new) held)))) [
             | inl e ↦
                 let found = place_of (λ p. same_vars p b) (held_patterns (map (refined new) held)) e in
                 let lm : found.0 < length (map (refined new) held) = omega (arith, found.1, length-map (map (refined new) held) (λ (h : Held). h.leaders)) in
@@ -178,11 +178,11 @@ led_has leaders new samples now lead v = elim (cases_Bool (has now v)) [
   ]
 ]
 
-module _ (leaders : List VarId) (new : List (VarId × VarId)) (now : List VarId) (differ : Differ new) (up : Ascend leaders) (up_now : Ascend now) (led : (v : VarId) → has now v ≡ has leaders (old_of new v)) where
+module _ (leaders : List VarId) (new : List (VarId × VarId)) (now : List VarId) (differ : Differ new) (up : VarsAscend leaders) (up_now : VarsAscend now) (led : (v : VarId) → has now v ≡ has leaders (old_of new v)) where
   pattern_now : (s : List Value) → ((v : VarId) → has now v ≡ true → value_in s v ≡ value_in s (old_of new v)) → All (λ n. has (present_in leaders s) n.0 ≡ false) new → present_in now s ≡ with_new new (present_in leaders s) (present_in leaders s)
   pattern_now s agree off =
       let p : VarId → Bool = λ v. is_present (value_in s v) in
-      let old_up : Ascend (present_in leaders s) = AllPairs-filter (λ v w. v.0 < w.0) p leaders up in
+      let old_up : VarsAscend (present_in leaders s) = AllPairs-filter (λ v w. v.0 < w.0) p leaders up in
       same_ascending (present_in now s) (with_new new (present_in leaders s) (present_in leaders s)) (AllPairs-filter (λ v w. v.0 < w.0) p now up_now)
       (ascend_with new (present_in leaders s) (present_in leaders s) differ off old_up)
       (λ v. has-filter p now v ∙ (both v ∙ sym (has_now (present_in leaders s) new differ off v ∙ has-filter p leaders (old_of new v))))

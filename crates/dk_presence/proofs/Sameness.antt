@@ -2,7 +2,7 @@
 use Rattle.std.proofs.Common.{◌≡◌, ◌≢◌, suc, ◌<◌, eqb, inl, inr, List, [], ◌∷◌, true, false, ◌||◌, refl, ap, sym, ◌∙◌, subst, arith}
 use Rattle.std.proofs.lemmas.Bool.{and_from, and_parts, cases_Bool, eqb-true, eq-eqb, false≢true, true≢false}
 use Rattle.dk_base.specs.declared.kinds.VarId.{VarId}
-use Rattle.dk_samples.specs.Leaders.{Ascend}
+use Rattle.dk_samples.specs.Leaders.{VarsAscend}
 use Rattle.dk_presence.specs.Patterns.{has, same_vars}
 
 pub same_id : (v w : VarId) → eqb v.0 w.0 ≡ true → v ≡ w
@@ -39,11 +39,11 @@ pub not_same : (vs ws : List VarId) → same_vars vs ws ≡ false → vs ≢ ws
 not_same vs ws n e = true≢false (sym (ap (same_vars vs) (sym e) ∙ same_vars-refl vs) ∙ n)
 
 -- ---- ascending lists
-pub ascend_rest : (v : VarId) (vs : List VarId) → Ascend (v ∷ vs) → Ascend vs
+pub ascend_rest : (v : VarId) (vs : List VarId) → VarsAscend (v ∷ vs) → VarsAscend vs
 ascend_rest v vs up i j d l m = up (suc i) (suc j) d (omega arith) (omega arith)
 
 -- all later variables are greater
-pub above : (v : VarId) (vs : List VarId) → Ascend (v ∷ vs) → (w : VarId) → has vs w ≡ true → v.0 < w.0
+pub above : (v : VarId) (vs : List VarId) → VarsAscend (v ∷ vs) → (w : VarId) → has vs w ≡ true → v.0 < w.0
 above v [] up w h = absurd (false≢true h)
 above v (u ∷ vs) up w h = elim (cases_Bool (eqb u.0 w.0)) [
   | inl e ↦ let lt : v.0 < u.0 = up 0 1 v (omega arith) (omega arith) in subst (λ n. v.0 < n) (eqb-true u.0 w.0 e) lt
@@ -54,7 +54,7 @@ above v (u ∷ vs) up w h = elim (cases_Bool (eqb u.0 w.0)) [
 ]
 
 -- ascending lists of the same variables are equal
-pub same_ascending : (vs ws : List VarId) → Ascend vs → Ascend ws → ((v : VarId) → has vs v ≡ has ws v) → vs ≡ ws
+pub same_ascending : (vs ws : List VarId) → VarsAscend vs → VarsAscend ws → ((v : VarId) → has vs v ≡ has ws v) → vs ≡ ws
 same_ascending [] [] up on same = refl
 same_ascending [] (w ∷ ws) up on same = absurd (false≢true (same w ∙ ap (λ b. b || has ws w) (eq-eqb w.0 w.0 refl)))
 same_ascending (v ∷ vs) [] up on same = absurd (false≢true (sym (same v) ∙ ap (λ b. b || has vs v) (eq-eqb v.0 v.0 refl)))
@@ -79,7 +79,7 @@ same_ascending (v ∷ vs) (w ∷ ws) up on same =
           sym (ap (λ b. b || has vs u) n) ∙ (same u ∙ ap (λ b. b || has ws u) m)
     ]) in cc
   where
-    absent : (x : VarId) (xs : List VarId) → Ascend (x ∷ xs) → (u : VarId) → eqb x.0 u.0 ≡ true → has xs u ≡ false
+    absent : (x : VarId) (xs : List VarId) → VarsAscend (x ∷ xs) → (u : VarId) → eqb x.0 u.0 ≡ true → has xs u ≡ false
     absent x xs up u e = elim (cases_Bool (has xs u)) [
       | inl h ↦ let lt = above x xs up u h in absurd (omega (arith, lt, eqb-true x.0 u.0 e))
       | inr n ↦ n

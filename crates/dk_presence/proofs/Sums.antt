@@ -10,7 +10,7 @@ use Rattle.dk_base.specs.declared.kinds.VarId.{VarId}
 use Rattle.dk_base.specs.declared.values.Value.{Value}
 use Rattle.dk_samples.specs.Samples.{is_present, value_in}
 use Rattle.dk_presence.specs.declared.held.Held.{Held}
-use Rattle.dk_presence.specs.Patterns.{AreCounted, AreHeld, capped, count_of, counted_by, has, has_all, held_at, held_patterns, patterns_of, present_in, same_vars, times}
+use Rattle.dk_presence.specs.Patterns.{AreCounted, AreHeld, capped, count_of, counted_by, has, has_all, held_patterns, pattern_count, patterns_of, present_in, same_vars, times}
 use Rattle.dk_presence.proofs.Sameness.{same_id, same_vars-refl, same_vars-sym, same_vars-true}
 use Rattle.dk_presence.proofs.Adding.{times-cons}
 
@@ -35,11 +35,11 @@ occurs_not a (p ∷ patterns) h = elim (cases_Bool (same_vars a p)) [
       omega (arith, one, rest)
 ]
 
-pub held_not : (held : List Held) (a : List VarId) → list_any (λ p. same_vars p a) (held_patterns held) ≡ false → held_at held a ≡ 0
+pub held_not : (held : List Held) (a : List VarId) → list_any (λ p. same_vars p a) (held_patterns held) ≡ false → pattern_count held a ≡ 0
 held_not [] a h = refl
 held_not (k ∷ held) a h = elim (cases_Bool (same_vars k.leaders a)) [
   | inl e ↦ absurd (true≢false (sym (ap (λ b. b || list_any (λ p. same_vars p a) (held_patterns held)) e) ∙ h))
-  | inr n ↦ ap (λ b. cond b k.count (held_at held a)) n ∙ held_not held a (ap (λ b. b || list_any (λ p. same_vars p a) (held_patterns held)) (sym n) ∙ h)
+  | inr n ↦ ap (λ b. cond b k.count (pattern_count held a)) n ∙ held_not held a (ap (λ b. b || list_any (λ p. same_vars p a) (held_patterns held)) (sym n) ∙ h)
 ]
 
 -- a pattern that occurs is held
@@ -50,15 +50,15 @@ is_held patterns held are a h = elim (cases_Bool (list_any (λ p. same_vars p a)
 ]
 
 -- the count that stands beside a pattern is what is held at it
-pub count_at : (held : List Held) → IsDistinct same_vars (held_patterns held) → (k : ℕ) (d : Held) → k < length held → held_at held (get_or held k d).leaders ≡ (get_or held k d).count
+pub count_at : (held : List Held) → IsDistinct same_vars (held_patterns held) → (k : ℕ) (d : Held) → k < length held → pattern_count held (get_or held k d).leaders ≡ (get_or held k d).count
 count_at [] once k d l = absurd (omega arith)
-count_at (h ∷ held) once zero d l = ap (λ b. cond b h.count (held_at held h.leaders)) (same_vars-refl h.leaders)
+count_at (h ∷ held) once zero d l = ap (λ b. cond b h.count (pattern_count held h.leaders)) (same_vars-refl h.leaders)
 count_at (h ∷ held) once (suc k) d l =
     let lk : k < length held = omega arith in
     let long : suc k < length (held_patterns (h ∷ held)) = omega (arith, lk, length-map held (λ (x : Held). x.leaders)) in
     let apart = apart_from_distinct same_vars (held_patterns (h ∷ held)) 0 (suc k) d.leaders once (omega arith) long in
     let other : same_vars h.leaders (get_or held k d).leaders ≡ false = ap (same_vars h.leaders) (sym (get_or-map (λ (x : Held). x.leaders) held k d d.leaders lk)) ∙ apart in
-    ap (λ b. cond b h.count (held_at held (get_or held k d).leaders)) other ∙ count_at held (IsDistinct-tail same_vars h.leaders (held_patterns held) once) k d lk
+    ap (λ b. cond b h.count (pattern_count held (get_or held k d).leaders)) other ∙ count_at held (IsDistinct-tail same_vars h.leaders (held_patterns held) once) k d lk
 
 none_same : (a : List VarId) (ps : List (List VarId)) → AllByRecursion (λ y. same_vars a y ≡ false) ps → list_any (λ p. same_vars p a) ps ≡ false
 none_same a [] h = refl

@@ -3,7 +3,7 @@ use Rattle.std.specs.Prelude.{◌≡◌, ◌<◌, ◌==◌, ◌&&◌, ◌-◌, �
 use Rattle.std.specs.List.{IsDistinct, list_all, list_any}
 use Rattle.dk_base.specs.declared.kinds.VarId.{VarId}
 use Rattle.dk_base.specs.declared.values.Value.{Value}
-use Rattle.dk_samples.specs.Leaders.{Ascend}
+use Rattle.dk_samples.specs.Leaders.{VarsAscend}
 use Rattle.dk_samples.specs.Samples.{is_present, value_in}
 use Rattle.dk_presence.specs.declared.held.Held.{Held}
 
@@ -43,19 +43,19 @@ abbrev pub held_patterns : List Held → List (List VarId)
 held_patterns held = map (λ h. h.leaders) held
 
 -- the count that is held with a pattern, or 0
-abbrev pub held_at : List Held → List VarId → ℕ
-held_at [] pattern = 0
-held_at (h ∷ held) pattern = if same_vars h.leaders pattern then h.count else held_at held pattern
+abbrev pub pattern_count : List Held → List VarId → ℕ
+pattern_count [] pattern = 0
+pattern_count (h ∷ held) pattern = if same_vars h.leaders pattern then h.count else pattern_count held pattern
 
 -- each pattern once, with its leaders ascending and a count above 0
 pub record AreHeld (held : List Held) : Type 0 where
   pub once : IsDistinct same_vars (held_patterns held)
   pub some : All (λ h. 0 < h.count) held
-  pub ascend : All (λ h. Ascend h.leaders) held
+  pub ascend : All (λ h. VarsAscend h.leaders) held
 
 -- each of the patterns is held with the number of times that it stands in the list, and no other is held
 abbrev pub AreCounted : List (List VarId) → List Held → Type 0
-AreCounted patterns held = (pattern : List VarId) → held_at held pattern ≡ capped (times pattern patterns)
+AreCounted patterns held = (pattern : List VarId) → pattern_count held pattern ≡ capped (times pattern patterns)
 
 -- the number of samples in which all of these variables are present
 abbrev pub count_of : List VarId → List (List Value) → ℕ

@@ -14,9 +14,9 @@ abbrev pub first_held : List VarId → Held
 first_held present = record { count = 1; leaders = present }
 
 -- the patterns with a sample more, in which these leaders are present
-abbrev pub added : List VarId → List Held → List Held
-added present [] = first_held present ∷ []
-added present (h ∷ held) = if same_vars h.leaders present then counted_once_more h ∷ held else h ∷ added present held
+abbrev pub with_sample_of : List VarId → List Held → List Held
+with_sample_of present [] = first_held present ∷ []
+with_sample_of present (h ∷ held) = if same_vars h.leaders present then counted_once_more h ∷ held else h ∷ with_sample_of present held
 
 -- a variable at its place among ascending ones
 abbrev pub put : VarId → List VarId → List VarId

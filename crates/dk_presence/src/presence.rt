@@ -3,9 +3,9 @@ ghost use Rattle.std.specs.Prelude.{◌≡◌, ◌↔◌, [], ◌∷◌, ◌++�
 ghost use Rattle.dk_base.specs.Values.{values_of};
 ghost use Rattle.dk_base.specs.declared.kinds.VarId.{VarId};
 ghost use Rattle.dk_base.specs.declared.values.Value.{Value};
-ghost use Rattle.dk_samples.specs.Leaders.{Ascend, LeadNow};
-ghost use Rattle.dk_presence.specs.Patterns.{AreCounted, AreHeld, count_of, counted_by, has, held_at, patterns_of, present_in};
-ghost use Rattle.dk_presence.specs.Steps.{AreUnheld, Differ, added, refined};
+ghost use Rattle.dk_samples.specs.Leaders.{LeadNow, VarsAscend};
+ghost use Rattle.dk_presence.specs.Patterns.{AreCounted, AreHeld, count_of, counted_by, has, pattern_count, patterns_of, present_in};
+ghost use Rattle.dk_presence.specs.Steps.{AreUnheld, Differ, refined, with_sample_of};
 
 use crate::Held;
 use crate::places::{place_of, places_of};
@@ -43,7 +43,7 @@ pub fn present_leaders(
     sample: &[View<'_>],
 ) -> Result<List<VarId>, NoMemory>
     ensures exact { IfOk result (λ present. present ≡ present_in leaders.now (values_of sample.now)) }
-    ensures ascend { IfOk result (λ present. Ascend leaders.now → Ascend present) }
+    ensures ascend { IfOk result (λ present. VarsAscend leaders.now → VarsAscend present) }
 {
     let mut present = List::new(alloc);
     for leader in leaders {
@@ -98,15 +98,15 @@ impl Presence {
 
     /// Whether these leaders are a pattern that is held.
     pub fn has_pattern(&self, present: &[VarId]) -> bool
-        ensures { IsTrue result ↔ (0 < held_at self.now present.now) }
+        ensures { IsTrue result ↔ (0 < pattern_count self.now present.now) }
     {
         place_of(&self.places, present).is_some()
     }
 
     /// The patterns with a sample more, in which these leaders are present. They ascend.
     pub fn add(self, present: &[VarId]) -> Result<Presence, NoMemory>
-        requires { Ascend present.now }
-        ensures exact { IfOk result (λ p. p ≡ added present.now self) }
+        requires { VarsAscend present.now }
+        ensures exact { IfOk result (λ p. p ≡ with_sample_of present.now self) }
         ensures stands { IfOk result (λ p. (patterns : List (List VarId)) → AreCounted patterns self → AreCounted (patterns ++ present.now ∷ []) p) }
     {
         let Presence {
@@ -138,7 +138,7 @@ impl Presence {
         requires unheld { AreUnheld new.now self }
         ensures exact { IfOk result (λ p. p ≡ map (refined new.now) self) }
         ensures same { IfOk result (λ p. new.now ≡ [] → p ≡ self) }
-        ensures stands { IfOk result (λ p. (leaders now : List VarId) (samples : List (List Value)) → Ascend leaders → Ascend now → LeadNow leaders new.now samples now → AreCounted (patterns_of leaders samples) self → AreCounted (patterns_of now samples) p) }
+        ensures stands { IfOk result (λ p. (leaders now : List VarId) (samples : List (List Value)) → VarsAscend leaders → VarsAscend now → LeadNow leaders new.now samples now → AreCounted (patterns_of leaders samples) self → AreCounted (patterns_of now samples) p) }
     {
         let Presence {
             alloc,

@@ -1,6 +1,6 @@
 // The steps by which patterns are read and refined.
 ghost use Rattle.std.specs.Prelude.{◌≡◌, ◌<◌, [], ◌∷◌, ◌++◌, false, All, IfOk, map, length, slice_index_or, slice_set};
-ghost use Rattle.dk_samples.specs.Leaders.{Ascend};
+ghost use Rattle.dk_samples.specs.Leaders.{VarsAscend};
 ghost use Rattle.dk_presence.specs.Patterns.{counted_by, has, has_all};
 ghost use Rattle.dk_presence.specs.Steps.{AreUnheld, Differ, counted_once_more, first_held, put, refined, with_new};
 ghost use Rattle.dk_presence.specs.declared.held.Held.{Held};
@@ -11,7 +11,7 @@ use std::alloc::Global;
 
 /// Whether the variable is one of these, which ascend.
 pub(crate) fn contains(vars: &[VarId], v: VarId) -> bool
-    requires { Ascend vars.now }
+    requires { VarsAscend vars.now }
     ensures { result ≡ has vars.now v }
 {
     vars.binary_search_by_key(&v.0, |w| w.0).is_ok()
@@ -19,7 +19,7 @@ pub(crate) fn contains(vars: &[VarId], v: VarId) -> bool
 
 /// Whether each of the variables is one of these.
 pub(crate) fn contains_all(vars: &[VarId], all: &[VarId]) -> bool
-    requires { Ascend vars.now }
+    requires { VarsAscend vars.now }
     ensures { result ≡ has_all vars.now all.now }
 {
     for v in all {
@@ -32,7 +32,7 @@ pub(crate) fn contains_all(vars: &[VarId], all: &[VarId]) -> bool
 
 /// The sum of the counts of the patterns that have all of these leaders.
 pub(crate) fn sum_of(held: &[Held], leaders: &[VarId]) -> u64
-    requires { All (λ h. Ascend h.leaders) held.now }
+    requires { All (λ h. VarsAscend h.leaders) held.now }
     ensures { result ≡ counted_by held.now leaders.now }
 {
     let mut sum: u64 = 0;
@@ -46,7 +46,7 @@ pub(crate) fn sum_of(held: &[Held], leaders: &[VarId]) -> u64
 
 // The variable at its place among these.
 fn with_var(vars: Vec<VarId>, v: VarId) -> Result<Vec<VarId>, NoMemory>
-    requires ascend { Ascend vars.items }
+    requires ascend { VarsAscend vars.items }
     ensures { IfOk result (λ more. more.items ≡ put v vars.items) }
 {
     let mut more = vars;
@@ -61,7 +61,7 @@ fn with_leaders(
     leaders: &[VarId],
     new: &[(VarId, VarId)],
 ) -> Result<Vec<VarId>, NoMemory>
-    requires ascend { Ascend leaders.now }
+    requires ascend { VarsAscend leaders.now }
     requires differ { Differ new.now }
     requires unheld { All (λ n. has leaders.now n.0 ≡ false) new.now }
     ensures { IfOk result (λ more. more.items ≡ with_new new.now leaders.now leaders.now) }
@@ -77,7 +77,7 @@ fn with_leaders(
 
 // A pattern after classes were split.
 fn refine_one(alloc: Global, pattern: &Held, new: &[(VarId, VarId)]) -> Result<Held, NoMemory>
-    requires ascend { Ascend pattern.now.leaders }
+    requires ascend { VarsAscend pattern.now.leaders }
     requires differ { Differ new.now }
     requires unheld { All (λ n. has pattern.now.leaders n.0 ≡ false) new.now }
     ensures { IfOk result (λ h. h ≡ refined new.now pattern.now) }
@@ -95,7 +95,7 @@ pub(crate) fn refine_all(
     held: Vec<Held>,
     new: &[(VarId, VarId)],
 ) -> Result<Vec<Held>, NoMemory>
-    requires ascend { All (λ h. Ascend h.leaders) held.items }
+    requires ascend { All (λ h. VarsAscend h.leaders) held.items }
     requires differ { Differ new.now }
     requires unheld { AreUnheld new.now held.items }
     ensures { IfOk result (λ all. all.items ≡ map (refined new.now) held.items) }

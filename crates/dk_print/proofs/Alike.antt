@@ -10,7 +10,7 @@ use Rattle.std.proofs.lemmas.List.FromFn.{get_or-map-range_with_len}
 use Rattle.dk_base.specs.declared.kinds.Kind.{Kind}
 use Rattle.dk_base.specs.declared.kinds.Kind.TheVariants as kind
 use Rattle.dk_forms.specs.declared.states.State.TheVariants as state
-use Rattle.dk_template.specs.Templates.{kinds_of, rows}
+use Rattle.dk_template.specs.Templates.{role_kinds, rows}
 use Rattle.dk_template.specs.declared.grammar.RowId.{RowId}
 use Rattle.dk_print.specs.Laws.{RowsAlikeTakeOtherKinds}
 use Rattle.dk_print.specs.Parts.{Part, text_by}
@@ -41,7 +41,7 @@ abbrev Entry : Type 0
 Entry = ℕ × List ℕ × List ℕ
 
 entry : ℕ → Entry
-entry n = (n, shown (parts_of (row n)), map kind_number (kinds_of (row n)))
+entry n = (n, shown (parts_of (row n)), map kind_number (role_kinds (row n)))
 
 -- two rows are one, or differ in what their parts say or in their kinds
 differ : Entry → Entry → Bool
@@ -103,6 +103,6 @@ unfolding differ entry
 rows_alike r q is_r is_q parts kinds =
     let said : bytes_eq (shown (parts_of r)) (shown (parts_of q)) ≡ true =
     ap (λ ps. bytes_eq (shown (parts_of r)) (shown ps)) (sym parts) ∙ same_bytes (shown (parts_of r)) in
-    let taken : bytes_eq (map kind_number (kinds_of r)) (map kind_number (kinds_of q)) ≡ true =
-    ap (λ ks. bytes_eq (map kind_number (kinds_of r)) (map kind_number ks)) (sym kinds) ∙ same_bytes (map kind_number (kinds_of r)) in
+    let taken : bytes_eq (map kind_number (role_kinds r)) (map kind_number (role_kinds q)) ≡ true =
+    ap (λ ks. bytes_eq (map kind_number (role_kinds r)) (map kind_number ks)) (sym kinds) ∙ same_bytes (map kind_number (role_kinds r)) in
     ap row (one_number r.0 q.0 _ _ said taken (two_differ r.0 q.0 is_r.0 is_r.1 is_q.0 is_q.1))

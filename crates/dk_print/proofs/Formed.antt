@@ -8,7 +8,7 @@ use Rattle.std.proofs.lemmas.Bool.{and_parts, eqb-true, false≢true, or_cases}
 use Rattle.std.proofs.lemmas.List.{append-nil}
 use Rattle.std.proofs.lemmas.List.Elements.{All-head}
 use Rattle.std.proofs.lemmas.Slice.Eq.{bytes_eq-Decides}
-use Rattle.dk_base.specs.Items.{closes, is_quoted, is_text}
+use Rattle.dk_base.specs.Items.{closes_quote, is_quoted, is_text}
 use Rattle.dk_print.specs.Laws.{TellsStrings}
 use Rattle.dk_print.specs.Names.{is_plain_name}
 use Rattle.dk_print.specs.Parts.{Part, word, named, bound, values, null_or, remainder, modulus, lead, term, constant, step, bound_in, code_in, constant_in, factor_at, known_text, modulus_in, name_at, offset_in, part_text, remainder_in, sign_text, step_text, text_by, times_text}
@@ -56,7 +56,7 @@ a-string t h = elim (or_cases (bytes_eq t (codes "null")) (is_quoted t) h) as (�
   where
     quoted : (t : List ℕ) → is_quoted t ≡ true → (rest : List ℕ) × (t ≡ 34 ∷ rest)
     quoted [] q = absurd (false≢true q)
-    quoted (b ∷ bs) q = (bs, ap (λ c. c ∷ bs) (eqb-true b 34 (and_parts (b == 34) (closes false bs) q).0))
+    quoted (b ∷ bs) q = (bs, ap (λ c. c ∷ bs) (eqb-true b 34 (and_parts (b == 34) (closes_quote false bs) q).0))
 
 module _ (names : List (List ℕ)) where
   -- one of these forms spells the text

@@ -14,7 +14,7 @@ use Rattle.dk_fits.specs.Instances.{IsInstance, are_distinct}
 use Rattle.dk_forms.specs.declared.states.State.{State}
 use Rattle.dk_template.proofs.WrittenTuples.{admitted_arity}
 use Rattle.dk_template.specs.Admitted.{admits, is_written, suits}
-use Rattle.dk_template.specs.Templates.{arity_of, kind_of, kinds_of, roles_of, rows, rows_in, template_of}
+use Rattle.dk_template.specs.Templates.{arity_of, kind_of, role_kinds, roles_of, rows, rows_in, template_of}
 use Rattle.dk_template.specs.declared.grammar.Grammar.{Grammar}
 use Rattle.dk_template.specs.declared.grammar.Grammar.TheVariants as grammar
 use Rattle.dk_template.specs.declared.grammar.RowId.{RowId}
@@ -32,7 +32,7 @@ use Rattle.dk_print.proofs.Tokens.{Spells, Token}
 
 -- ---- every two lines of the table are settled
 abbrev kind_numbers : RowId → List ℕ
-kind_numbers r = map kind_number (kinds_of r)
+kind_numbers r = map kind_number (role_kinds r)
 
 abbrev entry_at : ℕ → List Token → Entry
 entry_at n ts = record { row = n; kinds = kind_numbers (row n); line = words ts }

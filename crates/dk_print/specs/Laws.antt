@@ -7,7 +7,7 @@ use Rattle.dk_filters.specs.Facts.{info_at}
 use Rattle.dk_fits.specs.Instances.{IsInstance}
 use Rattle.dk_forms.specs.declared.states.State.{State}
 use Rattle.dk_forms.specs.declared.states.State.TheVariants as state
-use Rattle.dk_template.specs.Templates.{IsRow, kinds_of}
+use Rattle.dk_template.specs.Templates.{IsRow, role_kinds}
 use Rattle.dk_template.specs.declared.grammar.Grammar.{Grammar}
 use Rattle.dk_template.specs.declared.grammar.RowId.{RowId}
 use Rattle.dk_print.specs.Names.{is_plain_name}
@@ -15,7 +15,7 @@ use Rattle.dk_print.specs.Texts.{instance_text, parts_of}
 
 -- Two rows with the same parts take variables of other kinds: the kinds and the parts tell the row.
 abbrev pub RowsAlikeTakeOtherKinds : Type 0
-RowsAlikeTakeOtherKinds = (r q : RowId) → IsRow r → IsRow q → parts_of r ≡ parts_of q → kinds_of r ≡ kinds_of q → r ≡ q
+RowsAlikeTakeOtherKinds = (r q : RowId) → IsRow r → IsRow q → parts_of r ≡ parts_of q → role_kinds r ≡ role_kinds q → r ≡ q
 
 -- the variables have plain names, and no two have one name
 pub record NamesTell (infos : List VarInfo) : Type 0 where

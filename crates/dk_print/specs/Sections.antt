@@ -1,7 +1,7 @@
 -- The texts of sections, and the lines round them.
 use Rattle.std.specs.Prelude.{ℕ, List, ◌++◌, codes, flat_map, replicate}
 use Rattle.std.specs.Fmt.{decimal}
-use Rattle.dk_base.specs.Refusals.{text_of}
+use Rattle.dk_base.specs.Refusals.{why_text}
 use Rattle.dk_base.specs.declared.kinds.VarInfo.{VarInfo}
 use Rattle.dk_base.specs.declared.why.Why.{Why}
 use Rattle.dk_engine.specs.declared.counts.Counts.{Counts}
@@ -46,7 +46,7 @@ stats_line name counts =
 -- ---- faults
 -- a line of this file is refused
 unfoldable pub fault_line : List ℕ → ℕ → Why → List ℕ
-fault_line file line why = codes "daikon: " ++ file ++ codes ":" ++ decimal line ++ codes ": " ++ text_of why ++ codes "\n"
+fault_line file line why = codes "daikon: " ++ file ++ codes ":" ++ decimal line ++ codes ": " ++ why_text why ++ codes "\n"
 
 -- ---- reports by the way
 abbrev pub after_blocks_line : ℕ → List ℕ

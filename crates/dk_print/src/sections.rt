@@ -1,6 +1,6 @@
 // The texts of sections, and the lines round them.
 ghost use Rattle.std.specs.Prelude.{◌≡◌, ◌++◌, IfOk, OnOk, codes, flat_map};
-ghost use Rattle.dk_base.specs.Refusals.{text_of};
+ghost use Rattle.dk_base.specs.Refusals.{why_text};
 ghost use Rattle.dk_print.specs.Sections.{candidate_line, count_text, fault_line, heading, kept_text, samples_text, section_text, stats_line, variables_text};
 
 use crate::instances::push_instance;
@@ -138,7 +138,7 @@ pub fn stats(alloc: Global, name: &[u8], counts: Counts) -> Result<Text, NoMemor
 
 // Why a line is refused, by number and name, and the end of the line.
 fn push_why(text: &mut Text, why: Why) -> Result<(), NoMemory>
-    ensures { OnOk result (text.new ≡ text.old ++ (codes ": " ++ text_of why ++ codes "\n")) }
+    ensures { OnOk result (text.new ≡ text.old ++ (codes ": " ++ why_text why ++ codes "\n")) }
 {
     push_size(text, b": ", why.number())?;
     text.append(b" ")?;

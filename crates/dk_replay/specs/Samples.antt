@@ -7,7 +7,7 @@ use Rattle.dk_base.specs.declared.kinds.VarId.{VarId}
 use Rattle.dk_base.specs.declared.kinds.VarInfo.{VarInfo}
 use Rattle.dk_base.specs.declared.values.Value.{Value}
 use Rattle.dk_base.specs.declared.values.View.{View}
-use Rattle.dk_classes.specs.Classes.{kind_at, kinds_of}
+use Rattle.dk_classes.specs.Classes.{kind_at, var_kinds}
 use Rattle.dk_samples.specs.Samples.{value_in}
 use Rattle.dk_template.specs.Admitted.{same_kind}
 use Rattle.dk_template.specs.declared.grammar.Grammar.{Grammar}
@@ -24,7 +24,7 @@ pub record Fed : Type 0 where
 
 -- two variables are of one kind
 abbrev pub are_of_one_kind : List VarInfo → VarId → VarId → Bool
-are_of_one_kind infos v w = same_kind (kind_at (kinds_of infos) v.0) (kind_at (kinds_of infos) w.0)
+are_of_one_kind infos v w = same_kind (kind_at (var_kinds infos) v.0) (kind_at (var_kinds infos) w.0)
 
 -- two variables are of one kind, and have the same value in each sample; the missing value is the same as itself alone
 abbrev pub agree : Fed → VarId → VarId → Bool

@@ -13,7 +13,7 @@ ghost use Rattle.dk_template.specs.Joins.{joined};
 ghost use Rattle.dk_template.specs.Premises.{MayWantMemory};
 ghost use Rattle.dk_template.specs.Proper.{IsProper};
 ghost use Rattle.dk_template.specs.Rows.{IsTuple};
-ghost use Rattle.dk_template.specs.Templates.{IsRow, form_of, kinds_of};
+ghost use Rattle.dk_template.specs.Templates.{IsRow, form_of, role_kinds};
 
 use dk_base::{List, NoMemory, VarId, VarInfo, View, same};
 use dk_grammar::{join, point};
@@ -64,7 +64,7 @@ fn with_tuple(
 ) -> Result<State, NoMemory>
     requires row { IsRow row }
     requires before { IsProper (form_of row) before }
-    requires tuple { is_whole (values_of tuple.now) ≡ true → IsTuple (kinds_of row) (values_of tuple.now) }
+    requires tuple { is_whole (values_of tuple.now) ≡ true → IsTuple (role_kinds row) (values_of tuple.now) }
     ensures state { IfOk result (λ s. s ≡ (if is_whole (values_of tuple.now) then joined (form_of row) before (state_of row (values_of tuple.now ∷ [])) else before)) }
     ensures proper { IfOk result (λ s. IsProper (form_of row) s) }
     ensures err { OnErr result (MayWantMemory row) }

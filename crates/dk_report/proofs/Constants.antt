@@ -10,7 +10,7 @@ use Rattle.dk_base.specs.SameValues.{same_value}
 use Rattle.dk_base.specs.declared.kinds.VarId.{VarId}
 use Rattle.dk_base.specs.declared.values.Value.{Value}
 use Rattle.dk_constants.specs.Constants.{AreConstants, HasAlways}
-use Rattle.dk_constants.specs.Known.{Ascend, Entries, known_at, none_known, var_at}
+use Rattle.dk_constants.specs.Known.{Entries, EntriesAscend, entry_var_at, known_at, none_known}
 use Rattle.dk_fits.proofs.Ascending.{ascend_from_pairs, kept, pairs}
 use Rattle.dk_fits.proofs.Members.{contained, in_filter, is_in, of_filter}
 use Rattle.dk_forms.specs.Laws.{IsIn}
@@ -40,12 +40,12 @@ of-known (k ∷ known) v i = elim (cases_Bool (k.0.0 == v.0)) as (λ _. (x : Val
   ]
 ]
 
-vars-ascend : (known : Entries) → Ascend known → AllPairs Before (map var_of known)
+vars-ascend : (known : Entries) → EntriesAscend known → AllPairs Before (map var_of known)
 vars-ascend known up i j d lt l =
     let n = length-map known var_of in
     let lj : j < length known = omega (arith, l, n) in
     let li : i < length known = omega (arith, lj, lt) in
-    let at : (k : ℕ) → k < length known → (get_or (map var_of known) k d).0 ≡ var_at known k = λ k lk.
+    let at : (k : ℕ) → k < length known → (get_or (map var_of known) k d).0 ≡ entry_var_at known k = λ k lk.
     ap (λ (v : VarId). v.0) (get_or-map var_of known k none_known d lk) in
     let a = at i li in
     let b = at j lj in

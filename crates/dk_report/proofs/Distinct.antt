@@ -11,7 +11,7 @@ use Rattle.dk_fits.proofs.Members.{contained, in_filter, of_filter, of_map}
 use Rattle.dk_forms.specs.Laws.{IsIn}
 use Rattle.dk_presence.proofs.Sameness.{same_vars-refl, same_vars-true}
 use Rattle.dk_presence.proofs.Sums.{count_at, is_held, occurs_not}
-use Rattle.dk_presence.specs.Patterns.{AreCounted, AreHeld, held_at, held_patterns, same_vars, times}
+use Rattle.dk_presence.specs.Patterns.{AreCounted, AreHeld, held_patterns, pattern_count, same_vars, times}
 use Rattle.dk_presence.specs.declared.held.Held.{Held}
 use Rattle.dk_report.specs.Sizes.{each_once}
 
@@ -109,9 +109,9 @@ module _ (patterns : List Pattern) (held : List Held) (are : AreHeld held) (coun
     | inr none ↦
         (let m = of_map {X = Held} {Y = Pattern} (λ h. h.leaders) p held i in
         let c = contained m.0 held m.1 in
-        let at : held_at held m.0.leaders ≡ m.0.count = subst (λ (h : Held). held_at held h.leaders ≡ h.count) c.2 (count_at held are.once c.0 m.0 c.1) in
+        let at : pattern_count held m.0.leaders ≡ m.0.count = subst (λ (h : Held). pattern_count held h.leaders ≡ h.count) c.2 (count_at held are.once c.0 m.0 c.1) in
         let some : 0 < m.0.count = subst (λ (h : Held). 0 < h.count) c.2 (are.some c.0 m.0 c.1) in
-        let same : held_at held p ≡ m.0.count = ap (held_at held) m.2 ∙ at in
+        let same : pattern_count held p ≡ m.0.count = ap (pattern_count held) m.2 ∙ at in
         let zero : times p patterns ≡ 0 = occurs_not p patterns none in
         let is = counted p in
         absurd (omega (arith, some, same, is, zero)))

@@ -9,7 +9,7 @@ use Rattle.dk_base.specs.declared.kinds.VarInfo.{VarInfo}
 use Rattle.dk_base.specs.declared.values.Value.{Value}
 use Rattle.dk_classes.proofs.OfKind.{kind_read}
 use Rattle.dk_classes.proofs.OwnLeaders.{leads_from_own, own_ascend, own_from_leads}
-use Rattle.dk_classes.specs.Classes.{AreLeaders, InClass, kinds_of}
+use Rattle.dk_classes.specs.Classes.{AreLeaders, InClass, var_kinds}
 use Rattle.dk_classes.specs.Leaders.{leader_at, own_leaders}
 use Rattle.dk_filters.proofs.Agreeing.{agrees_is_agreement}
 use Rattle.dk_filters.specs.Facts.{no_info}
@@ -62,12 +62,12 @@ in-all infos v i =
     let same : v.0 ≡ m.0 = ap (λ (u : VarId). u.0) m.2 in
     omega (arith, high, same)
 
-module _ (infos : List VarInfo) (samples : List (List Value)) (leaders : List VarId) (are : AreLeaders (kinds_of infos) samples leaders) where
+module _ (infos : List VarInfo) (samples : List (List Value)) (leaders : List VarId) (are : AreLeaders (var_kinds infos) samples leaders) where
   long : length leaders ≡ length infos
   long = are.long ∙ length-map infos (λ (i : VarInfo). i.kind)
 
   -- two that agree are of one class
-  in-class : (v w : VarId) → v.0 < length infos → w.0 < length infos → agrees infos samples w v ≡ true → InClass (kinds_of infos) samples v.0 w.0
+  in-class : (v w : VarId) → v.0 < length infos → w.0 < length infos → agrees infos samples w v ≡ true → InClass (var_kinds infos) samples v.0 w.0
   in-class v w lv lw h =
       let told = (agrees_is_agreement infos samples w v).0 h in
       record {
@@ -76,7 +76,7 @@ module _ (infos : List VarInfo) (samples : List (List Value)) (leaders : List Va
         agree = told.1;
       }
 
-  agree-in : (v w : VarId) → v.0 < length infos → w.0 < length infos → InClass (kinds_of infos) samples v.0 w.0 → agrees infos samples w v ≡ true
+  agree-in : (v w : VarId) → v.0 < length infos → w.0 < length infos → InClass (var_kinds infos) samples v.0 w.0 → agrees infos samples w v ≡ true
   agree-in v w lv lw h = (agrees_is_agreement infos samples w v).1 (sym (kind_read infos w.0 no_info lw) ∙ (h.kind ∙ kind_read infos v.0 no_info lv), h.agree)
 
   leads-from : (v : VarId) → v.0 < length infos → leader_at leaders v.0 ≡ v.0 → leads infos samples v ≡ true
@@ -100,7 +100,7 @@ module _ (infos : List VarInfo) (samples : List (List Value)) (leaders : List Va
       let first = are.each v.0 here in
       let m : VarId = record { 0 = leader_at leaders v.0 } in
       let lm : m.0 < length infos = (let w = first.holds.within in let k = length-map infos (λ (i : VarInfo). i.kind) in omega (arith, w, k)) in
-      let self : InClass (kinds_of infos) samples v.0 v.0 = record { within = (let k = length-map infos (λ (i : VarInfo). i.kind) in omega (arith, k, l)); kind = refl; agree = λ k d lt. refl } in
+      let self : InClass (var_kinds infos) samples v.0 v.0 = record { within = (let k = length-map infos (λ (i : VarInfo). i.kind) in omega (arith, k, l)); kind = refl; agree = λ k d lt. refl } in
       let le = first.first v.0 self in
       elim (cases_lt m.0 v.0) as (λ _. leader_at leaders v.0 ≡ v.0) [
         | inl below ↦

@@ -7,7 +7,7 @@ use Rattle.dk_base.specs.declared.kinds.VarId.{VarId}
 use Rattle.dk_base.specs.declared.kinds.VarInfo.{VarInfo}
 use Rattle.dk_base.specs.declared.values.Value.{Value}
 use Rattle.dk_classes.proofs.OfKind.{kind_read}
-use Rattle.dk_classes.specs.Classes.{kind_at, kinds_of}
+use Rattle.dk_classes.specs.Classes.{kind_at, var_kinds}
 use Rattle.dk_engine.specs.Levels.{Whole}
 use Rattle.dk_filters.proofs.Agreeing.{agrees_is_agreement}
 use Rattle.dk_filters.proofs.Asked.{admitted-there, facts_are_of_what_may_be_asked, few-vars}
@@ -36,7 +36,7 @@ same-tests true c to from = sym (to refl)
 same-tests false true to from = from refl
 same-tests false false to from = refl
 
-kinds-read : (infos : List VarInfo) (v : VarId) → v.0 < length infos → kind_at (kinds_of infos) v.0 ≡ (info_at infos v).kind
+kinds-read : (infos : List VarInfo) (v : VarId) → v.0 < length infos → kind_at (var_kinds infos) v.0 ≡ (info_at infos v).kind
 kinds-read infos v within = kind_read infos v.0 no_info within
 
 -- ---- what stands for samples

@@ -12,7 +12,7 @@ use Rattle.dk_rows.specs.Laws.{PlainRowsStateTheirRelation, RowsKeepTheirLaws, i
 use Rattle.dk_rows.specs.Meaning.{state_by}
 use Rattle.dk_rows.specs.Meanings.{meaning_of, relation_of, state_of}
 use Rattle.dk_template.specs.Rows.{RowLaws}
-use Rattle.dk_template.specs.Templates.{IsRow, form_of, is_plain, kinds_of, template_of}
+use Rattle.dk_template.specs.Templates.{IsRow, form_of, is_plain, role_kinds, template_of}
 use Rattle.dk_template.specs.declared.grammar.RowId.{RowId}
 use Rattle.dk_template.specs.declared.templates.StateForm.{StateForm}
 use Rattle.dk_template.specs.declared.templates.StateForm.TheVariants as form
@@ -27,11 +27,11 @@ pub laws_of : RowsKeepTheirLaws
 unfolding state_of
 laws_of r is =
     let a = agrees_of r is in
-    subst (λ f. RowLaws (kinds_of r) f (state_by (meaning_of r))) a.0 (meaning_laws (kinds_of r) (meaning_of r) a.1)
+    subst (λ f. RowLaws (role_kinds r) f (state_by (meaning_of r))) a.0 (meaning_laws (role_kinds r) (meaning_of r) a.1)
 
 -- the same of a row whose kinds and form are known
-pub laws_at : (r : RowId) → IsRow r → {kinds : List Kind} {form : StateForm} → kinds_of r ≡ kinds → form_of r ≡ form → RowLaws kinds form (state_of r)
-laws_at r is {kinds} {form} k f = subst (λ l. RowLaws l form (state_of r)) k (subst (λ g. RowLaws (kinds_of r) g (state_of r)) f (laws_of r is))
+pub laws_at : (r : RowId) → IsRow r → {kinds : List Kind} {form : StateForm} → role_kinds r ≡ kinds → form_of r ≡ form → RowLaws kinds form (state_of r)
+laws_at r is {kinds} {form} k f = subst (λ l. RowLaws l form (state_of r)) k (subst (λ g. RowLaws (role_kinds r) g (state_of r)) f (laws_of r is))
 
 pub plain_rows : PlainRowsStateTheirRelation
 unfolding state_of relation_of
@@ -41,7 +41,7 @@ plain_rows r is plain tuples = relation_state (meaning_of r) (ap is_plain ((agre
 pub is_row_by : (r : RowId) → is_row r ≡ true → IsRow r
 is_row_by r e = (leb-true 1 r.0 (first_so (nat_le 1 r.0) (nat_le r.0 68) e), leb-true r.0 68 (second_so (nat_le 1 r.0) (nat_le r.0 68) e))
 
-pub laws_by : (r : RowId) → is_row r ≡ true → RowLaws (kinds_of r) (form_of r) (state_of r)
+pub laws_by : (r : RowId) → is_row r ≡ true → RowLaws (role_kinds r) (form_of r) (state_of r)
 laws_by r e = laws_of r (is_row_by r e)
 
 -- the state of one tuple by a row with a relation

@@ -4,7 +4,7 @@ use Rattle.std.proofs.lemmas.Bool.{cases_lt}
 use Rattle.std.proofs.lemmas.List.{length-take, take-map, take-take, take_all}
 use Rattle.dk_base.specs.Reading.{LineFault}
 use Rattle.dk_base.specs.declared.why.Why.{Why}
-use Rattle.dk_io.specs.Outside.{Held, Absent, Holds, Rose}
+use Rattle.dk_io.specs.Outside.{HeldFile, Absent, Holds, Rose}
 use Rattle.dk_io.specs.declared.outside.Stream.TheVariants.{Messages}
 use Rattle.dk_core.specs.History.{History, file_ended}
 use Rattle.dk_core.specs.Resuming.{IsStart, state_of}
@@ -15,10 +15,10 @@ use Rattle.dk_words.specs.declared.request.Request.TheVariants.{Run, Help, Versi
 use Rattle.dk_run.specs.Commands.{helds_of, names_of}
 use Rattle.dk_run.specs.Courses.{Course, Outset, course_of, course_of_file, course_of_files, ends, fault_in, first_fault, onto, then_files}
 use Rattle.dk_run.specs.Starts.{Begins, HasBegun, IsRefusedAs, IsState}
-use Rattle.dk_run.specs.Files.{AreHeld, File, FileFault, whole}
+use Rattle.dk_run.specs.Files.{AreHeldFiles, File, FileFault, whole}
 use Rattle.dk_print.specs.Sections.{fault_line}
 use Rattle.dk_run.specs.Outputs.{Output, followed, only_on, output_along, output_of}
-use Rattle.dk_run.specs.Statuses.{AreCleanBehind, AtStart, Break, CompletesCalmly, HasBroken, IsCalm, IsComplete, IsDone, IsRefused, IsStateRefused, IsStateUnread, IsUnread, IsWritten, Outside, Says, Within, held_at}
+use Rattle.dk_run.specs.Statuses.{AreCleanBehind, AtStart, Break, CompletesCalmly, HasBroken, IsCalm, IsComplete, IsDone, IsRefused, IsStateRefused, IsStateUnread, IsUnread, OutputIsWritten, Outside, Says, Within, held_file_at}
 use Rattle.dk_run.specs.declared.status.Status.{Status}
 use Rattle.dk_run.specs.declared.status.Status.TheVariants.{Done, Refused, Usage, Read, Write, NoMemory}
 use Rattle.dk_run.proofs.Saying.{held-take, same_length}
@@ -48,21 +48,21 @@ unfolding course_of
 first_front start ignores k fs f e = course_front ignores start.room start.history 0 k fs f (fault_is (course_of_files ignores start.room start.history 0 (take k fs)).end f e)
 
 -- ---- files that are held
-held_take : (k : ℕ) (helds : List Held) (contents : List (List ℕ)) → AreHeld helds contents → AreHeld (take k helds) (take k contents)
-held_take k helds contents held = ap (λ (l : List Held). take k l) held ∙ take-map Holds k contents
+held_take : (k : ℕ) (helds : List HeldFile) (contents : List (List ℕ)) → AreHeldFiles helds contents → AreHeldFiles (take k helds) (take k contents)
+held_take k helds contents held = ap (λ (l : List HeldFile). take k l) held ∙ take-map Holds k contents
 
-held_whole : (helds : List Held) (contents : List (List ℕ)) → AreHeld helds contents → AreHeld (take (length helds) helds) contents
-held_whole helds contents held = subst (λ (l : List Held). AreHeld l contents) (sym (take_all (length helds) helds (omega arith))) held
+held_whole : (helds : List HeldFile) (contents : List (List ℕ)) → AreHeldFiles helds contents → AreHeldFiles (take (length helds) helds) contents
+held_whole helds contents held = subst (λ (l : List HeldFile). AreHeldFiles l contents) (sym (take_all (length helds) helds (omega arith))) held
 
-held_there : (helds : List Held) (contents : List (List ℕ)) (k : ℕ) → AreHeld helds contents → k < length helds → (xs : List ℕ) × (held_at helds k ≡ Holds xs)
+held_there : (helds : List HeldFile) (contents : List (List ℕ)) (k : ℕ) → AreHeldFiles helds contents → k < length helds → (xs : List ℕ) × (held_file_at helds k ≡ Holds xs)
 held_there [] contents k held h = absurd (omega arith)
 held_there (n ∷ ns) [] k held h = absurd (cc (held))
 held_there (n ∷ ns) (c ∷ cs) zero held h = (c, cc (held))
 held_there (n ∷ ns) (c ∷ cs) (suc k) held h = held_there ns cs k (cc (held)) (omega arith)
 
 -- no file that is held was left unread
-not_unread : (command : Command) (before after : Outside) (by : Break) (place n : ℕ) (contents : List (List ℕ)) → IsCalm before after → AreHeld (take n (helds_of command before.file)) contents → place < n → place < length (names_of command)
-    → HasBroken by (held_at (helds_of command before.file) place) (Rose before.read_faults after.read_faults) → ⊥
+not_unread : (command : Command) (before after : Outside) (by : Break) (place n : ℕ) (contents : List (List ℕ)) → IsCalm before after → AreHeldFiles (take n (helds_of command before.file)) contents → place < n → place < length (names_of command)
+    → HasBroken by (held_file_at (helds_of command before.file) place) (Rose before.read_faults after.read_faults) → ⊥
 not_unread command before after Within place n contents calm held below named cause = calm.read cause.1
 not_unread command before after AtStart place n contents calm held below named (inr rose) = calm.read rose
 not_unread command before after AtStart place n contents calm held below named (inl absent) =
@@ -71,19 +71,19 @@ not_unread command before after AtStart place n contents calm held below named (
     cc (absent, same, there.1)
 
 -- of the first n files the contents are held, and they have a first fault: so the faulty one stands behind the clean ones
-not_clean : (start : Outset) (ignores : Bool) (helds : List Held) (k n : ℕ) (contents : List (List ℕ)) (fault : FileFault) → AreCleanBehind start ignores helds k
-    → AreHeld (take n helds) contents → first_fault start ignores (map whole contents) ≡ Some fault → n ≤ k → ⊥
+not_clean : (start : Outset) (ignores : Bool) (helds : List HeldFile) (k n : ℕ) (contents : List (List ℕ)) (fault : FileFault) → AreCleanBehind start ignores helds k
+    → AreHeldFiles (take n helds) contents → first_fault start ignores (map whole contents) ≡ Some fault → n ≤ k → ⊥
 not_clean start ignores helds k n contents fault clean held first h = let none = clean n contents h held in cc (none, first)
 
 -- what was told of a refused file holds of all files that are held
 told_refused : (command : Command) (before after : Outside) (output : Output) (comes : IsRefused command before after output) (start : Outset) → Begins command.resume before.file start
-    → (n : ℕ) (contents : List (List ℕ)) → comes.fault.file < n → AreHeld (take n (helds_of command before.file)) contents
+    → (n : ℕ) (contents : List (List ℕ)) → comes.fault.file < n → AreHeldFiles (take n (helds_of command before.file)) contents
     → (first_fault start command.ignore_missing_entry (map whole contents) ≡ Some comes.fault) × (output ≡ output_of start command (map whole contents))
 unfolding output_of
 told_refused command before after output comes start begins n contents h held =
     let k = comes.fault.file in
-    let front : AreHeld (take (k + 1) (helds_of command before.file)) (take (k + 1) contents) =
-    subst (λ (l : List Held). AreHeld l (take (k + 1) contents)) (take-take (k + 1) n (helds_of command before.file) (omega arith)) (held_take (k + 1) (take n (helds_of command before.file)) contents held) in
+    let front : AreHeldFiles (take (k + 1) (helds_of command before.file)) (take (k + 1) contents) =
+    subst (λ (l : List HeldFile). AreHeldFiles l (take (k + 1) contents)) (take-take (k + 1) n (helds_of command before.file) (omega arith)) (held_take (k + 1) (take n (helds_of command before.file)) contents held) in
     let first = comes.first start begins (take (k + 1) contents) front in
     let same : course_of start command.ignore_missing_entry (map whole (take (k + 1) contents)) ≡ course_of start command.ignore_missing_entry (map whole contents) =
     ap (course_of start command.ignore_missing_entry) (sym (take-map whole (k + 1) contents))
@@ -97,7 +97,7 @@ fine_state why xs state (inl (is, long)) = omega (arith, state.0, long)
 fine_state why xs state (inr (is, short, bad)) = bad state.1
 
 -- the state file that a run begins with is there, and is one
-start_state : (resume : Option (List ℕ)) (file : List ℕ → Held) (start : Outset) → Begins resume file start → (name : List ℕ) → resume ≡ Some name → (xs : List ℕ) × (file name ≡ Holds xs) × IsState xs
+start_state : (resume : Option (List ℕ)) (file : List ℕ → HeldFile) (start : Outset) → Begins resume file start → (name : List ℕ) → resume ≡ Some name → (xs : List ℕ) × (file name ≡ Holds xs) × IsState xs
 start_state None file start begins name is = absurd (cc (is))
 start_state (Some other) file start (h, begin, holds, short, same) name is =
     let here : other ≡ name = cc (is) in
@@ -108,7 +108,7 @@ not_state_refused command before output start begins refused =
     let (xs, holds, state) = start_state command.resume before.file start begins refused.name refused.named in
     fine_state refused.why xs state (refused.fault xs holds)
 
-not_held_unread : (by : Break) (before after : Outside) (held : Held) (xs : List ℕ) → IsCalm before after → held ≡ Holds xs → HasBroken by held (Rose before.read_faults after.read_faults) → ⊥
+not_held_unread : (by : Break) (before after : Outside) (held : HeldFile) (xs : List ℕ) → IsCalm before after → held ≡ Holds xs → HasBroken by held (Rose before.read_faults after.read_faults) → ⊥
 not_held_unread AtStart before after held xs calm holds (inl absent) = cc (holds, absent)
 not_held_unread AtStart before after held xs calm holds (inr rose) = calm.read rose
 not_held_unread Within before after held xs calm holds (there, rose) = calm.read rose
@@ -119,7 +119,7 @@ not_state_unread command before after output start calm begins unread =
     not_held_unread unread.by before after (before.file unread.name) xs calm holds unread.cause
 
 -- a run that has begun did so with a state
-begun_state : (resume : Option (List ℕ)) (file : List ℕ → Held) (name xs : List ℕ) (why : Why) → HasBegun resume file → resume ≡ Some name → file name ≡ Holds xs → IsRefusedAs why xs → ⊥
+begun_state : (resume : Option (List ℕ)) (file : List ℕ → HeldFile) (name xs : List ℕ) (why : Why) → HasBegun resume file → resume ≡ Some name → file name ≡ Holds xs → IsRefusedAs why xs → ⊥
 begun_state None file name xs why begun is holds bad = cc (is)
 begun_state (Some other) file name xs why begun is holds bad =
     let here : other ≡ name = cc (is) in
@@ -132,21 +132,21 @@ same_why a b xs (inr (is, short, bad)) (inl (same, long)) = absurd (omega (arith
 same_why a b xs (inr (is, short, bad)) (inr (same, more, worse)) = is ∙ sym same
 
 -- ---- what each status says
-done_of : (command : Command) (before after : Outside) (output : Output) → IsDone command before after output → IsWritten before after output → IsComplete command before after Done
+done_of : (command : Command) (before after : Outside) (output : Output) → IsDone command before after output → OutputIsWritten before after output → IsComplete command before after Done
 done_of command before after output comes written = record {
   done = λ start begins contents held none. inl (refl, written.0 ∙ ap (followed before.written) (comes.defined start begins contents held));
   refused = λ start begins n contents fault held first. elim (cases_lt n (length (helds_of command before.file))) [
     | inl below ↦ absurd (not_clean start command.ignore_missing_entry (helds_of command before.file) (length (helds_of command before.file)) n contents fault (comes.read.clean start begins) held first (omega arith))
     | inr above ↦
         let all = take_all n (helds_of command before.file) (omega arith) in
-        let whole_held : AreHeld (take (length (helds_of command before.file)) (helds_of command before.file)) contents =
-        held_whole (helds_of command before.file) contents (subst (λ (l : List Held). AreHeld l contents) all held) in
+        let whole_held : AreHeldFiles (take (length (helds_of command before.file)) (helds_of command before.file)) contents =
+        held_whole (helds_of command before.file) contents (subst (λ (l : List HeldFile). AreHeldFiles l contents) all held) in
         absurd (not_clean start command.ignore_missing_entry (helds_of command before.file) (length (helds_of command before.file)) (length (helds_of command before.file)) contents fault (comes.read.clean start begins) whole_held first (omega arith))
   ];
   state_refused = λ name xs why named holds bad. absurd (begun_state command.resume before.file name xs why comes.read.begun named holds bad);
 }
 
-refused_of : (command : Command) (before after : Outside) (output : Output) → IsRefused command before after output → IsWritten before after output → IsComplete command before after Refused
+refused_of : (command : Command) (before after : Outside) (output : Output) → IsRefused command before after output → OutputIsWritten before after output → IsComplete command before after Refused
 refused_of command before after output comes written = record {
   done = λ start begins contents held none.
       let told = told_refused command before after output comes start begins (length (helds_of command before.file)) contents (omega (arith, comes.named, same_length command before.file)) (held_whole (helds_of command before.file) contents held) in
@@ -158,7 +158,7 @@ refused_of command before after output comes written = record {
   state_refused = λ name xs why named holds bad. absurd (begun_state command.resume before.file name xs why comes.begun named holds bad);
 }
 
-state_refused_of : (command : Command) (before after : Outside) (output : Output) → IsStateRefused command before output → IsWritten before after output → IsComplete command before after Refused
+state_refused_of : (command : Command) (before after : Outside) (output : Output) → IsStateRefused command before output → OutputIsWritten before after output → IsComplete command before after Refused
 state_refused_of command before after output comes written = record {
   done = λ start begins contents held none. absurd (not_state_refused command before output start begins comes);
   refused = λ start begins n contents fault held first. absurd (not_state_refused command before output start begins comes);

@@ -10,8 +10,8 @@ use Rattle.dk_base.specs.Reading.{LineFault}
 use Rattle.dk_base.specs.declared.faults.Fault.{Fault}
 use Rattle.dk_base.specs.declared.faults.Fault.TheVariants as f
 use Rattle.dk_io.proofs.Reading.{front_nil}
-use Rattle.dk_io.specs.Outside.{Held, Holds, Rose, Starts}
-use Rattle.dk_io.specs.Streams.{Texts, added}
+use Rattle.dk_io.specs.Outside.{HeldFile, Holds, Rose, Starts}
+use Rattle.dk_io.specs.Streams.{Texts, with_bytes}
 use Rattle.dk_io.specs.declared.outside.Stream.TheVariants.{Report}
 use Rattle.dk_lines.proofs.Lined.{at_end}
 use Rattle.dk_lines.specs.Left.{Left, Over}
@@ -19,16 +19,16 @@ use Rattle.dk_lines.specs.Reading.{Reading, room_of, left_of}
 use Rattle.dk_core.specs.Blocks.{Groups, Last, grouped}
 use Rattle.dk_core.specs.History.{History, Taken, effect_of, file_ended, no_block}
 use Rattle.dk_core.specs.Reading.{Stepped, after_next}
-use Rattle.dk_core.specs.Standing.{ReportsAlike, StandsFor, blocks_of, ignores_of, over_of, paired}
-use Rattle.dk_core.specs.Steps.{Answers, Counts, FaultAnswers, Steps, groups_left}
+use Rattle.dk_core.specs.Standing.{ReportsAlike, SessionStandsFor, blocks_of, ignores_of, left_with_answer, over_of}
+use Rattle.dk_core.specs.Steps.{FaultAnswers, NextBlock, SessionCounts, Steps, groups_left}
 use Rattle.dk_core.specs.declared.session.Session.{Session}
 use Rattle.dk_report.specs.declared.options.Options.{Options}
 use Rattle.dk_words.specs.declared.command.Command.{Command}
 use Rattle.dk_run.specs.Courses.{Course, ends, goes_on, onto}
 use Rattle.dk_print.specs.Sections.{after_blocks_line}
 use Rattle.dk_run.specs.Reports.{capped, due_from, due_report, is_due, whole_report}
-use Rattle.dk_run.specs.WholeFile.{ComesToEnd, GoesOn, HasFault, FileGives, IsBroken, IsCalmUnless, IsShort, StartedGives, TroubleGives, Within, course_behind, faulted, fresh, halted}
-use Rattle.dk_run.specs.Telling.{HasCause, ReportsBy}
+use Rattle.dk_run.specs.WholeFile.{ComesToEnd, FileGoesOn, HasFault, FileGives, IsBroken, IsCalmUnless, IsShort, StartedGives, TroubleGives, Within, course_behind, faulted, fresh, halted}
+use Rattle.dk_run.specs.Telling.{HaltHasCause, ReportsBy}
 use Rattle.dk_run.specs.declared.reading.Trouble.{Trouble}
 use Rattle.dk_run.specs.declared.reading.Trouble.TheVariants as t
 use Rattle.dk_run.specs.declared.reporting.Halt.{Halt}
@@ -140,7 +140,7 @@ within_on ignores h h1 h2 r new last xs ys zs after over over2 a b = record {
 -- ---- a file
 -- in front of the first block
 pub not_begun : (command : Command) (n : ℕ) (h : History) (r : Reading) (o : Option (List ℕ)) (Stands : History → Type 0) (blocks : ℕ) (over : Bool) → over ≡ false → Stands h → blocks ≡ capped n
-    → IfSome o (λ xs. GoesOn command n h r xs [] Stands blocks over r o)
+    → IfSome o (λ xs. FileGoesOn command n h r xs [] Stands blocks over r o)
 not_begun command n h r None Stands blocks over begun stands counts = tt
 not_begun command n h r (Some xs) Stands blocks over begun stands counts = record {
   after = [];
@@ -161,18 +161,18 @@ not_begun command n h r (Some xs) Stands blocks over begun stands counts = recor
 }
 
 -- what the next block says, of the bytes that are left
-answers_at : {F : Type 0} (s : Session F) (ignores : Bool) (new last : Reading) (mid left : Option (List ℕ)) (r : Result (Session F × Bool) Fault) (h : History) (ys : List ℕ) → mid ≡ Some ys → StandsFor s h
-    → ((h : History) → StandsFor s h → IfSome mid (λ ys. Answers s h new ys r last left)) → Answers s h new ys r last left
-answers_at s ignores new last mid left r h ys is stands answers = subst (λ (o : Option (List ℕ)). IfSome o (λ ys. Answers s h new ys r last left)) is (answers h stands)
+answers_at : {F : Type 0} (s : Session F) (ignores : Bool) (new last : Reading) (mid left : Option (List ℕ)) (r : Result (Session F × Bool) Fault) (h : History) (ys : List ℕ) → mid ≡ Some ys → SessionStandsFor s h
+    → ((h : History) → SessionStandsFor s h → IfSome mid (λ ys. NextBlock s h new ys r last left)) → NextBlock s h new ys r last left
+answers_at s ignores new last mid left r h ys is stands answers = subst (λ (o : Option (List ℕ)). IfSome o (λ ys. NextBlock s h new ys r last left)) is (answers h stands)
 
 -- one block more, and the report by the way behind it
 pub file_on : {F : Type 0} (command : Command) (n : ℕ) (h : History) (r new last : Reading) (o mid left : Option (List ℕ)) (text more : List ℕ) (s next : Session F)
     → ignores_of s ≡ command.ignore_missing_entry
-    → IfSome o (λ xs. GoesOn command n h r xs text (StandsFor s) (blocks_of s) (over_of s) new mid)
-    → ((h : History) → StandsFor s h → IfSome mid (λ ys. Answers s h new ys (Ok (next, true)) last left))
+    → IfSome o (λ xs. FileGoesOn command n h r xs text (SessionStandsFor s) (blocks_of s) (over_of s) new mid)
+    → ((h : History) → SessionStandsFor s h → IfSome mid (λ ys. NextBlock s h new ys (Ok (next, true)) last left))
     → blocks_of next ≡ min (blocks_of s + 1) (2 ^ 64 - 1)
-    → ((h : History) → StandsFor next h → more ≡ due_text command (blocks_of next) h)
-    → IfSome o (λ xs. GoesOn command n h r xs (text ++ more) (StandsFor next) (blocks_of next) (over_of next) last left)
+    → ((h : History) → SessionStandsFor next h → more ≡ due_text command (blocks_of next) h)
+    → IfSome o (λ xs. FileGoesOn command n h r xs (text ++ more) (SessionStandsFor next) (blocks_of next) (over_of next) last left)
 file_on command n h r new last None mid left text more s next same goes answers counts told = tt
 file_on command n h r new last (Some xs) mid left text more s next same a answers counts told =
     let (h2, stands, (zs, is, steps)) = answers_at s command.ignore_missing_entry new last mid left (Ok (next, true)) a.next a.ys a.left_is a.stands answers in
@@ -192,10 +192,10 @@ file_on command n h r new last (Some xs) mid left text more s next same a answer
 -- a front of the report by the way behind one block more
 pub file_short : {F : Type 0} (command : Command) (n : ℕ) (h : History) (r new last : Reading) (o mid left : Option (List ℕ)) (text more : List ℕ) (s next : Session F)
     → ignores_of s ≡ command.ignore_missing_entry
-    → IfSome o (λ xs. GoesOn command n h r xs text (StandsFor s) (blocks_of s) (over_of s) new mid)
-    → ((h : History) → StandsFor s h → IfSome mid (λ ys. Answers s h new ys (Ok (next, true)) last left))
+    → IfSome o (λ xs. FileGoesOn command n h r xs text (SessionStandsFor s) (blocks_of s) (over_of s) new mid)
+    → ((h : History) → SessionStandsFor s h → IfSome mid (λ ys. NextBlock s h new ys (Ok (next, true)) last left))
     → blocks_of next ≡ min (blocks_of s + 1) (2 ^ 64 - 1)
-    → ((h : History) → StandsFor next h → StartsWith (due_text command (blocks_of next) h) more)
+    → ((h : History) → SessionStandsFor next h → StartsWith (due_text command (blocks_of next) h) more)
     → IfSome o (λ xs. IsShort command n h r xs (text ++ more))
 file_short command n h r new last None mid left text more s next same goes answers counts told = tt
 file_short command n h r new last (Some xs) mid left text more s next same a answers counts told =
@@ -214,10 +214,10 @@ file_short command n h r new last (Some xs) mid left text more s next same a ans
 -- no block more
 pub file_end : {F : Type 0} (command : Command) (n : ℕ) (h : History) (r new last : Reading) (o mid left : Option (List ℕ)) (text : List ℕ) (s next done : Session F)
     → ignores_of s ≡ command.ignore_missing_entry
-    → IfSome o (λ xs. GoesOn command n h r xs text (StandsFor s) (blocks_of s) (over_of s) new mid)
-    → ((h : History) → StandsFor s h → IfSome mid (λ ys. Answers s h new ys (Ok (next, false)) last left))
-    → blocks_of done ≡ blocks_of s → over_of next ≡ true → ((h : History) → StandsFor next h → StandsFor done (file_ended h))
-    → IfSome o (λ xs. ComesToEnd command n h r xs text (StandsFor done) (blocks_of done) last left)
+    → IfSome o (λ xs. FileGoesOn command n h r xs text (SessionStandsFor s) (blocks_of s) (over_of s) new mid)
+    → ((h : History) → SessionStandsFor s h → IfSome mid (λ ys. NextBlock s h new ys (Ok (next, false)) last left))
+    → blocks_of done ≡ blocks_of s → over_of next ≡ true → ((h : History) → SessionStandsFor next h → SessionStandsFor done (file_ended h))
+    → IfSome o (λ xs. ComesToEnd command n h r xs text (SessionStandsFor done) (blocks_of done) last left)
 file_end command n h r new last None mid left text s next done same goes answers counts over ended = tt
 file_end command n h r new last (Some xs) mid left text s next done same a answers counts over ended =
     let (h2, stands, (zs, is, found)) = answers_at s command.ignore_missing_entry new last mid left (Ok (next, false)) a.next a.ys a.left_is a.stands answers in
@@ -239,8 +239,8 @@ file_end command n h r new last (Some xs) mid left text s next done same a answe
 -- a fault of the next block is the file's
 pub file_fault : {F : Type 0} (command : Command) (n : ℕ) (h : History) (r new last : Reading) (o mid left : Option (List ℕ)) (text : List ℕ) (s : Session F) (fault : Fault)
     → ignores_of s ≡ command.ignore_missing_entry
-    → IfSome o (λ xs. GoesOn command n h r xs text (StandsFor s) (blocks_of s) (over_of s) new mid)
-    → ((h : History) → StandsFor s h → IfSome mid (λ ys. FaultAnswers (ignores_of s) (effect_of (ignores_of s) h) (over_of s) new ys fault left))
+    → IfSome o (λ xs. FileGoesOn command n h r xs text (SessionStandsFor s) (blocks_of s) (over_of s) new mid)
+    → ((h : History) → SessionStandsFor s h → IfSome mid (λ ys. FaultAnswers (ignores_of s) (effect_of (ignores_of s) h) (over_of s) new ys fault left))
     → IfSome o (λ xs. TroubleGives command n h r xs text (faulted fault) left)
 file_fault command n h r new last None mid left text s fault same goes answers = tt
 file_fault command n h r new last (Some xs) mid left text s fault same a answers =
@@ -293,10 +293,10 @@ file_fault command n h r new last (Some xs) mid left text s fault same a answers
 
 -- ---- a started file
 -- what holds of a started file holds of its bytes, where they are told
-pub told : (P : Reading → List ℕ → Type 0) (r mid : Reading) (held : Held) (xs : List ℕ) (rest : Option (List ℕ))
+pub told : (P : Reading → List ℕ → Type 0) (r mid : Reading) (held : HeldFile) (xs : List ℕ) (rest : Option (List ℕ))
     → mid ≡ fresh r → Starts held rest → held ≡ Holds xs → IfSome (left_of mid rest) (λ xs. P mid xs) → P (fresh r) xs
 told P r mid held xs rest is starts holds gives =
-    let bytes : rest ≡ Some xs = subst (λ (h : Held). Starts h rest) holds starts in
+    let bytes : rest ≡ Some xs = subst (λ (h : HeldFile). Starts h rest) holds starts in
     subst (λ (o : Option (List ℕ)). IfSome (left_of (fresh r) o) (λ xs. P (fresh r) xs)) bytes
     (subst (λ (m : Reading). IfSome (left_of m rest) (λ xs. P m xs)) is gives)
 
@@ -322,11 +322,11 @@ pub ignores_by : {F : Type 0} (command : Command) (s : Session F) → ReportsBy 
 ignores_by command s reports = ap (λ (o : Options). o.ignore_missing_entry) reports
 
 -- the count of blocks behind one that was found, and whether the file is over behind none
-pub counted_on : {F : Type 0} (s next : Session F) (r last : Reading) (result : Result Bool Fault) → result ≡ Ok true → Counts s r (paired next result) last → blocks_of next ≡ min (blocks_of s + 1) (2 ^ 64 - 1)
-counted_on s next r last result is counts = (subst (λ (a : Result Bool Fault). Counts s r (paired next a) last) is counts).3
+pub counted_on : {F : Type 0} (s next : Session F) (r last : Reading) (result : Result Bool Fault) → result ≡ Ok true → SessionCounts s r (left_with_answer next result) last → blocks_of next ≡ min (blocks_of s + 1) (2 ^ 64 - 1)
+counted_on s next r last result is counts = (subst (λ (a : Result Bool Fault). SessionCounts s r (left_with_answer next a) last) is counts).3
 
-pub counted_end : {F : Type 0} (s next : Session F) (r last : Reading) (result : Result Bool Fault) → result ≡ Ok false → Counts s r (paired next result) last → (blocks_of next ≡ blocks_of s) × (over_of next ≡ true)
-counted_end s next r last result is counts = let c = subst (λ (a : Result Bool Fault). Counts s r (paired next a) last) is counts in (c.3, c.4 refl)
+pub counted_end : {F : Type 0} (s next : Session F) (r last : Reading) (result : Result Bool Fault) → result ≡ Ok false → SessionCounts s r (left_with_answer next result) last → (blocks_of next ≡ blocks_of s) × (over_of next ≡ true)
+counted_end s next r last result is counts = let c = subst (λ (a : Result Bool Fault). SessionCounts s r (left_with_answer next a) last) is counts in (c.3, c.4 refl)
 
 -- a report by the way that isn't written whole is the file's trouble
 pub short_gives : (command : Command) (n : ℕ) (h : History) (r : Reading) (o left : Option (List ℕ)) (text : List ℕ) (halt : Halt) → IfSome o (λ xs. IsShort command n h r xs text)
@@ -335,17 +335,17 @@ short_gives command n h r None left text halt short = tt
 short_gives command n h r (Some xs) left text w.Write short = short
 short_gives command n h r (Some xs) left text w.NoMemory short = short
 
-pub calm_but : (before between after : ℕ) (halt : Halt) → between ≡ before → HasCause between after halt → IsCalmUnless before after (halted halt)
+pub calm_but : (before between after : ℕ) (halt : Halt) → between ≡ before → HaltHasCause between after halt → IsCalmUnless before after (halted halt)
 calm_but before between after w.Write same rose = subst (λ (n : ℕ). Rose n after) same rose
 calm_but before between after w.NoMemory same calm = calm ∙ same
 
 -- ---- a whole file
-pub told_started : {F : Type 0} (command : Command) (n : ℕ) (h : History) (r mid last : Reading) (held : Held) (xs text : List ℕ) (before rest after : Option (List ℕ)) (result : Result (Session F) Trouble)
+pub told_started : {F : Type 0} (command : Command) (n : ℕ) (h : History) (r mid last : Reading) (held : HeldFile) (xs text : List ℕ) (before rest after : Option (List ℕ)) (result : Result (Session F) Trouble)
     → (result ≡ Err t.Start → ⊥) → mid ≡ fresh r → Starts held rest → held ≡ Holds xs → (IsErrOf result t.Read → last.ahead ≡ [])
     → IfSome (left_of mid rest) (λ xs. StartedGives command n h mid xs text result last (left_of last after))
     → FileGives command n h r xs text before result last after
 told_started command n h r mid last held xs text before rest after (Ok session) started is starts holds emptied gives =
-    let e = told (λ m ys. ComesToEnd command n h m ys text (StandsFor session) (blocks_of session) last (left_of last after)) r mid held xs rest is starts holds gives in
+    let e = told (λ m ys. ComesToEnd command n h m ys text (SessionStandsFor session) (blocks_of session) last (left_of last after)) r mid held xs rest is starts holds gives in
     record { after = e.after; next = e.next; stands = e.stands; counts = e.counts; told = e.told; nothing_left = nothing_left last.ahead after e.nothing_left; room = e.room; all = e.all }
 told_started command n h r mid last held xs text before rest after (Err (t.Refused line why)) started is starts holds emptied gives =
     told (λ m ys. HasFault command n h m ys text (record { line = line; why = why })) r mid held xs rest is starts holds gives
@@ -408,7 +408,7 @@ calm_of f.NoMemory before after calm = calm
 pub faulted_calm : (fault : Fault) (trouble : Trouble) (before after : ℕ) → trouble ≡ faulted fault → after ≡ before → IsCalmUnless before after trouble
 faulted_calm fault trouble before after is calm = subst (λ (t : Trouble). IsCalmUnless before after t) (sym is) (calm_of fault before after calm)
 
-pub halted_calm : (halt : Halt) (trouble : Trouble) (before between after : ℕ) → trouble ≡ halted halt → between ≡ before → HasCause between after halt → IsCalmUnless before after trouble
+pub halted_calm : (halt : Halt) (trouble : Trouble) (before between after : ℕ) → trouble ≡ halted halt → between ≡ before → HaltHasCause between after halt → IsCalmUnless before after trouble
 halted_calm halt trouble before between after is same cause = subst (λ (t : Trouble). IsCalmUnless before after t) (sym is) (calm_but before between after halt same cause)
 
 pub same_trouble : {A : Type 0} (a b : Trouble) (r : Result A Trouble) → r ≡ Err a → r ≡ Err b → a ≡ b

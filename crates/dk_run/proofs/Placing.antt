@@ -7,10 +7,10 @@ use Rattle.dk_generate.specs.Generated.{generated_text}
 use Rattle.dk_generate.specs.Texts.{generated_name}
 use Rattle.dk_graph.proofs.Places.{bytes_eq-same}
 use Rattle.dk_io.specs.NamedFiles.{bytes_of, held_or_empty}
-use Rattle.dk_io.specs.Outside.{Held, Absent, Holds, Rose}
+use Rattle.dk_io.specs.Outside.{HeldFile, Absent, Holds, Rose}
 use Rattle.dk_lines.specs.Reading.{Reading, room_of}
 use Rattle.dk_core.specs.History.{History}
-use Rattle.dk_core.specs.Standing.{StandsFor, blocks_of}
+use Rattle.dk_core.specs.Standing.{SessionStandsFor, blocks_of}
 use Rattle.dk_core.specs.declared.session.Session.{Session}
 use Rattle.dk_words.specs.declared.command.Command.{Command}
 use Rattle.dk_run.specs.AllFiles.{AreReadTo, FilesTroubleGives, HasBrokenAt, placed}
@@ -19,24 +19,24 @@ use Rattle.dk_run.specs.Courses.{Outset, line_limit}
 use Rattle.dk_run.specs.Starts.{Begins}
 use Rattle.dk_run.specs.Files.{name_at}
 use Rattle.dk_run.specs.Reports.{capped}
-use Rattle.dk_run.specs.Statuses.{held_at, rest_behind}
+use Rattle.dk_run.specs.Statuses.{held_file_at, rest_behind}
 use Rattle.dk_run.specs.WholeFile.{ComesToEnd, FileGives, FileTroubleGives, HasFault, IsNoBreak, IsShort, TextGives, fresh}
 use Rattle.dk_run.specs.declared.reading.Trouble.{Trouble}
 use Rattle.dk_run.specs.declared.reading.Trouble.TheVariants as t
 use Rattle.dk_run.proofs.Running.{read_none, read_on, refused_on, short_on, unread_on, unstarted_on}
 
 -- ---- places
-held_map : (file : List ℕ → Held) (files : List (List ℕ)) (index : ℕ) → index < length files → held_at (map file files) index ≡ file (name_at files index)
+held_map : (file : List ℕ → HeldFile) (files : List (List ℕ)) (index : ℕ) → index < length files → held_file_at (map file files) index ≡ file (name_at files index)
 held_map file [] index h = absurd (omega arith)
 held_map file (f ∷ fs) zero h = refl
 held_map file (f ∷ fs) (suc index) h = held_map file fs index (omega arith)
 
-held_behind : (g : Option ℕ) (file : List ℕ → Held) (files : List (List ℕ)) (index : ℕ) → index < length files
-    → held_at (option_map_or (λ n. Holds (generated_text n) ∷ map file files) g (map file files)) (option_map_or (λ n. 1) g 0 + index) ≡ file (name_at files index)
-held_behind None file files index h = let same : 0 + index ≡ index = omega arith in ap (held_at (map file files)) same ∙ held_map file files index h
-held_behind (Some n) file files index h = let same : 1 + index ≡ suc index = omega arith in ap (held_at (Holds (generated_text n) ∷ map file files)) same ∙ held_map file files index h
+held_behind : (g : Option ℕ) (file : List ℕ → HeldFile) (files : List (List ℕ)) (index : ℕ) → index < length files
+    → held_file_at (option_map_or (λ n. Holds (generated_text n) ∷ map file files) g (map file files)) (option_map_or (λ n. 1) g 0 + index) ≡ file (name_at files index)
+held_behind None file files index h = let same : 0 + index ≡ index = omega arith in ap (held_file_at (map file files)) same ∙ held_map file files index h
+held_behind (Some n) file files index h = let same : 1 + index ≡ suc index = omega arith in ap (held_file_at (Holds (generated_text n) ∷ map file files)) same ∙ held_map file files index h
 
-pub held_named : (command : Command) (file : List ℕ → Held) (index : ℕ) → index < length command.files → held_at (helds_of command file) (generated_count command + index) ≡ file (name_at command.files index)
+pub held_named : (command : Command) (file : List ℕ → HeldFile) (index : ℕ) → index < length command.files → held_file_at (helds_of command file) (generated_count command + index) ≡ file (name_at command.files index)
 held_named command file index h = held_behind command.generate file command.files index h
 
 name_behind : (g : Option ℕ) (files : List (List ℕ)) (index : ℕ) → name_at (option_map_or (λ n. generated_name ∷ files) g files) (option_map_or (λ n. 1) g 0 + index) ≡ name_at files index
@@ -46,11 +46,11 @@ name_behind (Some n) files index = let same : 1 + index ≡ suc index = omega ar
 pub name_named : (command : Command) (index : ℕ) → name_at (names_of command) (generated_count command + index) ≡ name_at command.files index
 name_named command index = name_behind command.generate command.files index
 
-helds_length_of : (g : Option ℕ) (file : List ℕ → Held) (files : List (List ℕ)) → length (option_map_or (λ n. Holds (generated_text n) ∷ map file files) g (map file files)) ≡ option_map_or (λ n. 1) g 0 + length files
+helds_length_of : (g : Option ℕ) (file : List ℕ → HeldFile) (files : List (List ℕ)) → length (option_map_or (λ n. Holds (generated_text n) ∷ map file files) g (map file files)) ≡ option_map_or (λ n. 1) g 0 + length files
 helds_length_of None file files = length-map files file ∙ omega arith
 helds_length_of (Some n) file files = ap suc (length-map files file) ∙ omega arith
 
-pub helds_length : (command : Command) (file : List ℕ → Held) → length (helds_of command file) ≡ generated_count command + length command.files
+pub helds_length : (command : Command) (file : List ℕ → HeldFile) → length (helds_of command file) ≡ generated_count command + length command.files
 helds_length command file = helds_length_of command.generate file command.files
 
 names_length_of : (g : Option ℕ) (files : List (List ℕ)) → length (option_map_or (λ n. generated_name ∷ files) g files) ≡ option_map_or (λ n. 1) g 0 + length files
@@ -64,43 +64,43 @@ names_length command = names_length_of command.generate command.files
 rest_next : (count index : ℕ) (before after : Option (List ℕ)) → after ≡ Some [] → after ≡ rest_behind (count + index + 1 - count) before
 rest_next count index before after e = let next : suc index ≡ count + index + 1 - count = omega arith in subst (λ (n : ℕ). after ≡ rest_behind n before) next e
 
-pub named_on : {F : Type 0} (command : Command) (file : List ℕ → Held) (before mid after : Option (List ℕ)) (s next : Session F) (index : ℕ) (r last : Reading) (told text name : List ℕ)
+pub named_on : {F : Type 0} (command : Command) (file : List ℕ → HeldFile) (before mid after : Option (List ℕ)) (s next : Session F) (index : ℕ) (r last : Reading) (told text name : List ℕ)
     → name ≡ name_at command.files index → index < length command.files → r.limits.line ≡ line_limit → file name ≢ Absent
-    → AreReadTo command file before mid (StandsFor s) (blocks_of s) (room_of r) (generated_count command + index) told
-    → ((h : History) (n : ℕ) → StandsFor s h → blocks_of s ≡ capped n → (xs : List ℕ) → file name ≡ Holds xs → FileGives command n h r xs text mid (Ok next) last after)
-    → AreReadTo command file before after (StandsFor next) (blocks_of next) (room_of last) (generated_count command + (index + 1)) (told ++ text)
+    → AreReadTo command file before mid (SessionStandsFor s) (blocks_of s) (room_of r) (generated_count command + index) told
+    → ((h : History) (n : ℕ) → SessionStandsFor s h → blocks_of s ≡ capped n → (xs : List ℕ) → file name ≡ Holds xs → FileGives command n h r xs text mid (Ok next) last after)
+    → AreReadTo command file before after (SessionStandsFor next) (blocks_of next) (room_of last) (generated_count command + (index + 1)) (told ++ text)
 named_on command file before mid after s next index r last told text name is within limits there read gives =
-    let here : held_at (helds_of command file) (generated_count command + index) ≡ file name = held_named command file index within ∙ ap file (sym is) in
+    let here : held_file_at (helds_of command file) (generated_count command + index) ≡ file name = held_named command file index within ∙ ap file (sym is) in
     let place : generated_count command + index + 1 ≡ generated_count command + (index + 1) = omega arith in
-    subst (λ (n : ℕ). AreReadTo command file before after (StandsFor next) (blocks_of next) (room_of last) n (told ++ text)) place
-    (read_on command file before mid after after (StandsFor s) (StandsFor next) (blocks_of s) (blocks_of next) (generated_count command + index) r last told text limits
+    subst (λ (n : ℕ). AreReadTo command file before after (SessionStandsFor next) (blocks_of next) (room_of last) n (told ++ text)) place
+    (read_on command file before mid after after (SessionStandsFor s) (SessionStandsFor next) (blocks_of s) (blocks_of next) (generated_count command + index) r last told text limits
     (omega (arith, helds_length command file)) (λ absent. there (sym here ∙ absent)) (λ first e. rest_next (generated_count command) index before after e) read
     (λ h n stands counts xs holds. gives h n stands counts xs (sym here ∙ holds)))
 
-pub named_trouble : {F : Type 0} (command : Command) (file : List ℕ → Held) (before mid rest : Option (List ℕ)) (s : Session F) (index : ℕ) (r : Reading) (told text name : List ℕ) (trouble : Trouble)
+pub named_trouble : {F : Type 0} (command : Command) (file : List ℕ → HeldFile) (before mid rest : Option (List ℕ)) (s : Session F) (index : ℕ) (r : Reading) (told text name : List ℕ) (trouble : Trouble)
     → name ≡ name_at command.files index → index < length command.files → r.limits.line ≡ line_limit → ((trouble ≡ t.Start → ⊥) → file name ≢ Absent)
     → (trouble ≡ t.Start → (text ≡ []) × (rest ≡ mid))
-    → AreReadTo command file before mid (StandsFor s) (blocks_of s) (room_of r) (generated_count command + index) told
-    → ((h : History) (n : ℕ) → StandsFor s h → blocks_of s ≡ capped n → (xs : List ℕ) → file name ≡ Holds xs → FileTroubleGives command n h r xs text mid trouble rest)
+    → AreReadTo command file before mid (SessionStandsFor s) (blocks_of s) (room_of r) (generated_count command + index) told
+    → ((h : History) (n : ℕ) → SessionStandsFor s h → blocks_of s ≡ capped n → (xs : List ℕ) → file name ≡ Holds xs → FileTroubleGives command n h r xs text mid trouble rest)
     → FilesTroubleGives command file before (told ++ text) (placed (generated_count command + index) trouble) rest
 named_trouble command file before mid rest s index r told text name trouble is within limits there unstarted read gives =
-    let here : held_at (helds_of command file) (generated_count command + index) ≡ file name = held_named command file index within ∙ ap file (sym is) in
+    let here : held_file_at (helds_of command file) (generated_count command + index) ≡ file name = held_named command file index within ∙ ap file (sym is) in
     let below : generated_count command + index < length (helds_of command file) = omega (arith, helds_length command file) in
     go trouble below here there unstarted gives where
-      go : (trouble : Trouble) → generated_count command + index < length (helds_of command file) → held_at (helds_of command file) (generated_count command + index) ≡ file name
+      go : (trouble : Trouble) → generated_count command + index < length (helds_of command file) → held_file_at (helds_of command file) (generated_count command + index) ≡ file name
           → ((trouble ≡ t.Start → ⊥) → file name ≢ Absent) → (trouble ≡ t.Start → (text ≡ []) × (rest ≡ mid))
-          → ((h : History) (n : ℕ) → StandsFor s h → blocks_of s ≡ capped n → (xs : List ℕ) → file name ≡ Holds xs → FileTroubleGives command n h r xs text mid trouble rest)
+          → ((h : History) (n : ℕ) → SessionStandsFor s h → blocks_of s ≡ capped n → (xs : List ℕ) → file name ≡ Holds xs → FileTroubleGives command n h r xs text mid trouble rest)
           → FilesTroubleGives command file before (told ++ text) (placed (generated_count command + index) trouble) rest
-      go (t.Refused line why) below here there unstarted gives = refused_on command file before mid (StandsFor s) (blocks_of s) (generated_count command + index) line why r told text limits below
+      go (t.Refused line why) below here there unstarted gives = refused_on command file before mid (SessionStandsFor s) (blocks_of s) (generated_count command + index) line why r told text limits below
           (λ absent. there (λ e. cc (e)) (sym here ∙ absent)) read (λ h n stands counts xs holds. gives h n stands counts xs (sym here ∙ holds))
       go t.Start below here there unstarted gives = let e = unstarted refl in
-          unstarted_on command file before mid rest (StandsFor s) (blocks_of s) (generated_count command + index) r told text (omega arith) below read e.0 e.1
-      go t.Read below here there unstarted gives = unread_on command file before mid rest (StandsFor s) (blocks_of s) (generated_count command + index) r told text limits (omega arith) below read
+          unstarted_on command file before mid rest (SessionStandsFor s) (blocks_of s) (generated_count command + index) r told text (omega arith) below read e.0 e.1
+      go t.Read below here there unstarted gives = unread_on command file before mid rest (SessionStandsFor s) (blocks_of s) (generated_count command + index) r told text limits (omega arith) below read
           (λ h n stands counts xs holds. gives h n stands counts xs (sym here ∙ holds))
-      go t.Write below here there unstarted gives = short_on command file before mid (StandsFor s) (blocks_of s) (generated_count command + index) r told text limits below
+      go t.Write below here there unstarted gives = short_on command file before mid (SessionStandsFor s) (blocks_of s) (generated_count command + index) r told text limits below
           (λ absent. there (λ e. cc (e)) (sym here ∙ absent)) read
           (λ h n stands counts xs holds. gives h n stands counts xs (sym here ∙ holds))
-      go t.NoMemory below here there unstarted gives = short_on command file before mid (StandsFor s) (blocks_of s) (generated_count command + index) r told text limits below
+      go t.NoMemory below here there unstarted gives = short_on command file before mid (SessionStandsFor s) (blocks_of s) (generated_count command + index) r told text limits below
           (λ absent. there (λ e. cc (e)) (sym here ∙ absent)) read
           (λ h n stands counts xs holds. gives h n stands counts xs (sym here ∙ holds))
 
@@ -111,7 +111,7 @@ rose_within a b c limit h r = omega arith
 pub rose_since : (a b c : ℕ) → a ≤ b → Rose b c → Rose a c
 rose_since a b c h r = rose_within a b c (2 ^ 64 - 1) h r
 
-pub named_cause : {A : Type 0} (command : Command) (file : List ℕ → Held) (index : ℕ) (name : List ℕ) (r : Result A Trouble) (trouble : Trouble) (a b c : ℕ) → r ≡ Err trouble
+pub named_cause : {A : Type 0} (command : Command) (file : List ℕ → HeldFile) (index : ℕ) (name : List ℕ) (r : Result A Trouble) (trouble : Trouble) (a b c : ℕ) → r ≡ Err trouble
     → name ≡ name_at command.files index → index < length command.files → a ≤ b
     → (r ≢ Err t.Start → file name ≢ Absent) → (r ≡ Err t.Start → (file name ≡ Absent) ⊎ Rose b c) → (r ≡ Err t.Read → Rose b c)
     → HasBrokenAt (helds_of command file) (Rose a c) (placed (generated_count command + index) trouble)
@@ -144,57 +144,57 @@ text_gives command n h r last xs text before rest (Err t.NoMemory) e = e
 count_of : (command : Command) (n : ℕ) → command.generate ≡ Some n → generated_count command ≡ 1
 count_of command n e = ap (λ (g : Option ℕ). option_map_or (λ n. 1) g 0) e
 
-first_held : (command : Command) (file : List ℕ → Held) (n : ℕ) → command.generate ≡ Some n → held_at (helds_of command file) 0 ≡ Holds (generated_text n)
-first_held command file n e = ap (λ (g : Option ℕ). held_at (option_map_or (λ n. Holds (generated_text n) ∷ map file command.files) g (map file command.files)) 0) e
+first_held : (command : Command) (file : List ℕ → HeldFile) (n : ℕ) → command.generate ≡ Some n → held_file_at (helds_of command file) 0 ≡ Holds (generated_text n)
+first_held command file n e = ap (λ (g : Option ℕ). held_file_at (option_map_or (λ n. Holds (generated_text n) ∷ map file command.files) g (map file command.files)) 0) e
 
-first_below : (command : Command) (file : List ℕ → Held) (n : ℕ) → command.generate ≡ Some n → 0 < length (helds_of command file)
+first_below : (command : Command) (file : List ℕ → HeldFile) (n : ℕ) → command.generate ≡ Some n → 0 < length (helds_of command file)
 first_below command file n e = omega (arith, helds_length command file, count_of command n e)
 
-first_there : (command : Command) (file : List ℕ → Held) (n : ℕ) → command.generate ≡ Some n → held_at (helds_of command file) 0 ≢ Absent
+first_there : (command : Command) (file : List ℕ → HeldFile) (n : ℕ) → command.generate ≡ Some n → held_file_at (helds_of command file) 0 ≢ Absent
 first_there command file n e absent = let holds = first_held command file n e in cc (holds, absent)
 
-first_text : (command : Command) (file : List ℕ → Held) (n : ℕ) (text xs : List ℕ) → command.generate ≡ Some n → text ≡ generated_text n → held_at (helds_of command file) 0 ≡ Holds xs → text ≡ xs
+first_text : (command : Command) (file : List ℕ → HeldFile) (n : ℕ) (text xs : List ℕ) → command.generate ≡ Some n → text ≡ generated_text n → held_file_at (helds_of command file) 0 ≡ Holds xs → text ≡ xs
 first_text command file n text xs e is holds = let first = first_held command file n e in cc (first, holds, is)
 
-pub none_generated : (command : Command) (file : List ℕ → Held) (before : Option (List ℕ)) (Stands : History → Type 0) (blocks room : ℕ) → command.generate ≡ None
+pub none_generated : (command : Command) (file : List ℕ → HeldFile) (before : Option (List ℕ)) (Stands : History → Type 0) (blocks room : ℕ) → command.generate ≡ None
     → ((start : Outset) → Begins command.resume file start → Stands start.history × (room ≡ start.room)) → blocks ≡ 0
     → AreReadTo command file before before Stands blocks room (generated_count command) []
 none_generated command file before Stands blocks room e stands none =
     let count : 0 ≡ generated_count command = sym (ap (λ (g : Option ℕ). option_map_or (λ n. 1) g 0) e) in
     subst (λ (n : ℕ). AreReadTo command file before before Stands blocks room n []) count (read_none command file before Stands blocks room stands none)
 
-pub generated_on : {F : Type 0} (command : Command) (file : List ℕ → Held) (before : Option (List ℕ)) (s next : Session F) (r last : Reading) (n : ℕ) (bytes text : List ℕ)
+pub generated_on : {F : Type 0} (command : Command) (file : List ℕ → HeldFile) (before : Option (List ℕ)) (s next : Session F) (r last : Reading) (n : ℕ) (bytes text : List ℕ)
     → command.generate ≡ Some n → bytes ≡ generated_text n → r.limits.line ≡ line_limit
-    → ((start : Outset) → Begins command.resume file start → StandsFor s start.history × (room_of r ≡ start.room)) → blocks_of s ≡ 0
-    → ((h : History) (k : ℕ) → StandsFor s h → blocks_of s ≡ capped k → TextGives command k h r bytes text (Ok next) last)
-    → AreReadTo command file before before (StandsFor next) (blocks_of next) (room_of last) (generated_count command) text
+    → ((start : Outset) → Begins command.resume file start → SessionStandsFor s start.history × (room_of r ≡ start.room)) → blocks_of s ≡ 0
+    → ((h : History) (k : ℕ) → SessionStandsFor s h → blocks_of s ≡ capped k → TextGives command k h r bytes text (Ok next) last)
+    → AreReadTo command file before before (SessionStandsFor next) (blocks_of next) (room_of last) (generated_count command) text
 generated_on command file before s next r last n bytes text e is limits stands none gives =
     let count : 0 + 1 ≡ generated_count command = omega (arith, count_of command n e) in
     let rest : 0 + 1 - generated_count command ≡ 0 = omega (arith, count_of command n e) in
-    subst (λ (k : ℕ). AreReadTo command file before before (StandsFor next) (blocks_of next) (room_of last) k text) count
-    (read_on command file before before before (Some []) (StandsFor s) (StandsFor next) (blocks_of s) (blocks_of next) 0 r last [] text limits (first_below command file n e) (first_there command file n e)
-    (λ first end. ap (λ (k : ℕ). rest_behind k before) (sym rest)) (read_none command file before (StandsFor s) (blocks_of s) (room_of r) stands none)
-    (λ h k stands counts xs holds. subst (λ (l : List ℕ). ComesToEnd command k h (fresh r) l text (StandsFor next) (blocks_of next) last (Some [])) (first_text command file n bytes xs e is holds) (gives h k stands counts)))
+    subst (λ (k : ℕ). AreReadTo command file before before (SessionStandsFor next) (blocks_of next) (room_of last) k text) count
+    (read_on command file before before before (Some []) (SessionStandsFor s) (SessionStandsFor next) (blocks_of s) (blocks_of next) 0 r last [] text limits (first_below command file n e) (first_there command file n e)
+    (λ first end. ap (λ (k : ℕ). rest_behind k before) (sym rest)) (read_none command file before (SessionStandsFor s) (blocks_of s) (room_of r) stands none)
+    (λ h k stands counts xs holds. subst (λ (l : List ℕ). ComesToEnd command k h (fresh r) l text (SessionStandsFor next) (blocks_of next) last (Some [])) (first_text command file n bytes xs e is holds) (gives h k stands counts)))
 
-pub generated_trouble : {F : Type 0} (command : Command) (file : List ℕ → Held) (before : Option (List ℕ)) (s : Session F) (r last : Reading) (n : ℕ) (bytes text : List ℕ) (trouble : Trouble)
+pub generated_trouble : {F : Type 0} (command : Command) (file : List ℕ → HeldFile) (before : Option (List ℕ)) (s : Session F) (r last : Reading) (n : ℕ) (bytes text : List ℕ) (trouble : Trouble)
     → command.generate ≡ Some n → bytes ≡ generated_text n → r.limits.line ≡ line_limit
-    → ((start : Outset) → Begins command.resume file start → StandsFor s start.history × (room_of r ≡ start.room)) → blocks_of s ≡ 0
+    → ((start : Outset) → Begins command.resume file start → SessionStandsFor s start.history × (room_of r ≡ start.room)) → blocks_of s ≡ 0
     → IsNoBreak {A = Session F} (Err trouble)
-    → ((h : History) (k : ℕ) → StandsFor s h → blocks_of s ≡ capped k → TextGives {F = F} command k h r bytes text (Err trouble) last)
+    → ((h : History) (k : ℕ) → SessionStandsFor s h → blocks_of s ≡ capped k → TextGives {F = F} command k h r bytes text (Err trouble) last)
     → FilesTroubleGives command file before text (placed 0 trouble) before
 generated_trouble command file before s r last n bytes text (t.Refused line why) e is limits stands none steady gives =
-    refused_on command file before before (StandsFor s) (blocks_of s) 0 line why r [] text limits (first_below command file n e) (first_there command file n e) (read_none command file before (StandsFor s) (blocks_of s) (room_of r) stands none)
+    refused_on command file before before (SessionStandsFor s) (blocks_of s) 0 line why r [] text limits (first_below command file n e) (first_there command file n e) (read_none command file before (SessionStandsFor s) (blocks_of s) (room_of r) stands none)
     (λ h k stands counts xs holds. subst (λ (l : List ℕ). HasFault command k h (fresh r) l text (record { line = line; why = why })) (first_text command file n bytes xs e is holds) (gives h k stands counts))
 generated_trouble command file before s r last n bytes text t.Start e is limits stands none steady gives = absurd steady
 generated_trouble command file before s r last n bytes text t.Read e is limits stands none steady gives = absurd steady
 generated_trouble command file before s r last n bytes text t.Write e is limits stands none steady gives =
-    short_on command file before before (StandsFor s) (blocks_of s) 0 r [] text limits (first_below command file n e) (first_there command file n e) (read_none command file before (StandsFor s) (blocks_of s) (room_of r) stands none)
+    short_on command file before before (SessionStandsFor s) (blocks_of s) 0 r [] text limits (first_below command file n e) (first_there command file n e) (read_none command file before (SessionStandsFor s) (blocks_of s) (room_of r) stands none)
     (λ h k stands counts xs holds. subst (λ (l : List ℕ). IsShort command k h (fresh r) l text) (first_text command file n bytes xs e is holds) (gives h k stands counts))
 generated_trouble command file before s r last n bytes text t.NoMemory e is limits stands none steady gives =
-    short_on command file before before (StandsFor s) (blocks_of s) 0 r [] text limits (first_below command file n e) (first_there command file n e) (read_none command file before (StandsFor s) (blocks_of s) (room_of r) stands none)
+    short_on command file before before (SessionStandsFor s) (blocks_of s) 0 r [] text limits (first_below command file n e) (first_there command file n e) (read_none command file before (SessionStandsFor s) (blocks_of s) (room_of r) stands none)
     (λ h k stands counts xs holds. subst (λ (l : List ℕ). IsShort command k h (fresh r) l text) (first_text command file n bytes xs e is holds) (gives h k stands counts))
 
-pub nothing_told : (command : Command) (file : List ℕ → Held) (before rest : Option (List ℕ)) (Stands : History → Type 0) (blocks room count : ℕ) (told : List ℕ)
+pub nothing_told : (command : Command) (file : List ℕ → HeldFile) (before rest : Option (List ℕ)) (Stands : History → Type 0) (blocks room count : ℕ) (told : List ℕ)
     → AreReadTo command file before rest Stands blocks room count told → AreReadTo command file before rest Stands blocks room (count + 0) (told ++ [])
 nothing_told command file before rest Stands blocks room count told read =
     let same : count ≡ count + 0 = omega arith in

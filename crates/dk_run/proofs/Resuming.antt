@@ -3,7 +3,7 @@ use Rattle.std.proofs.Common.{◌≡◌, ◌⊎◌, inl, inr, ◌+◌, ◌-◌, 
 use Rattle.dk_base.specs.Reading.{Line, LineFault, Reads, ◌>>=◌}
 use Rattle.dk_base.specs.declared.why.Why.{Why}
 use Rattle.dk_lines.specs.Left.{End, Over, Broken, LongLine, TooLong, Ends, Left, Next, Piece, is_long, is_over, lined, lined_by, pieces, size_of, without_cr}
-use Rattle.dk_core.specs.Blocks.{Group, Groups, Last, grouped, is_blank_line, onto_group, taken}
+use Rattle.dk_core.specs.Blocks.{Group, Groups, Last, grouped, is_blank_line, onto_group, trimmed_line}
 use Rattle.dk_core.specs.History.{History, Taken, effect_of, file_ended}
 use Rattle.dk_core.specs.Reading.{after_last}
 use Rattle.dk_run.specs.Courses.{Course, Outset, course_of, course_of_file, course_of_files, course_of_groups, ends, goes_on, line_limit, onto, then_files}
@@ -61,9 +61,9 @@ over_onto : (l : Line) (gs : Groups) → GroupsOver gs → GroupsOver (onto_grou
 over_onto l (Group ls close rest) over = over
 over_onto l (Last ls end) over = over
 
-over_if : (blank : Bool) (l : Line) (gs : Groups) → GroupsOver gs → GroupsOver (if blank then Group [] l.number gs else onto_group (taken l) gs)
+over_if : (blank : Bool) (l : Line) (gs : Groups) → GroupsOver gs → GroupsOver (if blank then Group [] l.number gs else onto_group (trimmed_line l) gs)
 over_if true l gs over = over
-over_if false l gs over = over_onto (taken l) gs over
+over_if false l gs over = over_onto (trimmed_line l) gs over
 
 groups_over : (left : Left) → AreOver left → GroupsOver (grouped left)
 groups_over (Ends end) over = over

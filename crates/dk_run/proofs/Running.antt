@@ -8,13 +8,13 @@ use Rattle.dk_base.specs.Reading.{LineFault}
 use Rattle.dk_base.specs.declared.why.Why.{Why}
 use Rattle.dk_generate.specs.Generated.{generated_text}
 use Rattle.dk_generate.specs.Texts.{generated_name}
-use Rattle.dk_io.specs.Outside.{Held, Absent, Holds, Rose}
+use Rattle.dk_io.specs.Outside.{HeldFile, Absent, Holds, Rose}
 use Rattle.dk_lines.proofs.Lined.{at_break}
 use Rattle.dk_lines.specs.Left.{Broken, Left, lined}
 use Rattle.dk_lines.specs.Reading.{Reading, room_of}
 use Rattle.dk_core.specs.Blocks.{Last, grouped}
 use Rattle.dk_core.specs.History.{History, effect_of, file_ended}
-use Rattle.dk_core.specs.Standing.{StandsFor, blocks_of}
+use Rattle.dk_core.specs.Standing.{SessionStandsFor, blocks_of}
 use Rattle.dk_core.specs.Steps.{groups_left}
 use Rattle.dk_core.specs.declared.session.Session.{Session}
 use Rattle.dk_words.specs.declared.command.Command.{Command}
@@ -22,9 +22,9 @@ use Rattle.dk_run.specs.AllFiles.{AreReadTo, FilesTroubleGives, HasBrokenAt, IsR
 use Rattle.dk_run.specs.Commands.{generated_count, helds_of, names_of}
 use Rattle.dk_run.specs.Courses.{Course, Outset, course_of, course_of_file, course_of_files, ends, fault_in, first_fault, goes_on, line_limit, onto, then_files}
 use Rattle.dk_run.specs.Starts.{Begins}
-use Rattle.dk_run.specs.Files.{AreHeld, File, FileFault, cut_off, name_at, whole}
+use Rattle.dk_run.specs.Files.{AreHeldFiles, File, FileFault, cut_off, name_at, whole}
 use Rattle.dk_run.specs.Reports.{capped, due_from, due_reports}
-use Rattle.dk_run.specs.Statuses.{AreCleanBehind, AtStart, Break, HasBroken, IsDelivered, Within, held_at, rest_behind}
+use Rattle.dk_run.specs.Statuses.{AreCleanBehind, AtStart, Break, HasBroken, IsDelivered, Within, held_file_at, rest_behind}
 use Rattle.dk_run.specs.WholeFile.{ComesToEnd, FileTroubleGives, HasFault, IsBroken, IsCalmUnless, IsShort, course_behind, fresh}
 use Rattle.dk_run.specs.declared.reading.Trouble.{Trouble}
 use Rattle.dk_run.specs.declared.reading.Trouble.TheVariants as t
@@ -33,28 +33,28 @@ use Rattle.dk_run.proofs.Filing.{due_append, due_none}
 use Rattle.dk_run.proofs.Writing.{front_behind, front_more}
 
 -- ---- one file more, of those that are held
-record OneMore (helds : List Held) (contents : List (List ℕ)) (k : ℕ) : Type 0 where
+record OneMore (helds : List HeldFile) (contents : List (List ℕ)) (k : ℕ) : Type 0 where
   front : List (List ℕ)
   bytes : List ℕ
   split : contents ≡ front ++ bytes ∷ []
-  held : AreHeld (take k helds) front
-  there : held_at helds k ≡ Holds bytes
+  held : AreHeldFiles (take k helds) front
+  there : held_file_at helds k ≡ Holds bytes
 
-first_and_more : (n : Held) (c : List ℕ) (ns : List Held) (cs : List (List ℕ)) (k : ℕ) → n ≡ Holds c → OneMore ns cs k → OneMore (n ∷ ns) (c ∷ cs) (suc k)
+first_and_more : (n : HeldFile) (c : List ℕ) (ns : List HeldFile) (cs : List (List ℕ)) (k : ℕ) → n ≡ Holds c → OneMore ns cs k → OneMore (n ∷ ns) (c ∷ cs) (suc k)
 first_and_more n c ns cs k first m = let more = m.held in
     record { front = c ∷ m.front; bytes = m.bytes; split = ap (λ (l : List (List ℕ)). c ∷ l) m.split; held = cc (first, more); there = m.there }
 
-one_more_suc : (helds : List Held) (contents : List (List ℕ)) (k : ℕ) → k < length helds → AreHeld (take (suc k) helds) contents → OneMore helds contents k
+one_more_suc : (helds : List HeldFile) (contents : List (List ℕ)) (k : ℕ) → k < length helds → AreHeldFiles (take (suc k) helds) contents → OneMore helds contents k
 one_more_suc [] contents k h held = absurd (omega arith)
 one_more_suc (n ∷ ns) [] k h held = absurd (cc (held))
 one_more_suc (n ∷ ns) (c ∷ []) zero h held = record { front = []; bytes = c; split = refl; held = refl; there = cc (held) }
 one_more_suc (n ∷ ns) (c ∷ d ∷ cs) zero h held = absurd (cc (held))
 one_more_suc (n ∷ ns) (c ∷ cs) (suc k) h held = first_and_more n c ns cs k (cc (held)) (one_more_suc ns cs k (omega arith) (cc (held)))
 
-one_more : (helds : List Held) (contents : List (List ℕ)) (k : ℕ) → k < length helds → AreHeld (take (k + 1) helds) contents → OneMore helds contents k
+one_more : (helds : List HeldFile) (contents : List (List ℕ)) (k : ℕ) → k < length helds → AreHeldFiles (take (k + 1) helds) contents → OneMore helds contents k
 one_more helds contents k h held =
     let next : k + 1 ≡ suc k = omega arith in
-    one_more_suc helds contents k h (subst (λ (n : ℕ). AreHeld (take n helds) contents) next held)
+    one_more_suc helds contents k h (subst (λ (n : ℕ). AreHeldFiles (take n helds) contents) next held)
 
 files_of : (front : List (List ℕ)) (x : List ℕ) (fs : List File) → map whole (front ++ x ∷ []) ++ fs ≡ map whole front ++ (whole x ∷ fs)
 files_of [] x fs = refl
@@ -94,10 +94,10 @@ course_part ignores r h next after place is_ended xs limits all =
     ∙ ap (λ (l : List History). record { after = l; end = Ok (file_ended next) }) (append-nil after)
 
 -- ---- reading on
-there_more : (helds : List Held) (place : ℕ) → ((k : ℕ) → k < place → held_at helds k ≢ Absent) → held_at helds place ≢ Absent → (k : ℕ) → k < place + 1 → held_at helds k ≢ Absent
+there_more : (helds : List HeldFile) (place : ℕ) → ((k : ℕ) → k < place → held_file_at helds k ≢ Absent) → held_file_at helds place ≢ Absent → (k : ℕ) → k < place + 1 → held_file_at helds k ≢ Absent
 there_more helds place below here k h = elim (cases_lt k place) [
   | inl l ↦ below k l
-  | inr g ↦ let same : place ≡ k = omega (arith, g, h) in subst (λ (i : ℕ). held_at helds i ≢ Absent) same here
+  | inr g ↦ let same : place ≡ k = omega (arith, g, h) in subst (λ (i : ℕ). held_file_at helds i ≢ Absent) same here
 ]
 
 -- what the run over the files so far comes to
@@ -111,20 +111,20 @@ pub alone_clean : (start : Outset) (command : Command) (before rest : Option (Li
 alone_clean start command before rest Stands blocks room place text contents on =
     ap (λ (c : Course FileFault). fault_in c.end) (alone start command before rest Stands blocks room place text contents on)
 
-clean_more : (start : Outset) (ignores : Bool) (helds : List Held) (place : ℕ) → AreCleanBehind start ignores helds place
-    → ((contents : List (List ℕ)) → AreHeld (take (place + 1) helds) contents → first_fault start ignores (map whole contents) ≡ None) → AreCleanBehind start ignores helds (place + 1)
+clean_more : (start : Outset) (ignores : Bool) (helds : List HeldFile) (place : ℕ) → AreCleanBehind start ignores helds place
+    → ((contents : List (List ℕ)) → AreHeldFiles (take (place + 1) helds) contents → first_fault start ignores (map whole contents) ≡ None) → AreCleanBehind start ignores helds (place + 1)
 clean_more start ignores helds place clean here k contents h held = elim (cases_lt place k) [
-  | inl more ↦ let same : k ≡ place + 1 = omega (arith, more, h) in here contents (subst (λ (n : ℕ). AreHeld (take n helds) contents) same held)
+  | inl more ↦ let same : k ≡ place + 1 = omega (arith, more, h) in here contents (subst (λ (n : ℕ). AreHeldFiles (take n helds) contents) same held)
   | inr less ↦ clean k contents less held
 ]
 
 -- one file more was read
-runs_on : (start : Outset) (command : Command) (helds : List Held) (before mid after left : Option (List ℕ)) (Stands Next : History → Type 0) (blocks more place : ℕ) (r last : Reading) (told text : List ℕ) (contents : List (List ℕ))
+runs_on : (start : Outset) (command : Command) (helds : List HeldFile) (before mid after left : Option (List ℕ)) (Stands Next : History → Type 0) (blocks more place : ℕ) (r last : Reading) (told text : List ℕ) (contents : List (List ℕ))
     → r.limits.line ≡ line_limit → place < length helds
     → ((mid ≡ rest_behind (place - generated_count command) before) → left ≡ Some [] → after ≡ rest_behind (place + 1 - generated_count command) before)
-    → ((contents : List (List ℕ)) → AreHeld (take place helds) contents → RunsOn start command before mid Stands blocks (room_of r) place told contents)
-    → ((h : History) (n : ℕ) → Stands h → blocks ≡ capped n → (xs : List ℕ) → held_at helds place ≡ Holds xs → ComesToEnd command n h (fresh r) xs text Next more last left)
-    → AreHeld (take (place + 1) helds) contents → RunsOn start command before after Next more (room_of last) (place + 1) (told ++ text) contents
+    → ((contents : List (List ℕ)) → AreHeldFiles (take place helds) contents → RunsOn start command before mid Stands blocks (room_of r) place told contents)
+    → ((h : History) (n : ℕ) → Stands h → blocks ≡ capped n → (xs : List ℕ) → held_file_at helds place ≡ Holds xs → ComesToEnd command n h (fresh r) xs text Next more last left)
+    → AreHeldFiles (take (place + 1) helds) contents → RunsOn start command before after Next more (room_of last) (place + 1) (told ++ text) contents
 runs_on start command helds before mid after left Stands Next blocks more place r last told text contents limits within rest runs gives held =
     let m = one_more helds contents place within held in
     let on = runs m.front m.held in
@@ -145,14 +145,14 @@ runs_on start command helds before mid after left Stands Next blocks more place 
           ∙ onto_more on.after e.after (course_of_files command.ignore_missing_entry (room_of last) (file_ended e.next) (place + 1) fs);
     }
 
-pub read_on : (command : Command) (file : List ℕ → Held) (before mid after left : Option (List ℕ)) (Stands Next : History → Type 0) (blocks more place : ℕ) (r last : Reading) (told text : List ℕ)
-    → r.limits.line ≡ line_limit → place < length (helds_of command file) → held_at (helds_of command file) place ≢ Absent
+pub read_on : (command : Command) (file : List ℕ → HeldFile) (before mid after left : Option (List ℕ)) (Stands Next : History → Type 0) (blocks more place : ℕ) (r last : Reading) (told text : List ℕ)
+    → r.limits.line ≡ line_limit → place < length (helds_of command file) → held_file_at (helds_of command file) place ≢ Absent
     → ((mid ≡ rest_behind (place - generated_count command) before) → left ≡ Some [] → after ≡ rest_behind (place + 1 - generated_count command) before)
     → AreReadTo command file before mid Stands blocks (room_of r) place told
-    → ((h : History) (n : ℕ) → Stands h → blocks ≡ capped n → (xs : List ℕ) → held_at (helds_of command file) place ≡ Holds xs → ComesToEnd command n h (fresh r) xs text Next more last left)
+    → ((h : History) (n : ℕ) → Stands h → blocks ≡ capped n → (xs : List ℕ) → held_file_at (helds_of command file) place ≡ Holds xs → ComesToEnd command n h (fresh r) xs text Next more last left)
     → AreReadTo command file before after Next more (room_of last) (place + 1) (told ++ text)
 read_on command file before mid after left Stands Next blocks more place r last told text limits within there rest read gives =
-    let runs = λ (start : Outset) (begins : Begins command.resume file start) (contents : List (List ℕ)) (held : AreHeld (take (place + 1) (helds_of command file)) contents).
+    let runs = λ (start : Outset) (begins : Begins command.resume file start) (contents : List (List ℕ)) (held : AreHeldFiles (take (place + 1) (helds_of command file)) contents).
     runs_on start command (helds_of command file) before mid after left Stands Next blocks more place r last told text contents limits within rest (read.runs start begins) gives held in
     record {
       there = there_more (helds_of command file) place read.there there;
@@ -162,10 +162,10 @@ read_on command file before mid after left Stands Next blocks more place r last 
     }
 
 -- a file is refused
-pub refused_on : (command : Command) (file : List ℕ → Held) (before mid : Option (List ℕ)) (Stands : History → Type 0) (blocks place line : ℕ) (why : Why) (r : Reading) (told text : List ℕ)
-    → r.limits.line ≡ line_limit → place < length (helds_of command file) → held_at (helds_of command file) place ≢ Absent
+pub refused_on : (command : Command) (file : List ℕ → HeldFile) (before mid : Option (List ℕ)) (Stands : History → Type 0) (blocks place line : ℕ) (why : Why) (r : Reading) (told text : List ℕ)
+    → r.limits.line ≡ line_limit → place < length (helds_of command file) → held_file_at (helds_of command file) place ≢ Absent
     → AreReadTo command file before mid Stands blocks (room_of r) place told
-    → ((h : History) (n : ℕ) → Stands h → blocks ≡ capped n → (xs : List ℕ) → held_at (helds_of command file) place ≡ Holds xs → HasFault command n h (fresh r) xs text (record { line = line; why = why }))
+    → ((h : History) (n : ℕ) → Stands h → blocks ≡ capped n → (xs : List ℕ) → held_file_at (helds_of command file) place ≡ Holds xs → HasFault command n h (fresh r) xs text (record { line = line; why = why }))
     → IsRefusedAt command file (told ++ text) place line why
 refused_on command file before mid Stands blocks place line why r told text limits within there read gives = record {
   named = within;
@@ -201,7 +201,7 @@ part_fine start command before mid Stands blocks place r told text contents is_e
     )
 
 -- a file could not be started
-pub unstarted_on : (command : Command) (file : List ℕ → Held) (before mid rest : Option (List ℕ)) (Stands : History → Type 0) (blocks place : ℕ) (r : Reading) (told text : List ℕ)
+pub unstarted_on : (command : Command) (file : List ℕ → HeldFile) (before mid rest : Option (List ℕ)) (Stands : History → Type 0) (blocks place : ℕ) (r : Reading) (told text : List ℕ)
     → generated_count command ≤ place → place < length (helds_of command file)
     → AreReadTo command file before mid Stands blocks (room_of r) place told
     → text ≡ [] → rest ≡ mid
@@ -220,10 +220,10 @@ unstarted_on command file before mid rest Stands blocks place r told text behind
 }
 
 -- a read of a file failed
-pub unread_on : (command : Command) (file : List ℕ → Held) (before mid rest : Option (List ℕ)) (Stands : History → Type 0) (blocks place : ℕ) (r : Reading) (told text : List ℕ)
+pub unread_on : (command : Command) (file : List ℕ → HeldFile) (before mid rest : Option (List ℕ)) (Stands : History → Type 0) (blocks place : ℕ) (r : Reading) (told text : List ℕ)
     → r.limits.line ≡ line_limit → generated_count command ≤ place → place < length (helds_of command file)
     → AreReadTo command file before mid Stands blocks (room_of r) place told
-    → ((h : History) (n : ℕ) → Stands h → blocks ≡ capped n → (xs : List ℕ) → held_at (helds_of command file) place ≡ Holds xs → IsBroken command n h (fresh r) xs text rest)
+    → ((h : History) (n : ℕ) → Stands h → blocks ≡ capped n → (xs : List ℕ) → held_file_at (helds_of command file) place ≡ Holds xs → IsBroken command n h (fresh r) xs text rest)
     → IsUnreadAt Within command file before rest (told ++ text) place
 unread_on command file before mid rest Stands blocks place r told text limits behind within read gives = record {
   behind = behind;
@@ -238,10 +238,10 @@ unread_on command file before mid rest Stands blocks place r told text limits be
 }
 
 -- a report by the way was not written whole
-pub short_on : (command : Command) (file : List ℕ → Held) (before mid : Option (List ℕ)) (Stands : History → Type 0) (blocks place : ℕ) (r : Reading) (told text : List ℕ)
-    → r.limits.line ≡ line_limit → place < length (helds_of command file) → held_at (helds_of command file) place ≢ Absent
+pub short_on : (command : Command) (file : List ℕ → HeldFile) (before mid : Option (List ℕ)) (Stands : History → Type 0) (blocks place : ℕ) (r : Reading) (told text : List ℕ)
+    → r.limits.line ≡ line_limit → place < length (helds_of command file) → held_file_at (helds_of command file) place ≢ Absent
     → AreReadTo command file before mid Stands blocks (room_of r) place told
-    → ((h : History) (n : ℕ) → Stands h → blocks ≡ capped n → (xs : List ℕ) → held_at (helds_of command file) place ≡ Holds xs → IsShort command n h (fresh r) xs text)
+    → ((h : History) (n : ℕ) → Stands h → blocks ≡ capped n → (xs : List ℕ) → held_file_at (helds_of command file) place ≡ Holds xs → IsShort command n h (fresh r) xs text)
     → IsShortTo command file (told ++ text)
 short_on command file before mid Stands blocks place r told text limits within there read gives = record {
   place = place + 1;
@@ -272,11 +272,11 @@ short_on command file before mid Stands blocks place r told text limits within t
 }
 
 -- nothing is told yet
-pub short_none : (command : Command) (file : List ℕ → Held) → IsShortTo command file []
+pub short_none : (command : Command) (file : List ℕ → HeldFile) → IsShortTo command file []
 short_none command file = record { place = 0; there = λ k h. absurd (omega arith); due = λ start begins contents held fs. refl }
 
 -- no file was read yet
-pub read_none : (command : Command) (file : List ℕ → Held) (before : Option (List ℕ)) (Stands : History → Type 0) (blocks room : ℕ)
+pub read_none : (command : Command) (file : List ℕ → HeldFile) (before : Option (List ℕ)) (Stands : History → Type 0) (blocks room : ℕ)
     → ((start : Outset) → Begins command.resume file start → Stands start.history × (room ≡ start.room)) → blocks ≡ 0
     → AreReadTo command file before before Stands blocks room 0 []
 unfolding course_of
@@ -285,12 +285,12 @@ read_none command file before Stands blocks room stands none = record {
   clean = λ start begins k contents h held. nothing_clean start k contents h held;
   runs = λ start begins contents held. nothing_read start (stands start begins) contents held;
 } where
-  nothing_clean : (start : Outset) (k : ℕ) (contents : List (List ℕ)) → k ≤ 0 → AreHeld (take k (helds_of command file)) contents → first_fault start command.ignore_missing_entry (map whole contents) ≡ None
+  nothing_clean : (start : Outset) (k : ℕ) (contents : List (List ℕ)) → k ≤ 0 → AreHeldFiles (take k (helds_of command file)) contents → first_fault start command.ignore_missing_entry (map whole contents) ≡ None
   nothing_clean start zero [] h held = refl
   nothing_clean start zero (c ∷ cs) h held = absurd (cc (held))
   nothing_clean start (suc k) contents h held = absurd (omega arith)
 
-  nothing_read : (start : Outset) → Stands start.history × (room ≡ start.room) → (contents : List (List ℕ)) → AreHeld (take 0 (helds_of command file)) contents
+  nothing_read : (start : Outset) → Stands start.history × (room ≡ start.room) → (contents : List (List ℕ)) → AreHeldFiles (take 0 (helds_of command file)) contents
       → RunsOn start command before before Stands blocks room 0 [] contents
   nothing_read start stands [] held = record {
     after = [];

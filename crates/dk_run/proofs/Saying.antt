@@ -6,32 +6,32 @@ use Rattle.std.specs.Io.KnownBytes.{append_known}
 use Rattle.std.specs.Option.{option_map_or}
 use Rattle.std.specs.Prelude.{unwrap_or}
 use Rattle.dk_base.specs.declared.why.Why.{Why}
-use Rattle.dk_io.specs.Outside.{Held, Absent, Holds, Rose}
-use Rattle.dk_io.specs.Streams.{AddsFront, Texts, added}
+use Rattle.dk_io.specs.Outside.{HeldFile, Absent, Holds, Rose}
+use Rattle.dk_io.specs.Streams.{AddsFront, Texts, with_bytes}
 use Rattle.dk_io.specs.declared.outside.Stream.{Stream}
 use Rattle.dk_io.specs.declared.outside.Stream.TheVariants.{Report, Messages, State}
 use Rattle.dk_lines.specs.Reading.{Reading, room_of}
 use Rattle.dk_core.specs.History.{History}
-use Rattle.dk_core.specs.Standing.{StandsFor, blocks_of}
+use Rattle.dk_core.specs.Standing.{SessionStandsFor, blocks_of}
 use Rattle.dk_core.specs.declared.session.Session.{Session}
 use Rattle.dk_words.specs.Texts.{help_text, usage_line, version_text}
 use Rattle.dk_words.specs.declared.command.Command.{Command}
 use Rattle.dk_words.specs.declared.request.Request.{Request}
 use Rattle.dk_words.specs.declared.request.Request.TheVariants.{Run, Help, Version}
-use Rattle.dk_run.specs.AllFiles.{AreCalmUnless, AreReadTo, FilesGive, FilesTroubleGives, HasBrokenAt, IsPlaced, IsRefusedAt, IsShortTo, IsUnreadAt, RunGives}
+use Rattle.dk_run.specs.AllFiles.{AreCalmUnless, AreReadTo, FilesGive, FilesTroubleGives, HasBrokenAt, IsRefusedAt, IsShortTo, IsTroubleOf, IsUnreadAt, RunGives}
 use Rattle.dk_run.specs.Commands.{generated_count, helds_of, names_of}
 use Rattle.dk_run.specs.declared.starting.Beginning.{Beginning}
 use Rattle.dk_run.specs.Beginning.{HasCome, IsLeft, StartTroubleGives, StateTroubleGives, state_name}
 use Rattle.dk_run.specs.Courses.{Course, Outset, course_of, fault_in}
 use Rattle.dk_run.specs.Starts.{Begins, HasBegun}
 use Rattle.dk_run.specs.Ending.{EndsBy, EndsUnbegun, EndsWith, status_of}
-use Rattle.dk_run.specs.Files.{AreHeld, File, FileFault, name_at, whole}
+use Rattle.dk_run.specs.Files.{AreHeldFiles, File, FileFault, name_at, whole}
 use Rattle.dk_print.specs.Sections.{end_line, fault_line}
 use Rattle.dk_run.specs.Messages.{unread_line}
 use Rattle.dk_run.specs.Outputs.{IsFront, Output, first_line, followed, only_on, output_along, output_of, saved, unread_output, usage_output}
 use Rattle.dk_run.specs.Reports.{due_reports, whole_report}
-use Rattle.dk_run.specs.Statuses.{AreRead, AtStart, Break, ComesTo, FollowedByFront, HasBroken, IsCutShort, IsDone, IsRefused, IsStateRefused, IsStateUnread, IsUnread, IsWritten, Outside, Says, StateUnreadGives, Within, held_at, rest_behind}
-use Rattle.dk_run.specs.Telling.{Added, Cut, CutsText, HasCause, StateCut, StateTold, Told}
+use Rattle.dk_run.specs.Statuses.{AreRead, AtStart, Break, ComesTo, FollowedByFront, HasBroken, IsCutShort, IsDone, IsRefused, IsStateRefused, IsStateUnread, IsUnread, OutputIsWritten, Outside, Says, StateUnreadGives, Within, held_file_at, rest_behind}
+use Rattle.dk_run.specs.Telling.{Added, CutOff, CutsText, HaltHasCause, StateCut, StateTold, ToldWhole}
 use Rattle.dk_run.specs.declared.reading.FilesTrouble.{FilesTrouble}
 use Rattle.dk_run.specs.declared.reading.FilesTrouble.TheVariants as t
 use Rattle.dk_run.specs.declared.reporting.Halt.{Halt}
@@ -53,17 +53,17 @@ so_far line report = record { report = report; messages = line; state = [] }
 abbrev with_state : List ℕ → List ℕ → List ℕ → Output
 with_state line report state = record { report = report; messages = line; state = state }
 
-followed_state : (old : Texts) (line report state : List ℕ) → added (added (added old Messages line) Report report) State state ≡ followed old (with_state line report state)
+followed_state : (old : Texts) (line report state : List ℕ) → with_bytes (with_bytes (with_bytes old Messages line) Report report) State state ≡ followed old (with_state line report state)
 followed_state old line report state = refl
 
-followed_first : (old : Texts) (line report : List ℕ) → added (added old Messages line) Report report ≡ followed old (so_far line report)
+followed_first : (old : Texts) (line report : List ℕ) → with_bytes (with_bytes old Messages line) Report report ≡ followed old (so_far line report)
 followed_first old line report = ap (λ (k : Option (List ℕ)). record { report = append_known old.report report; messages = append_known old.messages line; state = k }) (sym (known_nothing old.state))
 
-messages_behind : (old : Texts) (line report text : List ℕ) → added (added (added old Messages line) Report report) Messages text ≡ followed old (so_far (line ++ text) report)
+messages_behind : (old : Texts) (line report text : List ℕ) → with_bytes (with_bytes (with_bytes old Messages line) Report report) Messages text ≡ followed old (so_far (line ++ text) report)
 messages_behind old line report text =
     ap (λ (t : Texts). record t { report = append_known old.report report }) (added_more old Messages line text) ∙ followed_first old (line ++ text) report
 
-followed_only : (old : Texts) (stream : Stream) (text : List ℕ) → added old stream text ≡ followed old (only_on stream text)
+followed_only : (old : Texts) (stream : Stream) (text : List ℕ) → with_bytes old stream text ≡ followed old (only_on stream text)
 followed_only old Report text = let m = known_nothing old.messages in let s = known_nothing old.state in cc
 followed_only old Messages text = let r = known_nothing old.report in let s = known_nothing old.state in cc
 followed_only old State text = let r = known_nothing old.report in let m = known_nothing old.messages in cc
@@ -76,7 +76,7 @@ only_front State n text h = record { report = refl; messages = refl; state = fro
 -- ---- ends with a text
 -- a run that comes to an end and told its output says so
 comes_to_says : (status : Status) (request : Option Request) (before after : Outside) (output : Output)
-    → ComesTo status request before after output → IsWritten before after output → Says status request before after
+    → ComesTo status request before after output → OutputIsWritten before after output → Says status request before after
 comes_to_says Done request before after output comes e = (output, comes, e)
 comes_to_says Refused request before after output comes e = (output, comes, e)
 comes_to_says Usage request before after output comes e = (output, comes, e)
@@ -102,11 +102,11 @@ only_says status request before after stream text result comes (inr (inr (is, e,
 
 -- a message behind the first line and a report
 message_says : (status : Status) (request : Option Request) (before after : Outside) (line report text : List ℕ) (mid : Texts) (between : ℕ) (result : Status)
-    → ComesTo status request before after (so_far (line ++ text) report) → mid ≡ added (added before.written Messages line) Report report → between ≡ before.write_faults
+    → ComesTo status request before after (so_far (line ++ text) report) → mid ≡ with_bytes (with_bytes before.written Messages line) Report report → between ≡ before.write_faults
     → EndsWith status Messages text mid after.written between after.write_faults result → Says result request before after
 message_says status request before after line report text mid between result comes is calm (inl (same, e, unfailed)) =
     subst (λ (s : Status). Says s request before after) (sym same) (comes_to_says status request before after (so_far (line ++ text) report) comes
-    (e ∙ ap (λ (t : Texts). added t Messages text) is ∙ messages_behind before.written line report text, unfailed ∙ calm))
+    (e ∙ ap (λ (t : Texts). with_bytes t Messages text) is ∙ messages_behind before.written line report text, unfailed ∙ calm))
 message_says status request before after line report text mid between result comes is calm (inr (inl (same, rose, (n, short, e)))) =
     subst (λ (s : Status). Says s request before after) (sym same) (
       subst (λ (k : ℕ). Rose k after.write_faults) calm rose,
@@ -117,7 +117,7 @@ message_says status request before after line report text mid between result com
         record {
           front = so_far (line ++ take n text) report;
           is_front = record { report = front_all report; messages = front_behind line text (take n text) (front_take n text short); state = refl; in_order = inr refl };
-          written = e ∙ ap (λ (t : Texts). added t Messages (take n text)) is ∙ messages_behind before.written line report (take n text);
+          written = e ∙ ap (λ (t : Texts). with_bytes t Messages (take n text)) is ∙ messages_behind before.written line report (take n text);
         },
       )),
     )
@@ -137,31 +137,31 @@ message_says status request before after line report text mid between result com
     )
 
 -- ---- files that are there
-at_get : (helds : List Held) (k : ℕ) (d : Held) → k < length helds → held_at helds k ≡ get_or helds k d
+at_get : (helds : List HeldFile) (k : ℕ) (d : HeldFile) → k < length helds → held_file_at helds k ≡ get_or helds k d
 at_get [] k d h = absurd (omega arith)
 at_get (n ∷ ns) zero d h = refl
 at_get (n ∷ ns) (suc k) d h = at_get ns k d (omega arith)
 
-all_there : (helds : List Held) → ((k : ℕ) → k < length helds → held_at helds k ≢ Absent) → All (λ held. held ≢ Absent) helds
-all_there helds there = λ k d h. subst (λ (held : Held). held ≢ Absent) (at_get helds k d h) (there k h)
+all_there : (helds : List HeldFile) → ((k : ℕ) → k < length helds → held_file_at helds k ≢ Absent) → All (λ held. held ≢ Absent) helds
+all_there helds there = λ k d h. subst (λ (held : HeldFile). held ≢ Absent) (at_get helds k d h) (there k h)
 
-pub held-take : (helds : List Held) (n k : ℕ) → k < n → held_at (take n helds) k ≡ held_at helds k
+pub held-take : (helds : List HeldFile) (n k : ℕ) → k < n → held_file_at (take n helds) k ≡ held_file_at helds k
 held-take helds zero k h = absurd (omega arith)
 held-take [] (suc n) k h = refl
 held-take (x ∷ xs) (suc n) zero h = refl
 held-take (x ∷ xs) (suc n) (suc k) h = held-take xs n k (omega arith)
 
-front_there : (helds : List Held) (n : ℕ) → ((k : ℕ) → k < n → held_at helds k ≢ Absent) → All (λ held. held ≢ Absent) (take n helds)
+front_there : (helds : List HeldFile) (n : ℕ) → ((k : ℕ) → k < n → held_file_at helds k ≢ Absent) → All (λ held. held ≢ Absent) (take n helds)
 front_there helds n there = all_there (take n helds) (λ k below. here k (omega (arith, below, length-take n helds))) where
-  here : (k : ℕ) → k < n → held_at (take n helds) k ≢ Absent
-  here k below = subst (λ (held : Held). held ≢ Absent) (sym (held-take helds n k below)) (there k below)
+  here : (k : ℕ) → k < n → held_file_at (take n helds) k ≢ Absent
+  here k below = subst (λ (held : HeldFile). held ≢ Absent) (sym (held-take helds n k below)) (there k below)
 
-pub same_length : (command : Command) (file : List ℕ → Held) → length (names_of command) ≡ length (helds_of command file)
+pub same_length : (command : Command) (file : List ℕ → HeldFile) → length (names_of command) ≡ length (helds_of command file)
 same_length command file = names_length command ∙ sym (helds_length command file)
 
-held_all : (command : Command) (file : List ℕ → Held) (contents : List (List ℕ)) → AreHeld (helds_of command file) contents → AreHeld (take (length (names_of command)) (helds_of command file)) contents
+held_all : (command : Command) (file : List ℕ → HeldFile) (contents : List (List ℕ)) → AreHeldFiles (helds_of command file) contents → AreHeldFiles (take (length (names_of command)) (helds_of command file)) contents
 held_all command file contents held =
-    subst (λ (l : List Held). AreHeld l contents) (sym (take_all (length (names_of command)) (helds_of command file) (omega (arith, same_length command file)))) held
+    subst (λ (l : List HeldFile). AreHeldFiles l contents) (sym (take_all (length (names_of command)) (helds_of command file) (omega (arith, same_length command file)))) held
 
 -- The run has begun, and this is left of the inputs then.
 pub record Begun (command : Command) (before : Outside) (rest : Option (List ℕ)) : Type 0 where
@@ -188,7 +188,7 @@ last_due command blocks h = option_map_or (λ every. end_line blocks) command.ev
 -- the output of a run that was read to its end
 ended_output : (command : Command) (before after : Outside) (rest : Option (List ℕ)) (Stands : History → Type 0) (blocks room : ℕ) (text : List ℕ)
     → (read : AreReadTo command before.file rest after.rest Stands blocks room (length (names_of command)) text)
-    → (start : Outset) → Begins command.resume before.file start → (contents : List (List ℕ)) → AreHeld (helds_of command before.file) contents
+    → (start : Outset) → Begins command.resume before.file start → (contents : List (List ℕ)) → AreHeldFiles (helds_of command before.file) contents
     → (h : History) × Stands h × (output_of start command (map whole contents) ≡ with_state (first_line command) (text ++ last_due command blocks h) (saved command h))
 unfolding output_of
 ended_output command before after rest Stands blocks room text read start begins contents held =
@@ -201,17 +201,17 @@ ended_output command before after rest Stands blocks room text read start begins
     )
 
 -- the texts behind the first line, one behind another
-all_written : (before mid mid2 mid3 last : Texts) (line text report state : List ℕ) → mid ≡ added before Messages line → mid2 ≡ added mid Report text → mid3 ≡ added mid2 Report report
-    → last ≡ added mid3 State state → last ≡ followed before (with_state line (text ++ report) state)
+all_written : (before mid mid2 mid3 last : Texts) (line text report state : List ℕ) → mid ≡ with_bytes before Messages line → mid2 ≡ with_bytes mid Report text → mid3 ≡ with_bytes mid2 Report report
+    → last ≡ with_bytes mid3 State state → last ≡ followed before (with_state line (text ++ report) state)
 all_written before mid mid2 mid3 last line text report state first reported more saved =
     saved
-    ∙ ap (λ (t : Texts). added t State state) (more ∙ ap (λ (t : Texts). added t Report report) (reported ∙ ap (λ (t : Texts). added t Report text) first) ∙ added_more (added before Messages line) Report text report)
+    ∙ ap (λ (t : Texts). with_bytes t State state) (more ∙ ap (λ (t : Texts). with_bytes t Report report) (reported ∙ ap (λ (t : Texts). with_bytes t Report text) first) ∙ added_more (with_bytes before Messages line) Report text report)
     ∙ followed_state before line (text ++ report) state
 
 pub done_says : (command : Command) (before after : Outside) (rest : Option (List ℕ)) (Stands : History → Type 0) (blocks room : ℕ) (mid mid2 mid3 : Texts) (between between2 : ℕ) (text : List ℕ)
-    → Begun command before rest → mid ≡ added before.written Messages (first_line command) → mid2 ≡ added mid Report text → between ≡ before.write_faults
+    → Begun command before rest → mid ≡ with_bytes before.written Messages (first_line command) → mid2 ≡ with_bytes mid Report text → between ≡ before.write_faults
     → AreReadTo command before.file rest after.rest Stands blocks room (length (names_of command)) text
-    → Told Stands (λ h. last_due command blocks h) mid2 mid3 between between2
+    → ToldWhole Stands (λ h. last_due command blocks h) mid2 mid3 between between2
     → StateTold command Stands mid3 after.written between2 after.write_faults
     → Says Done (Some (Run command)) before after
 done_says command before after rest Stands blocks room mid mid2 mid3 between between2 text behind first reported calm read last state = (
@@ -228,19 +228,19 @@ done_says command before after rest Stands blocks room mid mid2 mid3 between bet
 )
 
 halt_says : (command : Command) (before after : Outside) (between : ℕ) (halt : Halt) → between ≡ before.write_faults → IsCutShort (Some (Run command)) before after
-    → HasCause between after.write_faults halt → Says (status_of halt) (Some (Run command)) before after
+    → HaltHasCause between after.write_faults halt → Says (status_of halt) (Some (Run command)) before after
 halt_says command before after between w.Write calm short rose = (subst (λ (k : ℕ). Rose k after.write_faults) calm rose, short)
 halt_says command before after between w.NoMemory calm short cause = (cause ∙ calm, short)
 
 pub cut_says : (command : Command) (before after : Outside) (rest : Option (List ℕ)) (Stands : History → Type 0) (blocks room : ℕ) (mid mid2 : Texts) (between : ℕ) (text : List ℕ) (halt : Halt)
-    → Begun command before rest → mid ≡ added before.written Messages (first_line command) → mid2 ≡ added mid Report text → between ≡ before.write_faults
+    → Begun command before rest → mid ≡ with_bytes before.written Messages (first_line command) → mid2 ≡ with_bytes mid Report text → between ≡ before.write_faults
     → AreReadTo command before.file rest after.rest Stands blocks room (length (names_of command)) text
-    → Cut Stands (λ h. last_due command blocks h) mid2 after.written between after.write_faults halt
+    → CutOff Stands (λ h. last_due command blocks h) mid2 after.written between after.write_faults halt
     → Says (status_of halt) (Some (Run command)) before after
 cut_says command before after rest Stands blocks room mid mid2 between text halt behind first reported calm read last = halt_says command before after between halt calm (inr (inl (inr (record {
   front = so_far (first_line command) (text ++ last.text);
-  written = last.written ∙ ap (λ (t : Texts). added t Report last.text) (reported ∙ ap (λ (t : Texts). added t Report text) first)
-      ∙ added_more (added before.written Messages (first_line command)) Report text last.text ∙ followed_first before.written (first_line command) (text ++ last.text);
+  written = last.written ∙ ap (λ (t : Texts). with_bytes t Report last.text) (reported ∙ ap (λ (t : Texts). with_bytes t Report text) first)
+      ∙ added_more (with_bytes before.written Messages (first_line command)) Report text last.text ∙ followed_first before.written (first_line command) (text ++ last.text);
   read = are_read command before after rest Stands blocks room text behind read;
   messages = refl;
   unsaved = λ no. refl;
@@ -251,9 +251,9 @@ cut_says command before after rest Stands blocks room mid mid2 between text halt
 
 -- the state was not written whole
 pub state_says : (command : Command) (before after : Outside) (rest : Option (List ℕ)) (Stands : History → Type 0) (blocks room : ℕ) (mid mid2 mid3 : Texts) (between between2 : ℕ) (text : List ℕ) (halt : Halt)
-    → Begun command before rest → mid ≡ added before.written Messages (first_line command) → mid2 ≡ added mid Report text → between ≡ before.write_faults
+    → Begun command before rest → mid ≡ with_bytes before.written Messages (first_line command) → mid2 ≡ with_bytes mid Report text → between ≡ before.write_faults
     → AreReadTo command before.file rest after.rest Stands blocks room (length (names_of command)) text
-    → Told Stands (λ h. last_due command blocks h) mid2 mid3 between between2
+    → ToldWhole Stands (λ h. last_due command blocks h) mid2 mid3 between between2
     → StateCut command Stands mid3 after.written between2 after.write_faults halt
     → Says (status_of halt) (Some (Run command)) before after
 state_says command before after rest Stands blocks room mid mid2 mid3 between between2 text halt behind first reported calm read last state =
@@ -275,7 +275,7 @@ state_says command before after rest Stands blocks room mid mid2 mid3 between be
     })))) state.cause
 
 -- ---- troubles
-short_within : (command : Command) (before after : Outside) (text : List ℕ) → HasBegun command.resume before.file → after.written ≡ added (added before.written Messages (first_line command)) Report text → IsShortTo command before.file text
+short_within : (command : Command) (before after : Outside) (text : List ℕ) → HasBegun command.resume before.file → after.written ≡ with_bytes (with_bytes before.written Messages (first_line command)) Report text → IsShortTo command before.file text
     → IsCutShort (Some (Run command)) before after
 short_within command before after text begun e short = inr (inl (inl (record {
   begun = begun;
@@ -305,7 +305,7 @@ refused_comes command before after text place line why begun at = record {
 }
 
 unstarted_comes : (command : Command) (before after : Outside) (rest : Option (List ℕ)) (text : List ℕ) (place : ℕ) → Begun command before rest → IsUnreadAt AtStart command before.file rest after.rest text place
-    → HasBroken AtStart (held_at (helds_of command before.file) place) (Rose before.read_faults after.read_faults)
+    → HasBroken AtStart (held_file_at (helds_of command before.file) place) (Rose before.read_faults after.read_faults)
     → IsUnread command before after (so_far (first_line command ++ unread_line (name_at (names_of command) place)) text)
 unfolding unread_output
 unstarted_comes command before after rest text place behind at cause = record {
@@ -323,7 +323,7 @@ unstarted_comes command before after rest text place behind at cause = record {
 }
 
 unread_comes : (command : Command) (before after : Outside) (rest : Option (List ℕ)) (text : List ℕ) (place : ℕ) → Begun command before rest → IsUnreadAt Within command before.file rest after.rest text place
-    → HasBroken Within (held_at (helds_of command before.file) place) (Rose before.read_faults after.read_faults)
+    → HasBroken Within (held_file_at (helds_of command before.file) place) (Rose before.read_faults after.read_faults)
     → IsUnread command before after (so_far (first_line command ++ unread_line (name_at (names_of command) place)) text)
 unfolding unread_output
 unread_comes command before after rest text place behind at cause = record {
@@ -342,7 +342,7 @@ unread_comes command before after rest text place behind at cause = record {
 }
 
 -- faults that rose in the files rose in the run
-broken_since : (helds : List Held) (a b c : ℕ) (trouble : FilesTrouble) → a ≤ b → HasBrokenAt helds (Rose b c) trouble → HasBrokenAt helds (Rose a c) trouble
+broken_since : (helds : List HeldFile) (a b c : ℕ) (trouble : FilesTrouble) → a ≤ b → HasBrokenAt helds (Rose b c) trouble → HasBrokenAt helds (Rose a c) trouble
 broken_since helds a b c (t.Refused place line why) h cause = tt
 broken_since helds a b c (t.Start place) h (inl absent) = inl absent
 broken_since helds a b c (t.Start place) h (inr rose) = inr (rose_since a b c h rose)
@@ -351,31 +351,31 @@ broken_since helds a b c t.Write h cause = tt
 broken_since helds a b c t.NoMemory h cause = tt
 
 says_of_trouble : (command : Command) (before after : Outside) (rest : Option (List ℕ)) (mid mid2 : Texts) (between : ℕ) (text : List ℕ) (trouble : FilesTrouble) (result : Status)
-    → Begun command before rest → mid ≡ added before.written Messages (first_line command) → mid2 ≡ added mid Report text
+    → Begun command before rest → mid ≡ with_bytes before.written Messages (first_line command) → mid2 ≡ with_bytes mid Report text
     → FilesTroubleGives command before.file rest text trouble after.rest → AreCalmUnless before.write_faults between trouble
     → HasBrokenAt (helds_of command before.file) (Rose before.read_faults after.read_faults) trouble
     → EndsBy command trouble mid2 after.written between after.write_faults result
     → Says result (Some (Run command)) before after
 says_of_trouble command before after rest mid mid2 between text (t.Refused place line why) result behind first reported gives calm cause ended =
     message_says Refused (Some (Run command)) before after (first_line command) text (fault_line (name_at (names_of command) place) line why) mid2 between result
-    (inr (refused_comes command before after text place line why behind.begun gives)) (reported ∙ ap (λ (t : Texts). added t Report text) first) calm ended
+    (inr (refused_comes command before after text place line why behind.begun gives)) (reported ∙ ap (λ (t : Texts). with_bytes t Report text) first) calm ended
 says_of_trouble command before after rest mid mid2 between text (t.Start place) result behind first reported gives calm cause ended =
     message_says Read (Some (Run command)) before after (first_line command) text (unread_line (name_at (names_of command) place)) mid2 between result
-    (inr (unstarted_comes command before after rest text place behind gives cause)) (reported ∙ ap (λ (t : Texts). added t Report text) first) calm ended
+    (inr (unstarted_comes command before after rest text place behind gives cause)) (reported ∙ ap (λ (t : Texts). with_bytes t Report text) first) calm ended
 says_of_trouble command before after rest mid mid2 between text (t.Read place) result behind first reported gives calm cause ended =
     message_says Read (Some (Run command)) before after (first_line command) text (unread_line (name_at (names_of command) place)) mid2 between result
-    (inr (unread_comes command before after rest text place behind gives cause)) (reported ∙ ap (λ (t : Texts). added t Report text) first) calm ended
+    (inr (unread_comes command before after rest text place behind gives cause)) (reported ∙ ap (λ (t : Texts). with_bytes t Report text) first) calm ended
 says_of_trouble command before after rest mid mid2 between text t.Write result behind first reported gives rose cause (is, e, same) =
     subst (λ (s : Status). Says s (Some (Run command)) before after) (sym is)
-    (subst (λ (k : ℕ). Rose before.write_faults k) (sym same) rose, short_within command before after text behind.begun (e ∙ reported ∙ ap (λ (t : Texts). added t Report text) first) gives)
+    (subst (λ (k : ℕ). Rose before.write_faults k) (sym same) rose, short_within command before after text behind.begun (e ∙ reported ∙ ap (λ (t : Texts). with_bytes t Report text) first) gives)
 says_of_trouble command before after rest mid mid2 between text t.NoMemory result behind first reported gives calm cause (is, e, same) =
-    subst (λ (s : Status). Says s (Some (Run command)) before after) (sym is) (same ∙ calm, short_within command before after text behind.begun (e ∙ reported ∙ ap (λ (t : Texts). added t Report text) first) gives)
+    subst (λ (s : Status). Says s (Some (Run command)) before after) (sym is) (same ∙ calm, short_within command before after text behind.begun (e ∙ reported ∙ ap (λ (t : Texts). with_bytes t Report text) first) gives)
 
 calm_before : (a b c : ℕ) (trouble : FilesTrouble) → b ≡ a → AreCalmUnless b c trouble → AreCalmUnless a c trouble
 calm_before a b c trouble same calm = subst (λ (k : ℕ). AreCalmUnless k c trouble) same calm
 
 pub trouble_says : (command : Command) (before after : Outside) (rest : Option (List ℕ)) (mid mid2 : Texts) (began unread between : ℕ) (text : List ℕ) (trouble : FilesTrouble) (result : Status)
-    → Begun command before rest → before.read_faults ≤ unread → began ≡ before.write_faults → mid ≡ added before.written Messages (first_line command) → mid2 ≡ added mid Report text
+    → Begun command before rest → before.read_faults ≤ unread → began ≡ before.write_faults → mid ≡ with_bytes before.written Messages (first_line command) → mid2 ≡ with_bytes mid Report text
     → FilesTroubleGives command before.file rest text trouble after.rest → AreCalmUnless began between trouble
     → HasBrokenAt (helds_of command before.file) (Rose unread after.read_faults) trouble
     → EndsBy command trouble mid2 after.written between after.write_faults result
@@ -384,7 +384,7 @@ trouble_says command before after rest mid mid2 began unread between text troubl
     says_of_trouble command before after rest mid mid2 between text trouble result behind first reported gives (calm_before before.write_faults began between trouble same calm)
     (broken_since (helds_of command before.file) before.read_faults unread after.read_faults trouble later cause) ended
 
-pub trouble_placed : (command : Command) (file : List ℕ → Held) (before rest : Option (List ℕ)) (text : List ℕ) (trouble : FilesTrouble) → FilesTroubleGives command file before text trouble rest → IsPlaced (length (names_of command)) trouble
+pub trouble_placed : (command : Command) (file : List ℕ → HeldFile) (before rest : Option (List ℕ)) (text : List ℕ) (trouble : FilesTrouble) → FilesTroubleGives command file before text trouble rest → IsTroubleOf (length (names_of command)) trouble
 trouble_placed command file before rest text (t.Refused place line why) at = omega (arith, at.named, same_length command file)
 trouble_placed command file before rest text (t.Start place) at = omega (arith, at.named, same_length command file)
 trouble_placed command file before rest text (t.Read place) at = omega (arith, at.named, same_length command file)
@@ -411,7 +411,7 @@ first_says command before after w.Write begun ((n, short, e), rose) = (
 first_says command before after w.NoMemory begun (e, calm) = (calm, inl e)
 
 -- ---- all files
-pub run_gives : {F : Type 0} (command : Command) (file : List ℕ → Held) (before rest : Option (List ℕ)) (text : List ℕ) (result : Result (Session F) FilesTrouble) (new : Reading)
+pub run_gives : {F : Type 0} (command : Command) (file : List ℕ → HeldFile) (before rest : Option (List ℕ)) (text : List ℕ) (result : Result (Session F) FilesTrouble) (new : Reading)
     → FilesGive command file before (length (names_of command)) text result new rest → RunGives command file before text result rest
 run_gives command file before rest text (Ok session) new gives = (room_of new, gives)
 run_gives command file before rest text (Err trouble) new gives = gives

@@ -8,10 +8,10 @@ use Rattle.std.specs.Io.KnownBytes.{append_known}
 use Rattle.std.specs.List.{enumerate_from, flat_map}
 use Rattle.dk_core.specs.History.{History}
 use Rattle.dk_io.specs.Outside.{Rose}
-use Rattle.dk_io.specs.Streams.{AddsFront, Texts, added}
+use Rattle.dk_io.specs.Streams.{AddsFront, Texts, with_bytes}
 use Rattle.dk_io.specs.declared.outside.Stream.{Stream}
 use Rattle.dk_io.specs.declared.outside.Stream.TheVariants.{Report, Messages, State}
-use Rattle.dk_run.specs.Telling.{Cut, CutsText, HasCause, Tells, Told}
+use Rattle.dk_run.specs.Telling.{CutOff, CutsText, HaltHasCause, TellsOutcome, ToldWhole}
 use Rattle.dk_run.specs.declared.reporting.Halt.{Halt}
 use Rattle.dk_run.specs.declared.reporting.Halt.TheVariants.{Write, NoMemory}
 
@@ -20,7 +20,7 @@ known_more : (known : Option (List ℕ)) (a b : List ℕ) → append_known (appe
 known_more None a b = refl
 known_more (Some xs) a b = ap (λ (l : List ℕ). Some l) (append_assoc xs a b)
 
-pub added_more : (old : Texts) (stream : Stream) (a b : List ℕ) → added (added old stream a) stream b ≡ added old stream (a ++ b)
+pub added_more : (old : Texts) (stream : Stream) (a b : List ℕ) → with_bytes (with_bytes old stream a) stream b ≡ with_bytes old stream (a ++ b)
 added_more old Report a b = ap (λ (k : Option (List ℕ)). record old { report = k }) (known_more old.report a b)
 added_more old Messages a b = ap (λ (k : Option (List ℕ)). record old { messages = k }) (known_more old.messages a b)
 added_more old State a b = ap (λ (k : Option (List ℕ)). record old { state = k }) (known_more old.state a b)
@@ -29,7 +29,7 @@ pub known_nothing : (known : Option (List ℕ)) → append_known known [] ≡ kn
 known_nothing None = refl
 known_nothing (Some xs) = ap (λ (l : List ℕ). Some l) (append-nil xs)
 
-pub added_nothing : (old : Texts) (stream : Stream) → added old stream [] ≡ old
+pub added_nothing : (old : Texts) (stream : Stream) → with_bytes old stream [] ≡ old
 added_nothing old Report = ap (λ (k : Option (List ℕ)). record old { report = k }) (known_nothing old.report)
 added_nothing old Messages = ap (λ (k : Option (List ℕ)). record old { messages = k }) (known_nothing old.messages)
 added_nothing old State = ap (λ (k : Option (List ℕ)). record old { state = k }) (known_nothing old.state)
@@ -50,20 +50,20 @@ pub front_take : (n : ℕ) (a : List ℕ) → n ≤ length a → StartsWith a (t
 front_take n a h = ap (λ (k : ℕ). take k a) (length-take n a ∙ omega arith)
 
 -- ---- texts of a history
-pub told_text : (Stands : History → Type 0) (text : List ℕ) (old new : Texts) (before after : ℕ) → new ≡ added old Report text → after ≡ before → Told Stands (λ h. text) old new before after
+pub told_text : (Stands : History → Type 0) (text : List ℕ) (old new : Texts) (before after : ℕ) → new ≡ with_bytes old Report text → after ≡ before → ToldWhole Stands (λ h. text) old new before after
 told_text Stands text old new before after e calm = record { text = text; written = e; holds = λ h stands. refl; calm = calm }
 
 pub cut_text : (Stands : History → Type 0) (text : List ℕ) (old new : Texts) (before after : ℕ) (halt : Halt) → CutsText Report text old new before after halt
-    → Cut Stands (λ h. text) old new before after halt
+    → CutOff Stands (λ h. text) old new before after halt
 cut_text Stands text old new before after Write ((n, short, e), rose) = record { text = take n text; written = e; holds = λ h stands. front_take n text short; cause = rose }
 cut_text Stands text old new before after NoMemory (e, calm) = record { text = []; written = e ∙ sym (added_nothing old Report); holds = λ h stands. refl; cause = calm }
 
-pub written_behind : (old mid new : Texts) (a b : List ℕ) → mid ≡ added old Report a → new ≡ added mid Report b → new ≡ added old Report (a ++ b)
-written_behind old mid new a b e f = f ∙ ap (λ (t : Texts). added t Report b) e ∙ added_more old Report a b
+pub written_behind : (old mid new : Texts) (a b : List ℕ) → mid ≡ with_bytes old Report a → new ≡ with_bytes mid Report b → new ≡ with_bytes old Report (a ++ b)
+written_behind old mid new a b e f = f ∙ ap (λ (t : Texts). with_bytes t Report b) e ∙ added_more old Report a b
 
 -- one text behind another
 pub told_then : (Stands : History → Type 0) (first more : History → List ℕ) (old mid new : Texts) (before between after : ℕ)
-    → Told Stands first old mid before between → Told Stands more mid new between after → Told Stands (λ h. first h ++ more h) old new before after
+    → ToldWhole Stands first old mid before between → ToldWhole Stands more mid new between after → ToldWhole Stands (λ h. first h ++ more h) old new before after
 told_then Stands first more old mid new before between after a b = record {
   text = a.text ++ b.text;
   written = written_behind old mid new a.text b.text a.written b.written;
@@ -71,12 +71,12 @@ told_then Stands first more old mid new before between after a b = record {
   calm = b.calm ∙ a.calm;
 }
 
-has_cause : (before between after : ℕ) (halt : Halt) → between ≡ before → HasCause between after halt → HasCause before after halt
+has_cause : (before between after : ℕ) (halt : Halt) → between ≡ before → HaltHasCause between after halt → HaltHasCause before after halt
 has_cause before between after Write same rose = subst (λ (n : ℕ). Rose n after) same rose
 has_cause before between after NoMemory same calm = calm ∙ same
 
 pub cut_then : (Stands : History → Type 0) (first more : History → List ℕ) (old mid new : Texts) (before between after : ℕ) (halt : Halt)
-    → Told Stands first old mid before between → Cut Stands more mid new between after halt → Cut Stands (λ h. first h ++ more h) old new before after halt
+    → ToldWhole Stands first old mid before between → CutOff Stands more mid new between after halt → CutOff Stands (λ h. first h ++ more h) old new before after halt
 cut_then Stands first more old mid new before between after halt a b = record {
   text = a.text ++ b.text;
   written = written_behind old mid new a.text b.text a.written b.written;
@@ -85,13 +85,13 @@ cut_then Stands first more old mid new before between after halt a b = record {
 }
 
 pub tells_then : {A : Type 0} (Stands : History → Type 0) (first more : History → List ℕ) (old mid new : Texts) (before between after : ℕ) (r : Result A Halt)
-    → Told Stands first old mid before between → Tells Stands more mid new between after r → Tells Stands (λ h. first h ++ more h) old new before after r
+    → ToldWhole Stands first old mid before between → TellsOutcome Stands more mid new between after r → TellsOutcome Stands (λ h. first h ++ more h) old new before after r
 tells_then Stands first more old mid new before between after (Ok u) a b = told_then Stands first more old mid new before between after a b
 tells_then Stands first more old mid new before between after (Err halt) a b = cut_then Stands first more old mid new before between after halt a b
 
 -- a text that is not written whole is not, whatever is to follow
 pub cut_short : (Stands : History → Type 0) (first all : History → List ℕ) (old new : Texts) (before after : ℕ) (halt : Halt)
-    → ((h : History) → Stands h → (more : List ℕ) × (all h ≡ first h ++ more)) → Cut Stands first old new before after halt → Cut Stands all old new before after halt
+    → ((h : History) → Stands h → (more : List ℕ) × (all h ≡ first h ++ more)) → CutOff Stands first old new before after halt → CutOff Stands all old new before after halt
 cut_short Stands first all old new before after halt goes a = record {
   text = a.text;
   written = a.written;
@@ -100,12 +100,12 @@ cut_short Stands first all old new before after halt goes a = record {
 }
 
 -- nothing is due yet
-pub told_nothing : (Stands : History → Type 0) (due : History → List ℕ) (old : Texts) (before : ℕ) → ((h : History) → Stands h → [] ≡ due h) → Told Stands due old old before before
+pub told_nothing : (Stands : History → Type 0) (due : History → List ℕ) (old : Texts) (before : ℕ) → ((h : History) → Stands h → [] ≡ due h) → ToldWhole Stands due old old before before
 told_nothing Stands due old before none = record { text = []; written = sym (added_nothing old Report); holds = none; calm = refl }
 
 -- what is due is also this
 pub told_same : (Stands : History → Type 0) (due other : History → List ℕ) (old new : Texts) (before after : ℕ) → ((h : History) → Stands h → due h ≡ other h)
-    → Told Stands due old new before after → Told Stands other old new before after
+    → ToldWhole Stands due old new before after → ToldWhole Stands other old new before after
 told_same Stands due other old new before after same a = record { text = a.text; written = a.written; holds = λ h stands. a.holds h stands ∙ same h stands; calm = a.calm }
 
 -- ---- the texts of the points, one after another

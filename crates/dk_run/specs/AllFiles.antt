@@ -2,18 +2,18 @@
 use Rattle.std.specs.Prelude.{◌≡◌, ◌≢◌, ◌≤◌, ◌<◌, ◌+◌, ◌-◌, ℕ, List, [], ◌∷◌, ◌++◌, map, take, length, Option, None, Result, Ok, Err}
 use Rattle.std.specs.Io.{StartsWith}
 use Rattle.dk_base.specs.declared.why.Why.{Why}
-use Rattle.dk_io.specs.Outside.{Held, Absent, Holds, Rose}
+use Rattle.dk_io.specs.Outside.{HeldFile, Absent, Holds, Rose}
 use Rattle.dk_lines.specs.Reading.{Reading, room_of}
 use Rattle.dk_core.specs.History.{History}
-use Rattle.dk_core.specs.Standing.{StandsFor, blocks_of}
+use Rattle.dk_core.specs.Standing.{SessionStandsFor, blocks_of}
 use Rattle.dk_core.specs.declared.session.Session.{Session}
 use Rattle.dk_words.specs.declared.command.Command.{Command}
 use Rattle.dk_run.specs.Commands.{generated_count, helds_of, names_of}
 use Rattle.dk_run.specs.Courses.{Outset, course_of, course_of_files, first_fault, onto}
-use Rattle.dk_run.specs.Files.{AreHeld, File, whole}
+use Rattle.dk_run.specs.Files.{AreHeldFiles, File, whole}
 use Rattle.dk_run.specs.Reports.{capped, due_reports}
 use Rattle.dk_run.specs.Starts.{Begins}
-use Rattle.dk_run.specs.Statuses.{Break, AtStart, Within, AreClean, HasBroken, IsDelivered, held_at, rest_behind}
+use Rattle.dk_run.specs.Statuses.{Break, AtStart, Within, AreClean, HasBroken, IsDelivered, held_file_at, rest_behind}
 use Rattle.dk_run.specs.declared.reading.Trouble.{Trouble}
 use Rattle.dk_run.specs.declared.reading.Trouble.TheVariants as t
 use Rattle.dk_run.specs.declared.reading.FilesTrouble.{FilesTrouble}
@@ -31,23 +31,23 @@ pub record RunsOn (start : Outset) (command : Command) (before rest : Option (Li
   pub goes : (files : List File) → course_of start command.ignore_missing_entry (map whole contents ++ files) ≡ onto after (course_of_files command.ignore_missing_entry room history place files)
 
 -- The files in front of this place were read, whatever they hold.
-pub record AreReadTo (command : Command) (file : List ℕ → Held) (before rest : Option (List ℕ)) (Stands : History → Type 0) (blocks room place : ℕ) (text : List ℕ) : Type 0 where
-  pub there : (k : ℕ) → k < place → held_at (helds_of command file) k ≢ Absent
+pub record AreReadTo (command : Command) (file : List ℕ → HeldFile) (before rest : Option (List ℕ)) (Stands : History → Type 0) (blocks room place : ℕ) (text : List ℕ) : Type 0 where
+  pub there : (k : ℕ) → k < place → held_file_at (helds_of command file) k ≢ Absent
   pub clean : AreClean command file place
-  pub runs : (start : Outset) → Begins command.resume file start → (contents : List (List ℕ)) → AreHeld (take place (helds_of command file)) contents
+  pub runs : (start : Outset) → Begins command.resume file start → (contents : List (List ℕ)) → AreHeldFiles (take place (helds_of command file)) contents
       → RunsOn start command before rest Stands blocks room place text contents
 
 -- The files up to this place hold this fault as their first, and the reports that were due are told.
-pub record IsRefusedAt (command : Command) (file : List ℕ → Held) (text : List ℕ) (place line : ℕ) (why : Why) : Type 0 where
+pub record IsRefusedAt (command : Command) (file : List ℕ → HeldFile) (text : List ℕ) (place line : ℕ) (why : Why) : Type 0 where
   pub named : place < length (helds_of command file)
-  pub there : (k : ℕ) → k < place + 1 → held_at (helds_of command file) k ≢ Absent
+  pub there : (k : ℕ) → k < place + 1 → held_file_at (helds_of command file) k ≢ Absent
   pub clean : AreClean command file place
-  pub gives : (start : Outset) → Begins command.resume file start → (contents : List (List ℕ)) → AreHeld (take (place + 1) (helds_of command file)) contents →
+  pub gives : (start : Outset) → Begins command.resume file start → (contents : List (List ℕ)) → AreHeldFiles (take (place + 1) (helds_of command file)) contents →
       (after : List History) × (text ≡ due_reports command after)
       × (course_of start command.ignore_missing_entry (map whole contents) ≡ record { after = after; end = Err (record { file = place; line = line; why = why }) })
 
 -- What is told where a file can't be read, behind files of these contents.
-abbrev pub BreakGives : Break → Outset → Command → ℕ → Held → Option (List ℕ) → Option (List ℕ) → List ℕ → List (List ℕ) → Type 0
+abbrev pub BreakGives : Break → Outset → Command → ℕ → HeldFile → Option (List ℕ) → Option (List ℕ) → List ℕ → List (List ℕ) → Type 0
 BreakGives AtStart start command place held before rest text contents =
     (rest ≡ rest_behind (place - generated_count command) before) × (text ≡ due_reports command (course_of start command.ignore_missing_entry (map whole contents)).after)
 BreakGives Within start command place held before rest text contents = (xs : List ℕ) → held ≡ Holds xs →
@@ -56,23 +56,23 @@ BreakGives Within start command place held before rest text contents = (xs : Lis
     × (text ≡ due_reports command (course_of start command.ignore_missing_entry (map whole contents ++ delivered ∷ [])).after)
 
 -- The file at this place, a named one, could not be read. What was delivered holds no fault, and the reports that are due within it are told.
-pub record IsUnreadAt (by : Break) (command : Command) (file : List ℕ → Held) (before rest : Option (List ℕ)) (text : List ℕ) (place : ℕ) : Type 0 where
+pub record IsUnreadAt (by : Break) (command : Command) (file : List ℕ → HeldFile) (before rest : Option (List ℕ)) (text : List ℕ) (place : ℕ) : Type 0 where
   pub behind : generated_count command ≤ place
   pub named : place < length (helds_of command file)
-  pub there : (k : ℕ) → k < place → held_at (helds_of command file) k ≢ Absent
+  pub there : (k : ℕ) → k < place → held_file_at (helds_of command file) k ≢ Absent
   pub clean : AreClean command file place
-  pub gives : (start : Outset) → Begins command.resume file start → (contents : List (List ℕ)) → AreHeld (take place (helds_of command file)) contents
-      → BreakGives by start command place (held_at (helds_of command file) place) before rest text contents
+  pub gives : (start : Outset) → Begins command.resume file start → (contents : List (List ℕ)) → AreHeldFiles (take place (helds_of command file)) contents
+      → BreakGives by start command place (held_file_at (helds_of command file) place) before rest text contents
 
 -- a front of the reports that are due is told, whatever files follow those in front of a place
-pub record IsShortTo (command : Command) (file : List ℕ → Held) (text : List ℕ) : Type 0 where
+pub record IsShortTo (command : Command) (file : List ℕ → HeldFile) (text : List ℕ) : Type 0 where
   pub place : ℕ
-  pub there : (k : ℕ) → k < place → held_at (helds_of command file) k ≢ Absent
-  pub due : (start : Outset) → Begins command.resume file start → (contents : List (List ℕ)) → AreHeld (take place (helds_of command file)) contents → (files : List File) →
+  pub there : (k : ℕ) → k < place → held_file_at (helds_of command file) k ≢ Absent
+  pub due : (start : Outset) → Begins command.resume file start → (contents : List (List ℕ)) → AreHeldFiles (take place (helds_of command file)) contents → (files : List File) →
       StartsWith (due_reports command (course_of start command.ignore_missing_entry (map whole contents ++ files)).after) text
 
 -- what a trouble with the files says
-abbrev pub FilesTroubleGives : Command → (List ℕ → Held) → Option (List ℕ) → List ℕ → FilesTrouble → Option (List ℕ) → Type 0
+abbrev pub FilesTroubleGives : Command → (List ℕ → HeldFile) → Option (List ℕ) → List ℕ → FilesTrouble → Option (List ℕ) → Type 0
 FilesTroubleGives command file before text (Refused place line why) rest = IsRefusedAt command file text place line why
 FilesTroubleGives command file before text (Start place) rest = IsUnreadAt AtStart command file before rest text place
 FilesTroubleGives command file before text (Read place) rest = IsUnreadAt Within command file before rest text place
@@ -80,17 +80,17 @@ FilesTroubleGives command file before text Write rest = IsShortTo command file t
 FilesTroubleGives command file before text NoMemory rest = IsShortTo command file text
 
 -- what reading the files in front of a place comes to
-abbrev pub FilesGive : {F : Type 0} → Command → (List ℕ → Held) → Option (List ℕ) → ℕ → List ℕ → Result (Session F) FilesTrouble → Reading → Option (List ℕ) → Type 0
-FilesGive command file before place text (Ok session) new rest = AreReadTo command file before rest (StandsFor session) (blocks_of session) (room_of new) place text
+abbrev pub FilesGive : {F : Type 0} → Command → (List ℕ → HeldFile) → Option (List ℕ) → ℕ → List ℕ → Result (Session F) FilesTrouble → Reading → Option (List ℕ) → Type 0
+FilesGive command file before place text (Ok session) new rest = AreReadTo command file before rest (SessionStandsFor session) (blocks_of session) (room_of new) place text
 FilesGive command file before place text (Err trouble) new rest = FilesTroubleGives command file before text trouble rest
 
 -- why a file was not read to its end, whatever is told
-abbrev pub HasBrokenAt : List Held → Type 0 → FilesTrouble → Type 0
-HasBrokenAt helds rose (Start place) = HasBroken AtStart (held_at helds place) rose
-HasBrokenAt helds rose (Read place) = HasBroken Within (held_at helds place) rose
+abbrev pub HasBrokenAt : List HeldFile → Type 0 → FilesTrouble → Type 0
+HasBrokenAt helds rose (Start place) = HasBroken AtStart (held_file_at helds place) rose
+HasBrokenAt helds rose (Read place) = HasBroken Within (held_file_at helds place) rose
 HasBrokenAt helds rose trouble = Unit {0}
 
-abbrev pub IsCaused : {A : Type 0} → List Held → Type 0 → Result A FilesTrouble → Type 0
+abbrev pub IsCaused : {A : Type 0} → List HeldFile → Type 0 → Result A FilesTrouble → Type 0
 IsCaused helds rose (Ok x) = Unit {0}
 IsCaused helds rose (Err trouble) = HasBrokenAt helds rose trouble
 
@@ -118,14 +118,14 @@ placed place t.Write = Write
 placed place t.NoMemory = NoMemory
 
 -- what reading all files of a run comes to
-abbrev pub RunGives : {F : Type 0} → Command → (List ℕ → Held) → Option (List ℕ) → List ℕ → Result (Session F) FilesTrouble → Option (List ℕ) → Type 0
-RunGives command file before text (Ok session) rest = (room : ℕ) × AreReadTo command file before rest (StandsFor session) (blocks_of session) room (length (names_of command)) text
+abbrev pub RunGives : {F : Type 0} → Command → (List ℕ → HeldFile) → Option (List ℕ) → List ℕ → Result (Session F) FilesTrouble → Option (List ℕ) → Type 0
+RunGives command file before text (Ok session) rest = (room : ℕ) × AreReadTo command file before rest (SessionStandsFor session) (blocks_of session) room (length (names_of command)) text
 RunGives command file before text (Err trouble) rest = FilesTroubleGives command file before text trouble rest
 
 -- the place of a trouble is that of one of n files
-abbrev pub IsPlaced : ℕ → FilesTrouble → Type 0
-IsPlaced n (Refused place line why) = place < n
-IsPlaced n (Start place) = place < n
-IsPlaced n (Read place) = place < n
-IsPlaced n Write = Unit {0}
-IsPlaced n NoMemory = Unit {0}
+abbrev pub IsTroubleOf : ℕ → FilesTrouble → Type 0
+IsTroubleOf n (Refused place line why) = place < n
+IsTroubleOf n (Start place) = place < n
+IsTroubleOf n (Read place) = place < n
+IsTroubleOf n Write = Unit {0}
+IsTroubleOf n NoMemory = Unit {0}

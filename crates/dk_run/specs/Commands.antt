@@ -4,7 +4,7 @@ use Rattle.std.specs.List.{starts_with}
 use Rattle.std.specs.Option.{option_map_or}
 use Rattle.dk_generate.specs.Generated.{generated_text}
 use Rattle.dk_generate.specs.Texts.{generated_name}
-use Rattle.dk_io.specs.Outside.{Held, Holds}
+use Rattle.dk_io.specs.Outside.{HeldFile, Holds}
 use Rattle.dk_report.specs.declared.options.Options.{Options}
 use Rattle.dk_words.specs.declared.command.Command.{Command}
 
@@ -33,5 +33,5 @@ abbrev pub generated_count : Command → ℕ
 generated_count command = option_map_or (λ n. 1) command.generate 0
 
 -- what is told of them
-abbrev pub helds_of : Command → (List ℕ → Held) → List Held
+abbrev pub helds_of : Command → (List ℕ → HeldFile) → List HeldFile
 helds_of command file = option_map_or (λ n. Holds (generated_text n) ∷ map file command.files) command.generate (map file command.files)

@@ -1,7 +1,7 @@
 -- How a run ends: what it writes last, and its status.
 use Rattle.std.specs.Prelude.{◌≡◌, ◌⊎◌, ℕ, List}
 use Rattle.dk_io.specs.Outside.{Rose}
-use Rattle.dk_io.specs.Streams.{AddsFront, Texts, added}
+use Rattle.dk_io.specs.Streams.{AddsFront, Texts, with_bytes}
 use Rattle.dk_io.specs.declared.outside.Stream.{Stream}
 use Rattle.dk_io.specs.declared.outside.Stream.TheVariants.{Messages}
 use Rattle.dk_words.specs.declared.command.Command.{Command}
@@ -22,7 +22,7 @@ use Rattle.dk_run.specs.declared.status.Status.TheVariants.{Read, Refused, Write
 -- The text was written to the stream, no write failed, and the run has this status; or a write failed; or memory ran out before the first.
 abbrev pub EndsWith : Status → Stream → List ℕ → Texts → Texts → ℕ → ℕ → Status → Type 0
 EndsWith status stream text old new before after result =
-    ((result ≡ status) × (new ≡ added old stream text) × (after ≡ before))
+    ((result ≡ status) × (new ≡ with_bytes old stream text) × (after ≡ before))
     ⊎ ((result ≡ Write) × Rose before after × AddsFront old new stream text)
     ⊎ ((result ≡ NoMemory) × (new ≡ old) × (after ≡ before))
 

@@ -3,7 +3,7 @@ use Rattle.std.specs.Prelude.{◌≡◌, ◌≢◌, ◌≤◌, ◌<◌, ◌⊎�
 use Rattle.std.specs.Option.{option_map_or}
 use Rattle.dk_base.specs.declared.why.Why.{Why}
 use Rattle.dk_base.specs.declared.why.Why.TheVariants.{BadState, TooLong}
-use Rattle.dk_io.specs.Outside.{Held, Absent, Holds}
+use Rattle.dk_io.specs.Outside.{HeldFile, Absent, Holds}
 use Rattle.dk_state.specs.Spelling.{IsSpelling}
 use Rattle.dk_core.specs.History.{History}
 use Rattle.dk_core.specs.Resuming.{IsStart, state_of}
@@ -14,7 +14,7 @@ abbrev pub resumed_start : History → Outset
 resumed_start h = record { history = h; room = total_limit - length (state_of h) }
 
 -- A run that names no state file begins with no samples. One that names a state file begins with each history of which the file holds the state.
-abbrev pub Begins : Option (List ℕ) → (List ℕ → Held) → Outset → Type 0
+abbrev pub Begins : Option (List ℕ) → (List ℕ → HeldFile) → Outset → Type 0
 Begins None file start = start ≡ first_start
 Begins (Some name) file start = (h : History) × IsStart h × (file name ≡ Holds (state_of h)) × (length (state_of h) ≤ total_limit) × (start ≡ resumed_start h)
 
@@ -32,11 +32,11 @@ abbrev pub IsRefusedAs : Why → List ℕ → Type 0
 IsRefusedAs why xs = ((why ≡ TooLong) × (total_limit < length xs)) ⊎ ((why ≡ BadState) × (length xs ≤ total_limit) × (IsSpelling xs → ⊥))
 
 -- The state file is there, and is one where its bytes are told.
-pub record IsThere (held : Held) : Type 0 where
+pub record IsThere (held : HeldFile) : Type 0 where
   pub there : held ≢ Absent
   pub is_state : (xs : List ℕ) → held ≡ Holds xs → IsState xs
 
 -- a run that names a state file has read it
-abbrev pub HasBegun : Option (List ℕ) → (List ℕ → Held) → Type 0
+abbrev pub HasBegun : Option (List ℕ) → (List ℕ → HeldFile) → Type 0
 HasBegun None file = Unit {0}
 HasBegun (Some name) file = IsThere (file name)

@@ -3,7 +3,7 @@ use Rattle.std.specs.Prelude.{◌≡◌, ◌≢◌, ◌≤◌, ◌<◌, ◌⊎�
 use Rattle.std.specs.Io.{StartsWith}
 use Rattle.dk_base.specs.declared.why.Why.{Why}
 use Rattle.dk_base.specs.declared.why.Why.TheVariants.{BadState, TooLong}
-use Rattle.dk_io.specs.Outside.{DeliversUpTo, Held, Absent, Holds, Untold, Rose}
+use Rattle.dk_io.specs.Outside.{DeliversUpTo, HeldFile, Absent, Holds, Untold, Rose}
 use Rattle.dk_io.specs.Streams.{Texts}
 use Rattle.dk_io.specs.declared.outside.Stream.TheVariants as stream
 use Rattle.dk_words.specs.Texts.{help_text, version_text}
@@ -13,7 +13,7 @@ use Rattle.dk_words.specs.declared.request.Request.TheVariants.{Run, Help, Versi
 use Rattle.dk_run.specs.Commands.{generated_count, helds_of, names_of}
 use Rattle.dk_run.specs.Courses.{Outset, course_of, first_fault, total_limit}
 use Rattle.dk_run.specs.Starts.{Begins, HasBegun, IsRefusedAs, rest_begun}
-use Rattle.dk_run.specs.Files.{File, FileFault, AreHeld, cut_off, name_at, whole}
+use Rattle.dk_run.specs.Files.{File, FileFault, AreHeldFiles, cut_off, name_at, whole}
 use Rattle.dk_print.specs.Sections.{fault_line}
 use Rattle.dk_run.specs.Messages.{unread_line}
 use Rattle.dk_run.specs.Outputs.{IsFront, Output, first_line, followed, only_on, output_of, unread_output, usage_output}
@@ -22,17 +22,17 @@ use Rattle.dk_run.specs.declared.status.Status.{Status}
 use Rattle.dk_run.specs.declared.status.Status.TheVariants.{Done, Refused, Usage, Read, Write, NoMemory}
 
 -- the number of a status, as the program ends with it
-abbrev pub code_of : Status → ℕ
-code_of Done = 0
-code_of Refused = 1
-code_of Usage = 2
-code_of Read = 3
-code_of Write = 4
-code_of NoMemory = 5
+abbrev pub exit_code : Status → ℕ
+exit_code Done = 0
+exit_code Refused = 1
+exit_code Usage = 2
+exit_code Read = 3
+exit_code Write = 4
+exit_code NoMemory = 5
 
 -- What the inputs and the sinks of a run tell at one moment.
 pub record Outside : Type 0 where
-  pub file : List ℕ → Held
+  pub file : List ℕ → HeldFile
   pub rest : Option (List ℕ)
   pub read_faults : ℕ
   pub written : Texts
@@ -45,8 +45,8 @@ rest_behind zero rest = rest
 rest_behind (suc n) rest = Some []
 
 -- what is told of the file at a place
-abbrev pub held_at : List Held → ℕ → Held
-held_at helds place = unwrap_or (slice_get helds place) Untold
+abbrev pub held_file_at : List HeldFile → ℕ → HeldFile
+held_file_at helds place = unwrap_or (slice_get helds place) Untold
 
 -- why a file was not read to its end: it could not be started, or it was, and then a read failed
 pub data Break : Type 0 where
@@ -60,16 +60,16 @@ IsDelivered xs after file = (rest : List ℕ) × (after ≡ Some rest) × (xs �
 
 -- The cause of a break, where this is told of the file: a start fails where the file is absent or a fault of the inputs rose, and a read only
 -- where one rose, of a file that is not absent.
-abbrev pub HasBroken : Break → Held → Type 0 → Type 0
+abbrev pub HasBroken : Break → HeldFile → Type 0 → Type 0
 HasBroken AtStart held rose = (held ≡ Absent) ⊎ rose
 HasBroken Within held rose = (held ≢ Absent) × rose
 
 -- Behind this start, as far as the first n files are held, from the first on, they hold no fault.
-abbrev pub AreCleanBehind : Outset → Bool → List Held → ℕ → Type 0
-AreCleanBehind start ignores helds n = (k : ℕ) (contents : List (List ℕ)) → k ≤ n → AreHeld (take k helds) contents → first_fault start ignores (map whole contents) ≡ None
+abbrev pub AreCleanBehind : Outset → Bool → List HeldFile → ℕ → Type 0
+AreCleanBehind start ignores helds n = (k : ℕ) (contents : List (List ℕ)) → k ≤ n → AreHeldFiles (take k helds) contents → first_fault start ignores (map whole contents) ≡ None
 
 -- So it is behind each start of the run.
-abbrev pub AreClean : Command → (List ℕ → Held) → ℕ → Type 0
+abbrev pub AreClean : Command → (List ℕ → HeldFile) → ℕ → Type 0
 AreClean command file n = (start : Outset) → Begins command.resume file start → AreCleanBehind start command.ignore_missing_entry (helds_of command file) n
 
 -- ---- how a run ends
@@ -78,7 +78,7 @@ pub record AreRead (command : Command) (before after : Outside) : Type 0 where
   pub begun : HasBegun command.resume before.file
   pub none_absent : All (λ held. held ≢ Absent) (helds_of command before.file)
   pub clean : AreClean command before.file (length (helds_of command before.file))
-  pub all_read : (start : Outset) → Begins command.resume before.file start → (contents : List (List ℕ)) → AreHeld (helds_of command before.file) contents
+  pub all_read : (start : Outset) → Begins command.resume before.file start → (contents : List (List ℕ)) → AreHeldFiles (helds_of command before.file) contents
       → after.rest ≡ rest_behind (length command.files) (rest_begun command.resume before.rest)
 
 -- This is the output then.
@@ -86,7 +86,7 @@ pub record IsDone (command : Command) (before after : Outside) (output : Output)
   pub read : AreRead command before after
   pub messages : output.messages ≡ first_line command
   pub unsaved : command.save ≡ false → output.state ≡ []
-  pub defined : (start : Outset) → Begins command.resume before.file start → (contents : List (List ℕ)) → AreHeld (helds_of command before.file) contents
+  pub defined : (start : Outset) → Begins command.resume before.file start → (contents : List (List ℕ)) → AreHeldFiles (helds_of command before.file) contents
       → output ≡ output_of start command (map whole contents)
 
 -- The state file is refused, at its line 0. That is all that the run says.
@@ -108,13 +108,13 @@ pub record IsRefused (command : Command) (before after : Outside) (output : Outp
   pub messages : output.messages ≡ first_line command ++ fault_line (name_at (names_of command) fault.file) fault.line fault.why
   pub no_state : output.state ≡ []
   pub clean_before : AreClean command before.file fault.file
-  pub first : (start : Outset) → Begins command.resume before.file start → (contents : List (List ℕ)) → AreHeld (take (fault.file + 1) (helds_of command before.file)) contents
+  pub first : (start : Outset) → Begins command.resume before.file start → (contents : List (List ℕ)) → AreHeldFiles (take (fault.file + 1) (helds_of command before.file)) contents
       → first_fault start command.ignore_missing_entry (map whole contents) ≡ Some fault
-  pub defined : (start : Outset) → Begins command.resume before.file start → (contents : List (List ℕ)) → AreHeld (take (fault.file + 1) (helds_of command before.file)) contents
+  pub defined : (start : Outset) → Begins command.resume before.file start → (contents : List (List ℕ)) → AreHeldFiles (take (fault.file + 1) (helds_of command before.file)) contents
       → output ≡ output_of start command (map whole contents)
 
 -- What was read of a state file that could not be read to its end: nothing, or as many bytes as all files of a run may have, at most.
-abbrev pub StateUnreadGives : Break → Held → Option (List ℕ) → Option (List ℕ) → Type 0
+abbrev pub StateUnreadGives : Break → HeldFile → Option (List ℕ) → Option (List ℕ) → Type 0
 StateUnreadGives AtStart held before after = after ≡ before
 StateUnreadGives Within held before after = (xs : List ℕ) → held ≡ Holds xs → DeliversUpTo total_limit (Some xs) after
 
@@ -129,7 +129,7 @@ pub record IsStateUnread (command : Command) (before after : Outside) (output : 
 
 -- What the output of a run is that ends since a file can't be read, behind files of these contents. A start that fails leaves what is left of
 -- the inputs as it was, and delivers nothing of the file. What was delivered holds no fault.
-abbrev pub UnreadGives : Break → Outset → Command → ℕ → Held → Outside → Outside → Output → List (List ℕ) → Type 0
+abbrev pub UnreadGives : Break → Outset → Command → ℕ → HeldFile → Outside → Outside → Output → List (List ℕ) → Type 0
 UnreadGives AtStart start command place held before after output contents =
     (after.rest ≡ rest_behind (place - generated_count command) (rest_begun command.resume before.rest))
     × (output ≡ unread_output start command (map whole contents) (name_at (names_of command) place))
@@ -146,13 +146,13 @@ pub record IsUnread (command : Command) (before after : Outside) (output : Outpu
   pub named : place < length (names_of command)
   pub by_the_words : generated_count command ≤ place
   pub by : Break
-  pub cause : HasBroken by (held_at (helds_of command before.file) place) (Rose before.read_faults after.read_faults)
+  pub cause : HasBroken by (held_file_at (helds_of command before.file) place) (Rose before.read_faults after.read_faults)
   pub none_absent : All (λ held. held ≢ Absent) (take place (helds_of command before.file))
   pub messages : output.messages ≡ first_line command ++ unread_line (name_at (names_of command) place)
   pub no_state : output.state ≡ []
   pub clean_before : AreClean command before.file place
-  pub defined : (start : Outset) → Begins command.resume before.file start → (contents : List (List ℕ)) → AreHeld (take place (helds_of command before.file)) contents →
-      UnreadGives by start command place (held_at (helds_of command before.file) place) before after output contents
+  pub defined : (start : Outset) → Begins command.resume before.file start → (contents : List (List ℕ)) → AreHeldFiles (take place (helds_of command before.file)) contents →
+      UnreadGives by start command place (held_file_at (helds_of command before.file) place) before after output contents
 
 -- A run that is asked for so comes to this status, and has this output, unless a write fails or memory runs out before.
 abbrev pub ComesTo : Status → Option Request → Outside → Outside → Output → Type 0
@@ -181,7 +181,7 @@ pub record IsCutWithin (command : Command) (before after : Outside) : Type 0 whe
   pub no_state : front.state ≡ []
   pub place : ℕ
   pub none_absent : All (λ held. held ≢ Absent) (take place (helds_of command before.file))
-  pub due : (start : Outset) → Begins command.resume before.file start → (contents : List (List ℕ)) → AreHeld (take place (helds_of command before.file)) contents → (files : List File) →
+  pub due : (start : Outset) → Begins command.resume before.file start → (contents : List (List ℕ)) → AreHeldFiles (take place (helds_of command before.file)) contents → (files : List File) →
       StartsWith (due_reports command (course_of start command.ignore_missing_entry (map whole contents ++ files)).after) front.report
 
 -- While the last report or the state is written: each stream got a front of its text.
@@ -191,7 +191,7 @@ pub record IsCutAtEnd (command : Command) (before after : Outside) : Type 0 wher
   pub read : AreRead command before after
   pub messages : front.messages ≡ first_line command
   pub unsaved : command.save ≡ false → front.state ≡ []
-  pub due : (start : Outset) → Begins command.resume before.file start → (contents : List (List ℕ)) → AreHeld (helds_of command before.file) contents
+  pub due : (start : Outset) → Begins command.resume before.file start → (contents : List (List ℕ)) → AreHeldFiles (helds_of command before.file) contents
       → IsFront front (output_of start command (map whole contents))
 
 abbrev pub IsCutInRun : Option Request → Outside → Outside → Type 0
@@ -207,13 +207,13 @@ IsCutShort request before after =
 
 -- ---- what each status says
 -- All of the output was written, and no write failed.
-abbrev pub IsWritten : Outside → Outside → Output → Type 0
-IsWritten before after output = (after.written ≡ followed before.written output) × (after.write_faults ≡ before.write_faults)
+abbrev pub OutputIsWritten : Outside → Outside → Output → Type 0
+OutputIsWritten before after output = (after.written ≡ followed before.written output) × (after.write_faults ≡ before.write_faults)
 
 abbrev pub Says : Status → Option Request → Outside → Outside → Type 0
 Says Write request before after = Rose before.write_faults after.write_faults × IsCutShort request before after
 Says NoMemory request before after = (after.write_faults ≡ before.write_faults) × IsCutShort request before after
-Says status request before after = (output : Output) × ComesTo status request before after output × IsWritten before after output
+Says status request before after = (output : Output) × ComesTo status request before after output × OutputIsWritten before after output
 
 -- ---- completeness
 -- no fault of the outside rose
@@ -227,10 +227,10 @@ GivesOutput status output result before after = ((result ≡ status) × (after.w
 
 -- Where no fault of the outside rises, a run over files that are held comes to its end. Files behind a faulty one need not be there, behind a state file that is refused, too.
 pub record IsComplete (command : Command) (before after : Outside) (result : Status) : Type 0 where
-  pub done : (start : Outset) → Begins command.resume before.file start → (contents : List (List ℕ)) → AreHeld (helds_of command before.file) contents
+  pub done : (start : Outset) → Begins command.resume before.file start → (contents : List (List ℕ)) → AreHeldFiles (helds_of command before.file) contents
       → first_fault start command.ignore_missing_entry (map whole contents) ≡ None
       → GivesOutput Done (output_of start command (map whole contents)) result before after
-  pub refused : (start : Outset) → Begins command.resume before.file start → (n : ℕ) (contents : List (List ℕ)) (fault : FileFault) → AreHeld (take n (helds_of command before.file)) contents
+  pub refused : (start : Outset) → Begins command.resume before.file start → (n : ℕ) (contents : List (List ℕ)) (fault : FileFault) → AreHeldFiles (take n (helds_of command before.file)) contents
       → first_fault start command.ignore_missing_entry (map whole contents) ≡ Some fault
       → GivesOutput Refused (output_of start command (map whole contents)) result before after
   pub state_refused : (name xs : List ℕ) (why : Why) → command.resume ≡ Some name → before.file name ≡ Holds xs → IsRefusedAs why xs

@@ -2,7 +2,7 @@
 use Rattle.std.specs.Prelude.{◌≡◌, ℕ, false, List, [], Result, Ok, Err}
 use Rattle.std.specs.Io.{StartsWith}
 use Rattle.dk_io.specs.Outside.{Rose}
-use Rattle.dk_io.specs.Streams.{AddsFront, Texts, added}
+use Rattle.dk_io.specs.Streams.{AddsFront, Texts, with_bytes}
 use Rattle.dk_io.specs.declared.outside.Stream.{Stream}
 use Rattle.dk_io.specs.declared.outside.Stream.TheVariants.{Report, State}
 use Rattle.dk_core.specs.History.{History}
@@ -17,7 +17,7 @@ use Rattle.dk_run.specs.declared.reporting.Halt.TheVariants.{Write, NoMemory}
 -- a text of which this holds was added to a stream
 pub record Added (old new : Texts) (stream : Stream) (P : List ℕ → Type 0) : Type 0 where
   pub text : List ℕ
-  pub written : new ≡ added old stream text
+  pub written : new ≡ with_bytes old stream text
   pub holds : P text
 
 -- a front of this text was written to the stream, and a write failed; or memory ran out, and nothing was written
@@ -27,38 +27,38 @@ CutsText stream text old new before after NoMemory = (new ≡ old) × (after ≡
 
 -- what writing this text to the stream comes to
 abbrev pub WritesText : {A : Type 0} → Stream → List ℕ → Texts → Texts → ℕ → ℕ → Result A Halt → Type 0
-WritesText stream text old new before after (Ok u) = (new ≡ added old stream text) × (after ≡ before)
+WritesText stream text old new before after (Ok u) = (new ≡ with_bytes old stream text) × (after ≡ before)
 WritesText stream text old new before after (Err halt) = CutsText stream text old new before after halt
 
 -- the text that is due of the history was added to the report, and no write failed
-pub record Told (Stands : History → Type 0) (due : History → List ℕ) (old new : Texts) (before after : ℕ) : Type 0 where
+pub record ToldWhole (Stands : History → Type 0) (due : History → List ℕ) (old new : Texts) (before after : ℕ) : Type 0 where
   pub text : List ℕ
-  pub written : new ≡ added old Report text
+  pub written : new ≡ with_bytes old Report text
   pub holds : (h : History) → Stands h → text ≡ due h
   pub calm : after ≡ before
 
 -- why it is not written whole
-abbrev pub HasCause : ℕ → ℕ → Halt → Type 0
-HasCause before after Write = Rose before after
-HasCause before after NoMemory = after ≡ before
+abbrev pub HaltHasCause : ℕ → ℕ → Halt → Type 0
+HaltHasCause before after Write = Rose before after
+HaltHasCause before after NoMemory = after ≡ before
 
 -- a front of it was added, and a write failed or memory ran out
-pub record Cut (Stands : History → Type 0) (due : History → List ℕ) (old new : Texts) (before after : ℕ) (halt : Halt) : Type 0 where
+pub record CutOff (Stands : History → Type 0) (due : History → List ℕ) (old new : Texts) (before after : ℕ) (halt : Halt) : Type 0 where
   pub text : List ℕ
-  pub written : new ≡ added old Report text
+  pub written : new ≡ with_bytes old Report text
   pub holds : (h : History) → Stands h → StartsWith (due h) text
-  pub cause : HasCause before after halt
+  pub cause : HaltHasCause before after halt
 
 -- what writing the text that is due comes to
-abbrev pub Tells : {A : Type 0} → (History → Type 0) → (History → List ℕ) → Texts → Texts → ℕ → ℕ → Result A Halt → Type 0
-Tells Stands due old new before after (Ok u) = Told Stands due old new before after
-Tells Stands due old new before after (Err halt) = Cut Stands due old new before after halt
+abbrev pub TellsOutcome : {A : Type 0} → (History → Type 0) → (History → List ℕ) → Texts → Texts → ℕ → ℕ → Result A Halt → Type 0
+TellsOutcome Stands due old new before after (Ok u) = ToldWhole Stands due old new before after
+TellsOutcome Stands due old new before after (Err halt) = CutOff Stands due old new before after halt
 
 -- ---- the state
 -- The state of the history was added to the stream State, where it is to be saved, and no write failed.
 pub record StateTold (command : Command) (Stands : History → Type 0) (old new : Texts) (before after : ℕ) : Type 0 where
   pub text : List ℕ
-  pub written : new ≡ added old State text
+  pub written : new ≡ with_bytes old State text
   pub holds : (h : History) → Stands h → text ≡ saved command h
   pub unsaved : command.save ≡ false → text ≡ []
   pub calm : after ≡ before
@@ -66,10 +66,10 @@ pub record StateTold (command : Command) (Stands : History → Type 0) (old new 
 -- a front of it was added, and a write failed or memory ran out
 pub record StateCut (command : Command) (Stands : History → Type 0) (old new : Texts) (before after : ℕ) (halt : Halt) : Type 0 where
   pub text : List ℕ
-  pub written : new ≡ added old State text
+  pub written : new ≡ with_bytes old State text
   pub holds : (h : History) → Stands h → StartsWith (saved command h) text
   pub unsaved : command.save ≡ false → text ≡ []
-  pub cause : HasCause before after halt
+  pub cause : HaltHasCause before after halt
 
 -- what writing the state comes to
 abbrev pub StateTells : {A : Type 0} → Command → (History → Type 0) → Texts → Texts → ℕ → ℕ → Result A Halt → Type 0

@@ -2,11 +2,11 @@
 use Rattle.std.specs.Prelude.{◌≡◌, ◌⊎◌, ◌+◌, ◌-◌, ℕ, Bool, true, false, List, [], ◌++◌, length, Option, Some, Result, Ok, Err}
 use Rattle.std.specs.Io.{StartsWith}
 use Rattle.dk_base.specs.Reading.{LineFault}
-use Rattle.dk_io.specs.Outside.{Held, Holds, Rose}
+use Rattle.dk_io.specs.Outside.{HeldFile, Holds, Rose}
 use Rattle.dk_lines.specs.Reading.{Reading, room_of}
 use Rattle.dk_core.specs.Blocks.{Groups}
 use Rattle.dk_core.specs.History.{History, effect_of, file_ended}
-use Rattle.dk_core.specs.Standing.{StandsFor, blocks_of}
+use Rattle.dk_core.specs.Standing.{SessionStandsFor, blocks_of}
 use Rattle.dk_core.specs.Steps.{groups_left}
 use Rattle.dk_core.specs.declared.session.Session.{Session}
 use Rattle.dk_words.specs.declared.command.Command.{Command}
@@ -35,7 +35,7 @@ pub record Within (ignores : Bool) (history : History) (old : Reading) (xs : Lis
       (course_behind ignores history (groups_left false old false (front ++ d)) ≡ onto after (course_behind ignores next (groups_left is_over new false d))) ⊎ (ys ≡ [])
 
 -- The session stands for a history within the file, in front of which n blocks were read, and the reports that were due are told.
-pub record GoesOn (command : Command) (n : ℕ) (history : History) (old : Reading) (xs text : List ℕ) (Stands : History → Type 0) (blocks : ℕ) (is_over : Bool) (new : Reading) (left : Option (List ℕ)) : Type 0 where
+pub record FileGoesOn (command : Command) (n : ℕ) (history : History) (old : Reading) (xs text : List ℕ) (Stands : History → Type 0) (blocks : ℕ) (is_over : Bool) (new : Reading) (left : Option (List ℕ)) : Type 0 where
   pub after : List History
   pub next : History
   pub stands : Stands next
@@ -101,7 +101,7 @@ TroubleGives command n history old xs text NoMemory left = IsShort command n his
 
 -- what reading the started file to its end comes to
 abbrev pub StartedGives : {F : Type 0} → Command → ℕ → History → Reading → List ℕ → List ℕ → Result (Session F) Trouble → Reading → Option (List ℕ) → Type 0
-StartedGives command n history old xs text (Ok session) new left = ComesToEnd command n history old xs text (StandsFor session) (blocks_of session) new left
+StartedGives command n history old xs text (Ok session) new left = ComesToEnd command n history old xs text (SessionStandsFor session) (blocks_of session) new left
 StartedGives command n history old xs text (Err trouble) new left = TroubleGives command n history old xs text trouble left
 
 -- What a trouble with a file of the bytes xs says, where it was started.
@@ -114,12 +114,12 @@ FileTroubleGives command n history old xs text before NoMemory rest = TroubleGiv
 
 -- what reading a file of the bytes xs comes to
 abbrev pub FileGives : {F : Type 0} → Command → ℕ → History → Reading → List ℕ → List ℕ → Option (List ℕ) → Result (Session F) Trouble → Reading → Option (List ℕ) → Type 0
-FileGives command n history old xs text before (Ok session) new rest = ComesToEnd command n history (fresh old) xs text (StandsFor session) (blocks_of session) new rest
+FileGives command n history old xs text before (Ok session) new rest = ComesToEnd command n history (fresh old) xs text (SessionStandsFor session) (blocks_of session) new rest
 FileGives command n history old xs text before (Err trouble) new rest = FileTroubleGives command n history old xs text before trouble rest
 
 -- what reading the generated file comes to; each start and each read of it succeeds
 abbrev pub TextGives : {F : Type 0} → Command → ℕ → History → Reading → List ℕ → List ℕ → Result (Session F) Trouble → Reading → Type 0
-TextGives command n history old xs text (Ok session) new = ComesToEnd command n history (fresh old) xs text (StandsFor session) (blocks_of session) new (Some [])
+TextGives command n history old xs text (Ok session) new = ComesToEnd command n history (fresh old) xs text (SessionStandsFor session) (blocks_of session) new (Some [])
 TextGives command n history old xs text (Err (Refused line why)) new = HasFault command n history (fresh old) xs text (record { line = line; why = why })
 TextGives command n history old xs text (Err Start) new = Unit {0}
 TextGives command n history old xs text (Err Read) new = Unit {0}

@@ -5,11 +5,11 @@ ghost use Rattle.std.specs.Option.{option_map_or};
 ghost use Rattle.dk_core.specs.History.{History};
 ghost use Rattle.dk_core.specs.Sections.{all_stats_of, report_of, section_of, stats_of};
 ghost use Rattle.dk_core.specs.Selecting.{SelectsBy};
-ghost use Rattle.dk_core.specs.Standing.{StandsFor, blocks_of, points_of, select_of};
+ghost use Rattle.dk_core.specs.Standing.{SessionStandsFor, blocks_of, points_of, select_of};
 ghost use Rattle.dk_run.specs.Commands.{is_selected, options_of};
 ghost use Rattle.dk_print.specs.Sections.{after_blocks_line as blocks_text, end_line as end_text};
 ghost use Rattle.dk_run.specs.Reports.{is_due, whole_report};
-ghost use Rattle.dk_run.specs.Telling.{ReportsBy, StateTells, Tells, WritesText};
+ghost use Rattle.dk_run.specs.Telling.{ReportsBy, StateTells, TellsOutcome, WritesText};
 
 use crate::messages::{after_blocks_line, end_line};
 use dk_base::{PointId, Text};
@@ -47,7 +47,7 @@ fn tell_section<F: Fn(&[u8]) -> bool + Drop, S: Sinks>(
     requires reports { ReportsBy command.now session.now }
     requires callable { F.IsAlwaysCallable (select_of session.now) }
     requires selects { SelectsBy (F.post (select_of session.now)) (is_selected command.now) }
-    ensures { Tells (StandsFor session.now) (λ h. section_of (options_of command.now) (is_selected command.now) h p) (S.written sinks.old) (S.written sinks.new) (S.faults sinks.old) (S.faults sinks.new) result }
+    ensures { TellsOutcome (SessionStandsFor session.now) (λ h. section_of (options_of command.now) (is_selected command.now) h p) (S.written sinks.old) (S.written sinks.new) (S.faults sinks.old) (S.faults sinks.new) result }
 {
     let _command = command;
     let mut text = Text::new(alloc);
@@ -67,7 +67,7 @@ fn tell_sections<F: Fn(&[u8]) -> bool + Drop, S: Sinks>(
     requires reports { ReportsBy command.now session.now }
     requires callable { F.IsAlwaysCallable (select_of session.now) }
     requires selects { SelectsBy (F.post (select_of session.now)) (is_selected command.now) }
-    ensures { Tells (StandsFor session.now) (λ h. report_of (options_of command.now) (is_selected command.now) h) (S.written sinks.old) (S.written sinks.new) (S.faults sinks.old) (S.faults sinks.new) result }
+    ensures { TellsOutcome (SessionStandsFor session.now) (λ h. report_of (options_of command.now) (is_selected command.now) h) (S.written sinks.old) (S.written sinks.new) (S.faults sinks.old) (S.faults sinks.new) result }
 {
     let points = session.points();
     for p in 0..points.len() {
@@ -89,7 +89,7 @@ fn tell_stats<F: Fn(&[u8]) -> bool + Drop, S: Sinks>(
 ) -> Result<(), Halt>
     requires within { p < length (points_of session.now) }
     requires reports { ReportsBy command.now session.now }
-    ensures { Tells (StandsFor session.now) (λ h. stats_of h p) (S.written sinks.old) (S.written sinks.new) (S.faults sinks.old) (S.faults sinks.new) result }
+    ensures { TellsOutcome (SessionStandsFor session.now) (λ h. stats_of h p) (S.written sinks.old) (S.written sinks.new) (S.faults sinks.old) (S.faults sinks.new) result }
 {
     let _command = command;
     let mut text = Text::new(alloc);
@@ -107,7 +107,7 @@ fn tell_all_stats<F: Fn(&[u8]) -> bool + Drop, S: Sinks>(
     sinks: &mut S,
 ) -> Result<(), Halt>
     requires { ReportsBy command.now session.now }
-    ensures { Tells (StandsFor session.now) (λ h. all_stats_of h) (S.written sinks.old) (S.written sinks.new) (S.faults sinks.old) (S.faults sinks.new) result }
+    ensures { TellsOutcome (SessionStandsFor session.now) (λ h. all_stats_of h) (S.written sinks.old) (S.written sinks.new) (S.faults sinks.old) (S.faults sinks.new) result }
 {
     let points = session.points();
     for p in 0..points.len() {
@@ -127,7 +127,7 @@ fn tell_sizes<F: Fn(&[u8]) -> bool + Drop, S: Sinks>(
     sinks: &mut S,
 ) -> Result<(), Halt>
     requires { ReportsBy command.now session.now }
-    ensures { Tells (StandsFor session.now) (λ h. (if command.now.stats then all_stats_of h else [])) (S.written sinks.old) (S.written sinks.new) (S.faults sinks.old) (S.faults sinks.new) result }
+    ensures { TellsOutcome (SessionStandsFor session.now) (λ h. (if command.now.stats then all_stats_of h else [])) (S.written sinks.old) (S.written sinks.new) (S.faults sinks.old) (S.faults sinks.new) result }
 {
     if command.stats {
         tell_all_stats(alloc, command, session, sinks)
@@ -146,7 +146,7 @@ fn tell_report<F: Fn(&[u8]) -> bool + Drop, S: Sinks>(
     requires reports { ReportsBy command.now session.now }
     requires callable { F.IsAlwaysCallable (select_of session.now) }
     requires selects { SelectsBy (F.post (select_of session.now)) (is_selected command.now) }
-    ensures { Tells (StandsFor session.now) (λ h. whole_report command.now h) (S.written sinks.old) (S.written sinks.new) (S.faults sinks.old) (S.faults sinks.new) result }
+    ensures { TellsOutcome (SessionStandsFor session.now) (λ h. whole_report command.now h) (S.written sinks.old) (S.written sinks.new) (S.faults sinks.old) (S.faults sinks.new) result }
 {
     match tell_sections(alloc, command, session, sinks) {
         Ok(()) => tell_sizes(alloc, command, session, sinks),
@@ -199,7 +199,7 @@ fn tell_due<F: Fn(&[u8]) -> bool + Drop, S: Sinks>(
     requires reports { ReportsBy command.now session.now }
     requires callable { F.IsAlwaysCallable (select_of session.now) }
     requires selects { SelectsBy (F.post (select_of session.now)) (is_selected command.now) }
-    ensures { Tells (StandsFor session.now) (λ h. blocks_text (blocks_of session.now) ++ whole_report command.now h) (S.written sinks.old) (S.written sinks.new) (S.faults sinks.old) (S.faults sinks.new) result }
+    ensures { TellsOutcome (SessionStandsFor session.now) (λ h. blocks_text (blocks_of session.now) ++ whole_report command.now h) (S.written sinks.old) (S.written sinks.new) (S.faults sinks.old) (S.faults sinks.new) result }
 {
     match tell_blocks(alloc, session.blocks(), sinks) {
         Ok(()) => tell_report(alloc, command, session, sinks),
@@ -217,7 +217,7 @@ pub(crate) fn tell_by_the_way<F: Fn(&[u8]) -> bool + Drop, S: Sinks>(
     requires reports { ReportsBy command.now session.now }
     requires callable { F.IsAlwaysCallable (select_of session.now) }
     requires selects { SelectsBy (F.post (select_of session.now)) (is_selected command.now) }
-    ensures { Tells (StandsFor session.now)
+    ensures { TellsOutcome (SessionStandsFor session.now)
         (λ h. option_map_or (λ every. (if is_due every (blocks_of session.now) then blocks_text (blocks_of session.now) ++ whole_report command.now h else [])) command.now.every [])
         (S.written sinks.old) (S.written sinks.new) (S.faults sinks.old) (S.faults sinks.new) result }
 {
@@ -234,7 +234,7 @@ pub(crate) fn tell_state<F: Fn(&[u8]) -> bool + Drop, S: Sinks>(
     session: &Session<F>,
     sinks: &mut S,
 ) -> Result<(), Halt>
-    ensures { StateTells command.now (StandsFor session.now) (S.written sinks.old) (S.written sinks.new) (S.faults sinks.old) (S.faults sinks.new) result }
+    ensures { StateTells command.now (SessionStandsFor session.now) (S.written sinks.old) (S.written sinks.new) (S.faults sinks.old) (S.faults sinks.new) result }
 {
     if !command.save {
         return Ok(());
@@ -256,7 +256,7 @@ pub(crate) fn tell_last<F: Fn(&[u8]) -> bool + Drop, S: Sinks>(
     requires reports { ReportsBy command.now session.now }
     requires callable { F.IsAlwaysCallable (select_of session.now) }
     requires selects { SelectsBy (F.post (select_of session.now)) (is_selected command.now) }
-    ensures { Tells (StandsFor session.now) (λ h. option_map_or (λ every. end_text (blocks_of session.now)) command.now.every [] ++ whole_report command.now h)
+    ensures { TellsOutcome (SessionStandsFor session.now) (λ h. option_map_or (λ every. end_text (blocks_of session.now)) command.now.every [] ++ whole_report command.now h)
         (S.written sinks.old) (S.written sinks.new) (S.faults sinks.old) (S.faults sinks.new) result }
 {
     match tell_end(alloc, command, session.blocks(), sinks) {

@@ -1,6 +1,6 @@
 // What a run begins with: a new session, or that of a state file, which is read whole.
 ghost use Rattle.std.specs.Prelude.{◌≡◌, ◌≤◌, List, ℕ, IfErr, IfOk, None, OnOk, length};
-ghost use Rattle.dk_io.specs.Outside.{Held, Rose};
+ghost use Rattle.dk_io.specs.Outside.{HeldFile, Rose};
 ghost use Rattle.dk_core.specs.Selecting.{SelectsBy};
 ghost use Rattle.dk_core.specs.Standing.{select_of};
 ghost use Rattle.dk_run.specs.Beginning.{IsBegun, IsLeft, IsWhole, IsResumed, IsUnloaded, StartTroubleGives, StateTroubleGives, unloaded as unloaded_by, unread as unread_by};
@@ -76,7 +76,7 @@ fn begin_new<F: Fn(&[u8]) -> bool + Drop>(
     select: F,
 ) -> Result<Beginning<F>, StartTrouble>
     requires { command.now.resume ≡ None }
-    ensures begun { IfOk result (λ b. (file : List ℕ → Held) → IsBegun command.now file b) }
+    ensures begun { IfOk result (λ b. (file : List ℕ → HeldFile) → IsBegun command.now file b) }
     ensures select { IfOk result (λ b. select_of b.session ≡ select) }
     ensures trouble { IfErr result (λ t. t ≡ StartTrouble.NoMemory) }
 {

@@ -1,6 +1,6 @@
 // How a run ends.
 ghost use Rattle.std.specs.Prelude.{◌≡◌};
-ghost use Rattle.dk_run.specs.Statuses.{code_of};
+ghost use Rattle.dk_run.specs.Statuses.{exit_code};
 
 /// How a run ends.
 #[derive(Clone, Copy, Debug, PartialEq, Eq)]
@@ -22,7 +22,7 @@ pub enum Status {
 impl Status {
     /// Its number, from 0 to 5, as the program ends with it.
     pub fn code(self) -> u8
-        ensures { result ≡ code_of self }
+        ensures { result ≡ exit_code self }
     {
         self as u8
     }

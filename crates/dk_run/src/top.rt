@@ -1,14 +1,14 @@
 // The top call.
 ghost use Rattle.std.specs.Prelude.{◌≡◌, ◌≤◌, ◌<◌, ◌∷◌, [], List, ℕ, map, Option, Some, None, IfOk, string_bytes, length};
 ghost use Rattle.dk_io.specs.Outside.{Holds, Rose};
-ghost use Rattle.dk_io.specs.Streams.{Texts, added};
+ghost use Rattle.dk_io.specs.Streams.{Texts, with_bytes};
 ghost use Rattle.dk_io.specs.declared.outside.Stream.TheVariants as stream;
 ghost use Rattle.dk_core.specs.Selecting.{SelectsBy};
 ghost use Rattle.dk_core.specs.Standing.{select_of};
 ghost use Rattle.dk_words.specs.Requests.{request_of};
 ghost use Rattle.dk_words.specs.Texts.{usage_line as usage_text};
 ghost use Rattle.dk_words.specs.declared.request.Request.TheVariants as request;
-ghost use Rattle.dk_run.specs.AllFiles.{AreCalmBut, IsCaused, IsPlaced, RunGives};
+ghost use Rattle.dk_run.specs.AllFiles.{AreCalmBut, IsCaused, IsTroubleOf, RunGives};
 ghost use Rattle.dk_run.specs.Commands.{helds_of, is_selected as selects_name, names_of};
 ghost use Rattle.dk_run.specs.Beginning.{HasCome, IsBegun};
 ghost use Rattle.dk_run.specs.Ending.{EndsBy, EndsUnbegun, EndsWith, status_of as status_by};
@@ -82,7 +82,7 @@ fn tell_trouble<S: Sinks>(
     trouble: FilesTrouble,
     sinks: &mut S,
 ) -> Status
-    requires { IsPlaced (length (names_of command.now)) trouble }
+    requires { IsTroubleOf (length (names_of command.now)) trouble }
     ensures { EndsBy command.now trouble (S.written sinks.old) (S.written sinks.new) (S.faults sinks.old) (S.faults sinks.new) result }
 {
     match trouble {
@@ -196,7 +196,7 @@ fn run_files<F: Fn(&[u8]) -> bool + Drop, I: Inputs, S: Sinks>(
           written = S.written sinks.new;
           write_faults = S.faults sinks.new;
         } in
-        HasCome command.now before now beginning → S.written sinks.old ≡ added before.written stream.Messages (first_line command.now)
+        HasCome command.now before now beginning → S.written sinks.old ≡ with_bytes before.written stream.Messages (first_line command.now)
         → Says result (Some (request.Run command.now)) before after }
     ensures files { I.file inputs.new ≡ I.file inputs.old }
 {

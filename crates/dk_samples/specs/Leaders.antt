@@ -6,8 +6,8 @@ use Rattle.dk_base.specs.declared.values.Value.{Value}
 use Rattle.dk_samples.specs.Samples.{Agree}
 
 -- each variable stands before the later ones of the list
-abbrev pub Ascend : List VarId → Type 0
-Ascend vars = AllPairs (λ v w. v.0 < w.0) vars
+abbrev pub VarsAscend : List VarId → Type 0
+VarsAscend vars = AllPairs (λ v w. v.0 < w.0) vars
 
 -- the old leader of a new one; any other variable is its own old one
 abbrev pub old_of : List (VarId × VarId) → VarId → VarId

@@ -6,7 +6,7 @@ ghost use Rattle.dk_sequence.specs.Rows.{IsSequenceRow};
 ghost use Rattle.dk_template.specs.Joins.{joined};
 ghost use Rattle.dk_template.specs.Proper.{IsProper};
 ghost use Rattle.dk_template.specs.Rows.{IsTuple};
-ghost use Rattle.dk_template.specs.Templates.{form_of, kinds_of};
+ghost use Rattle.dk_template.specs.Templates.{form_of, role_kinds};
 ghost use Rattle.dk_template.specs.declared.templates.StateForm.{StateForm};
 
 use dk_base::{NoMemory, View};
@@ -16,7 +16,7 @@ use std::alloc::Global;
 /// The state of one tuple. Only row 47 wants memory.
 pub fn point(alloc: Global, row: RowId, tuple: &[View<'_>]) -> Result<State, NoMemory>
     requires row { IsSequenceRow row }
-    requires tuple { IsTuple (kinds_of row) (values_of tuple.now) }
+    requires tuple { IsTuple (role_kinds row) (values_of tuple.now) }
     ensures state { IfOk result (λ state. state ≡ state_of row (values_of tuple.now ∷ [])) }
     ensures err { OnErr result (form_of row ≡ StateForm.Texts) }
 {
@@ -43,7 +43,7 @@ pub fn join(alloc: Global, row: RowId, a: State, b: &State) -> Result<State, NoM
 pub fn stays(row: RowId, state: &State, tuple: &[View<'_>]) -> bool
     requires row { IsSequenceRow row }
     requires state { IsProper (form_of row) state.now }
-    requires tuple { IsTuple (kinds_of row) (values_of tuple.now) }
+    requires tuple { IsTuple (role_kinds row) (values_of tuple.now) }
     ensures { IsTrue result ↔ (joined (form_of row) state.now (state_of row (values_of tuple.now ∷ [])) ≡ state.now) }
 {
     let n = row.0;

@@ -10,7 +10,7 @@ use Rattle.dk_base.specs.declared.kinds.Kind.TheVariants as kind
 use Rattle.dk_base.specs.declared.kinds.VarId.{VarId}
 use Rattle.dk_base.specs.declared.kinds.VarInfo.{VarInfo}
 use Rattle.dk_base.specs.declared.values.Value.{Value}
-use Rattle.dk_classes.specs.Classes.{AreLeaders, InClass, IsFirst, kind_at, kinds_of}
+use Rattle.dk_classes.specs.Classes.{AreLeaders, InClass, IsFirst, kind_at, var_kinds}
 use Rattle.dk_classes.specs.Leaders.{leader_at, var}
 use Rattle.dk_filters.specs.Facts.{info_at}
 use Rattle.dk_filters.specs.OfSamples.{agrees}
@@ -18,7 +18,7 @@ use Rattle.dk_filters.proofs.Agreeing.{agrees_is_agreement}
 use Rattle.dk_fits.specs.Instances.{all_vars}
 use Rattle.dk_state.specs.Compact.{leader_in, leaders_in}
 
-kind_is : (infos : List VarInfo) (v : ℕ) → v < length infos → kind_at (kinds_of infos) v ≡ (info_at infos (var v)).kind
+kind_is : (infos : List VarInfo) (v : ℕ) → v < length infos → kind_at (var_kinds infos) v ≡ (info_at infos (var v)).kind
 kind_is infos v l = get_or-map (λ (info : VarInfo). info.kind) infos v (info_at infos (var v)) kind.Bool l ∙ ap (λ (info : VarInfo). info.kind) (sym (get_or_default infos v _ (info_at infos (var v)) l))
 
 var_at : (infos : List VarInfo) (v : ℕ) (d : VarId) → v < length infos → get_or (all_vars infos) v d ≡ var v
@@ -31,7 +31,7 @@ module _ (infos : List VarInfo) (samples : List (List Value)) (v : ℕ) (within 
   abbrev like : VarId → Bool
   like w = agrees infos samples w (var v)
 
-  in_class : (w : ℕ) → w < length infos → agrees infos samples (var w) (var v) ≡ true → InClass (kinds_of infos) samples v w
+  in_class : (w : ℕ) → w < length infos → agrees infos samples (var w) (var v) ≡ true → InClass (var_kinds infos) samples v w
   in_class w l h =
       let told = (agrees_is_agreement infos samples (var w) (var v)).0 h in
       record {
@@ -40,7 +40,7 @@ module _ (infos : List VarInfo) (samples : List (List Value)) (v : ℕ) (within 
         agree = told.1;
       }
 
-  from_class : (w : ℕ) → InClass (kinds_of infos) samples v w → agrees infos samples (var w) (var v) ≡ true
+  from_class : (w : ℕ) → InClass (var_kinds infos) samples v w → agrees infos samples (var w) (var v) ≡ true
   from_class w c =
       let l : w < length infos = subst (λ n. w < n) (length-map infos (λ (info : VarInfo). info.kind)) c.within in
       (agrees_is_agreement infos samples (var w) (var v)).1 (sym (kind_is infos w l) ∙ (c.kind ∙ kind_is infos v within), c.agree)
@@ -57,7 +57,7 @@ module _ (infos : List VarInfo) (samples : List (List Value)) (v : ℕ) (within 
     | inr not ↦ ltb-false w (position_or_len like (all_vars infos)) not
   ]
 
-  first_of_class : IsFirst (InClass (kinds_of infos) samples v) (position_or_len like (all_vars infos))
+  first_of_class : IsFirst (InClass (var_kinds infos) samples v) (position_or_len like (all_vars infos))
   first_of_class =
       let n = position_or_len like (all_vars infos) in
       let l : n < length infos = omega (arith, apart v within itself, within) in
@@ -68,7 +68,7 @@ module _ (infos : List VarInfo) (samples : List (List Value)) (v : ℕ) (within 
         first = λ w c. apart w (subst (λ k. w < k) (length-map infos (λ (info : VarInfo). info.kind)) c.within) (from_class w c);
       }
 
-pub leaders_exact : (infos : List VarInfo) (samples : List (List Value)) → AreLeaders (kinds_of infos) samples (leaders_in infos samples)
+pub leaders_exact : (infos : List VarInfo) (samples : List (List Value)) → AreLeaders (var_kinds infos) samples (leaders_in infos samples)
 leaders_exact infos samples =
     let all = length-map (all_vars infos) (leader_in infos samples) ∙ all_long infos in
     record {
@@ -78,5 +78,5 @@ leaders_exact infos samples =
           let is : leader_at (leaders_in infos samples) v ≡ position_or_len (like infos samples v within) (all_vars infos) =
           ap (λ (u : VarId). u.0) (get_or-map (leader_in infos samples) (all_vars infos) v (var 0) (var 0) (omega (arith, within, all_long infos)) ∙ ap (leader_in infos samples) (var_at infos v (var 0) within))
           in
-          subst (IsFirst (InClass (kinds_of infos) samples v)) (sym is) (first_of_class infos samples v within);
+          subst (IsFirst (InClass (var_kinds infos) samples v)) (sym is) (first_of_class infos samples v within);
     }

@@ -13,7 +13,7 @@ use Rattle.dk_base.specs.declared.values.Value.{Value}
 use Rattle.dk_classes.proofs.OwnLeaders.{own_ascend}
 use Rattle.dk_classes.specs.Leaders.{own_leaders}
 use Rattle.dk_constants.specs.Constants.{AreConstants, HasAlways}
-use Rattle.dk_constants.specs.Known.{Ascend, Entries, known_at, none_known}
+use Rattle.dk_constants.specs.Known.{Entries, EntriesAscend, known_at, none_known}
 use Rattle.dk_engine.proofs.SlotLists.{slots_of_fits_exact}
 use Rattle.dk_engine.specs.Exact.{AreSlots, IsKeptOf}
 use Rattle.dk_presence.proofs.Adding.{counted_added, times-cons, times-push}
@@ -22,7 +22,7 @@ use Rattle.dk_presence.proofs.Refining.{has-contains}
 use Rattle.dk_presence.proofs.Sameness.{same_id}
 use Rattle.dk_presence.specs.Patterns.{AreCounted, AreHeld, capped, has, held_patterns, patterns_of, present_in, same_vars}
 use Rattle.dk_presence.specs.declared.held.Held.{Held}
-use Rattle.dk_samples.specs.Leaders.{Ascend as LeadersAscend}
+use Rattle.dk_samples.specs.Leaders.{VarsAscend as LeadersAscend}
 use Rattle.dk_samples.specs.Samples.{is_present, value_in}
 use Rattle.dk_template.specs.declared.grammar.Grammar.{Grammar}
 use Rattle.dk_state.specs.Compact.{constants_in, held_in, kept_of, leaders_in, one_value, slots_in}
@@ -129,7 +129,7 @@ module _ (samples : List (List Value)) where
   of_leaders [] = λ j l. absurd (omega (arith, l))
   of_leaders (w ∷ vs) = of_step w vs (of_leaders vs) (one_value samples w) refl
 
-  ahead : (w : VarId) (x : Value) (vs : List VarId) → LeadersAscend (w ∷ vs) → Ascend (constants_in samples vs) → Ascend ((w, x) ∷ constants_in samples vs)
+  ahead : (w : VarId) (x : Value) (vs : List VarId) → LeadersAscend (w ∷ vs) → EntriesAscend (constants_in samples vs) → EntriesAscend ((w, x) ∷ constants_in samples vs)
   ahead w x vs up rest zero zero l m = absurd (omega (arith, l))
   ahead w x vs up rest zero (suc j) l m =
       let c = of_leaders vs j (omega (arith, m)) in
@@ -140,11 +140,11 @@ module _ (samples : List (List Value)) where
   ahead w x vs up rest (suc i) zero l m = absurd (omega (arith, l))
   ahead w x vs up rest (suc i) (suc j) l m = rest i j (omega (arith, l)) (omega (arith, m))
 
-  ascend_step : (w : VarId) (vs : List VarId) → LeadersAscend (w ∷ vs) → Ascend (constants_in samples vs) → (r : Option Value) → one_value samples w ≡ r → Ascend (constants_in samples (w ∷ vs))
-  ascend_step w vs up rest (Some x) e = subst Ascend (sym (constants_cons w vs (Some x) e)) (ahead w x vs up rest)
-  ascend_step w vs up rest None e = subst Ascend (sym (constants_cons w vs None e)) rest
+  ascend_step : (w : VarId) (vs : List VarId) → LeadersAscend (w ∷ vs) → EntriesAscend (constants_in samples vs) → (r : Option Value) → one_value samples w ≡ r → EntriesAscend (constants_in samples (w ∷ vs))
+  ascend_step w vs up rest (Some x) e = subst EntriesAscend (sym (constants_cons w vs (Some x) e)) (ahead w x vs up rest)
+  ascend_step w vs up rest None e = subst EntriesAscend (sym (constants_cons w vs None e)) rest
 
-  constants_ascend : (leaders : List VarId) → LeadersAscend leaders → Ascend (constants_in samples leaders)
+  constants_ascend : (leaders : List VarId) → LeadersAscend leaders → EntriesAscend (constants_in samples leaders)
   constants_ascend [] up = λ i j l m. absurd (omega (arith, m))
   constants_ascend (w ∷ vs) up =
       ascend_step w vs up (constants_ascend vs (λ i j d l m. up (suc i) (suc j) d (omega (arith, l)) (omega (arith, m)))) (one_value samples w) refl

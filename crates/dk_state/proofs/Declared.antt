@@ -8,14 +8,14 @@ use Rattle.std.proofs.lemmas.List.Concat.{flat_map-append}
 use Rattle.std.proofs.lemmas.List.Elements.{filter_map-append}
 use Rattle.std.proofs.lemmas.Option.{slice_get-get_or}
 use Rattle.dk_decl.specs.declared.decls.PointDecl.{PointDecl}
-use Rattle.dk_points.specs.Table.{Point, decl_if_declared, decl_of}
+use Rattle.dk_points.specs.Table.{Point, decl_at, decl_if_declared}
 use Rattle.dk_state.specs.Declarations.{decls_of, point_lines}
 
 one : (q : Point) → decls_of (q ∷ []) ≡ option_to_list (decl_if_declared q)
 one q = elim (decl_if_declared q) as (λ d. filter_map (λ (_ : Point). d) (q ∷ []) ≡ option_to_list d) [ Some x ↦ refl | None ↦ refl ]
 
 -- one point more
-pub decls_more : (ps : List Point) (p : ℕ) → p < length ps → decls_of (take (p + 1) ps) ≡ decls_of (take p ps) ++ option_to_list (decl_of ps p)
+pub decls_more : (ps : List Point) (p : ℕ) → p < length ps → decls_of (take (p + 1) ps) ≡ decls_of (take p ps) ++ option_to_list (decl_at ps p)
 decls_more [] p l = absurd (omega arith)
 decls_more (q ∷ ps) p l =
     ap decls_of (take_more (q ∷ ps) p q l)
@@ -24,17 +24,17 @@ decls_more (q ∷ ps) p l =
     ∙ ap (λ r. option_to_list (option_and_then decl_if_declared r)) (sym (slice_get-get_or (q ∷ ps) p q l))))
 
 -- a text with the lines of that point
-pub lines_more : (ps : List Point) (p : ℕ) (start text next : List ℕ) (d : Option PointDecl) → p < length ps → d ≡ decl_of ps p
+pub lines_more : (ps : List Point) (p : ℕ) (start text next : List ℕ) (d : Option PointDecl) → p < length ps → d ≡ decl_at ps p
     → text ≡ start ++ flat_map point_lines (decls_of (take p ps)) → next ≡ text ++ flat_map point_lines (option_to_list d)
     → next ≡ start ++ flat_map point_lines (decls_of (take (p + 1) ps))
 lines_more ps p start text next d l is so_far step =
-    let here = flat_map point_lines (option_to_list (decl_of ps p)) in
+    let here = flat_map point_lines (option_to_list (decl_at ps p)) in
     let before = flat_map point_lines (decls_of (take p ps)) in
     step
     ∙ (ap (λ o. text ++ flat_map point_lines (option_to_list o)) is
     ∙ (ap (λ t. t ++ here) so_far
     ∙ (append_assoc start before here
-    ∙ ap (λ t. start ++ t) (sym (flat_map-append point_lines (decls_of (take p ps)) (option_to_list (decl_of ps p))) ∙ ap (flat_map point_lines) (sym (decls_more ps p l))))))
+    ∙ ap (λ t. start ++ t) (sym (flat_map-append point_lines (decls_of (take p ps)) (option_to_list (decl_at ps p))) ∙ ap (flat_map point_lines) (sym (decls_more ps p l))))))
 
 -- how many declarations a reference to one makes
 pub counted_some : (r : Option (Bor PointDecl)) → is_some r ≡ true → length (option_to_list (option_map (λ (d : Bor PointDecl). d.now) r)) ≡ 1

@@ -17,7 +17,7 @@ use Rattle.dk_engine.specs.declared.kept.Kept.{Kept}
 use Rattle.dk_engine.specs.declared.parts.Parts.{Parts}
 use Rattle.dk_hierarchy.specs.Samples.{OwnSamples, all_vars_of, own_samples_of}
 use Rattle.dk_hierarchy.specs.Standing.{AreEnginesOf}
-use Rattle.dk_points.specs.Table.{Point, decl_of}
+use Rattle.dk_points.specs.Table.{Point, decl_at}
 use Rattle.dk_presence.specs.Patterns.{capped}
 use Rattle.dk_state.specs.Declarations.{decls_of}
 use Rattle.dk_state.specs.Loading.{AreLoadedAs, IsLoaded, IsLoadedAs}
@@ -93,7 +93,7 @@ one_saved g ps own can p within =
     (λ e.
     let some : kept.samples ≡ 0 → ⊥ = λ z. absurd (cc) in
     record {
-      declared = declared_there (decl_of ps p) (λ none. some (number ∙ ap (λ (s : List (List Value)). min (length s) (2 ^ 64 - 1)) (can.declared p none)));
+      declared = declared_there (decl_at ps p) (λ none. some (number ∙ ap (λ (s : List (List Value)). min (length s) (2 ^ 64 - 1)) (can.declared p none)));
       meet = kept_parts_are_saved g (all_vars_of ps p) (can.variables p within) samples (can.samples p) kept (kept_exact g (all_vars_of ps p) samples)
           (omega (arith, as_many, number, some)) (omega (arith, as_many, can.few p));
       within = can.within p;

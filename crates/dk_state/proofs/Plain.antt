@@ -11,7 +11,7 @@ use Rattle.std.proofs.lemmas.Fmt.{digits_is_IsNumeral}
 use Rattle.std.proofs.lemmas.List.{map-id}
 use Rattle.std.proofs.lemmas.List.Elements.{All-head, All-tail}
 use Rattle.std.proofs.lemmas.Slice.Eq.{bytes_eq-Decides}
-use Rattle.dk_base.specs.Items.{closes, is_quoted, is_text}
+use Rattle.dk_base.specs.Items.{closes_quote, is_quoted, is_text}
 use Rattle.dk_base.specs.Names.{escaped, escaped_byte}
 use Rattle.dk_base.specs.Numbers.{fits_i64}
 use Rattle.dk_base.specs.Pieces.{is_empty}
@@ -84,7 +84,7 @@ small_whole (negsuc n) fits = omega (arith, ltb-true n (2 ^ 63) fits)
 pub int_plain : (z : ℤ) → IsTrue (fits_i64 z) → HasNone ends_line (signed_decimal z)
 int_plain z fits = fields_in_line (signed_decimal z) (number_plain z (small_whole z fits))
 
-closed_plain : (escaped : Bool) (bs : List ℕ) → closes escaped bs ≡ true → HasNone ends_line bs
+closed_plain : (escaped : Bool) (bs : List ℕ) → closes_quote escaped bs ≡ true → HasNone ends_line bs
 closed_plain escaped [] h = refl
 closed_plain escaped (b ∷ bs) h = go (b == 10) (not escaped && b == 34) refl refl bs h (closed_plain (not escaped && b == 92) bs)
   where
@@ -93,8 +93,8 @@ closed_plain escaped (b ∷ bs) h = go (b == 10) (not escaped && b == 34) refl r
     empty_plain (c ∷ bs) h = absurd (false≢true h)
 
     go : (lf quote : Bool) → (b == 10) ≡ lf → (not escaped && b == 34) ≡ quote → (bs : List ℕ)
-        → (if lf then false else if quote then is_empty bs else closes (not escaped && b == 92) bs) ≡ true
-        → (closes (not escaped && b == 92) bs ≡ true → HasNone ends_line bs) → HasNone ends_line (b ∷ bs)
+        → (if lf then false else if quote then is_empty bs else closes_quote (not escaped && b == 92) bs) ≡ true
+        → (closes_quote (not escaped && b == 92) bs ≡ true → HasNone ends_line bs) → HasNone ends_line (b ∷ bs)
     go true quote e f bs h later = absurd (false≢true h)
     go false true e f bs h later = rw e (empty_plain bs h)
     go false false e f bs h later = rw e (later h)
@@ -103,7 +103,7 @@ quoted_plain : (s : List ℕ) → is_quoted s ≡ true → HasNone ends_line s
 unfolding is_quoted
 quoted_plain [] h = absurd (false≢true h)
 quoted_plain (b ∷ bs) h =
-    let both = and_parts (b == 34) (closes false bs) h in
+    let both = and_parts (b == 34) (closes_quote false bs) h in
     let P : ℕ → Type 0 = λ c. HasNone ends_line (c ∷ bs) in
     subst P (sym (eqb-true b 34 both.0)) (closed_plain false bs both.1)
 

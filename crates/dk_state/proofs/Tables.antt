@@ -14,7 +14,7 @@ use Rattle.dk_points.specs.declared.declared.Declared.TheVariants.{New, Same}
 use Rattle.dk_points.specs.Declaring.{declared, declared_again, declared_at, has_many_points, has_many_vars}
 use Rattle.dk_points.specs.Links.{nodes}
 use Rattle.dk_points.specs.Sameness.{same_decl}
-use Rattle.dk_points.specs.Table.{Point, added, decl_of, declared_point, implicit_exit, makes_exit, names}
+use Rattle.dk_points.specs.Table.{Point, added_points, decl_at, declared_point, implicit_exit, makes_exit, names}
 use Rattle.dk_state.specs.Spelling.{if_new, table_behind}
 
 pub table_append : (xs ys : List PointDecl) (ps : List Point) → table_behind ps (xs ++ ys) ≡ option_and_then (λ q. table_behind q ys) (table_behind ps xs)
@@ -52,25 +52,25 @@ new_grows ps d next e = go (place_of (names ps) d.name) e
         cond_both (same_decl own d) (Ok (ps, Same (record { 0 = i }))) (Err DuplicatePoint) (λ (r : Result (List Point × Declared) Why). if_new r ≡ Some next → ⊥)
         (λ _ h. cc) (λ _ h. cc) e
 
-    more : length ps < length (ps ++ added ps d)
+    more : length ps < length (ps ++ added_points ps d)
     more =
         cond_both (makes_exit ps d) (implicit_exit d ∷ declared_point d ∷ []) (declared_point d ∷ []) (λ qs. length ps < length (ps ++ qs))
         (λ _. omega (arith, length-append ps (implicit_exit d ∷ declared_point d ∷ []))) (λ _. omega (arith, length-append ps (declared_point d ∷ [])))
 
-    pick : (many vars cycle : Bool) → nat_lt 65535 (length (ps ++ added ps d)) ≡ many
-        → if_new (if many then Err TooManyPoints else if vars then Err TooManyVariables else if cycle then Err CyclicParents else Ok (ps ++ added ps d, New (record { 0 = length (ps ++ added ps d) - 1 }))) ≡ Some next
+    pick : (many vars cycle : Bool) → nat_lt 65535 (length (ps ++ added_points ps d)) ≡ many
+        → if_new (if many then Err TooManyPoints else if vars then Err TooManyVariables else if cycle then Err CyclicParents else Ok (ps ++ added_points ps d, New (record { 0 = length (ps ++ added_points ps d) - 1 }))) ≡ Some next
         → (length ps < length next) × (length next ≤ 65535)
     pick true vars cycle few e = absurd (cc)
     pick false true cycle few e = absurd (cc)
     pick false false true few e = absurd (cc)
     pick false false false few e =
-        let same : ps ++ added ps d ≡ next = some-injective e in
+        let same : ps ++ added_points ps d ≡ next = some-injective e in
         let long = ap length same in
-        (omega (arith, long, more), omega (arith, long, ltb-false 65535 (length (ps ++ added ps d)) few))
+        (omega (arith, long, more), omega (arith, long, ltb-false 65535 (length (ps ++ added_points ps d)) few))
 
     go : (o : Option ℕ) → if_new (declared_at ps d o) ≡ Some next → (length ps < length next) × (length next ≤ 65535)
-    go None e = pick (has_many_points (ps ++ added ps d)) (has_many_vars ps d) (has_cycle (nodes (ps ++ added ps d))) refl e
-    go (Some i) e = absurd (again i (decl_of ps i) e)
+    go None e = pick (has_many_points (ps ++ added_points ps d)) (has_many_vars ps d) (has_cycle (nodes (ps ++ added_points ps d))) refl e
+    go (Some i) e = absurd (again i (decl_at ps i) e)
 
 -- so declarations that make a table are few
 pub few_made : (ds : List PointDecl) (ps all : List Point) → length ps ≤ 65535 → table_behind ps ds ≡ Some all → length ps + length ds ≤ 65535

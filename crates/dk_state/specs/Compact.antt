@@ -14,7 +14,7 @@ use Rattle.dk_engine.specs.declared.slot.Slot.{Slot}
 use Rattle.dk_filters.specs.OfSamples.{agrees}
 use Rattle.dk_fits.specs.Instances.{all_vars}
 use Rattle.dk_presence.specs.Patterns.{capped, present_in}
-use Rattle.dk_presence.specs.Steps.{added}
+use Rattle.dk_presence.specs.Steps.{with_sample_of}
 use Rattle.dk_presence.specs.declared.held.Held.{Held}
 use Rattle.dk_samples.specs.Samples.{value_in}
 use Rattle.dk_suppress.specs.Soundness.{fit_of}
@@ -40,7 +40,7 @@ constants_in samples leaders = filter_map (λ v. option_map (λ x. (v, x)) (one_
 -- the patterns of present leaders, each with the number of samples that have it
 abbrev pub held_in : List VarId → List (List Value) → List Held
 held_in leaders [] = []
-held_in leaders (s ∷ samples) = added (present_in leaders s) (held_in leaders samples)
+held_in leaders (s ∷ samples) = with_sample_of (present_in leaders s) (held_in leaders samples)
 
 -- the slots with their fits; of no samples there are none
 abbrev pub slots_in : Grammar → List VarInfo → List (List Value) → List VarId → Entries → List Slot

@@ -9,7 +9,7 @@ use Rattle.dk_base.specs.declared.kinds.Kind.{Kind}
 use Rattle.dk_base.specs.declared.kinds.VarId.{VarId}
 use Rattle.dk_base.specs.declared.kinds.VarInfo.{VarInfo}
 use Rattle.dk_base.specs.declared.values.Value.{Value}
-use Rattle.dk_classes.specs.Classes.{kind_at, kinds_of}
+use Rattle.dk_classes.specs.Classes.{kind_at, var_kinds}
 use Rattle.dk_decl.specs.declared.decls.EdgeDecl.{EdgeDecl}
 use Rattle.dk_decl.specs.declared.decls.ParentVar.{ParentVar}
 use Rattle.dk_decl.specs.declared.decls.PointDecl.{PointDecl}
@@ -88,7 +88,7 @@ FitsPattern p = p.count < 2 ^ 64
 pub record FitsKnown (vars : List VarInfo) (k : Known) : Type 0 where
   pub leader : k.leader.0 < length vars
   pub place : k.leader.0 < 2 ^ 32
-  pub kind : IsOfKind (kind_at (kinds_of vars) k.leader.0) k.value
+  pub kind : IsOfKind (kind_at (var_kinds vars) k.leader.0) k.value
   pub written : IsWritten k.value
 
 pub record FitsSlot (s : Slot) : Type 0 where

@@ -8,7 +8,7 @@ use Rattle.dk_engine.specs.Exact.{AreOfPoint, AreSamples}
 use Rattle.dk_engine.specs.declared.parts.Parts.{Parts}
 use Rattle.dk_hierarchy.specs.Samples.{OwnSamples, all_vars_of, own_samples_of}
 use Rattle.dk_points.specs.Declaring.{declared}
-use Rattle.dk_points.specs.Table.{Point, decl_of}
+use Rattle.dk_points.specs.Table.{Point, decl_at}
 use Rattle.dk_points.specs.declared.declared.Declared.{Declared}
 use Rattle.dk_points.specs.declared.declared.Declared.TheVariants.{New, Same}
 use Rattle.dk_template.specs.declared.grammar.Grammar.{Grammar}
@@ -55,7 +55,7 @@ text_of c = state_text c.grammar (decls_of c.points) c.implicit (flat_map saved_
 
 -- Parts at a declared point that meet the conditions, with numbers within their types.
 pub record AreSavedAt (g : Grammar) (ps : List Point) (p : ℕ) (parts : Parts) : Type 0 where
-  pub declared : IsTrue (is_some (decl_of ps p))
+  pub declared : IsTrue (is_some (decl_at ps p))
   pub meet : AreSavedParts g (all_vars_of ps p) parts
   pub within : All FitsSlot parts.slots
 
@@ -98,6 +98,6 @@ pub record CanBeSaved (g : Grammar) (ps : List Point) (own : OwnSamples) : Type 
   pub table : IsOwnTable ps
   pub variables : (p : ℕ) → p < length ps → AreOfPoint (all_vars_of ps p)
   pub samples : (p : ℕ) → AreSamples (all_vars_of ps p) (own_samples_of ps own p)
-  pub declared : (p : ℕ) → IsTrue (is_none (decl_of ps p)) → slice_index_or own p [] ≡ []
+  pub declared : (p : ℕ) → IsTrue (is_none (decl_at ps p)) → slice_index_or own p [] ≡ []
   pub few : (p : ℕ) → length (slice_index_or own p []) ≤ 2 ^ 40
   pub within : (p : ℕ) → All FitsSlot (form_of g ps own p).slots

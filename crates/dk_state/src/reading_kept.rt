@@ -5,7 +5,7 @@ ghost use Rattle.std.specs.List.{starts_with};
 ghost use Rattle.dk_base.specs.Spelling.{IsWritten, spelling};
 ghost use Rattle.dk_base.specs.Values.{IsOfKind};
 ghost use Rattle.dk_base.specs.declared.values.Value.{Value as Values};
-ghost use Rattle.dk_classes.specs.Classes.{kind_at, kinds_of};
+ghost use Rattle.dk_classes.specs.Classes.{kind_at, var_kinds};
 ghost use Rattle.dk_engine.specs.declared.parts.Parts.{Parts as AllParts};
 ghost use Rattle.dk_template.specs.declared.grammar.RowId.{RowId as Row};
 ghost use Rattle.dk_state.specs.Fitting.{FitsClass, FitsKnown, FitsParts, FitsPattern, FitsPlace, FitsSlot};
@@ -128,7 +128,7 @@ fn value_of(
     v: VarId,
     front: &mut Front<'_>,
 ) -> Result<Value, NoMemory>
-    ensures read { (x : Values) (rest : List ℕ) → v.0 < length vars.now → IsOfKind (kind_at (kinds_of vars.now) v.0) x → IsWritten x → BeginsWith ends_line rest → front.old ≡ behind_blank (spelling x) ++ rest → IfOk result (λ own. (own ≡ x) × (front.new ≡ rest)) }
+    ensures read { (x : Values) (rest : List ℕ) → v.0 < length vars.now → IsOfKind (kind_at (var_kinds vars.now) v.0) x → IsWritten x → BeginsWith ends_line rest → front.old ≡ behind_blank (spelling x) ++ rest → IfOk result (λ own. (own ≡ x) × (front.new ≡ rest)) }
     ensures shorter { length front.new ≤ length front.old }
 {
     let place = v.0 as usize;

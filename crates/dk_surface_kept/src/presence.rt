@@ -1,6 +1,6 @@
 // Patterns over small lists of samples, as they were worked out by hand.
 ghost use Rattle.std.specs.Prelude.{◌<◌, IfOk};
-ghost use Rattle.dk_samples.specs.Leaders.{Ascend};
+ghost use Rattle.dk_samples.specs.Leaders.{VarsAscend};
 ghost use Rattle.dk_presence.specs.Patterns.{AreHeld};
 
 use dk_base::{List, NoMemory, VarId, View};
@@ -11,7 +11,7 @@ use std::test::Fail;
 
 fn one_held(alloc: Global, count: u64, leaders: &[VarId]) -> Result<List<Held>, NoMemory>
     requires count { 0 < count }
-    requires leaders { Ascend leaders.now }
+    requires leaders { VarsAscend leaders.now }
     ensures { IfOk result AreHeld }
 {
     let mut held = List::new(alloc);

@@ -4,7 +4,7 @@ ghost use Rattle.dk_base.specs.Items.{is_text};
 ghost use Rattle.dk_base.specs.declared.kinds.Kind.TheVariants as kind;
 ghost use Rattle.dk_binary.specs.Rows.{IsBinary};
 ghost use Rattle.dk_template.specs.Proper.{IsProper};
-ghost use Rattle.dk_template.specs.Templates.{form_of, kinds_of};
+ghost use Rattle.dk_template.specs.Templates.{form_of, role_kinds};
 
 use dk_base::{NoMemory, View};
 use dk_binary::*;
@@ -22,7 +22,7 @@ fn check_ints(
     expected: &State,
 ) -> Result<(), NoMemory>
     requires row { IsBinary (record { 0 = row }) }
-    requires kinds { kinds_of (record { 0 = row }) ≡ kind.Int ∷ kind.Int ∷ [] }
+    requires kinds { role_kinds (record { 0 = row }) ≡ kind.Int ∷ kind.Int ∷ [] }
 {
     let (x, y) = tuple;
     let found = point(alloc, RowId(row), &[View::Int(x), View::Int(y)])?;
@@ -39,7 +39,7 @@ fn check_hashes(
     expected: &State,
 ) -> Result<(), NoMemory>
     requires row { IsBinary (record { 0 = row }) }
-    requires kinds { kinds_of (record { 0 = row }) ≡ kind.Hash ∷ kind.Hash ∷ [] }
+    requires kinds { role_kinds (record { 0 = row }) ≡ kind.Hash ∷ kind.Hash ∷ [] }
 {
     let (x, y) = tuple;
     let found = point(alloc, RowId(row), &[View::Hash(x), View::Hash(y)])?;

@@ -4,7 +4,7 @@ ghost use Rattle.dk_base.specs.Items.{is_text};
 ghost use Rattle.dk_base.specs.Numbers.{fits_i64};
 ghost use Rattle.dk_base.specs.declared.kinds.Kind.TheVariants as kind;
 ghost use Rattle.dk_elements.specs.Rows.{IsElementRow};
-ghost use Rattle.dk_template.specs.Templates.{kinds_of};
+ghost use Rattle.dk_template.specs.Templates.{role_kinds};
 
 use dk_base::{List, NoMemory, Text, View};
 use dk_elements::*;
@@ -24,7 +24,7 @@ fn check_ints(
     expected: &State,
 ) -> Result<(), NoMemory>
     requires row { IsElementRow (record { 0 = row }) }
-    requires kinds { kinds_of (record { 0 = row }) ≡ kind.IntSeq ∷ [] }
+    requires kinds { role_kinds (record { 0 = row }) ≡ kind.IntSeq ∷ [] }
     requires fit { All (λ z. IsTrue (fits_i64 z)) s.now }
 {
     let found = point(alloc, RowId(row), &[View::IntSeq(s)])?;
@@ -42,7 +42,7 @@ fn check_compared(
     expected: &State,
 ) -> Result<(), NoMemory>
     requires row { IsElementRow (record { 0 = row }) }
-    requires kinds { kinds_of (record { 0 = row }) ≡ kind.IntSeq ∷ kind.Int ∷ [] }
+    requires kinds { role_kinds (record { 0 = row }) ≡ kind.IntSeq ∷ kind.Int ∷ [] }
     requires fit { All (λ z. IsTrue (fits_i64 z)) s.now }
 {
     let found = point(alloc, RowId(row), &[View::IntSeq(s), View::Int(x)])?;
@@ -59,7 +59,7 @@ fn check_bools(
     expected: &State,
 ) -> Result<(), NoMemory>
     requires row { IsElementRow (record { 0 = row }) }
-    requires kinds { kinds_of (record { 0 = row }) ≡ kind.BoolSeq ∷ [] }
+    requires kinds { role_kinds (record { 0 = row }) ≡ kind.BoolSeq ∷ [] }
 {
     let found = point(alloc, RowId(row), &[View::BoolSeq(s)])?;
     assert!(rt; found == *expected);
@@ -75,7 +75,7 @@ fn check_hashes(
     expected: &State,
 ) -> Result<(), NoMemory>
     requires row { IsElementRow (record { 0 = row }) }
-    requires kinds { kinds_of (record { 0 = row }) ≡ kind.HashSeq ∷ [] }
+    requires kinds { role_kinds (record { 0 = row }) ≡ kind.HashSeq ∷ [] }
     requires fit { All (λ n. n < 2 ^ 64) s.now }
 {
     let found = point(alloc, RowId(row), &[View::HashSeq(s)])?;
@@ -92,7 +92,7 @@ fn check_strs(
     expected: &State,
 ) -> Result<(), NoMemory>
     requires row { IsElementRow (record { 0 = row }) }
-    requires kinds { kinds_of (record { 0 = row }) ≡ kind.StrSeq ∷ [] }
+    requires kinds { role_kinds (record { 0 = row }) ≡ kind.StrSeq ∷ [] }
     requires texts { All (λ t. IsTrue (is_text t)) (map (λ t. t.now) s.now) }
 {
     let found = point(alloc, RowId(row), &[View::StrSeq(s)])?;

@@ -5,7 +5,7 @@ ghost use Rattle.dk_base.specs.Numbers.{fits_i64};
 ghost use Rattle.dk_base.specs.declared.kinds.Kind.TheVariants as kind;
 ghost use Rattle.dk_pairs.specs.Rows.{IsPair};
 ghost use Rattle.dk_template.specs.Proper.{IsProper};
-ghost use Rattle.dk_template.specs.Templates.{form_of, kinds_of};
+ghost use Rattle.dk_template.specs.Templates.{form_of, role_kinds};
 
 use dk_base::{NoMemory, View};
 use dk_pairs::*;
@@ -25,7 +25,7 @@ fn check_ints(
     expected: &State,
 ) -> Result<(), NoMemory>
     requires row { IsPair (record { 0 = row }) }
-    requires kinds { kinds_of (record { 0 = row }) ≡ kind.IntSeq ∷ kind.IntSeq ∷ [] }
+    requires kinds { role_kinds (record { 0 = row }) ≡ kind.IntSeq ∷ kind.IntSeq ∷ [] }
     requires first { All (λ z. IsTrue (fits_i64 z)) tuple.0.now }
     requires second { All (λ z. IsTrue (fits_i64 z)) tuple.1.now }
 {
@@ -80,7 +80,7 @@ fn check_member(
     expected: &State,
 ) -> Result<(), NoMemory>
     requires row { IsPair (record { 0 = row }) }
-    requires kinds { kinds_of (record { 0 = row }) ≡ kind.Int ∷ kind.IntSeq ∷ [] }
+    requires kinds { role_kinds (record { 0 = row }) ≡ kind.Int ∷ kind.IntSeq ∷ [] }
     requires second { All (λ z. IsTrue (fits_i64 z)) tuple.1.now }
 {
     let (x, s) = tuple;

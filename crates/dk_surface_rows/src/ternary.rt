@@ -1,7 +1,7 @@
 // Rows by their numbers on small cases, both ends of 64 bits among them.
 ghost use Rattle.std.specs.Prelude.{◌≡◌, ◌∷◌, []};
 ghost use Rattle.dk_base.specs.declared.kinds.Kind.TheVariants as kind;
-ghost use Rattle.dk_template.specs.Templates.{kinds_of};
+ghost use Rattle.dk_template.specs.Templates.{role_kinds};
 ghost use Rattle.dk_ternary.specs.Rows.{IsTernary};
 
 use dk_base::{NoMemory, View};
@@ -20,7 +20,7 @@ fn check(
     expected: &State,
 ) -> Result<(), NoMemory>
     requires row { IsTernary (record { 0 = row }) }
-    requires kinds { kinds_of (record { 0 = row }) ≡ kind.Int ∷ kind.Int ∷ kind.Int ∷ [] }
+    requires kinds { role_kinds (record { 0 = row }) ≡ kind.Int ∷ kind.Int ∷ kind.Int ∷ [] }
 {
     let (z, x, y) = tuple;
     let found = point(

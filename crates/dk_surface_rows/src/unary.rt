@@ -3,7 +3,7 @@ ghost use Rattle.std.specs.Prelude.{◌≡◌, ◌∷◌, [], IsTrue};
 ghost use Rattle.dk_base.specs.Items.{is_text};
 ghost use Rattle.dk_base.specs.declared.kinds.Kind.TheVariants as kind;
 ghost use Rattle.dk_template.specs.Proper.{IsProper};
-ghost use Rattle.dk_template.specs.Templates.{form_of, kinds_of};
+ghost use Rattle.dk_template.specs.Templates.{form_of, role_kinds};
 ghost use Rattle.dk_unary.specs.Rows.{IsUnary};
 
 use dk_base::{List, NoMemory, Text, View};
@@ -22,7 +22,7 @@ fn check_int(
     expected: &State,
 ) -> Result<(), NoMemory>
     requires row { IsUnary (record { 0 = row }) }
-    requires kinds { kinds_of (record { 0 = row }) ≡ kind.Int ∷ [] }
+    requires kinds { role_kinds (record { 0 = row }) ≡ kind.Int ∷ [] }
 {
     let found = point(alloc, RowId(row), &[View::Int(x)])?;
     assert!(rt; found == *expected);
@@ -38,7 +38,7 @@ fn check_hash(
     expected: &State,
 ) -> Result<(), NoMemory>
     requires row { IsUnary (record { 0 = row }) }
-    requires kinds { kinds_of (record { 0 = row }) ≡ kind.Hash ∷ [] }
+    requires kinds { role_kinds (record { 0 = row }) ≡ kind.Hash ∷ [] }
 {
     let found = point(alloc, RowId(row), &[View::Hash(x)])?;
     assert!(rt; found == *expected);
@@ -54,7 +54,7 @@ fn check_str(
     expected: &State,
 ) -> Result<(), NoMemory>
     requires row { IsUnary (record { 0 = row }) }
-    requires kinds { kinds_of (record { 0 = row }) ≡ kind.Str ∷ [] }
+    requires kinds { role_kinds (record { 0 = row }) ≡ kind.Str ∷ [] }
     requires text { IsTrue (is_text x.now) }
 {
     let found = point(alloc, RowId(row), &[View::Str(x)])?;

@@ -7,7 +7,7 @@ use Rattle.dk_template.specs.Admitted.{is_written}
 use Rattle.dk_template.specs.Exchange.{exchanged, span_between, written}
 use Rattle.dk_template.specs.Fitting.{fits}
 use Rattle.dk_template.specs.Premises.{premise_fits}
-use Rattle.dk_template.specs.Templates.{form_of, info_of, kinds_of, rank_of, rows}
+use Rattle.dk_template.specs.Templates.{form_of, info_of, rank_of, role_kinds, rows}
 use Rattle.dk_template.specs.declared.answers.Premise.TheVariants.{GreatestAtMost, LeastAtLeast, Only}
 use Rattle.dk_template.specs.declared.exchange.Exchange.TheVariants.{First, Last}
 use Rattle.dk_template.specs.declared.grammar.RowId.{RowId}
@@ -20,7 +20,7 @@ abbrev var : ℕ → VarId
 var n = record { 0 = n }
 
 -- an element is looked for in a sequence of its kind
-kinds-member : kinds_of (row 50) ≡ kind.Hash ∷ kind.HashSeq ∷ []
+kinds-member : role_kinds (row 50) ≡ kind.Hash ∷ kind.HashSeq ∷ []
 unfolding rows
 kinds-member = refl
 

@@ -23,7 +23,7 @@ use Rattle.dk_forms.specs.Plane.{Flat, IsPlaneState, plane, plane_known_of, plan
 use Rattle.dk_forms.specs.declared.states.State.{State}
 use Rattle.dk_forms.specs.declared.states.State.TheVariants as state
 use Rattle.dk_template.proofs.PlaneMoves.{fit_moved, plane_exchanged, tells_negative}
-use Rattle.dk_template.specs.Exchange.{IsBounded, back, descends, disarranged, exchanged, moved_flat, ordered, signed_line, span_between, swapped}
+use Rattle.dk_template.specs.Exchange.{IsBounded, descends, disarranged, exchanged, exchanged_back, moved_flat, ordered, signed_line, span_between, swapped}
 use Rattle.dk_template.specs.Laws.{LinesExchange, OffsetsExchange, PlanesExchange}
 use Rattle.dk_template.specs.Proper.{IsProper}
 use Rattle.dk_template.specs.declared.exchange.Exchange.{Exchange}
@@ -261,7 +261,7 @@ proper_bounds _ (state.Offset k) p = absurd p
 proper_bounds _ _ p = tt
 
 -- from the state over a tuple in order to the state over the tuple
-back_proper : (form : StateForm) (e : Exchange) (tuple : List VarId) (s : State) → IsProper form s → IsProper form (back e tuple s)
+back_proper : (form : StateForm) (e : Exchange) (tuple : List VarId) (s : State) → IsProper form s → IsProper form (exchanged_back e tuple s)
 back_proper form e tuple s p = elim (descends e tuple) as (λ b. IsProper form (if b then exchanged e s else s)) [ true ↦ proper_exchanged form e s p | false ↦ p ]
 
 pub proper_disarranged : (form : StateForm) (symmetry : Symmetry) (tuple : List VarId) (s : State) → IsProper form s → IsProper form (disarranged symmetry tuple s)
@@ -269,5 +269,5 @@ proper_disarranged form symmetry.Fixed tuple s p = p
 proper_disarranged form symmetry.All tuple s p =
     let one = ordered Last tuple in
     let two = ordered First one in
-    back_proper form Last tuple (back First one (back Last two s)) (back_proper form First one (back Last two s) (back_proper form Last two s p))
+    back_proper form Last tuple (exchanged_back First one (exchanged_back Last two s)) (back_proper form First one (exchanged_back Last two s) (back_proper form Last two s p))
 proper_disarranged form symmetry.Arguments tuple s p = back_proper form Last tuple s p

@@ -92,14 +92,14 @@ abbrev pub written : RowId → List VarId → List VarId
 written row tuple = arranged (template_of row).symmetry tuple
 
 -- from the state of a tuple in which the two variables are in order, the state of the tuple
-abbrev pub back : Exchange → List VarId → State → State
-back e tuple s = if descends e tuple then exchanged e s else s
+abbrev pub exchanged_back : Exchange → List VarId → State → State
+exchanged_back e tuple s = if descends e tuple then exchanged e s else s
 
 abbrev pub disarranged : Symmetry → List VarId → State → State
 disarranged symmetry.Fixed tuple s = s
-disarranged symmetry.All tuple s = back Last tuple (back First (ordered Last tuple) (back Last (ordered First (ordered Last tuple)) s))
-disarranged symmetry.Arguments tuple s = back Last tuple s
+disarranged symmetry.All tuple s = exchanged_back Last tuple (exchanged_back First (ordered Last tuple) (exchanged_back Last (ordered First (ordered Last tuple)) s))
+disarranged symmetry.Arguments tuple s = exchanged_back Last tuple s
 
 -- from the state of a row over a tuple in written order, that over the tuple as it stands
-abbrev pub turned : RowId → List VarId → State → State
-turned row tuple s = disarranged (template_of row).symmetry tuple s
+abbrev pub turned_state : RowId → List VarId → State → State
+turned_state row tuple s = disarranged (template_of row).symmetry tuple s

@@ -116,8 +116,8 @@ is_base (Any k) = false
 is_base (Base k) = true
 
 -- the kinds of a row, by role
-abbrev pub kinds_of : RowId → List Kind
-kinds_of r = map kind_of (roles_of (template_of r).takes)
+abbrev pub role_kinds : RowId → List Kind
+role_kinds r = map kind_of (roles_of (template_of r).takes)
 
 abbrev pub arity_of : RowId → ℕ
 arity_of r = length (roles_of (template_of r).takes)

@@ -5,7 +5,7 @@ ghost use Rattle.dk_arith.specs.Directions.{leading};
 ghost use Rattle.dk_forms.specs.Known.{fact};
 ghost use Rattle.dk_forms.specs.Line.{line_state, straight};
 ghost use Rattle.dk_forms.specs.Plane.{plane, plane_state};
-ghost use Rattle.dk_template.specs.Exchange.{IsBounded, arranged, back, descends, disarranged, exchange as exchange_of, exchanged, ordered, signed_line, signed_plane, span_between, turned as turned_state, written as written_tuple};
+ghost use Rattle.dk_template.specs.Exchange.{IsBounded, arranged, descends, disarranged, exchange as exchange_of, exchanged, exchanged_back, ordered, signed_line, signed_plane, span_between, turned_state, written as written_tuple};
 ghost use Rattle.dk_template.specs.Proper.{IsProper};
 ghost use Rattle.dk_template.specs.Templates.{IsRow, form_of};
 
@@ -239,9 +239,9 @@ fn arranged(alloc: Global, symmetry: Symmetry, tuple: &[VarId]) -> Tuple
 }
 
 // From the state of a tuple in which the two variables are in order, the state of the tuple.
-fn back(form: StateForm, exchange: Exchange, tuple: &[VarId], state: State) -> State
+fn exchanged_back(form: StateForm, exchange: Exchange, tuple: &[VarId], state: State) -> State
     requires { IsProper form state }
-    ensures value { result ≡ back exchange tuple.now state }
+    ensures value { result ≡ exchanged_back exchange tuple.now state }
     ensures proper { IsProper form result }
 {
     if descends(exchange, tuple) {
@@ -268,16 +268,16 @@ fn disarranged(
         Symmetry::All => {
             let one = ordered(alloc, Exchange::Last, tuple);
             let two = ordered(alloc, Exchange::First, one.as_slice());
-            let third = back(form, Exchange::Last, two.as_slice(), state);
-            let second = back(form, Exchange::First, one.as_slice(), third);
-            back(form, Exchange::Last, tuple, second)
+            let third = exchanged_back(form, Exchange::Last, two.as_slice(), state);
+            let second = exchanged_back(form, Exchange::First, one.as_slice(), third);
+            exchanged_back(form, Exchange::Last, tuple, second)
         }
-        Symmetry::Arguments => back(form, Exchange::Last, tuple, state),
+        Symmetry::Arguments => exchanged_back(form, Exchange::Last, tuple, state),
     }
 }
 
 /// From the state of the row over a tuple in its written order, that over the tuple as it stands. It takes no memory.
-pub fn turned(row: RowId, alloc: Global, tuple: &[VarId], state: State) -> State
+pub fn turn_state(row: RowId, alloc: Global, tuple: &[VarId], state: State) -> State
     requires row { IsRow row }
     requires few { length tuple.now ≤ 3 }
     requires state { IsProper (form_of row) state }

@@ -91,10 +91,10 @@ fn holds(operation: Operation, tuple: &[View<'_>]) -> bool
 impl Row for Operation {
     ghost use Rattle.dk_rows.proofs.RowLaws.{laws_by};
     ghost use Rattle.dk_rows.specs.Meanings.{state_of};
-    ghost use Rattle.dk_template.specs.Templates.{form_of, kinds_of};
+    ghost use Rattle.dk_template.specs.Templates.{form_of, role_kinds};
     ghost use Rattle.dk_ternary.specs.Rows.{operation_is_row, operation_row};
 
-    ghost kinds = { λ row. kinds_of (operation_row row) };
+    ghost kinds = { λ row. role_kinds (operation_row row) };
 
     ghost form = { λ row. form_of (operation_row row) };
 

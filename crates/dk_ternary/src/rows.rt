@@ -6,7 +6,7 @@ ghost use Rattle.dk_rows.specs.Meanings.{state_of};
 ghost use Rattle.dk_template.specs.Joins.{joined};
 ghost use Rattle.dk_template.specs.Proper.{IsProper};
 ghost use Rattle.dk_template.specs.Rows.{IsTuple};
-ghost use Rattle.dk_template.specs.Templates.{form_of, kinds_of};
+ghost use Rattle.dk_template.specs.Templates.{form_of, role_kinds};
 ghost use Rattle.dk_template.specs.declared.templates.StateForm.{StateForm};
 
 use dk_base::{NoMemory, View};
@@ -37,7 +37,7 @@ macro_rules! ternary_row {
 /// The state of one tuple. It wants no memory.
 pub fn point(alloc: Global, row: RowId, tuple: &[View<'_>]) -> Result<State, NoMemory>
     requires row { IsTernary row }
-    requires tuple { IsTuple (kinds_of row) (values_of tuple.now) }
+    requires tuple { IsTuple (role_kinds row) (values_of tuple.now) }
     ensures state { IfOk result (λ state. state ≡ state_of row (values_of tuple.now ∷ [])) }
     ensures err { OnErr result (form_of row ≡ StateForm.Texts) }
 {
@@ -59,7 +59,7 @@ pub fn join(alloc: Global, row: RowId, a: State, b: &State) -> Result<State, NoM
 pub fn stays(row: RowId, state: &State, tuple: &[View<'_>]) -> bool
     requires row { IsTernary row }
     requires state { IsProper (form_of row) state.now }
-    requires tuple { IsTuple (kinds_of row) (values_of tuple.now) }
+    requires tuple { IsTuple (role_kinds row) (values_of tuple.now) }
     ensures { IsTrue result ↔ (joined (form_of row) state.now (state_of row (values_of tuple.now ∷ [])) ≡ state.now) }
 {
     ternary_row!(row, row => row.stays(state, tuple))

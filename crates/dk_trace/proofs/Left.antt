@@ -7,20 +7,20 @@ use Rattle.dk_base.specs.declared.faults.BlockFault.TheVariants.{Refused, NoMemo
 use Rattle.dk_base.specs.declared.kinds.Kind.{Kind}
 use Rattle.dk_base.specs.declared.values.Value.{Value}
 use Rattle.dk_base.specs.declared.why.Why.TheVariants.{ExtraLine, Truncated}
-use Rattle.dk_decl.specs.Outcomes.{Gives, GoesOn, refused}
+use Rattle.dk_decl.specs.Outcomes.{AnswerAgrees, ReaderGoesOn, refused}
 use Rattle.dk_decl.specs.declared.decls.VarDecl.{VarDecl}
-use Rattle.dk_trace.specs.Values.{IsTold, from_name, from_value, known_values, named_kind, then_values, values_of}
+use Rattle.dk_trace.specs.Values.{IsTold, from_name, from_value, known_values, named_kind, record_values, then_values}
 use Rattle.dk_trace.proofs.Joined.{then_values_append}
 
 -- without a variable no line is read
-pub none_left : (vs : List VarDecl) (i : ℕ) (close : Option ℕ) → slice_get vs i ≡ None → values_of (drop i vs) [] close ≡ Ok []
+pub none_left : (vs : List VarDecl) (i : ℕ) (close : Option ℕ) → slice_get vs i ≡ None → record_values (drop i vs) [] close ≡ Ok []
 none_left [] zero close none = refl
 none_left [] (suc i) close none = refl
 none_left (v ∷ vs) zero close none = cc none
 none_left (v ∷ vs) (suc i) close none = none_left vs i close none
 
 pub too_many : (vs : List VarDecl) (i : ℕ) (l : Line) (ls : List Line) (close : Option ℕ) → slice_get vs i ≡ None
-    → values_of (drop i vs) (l ∷ ls) close ≡ refused ExtraLine l.number
+    → record_values (drop i vs) (l ∷ ls) close ≡ refused ExtraLine l.number
 too_many [] zero l ls close none = refl
 too_many [] (suc i) l ls close none = refl
 too_many (v ∷ vs) zero l ls close none = cc none
@@ -28,7 +28,7 @@ too_many (v ∷ vs) (suc i) l ls close none = too_many vs i l ls close none
 
 -- the next variable
 next_constant : (vs : List VarDecl) (i : ℕ) (v : VarDecl) (ls : List Line) (close : Option ℕ) → slice_get vs i ≡ Some v → v.constant_line ≡ true
-    → values_of (drop i vs) ls close ≡ then_values (known_values v.constant) (values_of (drop (suc i) vs) ls close)
+    → record_values (drop i vs) ls close ≡ then_values (known_values v.constant) (record_values (drop (suc i) vs) ls close)
 next_constant [] i v ls close at has = cc at
 next_constant (w ∷ vs) zero v ls close at has = let same : w ≡ v = cc at in rw (same, has) refl
 next_constant (w ∷ vs) (suc i) v ls close at has = next_constant vs i v ls close at has
@@ -38,40 +38,40 @@ if_false true x y h = cc h
 if_false false x y h = refl
 
 next_told : (vs : List VarDecl) (i : ℕ) (v : VarDecl) (ls : List Line) (close : Option ℕ) → IfSome (slice_get vs i) IsTold → slice_get vs i ≡ Some v
-    → values_of (drop i vs) ls close ≡ from_name v (values_of (drop (suc i) vs)) ls close
+    → record_values (drop i vs) ls close ≡ from_name v (record_values (drop (suc i) vs)) ls close
 next_told [] i v ls close told at = cc at
 next_told (w ∷ vs) zero v ls close told at =
     let same : w ≡ v = cc at in
-    if_false w.constant_line (then_values (known_values w.constant) (values_of vs ls close)) (from_name w (values_of vs) ls close) told
-    ∙ ap (λ (u : VarDecl). from_name u (values_of vs) ls close) same
+    if_false w.constant_line (then_values (known_values w.constant) (record_values vs ls close)) (from_name w (record_values vs) ls close) told
+    ∙ ap (λ (u : VarDecl). from_name u (record_values vs) ls close) same
 next_told (w ∷ vs) (suc i) v ls close told at = next_told vs i v ls close told at
 
 pub told_next : (vs : List VarDecl) (i : ℕ) (v : VarDecl) (ls : List Line) (close : Option ℕ) → IfSome (slice_get vs i) IsTold → slice_get vs i ≡ Some v
-    → values_of (drop i vs) ls close ≡ from_name v (values_of (drop (i + 1) vs)) ls close
+    → record_values (drop i vs) ls close ≡ from_name v (record_values (drop (i + 1) vs)) ls close
 told_next vs i v ls close told at = let next : suc i ≡ i + 1 = omega arith in
-    next_told vs i v ls close told at ∙ ap (λ (k : ℕ). from_name v (values_of (drop k vs)) ls close) next
+    next_told vs i v ls close told at ∙ ap (λ (k : ℕ). from_name v (record_values (drop k vs)) ls close) next
 
 pub goes_on_named : (vs : List VarDecl) (i : ℕ) (v : VarDecl) (l : Line) (r : Result (Option Kind) BlockFault) → IfSome (slice_get vs i) IsTold → slice_get vs i ≡ Some v
-    → Gives r (named_kind v l) → GoesOn (λ k. from_value k (values_of (drop (i + 1) vs))) r (λ ls. values_of (drop i vs) (l ∷ ls))
+    → AnswerAgrees r (named_kind v l) → ReaderGoesOn (λ k. from_value k (record_values (drop (i + 1) vs))) r (λ ls. record_values (drop i vs) (l ∷ ls))
 goes_on_named vs i v l (Ok k) told at given = λ (ls : List Line) (close : Option ℕ).
-    told_next vs i v (l ∷ ls) close told at ∙ ap (λ (r : Result (Option Kind) LineFault). r >>= λ k. from_value k (values_of (drop (i + 1) vs)) ls close) given
+    told_next vs i v (l ∷ ls) close told at ∙ ap (λ (r : Result (Option Kind) LineFault). r >>= λ k. from_value k (record_values (drop (i + 1) vs)) ls close) given
 goes_on_named vs i v l (Err (Refused line why)) told at given = λ (ls : List Line) (close : Option ℕ).
-    told_next vs i v (l ∷ ls) close told at ∙ ap (λ (r : Result (Option Kind) LineFault). r >>= λ k. from_value k (values_of (drop (i + 1) vs)) ls close) given
+    told_next vs i v (l ∷ ls) close told at ∙ ap (λ (r : Result (Option Kind) LineFault). r >>= λ k. from_value k (record_values (drop (i + 1) vs)) ls close) given
 goes_on_named vs i v l (Err NoMemory) told at given = tt
 
 -- a constant goes behind the values in front of it
 pub constant_next : (vs : List VarDecl) (i : ℕ) (v : VarDecl) (front more : List Value) (ls : List Line) (close : Option ℕ)
     → slice_get vs i ≡ Some v → v.constant_line ≡ true → more ≡ front ++ known_values v.constant
-    → then_values front (values_of (drop i vs) ls close) ≡ then_values more (values_of (drop (i + 1) vs) ls close)
+    → then_values front (record_values (drop i vs) ls close) ≡ then_values more (record_values (drop (i + 1) vs) ls close)
 constant_next vs i v front more ls close at has joined = let next : suc i ≡ i + 1 = omega arith in
     ap (λ r. then_values front r) (next_constant vs i v ls close at has)
-    ∙ then_values_append front (known_values v.constant) (values_of (drop (suc i) vs) ls close)
-    ∙ ap (λ (xs : List Value). then_values xs (values_of (drop (suc i) vs) ls close)) (sym joined)
-    ∙ ap (λ (k : ℕ). then_values more (values_of (drop k vs) ls close)) next
+    ∙ then_values_append front (known_values v.constant) (record_values (drop (suc i) vs) ls close)
+    ∙ ap (λ (xs : List Value). then_values xs (record_values (drop (suc i) vs) ls close)) (sym joined)
+    ∙ ap (λ (k : ℕ). then_values more (record_values (drop k vs) ls close)) next
 
 -- a block that is closed in front of a variable
 pub cut_in_front : (vs : List VarDecl) (i close : ℕ) → IfSome (slice_get vs i) IsTold → i < length vs
-    → values_of (drop i vs) [] (Some close) ≡ refused Truncated close
+    → record_values (drop i vs) [] (Some close) ≡ refused Truncated close
 cut_in_front [] i close told lt = absurd (omega arith)
 cut_in_front (v ∷ vs) zero close told lt = rw told refl
 cut_in_front (v ∷ vs) (suc i) close told lt = cut_in_front vs i close told (omega arith)

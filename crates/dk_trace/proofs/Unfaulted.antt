@@ -7,14 +7,14 @@ use Rattle.dk_decl.specs.declared.decls.VarDecl.{VarDecl}
 use Rattle.dk_trace.specs.Bodies.{Body, body_of, body_with}
 use Rattle.dk_trace.specs.BodiesResumed.{body_resumed}
 use Rattle.dk_trace.specs.OpenRecords.{NoFaultYet}
-use Rattle.dk_trace.specs.Records.{declared_vars, sample_with}
-use Rattle.dk_trace.specs.RecordsResumed.{resumed}
-use Rattle.dk_trace.specs.Values.{from_name, known_values, then_values, values_of}
-use Rattle.dk_trace.specs.ValuesResumed.{from_place, values_resumed}
+use Rattle.dk_trace.specs.Records.{sample_with, var_decls_at}
+use Rattle.dk_trace.specs.RecordsResumed.{record_resumed}
+use Rattle.dk_trace.specs.Values.{from_name, known_values, record_values, then_values}
+use Rattle.dk_trace.specs.ValuesResumed.{from_value_line, values_resumed}
 use Rattle.dk_trace.specs.declared.bodies.BodyReader.{BodyReader}
 use Rattle.dk_trace.specs.declared.bodies.BodyReader.TheVariants.{AtStart, AtNonce, AtValues}
-use Rattle.dk_trace.specs.declared.values.Place.{Place}
-use Rattle.dk_trace.specs.declared.values.Place.TheVariants.{AtName, AtValue, AtMark}
+use Rattle.dk_trace.specs.declared.values.ValueLine.{ValueLine}
+use Rattle.dk_trace.specs.declared.values.ValueLine.TheVariants.{AtName, AtValue, AtMark}
 use Rattle.dk_trace.specs.declared.values.ValueReader.{ValueReader}
 
 then_ok : (xs : List Value) (read : Result (List Value) LineFault) → IsOk read → IsOk (then_values xs read)
@@ -25,26 +25,26 @@ body_ok : (n : Option ℤ) (read : Result (List Value) LineFault) → IsOk read 
 body_ok n (Ok ys) h = refl
 body_ok n (Err e) h = cc h
 
-values_ok : (vs : List VarDecl) → IsOk (values_of vs [] None)
+values_ok : (vs : List VarDecl) → IsOk (record_values vs [] None)
 values_ok [] = refl
 values_ok (v ∷ vs) = by v.constant_line (values_ok vs)
   where
-    by : (b : Bool) → IsOk (values_of vs [] None) → IsOk (if b then then_values (known_values v.constant) (values_of vs [] None) else from_name v (values_of vs) [] None)
-    by true h = then_ok (known_values v.constant) (values_of vs [] None) h
+    by : (b : Bool) → IsOk (record_values vs [] None) → IsOk (if b then then_values (known_values v.constant) (record_values vs [] None) else from_name v (record_values vs) [] None)
+    by true h = then_ok (known_values v.constant) (record_values vs [] None) h
     by false h = refl
 
-place_ok : (vs : List VarDecl) (p : Place) → IsOk (from_place p vs [] None)
+place_ok : (vs : List VarDecl) (p : ValueLine) → IsOk (from_value_line p vs [] None)
 place_ok vs AtName = values_ok vs
 place_ok vs (AtValue k) = refl
 place_ok vs (AtMark u) = refl
 
 reader_ok : (vs : List VarDecl) (r : ValueReader) → IsOk (values_resumed vs r [] None)
 unfolding values_resumed
-reader_ok vs r = then_ok (shown_by r.values.items) (from_place r.place (drop r.index vs) [] None) (place_ok (drop r.index vs) r.place)
+reader_ok vs r = then_ok (shown_by r.values.items) (from_value_line r.place (drop r.index vs) [] None) (place_ok (drop r.index vs) r.place)
 
 bodies_ok : (vs : List VarDecl) (r : BodyReader) → IsOk (body_resumed vs r [] None)
 unfolding body_resumed body_of
-bodies_ok vs AtStart = body_ok None (values_of vs [] None) (values_ok vs)
+bodies_ok vs AtStart = body_ok None (record_values vs [] None) (values_ok vs)
 bodies_ok vs AtNonce = refl
 bodies_ok vs (AtValues n r) = body_ok n (values_resumed vs r [] None) (reader_ok vs r)
 
@@ -53,5 +53,5 @@ sample_ok p line (Ok b) h = refl
 sample_ok p line (Err e) h = cc h
 
 pub no_fault_yet : NoFaultYet
-unfolding resumed
-no_fault_yet ps r = sample_ok r.point.0 r.line (body_resumed (declared_vars ps r.point.0) r.body [] None) (bodies_ok (declared_vars ps r.point.0) r.body)
+unfolding record_resumed
+no_fault_yet ps r = sample_ok r.point.0 r.line (body_resumed (var_decls_at ps r.point.0) r.body [] None) (bodies_ok (var_decls_at ps r.point.0) r.body)

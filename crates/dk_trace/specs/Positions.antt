@@ -8,7 +8,7 @@ use Rattle.dk_decl.specs.declared.decls.VarDecl.{VarDecl}
 use Rattle.dk_points.specs.Table.{Point}
 use Rattle.dk_trace.specs.Bodies.{is_nonce_line}
 use Rattle.dk_trace.specs.Marks.{marked_value}
-use Rattle.dk_trace.specs.Records.{Sample, declared_vars, sample_of}
+use Rattle.dk_trace.specs.Records.{Sample, sample_of, var_decls_at}
 use Rattle.dk_trace.specs.Values.{known_values}
 
 -- three lines
@@ -47,4 +47,4 @@ pub record AreInOrder (vs : List VarDecl) (ls : List Line) (values : List Value)
 -- Behind the name and the nonce of a record the first of three lines is a variable's name, the second its value's text, the third the mark.
 abbrev pub LinesCountByPosition : Type 0
 LinesCountByPosition = (ps : List Point) (first : Line) (ls : List Line) (close : ℕ) (s : Sample)
-    → sample_of ps first ls (Some close) ≡ Ok s → AreInOrder (declared_vars ps s.point) (behind_nonce ls) s.values
+    → sample_of ps first ls (Some close) ≡ Ok s → AreInOrder (var_decls_at ps s.point) (behind_nonce ls) s.values

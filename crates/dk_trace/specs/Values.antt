@@ -44,9 +44,9 @@ known_values None = []
 known_values (Some constant) = constant ∷ []
 
 -- For each variable in order: its constant where it has one, and else three lines, its name, its value and its mark. Nothing more.
-abbrev pub values_of : List VarDecl → Reads (List Value)
-values_of [] [] close = Ok []
-values_of [] (l ∷ ls) close = refused ExtraLine l.number
-values_of (v ∷ vs) ls close =
-    if v.constant_line then then_values (known_values v.constant) (values_of vs ls close)
-    else from_name v (values_of vs) ls close
+abbrev pub record_values : List VarDecl → Reads (List Value)
+record_values [] [] close = Ok []
+record_values [] (l ∷ ls) close = refused ExtraLine l.number
+record_values (v ∷ vs) ls close =
+    if v.constant_line then then_values (known_values v.constant) (record_values vs ls close)
+    else from_name v (record_values vs) ls close

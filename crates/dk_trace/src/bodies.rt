@@ -1,7 +1,7 @@
 // The lines of a record behind its first.
 ghost use Rattle.std.specs.Prelude.{◌≡◌, ◌∷◌, [], Some, ℕ, List, Option};
 ghost use Rattle.dk_base.specs.Reading.{Line};
-ghost use Rattle.dk_decl.specs.Outcomes.{Gives, GoesOn};
+ghost use Rattle.dk_decl.specs.Outcomes.{AnswerAgrees, ReaderGoesOn};
 ghost use Rattle.dk_decl.specs.declared.decls.VarDecl.{VarDecl as Declared};
 ghost use Rattle.dk_trace.specs.Answers.{Shows};
 ghost use Rattle.dk_trace.specs.Bodies.{body_of, from_nonce, is_nonce_line, nonce_of};
@@ -31,7 +31,7 @@ fn is_nonce_line(line: u64, bytes: &[u8]) -> bool
 
 #[tactic(auto, unfolding(crate::specs::Bodies::nonce_of))]
 fn nonce_of(line: u64, bytes: &[u8]) -> Result<i64, BlockFault>
-    ensures { Gives result (nonce_of (record { number = line; bytes = bytes.now })) }
+    ensures { AnswerAgrees result (nonce_of (record { number = line; bytes = bytes.now })) }
 {
     match parse_integer(bytes) {
         Some(number) => Ok(number),
@@ -50,7 +50,7 @@ impl<'a> BodyReader<'a> {
         line: u64,
         bytes: &[u8],
     ) -> Result<BodyReader<'a>, BlockFault>
-        ensures { GoesOn (body_resumed vars.now) result (λ ls. body_of vars.now (record { number = line; bytes = bytes.now } ∷ ls)) }
+        ensures { ReaderGoesOn (body_resumed vars.now) result (λ ls. body_of vars.now (record { number = line; bytes = bytes.now } ∷ ls)) }
     {
         if is_nonce_line(line, bytes) {
             return Ok(BodyReader::AtNonce);
@@ -63,7 +63,7 @@ impl<'a> BodyReader<'a> {
     // The nonce.
     #[tactic(auto, unfolding(crate::specs::BodiesResumed::body_resumed))]
     fn nonce_line(arena: &'a Arena, line: u64, bytes: &[u8]) -> Result<BodyReader<'a>, BlockFault>
-        ensures { (vs : List Declared) → GoesOn (body_resumed vs) result (λ ls. from_nonce vs (record { number = line; bytes = bytes.now } ∷ ls)) }
+        ensures { (vs : List Declared) → ReaderGoesOn (body_resumed vs) result (λ ls. from_nonce vs (record { number = line; bytes = bytes.now } ∷ ls)) }
     {
         let nonce = nonce_of(line, bytes)?;
         Ok(BodyReader::AtValues(Some(nonce), ValueReader::begin(arena)))
@@ -78,7 +78,7 @@ impl<'a> BodyReader<'a> {
         line: u64,
         bytes: &[u8],
     ) -> Result<(), BlockFault>
-        ensures { GoesOn (λ _. body_resumed vars.now self.new) result (λ ls. body_resumed vars.now self.old (record { number = line; bytes = bytes.now } ∷ ls)) }
+        ensures { ReaderGoesOn (λ _. body_resumed vars.now self.new) result (λ ls. body_resumed vars.now self.old (record { number = line; bytes = bytes.now } ∷ ls)) }
     {
         match self {
             BodyReader::AtStart => match BodyReader::first_line(arena, vars, line, bytes) {

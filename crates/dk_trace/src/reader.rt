@@ -2,9 +2,9 @@
 ghost use Rattle.std.specs.Prelude.{◌≡◌, ◌<◌, ◌∷◌, [], IfOk, Some, length};
 ghost use Rattle.dk_base.specs.Reading.{Line};
 ghost use Rattle.dk_base.specs.declared.why.Why.TheVariants.{UnknownPoint};
-ghost use Rattle.dk_decl.specs.Outcomes.{Gives, GoesOn, or_refused};
+ghost use Rattle.dk_decl.specs.Outcomes.{AnswerAgrees, ReaderGoesOn, or_refused};
 ghost use Rattle.dk_trace.specs.Answers.{Shows};
-ghost use Rattle.dk_trace.specs.Records.{declared_place, declared_vars, point_at, sample_of};
+ghost use Rattle.dk_trace.specs.Records.{declared_place, point_named_by, sample_of, var_decls_at};
 
 use crate::bodies::BodyReader;
 use crate::marks::refused;
@@ -38,9 +38,14 @@ fn named_point(points: &Points, line: u64, name: &[u8]) -> Result<PointId, Block
 }
 
 // The declared point whose name is spelled by a record's first line.
-#[tactic(auto, unfolding(crate::specs::Records::point_at))]
-fn point_at(alloc: Global, points: &Points, line: u64, bytes: &[u8]) -> Result<PointId, BlockFault>
-    ensures point { Shows (λ p. p.0) result (point_at points.now (record { number = line; bytes = bytes.now })) }
+#[tactic(auto, unfolding(crate::specs::Records::point_named_by))]
+fn point_named_by(
+    alloc: Global,
+    points: &Points,
+    line: u64,
+    bytes: &[u8],
+) -> Result<PointId, BlockFault>
+    ensures point { Shows (λ p. p.0) result (point_named_by points.now (record { number = line; bytes = bytes.now })) }
     ensures within { IfOk result (λ p. p.0 < length points.now) }
 {
     if is_plain(bytes) {
@@ -51,10 +56,10 @@ fn point_at(alloc: Global, points: &Points, line: u64, bytes: &[u8]) -> Result<P
 }
 
 // The variables that the point's block declares.
-#[tactic(auto, unfolding(crate::specs::Records::declared_vars))]
-fn declared_vars(points: &Points, point: PointId) -> &[VarDecl]
+#[tactic(auto, unfolding(crate::specs::Records::var_decls_at))]
+fn var_decls_at(points: &Points, point: PointId) -> &[VarDecl]
     requires { point.0 < length points.now }
-    ensures { result.now ≡ declared_vars points.now point.0 }
+    ensures { result.now ≡ var_decls_at points.now point.0 }
 {
     match points.decl(point) {
         None => &[],
@@ -63,10 +68,10 @@ fn declared_vars(points: &Points, point: PointId) -> &[VarDecl]
 }
 
 impl<'a> RecordReader<'a> {
-    ghost use Rattle.dk_trace.specs.RecordsResumed.{IsOf, resumed, shown};
+    ghost use Rattle.dk_trace.specs.RecordsResumed.{IsOf, record_resumed, shown};
 
     /// A record that begins with this line. It is refused as `UnknownPoint` where the line spells the name of no declared point.
-    #[tactic(auto, unfolding(crate::specs::Records::sample_of, crate::specs::RecordsResumed::resumed, crate::specs::BodiesResumed::body_resumed))]
+    #[tactic(auto, unfolding(crate::specs::Records::sample_of, crate::specs::RecordsResumed::record_resumed, crate::specs::BodiesResumed::body_resumed))]
     pub fn begin(
         alloc: Global,
         points: &Points,
@@ -74,10 +79,10 @@ impl<'a> RecordReader<'a> {
         line: u64,
         bytes: &[u8],
     ) -> Result<RecordReader<'a>, BlockFault>
-        ensures goes_on { GoesOn (resumed points.now) result (sample_of points.now (record { number = line; bytes = bytes.now })) }
+        ensures goes_on { ReaderGoesOn (record_resumed points.now) result (sample_of points.now (record { number = line; bytes = bytes.now })) }
         ensures of { IfOk result (λ r. IsOf points.now r) }
     {
-        let point = point_at(alloc, points, line, bytes)?;
+        let point = point_named_by(alloc, points, line, bytes)?;
         Ok(RecordReader {
             arena,
             point,
@@ -88,27 +93,27 @@ impl<'a> RecordReader<'a> {
 
     /// One line more. The record is refused as `BadNonce`, `WrongName`, `BadValue`, `BadMark` or `ExtraLine` as soon as no lines behind it
     /// can make it good; after a fault no more is said of the reader than its point. The points are those of `begin`.
-    #[tactic(auto, unfolding(crate::specs::RecordsResumed::resumed))]
+    #[tactic(auto, unfolding(crate::specs::RecordsResumed::record_resumed))]
     pub fn line(&mut self, points: &Points, line: u64, bytes: &[u8]) -> Result<(), BlockFault>
         requires { IsOf points.now self.old }
-        ensures goes_on { GoesOn (λ _. resumed points.now self.new) result (λ ls. resumed points.now self.old (record { number = line; bytes = bytes.now } ∷ ls)) }
+        ensures goes_on { ReaderGoesOn (λ _. record_resumed points.now self.new) result (λ ls. record_resumed points.now self.old (record { number = line; bytes = bytes.now } ∷ ls)) }
         ensures of { IsOf points.now self.new }
     {
         self.body
-            .line(self.arena, declared_vars(points, self.point), line, bytes)
+            .line(self.arena, var_decls_at(points, self.point), line, bytes)
     }
 
     /// The sample of a record that ends at this line. It is refused as `Truncated` where a line was still awaited: a nonce, or a variable's
     /// name, value or mark. The points are those of `begin`. Nothing is said of the reader behind it.
-    #[tactic(auto, unfolding(crate::specs::RecordsResumed::resumed))]
+    #[tactic(auto, unfolding(crate::specs::RecordsResumed::record_resumed))]
     pub fn end(&mut self, points: &Points, line: u64) -> Result<BaseSample<'a>, BlockFault>
         requires { IsOf points.now self.old }
-        ensures sample { Shows shown result (resumed points.now self.old [] (Some line)) }
+        ensures sample { Shows shown result (record_resumed points.now self.old [] (Some line)) }
         ensures of { IfOk result (λ s. s.point.0 < length points.now) }
     {
         let (nonce, values) = self
             .body
-            .end(self.arena, declared_vars(points, self.point), line)?;
+            .end(self.arena, var_decls_at(points, self.point), line)?;
         Ok(BaseSample {
             point: self.point,
             line: self.line,

@@ -4,10 +4,10 @@ ghost use Rattle.std.specs.Str.{bytes_eq};
 ghost use Rattle.dk_base.specs.Names.{unescaped};
 ghost use Rattle.dk_base.specs.Reading.{Line};
 ghost use Rattle.dk_base.specs.Values.{values_of as shown_by};
-ghost use Rattle.dk_decl.specs.Outcomes.{Gives, GoesOn};
+ghost use Rattle.dk_decl.specs.Outcomes.{AnswerAgrees, ReaderGoesOn};
 ghost use Rattle.dk_decl.specs.declared.decls.VarDecl.{VarDecl as Declared};
 ghost use Rattle.dk_trace.specs.Answers.{Shows, shown_value};
-ghost use Rattle.dk_trace.specs.Values.{IsTold, from_value, known_values, named_kind, then_values, values_of};
+ghost use Rattle.dk_trace.specs.Values.{IsTold, from_value, known_values, named_kind, record_values, then_values};
 
 use crate::marks::{Unmarked, refused};
 use bumpalo::collections::into_bump_slice;
@@ -17,7 +17,7 @@ use std::mem::replace;
 
 /// What the next line is.
 #[derive(Clone, Copy)]
-pub(crate) enum Place<'a> {
+pub(crate) enum ValueLine<'a> {
     /// A variable's name.
     AtName,
     /// The value of a variable of this kind.
@@ -30,7 +30,7 @@ pub(crate) enum Place<'a> {
 #[derive(Drop)]
 pub(crate) struct ValueReader<'a> {
     pub(crate) arena: &'a Arena,
-    pub(crate) place: Place<'a>,
+    pub(crate) place: ValueLine<'a>,
     /// The variables in front of this place were read.
     pub(crate) index: usize,
     pub(crate) values: Vec<View<'a>, &'a Arena>,
@@ -76,8 +76,8 @@ fn past_constants<'a>(
     from: usize,
     values: &mut Vec<View<'a>, &'a Arena>,
 ) -> Result<usize, NoMemory>
-    ensures same { IfOk result (λ i. (ls : List Line) (close : Option ℕ) → then_values (shown_by values.old.items) (values_of (drop from vars.now) ls close)
-        ≡ then_values (shown_by values.new.items) (values_of (drop i vars.now) ls close)) }
+    ensures same { IfOk result (λ i. (ls : List Line) (close : Option ℕ) → then_values (shown_by values.old.items) (record_values (drop from vars.now) ls close)
+        ≡ then_values (shown_by values.new.items) (record_values (drop i vars.now) ls close)) }
     ensures in_records { IfOk result (λ i. IfSome (slice_get vars.now i) IsTold) }
 {
     let mut index = from;
@@ -94,7 +94,7 @@ fn past_constants<'a>(
 // The kind of the variable, whose name the line is to be.
 #[tactic(auto, unfolding(crate::specs::Values::named_kind))]
 fn named_kind(var: &VarDecl, line: u64, bytes: &[u8]) -> Result<Option<Kind>, BlockFault>
-    ensures { Gives result (named_kind var.now (record { number = line; bytes = bytes.now })) }
+    ensures { AnswerAgrees result (named_kind var.now (record { number = line; bytes = bytes.now })) }
 {
     if is_named(bytes, &var.name) {
         Ok(var.kind)
@@ -112,7 +112,7 @@ fn kind_at(
     bytes: &[u8],
 ) -> Result<Option<Kind>, BlockFault>
     requires { IfSome (slice_get vars.now index) IsTold }
-    ensures goes_on { GoesOn (λ kind. from_value kind (values_of (drop (index + 1) vars.now))) result (λ ls. values_of (drop index vars.now) (record { number = line; bytes = bytes.now } ∷ ls)) }
+    ensures goes_on { ReaderGoesOn (λ kind. from_value kind (record_values (drop (index + 1) vars.now))) result (λ ls. record_values (drop index vars.now) (record { number = line; bytes = bytes.now } ∷ ls)) }
     ensures within { OnOk result (index < length vars.now) }
 {
     match vars.get(index) {
@@ -130,7 +130,7 @@ fn finished<'a>(
     values: &mut Vec<View<'a>, &'a Arena>,
     line: u64,
 ) -> Result<&'a [View<'a>], BlockFault>
-    ensures { Shows (λ views. shown_by views.now) result (then_values (shown_by values.old.items) (values_of (drop index vars.now) [] (Some line))) }
+    ensures { Shows (λ views. shown_by views.now) result (then_values (shown_by values.old.items) (record_values (drop index vars.now) [] (Some line))) }
 {
     let index = past_constants(arena, vars, index, values)?;
     match vars.get(index) {
@@ -141,16 +141,16 @@ fn finished<'a>(
 
 impl<'a> ValueReader<'a> {
     ghost use Rattle.dk_trace.specs.ValuesResumed.{values_resumed};
-    ghost use Rattle.dk_trace.specs.declared.values.Place.TheVariants.{AtName, AtValue, AtMark};
+    ghost use Rattle.dk_trace.specs.declared.values.ValueLine.TheVariants.{AtName, AtValue, AtMark};
 
     /// No line was read.
     #[tactic(auto, unfolding(crate::specs::ValuesResumed::values_resumed), using(crate::proofs::Joined::then_values_nil))]
     pub(crate) fn begin(arena: &'a Arena) -> ValueReader<'a>
-        ensures { (vs : List Declared) (ls : List Line) (close : Option ℕ) → values_of vs ls close ≡ values_resumed vs result ls close }
+        ensures { (vs : List Declared) (ls : List Line) (close : Option ℕ) → record_values vs ls close ≡ values_resumed vs result ls close }
     {
         ValueReader {
             arena,
-            place: Place::AtName,
+            place: ValueLine::AtName,
             index: 0,
             values: Vec::new(arena),
         }
@@ -160,11 +160,11 @@ impl<'a> ValueReader<'a> {
     #[tactic(auto, unfolding(crate::specs::ValuesResumed::values_resumed))]
     fn name_line(&mut self, vars: &[VarDecl], line: u64, bytes: &[u8]) -> Result<(), BlockFault>
         requires { self.old.place ≡ AtName }
-        ensures { GoesOn (λ _. values_resumed vars.now self.new) result (λ ls. values_resumed vars.now self.old (record { number = line; bytes = bytes.now } ∷ ls)) }
+        ensures { ReaderGoesOn (λ _. values_resumed vars.now self.new) result (λ ls. values_resumed vars.now self.old (record { number = line; bytes = bytes.now } ∷ ls)) }
     {
         let index = past_constants(self.arena, vars, self.index, &mut self.values)?;
         let kind = kind_at(vars, index, line, bytes)?;
-        self.place = Place::AtValue(kind);
+        self.place = ValueLine::AtValue(kind);
         self.index = index + 1;
         Ok(())
     }
@@ -173,10 +173,10 @@ impl<'a> ValueReader<'a> {
     #[tactic(auto, using(crate::proofs::Marked::same_marked), unfolding(crate::specs::ValuesResumed::values_resumed))]
     fn value_line(&mut self, kind: Option<Kind>, line: u64, bytes: &[u8]) -> Result<(), BlockFault>
         requires { self.old.place ≡ AtValue kind }
-        ensures { (vs : List Declared) → GoesOn (λ _. values_resumed vs self.new) result (λ ls. values_resumed vs self.old (record { number = line; bytes = bytes.now } ∷ ls)) }
+        ensures { (vs : List Declared) → ReaderGoesOn (λ _. values_resumed vs self.new) result (λ ls. values_resumed vs self.old (record { number = line; bytes = bytes.now } ∷ ls)) }
     {
         let unmarked = Unmarked::read(self.arena, kind, line, bytes)?;
-        self.place = Place::AtMark(unmarked);
+        self.place = ValueLine::AtMark(unmarked);
         Ok(())
     }
 
@@ -189,11 +189,11 @@ impl<'a> ValueReader<'a> {
         bytes: &[u8],
     ) -> Result<(), BlockFault>
         requires { self.old.place ≡ AtMark unmarked }
-        ensures { (vs : List Declared) → GoesOn (λ _. values_resumed vs self.new) result (λ ls. values_resumed vs self.old (record { number = line; bytes = bytes.now } ∷ ls)) }
+        ensures { (vs : List Declared) → ReaderGoesOn (λ _. values_resumed vs self.new) result (λ ls. values_resumed vs self.old (record { number = line; bytes = bytes.now } ∷ ls)) }
     {
         let value = unmarked.with_mark(line, bytes)?;
         push_shown(&mut self.values, value)?;
-        self.place = Place::AtName;
+        self.place = ValueLine::AtName;
         Ok(())
     }
 
@@ -205,12 +205,12 @@ impl<'a> ValueReader<'a> {
         line: u64,
         bytes: &[u8],
     ) -> Result<(), BlockFault>
-        ensures { GoesOn (λ _. values_resumed vars.now self.new) result (λ ls. values_resumed vars.now self.old (record { number = line; bytes = bytes.now } ∷ ls)) }
+        ensures { ReaderGoesOn (λ _. values_resumed vars.now self.new) result (λ ls. values_resumed vars.now self.old (record { number = line; bytes = bytes.now } ∷ ls)) }
     {
         match self.place {
-            Place::AtName => self.name_line(vars, line, bytes),
-            Place::AtValue(kind) => self.value_line(kind, line, bytes),
-            Place::AtMark(unmarked) => self.mark_line(unmarked, line, bytes),
+            ValueLine::AtName => self.name_line(vars, line, bytes),
+            ValueLine::AtValue(kind) => self.value_line(kind, line, bytes),
+            ValueLine::AtMark(unmarked) => self.mark_line(unmarked, line, bytes),
         }
     }
 
@@ -220,9 +220,9 @@ impl<'a> ValueReader<'a> {
         ensures { Shows (λ views. shown_by views.now) result (values_resumed vars.now self.old [] (Some line)) }
     {
         match self.place {
-            Place::AtName => finished(self.arena, vars, self.index, &mut self.values, line),
-            Place::AtValue(_) => Err(refused(line, Why::Truncated)),
-            Place::AtMark(_) => Err(refused(line, Why::Truncated)),
+            ValueLine::AtName => finished(self.arena, vars, self.index, &mut self.values, line),
+            ValueLine::AtValue(_) => Err(refused(line, Why::Truncated)),
+            ValueLine::AtMark(_) => Err(refused(line, Why::Truncated)),
         }
     }
 }

@@ -6,7 +6,7 @@ use Rattle.dk_base.specs.declared.kinds.Kind.{Kind}
 use Rattle.dk_base.specs.declared.kinds.Kind.TheVariants as kind
 use Rattle.dk_base.specs.declared.values.Value.{Value}
 use Rattle.dk_template.specs.Rows.{IsTuple}
-use Rattle.dk_template.specs.Templates.{form_of, kinds_of, rows}
+use Rattle.dk_template.specs.Templates.{form_of, role_kinds, rows}
 use Rattle.dk_template.specs.declared.templates.StateForm.TheVariants as form
 use Rattle.dk_unary.specs.Rows.{bound_row, modulus_row, non_null_row, one_of_row}
 use Rattle.dk_unary.specs.declared.bound.Bound.{Bound}
@@ -23,14 +23,14 @@ one_of_kind one_of.Bool = kind.Bool
 one_of_kind one_of.Hash = kind.Hash
 one_of_kind one_of.Str = kind.Str
 
-pub one_of_takes : (r : OneOf) (t : List Value) → IsTuple (kinds_of (one_of_row r)) t → kind_of (value_at t 0) ≡ Some (one_of_kind r)
+pub one_of_takes : (r : OneOf) (t : List Value) → IsTuple (role_kinds (one_of_row r)) t → kind_of (value_at t 0) ≡ Some (one_of_kind r)
 unfolding rows
 one_of_takes one_of.Int t is = is.each 0
 one_of_takes one_of.Bool t is = is.each 0
 one_of_takes one_of.Hash t is = is.each 0
 one_of_takes one_of.Str t is = is.each 0
 
-pub bound_takes : (r : Bound) (t : List Value) → IsTuple (kinds_of (bound_row r)) t → kind_of (value_at t 0) ≡ Some kind.Int
+pub bound_takes : (r : Bound) (t : List Value) → IsTuple (role_kinds (bound_row r)) t → kind_of (value_at t 0) ≡ Some kind.Int
 unfolding rows
 bound_takes bound.Lower t is = is.each 0
 bound_takes bound.Upper t is = is.each 0
@@ -40,13 +40,13 @@ non_null_kind non_null.Int = kind.Int
 non_null_kind non_null.Hash = kind.Hash
 non_null_kind non_null.Str = kind.Str
 
-pub non_null_takes : (r : NonNull) (t : List Value) → IsTuple (kinds_of (non_null_row r)) t → kind_of (value_at t 0) ≡ Some (non_null_kind r)
+pub non_null_takes : (r : NonNull) (t : List Value) → IsTuple (role_kinds (non_null_row r)) t → kind_of (value_at t 0) ≡ Some (non_null_kind r)
 unfolding rows
 non_null_takes non_null.Int t is = is.each 0
 non_null_takes non_null.Hash t is = is.each 0
 non_null_takes non_null.Str t is = is.each 0
 
-pub modulus_takes : (t : List Value) → IsTuple (kinds_of modulus_row) t → kind_of (value_at t 0) ≡ Some kind.Int
+pub modulus_takes : (t : List Value) → IsTuple (role_kinds modulus_row) t → kind_of (value_at t 0) ≡ Some kind.Int
 unfolding rows
 modulus_takes t is = is.each 0
 

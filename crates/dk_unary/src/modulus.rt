@@ -24,10 +24,10 @@ impl Modulus {
 impl Row for Modulus {
     ghost use Rattle.dk_rows.proofs.RowLaws.{laws_by};
     ghost use Rattle.dk_rows.specs.Meanings.{state_of};
-    ghost use Rattle.dk_template.specs.Templates.{form_of, kinds_of};
+    ghost use Rattle.dk_template.specs.Templates.{form_of, role_kinds};
     ghost use Rattle.dk_unary.specs.Rows.{modulus_is_row, modulus_row};
 
-    ghost kinds = { λ row. kinds_of modulus_row };
+    ghost kinds = { λ row. role_kinds modulus_row };
 
     ghost form = { λ row. form_of modulus_row };
 

@@ -4,7 +4,7 @@ ghost use Rattle.dk_base.specs.Values.{values_of};
 ghost use Rattle.dk_rows.specs.Meanings.{relation_of};
 ghost use Rattle.dk_rows.specs.Relations.{is_nonnull, is_nonzero};
 ghost use Rattle.dk_template.specs.Rows.{IsTuple};
-ghost use Rattle.dk_template.specs.Templates.{kinds_of};
+ghost use Rattle.dk_template.specs.Templates.{role_kinds};
 ghost use Rattle.dk_unary.specs.Rows.{non_null_row};
 
 use crate::rows::join;
@@ -49,7 +49,7 @@ impl NonNull {
 
     /// Whether the value isn't 0 or `null`.
     fn holds(self, tuple: &[View<'_>]) -> bool
-        requires { IsTuple (kinds_of (non_null_row self)) (values_of tuple.now) }
+        requires { IsTuple (role_kinds (non_null_row self)) (values_of tuple.now) }
         ensures { result ≡ relation_of (non_null_row self) (values_of tuple.now) }
     {
         match self {
@@ -63,10 +63,10 @@ impl NonNull {
 impl Row for NonNull {
     ghost use Rattle.dk_rows.proofs.RowLaws.{laws_by};
     ghost use Rattle.dk_rows.specs.Meanings.{state_of};
-    ghost use Rattle.dk_template.specs.Templates.{form_of, kinds_of};
+    ghost use Rattle.dk_template.specs.Templates.{form_of, role_kinds};
     ghost use Rattle.dk_unary.specs.Rows.{non_null_is_row, non_null_row};
 
-    ghost kinds = { λ row. kinds_of (non_null_row row) };
+    ghost kinds = { λ row. role_kinds (non_null_row row) };
 
     ghost form = { λ row. form_of (non_null_row row) };
 

@@ -5,7 +5,7 @@ ghost use Rattle.dk_rows.specs.Meanings.{state_of};
 ghost use Rattle.dk_template.specs.Joins.{joined};
 ghost use Rattle.dk_template.specs.Proper.{IsProper};
 ghost use Rattle.dk_template.specs.Rows.{IsTuple};
-ghost use Rattle.dk_template.specs.Templates.{form_of, kinds_of};
+ghost use Rattle.dk_template.specs.Templates.{form_of, role_kinds};
 ghost use Rattle.dk_unary.specs.Rows.{one_of_row};
 
 use crate::rows::join;
@@ -46,7 +46,7 @@ fn only_int(alloc: Global, x: i64) -> State
 
 // The state of one value.
 fn state_of_one(of: OneOf, alloc: Global, tuple: &[View<'_>]) -> Result<State, NoMemory>
-    requires { IsTuple (kinds_of (one_of_row of)) (values_of tuple.now) }
+    requires { IsTuple (role_kinds (one_of_row of)) (values_of tuple.now) }
     ensures state { IfOk result (λ state. state ≡ state_of (one_of_row of) (values_of tuple.now ∷ [])) }
     ensures err { OnErr result (of ≡ OneOf.Str) }
 {
@@ -61,7 +61,7 @@ fn state_of_one(of: OneOf, alloc: Global, tuple: &[View<'_>]) -> Result<State, N
 // Whether one value leaves the state as it is.
 fn one_stays(of: OneOf, state: &State, tuple: &[View<'_>]) -> bool
     requires state { IsProper (form_of (one_of_row of)) state.now }
-    requires tuple { IsTuple (kinds_of (one_of_row of)) (values_of tuple.now) }
+    requires tuple { IsTuple (role_kinds (one_of_row of)) (values_of tuple.now) }
     ensures { IsTrue result ↔ (joined (form_of (one_of_row of)) state.now (state_of (one_of_row of) (values_of tuple.now ∷ [])) ≡ state.now) }
 {
     match of {
@@ -75,10 +75,10 @@ fn one_stays(of: OneOf, state: &State, tuple: &[View<'_>]) -> bool
 impl Row for OneOf {
     ghost use Rattle.dk_rows.proofs.RowLaws.{laws_by};
     ghost use Rattle.dk_rows.specs.Meanings.{state_of};
-    ghost use Rattle.dk_template.specs.Templates.{form_of, kinds_of};
+    ghost use Rattle.dk_template.specs.Templates.{form_of, role_kinds};
     ghost use Rattle.dk_unary.specs.Rows.{one_of_is_row, one_of_row};
 
-    ghost kinds = { λ row. kinds_of (one_of_row row) };
+    ghost kinds = { λ row. role_kinds (one_of_row row) };
 
     ghost form = { λ row. form_of (one_of_row row) };
 

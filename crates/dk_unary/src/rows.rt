@@ -5,7 +5,7 @@ ghost use Rattle.dk_rows.specs.Meanings.{state_of};
 ghost use Rattle.dk_template.specs.Joins.{joined};
 ghost use Rattle.dk_template.specs.Proper.{IsProper};
 ghost use Rattle.dk_template.specs.Rows.{IsTuple};
-ghost use Rattle.dk_template.specs.Templates.{form_of, kinds_of};
+ghost use Rattle.dk_template.specs.Templates.{form_of, role_kinds};
 ghost use Rattle.dk_template.specs.declared.templates.StateForm.{StateForm};
 ghost use Rattle.dk_unary.specs.Rows.{IsUnary};
 
@@ -35,7 +35,7 @@ macro_rules! unary_row {
 /// The state of one tuple. Only row 9 wants memory.
 pub fn point(alloc: Global, row: RowId, tuple: &[View<'_>]) -> Result<State, NoMemory>
     requires row { IsUnary row }
-    requires tuple { IsTuple (kinds_of row) (values_of tuple.now) }
+    requires tuple { IsTuple (role_kinds row) (values_of tuple.now) }
     ensures state { IfOk result (λ state. state ≡ state_of row (values_of tuple.now ∷ [])) }
     ensures err { OnErr result (form_of row ≡ StateForm.Texts) }
 {
@@ -57,7 +57,7 @@ pub fn join(alloc: Global, row: RowId, a: State, b: &State) -> Result<State, NoM
 pub fn stays(row: RowId, state: &State, tuple: &[View<'_>]) -> bool
     requires row { IsUnary row }
     requires state { IsProper (form_of row) state.now }
-    requires tuple { IsTuple (kinds_of row) (values_of tuple.now) }
+    requires tuple { IsTuple (role_kinds row) (values_of tuple.now) }
     ensures { IsTrue result ↔ (joined (form_of row) state.now (state_of row (values_of tuple.now ∷ [])) ≡ state.now) }
 {
     unary_row!(row, row => row.stays(state, tuple))

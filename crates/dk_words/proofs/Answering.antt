@@ -4,7 +4,7 @@ use Rattle.std.specs.Result.{IsErrOf}
 use Rattle.clap.specs.Words.{IsAmong, Kinds, Row}
 use Rattle.clap.specs.declared.error.kind.ErrorKind.{ErrorKind}
 use Rattle.clap.specs.declared.error.kind.ErrorKind.TheVariants.{OutOfMemory}
-use Rattle.dk_words.specs.Requests.{Answers, AnswersFault, command_of, request_by, request_for}
+use Rattle.dk_words.specs.Requests.{AnswersFault, RequestAnswers, command_of, request_by, request_for}
 use Rattle.dk_words.specs.declared.command.Command.{Command}
 use Rattle.dk_words.specs.declared.request.Request.{Request}
 use Rattle.dk_words.specs.declared.request.Request.TheVariants.{Run}
@@ -18,7 +18,7 @@ unasked k request memory h = let none : request_for OutOfMemory ≡ Some request
 
 -- an error that has one of the kinds is answered as the words ask
 pub answered : (k : ErrorKind) (ks : Kinds) (rows : List Row) (r : Result Request WordsFault) → OneAtMost ks → (k ≡ OutOfMemory) ⊎ IsAmong k ks
-    → AnswersFault k r → Answers (request_by ks rows) r
+    → AnswersFault k r → RequestAnswers (request_by ks rows) r
 answered k ks rows (Ok request) one (inl memory) h = absurd (unasked k request memory h)
 answered k ks rows (Ok request) one (inr among) h = asked_by k ks rows one among ∙ h
 answered k ks rows (Err Refused) one (inl memory) h = absurd (h.1 memory)
@@ -31,11 +31,11 @@ pub asked_to_run : (ks : Kinds) (rows own : List Row) (command : Command) → ks
 asked_to_run ks rows own command clean same is =
     ap (λ (x : Kinds). request_by x rows) clean ∙ ap (λ (x : List Row). Some (Run (command_of x))) (sym same) ∙ ap (λ (x : Command). Some (Run x)) (sym is)
 
-pub asked : (o : Option Request) (r : Result Request WordsFault) → Answers o r → IfOk r (λ request. o ≡ Some request)
+pub asked : (o : Option Request) (r : Result Request WordsFault) → RequestAnswers o r → IfOk r (λ request. o ≡ Some request)
 asked o (Ok request) h = h
 asked o (Err fault) h = tt
 
-pub refused : (o : Option Request) (r : Result Request WordsFault) → Answers o r → IsErrOf r Refused → o ≡ None
+pub refused : (o : Option Request) (r : Result Request WordsFault) → RequestAnswers o r → IsErrOf r Refused → o ≡ None
 refused o (Ok request) h is = cc
 refused o (Err Refused) h is = h
 refused o (Err NoMemory) h is = cc

@@ -60,10 +60,10 @@ AnswersFault k (Err Refused) = (request_for k ≡ None) × (k ≢ kind.OutOfMemo
 AnswersFault k (Err NoMemory) = Unit {0}
 
 -- the answer where the words ask for this, or for nothing; memory may be wanting at any words
-abbrev pub Answers : Option Request → Result Request WordsFault → Type 0
-Answers asked (Ok request) = asked ≡ Some request
-Answers asked (Err Refused) = asked ≡ None
-Answers asked (Err NoMemory) = Unit {0}
+abbrev pub RequestAnswers : Option Request → Result Request WordsFault → Type 0
+RequestAnswers asked (Ok request) = asked ≡ Some request
+RequestAnswers asked (Err Refused) = asked ≡ None
+RequestAnswers asked (Err NoMemory) = Unit {0}
 
 -- what the words behind the program's name ask for
 unfoldable pub request_of : List Text → Option Request

@@ -2,7 +2,7 @@
 ghost use Rattle.std.specs.Prelude.{◌≡◌, IfOk, IsErrOf, None, Some, codes, map, string_bytes};
 ghost use Rattle.clap.specs.Words.{kind_of, found_of, rows_of};
 ghost use Rattle.dk_words.specs.Accepted.{faults_at, matches_at, named};
-ghost use Rattle.dk_words.specs.Requests.{request_by, request_of, Answers, AnswersFault};
+ghost use Rattle.dk_words.specs.Requests.{request_by, request_of, RequestAnswers, AnswersFault};
 
 use crate::clap_command::clap_command;
 use crate::matched::command_of;
@@ -37,7 +37,7 @@ fn request_from(error: &Error) -> Result<Request, WordsFault>
 }
 
 fn read_texts<'a>(alloc: Global, texts: &'a [&'a str]) -> Result<Request, WordsFault>
-    ensures { Answers (request_by (faults_at (map (λ text. text.now) texts.entry.now)) (matches_at (map (λ text. text.now) texts.entry.now))) result }
+    ensures { RequestAnswers (request_by (faults_at (map (λ text. text.now) texts.entry.now)) (matches_at (map (λ text. text.now) texts.entry.now))) result }
 {
     let command = clap_command(alloc)?;
     match command.try_get_matches_from(texts) {

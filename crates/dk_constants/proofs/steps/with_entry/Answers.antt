@@ -1,5 +1,5 @@
 use Rattle.std.proofs.Common.{ap, sym, subst, ◌∙◌}
-use Rattle.dk_constants.specs.Known.{Ascend, IsAt, IsGapFor, known_at}
+use Rattle.dk_constants.specs.Known.{EntriesAscend, IsAt, IsGapFor, known_at}
 use Rattle.dk_constants.proofs.Gaps.{absent_in_gap, ascend_in_gap, found_at, known_in_gap}
 use Rattle.dk_constants.proofs.Lookups.{known_added, known_already}
 use Rattle.dk_constants.proofs.steps.with_entry.Goals as goal
@@ -14,7 +14,7 @@ returns-in-Ok-clause-known c =
 pub returns-in_ok-insert-in-Err-clause-ascend : goal.returns-in_ok-insert-in-Err-clause-ascend
 returns-in_ok-insert-in-Err-clause-ascend c =
     let gap = subst (λ ks. IsGapFor ks c.args.entry.0 c.in-Err.place) c.as_slice.ensures.value c.in-Err.ensures.absent in
-    subst Ascend (sym c.in_ok-insert-in-Err.ensures.items) (ascend_in_gap c.args.known.items c.args.entry c.in-Err.place gap c.requires)
+    subst EntriesAscend (sym c.in_ok-insert-in-Err.ensures.items) (ascend_in_gap c.args.known.items c.args.entry c.in-Err.place gap c.requires)
 
 pub returns-in_ok-insert-in-Err-clause-known : goal.returns-in_ok-insert-in-Err-clause-known
 returns-in_ok-insert-in-Err-clause-known c =

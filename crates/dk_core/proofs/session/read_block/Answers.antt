@@ -1,7 +1,7 @@
 use Rattle.std.proofs.Common.{arith, rules, refl, subst, ◌≡◌, ◌∙◌, IfSome, Result, Ok, Err}
 use Rattle.dk_lines.specs.Reading.{left_of}
 use Rattle.dk_core.specs.History.{effect_of}
-use Rattle.dk_core.specs.Standing.{resumed}
+use Rattle.dk_core.specs.Standing.{block_resumed}
 use Rattle.dk_core.specs.declared.session.Step.{Step}
 use Rattle.dk_core.specs.declared.session.Step.TheVariants.{More, Ended}
 use Rattle.dk_core.specs.declared.session.Stop.{Stop}
@@ -38,17 +38,17 @@ reading-preserved-in-Ok-More g c =
       fits = subst (λ (t : Result Step Stop). StepShape c.reading.kept c.reading.block c.take_line.new.block t) is c.take_line.ensures.shape;
       goes = λ h stands.
           told_on c.args.ignores (effect_of c.args.ignores h) c.args.lines.now c.reading.lines c.take_line.new.lines _ _ _ c.reading.kept c.reading.block (Ok (Goes c.reading.kept c.take_line.new.block)) (c.reading.invariant.goes h stands)
-          (λ now holds. subst (λ (t : Result Step Stop). IfSome (left_of c.reading.lines (g.I.Inputs.rest c.reading.inputs)) (λ ys. StepGives c.args.ignores c.reading.kept c.take_line.new.block (resumed c.args.ignores now c.reading.block) c.reading.lines ys t c.take_line.new.lines (left_of c.take_line.new.lines (g.I.Inputs.rest c.take_line.new.inputs)))) is
+          (λ now holds. subst (λ (t : Result Step Stop). IfSome (left_of c.reading.lines (g.I.Inputs.rest c.reading.inputs)) (λ ys. StepGives c.args.ignores c.reading.kept c.take_line.new.block (block_resumed c.args.ignores now c.reading.block) c.reading.lines ys t c.take_line.new.lines (left_of c.take_line.new.lines (g.I.Inputs.rest c.take_line.new.inputs)))) is
           (c.take_line.ensures.gives c.args.ignores now holds));
     }
 
 pub reading-preserved : goal.reading-preserved
 reading-preserved g c =
     let is : c.take_line.result ≡ Ok (Ended c.in-Ok-Ended.number c.in-Ok-Ended.is_over) = search rules in
-    let turns : c.closed.result ≡ Ok after.Goes = search rules in
-    let shape : ShapeAt c.in-Ok-Ended.is_over (Ok (Goes c.closed.new.kept c.closed.new.block)) = subst (λ (t : Result After Stop). ShapeAt c.in-Ok-Ended.is_over (turn_of c.closed.new.kept c.closed.new.block t)) turns c.closed.ensures.shape in
-    let counts : TurnCounts c.reading.lines (Ok (Goes c.closed.new.kept c.closed.new.block)) c.take_line.new.lines =
-    subst (λ (t : Result Step Stop). StepCounts c.reading.lines t c.take_line.new.lines) is c.take_line.ensures.counts (Ok (Goes c.closed.new.kept c.closed.new.block)) shape in
+    let turns : c.close_block.result ≡ Ok after.Goes = search rules in
+    let shape : ShapeAt c.in-Ok-Ended.is_over (Ok (Goes c.close_block.new.kept c.close_block.new.block)) = subst (λ (t : Result After Stop). ShapeAt c.in-Ok-Ended.is_over (turn_of c.close_block.new.kept c.close_block.new.block t)) turns c.close_block.ensures.shape in
+    let counts : TurnCounts c.reading.lines (Ok (Goes c.close_block.new.kept c.close_block.new.block)) c.take_line.new.lines =
+    subst (λ (t : Result Step Stop). StepCounts c.reading.lines t c.take_line.new.lines) is c.take_line.ensures.counts (Ok (Goes c.close_block.new.kept c.close_block.new.block)) shape in
     let same = subst (λ (t : Result Step Stop). StepShape c.reading.kept c.reading.block c.take_line.new.block t) is c.take_line.ensures.shape in
     record {
       started = counts.1;
@@ -56,51 +56,51 @@ reading-preserved g c =
       grown = omega (arith, counts.2, c.reading.invariant.grown);
       files = c.take_line.ensures.files ∙ c.reading.invariant.files;
       later = omega (arith, c.take_line.ensures.later, c.reading.invariant.later);
-      grammar = c.closed.ensures.grammar ∙ c.reading.invariant.grammar;
-      fits = fits_at c.in-Ok-Ended.is_over c.closed.new.kept c.closed.new.block shape;
+      grammar = c.close_block.ensures.grammar ∙ c.reading.invariant.grammar;
+      fits = fits_at c.in-Ok-Ended.is_over c.close_block.new.kept c.close_block.new.block shape;
       goes = λ h stands.
-          told_on c.args.ignores (effect_of c.args.ignores h) c.args.lines.now c.reading.lines c.take_line.new.lines _ _ _ c.reading.kept c.reading.block (Ok (Goes c.closed.new.kept c.closed.new.block)) (c.reading.invariant.goes h stands)
-          (λ now holds. closed_on c.args.ignores now c.reading.kept c.reading.block c.take_line.new.block c.reading.lines c.take_line.new.lines c.in-Ok-Ended.number c.in-Ok-Ended.is_over _ _ (Ok (Goes c.closed.new.kept c.closed.new.block)) same
-          (subst (λ (t : Result Step Stop). IfSome (left_of c.reading.lines (g.I.Inputs.rest c.reading.inputs)) (λ ys. StepGives c.args.ignores c.reading.kept c.take_line.new.block (resumed c.args.ignores now c.reading.block) c.reading.lines ys t c.take_line.new.lines (left_of c.take_line.new.lines (g.I.Inputs.rest c.take_line.new.inputs)))) is
+          told_on c.args.ignores (effect_of c.args.ignores h) c.args.lines.now c.reading.lines c.take_line.new.lines _ _ _ c.reading.kept c.reading.block (Ok (Goes c.close_block.new.kept c.close_block.new.block)) (c.reading.invariant.goes h stands)
+          (λ now holds. closed_on c.args.ignores now c.reading.kept c.reading.block c.take_line.new.block c.reading.lines c.take_line.new.lines c.in-Ok-Ended.number c.in-Ok-Ended.is_over _ _ (Ok (Goes c.close_block.new.kept c.close_block.new.block)) same
+          (subst (λ (t : Result Step Stop). IfSome (left_of c.reading.lines (g.I.Inputs.rest c.reading.inputs)) (λ ys. StepGives c.args.ignores c.reading.kept c.take_line.new.block (block_resumed c.args.ignores now c.reading.block) c.reading.lines ys t c.take_line.new.lines (left_of c.take_line.new.lines (g.I.Inputs.rest c.take_line.new.inputs)))) is
           (c.take_line.ensures.gives c.args.ignores now holds))
-          (subst (λ (t : Result After Stop). ClosesAt c.args.ignores c.in-Ok-Ended.is_over (resumed c.args.ignores now c.take_line.new.block) c.in-Ok-Ended.number (turn_of c.closed.new.kept c.closed.new.block t)) turns (c.closed.ensures.gives now holds)));
+          (subst (λ (t : Result After Stop). ClosesAt c.args.ignores c.in-Ok-Ended.is_over (block_resumed c.args.ignores now c.take_line.new.block) c.in-Ok-Ended.number (turn_of c.close_block.new.kept c.close_block.new.block t)) turns (c.close_block.ensures.gives now holds)));
     }
 
 pub returns-in-Ok-Ends-clause-gives : goal.returns-in-Ok-Ends-clause-gives
 returns-in-Ok-Ends-clause-gives g c h stands =
     let is : c.take_line.result ≡ Ok (Ended c.in-Ok-Ended.number c.in-Ok-Ended.is_over) = search rules in
-    let turns : c.closed.result ≡ Ok (after.Ends c.in-Ok-Ends.end) = search rules in
+    let turns : c.close_block.result ≡ Ok (after.Ends c.in-Ok-Ends.end) = search rules in
     let same = subst (λ (t : Result Step Stop). StepShape c.reading.kept c.reading.block c.take_line.new.block t) is c.take_line.ensures.shape in
-    told_on c.args.ignores (effect_of c.args.ignores h) c.args.lines.now c.reading.lines c.take_line.new.lines _ _ _ c.reading.kept c.reading.block (Ok (Ends (ended c.closed.new.kept c.in-Ok-Ends.end))) (c.reading.invariant.goes h stands)
-    (λ now holds. closed_on c.args.ignores now c.reading.kept c.reading.block c.take_line.new.block c.reading.lines c.take_line.new.lines c.in-Ok-Ended.number c.in-Ok-Ended.is_over _ _ (Ok (Ends (ended c.closed.new.kept c.in-Ok-Ends.end))) same
-    (subst (λ (t : Result Step Stop). IfSome (left_of c.reading.lines (g.I.Inputs.rest c.reading.inputs)) (λ ys. StepGives c.args.ignores c.reading.kept c.take_line.new.block (resumed c.args.ignores now c.reading.block) c.reading.lines ys t c.take_line.new.lines (left_of c.take_line.new.lines (g.I.Inputs.rest c.take_line.new.inputs)))) is
+    told_on c.args.ignores (effect_of c.args.ignores h) c.args.lines.now c.reading.lines c.take_line.new.lines _ _ _ c.reading.kept c.reading.block (Ok (Ends (ended c.close_block.new.kept c.in-Ok-Ends.end))) (c.reading.invariant.goes h stands)
+    (λ now holds. closed_on c.args.ignores now c.reading.kept c.reading.block c.take_line.new.block c.reading.lines c.take_line.new.lines c.in-Ok-Ended.number c.in-Ok-Ended.is_over _ _ (Ok (Ends (ended c.close_block.new.kept c.in-Ok-Ends.end))) same
+    (subst (λ (t : Result Step Stop). IfSome (left_of c.reading.lines (g.I.Inputs.rest c.reading.inputs)) (λ ys. StepGives c.args.ignores c.reading.kept c.take_line.new.block (block_resumed c.args.ignores now c.reading.block) c.reading.lines ys t c.take_line.new.lines (left_of c.take_line.new.lines (g.I.Inputs.rest c.take_line.new.inputs)))) is
     (c.take_line.ensures.gives c.args.ignores now holds))
-    (subst (λ (t : Result After Stop). ClosesAt c.args.ignores c.in-Ok-Ended.is_over (resumed c.args.ignores now c.take_line.new.block) c.in-Ok-Ended.number (turn_of c.closed.new.kept c.closed.new.block t)) turns (c.closed.ensures.gives now holds)))
+    (subst (λ (t : Result After Stop). ClosesAt c.args.ignores c.in-Ok-Ended.is_over (block_resumed c.args.ignores now c.take_line.new.block) c.in-Ok-Ended.number (turn_of c.close_block.new.kept c.close_block.new.block t)) turns (c.close_block.ensures.gives now holds)))
 
 pub returns-in-Ok-Ends-clause-counts : goal.returns-in-Ok-Ends-clause-counts
 returns-in-Ok-Ends-clause-counts g c =
     let is : c.take_line.result ≡ Ok (Ended c.in-Ok-Ended.number c.in-Ok-Ended.is_over) = search rules in
-    let turns : c.closed.result ≡ Ok (after.Ends c.in-Ok-Ends.end) = search rules in
-    let shape : ShapeAt c.in-Ok-Ended.is_over (Ok (Ends (ended c.closed.new.kept c.in-Ok-Ends.end))) = subst (λ (t : Result After Stop). ShapeAt c.in-Ok-Ended.is_over (turn_of c.closed.new.kept c.closed.new.block t)) turns c.closed.ensures.shape in
-    block_counts c.args.lines.now c.reading.lines c.take_line.new.lines (ended c.closed.new.kept c.in-Ok-Ends.end) c.reading.invariant.limits c.reading.invariant.grown
-    (subst (λ (t : Result Step Stop). StepCounts c.reading.lines t c.take_line.new.lines) is c.take_line.ensures.counts (Ok (Ends (ended c.closed.new.kept c.in-Ok-Ends.end))) shape)
+    let turns : c.close_block.result ≡ Ok (after.Ends c.in-Ok-Ends.end) = search rules in
+    let shape : ShapeAt c.in-Ok-Ended.is_over (Ok (Ends (ended c.close_block.new.kept c.in-Ok-Ends.end))) = subst (λ (t : Result After Stop). ShapeAt c.in-Ok-Ended.is_over (turn_of c.close_block.new.kept c.close_block.new.block t)) turns c.close_block.ensures.shape in
+    block_counts c.args.lines.now c.reading.lines c.take_line.new.lines (ended c.close_block.new.kept c.in-Ok-Ends.end) c.reading.invariant.limits c.reading.invariant.grown
+    (subst (λ (t : Result Step Stop). StepCounts c.reading.lines t c.take_line.new.lines) is c.take_line.ensures.counts (Ok (Ends (ended c.close_block.new.kept c.in-Ok-Ends.end))) shape)
 
-pub returns-in-Err-closed-clause-gives : goal.returns-in-Err-closed-clause-gives
-returns-in-Err-closed-clause-gives g c h stands =
+pub returns-in-Err-close_block-clause-gives : goal.returns-in-Err-close_block-clause-gives
+returns-in-Err-close_block-clause-gives g c h stands =
     let is : c.take_line.result ≡ Ok (Ended c.in-Ok-Ended.number c.in-Ok-Ended.is_over) = search rules in
-    let turns : c.closed.result ≡ Err c.in-Err-closed.stop = search rules in
+    let turns : c.close_block.result ≡ Err c.in-Err-close_block.stop = search rules in
     let same = subst (λ (t : Result Step Stop). StepShape c.reading.kept c.reading.block c.take_line.new.block t) is c.take_line.ensures.shape in
-    told_stop c.args.ignores (effect_of c.args.ignores h) c.args.lines.now c.take_line.new.lines _ _ c.in-Err-closed.stop
-    (told_on c.args.ignores (effect_of c.args.ignores h) c.args.lines.now c.reading.lines c.take_line.new.lines _ _ _ c.reading.kept c.reading.block (Err c.in-Err-closed.stop) (c.reading.invariant.goes h stands)
-    (λ now holds. closed_on c.args.ignores now c.reading.kept c.reading.block c.take_line.new.block c.reading.lines c.take_line.new.lines c.in-Ok-Ended.number c.in-Ok-Ended.is_over _ _ (Err c.in-Err-closed.stop) same
-    (subst (λ (t : Result Step Stop). IfSome (left_of c.reading.lines (g.I.Inputs.rest c.reading.inputs)) (λ ys. StepGives c.args.ignores c.reading.kept c.take_line.new.block (resumed c.args.ignores now c.reading.block) c.reading.lines ys t c.take_line.new.lines (left_of c.take_line.new.lines (g.I.Inputs.rest c.take_line.new.inputs)))) is
+    told_stop c.args.ignores (effect_of c.args.ignores h) c.args.lines.now c.take_line.new.lines _ _ c.in-Err-close_block.stop
+    (told_on c.args.ignores (effect_of c.args.ignores h) c.args.lines.now c.reading.lines c.take_line.new.lines _ _ _ c.reading.kept c.reading.block (Err c.in-Err-close_block.stop) (c.reading.invariant.goes h stands)
+    (λ now holds. closed_on c.args.ignores now c.reading.kept c.reading.block c.take_line.new.block c.reading.lines c.take_line.new.lines c.in-Ok-Ended.number c.in-Ok-Ended.is_over _ _ (Err c.in-Err-close_block.stop) same
+    (subst (λ (t : Result Step Stop). IfSome (left_of c.reading.lines (g.I.Inputs.rest c.reading.inputs)) (λ ys. StepGives c.args.ignores c.reading.kept c.take_line.new.block (block_resumed c.args.ignores now c.reading.block) c.reading.lines ys t c.take_line.new.lines (left_of c.take_line.new.lines (g.I.Inputs.rest c.take_line.new.inputs)))) is
     (c.take_line.ensures.gives c.args.ignores now holds))
-    (subst (λ (t : Result After Stop). ClosesAt c.args.ignores c.in-Ok-Ended.is_over (resumed c.args.ignores now c.take_line.new.block) c.in-Ok-Ended.number (turn_of c.closed.new.kept c.closed.new.block t)) turns (c.closed.ensures.gives now holds))))
+    (subst (λ (t : Result After Stop). ClosesAt c.args.ignores c.in-Ok-Ended.is_over (block_resumed c.args.ignores now c.take_line.new.block) c.in-Ok-Ended.number (turn_of c.close_block.new.kept c.close_block.new.block t)) turns (c.close_block.ensures.gives now holds))))
 
 pub returns-in-Err-clause-gives : goal.returns-in-Err-clause-gives
 returns-in-Err-clause-gives g c h stands =
     let is : c.take_line.result ≡ Err c.in-Err.stop = search rules in
     told_stop c.args.ignores (effect_of c.args.ignores h) c.args.lines.now c.take_line.new.lines _ _ c.in-Err.stop
     (told_on c.args.ignores (effect_of c.args.ignores h) c.args.lines.now c.reading.lines c.take_line.new.lines _ _ _ c.reading.kept c.reading.block (Err c.in-Err.stop) (c.reading.invariant.goes h stands)
-    (λ now holds. subst (λ (t : Result Step Stop). IfSome (left_of c.reading.lines (g.I.Inputs.rest c.reading.inputs)) (λ ys. StepGives c.args.ignores c.reading.kept c.take_line.new.block (resumed c.args.ignores now c.reading.block) c.reading.lines ys t c.take_line.new.lines (left_of c.take_line.new.lines (g.I.Inputs.rest c.take_line.new.inputs)))) is
+    (λ now holds. subst (λ (t : Result Step Stop). IfSome (left_of c.reading.lines (g.I.Inputs.rest c.reading.inputs)) (λ ys. StepGives c.args.ignores c.reading.kept c.take_line.new.block (block_resumed c.args.ignores now c.reading.block) c.reading.lines ys t c.take_line.new.lines (left_of c.take_line.new.lines (g.I.Inputs.rest c.take_line.new.inputs)))) is
     (c.take_line.ensures.gives c.args.ignores now holds)))

@@ -5,7 +5,7 @@ use Rattle.dk_base.specs.Values.{values_of}
 use Rattle.dk_rows.proofs.RowLaws.{laws_of}
 use Rattle.dk_template.specs.Proper.{IsProper}
 use Rattle.dk_template.specs.Rows.{IsTuple}
-use Rattle.dk_template.specs.Templates.{form_of, kinds_of}
+use Rattle.dk_template.specs.Templates.{form_of, role_kinds}
 use Rattle.dk_template.specs.declared.templates.Template.{Template}
 use Rattle.dk_engine.proofs.Memories.{on_err, texts_want}
 use Rattle.dk_engine.proofs.after.with_tuple.Goals as goal
@@ -17,10 +17,10 @@ pub join_states-requires-clause-b : goal.join_states-requires-clause-b
 join_states-requires-clause-b c =
     let row = c.args.row in
     let t = values_of c.args.tuple.now in
-    let tuple : IsTuple (kinds_of row) t = c.requires.tuple (search rules) in
+    let tuple : IsTuple (role_kinds row) t = c.requires.tuple (search rules) in
     let form : c.template_at.result.form ≡ form_of row = ap (λ (i : Template). i.form) c.template_at.ensures in
     subst (λ f. IsProper f c.in_ok-one.one) (sym form) (subst (IsProper (form_of row)) (sym c.in_ok-one.ensures.state)
-    ((laws_of row c.requires.row).proper (t ∷ []) (All-cons (IsTuple (kinds_of row)) t [] tuple (All-nil (IsTuple (kinds_of row))))))
+    ((laws_of row c.requires.row).proper (t ∷ []) (All-cons (IsTuple (role_kinds row)) t [] tuple (All-nil (IsTuple (role_kinds row))))))
 
 pub returns-in_err-state-clause-err : goal.returns-in_err-state-clause-err
 returns-in_err-state-clause-err c =

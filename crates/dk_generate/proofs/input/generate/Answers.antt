@@ -11,14 +11,14 @@ loop-done-init c = record {
   text = text_at_first c.args.n c.in_ok-text.text (c.in_ok-text.ensures ∙ c.as_bytes.ensures.value ∙ c.declarations.ensures);
 }
 
-pub call_of-call-requires : goal.call_of-call-requires
-call_of-call-requires c = subst (λ (t : Turn). t.stack.height ≤ 8) (sym c.loop-done.invariant.turn) (height_fits c.args.n c.loop-done.done)
+pub drawn_call-call-requires : goal.drawn_call-call-requires
+drawn_call-call-requires c = subst (λ (t : Turn). t.stack.height ≤ 8) (sym c.loop-done.invariant.turn) (height_fits c.args.n c.loop-done.done)
 
 pub loop-done-preserved : goal.loop-done-preserved
 loop-done-preserved c = record {
-  turn = turn_more c.args.n c.loop-done.done c.loop-done.turn c.turned-turn.result c.loop-done.invariant.turn c.turned-turn.ensures;
-  text = text_more c.args.n c.loop-done.done c.loop-done.turn c.call_of-call.result c.loop-done.text c.push_call.new.text
-      c.loop-done.invariant.turn c.call_of-call.ensures.call c.loop-done.invariant.text c.in_ok-push_call.ensures;
+  turn = turn_more c.args.n c.loop-done.done c.loop-done.turn c.next_turn-turn.result c.loop-done.invariant.turn c.next_turn-turn.ensures;
+  text = text_more c.args.n c.loop-done.done c.loop-done.turn c.drawn_call-call.result c.loop-done.text c.push_call.new.text
+      c.loop-done.invariant.turn c.drawn_call-call.ensures.call c.loop-done.invariant.text c.in_ok-push_call.ensures;
 }
 
 pub returns : goal.returns

@@ -1,10 +1,10 @@
 use Rattle.std.proofs.Common.{◌≡◌, ◌+◌, ℕ, length}
-use Rattle.dk_io.specs.NamedFiles.{held_in, bytes_at}
+use Rattle.dk_io.specs.NamedFiles.{named_file, bytes_at}
 use Rattle.dk_io.proofs.named_files.place_of.Given as goal
 
 abbrev pub invariant-loop-rest : goal.invariant-loop-rest
 invariant-loop-rest l = record {
-  held : held_in l.files l.name ≡ held_in l.rest l.name;
+  held : named_file l.files l.name ≡ named_file l.rest l.name;
   there : (k : ℕ) → bytes_at l.files (l.place + k) ≡ bytes_at l.rest k;
   count : l.place + length l.rest ≡ length l.files;
 }

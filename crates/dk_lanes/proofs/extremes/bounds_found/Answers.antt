@@ -7,6 +7,6 @@ pub returns-in-len1-up : goal.returns-in-len1-up
 returns-in-len1-up c =
     let x : ℤ = get_or c.args.s.now 0 (pos 0) in
     let fits : SFits w64 x = search rules in
-    let least = rw (to_z-of_z w64 x fits) at c.widened.ensures.least in
-    let greatest = rw (to_z-of_z w64 x fits) at c.widened.ensures.greatest in
-    bounds_are c.args.s.now (omega arith) c.widened.result.0 c.widened.result.1 least greatest
+    let least = rw (to_z-of_z w64 x fits) at c.least_and_greatest.ensures.least in
+    let greatest = rw (to_z-of_z w64 x fits) at c.least_and_greatest.ensures.greatest in
+    bounds_are c.args.s.now (omega arith) c.least_and_greatest.result.0 c.least_and_greatest.result.1 least greatest

@@ -4,7 +4,7 @@ use Rattle.std.proofs.lemmas.List.{map_more}
 use Rattle.dk_base.specs.declared.kinds.VarId.{VarId}
 use Rattle.dk_classes.specs.Leaders.{var}
 use Rattle.dk_presence.specs.Patterns.{has}
-use Rattle.dk_samples.specs.Leaders.{Ascend}
+use Rattle.dk_samples.specs.Leaders.{VarsAscend}
 use Rattle.dk_parts.specs.Patterns.{is_first}
 use Rattle.dk_parts.proofs.Present.{first_if_there, from_ascends, step}
 use Rattle.dk_parts.proofs.pattern.presence_of.Goals as goal
@@ -25,6 +25,6 @@ loop-leader-preserved c =
       so_far =
           c.in_ok-push.ensures.items ∙ (ap (λ ts. ts ++ c.is_first.result ∷ []) c.loop-leader.invariant.so_far
           ∙ (ap (λ t. map (has present) (take i leaders) ++ t ∷ []) told ∙ sym (map_more (has present) leaders i (var 0) within)));
-      ascend = subst (λ (vars : List VarId). Ascend vars) (sym next) (from_ascends leader left c.loop-leader.invariant.ascend);
+      ascend = subst (λ (vars : List VarId). VarsAscend vars) (sym next) (from_ascends leader left c.loop-leader.invariant.ascend);
       same = λ j l m. ap (λ vars. has vars (get_or leaders j (var 0))) next ∙ step leaders left present i (var 0) c.requires.leaders within c.loop-leader.invariant.same j l m;
     }

@@ -1,6 +1,6 @@
 use Rattle.std.proofs.Common.{◌≡◌, ◌∙◌, ap, sym, subst, arith, get_or, cond, true, false, Bool}
 use Rattle.dk_base.specs.declared.kinds.VarId.{VarId}
-use Rattle.dk_samples.specs.Leaders.{Ascend}
+use Rattle.dk_samples.specs.Leaders.{VarsAscend}
 use Rattle.dk_presence.specs.Patterns.{has}
 use Rattle.dk_presence.specs.Steps.{put}
 use Rattle.dk_presence.proofs.Putting.{ascend-put, off_more, with_more}
@@ -23,7 +23,7 @@ loop-leader-preserved c =
           let there : has leaders n.1 ≡ true = sym c.contains.ensures ∙ w.if-contains.true in
           record {
             is = items ∙ sym (step ∙ ap (λ (b : Bool). cond b (put n.0 more) more) there);
-            ascend = subst Ascend (sym items) (ascend-put n.0 more inv.ascend (inv.off i d (omega arith) c.loop-leader-test.true));
+            ascend = subst VarsAscend (sym items) (ascend-put n.0 more inv.ascend (inv.off i d (omega arith) c.loop-leader-test.true));
             off = λ k e le m. ap (λ xs. has xs (get_or new k e).0) items ∙ off_more new c.requires.differ more i d c.loop-leader-test.true inv.off k e le m;
           }
       | else-contains w ↦
@@ -31,7 +31,7 @@ loop-leader-preserved c =
           let absent : has leaders n.1 ≡ false = sym c.contains.ensures ∙ w.if-contains.false in
           record {
             is = items ∙ sym (step ∙ ap (λ (b : Bool). cond b (put n.0 more) more) absent);
-            ascend = subst Ascend (sym items) inv.ascend;
+            ascend = subst VarsAscend (sym items) inv.ascend;
             off = λ k e le m. ap (λ xs. has xs (get_or new k e).0) items ∙ inv.off k e (omega (arith, le)) m;
           }
     ]

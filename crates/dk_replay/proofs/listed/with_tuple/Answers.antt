@@ -7,7 +7,7 @@ use Rattle.dk_rows.proofs.RowLaws.{laws_of}
 use Rattle.dk_template.specs.Premises.{MayWantMemory}
 use Rattle.dk_template.specs.Proper.{IsProper}
 use Rattle.dk_template.specs.Rows.{IsTuple}
-use Rattle.dk_template.specs.Templates.{form_of, kinds_of}
+use Rattle.dk_template.specs.Templates.{form_of, role_kinds}
 use Rattle.dk_replay.proofs.Walking.{on_err}
 use Rattle.dk_replay.proofs.listed.with_tuple.Goals as goal
 
@@ -18,9 +18,9 @@ pub join-requires-clause-b : goal.join-requires-clause-b
 join-requires-clause-b c =
     let row = c.args.row in
     let t = values_of c.args.tuple.now in
-    let tuple : IsTuple (kinds_of row) t = c.requires.tuple (search rules) in
+    let tuple : IsTuple (role_kinds row) t = c.requires.tuple (search rules) in
     subst (IsProper (form_of row)) (sym c.in_ok-one.ensures.state)
-    ((laws_of row c.requires.row).proper (t ∷ []) (All-cons (IsTuple (kinds_of row)) t [] tuple (All-nil (IsTuple (kinds_of row)))))
+    ((laws_of row c.requires.row).proper (t ∷ []) (All-cons (IsTuple (role_kinds row)) t [] tuple (All-nil (IsTuple (role_kinds row)))))
 
 pub returns-in_err-state-clause-err : goal.returns-in_err-state-clause-err
 returns-in_err-state-clause-err c = on_err c.from_residual-in_err-state.result (MayWantMemory c.args.row) (texts_want c.args.row c.requires.row c.in_err-state.ensures.err)

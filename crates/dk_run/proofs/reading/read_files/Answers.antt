@@ -1,9 +1,9 @@
 use Rattle.std.proofs.Common.{rules, arith, ap, subst, sym, refl, ◌∙◌, ◌≡◌, ◌++◌, ◌+◌, ℕ, List, [], length, append_assoc, Err}
-use Rattle.dk_io.specs.Outside.{Held, Rose}
+use Rattle.dk_io.specs.Outside.{HeldFile, Rose}
 use Rattle.dk_io.specs.declared.outside.Stream.TheVariants.{Report}
 use Rattle.dk_lines.specs.Reading.{room_of}
 use Rattle.dk_core.specs.Selecting.{SelectsBy}
-use Rattle.dk_core.specs.Standing.{StandsFor, blocks_of}
+use Rattle.dk_core.specs.Standing.{SessionStandsFor, blocks_of}
 use Rattle.dk_run.specs.AllFiles.{AreReadTo, FilesTroubleGives, HasBrokenAt, placed}
 use Rattle.dk_run.specs.Commands.{generated_count, helds_of, is_selected, names_of}
 use Rattle.dk_run.specs.Files.{name_at}
@@ -27,7 +27,7 @@ loop-index-init g c = record {
   goes = record {
     text = [];
     written = sym (added_nothing _ Report);
-    holds = λ told read. nothing_told c.args.command.now _ _ _ (StandsFor c.args.session) _ _ _ told read;
+    holds = λ told read. nothing_told c.args.command.now _ _ _ (SessionStandsFor c.args.session) _ _ _ told read;
   };
 }
 
@@ -50,11 +50,11 @@ loop-index-preserved g c =
       goes = record {
         text = old.text ++ new.text;
         written = written_behind _ _ _ old.text new.text old.written new.written;
-        holds = λ told read. subst (λ (l : List ℕ). AreReadTo c.args.command.now (g.I.Inputs.file c.args.inputs.now) (g.I.Inputs.rest c.args.inputs.now) (g.I.Inputs.rest c.read_file.new.inputs) (StandsFor c.in-Ok.next) (blocks_of c.in-Ok.next) (room_of c.read_file.new.lines) (generated_count c.args.command.now + (c.loop-index.index + 1)) l)
+        holds = λ told read. subst (λ (l : List ℕ). AreReadTo c.args.command.now (g.I.Inputs.file c.args.inputs.now) (g.I.Inputs.rest c.args.inputs.now) (g.I.Inputs.rest c.read_file.new.inputs) (SessionStandsFor c.in-Ok.next) (blocks_of c.in-Ok.next) (room_of c.read_file.new.lines) (generated_count c.args.command.now + (c.loop-index.index + 1)) l)
             (append_assoc told old.text new.text)
             (named_on c.args.command.now (g.I.Inputs.file c.args.inputs.now) _ _ _ c.loop-index.session c.in-Ok.next c.loop-index.index c.loop-index.lines c.read_file.new.lines (told ++ old.text) new.text c.word_at.result.now
             (c.word_at.ensures ∙ ap (λ (l : List (List ℕ)). name_at l c.loop-index.index) c.as_slice-words.ensures) (omega (arith, ap length c.as_slice-words.ensures)) c.loop-index.invariant.limits there (old.holds told read)
-            (λ h n stands counts xs holds. new.holds.1 h n stands counts xs (ap (λ (f : List ℕ → Held). f c.word_at.result.now) files ∙ holds)));
+            (λ h n stands counts xs holds. new.holds.1 h n stands counts xs (ap (λ (f : List ℕ → HeldFile). f c.word_at.result.now) files ∙ holds)));
       };
     }
 
@@ -74,7 +74,7 @@ returns-in-Err-clause-gives g c =
           (c.word_at.ensures ∙ ap (λ (l : List (List ℕ)). name_at l c.loop-index.index) c.as_slice-words.ensures) (omega (arith, ap length c.as_slice-words.ensures)) c.loop-index.invariant.limits
           (λ started. rw files at (c.in-Err.ensures.there (λ e. started (cc (e)))))
           (λ start. (new.holds.0 (ap Err start), (c.in-Err.ensures.unstarted (ap Err start)).1)) (old.holds told read)
-          (λ h n stands counts xs holds. new.holds.1 h n stands counts xs (ap (λ (f : List ℕ → Held). f c.word_at.result.now) files ∙ holds))));
+          (λ h n stands counts xs holds. new.holds.1 h n stands counts xs (ap (λ (f : List ℕ → HeldFile). f c.word_at.result.now) files ∙ holds))));
     }
 
 pub returns-in-Err-clause-cause : goal.returns-in-Err-clause-cause
@@ -95,5 +95,5 @@ returns-clause-gives g c =
     record {
       text = old.text;
       written = old.written;
-      holds = λ told read. subst (λ (n : ℕ). AreReadTo c.args.command.now (g.I.Inputs.file c.args.inputs.now) (g.I.Inputs.rest c.args.inputs.now) (g.I.Inputs.rest c.loop-index.inputs) (StandsFor c.loop-index.session) (blocks_of c.loop-index.session) (room_of c.loop-index.lines) n (told ++ old.text)) place (old.holds told read);
+      holds = λ told read. subst (λ (n : ℕ). AreReadTo c.args.command.now (g.I.Inputs.file c.args.inputs.now) (g.I.Inputs.rest c.args.inputs.now) (g.I.Inputs.rest c.loop-index.inputs) (SessionStandsFor c.loop-index.session) (blocks_of c.loop-index.session) (room_of c.loop-index.lines) n (told ++ old.text)) place (old.holds told read);
     }

@@ -2,8 +2,8 @@ use Rattle.std.proofs.Common.{rules, subst, sym, ◌∙◌, ◌≡◌, ◌++◌,
 use Rattle.dk_lines.specs.Reading.{left_of}
 use Rattle.dk_core.specs.History.{History}
 use Rattle.dk_core.specs.Selecting.{SelectsBy}
-use Rattle.dk_core.specs.Standing.{StandsFor, paired}
-use Rattle.dk_core.specs.Steps.{Answers}
+use Rattle.dk_core.specs.Standing.{SessionStandsFor, left_with_answer}
+use Rattle.dk_core.specs.Steps.{NextBlock}
 use Rattle.dk_base.specs.declared.faults.Fault.{Fault}
 use Rattle.dk_io.specs.declared.outside.Stream.TheVariants.{Report}
 use Rattle.dk_run.specs.Commands.{is_selected}
@@ -29,15 +29,15 @@ steps-init g c = record {
   goes = record {
     text = [];
     written = sym (added_nothing _ Report);
-    holds = λ h n stands counts. not_begun c.args.command.now n h c.args.lines.now _ (StandsFor c.args.session) _ _ c.requires.begins stands counts;
+    holds = λ h n stands counts. not_begun c.args.command.now n h c.args.lines.now _ (SessionStandsFor c.args.session) _ _ c.requires.begins stands counts;
   };
 }
 
 pub steps-preserved : goal.steps-preserved
 steps-preserved g c =
     let is : c.block.result ≡ Ok true = search rules in
-    let answers = λ (h : History) (stands : StandsFor c.steps.session h).
-    subst (λ (a : Result Bool Fault). IfSome (left_of c.steps.lines (g.I.Inputs.rest c.steps.inputs)) (λ ys. Answers c.steps.session h c.steps.lines ys (paired c.block.new.self a) c.block.new.lines (left_of c.block.new.lines (g.I.Inputs.rest c.block.new.inputs)))) is (c.block.ensures.gives h stands) in
+    let answers = λ (h : History) (stands : SessionStandsFor c.steps.session h).
+    subst (λ (a : Result Bool Fault). IfSome (left_of c.steps.lines (g.I.Inputs.rest c.steps.inputs)) (λ ys. NextBlock c.steps.session h c.steps.lines ys (left_with_answer c.block.new.self a) c.block.new.lines (left_of c.block.new.lines (g.I.Inputs.rest c.block.new.inputs)))) is (c.block.ensures.gives h stands) in
     record {
       started = search rules;
       limits = search rules;
@@ -60,8 +60,8 @@ steps-preserved g c =
 pub returns-in-Err-tell_by_the_way-clause-gives : goal.returns-in-Err-tell_by_the_way-clause-gives
 returns-in-Err-tell_by_the_way-clause-gives g c =
     let is : c.block.result ≡ Ok true = search rules in
-    let answers = λ (h : History) (stands : StandsFor c.steps.session h).
-    subst (λ (a : Result Bool Fault). IfSome (left_of c.steps.lines (g.I.Inputs.rest c.steps.inputs)) (λ ys. Answers c.steps.session h c.steps.lines ys (paired c.block.new.self a) c.block.new.lines (left_of c.block.new.lines (g.I.Inputs.rest c.block.new.inputs)))) is (c.block.ensures.gives h stands) in
+    let answers = λ (h : History) (stands : SessionStandsFor c.steps.session h).
+    subst (λ (a : Result Bool Fault). IfSome (left_of c.steps.lines (g.I.Inputs.rest c.steps.inputs)) (λ ys. NextBlock c.steps.session h c.steps.lines ys (left_with_answer c.block.new.self a) c.block.new.lines (left_of c.block.new.lines (g.I.Inputs.rest c.block.new.inputs)))) is (c.block.ensures.gives h stands) in
     let cut = c.in-Err-tell_by_the_way.ensures in
     record {
       text = c.steps.invariant.goes.text ++ cut.text;
@@ -76,8 +76,8 @@ returns-in-Err-tell_by_the_way-clause-gives g c =
 pub returns-in-Ok-false-clause-gives : goal.returns-in-Ok-false-clause-gives
 returns-in-Ok-false-clause-gives g c =
     let is : c.block.result ≡ Ok false = search rules in
-    let answers = λ (h : History) (stands : StandsFor c.steps.session h).
-    subst (λ (a : Result Bool Fault). IfSome (left_of c.steps.lines (g.I.Inputs.rest c.steps.inputs)) (λ ys. Answers c.steps.session h c.steps.lines ys (paired c.block.new.self a) c.block.new.lines (left_of c.block.new.lines (g.I.Inputs.rest c.block.new.inputs)))) is (c.block.ensures.gives h stands) in
+    let answers = λ (h : History) (stands : SessionStandsFor c.steps.session h).
+    subst (λ (a : Result Bool Fault). IfSome (left_of c.steps.lines (g.I.Inputs.rest c.steps.inputs)) (λ ys. NextBlock c.steps.session h c.steps.lines ys (left_with_answer c.block.new.self a) c.block.new.lines (left_of c.block.new.lines (g.I.Inputs.rest c.block.new.inputs)))) is (c.block.ensures.gives h stands) in
     let ended = counted_end c.steps.session c.block.new.self c.steps.lines c.block.new.lines c.block.result is c.block.ensures.counts in
     record {
       text = c.steps.invariant.goes.text;

@@ -1,5 +1,5 @@
 use Rattle.std.proofs.Common.{◌++◌, refl}
-use Rattle.dk_core.specs.Standing.{StandsFor}
+use Rattle.dk_core.specs.Standing.{SessionStandsFor}
 use Rattle.dk_print.specs.Sections.{after_blocks_line}
 use Rattle.dk_run.specs.Reports.{whole_report}
 use Rattle.dk_run.proofs.Writing.{cut_short, cut_text, told_text, tells_then}
@@ -7,10 +7,10 @@ use Rattle.dk_run.proofs.reporting.tell_due.Goals as goal
 
 pub returns-in-Ok : goal.returns-in-Ok
 returns-in-Ok g c =
-    rw (← c.blocks-2.ensures) (tells_then (StandsFor c.args.session.now) (λ h. after_blocks_line c.blocks-2.result) (λ h. whole_report c.args.command.now h) _ _ _ _ _ _ c.tell_report.result
-    (told_text (StandsFor c.args.session.now) (after_blocks_line c.blocks-2.result) _ _ _ _ c.in-Ok.ensures.0 c.in-Ok.ensures.1) c.tell_report.ensures)
+    rw (← c.blocks-2.ensures) (tells_then (SessionStandsFor c.args.session.now) (λ h. after_blocks_line c.blocks-2.result) (λ h. whole_report c.args.command.now h) _ _ _ _ _ _ c.tell_report.result
+    (told_text (SessionStandsFor c.args.session.now) (after_blocks_line c.blocks-2.result) _ _ _ _ c.in-Ok.ensures.0 c.in-Ok.ensures.1) c.tell_report.ensures)
 
 pub returns-in-Err : goal.returns-in-Err
 returns-in-Err g c =
-    rw (← c.blocks-2.ensures) (cut_short (StandsFor c.args.session.now) (λ h. after_blocks_line c.blocks-2.result) (λ h. after_blocks_line c.blocks-2.result ++ whole_report c.args.command.now h) _ _ _ _ c.in-Err.halt
-    (λ h stands. (whole_report c.args.command.now h, refl)) (cut_text (StandsFor c.args.session.now) (after_blocks_line c.blocks-2.result) _ _ _ _ c.in-Err.halt c.in-Err.ensures))
+    rw (← c.blocks-2.ensures) (cut_short (SessionStandsFor c.args.session.now) (λ h. after_blocks_line c.blocks-2.result) (λ h. after_blocks_line c.blocks-2.result ++ whole_report c.args.command.now h) _ _ _ _ c.in-Err.halt
+    (λ h stands. (whole_report c.args.command.now h, refl)) (cut_text (SessionStandsFor c.args.session.now) (after_blocks_line c.blocks-2.result) _ _ _ _ c.in-Err.halt c.in-Err.ensures))

@@ -1,6 +1,6 @@
 use Rattle.std.proofs.Common.{◌++◌, [], refl}
 use Rattle.std.specs.Option.{option_map_or}
-use Rattle.dk_core.specs.Standing.{StandsFor}
+use Rattle.dk_core.specs.Standing.{SessionStandsFor}
 use Rattle.dk_print.specs.Sections.{end_line}
 use Rattle.dk_run.specs.Reports.{whole_report}
 use Rattle.dk_run.proofs.Writing.{cut_short, cut_text, told_text, tells_then}
@@ -8,11 +8,11 @@ use Rattle.dk_run.proofs.reporting.tell_last.Goals as goal
 
 pub returns-in-Ok : goal.returns-in-Ok
 returns-in-Ok g c =
-    rw (← c.blocks-2.ensures) (tells_then (StandsFor c.args.session.now) (λ h. option_map_or (λ every. end_line c.blocks-2.result) c.args.command.now.every []) (λ h. whole_report c.args.command.now h) _ _ _ _ _ _ c.tell_report.result
-    (told_text (StandsFor c.args.session.now) (option_map_or (λ every. end_line c.blocks-2.result) c.args.command.now.every []) _ _ _ _ c.in-Ok.ensures.0 c.in-Ok.ensures.1) c.tell_report.ensures)
+    rw (← c.blocks-2.ensures) (tells_then (SessionStandsFor c.args.session.now) (λ h. option_map_or (λ every. end_line c.blocks-2.result) c.args.command.now.every []) (λ h. whole_report c.args.command.now h) _ _ _ _ _ _ c.tell_report.result
+    (told_text (SessionStandsFor c.args.session.now) (option_map_or (λ every. end_line c.blocks-2.result) c.args.command.now.every []) _ _ _ _ c.in-Ok.ensures.0 c.in-Ok.ensures.1) c.tell_report.ensures)
 
 pub returns-in-Err : goal.returns-in-Err
 returns-in-Err g c =
-    rw (← c.blocks-2.ensures) (cut_short (StandsFor c.args.session.now) (λ h. option_map_or (λ every. end_line c.blocks-2.result) c.args.command.now.every [])
+    rw (← c.blocks-2.ensures) (cut_short (SessionStandsFor c.args.session.now) (λ h. option_map_or (λ every. end_line c.blocks-2.result) c.args.command.now.every [])
     (λ h. option_map_or (λ every. end_line c.blocks-2.result) c.args.command.now.every [] ++ whole_report c.args.command.now h) _ _ _ _ c.in-Err.halt
-    (λ h stands. (whole_report c.args.command.now h, refl)) (cut_text (StandsFor c.args.session.now) (option_map_or (λ every. end_line c.blocks-2.result) c.args.command.now.every []) _ _ _ _ c.in-Err.halt c.in-Err.ensures))
+    (λ h stands. (whole_report c.args.command.now h, refl)) (cut_text (SessionStandsFor c.args.session.now) (option_map_or (λ every. end_line c.blocks-2.result) c.args.command.now.every []) _ _ _ _ c.in-Err.halt c.in-Err.ensures))

@@ -4,17 +4,17 @@ use Rattle.dk_core.proofs.Recording.{reads_first}
 use Rattle.dk_core.specs.Fitting.{ReadsFitting}
 use Rattle.dk_core.specs.Keeping.{Keeping}
 use Rattle.dk_base.specs.Reading.{Line, LineFault, ◌>>=◌}
-use Rattle.dk_decl.specs.Outcomes.{ToldOn as DeclToldOn}
+use Rattle.dk_decl.specs.Outcomes.{FaultAgreesOnward as DeclToldOn}
 use Rattle.dk_points.specs.Table.{Point}
 use Rattle.dk_trace.specs.Records.{Sample, sample_of}
-use Rattle.dk_trace.specs.RecordsResumed.{resumed as record_resumed}
+use Rattle.dk_trace.specs.RecordsResumed.{record_resumed}
 use Rattle.dk_core.specs.History.{History, where_it_ends, with_record}
-use Rattle.dk_core.specs.Standing.{Fits, Stands, resumed}
+use Rattle.dk_core.specs.Standing.{Fits, Stands, block_resumed}
 use Rattle.dk_core.proofs.Fronting.{told_then}
 use Rattle.dk_core.proofs.kept.Kept.begun_record.Goals as goal
 
 pub returns-in-Ok-clause-goes_on : goal.returns-in-Ok-clause-goes_on
-unfolding resumed Stands
+unfolding block_resumed Stands
 returns-in-Ok-clause-goes_on c ignores h stands ls close =
     let now : History = record h { header = c.args.block.now.header } in
     let first : Line = record { number = c.args.number; bytes = c.args.bytes.now } in

@@ -1,13 +1,13 @@
 use Rattle.std.proofs.Common.{◌≡◌, ◌∙◌, [], ap, refl, subst, sym, List, Some, Result, Err}
 use Rattle.dk_base.specs.Reading.{LineFault, ◌>>=◌}
-use Rattle.dk_decl.specs.Outcomes.{Told}
+use Rattle.dk_decl.specs.Outcomes.{FaultAgrees}
 use Rattle.dk_points.specs.Table.{Point}
 use Rattle.dk_trace.specs.Records.{Sample}
-use Rattle.dk_trace.specs.RecordsResumed.{IsOf, resumed as record_resumed, shown}
+use Rattle.dk_trace.specs.RecordsResumed.{IsOf, record_resumed, shown}
 use Rattle.dk_core.specs.Fitting.{ReadsFitting}
 use Rattle.dk_core.specs.Keeping.{Keeping}
 use Rattle.dk_core.specs.History.{History, Taken, with_record}
-use Rattle.dk_core.specs.Standing.{Closes, Fits, Stands, StateFits, paired, resumed, resumed_by}
+use Rattle.dk_core.specs.Standing.{Closes, Fits, Stands, StateFits, block_resumed, left_with_answer, resumed_by}
 use Rattle.dk_core.specs.declared.block.State.{State}
 use Rattle.dk_core.proofs.Fronting.{told_at, told_closes}
 use Rattle.dk_core.proofs.Keeping.{with_header}
@@ -33,7 +33,7 @@ declaration_end-requires-clause-fits c =
     subst (λ (ps : List Point). StateFits ps c.args.block.now.state) (sym points) c.requires
 
 pub returns-in-Front-clause-closes : goal.returns-in-Front-clause-closes
-unfolding resumed
+unfolding block_resumed
 returns-in-Front-clause-closes c h stands =
     let now : History = record h { header = c.args.block.now.header } in
     let points : c.self.inside.points ≡ c.args.self.now.points = ap (λ (k : Keeping). k.points) c.self.view_is in
@@ -41,7 +41,7 @@ returns-in-Front-clause-closes c h stands =
     rw c.in-Front.is (c.without_record.ensures now held c.args.number)
 
 pub returns-in-Declaration-clause-closes : goal.returns-in-Declaration-clause-closes
-unfolding resumed
+unfolding block_resumed
 returns-in-Declaration-clause-closes c h stands =
     let now : History = record h { header = c.args.block.now.header } in
     let points : c.self.inside.points ≡ c.args.self.now.points = ap (λ (k : Keeping). k.points) c.self.view_is in
@@ -49,7 +49,7 @@ returns-in-Declaration-clause-closes c h stands =
     c.declaration_end.ensures.closes c.args.ignores now held
 
 pub returns-in-Implementors-clause-closes : goal.returns-in-Implementors-clause-closes
-unfolding resumed
+unfolding block_resumed
 returns-in-Implementors-clause-closes c h stands =
     let now : History = record h { header = c.args.block.now.header } in
     let points : c.self.inside.points ≡ c.args.self.now.points = ap (λ (k : Keeping). k.points) c.self.view_is in
@@ -57,22 +57,22 @@ returns-in-Implementors-clause-closes c h stands =
     (now, held, ap (λ (s : State). resumed_by c.args.ignores now s [] (Some c.args.number)) c.in-Implementors.is)
 
 pub returns-in-Ok-clause-closes : goal.returns-in-Ok-clause-closes
-unfolding resumed Stands
+unfolding block_resumed Stands
 returns-in-Ok-clause-closes c h stands =
     let now : History = record h { header = c.args.block.now.header } in
     let points : c.self.inside.points ≡ c.args.self.now.points = ap (λ (k : Keeping). k.points) c.self.view_is in
     let held = with_header c.args.self.now _ h c.args.block.now.header stands points refl (ap (λ (k : Keeping). k.calls) c.self.view_is) (ap (λ (k : Keeping). k.engines) c.self.view_is) (ap (λ (k : Keeping). k.grammar) c.self.view_is) in
-    subst (λ (r : Result Taken LineFault). Closes (paired c.with_record.new.self c.with_record.result) r)
+    subst (λ (r : Result Taken LineFault). Closes (left_with_answer c.with_record.new.self c.with_record.result) r)
     (sym (ap (λ (s : State). resumed_by c.args.ignores now s [] (Some c.args.number)) c.in-Record.is
     ∙ ap (λ (r : Result Sample LineFault). r >>= λ s. with_record c.args.ignores now s)
     (ap (λ (ps : List Point). record_resumed ps c.in-Record.reader [] (Some c.args.number)) (sym (points ∙ stands.table)) ∙ c.in-Ok.ensures.sample)))
     (c.with_record.ensures.closes now held)
 
 pub returns-in-Err-clause-closes : goal.returns-in-Err-clause-closes
-unfolding resumed Stands
+unfolding block_resumed Stands
 returns-in-Err-clause-closes c h stands =
     let now : History = record h { header = c.args.block.now.header } in
     let points : c.self.inside.points ≡ c.args.self.now.points = ap (λ (k : Keeping). k.points) c.self.view_is in
     subst (λ (s : State). Closes (Err c.in-Err.fault) (resumed_by c.args.ignores now s [] (Some c.args.number))) (sym c.in-Record.is)
     (told_closes c.in-Err.fault _ (told_at c.in-Err.fault (record_resumed now.table c.in-Record.reader [] (Some c.args.number)) (λ s. with_record c.args.ignores now s)
-    (subst (λ (ps : List Point). Told c.in-Err.fault (record_resumed ps c.in-Record.reader [] (Some c.args.number))) (points ∙ stands.table) c.in-Err.ensures.sample)))
+    (subst (λ (ps : List Point). FaultAgrees c.in-Err.fault (record_resumed ps c.in-Record.reader [] (Some c.args.number))) (points ∙ stands.table) c.in-Err.ensures.sample)))

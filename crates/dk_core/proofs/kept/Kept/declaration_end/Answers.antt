@@ -1,9 +1,9 @@
 use Rattle.std.proofs.Common.{◌≡◌, ◌∙◌, [], ap, subst, sym, rules, Some, Result, Err}
 use Rattle.dk_base.specs.Reading.{LineFault, ◌>>=◌}
-use Rattle.dk_decl.specs.Blocks.{resumed as decl_resumed}
+use Rattle.dk_decl.specs.Blocks.{decl_resumed}
 use Rattle.dk_decl.specs.declared.decls.PointDecl.{PointDecl}
 use Rattle.dk_core.specs.History.{Taken, with_declaration}
-use Rattle.dk_core.specs.Standing.{Closes, Fits, StateFits, paired, resumed_by}
+use Rattle.dk_core.specs.Standing.{Closes, Fits, StateFits, left_with_answer, resumed_by}
 use Rattle.dk_core.specs.declared.block.State.{State}
 use Rattle.dk_core.specs.declared.block.State.TheVariants as state
 use Rattle.dk_core.proofs.Fronting.{told_at, told_closes}
@@ -18,7 +18,7 @@ with_declaration-requires c =
 pub returns-in-Ok-clause-closes : goal.returns-in-Ok-clause-closes
 returns-in-Ok-clause-closes c ignores h stands =
     let is : c.args.block.now.state ≡ state.Declaration c.in-Declaration.line c.in-Declaration.reader = search rules in
-    subst (λ (r : Result Taken LineFault). Closes (paired c.with_declaration.new.self c.with_declaration.result) r)
+    subst (λ (r : Result Taken LineFault). Closes (left_with_answer c.with_declaration.new.self c.with_declaration.result) r)
     (sym (ap (λ (s : State). resumed_by ignores h s [] (Some c.args.number)) is
     ∙ ap (λ (r : Result PointDecl LineFault). r >>= λ d. with_declaration h c.in-Declaration.line d) (c.in-Ok.ensures c.args.number)))
     (c.with_declaration.ensures.closes h stands)

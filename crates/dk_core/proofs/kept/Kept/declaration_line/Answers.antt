@@ -1,16 +1,16 @@
 use Rattle.std.proofs.Common.{◌≡◌, ◌∙◌, ap, ◌∷◌, rules, subst, Result, Err, Some}
 use Rattle.dk_base.specs.Reading.{Line, LineFault, ◌>>=◌}
-use Rattle.dk_decl.specs.Blocks.{resumed as decl_resumed}
+use Rattle.dk_decl.specs.Blocks.{decl_resumed}
 use Rattle.dk_decl.specs.declared.decls.PointDecl.{PointDecl}
 use Rattle.dk_core.specs.History.{History, where_it_ends, with_declaration}
-use Rattle.dk_core.specs.Standing.{Fits, StateFits, resumed, resumed_by}
+use Rattle.dk_core.specs.Standing.{Fits, StateFits, block_resumed, resumed_by}
 use Rattle.dk_core.specs.declared.block.State.{State}
 use Rattle.dk_core.specs.declared.block.State.TheVariants as state
 use Rattle.dk_core.proofs.Fronting.{goes_as, told_then}
 use Rattle.dk_core.proofs.kept.Kept.declaration_line.Goals as goal
 
 pub returns-in-Ok-clause-goes_on : goal.returns-in-Ok-clause-goes_on
-unfolding resumed
+unfolding block_resumed
 returns-in-Ok-clause-goes_on c ignores h ls close =
     let now : History = record h { header = c.args.block.now.header } in
     let line : Line = record { number = c.args.number; bytes = c.args.bytes.now } in
@@ -26,7 +26,7 @@ returns-in-Ok-clause-fits c ls close d ends =
     subst (λ (s : State). StateFits c.args.self.now.points s) is c.requires.fits (line ∷ ls) close d (c.in-Ok.ensures ls (Some close) ∙ ends)
 
 pub returns-in-Declaration-clause-goes_on : goal.returns-in-Declaration-clause-goes_on
-unfolding resumed
+unfolding block_resumed
 returns-in-Declaration-clause-goes_on c ignores h =
     let now : History = record h { header = c.args.block.now.header } in
     let line : Line = record { number = c.args.number; bytes = c.args.bytes.now } in

@@ -1,7 +1,7 @@
 use Rattle.std.proofs.Common.{◌≡◌, ◌∙◌, sym, true, false}
 use Rattle.dk_base.specs.Reading.{Line}
 use Rattle.dk_core.specs.History.{History, is_declaration, is_list_of_implementors}
-use Rattle.dk_core.specs.Standing.{Fits, carried, resumed}
+use Rattle.dk_core.specs.Standing.{Fits, block_resumed, left_behind}
 use Rattle.dk_core.proofs.Fronting.{declares, lists, samples, goes_as}
 use Rattle.dk_core.proofs.kept.Kept.first_line.Goals as goal
 
@@ -10,10 +10,10 @@ returns-then-is_declaration-clause-goes_on c ignores h stands =
     let now : History = record h { header = c.args.block.now.header } in
     let first : Line = record { number = c.args.number; bytes = c.args.bytes.now } in
     let is : is_declaration c.args.bytes.now ≡ true = sym c.is_declaration.ensures ∙ c.if-is_declaration.true in
-    goes_as ignores h (carried c.begun_declaration.new.block c.begun_declaration.result) _ _ (λ ls close. declares ignores now first ls close is) (c.begun_declaration.ensures.goes_on ignores h)
+    goes_as ignores h (left_behind c.begun_declaration.new.block c.begun_declaration.result) _ _ (λ ls close. declares ignores now first ls close is) (c.begun_declaration.ensures.goes_on ignores h)
 
 pub returns-then-is_list_of_implementors-clause-goes_on : goal.returns-then-is_list_of_implementors-clause-goes_on
-unfolding resumed
+unfolding block_resumed
 returns-then-is_list_of_implementors-clause-goes_on c ignores h stands ls close =
     let now : History = record h { header = c.args.block.now.header } in
     let first : Line = record { number = c.args.number; bytes = c.args.bytes.now } in
@@ -31,4 +31,4 @@ returns-clause-goes_on c ignores h stands =
     let first : Line = record { number = c.args.number; bytes = c.args.bytes.now } in
     let is : is_declaration c.args.bytes.now ≡ false = sym c.is_declaration.ensures ∙ c.if-is_declaration.false in
     let list : is_list_of_implementors c.args.bytes.now ≡ false = sym c.is_list_of_implementors.ensures ∙ c.if-is_list_of_implementors.false in
-    goes_as ignores h (carried c.begun_record.new.block c.begun_record.result) _ _ (λ ls close. samples ignores now first ls close is list) (c.begun_record.ensures.goes_on ignores h stands)
+    goes_as ignores h (left_behind c.begun_record.new.block c.begun_record.result) _ _ (λ ls close. samples ignores now first ls close is list) (c.begun_record.ensures.goes_on ignores h stands)

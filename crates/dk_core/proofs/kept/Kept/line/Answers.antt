@@ -7,7 +7,7 @@ use Rattle.dk_core.specs.Fitting.{ReadsFitting}
 use Rattle.dk_core.specs.Keeping.{Keeping}
 use Rattle.dk_base.specs.Reading.{Line}
 use Rattle.dk_core.specs.History.{History}
-use Rattle.dk_core.specs.Standing.{Fits, Stands, StateFits, carried, resumed, resumed_by}
+use Rattle.dk_core.specs.Standing.{Fits, Stands, StateFits, block_resumed, left_behind, resumed_by}
 use Rattle.dk_core.specs.declared.block.State.{State}
 use Rattle.dk_core.proofs.Fronting.{goes_as, record_goes}
 use Rattle.dk_core.proofs.kept.Kept.line.Goals as goal
@@ -36,18 +36,18 @@ returns-in-Record-clause-fits c =
     (subst (λ (ps : List Point). ReadsFitting ps c.in-Record.reader) (sym points) fits.1) c.line.ensures.goes_on)
 
 pub returns-in-Front-clause-goes_on : goal.returns-in-Front-clause-goes_on
-unfolding resumed
+unfolding block_resumed
 returns-in-Front-clause-goes_on c ignores h stands =
     let now : History = record h { header = c.args.block.now.header } in
     let line : Line = record { number = c.args.number; bytes = c.args.bytes.now } in
-    goes_as ignores h (carried c.front_line.new.block c.front_line.result) _ _ (λ ls close. ap (λ (s : State). resumed_by ignores now s (line ∷ ls) close) c.in-Front.is)
+    goes_as ignores h (left_behind c.front_line.new.block c.front_line.result) _ _ (λ ls close. ap (λ (s : State). resumed_by ignores now s (line ∷ ls) close) c.in-Front.is)
     (c.front_line.ensures.goes_on ignores h stands)
 
 pub returns-in-Declaration-clause-goes_on : goal.returns-in-Declaration-clause-goes_on
 returns-in-Declaration-clause-goes_on c ignores h stands = c.declaration_line.ensures.goes_on ignores h
 
 pub returns-in-Implementors-clause-goes_on : goal.returns-in-Implementors-clause-goes_on
-unfolding resumed
+unfolding block_resumed
 returns-in-Implementors-clause-goes_on c ignores h stands ls close =
     let now : History = record h { header = c.args.block.now.header } in
     let line : Line = record { number = c.args.number; bytes = c.args.bytes.now } in

@@ -8,7 +8,7 @@ use Rattle.dk_core.proofs.Recording.{base_given, engine_derived, fed_with, got, 
 use Rattle.dk_core.specs.Fitting.{FitAt}
 use Rattle.dk_core.specs.History.{with_record}
 use Rattle.dk_core.specs.Keeping.{Keeping}
-use Rattle.dk_core.specs.Standing.{Closes, Stands, paired}
+use Rattle.dk_core.specs.Standing.{Closes, Stands, left_with_answer}
 use Rattle.dk_core.proofs.kept.Kept.with_record.Goals as goal
 use Rattle.dk_core.proofs.kept.Kept.with_record.Goals.{in-Ok-feed, in-Err-feed}
 
@@ -48,7 +48,7 @@ returns-after-feed-clause-closes c h stands =
     let within : s.point < length k.points = omega (arith, c.requires.within, ap length points) in
     let at : slice_get k.engines s.point ≡ Some c.index_mut.result.now =
     got k.engines s.point c.index_mut.result.now (omega (arith, within, c.self.invariant.engines.long)) c.index_mut.ensures.value in
-    let P : Result Bool BlockFault → Type 0 = λ r. Closes (paired (fed_with k s.point c.base_values.new.calls c.feed.new.engine) r) (with_record c.args.ignores h s) in
+    let P : Result Bool BlockFault → Type 0 = λ r. Closes (left_with_answer (fed_with k s.point c.base_values.new.calls c.feed.new.engine) r) (with_record c.args.ignores h s) in
     elim c.match-feed.branch [
       | in-Ok-feed w ↦ subst P (sym w.result-is)
           (record_closes c.args.ignores k s (values_of c.in-Ok.base.now) c.base_values.new.calls c.index_mut.result.now c.feed.new.engine h c.self.invariant within at
@@ -63,6 +63,6 @@ returns-in-Err-clause-closes c h stands =
     let s : Sample = shown c.args.sample.now in
     let own : Stands k h = subst (λ (x : Keeping). Stands x h) (sym c.self.view_is) stands in
     let P : Result Bool BlockFault → Type 0 =
-    λ r. Closes (paired (record { points = k.points; header = k.header; calls = c.base_values.new.calls; grammar = k.grammar; engines = k.engines }) r) (with_record c.args.ignores h s) in
+    λ r. Closes (left_with_answer (record { points = k.points; header = k.header; calls = c.base_values.new.calls; grammar = k.grammar; engines = k.engines }) r) (with_record c.args.ignores h s) in
     subst P (sym c.or_left_out.ensures)
     (record_refused c.args.ignores k s c.base_values.new.calls c.in-Err.fault h (c.in-Err.ensures.values h.calls own.calls) c.in-Err.ensures.err own)

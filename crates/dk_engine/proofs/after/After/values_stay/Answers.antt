@@ -9,7 +9,7 @@ use Rattle.dk_forms.specs.declared.states.State.{State}
 use Rattle.dk_rows.specs.Meanings.{state_of}
 use Rattle.dk_template.specs.Joins.{joined}
 use Rattle.dk_template.specs.Rows.{IsTuple}
-use Rattle.dk_template.specs.Templates.{form_of, kinds_of}
+use Rattle.dk_template.specs.Templates.{form_of, role_kinds}
 use Rattle.dk_engine.specs.Levels.{OneMore}
 use Rattle.dk_engine.proofs.after.After.values_stay.Goals as goal
 
@@ -18,7 +18,7 @@ tuple_stays-requires-clause-tuple c whole =
     let o : OneMore = c.args.self.now in
     let is : IsSample o.whole.infos o.sample = c.requires.sampled in
     let same : values_of c.args.tuple.now ≡ tuple_in c.args.vars.now o.sample = c.requires.tuple in
-    subst (IsTuple (kinds_of c.args.row)) (sym same) (is_tuple o.whole.infos o.sample is c.args.row c.args.vars.now c.requires.vars (ap is_whole (sym same) ∙ whole))
+    subst (IsTuple (role_kinds c.args.row)) (sym same) (is_tuple o.whole.infos o.sample is c.args.row c.args.vars.now c.requires.vars (ap is_whole (sym same) ∙ whole))
 
 pub returns : goal.returns
 returns c stays =

@@ -10,7 +10,7 @@ use Rattle.dk_forms.specs.declared.states.State.{State}
 use Rattle.dk_rows.specs.Meanings.{state_of}
 use Rattle.dk_template.specs.Joins.{joined}
 use Rattle.dk_template.specs.Rows.{IsTuple}
-use Rattle.dk_template.specs.Templates.{form_of, kinds_of}
+use Rattle.dk_template.specs.Templates.{form_of, role_kinds}
 use Rattle.dk_engine.specs.Feeding.{with_sample}
 use Rattle.dk_engine.specs.Levels.{OneMore}
 use Rattle.dk_engine.proofs.after.After.with_values.Goals as goal
@@ -20,7 +20,7 @@ with_tuple-requires-clause-tuple c whole =
     let o : OneMore = c.args.self.now in
     let is : IsSample o.whole.infos o.sample = subst (λ (a : OneMore). IsSample a.whole.infos a.sample) c.self.view_is c.self.invariant in
     let same : values_of c.args.tuple.now ≡ tuple_in c.args.vars.now o.sample = c.requires.tuple in
-    subst (IsTuple (kinds_of c.args.row)) (sym same) (is_tuple o.whole.infos o.sample is c.args.row c.args.vars.now c.requires.vars (ap is_whole (sym same) ∙ whole))
+    subst (IsTuple (role_kinds c.args.row)) (sym same) (is_tuple o.whole.infos o.sample is c.args.row c.args.vars.now c.requires.vars (ap is_whole (sym same) ∙ whole))
 
 pub returns-clause-state : goal.returns-clause-state
 returns-clause-state c =

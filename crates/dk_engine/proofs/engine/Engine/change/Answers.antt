@@ -4,7 +4,7 @@ use Rattle.dk_base.specs.Values.{values_of}
 use Rattle.dk_classes.specs.Leaders.{own_leaders}
 use Rattle.dk_fits.specs.Laws.{IsSample}
 use Rattle.dk_presence.specs.Patterns.{capped, present_in}
-use Rattle.dk_presence.specs.Steps.{added, refined}
+use Rattle.dk_presence.specs.Steps.{refined, with_sample_of}
 use Rattle.dk_presence.specs.declared.held.Held.{Held}
 use Rattle.dk_engine.proofs.Emptied.{parts, patterns_out, same_parts}
 use Rattle.dk_engine.proofs.Leaving.{left_formed}
@@ -35,11 +35,11 @@ invariant_of-self-2 c =
     let changes : AreChanges made e.kept.slots c.args.changes.all =
     subst (λ (w : Whole). AreChanges (outcome asked (read_after w.kept sample) sample) w.kept.slots c.args.changes.all) (sym c.self.view_is) c.requires.changes in
     let number : c.saturating_add-self-inside.result ≡ capped (e.kept.samples + 1) = search rules in
-    let held : c.in_ok-held.held ≡ added (present_in (own_leaders e.kept.leaders) sample) (map (refined []) e.kept.held) = search rules in
+    let held : c.in_ok-held.held ≡ with_sample_of (present_in (own_leaders e.kept.leaders) sample) (map (refined []) e.kept.held) = search rules in
     let was : c.replace-slots.result ≡ e.kept.slots = c.replace-slots.ensures.value in
     let slots : c.changed.result ≡ left = c.changed.ensures made (subst (λ (ss : List Slot). AreChanges made ss c.args.changes.all) (sym was) changes) ∙ ap (left_of made) was in (
       c.self.invariant.0,
       subst (CanBeFed e.grammar e.infos)
-          (sym (same_parts e.kept.leaders e.kept.known c.saturating_add-self-inside.result (capped (e.kept.samples + 1)) c.in_ok-held.held (added (present_in (own_leaders e.kept.leaders) sample) (map (refined []) e.kept.held)) c.changed.result left number held slots))
+          (sym (same_parts e.kept.leaders e.kept.known c.saturating_add-self-inside.result (capped (e.kept.samples + 1)) c.in_ok-held.held (with_sample_of (present_in (own_leaders e.kept.leaders) sample) (map (refined []) e.kept.held)) c.changed.result left number held slots))
           (can_be_fed_after e.grammar e.infos c.self.invariant.0 e.kept c.self.invariant.1 sample sampled now turned left (left_formed e.grammar e.infos e.kept c.self.invariant.1 sample sampled asked (read_after e.kept sample))),
     )

@@ -5,7 +5,7 @@ use Rattle.dk_base.specs.declared.kinds.VarId.{VarId}
 use Rattle.dk_classes.specs.Leaders.{own_leaders}
 use Rattle.dk_fits.specs.Laws.{IsSample}
 use Rattle.dk_presence.specs.Patterns.{capped, present_in}
-use Rattle.dk_presence.specs.Steps.{AreUnheld, added, refined}
+use Rattle.dk_presence.specs.Steps.{AreUnheld, refined, with_sample_of}
 use Rattle.dk_presence.specs.declared.held.Held.{Held}
 use Rattle.dk_engine.proofs.Emptied.{parts, patterns_out, same_parts}
 use Rattle.dk_engine.proofs.StillFed.{can_be_fed_after}
@@ -38,7 +38,7 @@ invariant_of-self-2 c =
     let turned : IsTurned e.kept sample now = subst (λ (w : Whole). IsTurned w.kept sample now) (sym c.self.view_is) c.requires.turned in
     let sampled : IsSample e.infos sample = subst (λ (w : Whole). IsSample w.infos sample) (sym c.self.view_is) c.requires.sampled in
     let formed : AreFormed e.grammar e.infos now.leaders c.args.slots = subst (λ (w : Whole). AreFormed w.grammar w.infos now.leaders c.args.slots) (sym c.self.view_is) c.requires.formed in
-    let more = added (present_in (own_leaders now.leaders) sample) (map (refined now.new) e.kept.held) in
+    let more = with_sample_of (present_in (own_leaders now.leaders) sample) (map (refined now.new) e.kept.held) in
     let number : c.saturating_add.result ≡ capped (e.kept.samples + 1) = search rules in
     let held : c.in_ok-held.held ≡ more = search rules in (
       c.self.invariant.0,

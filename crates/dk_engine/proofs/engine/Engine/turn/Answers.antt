@@ -3,12 +3,12 @@ use Rattle.std.proofs.Common.{rules, subst, sym}
 use Rattle.dk_base.specs.declared.kinds.VarId.{VarId}
 use Rattle.dk_classes.proofs.OwnLeaders.{own_ascend}
 use Rattle.dk_constants.specs.Known.{known_at}
-use Rattle.dk_samples.specs.Leaders.{Ascend}
+use Rattle.dk_samples.specs.Leaders.{VarsAscend}
 use Rattle.dk_engine.proofs.Turned.{unknown}
 use Rattle.dk_engine.proofs.engine.Engine.turn.Goals as goal
 
 pub first-requires : goal.first-requires
-first-requires c = subst Ascend (sym c.leaders-then-self-eq0.ensures.all) (own_ascend c.in_ok-leaders.leaders)
+first-requires c = subst VarsAscend (sym c.leaders-then-self-eq0.ensures.all) (own_ascend c.in_ok-leaders.leaders)
 
 pub feed_with-requires-clause-unknown : goal.feed_with-requires-clause-unknown
 feed_with-requires-clause-unknown c =

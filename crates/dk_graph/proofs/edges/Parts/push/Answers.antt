@@ -1,7 +1,7 @@
 use Rattle.std.proofs.Common.{◌≡◌, ◌∙◌, ◌++◌, ◌∷◌, [], ◌<◌, List, ℕ, None, length, map, filter_map, sym, ap, subst, arith, refl}
 use Rattle.std.specs.Prelude.{Result, Ok, Err, OnOk}
 use Rattle.dk_graph.specs.Names.{place_of}
-use Rattle.dk_graph.specs.Graphs.{names, edge_of, links_of}
+use Rattle.dk_graph.specs.Graphs.{node_names, edge_of, links_to_parents}
 use Rattle.dk_graph.specs.Kept.{IsJoined, waited}
 use Rattle.dk_graph.specs.Notes.{noted_under}
 use Rattle.dk_graph.specs.Raising.{ParentsBelow}
@@ -18,14 +18,14 @@ on_ok (Err e) f h = tt
 
 -- the points with what is kept beside them, and the new point, as the code meets them
 module _ (self nodes : List Node) (n : Node) (all : List (List ℕ)) (waiting : List (List ℕ × List Waiting)) (from into : List (List Edge))
-    (view : nodes ≡ self) (joined : IsJoined nodes all waiting from into) (new : place_of (names self) n.name ≡ None) (room : length self < 65535)
+    (view : nodes ≡ self) (joined : IsJoined nodes all waiting from into) (new : place_of (node_names self) n.name ≡ None) (room : length self < 65535)
     (place : ℕ) (place-is : place ≡ length nodes) (name : List ℕ) (name-is : name ≡ n.name) (found : List Waiting) (found-is : found ≡ noted_under waiting name)
     (children : List Edge) (came : children ≡ map (edge_to (record { 0 = place })) found) where
-  kept : IsJoined nodes (names nodes) waiting from into
+  kept : IsJoined nodes (node_names nodes) waiting from into
   kept = subst (λ a. IsJoined nodes a waiting from into) joined.named joined
 
-  none : place_of (names nodes) n.name ≡ None
-  none = subst (λ ns. place_of (names ns) n.name ≡ None) (sym view) new
+  none : place_of (node_names nodes) n.name ≡ None
+  none = subst (λ ns. place_of (node_names ns) n.name ≡ None) (sym view) new
 
   few : length nodes < 65535
   few = omega (arith, room, ap length view)
@@ -37,17 +37,17 @@ module _ (self nodes : List Node) (n : Node) (all : List (List ℕ)) (waiting : 
   children-of es is = subst (ChildrenBelow (length from)) (sym is) (children-below nodes n waiting from into kept none few children came-is)
 
   module _ (mine : List Edge) (start : List Edge) (start-is : start ≡ []) (all' : List (List ℕ)) (all-is : all' ≡ all ++ n.name ∷ [])
-      (links : List (List ℕ)) (links-are : links ≡ n.links) (is : mine ≡ start ++ filter_map (edge_of all') (links_of place links)) where
-    names-are : all' ≡ names nodes ++ n.name ∷ []
+      (links : List (List ℕ)) (links-are : links ≡ n.links) (is : mine ≡ start ++ filter_map (edge_of all') (links_to_parents place links)) where
+    names-are : all' ≡ node_names nodes ++ n.name ∷ []
     names-are = all-is ∙ ap (λ a. a ++ n.name ∷ []) joined.named
 
-    mine-is : mine ≡ filter_map (edge_of (names nodes ++ n.name ∷ [])) (links_of (length nodes) n.links)
+    mine-is : mine ≡ filter_map (edge_of (node_names nodes ++ n.name ∷ [])) (links_to_parents (length nodes) n.links)
     mine-is =
         is
-        ∙ ap (λ s. s ++ filter_map (edge_of all') (links_of place links)) start-is
-        ∙ ap (λ a. filter_map (edge_of a) (links_of place links)) names-are
-        ∙ ap (λ k. filter_map (edge_of (names nodes ++ n.name ∷ [])) (links_of k links)) place-is
-        ∙ ap (λ ls. filter_map (edge_of (names nodes ++ n.name ∷ [])) (links_of (length nodes) ls)) links-are
+        ∙ ap (λ s. s ++ filter_map (edge_of all') (links_to_parents place links)) start-is
+        ∙ ap (λ a. filter_map (edge_of a) (links_to_parents place links)) names-are
+        ∙ ap (λ k. filter_map (edge_of (node_names nodes ++ n.name ∷ [])) (links_to_parents k links)) place-is
+        ∙ ap (λ ls. filter_map (edge_of (node_names nodes ++ n.name ∷ [])) (links_to_parents (length nodes) ls)) links-are
 
     parents-of : (es : List Edge) (rows : List (List Edge)) → es ≡ mine → rows ≡ into ++ children ∷ [] → ParentsBelow (length rows) es
     parents-of es rows es-are rows-are =
@@ -55,14 +55,14 @@ module _ (self nodes : List Node) (n : Node) (all : List (List ℕ)) (waiting : 
         (subst (ParentsBelow (length (into ++ children ∷ []))) (sym es-are) (parents-below nodes n waiting from into kept none few children came-is mine mine-is))
 
     all-kept : (nodes' : List Node) (notes : List (List ℕ × List Waiting)) (from' into' : List (List Edge))
-        → nodes' ≡ nodes ++ n ∷ [] → notes ≡ waited all' (links_of place links) waiting
+        → nodes' ≡ nodes ++ n ∷ [] → notes ≡ waited all' (links_to_parents place links) waiting
         → from' ≡ inserted from children ++ mine ∷ [] → into' ≡ spread (into ++ children ∷ []) mine → IsJoined nodes' all' notes from' into'
     all-kept nodes' notes from' into' a b c d =
         joined-as nodes n waiting from into kept none few children came-is mine mine-is nodes' all' notes from' into' a names-are
         (b
-        ∙ ap (λ x. waited x (links_of place links) waiting) names-are
-        ∙ ap (λ k. waited (names nodes ++ n.name ∷ []) (links_of k links) waiting) place-is
-        ∙ ap (λ ls. waited (names nodes ++ n.name ∷ []) (links_of (length nodes) ls) waiting) links-are)
+        ∙ ap (λ x. waited x (links_to_parents place links) waiting) names-are
+        ∙ ap (λ k. waited (node_names nodes ++ n.name ∷ []) (links_to_parents k links) waiting) place-is
+        ∙ ap (λ ls. waited (node_names nodes ++ n.name ∷ []) (links_to_parents (length nodes) ls) waiting) links-are)
         c d
 
 pub insert_by_child-requires : goal.insert_by_child-requires

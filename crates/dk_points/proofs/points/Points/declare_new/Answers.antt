@@ -4,7 +4,7 @@ use Rattle.dk_graph.specs.Graphs.{has_cycle}
 use Rattle.dk_points.proofs.Declarations.{judged-told, new-added, new-cyclic, one-added}
 use Rattle.dk_points.specs.Declaring.{at_line}
 use Rattle.dk_points.specs.Links.{nodes}
-use Rattle.dk_points.specs.Table.{added}
+use Rattle.dk_points.specs.Table.{added_points}
 use Rattle.dk_points.proofs.points.Points.declare_new.Goals as goal
 
 pub returns-in_err-own : goal.returns-in_err-own
@@ -22,12 +22,12 @@ returns-in-None c =
     let told = rw (c.in-None.is) at c.in_ok-with_added.ensures in
     let own = c.in_ok-own.ensures in
     rw (c.refused.ensures) (ap (at_line c.args.line)
-    (new-cyclic c.args.self c.args.decl own.2 own.3 (ap (λ d. has_cycle (nodes (c.args.self ++ added c.args.self d))) (sym own.0) ∙ told)))
+    (new-cyclic c.args.self c.args.decl own.2 own.3 (ap (λ d. has_cycle (nodes (c.args.self ++ added_points c.args.self d))) (sym own.0) ∙ told)))
 
 pub returns-in-Some : goal.returns-in-Some
 returns-in-Some c =
     let told = rw (c.in-Some.is) at c.in_ok-with_added.ensures in
     let own = c.in_ok-own.ensures in
     ap (at_line c.args.line)
-    (new-added c.args.self c.args.decl own.2 own.3 (ap (λ d. has_cycle (nodes (c.args.self ++ added c.args.self d))) (sym own.0) ∙ told.1) c.in-Some.points (c.len-last.result - 1)
-    (told.0 ∙ ap (λ d. c.args.self ++ added c.args.self d) own.0) (ap (λ n. n - 1) c.len-last.ensures.len))
+    (new-added c.args.self c.args.decl own.2 own.3 (ap (λ d. has_cycle (nodes (c.args.self ++ added_points c.args.self d))) (sym own.0) ∙ told.1) c.in-Some.points (c.len-last.result - 1)
+    (told.0 ∙ ap (λ d. c.args.self ++ added_points c.args.self d) own.0) (ap (λ n. n - 1) c.len-last.ensures.len))

@@ -1,5 +1,5 @@
 use Rattle.std.proofs.Common.{◌∙◌, length, slice_get, sym, ap, arith}
-use Rattle.dk_graph.specs.Graphs.{names as graph_names}
+use Rattle.dk_graph.specs.Graphs.{node_names as graph_names}
 use Rattle.dk_points.proofs.Nodes.{length-nodes, names-nodes}
 use Rattle.dk_points.specs.Links.{nodes}
 use Rattle.dk_points.proofs.points.Points.name.Goals as goal

@@ -1,7 +1,7 @@
 use Rattle.std.proofs.Common.{◌≡◌, ◌∙◌, ◌++◌, ◌∷◌, [], ap, subst, IfOk}
 use Rattle.dk_graph.specs.Names.{place_of}
 use Rattle.dk_points.proofs.MorePoints.{declared-next, declared-point-at}
-use Rattle.dk_points.specs.Kept.{Grows}
+use Rattle.dk_points.specs.Kept.{TableGrows}
 use Rattle.dk_points.specs.Table.{names}
 use Rattle.dk_points.proofs.points.Points.with_declared.Goals as goal
 
@@ -16,5 +16,5 @@ with_one-requires-clause-next c =
 
 pub returns : goal.returns
 returns c =
-    subst (λ p. IfOk c.with_one.result (λ points. Grows points (c.args.self ++ p ∷ [])))
+    subst (λ p. IfOk c.with_one.result (λ points. TableGrows points (c.args.self ++ p ∷ [])))
     (declared-point-at c.args.own c.in_ok-added.added.place c.in_ok-added.ensures.own c.in_ok-added.ensures.declared) c.with_one.ensures

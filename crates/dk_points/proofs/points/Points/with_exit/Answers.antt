@@ -1,7 +1,7 @@
 use Rattle.std.proofs.Common.{◌≡◌, ◌∙◌, ◌++◌, ◌∷◌, [], Some, map, sym, ap, subst, IfOk}
 use Rattle.dk_points.proofs.Exits.{combined-differs, exit-next, exit-point, makes-new, makes-subexit, subexit-next}
 use Rattle.dk_points.proofs.MorePoints.{declared-point-at}
-use Rattle.dk_points.specs.Kept.{Grows, point_at}
+use Rattle.dk_points.specs.Kept.{TableGrows, point_of_place}
 use Rattle.dk_points.specs.KeptEdges.{kept_by}
 use Rattle.dk_points.specs.Next.{IsNext}
 use Rattle.dk_points.specs.declared.places.Own.{Own}

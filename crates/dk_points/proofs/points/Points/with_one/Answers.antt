@@ -1,9 +1,9 @@
 use Rattle.std.proofs.Common.{◌∙◌, length, sym, ap, arith}
-use Rattle.dk_graph.specs.Graphs.{has_cycle, names as graph_names}
+use Rattle.dk_graph.specs.Graphs.{has_cycle, node_names as graph_names}
 use Rattle.dk_graph.specs.Names.{place_of}
 use Rattle.dk_points.proofs.MorePoints.{next-more}
 use Rattle.dk_points.proofs.Nodes.{length-nodes, names-nodes}
-use Rattle.dk_points.specs.Kept.{seen}
+use Rattle.dk_points.specs.Kept.{points_of_places}
 use Rattle.dk_points.specs.Links.{nodes}
 use Rattle.dk_points.specs.Table.{names}
 use Rattle.dk_points.proofs.points.Points.with_one.Goals as goal
@@ -26,7 +26,7 @@ pub returns-in-Some : goal.returns-in-Some
 returns-in-Some c =
     let grown = next-more c.args.self c.self.inside.graph c.self.inside.places c.self.view_is c.self.invariant c.requires.few c.args.added c.requires.next in
     let told = rw (c.in-Some.is) at c.in_ok-with_one.ensures in
-    (ap seen c.in_ok-push.ensures.ok ∙ grown.sees, ap has_cycle (sym grown.are_nodes) ∙ told.1)
+    (ap points_of_places c.in_ok-push.ensures.ok ∙ grown.sees, ap has_cycle (sym grown.are_nodes) ∙ told.1)
 
 pub invariant_of-result : goal.invariant_of-result
 invariant_of-result c =

@@ -1,7 +1,7 @@
 use Rattle.std.proofs.Common.{◌≡◌, ap, sym, subst, ◌∙◌, [], ◌∷◌, ◌++◌, Vec, Global, position, Some, None}
 use Rattle.dk_base.specs.declared.kinds.VarId.{VarId}
 use Rattle.dk_presence.specs.Patterns.{AreCounted, AreHeld, held_patterns, same_vars}
-use Rattle.dk_presence.specs.Steps.{added}
+use Rattle.dk_presence.specs.Steps.{with_sample_of}
 use Rattle.dk_presence.proofs.Adding.{counted_added}
 use Rattle.dk_presence.proofs.Placing.{added_found, added_new, held_added, keys_new, pointwise_same}
 use Rattle.dk_presence.proofs.Refining.{no_held}
@@ -13,7 +13,7 @@ invariant_of-result c =
     let present = c.args.present.now in
     let at : position (same_vars present) (held_patterns held) ≡ Some c.in-Some.place = ap (position (same_vars present)) (sym c.self.invariant.1) ∙ (sym c.place_of.ensures ∙ c.in-Some.is) in
     let found = added_found present held c.in-Some.place at in
-    let is : c.with_one_more.result.items ≡ added present held = c.with_one_more.ensures no_held ∙ sym (found.1 no_held) in
+    let is : c.with_one_more.result.items ≡ with_sample_of present held = c.with_one_more.ensures no_held ∙ sym (found.1 no_held) in
     (subst AreHeld (sym is) (held_added present held c.requires c.self.invariant.0), c.self.invariant.1 ∙ sym (ap held_patterns is ∙ found.2))
 
 pub returns-in-Some-clause-exact : goal.returns-in-Some-clause-exact
@@ -22,7 +22,7 @@ returns-in-Some-clause-exact c =
     let present = c.args.present.now in
     let at : position (same_vars present) (held_patterns held) ≡ Some c.in-Some.place = ap (position (same_vars present)) (sym c.self.invariant.1) ∙ (sym c.place_of.ensures ∙ c.in-Some.is) in
     let found = added_found present held c.in-Some.place at in
-    c.with_one_more.ensures no_held ∙ (sym (found.1 no_held) ∙ ap (added present) c.self.view_is)
+    c.with_one_more.ensures no_held ∙ (sym (found.1 no_held) ∙ ap (with_sample_of present) c.self.view_is)
 
 pub returns-in-Some-clause-stands : goal.returns-in-Some-clause-stands
 returns-in-Some-clause-stands c =
@@ -30,7 +30,7 @@ returns-in-Some-clause-stands c =
     let present = c.args.present.now in
     let at : position (same_vars present) (held_patterns held) ≡ Some c.in-Some.place = ap (position (same_vars present)) (sym c.self.invariant.1) ∙ (sym c.place_of.ensures ∙ c.in-Some.is) in
     let found = added_found present held c.in-Some.place at in
-    let is = c.with_one_more.ensures no_held ∙ (sym (found.1 no_held) ∙ ap (added present) c.self.view_is) in
+    let is = c.with_one_more.ensures no_held ∙ (sym (found.1 no_held) ∙ ap (with_sample_of present) c.self.view_is) in
     λ patterns are. subst (AreCounted (patterns ++ present ∷ [])) (sym is) (counted_added patterns c.args.self present are)
 
 pub invariant_of-result-in-None : goal.invariant_of-result-in-None
@@ -49,12 +49,12 @@ returns-in_ok-with_pattern-in-None-clause-exact c =
     let held = c.self.inside.held.items in
     let present = c.args.present.now in
     let none : position (same_vars present) (held_patterns held) ≡ None = ap (position (same_vars present)) (sym c.self.invariant.1) ∙ (sym c.place_of.ensures ∙ c.in-None.is) in
-    c.in_ok-with_pattern-in-None.ensures ∙ (sym (added_new present held none) ∙ ap (added present) c.self.view_is)
+    c.in_ok-with_pattern-in-None.ensures ∙ (sym (added_new present held none) ∙ ap (with_sample_of present) c.self.view_is)
 
 pub returns-in_ok-with_pattern-in-None-clause-stands : goal.returns-in_ok-with_pattern-in-None-clause-stands
 returns-in_ok-with_pattern-in-None-clause-stands c =
     let held = c.self.inside.held.items in
     let present = c.args.present.now in
     let none : position (same_vars present) (held_patterns held) ≡ None = ap (position (same_vars present)) (sym c.self.invariant.1) ∙ (sym c.place_of.ensures ∙ c.in-None.is) in
-    let is = c.in_ok-with_pattern-in-None.ensures ∙ (sym (added_new present held none) ∙ ap (added present) c.self.view_is) in
+    let is = c.in_ok-with_pattern-in-None.ensures ∙ (sym (added_new present held none) ∙ ap (with_sample_of present) c.self.view_is) in
     λ patterns are. subst (AreCounted (patterns ++ present ∷ [])) (sym is) (counted_added patterns c.args.self present are)

@@ -1,6 +1,6 @@
 use Rattle.std.proofs.Common.{◌≡◌, take, fold}
 use Rattle.std.specs.Int.{int_min, int_max}
-use Rattle.dk_lanes.proofs.extremes.widened.Given as goal
+use Rattle.dk_lanes.proofs.extremes.least_and_greatest.Given as goal
 
 abbrev pub invariant-loop-x : goal.invariant-loop-x
 invariant-loop-x l = record {

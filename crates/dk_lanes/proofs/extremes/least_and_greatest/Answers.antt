@@ -1,7 +1,7 @@
 use Rattle.std.proofs.Common.{arith}
 use Rattle.std.proofs.lemmas.Int.{to_z-of_z}
 use Rattle.std.proofs.lemmas.List.Sums.{fold_more}
-use Rattle.dk_lanes.proofs.extremes.widened.Goals as goal
+use Rattle.dk_lanes.proofs.extremes.least_and_greatest.Goals as goal
 
 pub loop-x-preserved : goal.loop-x-preserved
 loop-x-preserved c = record { least = grind (arith, to_z-of_z, fold_more); greatest = grind (arith, to_z-of_z, fold_more) }

@@ -1,0 +1,27 @@
+use Rattle.std.specs.Prelude.{◌≡◌, All}
+use Rattle.std.proofs.Common.{◌∙◌, subst, sym}
+use Rattle.std.proofs.lemmas.Bool.{false≢true}
+use Rattle.std.proofs.lemmas.Slice.Eq.{bytes_eq-Decides}
+use Rattle.dk_engine.specs.Levels.{Whole}
+use Rattle.dk_hierarchy.specs.Standing.{AreEnginesOf}
+use Rattle.dk_state.specs.Spelling.{content_of}
+use Rattle.dk_state.proofs.Histories.{content_text, history_meets, loaded_stands, saves_again}
+use Rattle.dk_state.proofs.loading.load.Goals as goal
+
+pub returns-else-branch-clause-bad : goal.returns-else-branch-clause-bad
+returns-else-branch-clause-bad c e spelling =
+    let loaded = c.in_ok-loaded.ensures.read spelling.content spelling.meets spelling.text in
+    let same = saves_again spelling.content c.in_ok-loaded.loaded spelling.meets loaded ∙ spelling.text in
+    let equal = (bytes_eq-Decides _ c.args.bytes.now).1 same in
+    absurd (false≢true (sym c.if-branch.false ∙ c.in_ok-saves_to.ensures ∙ equal))
+
+pub returns-then-branch-clause-stands : goal.returns-then-branch-clause-stands
+returns-then-branch-clause-stands c g ps implicit own can text =
+    let l = c.in_ok-loaded.loaded in
+    let loaded = c.in_ok-loaded.ensures.read (content_of g ps implicit own) (history_meets g ps implicit own can) (content_text g ps implicit own ∙ text) in
+    let are = c.in_ok-loaded.ensures.engines in (
+      loaded.0,
+      loaded.1,
+      loaded.2,
+      loaded_stands g ps implicit own l.engines can (subst (λ points. AreEnginesOf points l.engines) loaded.1 are.0) (subst (λ h. All (λ (e : Whole). e.grammar ≡ h) l.engines) loaded.0 are.1) loaded.3,
+    )
