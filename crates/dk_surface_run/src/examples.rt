@@ -18,7 +18,7 @@ struct Example {
 }
 
 const USAGE: &str =
-    "usage: daikon [--min-samples N] [--every N] [--select PREFIX] [--keep-implied] [--keep-incomparable] [--keep-members] [--keep-constant] [--keep-parent] [--ignore-missing-entry] [--stats] [--generate N] [FILE]...\n";
+    "usage: daikon [--min-samples N] [--every N] [--select PREFIX] [--keep-implied] [--keep-incomparable] [--keep-members] [--keep-constant] [--keep-parent] [--ignore-missing-entry] [--stats] [--save] [--resume NAME] [--generate N] [FILE]...\n";
 
 const RULE: &[u8] = b"===========================================================================";
 
