@@ -20,3 +20,4 @@ pub mod Left
 pub mod Narrowed
 pub mod Sole
 pub mod Alone
+pub mod Listable

@@ -12,5 +12,5 @@ mod stats;
 mod sweeping;
 
 pub use options::Options;
-pub use sections::{kept_instances, push_section};
+pub use sections::{kept_alone, kept_instances, push_section};
 pub use stats::push_stats;
