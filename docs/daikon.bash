@@ -20,7 +20,7 @@ _daikon() {
         esac
         if [[ $word == -* ]]; then
             for other in --min-samples --every --select --keep-implied --keep-incomparable --keep-members --keep-constant \
-                --keep-parent --ignore-missing-entry --stats --generate --help --version --; do
+                --keep-parent --ignore-missing-entry --stats --save --resume --generate --help --version --; do
                 [[ $given == *" $other "* ]] || left+=("$other")
             done
             mapfile -t COMPREPLY < <(compgen -W "${left[*]}" -- "$word")

@@ -51,16 +51,18 @@ unfolding Stands
 has_told k h p some stands says = says ∙ ap (λ (ps : List Point). has_samples_in ps h.samples p) stands.table
 
 pub section_told : (k : Keeping) (h : History) (p : ℕ) (options : Options) (old new : List ℕ) (grammar : Grammar) → Stands k h → grammar ≡ k.grammar
-    → new ≡ old ++ section_in grammar options k.points h.samples p → new ≡ old ++ section_in k.grammar options h.table h.samples p
+    → new ≡ old ++ section_in grammar options k.points h.samples p → new ≡ old ++ section_in h.grammar options h.table h.samples p
 unfolding Stands
 section_told k h p options old new grammar stands is says =
-    says ∙ ap (λ (g : Grammar). old ++ section_in g options k.points h.samples p) is ∙ ap (λ (ps : List Point). old ++ section_in k.grammar options ps h.samples p) stands.table
+    says ∙ ap (λ (g : Grammar). old ++ section_in g options k.points h.samples p) (is ∙ stands.grammar)
+    ∙ ap (λ (ps : List Point). old ++ section_in h.grammar options ps h.samples p) stands.table
 
 pub stats_told : (k : Keeping) (h : History) (p : ℕ) (old new : List ℕ) (grammar : Grammar) → Stands k h → grammar ≡ k.grammar
-    → new ≡ old ++ stats_in grammar k.points h.samples p → new ≡ old ++ stats_in k.grammar h.table h.samples p
+    → new ≡ old ++ stats_in grammar k.points h.samples p → new ≡ old ++ stats_in h.grammar h.table h.samples p
 unfolding Stands
 stats_told k h p old new grammar stands is says =
-    says ∙ ap (λ (g : Grammar). old ++ stats_in g k.points h.samples p) is ∙ ap (λ (ps : List Point). old ++ stats_in k.grammar ps h.samples p) stands.table
+    says ∙ ap (λ (g : Grammar). old ++ stats_in g k.points h.samples p) (is ∙ stands.grammar)
+    ∙ ap (λ (ps : List Point). old ++ stats_in h.grammar ps h.samples p) stands.table
 
 -- ---- names
 
@@ -76,19 +78,19 @@ name_is ps h p name table is = ap (λ (qs : List Point). slice_index_or (names q
 pub not_selected : (selects : List ℕ → Bool) (h : History) (p : ℕ) → selects (name_of h p) ≡ false → has_section selects h p ≡ false
 not_selected selects h p off = ap (λ (b : Bool). b && has_samples h p) off
 
-pub none_written : (grammar : Grammar) (options : Options) (selects : List ℕ → Bool) (h : History) (p : ℕ) (text : List ℕ) → selects (name_of h p) ≡ false
-    → text ≡ text ++ section_of grammar options selects h p
+pub none_written : (options : Options) (selects : List ℕ → Bool) (h : History) (p : ℕ) (text : List ℕ) → selects (name_of h p) ≡ false
+    → text ≡ text ++ section_of options selects h p
 unfolding section_of
-none_written grammar options selects h p text off =
-    sym (append-nil text) ∙ ap (λ (b : Bool). text ++ (if b then section_in grammar options h.table h.samples p else [])) (sym off)
+none_written options selects h p text off =
+    sym (append-nil text) ∙ ap (λ (b : Bool). text ++ (if b then section_in h.grammar options h.table h.samples p else [])) (sym off)
 
 pub selected : (selects : List ℕ → Bool) (h : History) (p : ℕ) → selects (name_of h p) ≡ true → has_section selects h p ≡ has_samples h p
 selected selects h p on = ap (λ (b : Bool). b && has_samples h p) on
 
-pub all_written : (grammar : Grammar) (options : Options) (selects : List ℕ → Bool) (h : History) (p : ℕ) → selects (name_of h p) ≡ true
-    → section_in grammar options h.table h.samples p ≡ section_of grammar options selects h p
+pub all_written : (options : Options) (selects : List ℕ → Bool) (h : History) (p : ℕ) → selects (name_of h p) ≡ true
+    → section_in h.grammar options h.table h.samples p ≡ section_of options selects h p
 unfolding section_of
-all_written grammar options selects h p on = ap (λ (b : Bool). if b then section_in grammar options h.table h.samples p else []) (sym on)
+all_written options selects h p on = ap (λ (b : Bool). if b then section_in h.grammar options h.table h.samples p else []) (sym on)
 
 -- ---- texts of their own
 

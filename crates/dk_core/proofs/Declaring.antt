@@ -37,6 +37,7 @@ declaration_closes k ps d line x all h sound is grown stands =
         calls = stands.calls;
         many = many_samples h.table ps h.samples (more_points h.table ps extends) stands.many;
         engines = stand_grown h.table ps k.grammar k.engines all h.samples (length ps - length h.table) extends stands.many (sound.engines.long ∙ ap length stands.table) grown stands.engines;
+        grammar = stands.grammar;
       },
       declared_ok h k.points ps line d x stands.table is,
     )

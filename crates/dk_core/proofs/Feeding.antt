@@ -21,7 +21,7 @@ use Rattle.dk_points.specs.Table.{Point}
 use Rattle.dk_points.specs.Vars.{base_vars, vars_of}
 use Rattle.dk_trace.specs.Fitting.{FitKinds}
 
-vars_are_base : (ps : List Point) (p : ℕ) → All IsBaseVar (vars_of ps p)
+pub vars_are_base : (ps : List Point) (p : ℕ) → All IsBaseVar (vars_of ps p)
 unfolding vars_of
 vars_are_base ps p = by (slice_get ps p)
   where

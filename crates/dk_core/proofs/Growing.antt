@@ -21,7 +21,7 @@ use Rattle.dk_points.specs.declared.declared.Declared.{Declared}
 use Rattle.dk_points.specs.declared.declared.Declared.TheVariants.{New, Same}
 
 -- what an unless-refused gives, where it isn't refused
-taken_if : {A : Type 0} (b : Bool) (why : Why) (r : Result A Why) (x : A) → (if b then Err why else r) ≡ Ok x → r ≡ Ok x
+pub taken_if : {A : Type 0} (b : Bool) (why : Why) (r : Result A Why) (x : A) → (if b then Err why else r) ≡ Ok x → r ≡ Ok x
 taken_if true why r x e = absurd (cc (e))
 taken_if false why r x e = e
 
@@ -33,7 +33,7 @@ grown_points ps ps' x e =
     let last : Declared = New (record { 0 = length ps - 1 }) in
     ap (λ (t : List Point × Declared). t.0) (same_ok (Ok (ps, last)) (ps, last) (ps', x) refl (taken_if (has_cycle (nodes ps)) CyclicParents (Ok (ps, last)) (ps', x) e))
 
-new_points : (ps ps' : List Point) (d : PointDecl) (x : Declared) → declared_new ps d ≡ Ok (ps', x) → ps' ≡ ps ++ added_points ps d
+pub new_points : (ps ps' : List Point) (d : PointDecl) (x : Declared) → declared_new ps d ≡ Ok (ps', x) → ps' ≡ ps ++ added_points ps d
 new_points ps ps' d x e =
     grown_points (ps ++ added_points ps d) ps' x (taken_if (has_many_vars ps d) TooManyVariables _ _ (taken_if (has_many_points (ps ++ added_points ps d)) TooManyPoints _ _ e))
 
@@ -41,7 +41,7 @@ taken_same : {A : Type 0} (b : Bool) (why : Why) (r : A) (x : A) → (if b then 
 taken_same true why r x e = cc
 taken_same false why r x e = absurd (cc (e))
 
-again_points : (ps ps' : List Point) (d : PointDecl) (i : ℕ) (x : Declared) (own : Option PointDecl) → declared_again ps d i own ≡ Ok (ps', x) → ps' ≡ ps
+pub again_points : (ps ps' : List Point) (d : PointDecl) (i : ℕ) (x : Declared) (own : Option PointDecl) → declared_again ps d i own ≡ Ok (ps', x) → ps' ≡ ps
 again_points ps ps' d i x None e = absurd (cc (e))
 again_points ps ps' d i x (Some own) e = ap (λ (t : List Point × Declared). t.0) (taken_same (same_decl own d) DuplicatePoint (ps, Same (record { 0 = i })) (ps', x) e)
 
@@ -71,7 +71,7 @@ at_points : (ps ps' : List Point) (d : PointDecl) (x : Declared) (o : Option ℕ
 at_points ps ps' d x None e = (added_points ps d, new_points ps ps' d x e, added_by ps d)
 at_points ps ps' d x (Some i) e = ([], again_points ps ps' d i x (decl_at ps i) e ∙ append-nil ps, All-nil (λ (p : Point). p.decl ≡ d))
 
-not_refused : {A : Type 0} (line : ℕ) (r : Result A Why) (x : A) → at_line line r ≡ Ok x → r ≡ Ok x
+pub not_refused : {A : Type 0} (line : ℕ) (r : Result A Why) (x : A) → at_line line r ≡ Ok x → r ≡ Ok x
 not_refused line (Ok y) x e = let same : y ≡ x = cc in ap (λ z. Ok z) same
 not_refused line (Err why) x e = absurd (cc (e))
 

@@ -65,7 +65,7 @@ all_get P [] i x all at = absurd (cc at)
 all_get P (y ∷ xs) zero x all at = let same : y ≡ x = cc at in subst P same (All-head P y xs all)
 all_get P (y ∷ xs) (suc i) x all at = all_get P xs i x (All-tail P y xs all) at
 
-get_or_append : {X : Type 0} (xs ys : List X) (i : ℕ) (d : X) → i < length xs → get_or (xs ++ ys) i d ≡ get_or xs i d
+pub get_or_append : {X : Type 0} (xs ys : List X) (i : ℕ) (d : X) → i < length xs → get_or (xs ++ ys) i d ≡ get_or xs i d
 get_or_append [] ys i d there = absurd (omega arith)
 get_or_append (x ∷ xs) ys zero d there = refl
 get_or_append (x ∷ xs) ys (suc i) d there = get_or_append xs ys i d (omega arith)
@@ -75,7 +75,7 @@ get_or_none zero i d = refl
 get_or_none (suc n) zero d = refl
 get_or_none (suc n) (suc i) d = get_or_none n i d
 
-get_or_behind : {X : Type 0} (xs : List X) (n i : ℕ) (d : X) → length xs ≤ i → get_or (xs ++ replicate n d) i d ≡ d
+pub get_or_behind : {X : Type 0} (xs : List X) (n i : ℕ) (d : X) → length xs ≤ i → get_or (xs ++ replicate n d) i d ≡ d
 get_or_behind [] n i d past = get_or_none n i d
 get_or_behind (x ∷ xs) n zero d past = absurd (omega arith)
 get_or_behind (x ∷ xs) n (suc i) d past = get_or_behind xs n i d (omega arith)
@@ -243,13 +243,13 @@ pub waiting_more : (ps : List Point) (s : Sample) (old new : Calls) → FitAt ps
 waiting_more ps s old new fits more (earlier, stands, fit) = (call_of ps s ∷ earlier, more earlier stands, All-cons (CallFits ps) (call_of ps s) earlier (call_fits ps s fits) fit)
 
 -- a table with more points
+pub call_still : (ps ps' : List Point) → Extends ps ps' → (call : Call) → CallFits ps call → CallFits ps' call
+call_still ps ps' extends (enters w) h = still_fits ps ps' w.point w.values extends h
+call_still ps ps' extends (exits point n) h = tt
+call_still ps ps' extends other h = tt
+
 pub waiting_still : (ps ps' : List Point) (calls : Calls) → Extends ps ps' → WaitingFit ps calls → WaitingFit ps' calls
-waiting_still ps ps' calls extends (earlier, stands, fit) = (earlier, stands, All-weaker (CallFits ps) (CallFits ps') call_still earlier fit)
-  where
-    call_still : (call : Call) → CallFits ps call → CallFits ps' call
-    call_still (enters w) h = still_fits ps ps' w.point w.values extends h
-    call_still (exits point n) h = tt
-    call_still other h = tt
+waiting_still ps ps' calls extends (earlier, stands, fit) = (earlier, stands, All-weaker (CallFits ps) (CallFits ps') (call_still ps ps' extends) earlier fit)
 
 -- a record that is neither an exit that must match an entry, nor an entry
 pub other_call : (ps : List Point) (s : Sample) → is_some (entry_of ps s.point) ≡ false → is_entry_at ps s.point ≡ false → call_of ps s ≡ other
@@ -303,12 +303,13 @@ recorded_left h ps s fault table is =
 
 -- another header is in force
 pub with_header : (kept kept' : Kept) (h : History) (header : Header) → Stands kept h → kept'.points ≡ kept.points → kept'.header ≡ header → kept'.calls ≡ kept.calls
-    → kept'.engines ≡ kept.engines → Stands kept' (record h { header = header })
+    → kept'.engines ≡ kept.engines → kept'.grammar ≡ kept.grammar → Stands kept' (record h { header = header })
 unfolding Stands
-with_header kept kept' h header stands points is calls engines = record {
+with_header kept kept' h header stands points is calls engines grammar = record {
   table = points ∙ stands.table;
   header = is;
   calls = subst (λ (cs : Calls). CallsStandFor cs h.calls) (sym calls) stands.calls;
   many = stands.many;
   engines = subst (λ (es : List Whole). EnginesStandFor es (own_samples_of h.table h.samples)) (sym engines) stands.engines;
+  grammar = grammar ∙ stands.grammar;
 }

@@ -99,6 +99,7 @@ record_closes ignores k s base calls old new h sound within at values more fed s
         many = length-set h.samples s.point (get_or h.samples s.point [] ++ base ∷ []) ∙ stands.many;
         engines = engines_fed h.table k.engines h.samples s.point old new base (omega (arith, within, stands.many, ap length stands.table)) at
             (λ samples own. subst (λ (vars : List VarInfo). EngineStandsFor new (samples ++ values_by_form vars base ∷ [])) infos (fed samples own)) stands.engines;
+        grammar = stands.grammar;
       },
       recorded_ok ignores h k.points s base stands.table (values h.calls stands.calls),
     )
@@ -109,7 +110,7 @@ pub record_refused : (ignores : Bool) (k : Keeping) (s : Sample) (calls : Calls)
 unfolding Stands
 record_refused true k s calls (Refused line why) h told alike stands = (
   h,
-  record { table = stands.table; header = stands.header; calls = stand_alike k.calls calls h.calls alike stands.calls; many = stands.many; engines = stands.engines },
+  record { table = stands.table; header = stands.header; calls = stand_alike k.calls calls h.calls alike stands.calls; many = stands.many; engines = stands.engines; grammar = stands.grammar },
   recorded_left h k.points s _ stands.table told,
 )
 record_refused false k s calls (Refused line why) h told alike stands = recorded_told h k.points s (Refused line why) stands.table told

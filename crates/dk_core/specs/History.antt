@@ -16,6 +16,8 @@ use Rattle.dk_points.specs.Vars.{entry_of}
 use Rattle.dk_trace.specs.Records.{Sample, sample_of}
 use Rattle.dk_calls.specs.Records.{call_of, values_at_exit}
 use Rattle.dk_calls.specs.Waiting.{Call}
+use Rattle.dk_template.specs.declared.grammar.Grammar.{Grammar}
+use Rattle.dk_template.specs.declared.grammar.Grammar.TheVariants.{Two}
 use Rattle.dk_core.specs.Fronts.{Front, front_of}
 
 -- what the blocks so far come to
@@ -28,6 +30,8 @@ pub record History : Type 0 where
   pub header : Header
   -- the records of the file that is read, the latest first
   pub calls : List Call
+  -- whose rows are looked for
+  pub grammar : Grammar
 
 -- what reading a block comes to: the history with it, and whether it is a block at all
 pub record Taken : Type 0 where
@@ -123,9 +127,13 @@ effect_of ignores h ls close = front_of h.header None ls >>= λ front. after_fro
 
 -- ---- files
 
--- the history before the first file
+-- no points, by this grammar
+abbrev pub nothing_by : Grammar → History
+nothing_by grammar = record { table = []; samples = []; header = first_header; calls = []; grammar = grammar }
+
+-- the history before the first file, where no state is resumed
 unfoldable pub no_history : History
-no_history = record { table = []; samples = []; header = first_header; calls = [] }
+no_history = nothing_by Two
 
 -- what of a history goes on to the next file: no entry waits any more
 unfoldable pub file_ended : History → History

@@ -1,6 +1,7 @@
 -- cited by public clauses
 pub mod Runs
 pub mod History
+pub mod Resuming
 pub mod Sections
 pub mod Selecting
 pub mod Keeping

@@ -4,7 +4,6 @@ use Rattle.std.specs.List.{enumerate_from}
 use Rattle.dk_report.specs.Reports.{has_samples as has_samples_in, name_of as name_in, section_of as section_in}
 use Rattle.dk_report.specs.Sizes.{has_own_samples as has_own_samples_in, stats_of as stats_in}
 use Rattle.dk_report.specs.declared.options.Options.{Options}
-use Rattle.dk_template.specs.declared.grammar.Grammar.{Grammar}
 use Rattle.dk_core.specs.History.{History}
 
 abbrev pub name_of : History → ℕ → List ℕ
@@ -23,21 +22,21 @@ has_samples h p = has_samples_in h.table h.samples p
 abbrev pub has_section : (List ℕ → Bool) → History → ℕ → Bool
 has_section selects h p = selects (name_of h p) && has_samples h p
 
-unfoldable pub section_of : Grammar → Options → (List ℕ → Bool) → History → ℕ → List ℕ
-section_of grammar options selects h p = if selects (name_of h p) then section_in grammar options h.table h.samples p else []
+unfoldable pub section_of : Options → (List ℕ → Bool) → History → ℕ → List ℕ
+section_of options selects h p = if selects (name_of h p) then section_in h.grammar options h.table h.samples p else []
 
 -- the sections of all points, in the order of the table
-unfoldable pub report_of : Grammar → Options → (List ℕ → Bool) → History → List ℕ
-report_of grammar options selects h = flat_map (λ e. section_of grammar options selects h e.0) (enumerate_from 0 h.table)
+unfoldable pub report_of : Options → (List ℕ → Bool) → History → List ℕ
+report_of options selects h = flat_map (λ e. section_of options selects h e.0) (enumerate_from 0 h.table)
 
 -- ---- sizes
 abbrev pub has_own_samples : History → ℕ → Bool
 has_own_samples h p = has_own_samples_in h.samples p
 
 -- the line of a point's sizes; a point without own samples has none
-abbrev pub stats_of : Grammar → History → ℕ → List ℕ
-stats_of grammar h p = stats_in grammar h.table h.samples p
+abbrev pub stats_of : History → ℕ → List ℕ
+stats_of h p = stats_in h.grammar h.table h.samples p
 
 -- those of all points, in the order of the table
-unfoldable pub all_stats_of : Grammar → History → List ℕ
-all_stats_of grammar h = flat_map (λ e. stats_of grammar h e.0) (enumerate_from 0 h.table)
+unfoldable pub all_stats_of : History → List ℕ
+all_stats_of h = flat_map (λ e. stats_of h e.0) (enumerate_from 0 h.table)

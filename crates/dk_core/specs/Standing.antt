@@ -20,14 +20,15 @@ use Rattle.dk_core.specs.declared.block.State.TheVariants as state
 use Rattle.dk_core.specs.declared.kept.Kept.{Kept}
 use Rattle.dk_core.specs.declared.session.Session.{Session}
 
--- What a session keeps from block to block stands for a history: it has the points, the header and the entries that wait, and each
--- engine stands for its point's own samples.
+-- What a session keeps from block to block stands for a history: it has the points, the header, the entries that wait and the grammar, and
+-- each engine stands for its point's own samples.
 pub record KeepsAll (kept : Kept) (h : History) : Type 0 where
   pub table : kept.points ≡ h.table
   pub header : kept.header ≡ h.header
   pub calls : CallsStandFor kept.calls h.calls
   pub many : length h.samples ≡ length h.table
   pub engines : EnginesStandFor kept.engines (own_samples_of h.table h.samples)
+  pub grammar : kept.grammar ≡ h.grammar
 
 unfoldable pub Stands : Kept → History → Type 0
 Stands kept h = KeepsAll kept h

@@ -1,5 +1,5 @@
 // What a session keeps from block to block.
-ghost use Rattle.std.specs.Prelude.{◌≡◌, ◌<◌, ◌≤◌, ◌∷◌, ◌++◌, [], IfOk, OnErr, OnOk, Bool, List, ℕ, Option, Some, false, is_some, length, slice_get};
+ghost use Rattle.std.specs.Prelude.{◌≡◌, ◌<◌, ◌≤◌, ◌∷◌, ◌++◌, [], All, IfOk, OnErr, OnOk, Bool, List, ℕ, Option, Some, false, is_some, length, slice_get};
 ghost use Rattle.dk_base.specs.Reading.{Line};
 ghost use Rattle.dk_base.specs.Shapes.{AreWithDerived};
 ghost use Rattle.dk_base.specs.Values.{values_of};
@@ -10,15 +10,18 @@ ghost use Rattle.dk_calls.specs.Waiting.{Call};
 ghost use Rattle.dk_derive.specs.Laws.{base_of, var_kinds};
 ghost use Rattle.dk_derive.specs.Values.{values_by_form};
 ghost use Rattle.dk_hierarchy.specs.Samples.{own_samples_of};
-ghost use Rattle.dk_hierarchy.specs.Standing.{EngineStandsFor};
+ghost use Rattle.dk_decl.specs.Headers.{is_implicit};
+ghost use Rattle.dk_hierarchy.specs.Standing.{AreEnginesOf, EngineStandsFor};
 ghost use Rattle.dk_points.specs.Vars.{entry_of};
 ghost use Rattle.dk_report.specs.Reports.{section_of as section_in};
+ghost use Rattle.dk_state.specs.StateFile.{StandForHistory};
 ghost use Rattle.dk_trace.specs.Answers.{Shows};
 ghost use Rattle.dk_trace.specs.Fitting.{FitKinds};
 ghost use Rattle.dk_trace.specs.RecordsResumed.{shown};
-ghost use Rattle.dk_core.specs.Fitting.{FitAt, HasFittingConstants};
+ghost use Rattle.dk_core.specs.Fitting.{ConstantsFit, FitAt, HasFittingConstants};
 ghost use Rattle.dk_core.specs.Growing.{AreGrown};
-ghost use Rattle.dk_core.specs.History.{History, after_declaration, after_record, after_sample, base_values, effect_of, file_ended, no_history, with_declaration, with_record, without_record};
+ghost use Rattle.dk_core.specs.History.{History, after_declaration, after_record, after_sample, base_values, effect_of, file_ended, nothing_by, with_declaration, with_record, without_record};
+ghost use Rattle.dk_core.specs.Resuming.{IsStart, state_of};
 ghost use Rattle.dk_core.specs.Sections.{has_own_samples, has_samples, stats_of};
 ghost use Rattle.dk_core.specs.Refusing.{unmatched_answer};
 
@@ -33,6 +36,7 @@ use dk_engine::Engine;
 use dk_hierarchy::engine_of;
 use dk_points::Points;
 use dk_report::{Options, push_section, push_stats};
+use dk_state::{Loaded, push_saved};
 use dk_template::Grammar;
 use dk_trace::{BaseSample, RecordReader};
 use std::alloc::Global;
@@ -125,9 +129,9 @@ impl Kept {
     ghost use Rattle.dk_core.specs.Standing.{Stands, Fits, BlockGoesOn, Closes, IsDeclared, as_block, left_behind, left_with_answer, block_resumed, resumed_by};
 
     /// No points.
-    #[tactic(auto, unfolding(crate::specs::Standing::Stands, crate::specs::History::no_history))]
+    #[tactic(auto, unfolding(crate::specs::Standing::Stands))]
     pub(crate) fn new(alloc: Global, grammar: Grammar) -> Result<Kept, NoMemory>
-        ensures stands { IfOk result (λ kept. Stands kept no_history) }
+        ensures stands { IfOk result (λ kept. Stands kept (nothing_by grammar)) }
         ensures grammar { IfOk result (λ kept. kept.grammar ≡ grammar) }
     {
         Ok(Kept {
@@ -138,6 +142,30 @@ impl Kept {
             grammar,
             engines: Vec::new(alloc),
         })
+    }
+
+    /// What a state file says. No entry waits.
+    pub(crate) fn of_state(alloc: Global, loaded: Loaded, calls: Calls) -> Kept
+        requires engines { AreEnginesOf loaded.points loaded.engines × All (λ e. e.grammar ≡ loaded.grammar) loaded.engines }
+        requires constants { ConstantsFit loaded.points }
+        requires calls { CallsStandFor calls [] }
+        ensures stands { (h : History) → IsStart h → StandForHistory h.grammar h.table loaded.engines h.samples → loaded.grammar ≡ h.grammar → loaded.points ≡ h.table
+            → loaded.implicit ≡ is_implicit h.header → Stands result h }
+    {
+        let Loaded {
+            points,
+            engines,
+            implicit,
+            grammar,
+        } = loaded;
+        Kept {
+            alloc,
+            points,
+            header: Header::with_word(implicit),
+            calls,
+            grammar,
+            engines: engines.into_vec(),
+        }
     }
 
     /// A block of which no line was read.
@@ -476,7 +504,7 @@ impl Kept {
     ) -> Result<bool, NoMemory>
         requires { p.0 < length self.now.points }
         ensures has { (h : History) → Stands self.now h → IfOk result (λ has. has ≡ has_samples h p.0) }
-        ensures text { (h : History) → Stands self.now h → IfOk result (λ _. text.new ≡ text.old ++ section_in self.now.grammar options.now h.table h.samples p.0) }
+        ensures text { (h : History) → Stands self.now h → IfOk result (λ _. text.new ≡ text.old ++ section_in h.grammar options.now h.table h.samples p.0) }
     {
         push_section(
             self.alloc,
@@ -492,9 +520,23 @@ impl Kept {
     pub(crate) fn push_stats(&self, text: &mut Text, p: PointId) -> Result<bool, NoMemory>
         requires { p.0 < length self.now.points }
         ensures has { (h : History) → Stands self.now h → IfOk result (λ has. has ≡ has_own_samples h p.0) }
-        ensures text { (h : History) → Stands self.now h → IfOk result (λ _. text.new ≡ text.old ++ stats_of self.now.grammar h p.0) }
+        ensures text { (h : History) → Stands self.now h → IfOk result (λ _. text.new ≡ text.old ++ stats_of h p.0) }
     {
         push_stats(text, &self.points, self.engines.as_slice(), p)
+    }
+
+    /// Writes the state behind the text.
+    pub(crate) fn push_state(&self, text: &mut Text) -> Result<(), NoMemory>
+        ensures { OnOk result ((h : History) → Stands self.now h → text.new ≡ text.old ++ state_of h) }
+    {
+        push_saved(
+            self.alloc,
+            text,
+            &self.points,
+            self.engines.as_slice(),
+            self.header.implicit(),
+            self.grammar,
+        )
     }
 }
 

@@ -8,4 +8,5 @@ pub mod laws;
 mod session;
 
 pub use dk_report::Options;
+pub use dk_state::LoadFault;
 pub use session::Session;

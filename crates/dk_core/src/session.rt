@@ -4,7 +4,9 @@ ghost use Rattle.dk_hierarchy.specs.Samples.{own_samples_of};
 ghost use Rattle.dk_hierarchy.specs.Standing.{EngineStandsFor};
 ghost use Rattle.dk_io.specs.Outside.{Rose};
 ghost use Rattle.dk_lines.specs.Reading.{left_of};
+ghost use Rattle.dk_state.specs.Spelling.{IsSpelling};
 ghost use Rattle.dk_core.specs.History.{History, effect_of, no_history, file_ended};
+ghost use Rattle.dk_core.specs.Resuming.{IsStart, state_of};
 ghost use Rattle.dk_core.specs.Sections.{has_own_samples, has_section, section_of, some_if, stats_of};
 ghost use Rattle.dk_core.specs.Selecting.{SelectsBy};
 ghost use Rattle.dk_core.specs.Standing.{Fits, ReportsAlike, SessionStandsFor, Stands, block_resumed, blocks_of, file_of, grammar_of, left_behind, left_with_answer, options_of, over_of, points_of, select_of};
@@ -15,11 +17,13 @@ use crate::block::Block;
 use crate::kept::Kept;
 use bumpalo::Bump;
 use dk_base::{BlockFault, Fault, NoMemory, PointId, Text, Why, trimmed};
+use dk_calls::Calls;
 use dk_engine::Engine;
 use dk_io::Inputs;
 use dk_lines::{LineFault, Lines};
 use dk_points::Points;
 use dk_report::Options;
+use dk_state::{LoadFault, load};
 use dk_template::Grammar;
 use std::alloc::Global;
 
@@ -286,6 +290,7 @@ fn blocks_with(blocks: u64, found: bool) -> u64
 impl<F: Fn(&[u8]) -> bool + Drop> Session<F> {
     /// The session of no blocks, by the second grammar. It reports the points whose names the selection answers `true` to. The selection
     /// may be asked of any name, any number of times.
+    #[tactic(auto, unfolding(crate::specs::History::no_history))]
     pub fn new(alloc: Global, select: F, options: Options) -> Result<Session<F>, NoMemory>
         ensures stands { IfOk result (λ s. SessionStandsFor s no_history) }
         ensures grammar { IfOk result (λ s. grammar_of s ≡ Grammar.Two) }
@@ -303,6 +308,40 @@ impl<F: Fn(&[u8]) -> bool + Drop> Session<F> {
             file: 0,
             is_over: false,
         })
+    }
+
+    /// The session of what a state file says, in the grammar of its version. No blocks count yet. `BadState` comes exactly where the bytes are
+    /// no state.
+    pub fn resume(
+        alloc: Global,
+        select: F,
+        options: Options,
+        state: &[u8],
+    ) -> Result<Session<F>, LoadFault>
+        ensures stands { IfOk result (λ s. (h : History) → IsStart h → state_of h ≡ state.now → SessionStandsFor s h) }
+        ensures spelling { IfOk result (λ s. IsSpelling state.now) }
+        ensures bad { result ≡ Err LoadFault.BadState → IsSpelling state.now → ⊥ }
+        ensures options { IfOk result (λ s. options_of s ≡ options) }
+        ensures select { IfOk result (λ s. select_of s ≡ select) }
+        ensures counts { IfOk result (λ s. (blocks_of s ≡ 0) × (file_of s ≡ 0) × (over_of s ≡ false)) }
+    {
+        let blocks = 0;
+        let calls = match Calls::new(alloc) {
+            Ok(calls) => calls,
+            Err(NoMemory) => return Err(LoadFault::NoMemory),
+        };
+        match load(alloc, state) {
+            Ok(loaded) => Ok(Session {
+                alloc,
+                kept: Kept::of_state(alloc, loaded, calls),
+                select,
+                options,
+                blocks,
+                file: 0,
+                is_over: false,
+            }),
+            Err(fault) => Err(fault),
+        }
     }
 
     /// Reads and applies the next block of the started file. False where the file ends without one. After a fault nothing is said of the
@@ -366,7 +405,8 @@ impl<F: Fn(&[u8]) -> bool + Drop> Session<F> {
 
     /// The grammar of its engines.
     pub fn grammar(&self) -> Grammar
-        ensures { result ≡ grammar_of self.now }
+        ensures grammar { result ≡ grammar_of self.now }
+        ensures history { (h : History) → SessionStandsFor self.now h → result ≡ h.grammar }
     {
         self.kept.grammar()
     }
@@ -387,7 +427,7 @@ impl<F: Fn(&[u8]) -> bool + Drop> Session<F> {
         requires callable { F.IsAlwaysCallable (select_of self.now) }
         ensures has { (h : History) → SessionStandsFor self.now h → (selects : List ℕ → Bool) → SelectsBy (F.post (select_of self.now)) selects → IfOk result (λ has. has ≡ has_section selects h p.0) }
         ensures text { (h : History) → SessionStandsFor self.now h → (selects : List ℕ → Bool) → SelectsBy (F.post (select_of self.now)) selects
-            → IfOk result (λ _. text.new ≡ text.old ++ section_of (grammar_of self.now) (options_of self.now) selects h p.0) }
+            → IfOk result (λ _. text.new ≡ text.old ++ section_of (options_of self.now) selects h p.0) }
     {
         if !(self.select)(self.kept.points().name(p)) {
             return Ok(false);
@@ -400,7 +440,7 @@ impl<F: Fn(&[u8]) -> bool + Drop> Session<F> {
         requires within { p.0 < length (points_of self.now) }
         requires callable { F.IsAlwaysCallable (select_of self.now) }
         ensures { (h : History) → SessionStandsFor self.now h → (selects : List ℕ → Bool) → SelectsBy (F.post (select_of self.now)) selects
-            → IfOk result (λ section. section ≡ some_if (has_section selects h p.0) (section_of (grammar_of self.now) (options_of self.now) selects h p.0)) }
+            → IfOk result (λ section. section ≡ some_if (has_section selects h p.0) (section_of (options_of self.now) selects h p.0)) }
     {
         let mut text = Text::new(self.alloc);
         let has = self.push_section(&mut text, p)?;
@@ -412,7 +452,7 @@ impl<F: Fn(&[u8]) -> bool + Drop> Session<F> {
     pub fn push_stats(&self, text: &mut Text, p: PointId) -> Result<bool, NoMemory>
         requires { p.0 < length (points_of self.now) }
         ensures has { (h : History) → SessionStandsFor self.now h → IfOk result (λ has. has ≡ has_own_samples h p.0) }
-        ensures text { (h : History) → SessionStandsFor self.now h → IfOk result (λ _. text.new ≡ text.old ++ stats_of (grammar_of self.now) h p.0) }
+        ensures text { (h : History) → SessionStandsFor self.now h → IfOk result (λ _. text.new ≡ text.old ++ stats_of h p.0) }
     {
         self.kept.push_stats(text, p)
     }
@@ -420,10 +460,26 @@ impl<F: Fn(&[u8]) -> bool + Drop> Session<F> {
     /// The line of the point's sizes; none without own samples.
     pub fn stats(&self, p: PointId) -> Result<Option<Text>, NoMemory>
         requires { p.0 < length (points_of self.now) }
-        ensures { (h : History) → SessionStandsFor self.now h → IfOk result (λ stats. stats ≡ some_if (has_own_samples h p.0) (stats_of (grammar_of self.now) h p.0)) }
+        ensures { (h : History) → SessionStandsFor self.now h → IfOk result (λ stats. stats ≡ some_if (has_own_samples h p.0) (stats_of h p.0)) }
     {
         let mut text = Text::new(self.alloc);
         let has = self.push_stats(&mut text, p)?;
         Ok(if has { Some(text) } else { None })
+    }
+
+    /// Writes the state behind the text. After an error the text may hold a part of it.
+    pub fn push_state(&self, text: &mut Text) -> Result<(), NoMemory>
+        ensures { OnOk result ((h : History) → SessionStandsFor self.now h → text.new ≡ text.old ++ state_of h) }
+    {
+        self.kept.push_state(text)
+    }
+
+    /// The state, as a session can begin with.
+    pub fn state(&self) -> Result<Text, NoMemory>
+        ensures { IfOk result (λ text. (h : History) → SessionStandsFor self.now h → text ≡ state_of h) }
+    {
+        let mut text = Text::new(self.alloc);
+        self.push_state(&mut text)?;
+        Ok(text)
     }
 }

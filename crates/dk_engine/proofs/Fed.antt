@@ -27,7 +27,7 @@ use Rattle.dk_engine.proofs.Leading.{are_leaders_of}
 use Rattle.dk_engine.proofs.OneMore.{read_after_is_fit}
 use Rattle.dk_engine.proofs.PartsOfSamples.{parts_of_kept}
 use Rattle.dk_engine.proofs.SlotLists.{slots_exact}
-use Rattle.dk_engine.proofs.Unchanging.{unchanged_slots_are_exact}
+use Rattle.dk_engine.proofs.Unchanging.{first_sample_has_no_slots, unchanged_slots_are_exact}
 use Rattle.dk_engine.proofs.Turned.{differ, parts_can_be_fed, unheld}
 use Rattle.dk_engine.specs.Conditions.{CanBeFed}
 use Rattle.dk_engine.specs.Exact.{AreOfPoint, ArePatterns, AreSamples, AreSlots, IsKeptOf}
@@ -37,6 +37,10 @@ use Rattle.dk_engine.specs.declared.kept.Kept.{Kept}
 use Rattle.dk_engine.specs.declared.now.Now.{Now}
 use Rattle.dk_engine.specs.declared.slot.Slot.{Slot}
 use Rattle.dk_engine.specs.Step.{ChangesNothing, IsNow, IsStep}
+
+no_samples : (ss : List (List Value)) → length ss ≡ 0 → ss ≡ []
+no_samples [] e = refl
+no_samples (s ∷ ss) e = absurd (omega (arith, e))
 
 module _ (g : Grammar) (infos : List VarInfo) (point : AreOfPoint infos) (samples : List (List Value)) (sampled : AreSamples infos samples) (kept : Kept) (is : IsKeptOf g infos samples kept)
     (sample : List Value) (now : Now) (turned : IsTurned kept sample now) where
@@ -60,10 +64,6 @@ module _ (g : Grammar) (infos : List VarInfo) (point : AreOfPoint infos) (sample
   known_first none =
       subst (λ ss. AreConstants led (ss ++ sample ∷ []) now.known) (sym (no_samples samples none))
       (subst (AreConstants led (sample ∷ [])) (sym (turned.first (let number = is.number in omega (arith, number, none)))) (constants_first led sample (own_ascend now.leaders)))
-    where
-      no_samples : (ss : List (List Value)) → length ss ≡ 0 → ss ≡ []
-      no_samples [] e = refl
-      no_samples (s ∷ ss) e = absurd (omega (arith, e))
 
   later : 0 < length samples → AreFed kept.known now.new sample now.known now.ended
   later some = turned.later (let number = is.number in omega (arith, number, some))
@@ -111,6 +111,14 @@ module _ (g : Grammar) (infos : List VarInfo) (point : AreOfPoint infos) (sample
     held = patterns_now;
     slots = exact;
   }
+
+  -- with the first sample there are no slots
+  pub first_parts_exact : kept.samples ≡ 0 → IsKeptOf g infos (samples ++ sample ∷ []) (parts_after kept.samples kept.held sample now [])
+  first_parts_exact first =
+      let number = is.number in
+      let none : samples ≡ [] = no_samples samples (omega (arith, number, first)) in
+      kept_now [] (subst (λ ss. AreSlots g infos (ss ++ sample ∷ []) now.leaders now.known []) (sym none)
+      (first_sample_has_no_slots g infos sample now.leaders (subst (λ ss. AreLeaders (var_kinds infos) (ss ++ sample ∷ []) now.leaders) none leaders_now) now.known (subst (λ ss. AreConstants led (ss ++ sample ∷ []) now.known) none known_now)))
 
 pub fed_parts_exact : FedPartsAreExact
 fed_parts_exact g infos point samples sampled kept is sample of now after fed =

@@ -52,3 +52,4 @@ pub mod Opened
 pub mod Ordered
 pub mod Saving
 mod Examples
+mod Slotless

@@ -16,7 +16,7 @@ use Rattle.dk_engine.proofs.Fed.{is_step, kept_now}
 use Rattle.dk_engine.proofs.Stepping.{stepped_slots_are_exact}
 use Rattle.dk_engine.specs.Exact.{AreOfPoint, AreSamples, IsKeptOf}
 use Rattle.dk_engine.specs.Feeding.{IsTurned, parts_after, read_after}
-use Rattle.dk_engine.specs.Narrow.{AreChangesBelow, AreLeft, AreMerged, AreOpened, IsChange, Stays, slot_in}
+use Rattle.dk_engine.specs.Narrow.{AreChangesBelow, AreLeft, AreMerged, AreOpened, IsChange, StayBetween, Stays, slot_in}
 use Rattle.dk_engine.specs.Reading.{read}
 use Rattle.dk_engine.specs.Step.{Answer, AreCandidates, IsStepped, IsSteppedSlot}
 use Rattle.dk_engine.specs.declared.changes.Change.{Change}
@@ -63,6 +63,12 @@ module _ (made : Slot → State) (slots : List Slot) where
         | inl lt ↦ are.all k lt
         | inr ge ↦ let same : n ≡ k = omega (arith, l, ge) in inl (subst (λ m. Stays made (slot_in slots m)) same stays)
       ];
+    }
+
+    pub stay_more : (m : ℕ) → StayBetween n m made slots → AreChangesBelow m made slots changes
+    stay_more m stay = record {
+      each = are.each;
+      all = λ k l. elim (cases_lt k n) [ inl lt ↦ are.all k lt | inr ge ↦ inl (stay k ge l) ];
     }
 
     pub change_more : (change : Change) → change.place ≡ n → IsChange made slots change → AreChangesBelow (n + 1) made slots (changes ++ change ∷ [])

@@ -3,6 +3,7 @@ use Rattle.std.specs.Prelude.{◌≡◌, ◌<◌, ◌≤◌, ◌+◌, ◌-◌, �
 use Rattle.std.proofs.Common.{ap, ◌∙◌, arith, cond, get_or, inl, inr, subst, sym}
 use Rattle.std.proofs.lemmas.Bool.{and_parts, eqb-true, false≢true}
 use Rattle.std.proofs.lemmas.List.{get_or-drop, get_or-take, get_or_default, length-take, length-take-le}
+use Rattle.std.proofs.Common.{length-drop}
 use Rattle.std.proofs.lemmas.Option.{slice_get_cases}
 use Rattle.dk_base.specs.declared.kinds.VarId.{VarId}
 use Rattle.dk_base.specs.declared.kinds.VarInfo.{VarInfo}
@@ -16,7 +17,7 @@ use Rattle.dk_template.specs.Templates.{form_of, role_kinds}
 use Rattle.dk_template.specs.declared.grammar.Grammar.{Grammar}
 use Rattle.dk_template.specs.declared.grammar.RowId.{RowId}
 use Rattle.dk_engine.specs.Feeding.{is_broken, with_sample}
-use Rattle.dk_engine.specs.Narrow.{StayBetween, Stays, closes, is_in_run, no_slot, outcome, slot_in}
+use Rattle.dk_engine.specs.Narrow.{Stays, closes, is_in_run, no_slot, outcome, slot_in}
 use Rattle.dk_engine.specs.Step.{Answer, IsPlaced, can_close}
 use Rattle.dk_engine.specs.declared.slot.Slot.{Slot}
 
@@ -54,7 +55,7 @@ module _ (asked : Bool) (row : RowId) (slot : Slot) (is : is_in_run asked row sl
   more_parts : (not (is_broken slot.state) ≡ true) × (not (asked && can_close slot) ≡ true)
   more_parts = and_parts (not (is_broken slot.state)) (not (asked && can_close slot)) parts.1
 
-  of_row : slot.row ≡ row
+  pub of_row : slot.row ≡ row
   of_row = ap (λ (n : ℕ). (let r : RowId = record { 0 = n } in r)) (eqb-true slot.row.0 row.0 parts.0)
 
   unbroken : slot.state ≡ Broken → ⊥
@@ -63,53 +64,45 @@ module _ (asked : Bool) (row : RowId) (slot : Slot) (is : is_in_run asked row sl
   stays_open : (after : Answer) → (asked && closes after slot) ≡ false
   stays_open after = no_of_three asked (can_close slot) _ (no_of_not (asked && can_close slot) more_parts.1)
 
-  stays_of_still : (after : Answer) (sample : List Value) → IsStill row sample slot → Stays (outcome asked after sample) slot
+  pub outcome_of_run : (after : Answer) (sample : List Value) → outcome asked after sample slot ≡ with_sample slot.row slot.leaders sample slot.state
+  outcome_of_run after sample = ap (λ b. cond b Broken (with_sample slot.row slot.leaders sample slot.state)) (stays_open after)
+
+  pub stays_of_still : (after : Answer) (sample : List Value) → IsStill row sample slot → Stays (outcome asked after sample) slot
   stays_of_still after sample still = (
-    ap (λ b. cond b Broken (with_sample slot.row slot.leaders sample slot.state)) (stays_open after)
-        ∙ (ap (λ r. with_sample r slot.leaders sample slot.state) of_row ∙ still),
+    outcome_of_run after sample ∙ (ap (λ r. with_sample r slot.leaders sample slot.state) of_row ∙ still),
     unbroken,
   )
 
 -- ---- the slots of a run
 module _ (slots : List Slot) (place n : ℕ) where
-  abbrev behind : List Slot
-  behind = take (length slots - place) (drop place slots)
-
-  within : (k : ℕ) → k < length (take n behind) → (k < n) × (place + k < length slots)
+  within : (k : ℕ) → k < length (take n (drop place slots)) → (k < n) × (place + k < length slots)
   within k l =
-      let outer = length-take n behind in
-      let inner = length-take (length slots - place) (drop place slots) in
+      let outer = length-take n (drop place slots) in
+      let inner = length-drop place slots in
       (omega (arith, l, outer), omega (arith, l, outer, inner))
 
-  at_place : (k : ℕ) (d : Slot) → place + k < length slots → get_or behind k d ≡ slot_in slots (place + k)
-  at_place k d l =
-      get_or-take (length slots - place) (drop place slots) k d (omega (arith, l))
-      ∙ (get_or-drop place slots k d ∙ get_or_default slots (place + k) d no_slot l)
+  at_run : (k : ℕ) (d : Slot) → k < length (take n (drop place slots)) → get_or (take n (drop place slots)) k d ≡ slot_in slots (place + k)
+  at_run k d l =
+      let w = within k l in
+      get_or-take n (drop place slots) k d w.0 ∙ (get_or-drop place slots k d ∙ get_or_default slots (place + k) d no_slot w.1)
 
-  at_run : (k : ℕ) (d : Slot) → k < length (take n behind) → get_or (take n behind) k d ≡ slot_in slots (place + k)
-  at_run k d l = let w = within k l in get_or-take n behind k d w.0 ∙ at_place k d w.1
-
-  module _ (asked : Bool) (row : RowId) (are : (k : ℕ) → k < n → is_in_run asked row (slot_in behind k) ≡ true) where
-    in_run : (k : ℕ) → k < length (take n behind) → is_in_run asked row (slot_in slots (place + k)) ≡ true
-    in_run k l = let w = within k l in subst (λ (s : Slot). is_in_run asked row s ≡ true) (at_place k no_slot w.1) (are k w.0)
-
+  module _ (row : RowId) (are : (k : ℕ) → place ≤ k → k < place + n → (slot_in slots k).row ≡ row) where
     pub run_of_slots : (g : Grammar) (infos : List VarInfo) (leaders : List VarId) (sample : List Value) → IsSample infos sample
         → All (λ (s : Slot). IsPlaced g infos leaders s.row s.leaders) slots → All (λ (s : Slot). IsProper (form_of s.row) s.state) slots
-        → All (λ (s : Slot). IsSlot (role_kinds row) (form_of row) sample s.leaders s.state) (take n behind)
+        → All (λ (s : Slot). IsSlot (role_kinds row) (form_of row) sample s.leaders s.state) (take n (drop place slots))
     run_of_slots g infos leaders sample is placed proper k d l =
         let w = within k l in
+        let first = w.0 in
         let slot = slot_in slots (place + k) in
         let own : IsSlot (role_kinds slot.row) (form_of slot.row) sample slot.leaders slot.state =
         slot_of slot.row infos sample is slot.leaders (placed (place + k) no_slot w.1).over.admitted slot.state (proper (place + k) no_slot w.1) in
         subst (λ (s : Slot). IsSlot (role_kinds row) (form_of row) sample s.leaders s.state) (sym (at_run k d l))
-        (subst (λ (r : RowId). IsSlot (role_kinds r) (form_of r) sample slot.leaders slot.state) (of_row asked row slot (in_run k l)) own)
+        (subst (λ (r : RowId). IsSlot (role_kinds r) (form_of r) sample slot.leaders slot.state) (are (place + k) (omega arith) (omega (arith, first))) own)
 
-    pub still_between : (after : Answer) (sample : List Value) (m : ℕ) → m ≤ length (take n behind) → ((k : ℕ) → k < m → IsStill row sample (slot_in (take n behind) k))
-        → StayBetween place (place + m) (outcome asked after sample) slots
-    still_between after sample m most still k from to =
+    pub still_from : (sample : List Value) (m : ℕ) → m ≤ length (take n (drop place slots)) → ((k : ℕ) → k < m → IsStill row sample (slot_in (take n (drop place slots)) k))
+        → (k : ℕ) → place ≤ k → k < place + m → IsStill row sample (slot_in slots k)
+    still_from sample m most still k from to =
         let j = k - place in
         let back : place + j ≡ k = omega (arith, from) in
-        let l : j < length (take n behind) = omega (arith, from, to, most) in
-        let slot = slot_in slots (place + j) in
-        subst (λ i. Stays (outcome asked after sample) (slot_in slots i)) back
-        (stays_of_still asked row slot (in_run j l) after sample (subst (IsStill row sample) (at_run j no_slot l) (still j (omega (arith, from, to)))))
+        let l : j < length (take n (drop place slots)) = omega (arith, from, to, most) in
+        subst (λ i. IsStill row sample (slot_in slots i)) back (subst (IsStill row sample) (at_run j no_slot l) (still j (omega (arith, from, to))))

@@ -4,7 +4,7 @@ use Rattle.std.specs.List.Sorted.{IsPermutation}
 use Rattle.dk_base.specs.declared.kinds.VarId.{VarId}
 use Rattle.dk_base.specs.declared.kinds.VarInfo.{VarInfo}
 use Rattle.dk_base.specs.declared.values.Value.{Value}
-use Rattle.dk_classes.specs.Classes.{kind_at, var_kinds}
+use Rattle.dk_classes.specs.Classes.{AreLeaders, kind_at, var_kinds}
 use Rattle.dk_classes.specs.Leaders.{own_leaders}
 use Rattle.dk_constants.specs.Known.{Entries}
 use Rattle.dk_fits.specs.Fits.{fit}
@@ -22,6 +22,7 @@ use Rattle.dk_template.specs.declared.grammar.RowId.{RowId}
 use Rattle.dk_engine.specs.Conditions.{AreParts}
 use Rattle.dk_engine.specs.Exact.{AreOfPoint, AreSamples, AreSlots, IsKeptOf}
 use Rattle.dk_engine.specs.Feeding.{IsFed, read_after, slots_of}
+use Rattle.dk_engine.specs.Parts.{leaders_of}
 use Rattle.dk_engine.specs.Reading.{agree_read, count_read, read}
 use Rattle.dk_engine.specs.Saved.{AreSavedParts, parts_of}
 use Rattle.dk_engine.specs.declared.kept.Kept.{Kept}
@@ -55,6 +56,12 @@ KeptPartsMeetTheirConditions = OfKept (λ grammar infos samples kept. AreParts g
 -- what is kept of 1 to 2^40 samples is saved as parts of which an engine can be made
 abbrev pub KeptPartsAreSaved : Type 0
 KeptPartsAreSaved = OfKept (λ grammar infos samples kept. 1 ≤ length samples → length samples ≤ 2 ^ 40 → AreSavedParts grammar infos (parts_of kept))
+
+-- a row that admits variables admits their leaders: these are of the same kinds, and base variables stand first
+abbrev pub LeadersAreAdmitted : Type 0
+LeadersAreAdmitted =
+    (infos : List VarInfo) → AreOfPoint infos → (samples : List (List Value)) (leaders : List VarId) → AreLeaders (var_kinds infos) samples leaders
+    → (row : RowId) (vars : List VarId) → IsTrue (admits row infos vars) → IsTrue (admits row infos (leaders_of leaders vars))
 
 -- ---- one sample more
 -- the states with one sample more

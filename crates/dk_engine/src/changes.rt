@@ -1,15 +1,15 @@
 // The slots that a sample changes.
-ghost use Rattle.std.specs.Prelude.{◌≡◌, ◌<◌, ◌++◌, ◌∷◌, [], All, IfNone, IfOk, IfSome, length};
+ghost use Rattle.std.specs.Prelude.{◌≡◌, ◌<◌, ◌≤◌, ◌+◌, ◌++◌, ◌∷◌, ℕ, [], true, All, IfNone, IfOk, IfSome, OnOk, length};
 ghost use Rattle.std.specs.List.{list_any};
 ghost use Rattle.dk_template.specs.Proper.{IsProper};
 ghost use Rattle.dk_template.specs.Templates.{form_of};
-ghost use Rattle.dk_engine.specs.Feeding.{read_after};
-ghost use Rattle.dk_engine.specs.Narrow.{AreChanges, StayBetween, Stays, closes, loses, loses_by, lost_places, may_begin, outcome, slot_in};
+ghost use Rattle.dk_engine.specs.Feeding.{read_after, with_sample};
+ghost use Rattle.dk_engine.specs.Narrow.{AreChanges, AreChangesBelow, Stays, closes, is_in_run, loses, loses_by, lost_places, may_begin, outcome, slot_in};
 ghost use Rattle.dk_engine.specs.Step.{IsPlaced, can_close, is_empty, is_of_elements};
 
 use crate::Slot;
 use crate::after::After;
-use crate::runs::still_to;
+use crate::runs::{run_end, still_to};
 use dk_base::{List, NoMemory};
 use dk_suppress::{asked_of, suppressed};
 use dk_template::{RowId, State, suffices_for};
@@ -61,56 +61,80 @@ fn change_of(after: &After<'_>, asked: bool, slot: &Slot) -> Result<Option<State
     Ok(Some(state))
 }
 
-// Up to where the slots from a place on are known to stay as they are: that far, if it is behind the place, and else what is found.
-fn still_from(after: &After<'_>, asked: bool, slots: &[Slot], place: usize, still: usize) -> usize
-    requires placed { All (λ slot. IsPlaced after.now.whole.grammar after.now.whole.infos after.now.whole.kept.leaders slot.row slot.leaders) slots.now }
-    requires proper { All (λ slot. IsProper (form_of slot.row) slot.state) slots.now }
-    requires within { place < length slots.now }
-    requires still { StayBetween place still (outcome asked (read_after after.now.whole.kept after.now.sample) after.now.sample) slots.now }
-    ensures { StayBetween place result (outcome asked (read_after after.now.whole.kept after.now.sample) after.now.sample) slots.now }
+// With the slot's change, if it doesn't stay as it is.
+fn push_change(
+    changes: &mut List<Change>,
+    place: usize,
+    state: Option<State>,
+) -> Result<(), NoMemory>
+    ensures none { IfNone state (OnOk result (changes.new ≡ changes.old)) }
+    ensures some { IfSome state (λ s. OnOk result (changes.new ≡ changes.old ++ record { place = place; state = s } ∷ [])) }
 {
-    if place < still {
-        still
-    } else {
-        still_to(after, asked, slots, place)
+    if let Some(state) = state {
+        changes.push(Change { place, state })?;
     }
+    Ok(())
 }
 
-// The state that the sample makes of the slot at a place, if the slot doesn't stay as it is.
-fn change_at(
+// With the change of the slot at a place, behind those of the slots in front of it.
+fn add_change(
     after: &After<'_>,
     asked: bool,
     slots: &[Slot],
     place: usize,
-    still: usize,
-) -> Result<Option<State>, NoMemory>
+    changes: &mut List<Change>,
+) -> Result<(), NoMemory>
     requires placed { All (λ slot. IsPlaced after.now.whole.grammar after.now.whole.infos after.now.whole.kept.leaders slot.row slot.leaders) slots.now }
     requires proper { All (λ slot. IsProper (form_of slot.row) slot.state) slots.now }
     requires within { place < length slots.now }
-    requires still { StayBetween place still (outcome asked (read_after after.now.whole.kept after.now.sample) after.now.sample) slots.now }
-    ensures stays { IfOk result (λ o. IfNone o (Stays (outcome asked (read_after after.now.whole.kept after.now.sample) after.now.sample) (slot_in slots.now place))) }
-    ensures state { IfOk result (λ o. IfSome o (λ s. s ≡ outcome asked (read_after after.now.whole.kept after.now.sample) after.now.sample (slot_in slots.now place))) }
+    requires below { AreChangesBelow place (outcome asked (read_after after.now.whole.kept after.now.sample) after.now.sample) slots.now changes.old }
+    ensures { OnOk result (AreChangesBelow (place + 1) (outcome asked (read_after after.now.whole.kept after.now.sample) after.now.sample) slots.now changes.new) }
 {
-    if place < still {
-        return Ok(None);
-    }
-    change_of(after, asked, &slots[place])
+    let state = change_of(after, asked, &slots[place])?;
+    push_change(changes, place, state)
 }
 
-// With the slot's change, if it doesn't stay as it is.
-fn with_change(
-    changes: List<Change>,
+// With the state that the sample makes of the slot at a place.
+fn push_joined(
+    after: &After<'_>,
+    slots: &[Slot],
     place: usize,
-    state: Option<State>,
-) -> Result<List<Change>, NoMemory>
-    ensures none { IfNone state (IfOk result (λ more. more ≡ changes)) }
-    ensures some { IfSome state (λ s. IfOk result (λ more. more ≡ changes ++ record { place = place; state = s } ∷ [])) }
+    changes: &mut List<Change>,
+) -> Result<(), NoMemory>
+    requires placed { All (λ slot. IsPlaced after.now.whole.grammar after.now.whole.infos after.now.whole.kept.leaders slot.row slot.leaders) slots.now }
+    requires proper { All (λ slot. IsProper (form_of slot.row) slot.state) slots.now }
+    requires within { place < length slots.now }
+    ensures { OnOk result (changes.new ≡ changes.old ++ record { place = place; state = with_sample (slot_in slots.now place).row (slot_in slots.now place).leaders after.now.sample (slot_in slots.now place).state } ∷ []) }
 {
-    let mut more = changes;
-    if let Some(state) = state {
-        more.push(Change { place, state })?;
+    let state = after.with(&slots[place])?;
+    changes.push(Change { place, state })?;
+    Ok(())
+}
+
+// With the changes of a run of slots, from a place up to another, behind those of the slots in front of it.
+fn add_changes(
+    after: &After<'_>,
+    asked: bool,
+    slots: &[Slot],
+    from: usize,
+    to: usize,
+    changes: &mut List<Change>,
+) -> Result<(), NoMemory>
+    requires placed { All (λ slot. IsPlaced after.now.whole.grammar after.now.whole.infos after.now.whole.kept.leaders slot.row slot.leaders) slots.now }
+    requires proper { All (λ slot. IsProper (form_of slot.row) slot.state) slots.now }
+    requires from { from < to }
+    requires to { to ≤ length slots.now }
+    requires run { (k : ℕ) → from ≤ k → k < to → is_in_run asked (slot_in slots.now from).row (slot_in slots.now k) ≡ true }
+    requires below { AreChangesBelow from (outcome asked (read_after after.now.whole.kept after.now.sample) after.now.sample) slots.now changes.old }
+    ensures { OnOk result (AreChangesBelow to (outcome asked (read_after after.now.whole.kept after.now.sample) after.now.sample) slots.now changes.new) }
+{
+    let row = slots[from].row;
+    let mut place = still_to(after, row, slots, from, to);
+    while place < to {
+        push_joined(after, slots, place, changes)?;
+        place = still_to(after, row, slots, place + 1, to);
     }
-    Ok(more)
+    Ok(())
 }
 
 /// The changes of the slots that the sample doesn't leave as they are. Where it is asked, those that close go too.
@@ -125,11 +149,16 @@ pub(crate) fn changes(
     ensures { IfOk result (AreChanges (outcome asked (read_after after.now.whole.kept after.now.sample) after.now.sample) slots.now) }
 {
     let mut changes = List::new(alloc);
-    let mut still = 0;
-    for place in 0..slots.len() {
-        still = still_from(after, asked, slots, place, still);
-        let state = change_at(after, asked, slots, place, still)?;
-        changes = with_change(changes, place, state)?;
+    let mut place = 0;
+    while place < slots.len() {
+        let end = run_end(asked, slots, place);
+        if place < end {
+            add_changes(after, asked, slots, place, end, &mut changes)?;
+            place = end;
+        } else {
+            add_change(after, asked, slots, place, &mut changes)?;
+            place += 1;
+        }
     }
     Ok(changes)
 }

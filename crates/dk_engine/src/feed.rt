@@ -93,8 +93,8 @@ impl Engine {
         ensures changes { IfOk result (λ c. AreChanges (outcome c.asked (read_after self.now.kept (values_of sample.now)) (values_of sample.now)) self.now.kept.slots c.all) }
         ensures unasked { IfOk result (λ c. c.asked ≡ false → IsShut (values_of sample.now) self.now.kept c.all) }
     {
-        let present = present_leaders(self.alloc, self.kept.leaders.leaders(), sample)?;
-        let new = !self.kept.held.has_pattern(present.as_slice());
+        let leaders = self.kept.leaders.leaders();
+        let new = !self.kept.held.has_sample(leaders, sample)?;
         let after = After::of(self.alloc, self, sample);
         let slots = self.kept.slots.as_slice();
         let all = changes(self.alloc, &after, new, slots)?;
@@ -119,9 +119,8 @@ impl Engine {
     {
         let Changes { asked: _, all } = changes;
         let none = Presence::new(self.alloc)?;
-        let held = replace(&mut self.kept.held, none);
-        let leaders = self.kept.leaders.leaders();
-        let held = held_after(self.alloc, held, leaders, &[], sample)?;
+        let mut held = replace(&mut self.kept.held, none);
+        held.count_sample(self.kept.leaders.leaders(), sample)?;
         let slots = replace(&mut self.kept.slots, Slots::new(self.alloc));
         self.kept.samples = self.kept.samples.saturating_add(1);
         self.kept.held = held;
@@ -160,14 +159,6 @@ impl Engine {
         ensures { IfOk result (λ lost. lost ≡ lost_places self.now.kept.slots changes.now) }
     {
         lost_places(self.alloc, self.kept.slots.as_slice(), changes)
-    }
-
-    // Whether all tuples are to be swept: with the first sample, and where the others to be looked at are about as many.
-    fn is_swept(&self, now: &Now, lost: &[usize]) -> bool
-        requires { All (λ k. k < length self.now.kept.slots) lost.now }
-        ensures { result ≡ false → 0 < self.now.kept.samples }
-    {
-        self.kept.samples == 0 || are_many(now, self.kept.slots.as_slice(), lost)
     }
 
     // The slots that the sample opens: over tuples that it touches, and over those with the leaders of a slot by which a premise is lost.
@@ -260,9 +251,13 @@ impl Engine {
             }
         }
         let now = self.turn(sample)?;
+        if self.kept.samples == 0 {
+            let none = Slots::new(self.alloc);
+            return self.set_parts(sample, now, none);
+        }
         let changes = self.all_changes(sample)?;
         let lost = self.lost(changes.as_slice())?;
-        if self.is_swept(&now, lost.as_slice()) {
+        if are_many(&now, self.slots(), lost.as_slice()) {
             let slots = self.swept(sample, &now)?;
             return self.set_parts(sample, now, slots);
         }

@@ -1,5 +1,5 @@
 //! What is kept of samples, and what is read from it.
-ghost use Rattle.dk_engine.specs.Laws.{AgreeReadIsAgreement, CountReadIsCount, FedPartsAreExact, KeptPartsAreDetermined, KeptPartsAreSaved, KeptPartsMeetTheirConditions, OrderDoesNotMatter, ReadAfterIsFit, ReadingIsFit, SlotsAreDetermined, SlotsOfFitsAreExact};
+ghost use Rattle.dk_engine.specs.Laws.{AgreeReadIsAgreement, CountReadIsCount, FedPartsAreExact, KeptPartsAreDetermined, KeptPartsAreSaved, KeptPartsMeetTheirConditions, LeadersAreAdmitted, OrderDoesNotMatter, ReadAfterIsFit, ReadingIsFit, SlotsAreDetermined, SlotsOfFitsAreExact};
 
 /// What is read from the kept parts of samples, and from nothing else, is what the samples say: the state of each row over variables
 /// that it admits, in any order and with any repeats; in how many samples variables are present together; and which variables agree.
@@ -7,6 +7,11 @@ pub fn reading_is_exact()
     ensures state { ReadingIsFit }
     ensures count { CountReadIsCount }
     ensures agree { AgreeReadIsAgreement }
+{}
+
+/// A row that admits variables admits their leaders.
+pub fn leaders_are_admitted()
+    ensures { LeadersAreAdmitted }
 {}
 
 /// What is kept of samples meets the conditions of kept parts.

@@ -16,6 +16,7 @@ mod lending;
 mod merging;
 mod nothing;
 mod now;
+mod operations;
 mod over;
 mod parts;
 mod places;

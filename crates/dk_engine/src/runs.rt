@@ -2,8 +2,8 @@
 ghost use Rattle.std.specs.Prelude.{◌≡◌, ◌<◌, ◌≤◌, ℕ, true, All, length};
 ghost use Rattle.dk_base.specs.Values.{values_of};
 ghost use Rattle.dk_base.specs.declared.kinds.VarId.{VarId};
-ghost use Rattle.dk_engine.specs.Feeding.{read_after, with_sample};
-ghost use Rattle.dk_engine.specs.Narrow.{StayBetween, is_in_run, outcome, slot_in};
+ghost use Rattle.dk_engine.specs.Feeding.{with_sample};
+ghost use Rattle.dk_engine.specs.Narrow.{is_in_run, slot_in};
 ghost use Rattle.dk_engine.specs.Step.{IsPlaced};
 ghost use Rattle.dk_engine.specs.declared.slot.Slot.{Slot};
 ghost use Rattle.dk_grammar.specs.Runs.{AreSlots};
@@ -25,20 +25,21 @@ fn is_in_run(asked: bool, row: RowId, slot: &Slot) -> bool
     slot.row.0 == row.0 && (!is_broken(&slot.state) && !(asked && can_close(slot)))
 }
 
-// How far a run is looked for. Where many slots of a run change, it is looked for behind each of them.
+// How many slots of a run are taken together, so that they are still in the first cache where they are compared with the sample.
 const REACH: usize = 32;
 
-// How many such slots come first, of as many as are looked at.
-fn run_length(asked: bool, row: RowId, slots: &[Slot]) -> usize
-    ensures within { result ≤ length slots.now }
-    ensures run { (k : ℕ) → k < result → is_in_run asked row (slot_in slots.now k) ≡ true }
+/// Where the run of slots from a place on ends, of as many as are taken together: slots of one row that aren't Broken and, where it is
+/// asked, can't close.
+pub(crate) fn run_end(asked: bool, slots: &[Slot], place: usize) -> usize
+    requires { place < length slots.now }
+    ensures from { place ≤ result }
+    ensures to { result ≤ length slots.now }
+    ensures run { (k : ℕ) → place ≤ k → k < result → is_in_run asked (slot_in slots.now place).row (slot_in slots.now k) ≡ true }
 {
-    for place in 0..slots.len() {
-        if place == REACH {
-            return place;
-        }
-        if !is_in_run(asked, row, &slots[place]) {
-            return place;
+    let row = slots[place].row;
+    for end in place..slots.len() {
+        if end - place == REACH || !is_in_run(asked, row, &slots[end]) {
+            return end;
         }
     }
     slots.len()
@@ -57,15 +58,23 @@ fn still(row: RowId, run: &[Slot], sample: &[View<'_>]) -> usize
     }
 }
 
-/// Up to where the slots from a place on stay as they are, where it is found at once; else the place.
-pub(crate) fn still_to(after: &After<'_>, asked: bool, slots: &[Slot], place: usize) -> usize
+/// Up to where the slots of a row from one place to another stay as they are.
+pub(crate) fn still_to(
+    after: &After<'_>,
+    row: RowId,
+    slots: &[Slot],
+    from: usize,
+    to: usize,
+) -> usize
+    requires row { IsRow row }
     requires placed { All (λ slot. IsPlaced after.now.whole.grammar after.now.whole.infos after.now.whole.kept.leaders slot.row slot.leaders) slots.now }
     requires proper { All (λ slot. IsProper (form_of slot.row) slot.state) slots.now }
-    requires within { place < length slots.now }
-    ensures { StayBetween place result (outcome asked (read_after after.now.whole.kept after.now.sample) after.now.sample) slots.now }
+    requires from { from ≤ to }
+    requires to { to ≤ length slots.now }
+    requires of_row { (k : ℕ) → from ≤ k → k < to → (slot_in slots.now k).row ≡ row }
+    ensures from { from ≤ result }
+    ensures to { result ≤ to }
+    ensures still { (k : ℕ) → from ≤ k → k < result → with_sample row (slot_in slots.now k).leaders after.now.sample (slot_in slots.now k).state ≡ (slot_in slots.now k).state }
 {
-    let row = slots[place].row;
-    let behind = &slots[place..];
-    let run = &behind[..run_length(asked, row, behind)];
-    place + still(row, run, after.sample())
+    from + still(row, &slots[from..to], after.sample())
 }

@@ -1,36 +1,40 @@
 // The slots that answers give, over all tuples of leaders.
-ghost use Rattle.std.specs.Prelude.{◌≡◌, ◌<◌, ◌≤◌, ◌∷◌, [], ◌++◌, All, IfOk, List, length};
+ghost use Rattle.std.specs.Prelude.{◌≡◌, ◌<◌, ◌≤◌, ◌∷◌, [], ◌++◌, All, IfOk, IsSomeAnd, IsTrue, List, length};
 ghost use Rattle.dk_base.specs.declared.kinds.VarId.{VarId};
 ghost use Rattle.dk_template.specs.Templates.{IsRowOf, arity_of};
-ghost use Rattle.dk_engine.specs.Feeding.{slots_of, slots_of_row};
+ghost use Rattle.dk_ternary.specs.Rows.{operation_row};
+ghost use Rattle.dk_engine.specs.Feeding.{read_after, slots_of, slots_of_row};
 ghost use Rattle.dk_engine.specs.Narrow.{freed_by_all};
 ghost use Rattle.dk_engine.specs.Sweeps.{behind, considered, firsts, freed_slots, pairs, seconds, thirds, threes_with_one, threes_with_two, touched_slots, triples, twos_with_one, with_both, with_ends, with_one, with_two};
 
+use crate::after::After;
 use crate::constant::are_known;
+use crate::operations::{breaks, operation_of};
 use crate::reaching::reached;
 use crate::{Slot, Slots};
 use dk_base::{NoMemory, VarId, VarInfo};
 use dk_constants::Constants;
 use dk_suppress::suppressed;
 use dk_template::{Answers, Grammar, RowId, State, Tuple, admits, info, is_written};
+use dk_ternary::Operation;
 use std::alloc::Global;
 
-/// What a sweep goes by: the variables, the constants, and what answers.
+/// What a sweep goes by: the variables, the constants, and the engine with one sample more, which answers.
 #[derive(Drop)]
-pub(crate) struct Sweep<'a, A: Answers> {
+pub(crate) struct Sweep<'a> {
     pub(crate) alloc: Global,
     pub(crate) infos: &'a [VarInfo],
     pub(crate) known: &'a Constants,
-    pub(crate) answers: &'a A,
-    ghost same: { A.infos answers.now ≡ infos.now },
+    pub(crate) answers: &'a After<'a>,
+    ghost same: { answers.now.whole.infos ≡ infos.now },
 }
 
-impl<'a, A: Answers> Sweep<'a, A> {
+impl<'a> Sweep<'a> {
     // Slots with that of the leaders, if they have one.
     fn consider(&self, row: RowId, vars: &[VarId], slots: Slots) -> Result<Slots, NoMemory>
-        requires row { IsRowOf (A.grammar self.now.answers.now) row }
+        requires row { IsRowOf self.now.answers.now.whole.grammar row }
         requires few { length vars.now ≤ 3 }
-        ensures { IfOk result (λ more. more ≡ slots ++ considered self.now.infos.now self.now.known.now (A.answered self.now.answers.now) row vars.now) }
+        ensures { IfOk result (λ more. more ≡ slots ++ considered self.now.infos.now self.now.known.now (read_after self.now.answers.now.whole.kept self.now.answers.now.sample) row vars.now) }
     {
         if !admits(row, self.infos, vars) || !is_written(row, vars) || are_known(self.known, vars) {
             return Ok(slots);
@@ -48,10 +52,25 @@ impl<'a, A: Answers> Sweep<'a, A> {
         Ok(slots)
     }
 
+    // Whether it is seen at once that the leaders have no slot of an operation's row: they aren't in its written order, or the sample
+    // breaks it.
+    #[inline(always)]
+    fn is_out(&self, operation: Option<Operation>, v: VarId, w: VarId, x: VarId) -> bool
+        ensures { IsTrue result → IsSomeAnd operation (λ o. considered self.now.infos.now self.now.known.now (read_after self.now.answers.now.whole.kept self.now.answers.now.sample) (operation_row o) (v ∷ w ∷ x ∷ []) ≡ []) }
+    {
+        match operation {
+            Some(operation) => {
+                !is_written(operation.row(), &[v, w, x])
+                    || breaks(operation, self.answers.sample(), v, w, x)
+            }
+            None => false,
+        }
+    }
+
     // Those of one leader each.
     fn firsts(&self, row: RowId, first: &[VarId], slots: Slots) -> Result<Slots, NoMemory>
-        requires { IsRowOf (A.grammar self.now.answers.now) row }
-        ensures { IfOk result (λ more. more ≡ slots ++ firsts self.now.infos.now self.now.known.now (A.answered self.now.answers.now) row first.now) }
+        requires { IsRowOf self.now.answers.now.whole.grammar row }
+        ensures { IfOk result (λ more. more ≡ slots ++ firsts self.now.infos.now self.now.known.now (read_after self.now.answers.now.whole.kept self.now.answers.now.sample) row first.now) }
     {
         let mut slots = slots;
         for v in first {
@@ -68,8 +87,8 @@ impl<'a, A: Answers> Sweep<'a, A> {
         second: &[VarId],
         slots: Slots,
     ) -> Result<Slots, NoMemory>
-        requires { IsRowOf (A.grammar self.now.answers.now) row }
-        ensures { IfOk result (λ more. more ≡ slots ++ seconds self.now.infos.now self.now.known.now (A.answered self.now.answers.now) row v second.now) }
+        requires { IsRowOf self.now.answers.now.whole.grammar row }
+        ensures { IfOk result (λ more. more ≡ slots ++ seconds self.now.infos.now self.now.known.now (read_after self.now.answers.now.whole.kept self.now.answers.now.sample) row v second.now) }
     {
         let mut slots = slots;
         for w in second {
@@ -87,12 +106,15 @@ impl<'a, A: Answers> Sweep<'a, A> {
         third: &[VarId],
         slots: Slots,
     ) -> Result<Slots, NoMemory>
-        requires { IsRowOf (A.grammar self.now.answers.now) row }
-        ensures { IfOk result (λ more. more ≡ slots ++ thirds self.now.infos.now self.now.known.now (A.answered self.now.answers.now) row v w third.now) }
+        requires { IsRowOf self.now.answers.now.whole.grammar row }
+        ensures { IfOk result (λ more. more ≡ slots ++ thirds self.now.infos.now self.now.known.now (read_after self.now.answers.now.whole.kept self.now.answers.now.sample) row v w third.now) }
     {
+        let operation = operation_of(row);
         let mut slots = slots;
         for x in third {
-            slots = self.consider(row, &[v, w, *x], slots)?;
+            if !self.is_out(operation, v, w, *x) {
+                slots = self.consider(row, &[v, w, *x], slots)?;
+            }
         }
         Ok(slots)
     }
@@ -105,8 +127,8 @@ impl<'a, A: Answers> Sweep<'a, A> {
         second: &[VarId],
         slots: Slots,
     ) -> Result<Slots, NoMemory>
-        requires { IsRowOf (A.grammar self.now.answers.now) row }
-        ensures { IfOk result (λ more. more ≡ slots ++ pairs self.now.infos.now self.now.known.now (A.answered self.now.answers.now) row first.now second.now) }
+        requires { IsRowOf self.now.answers.now.whole.grammar row }
+        ensures { IfOk result (λ more. more ≡ slots ++ pairs self.now.infos.now self.now.known.now (read_after self.now.answers.now.whole.kept self.now.answers.now.sample) row first.now second.now) }
     {
         let mut slots = slots;
         for v in first {
@@ -124,8 +146,8 @@ impl<'a, A: Answers> Sweep<'a, A> {
         third: &[VarId],
         slots: Slots,
     ) -> Result<Slots, NoMemory>
-        requires { IsRowOf (A.grammar self.now.answers.now) row }
-        ensures { IfOk result (λ more. more ≡ slots ++ behind self.now.infos.now self.now.known.now (A.answered self.now.answers.now) row v second.now third.now) }
+        requires { IsRowOf self.now.answers.now.whole.grammar row }
+        ensures { IfOk result (λ more. more ≡ slots ++ behind self.now.infos.now self.now.known.now (read_after self.now.answers.now.whole.kept self.now.answers.now.sample) row v second.now third.now) }
     {
         let mut slots = slots;
         for w in second {
@@ -143,8 +165,8 @@ impl<'a, A: Answers> Sweep<'a, A> {
         third: &[VarId],
         slots: Slots,
     ) -> Result<Slots, NoMemory>
-        requires { IsRowOf (A.grammar self.now.answers.now) row }
-        ensures { IfOk result (λ more. more ≡ slots ++ triples self.now.infos.now self.now.known.now (A.answered self.now.answers.now) row first.now second.now third.now) }
+        requires { IsRowOf self.now.answers.now.whole.grammar row }
+        ensures { IfOk result (λ more. more ≡ slots ++ triples self.now.infos.now self.now.known.now (read_after self.now.answers.now.whole.kept self.now.answers.now.sample) row first.now second.now third.now) }
     {
         let mut slots = slots;
         for v in first {
@@ -155,8 +177,8 @@ impl<'a, A: Answers> Sweep<'a, A> {
 
     // Those of a row.
     fn of_row(&self, row: RowId, leaders: &[VarId], slots: Slots) -> Result<Slots, NoMemory>
-        requires { IsRowOf (A.grammar self.now.answers.now) row }
-        ensures { IfOk result (λ more. more ≡ slots ++ slots_of_row self.now.infos.now leaders.now self.now.known.now (A.answered self.now.answers.now) row) }
+        requires { IsRowOf self.now.answers.now.whole.grammar row }
+        ensures { IfOk result (λ more. more ≡ slots ++ slots_of_row self.now.infos.now leaders.now self.now.known.now (read_after self.now.answers.now.whole.kept self.now.answers.now.sample) row) }
     {
         let arity = info(row).arity;
         if arity == 1 {
@@ -170,8 +192,8 @@ impl<'a, A: Answers> Sweep<'a, A> {
 
     /// All slots over these leaders, by row and then by leaders.
     pub(crate) fn all(&self, grammar: Grammar, leaders: &[VarId]) -> Result<Slots, NoMemory>
-        requires { A.grammar self.now.answers.now ≡ grammar }
-        ensures { IfOk result (λ slots. slots ≡ slots_of grammar self.now.infos.now leaders.now self.now.known.now (A.answered self.now.answers.now)) }
+        requires { self.now.answers.now.whole.grammar ≡ grammar }
+        ensures { IfOk result (λ slots. slots ≡ slots_of grammar self.now.infos.now leaders.now self.now.known.now (read_after self.now.answers.now.whole.kept self.now.answers.now.sample)) }
     {
         let mut slots = Slots::new(self.alloc);
         for n in 0..grammar.rows() {
@@ -189,8 +211,8 @@ impl<'a, A: Answers> Sweep<'a, A> {
         leaders: &[VarId],
         slots: Slots,
     ) -> Result<Slots, NoMemory>
-        requires { IsRowOf (A.grammar self.now.answers.now) row }
-        ensures { IfOk result (λ more. more ≡ slots ++ twos_with_one self.now.infos.now self.now.known.now (A.answered self.now.answers.now) row of.now before.now leaders.now) }
+        requires { IsRowOf self.now.answers.now.whole.grammar row }
+        ensures { IfOk result (λ more. more ≡ slots ++ twos_with_one self.now.infos.now self.now.known.now (read_after self.now.answers.now.whole.kept self.now.answers.now.sample) row of.now before.now leaders.now) }
     {
         let first = self.pairs(row, of, leaders, slots)?;
         self.pairs(row, before, of, first)
@@ -205,8 +227,8 @@ impl<'a, A: Answers> Sweep<'a, A> {
         leaders: &[VarId],
         slots: Slots,
     ) -> Result<Slots, NoMemory>
-        requires { IsRowOf (A.grammar self.now.answers.now) row }
-        ensures { IfOk result (λ more. more ≡ slots ++ threes_with_one self.now.infos.now self.now.known.now (A.answered self.now.answers.now) row of.now before.now leaders.now) }
+        requires { IsRowOf self.now.answers.now.whole.grammar row }
+        ensures { IfOk result (λ more. more ≡ slots ++ threes_with_one self.now.infos.now self.now.known.now (read_after self.now.answers.now.whole.kept self.now.answers.now.sample) row of.now before.now leaders.now) }
     {
         let first = self.triples(row, of, leaders, leaders, slots)?;
         let second = self.triples(row, before, of, leaders, first)?;
@@ -222,8 +244,8 @@ impl<'a, A: Answers> Sweep<'a, A> {
         leaders: &[VarId],
         slots: Slots,
     ) -> Result<Slots, NoMemory>
-        requires { IsRowOf (A.grammar self.now.answers.now) row }
-        ensures { IfOk result (λ more. more ≡ slots ++ with_one self.now.infos.now self.now.known.now (A.answered self.now.answers.now) row of.now before.now leaders.now) }
+        requires { IsRowOf self.now.answers.now.whole.grammar row }
+        ensures { IfOk result (λ more. more ≡ slots ++ with_one self.now.infos.now self.now.known.now (read_after self.now.answers.now.whole.kept self.now.answers.now.sample) row of.now before.now leaders.now) }
     {
         let arity = info(row).arity;
         if arity == 1 {
@@ -244,8 +266,8 @@ impl<'a, A: Answers> Sweep<'a, A> {
         leaders: &[VarId],
         slots: Slots,
     ) -> Result<Slots, NoMemory>
-        requires { IsRowOf (A.grammar self.now.answers.now) row }
-        ensures { IfOk result (λ more. more ≡ slots ++ threes_with_two self.now.infos.now self.now.known.now (A.answered self.now.answers.now) row v w leaders.now) }
+        requires { IsRowOf self.now.answers.now.whole.grammar row }
+        ensures { IfOk result (λ more. more ≡ slots ++ threes_with_two self.now.infos.now self.now.known.now (read_after self.now.answers.now.whole.kept self.now.answers.now.sample) row v w leaders.now) }
     {
         let first = self.triples(row, &[v], &[w], leaders, slots)?;
         let second = self.triples(row, &[v], leaders, &[w], first)?;
@@ -261,8 +283,8 @@ impl<'a, A: Answers> Sweep<'a, A> {
         leaders: &[VarId],
         slots: Slots,
     ) -> Result<Slots, NoMemory>
-        requires { IsRowOf (A.grammar self.now.answers.now) row }
-        ensures { IfOk result (λ more. more ≡ slots ++ with_two self.now.infos.now self.now.known.now (A.answered self.now.answers.now) row v w leaders.now) }
+        requires { IsRowOf self.now.answers.now.whole.grammar row }
+        ensures { IfOk result (λ more. more ≡ slots ++ with_two self.now.infos.now self.now.known.now (read_after self.now.answers.now.whole.kept self.now.answers.now.sample) row v w leaders.now) }
     {
         let arity = info(row).arity;
         if arity == 1 {
@@ -283,8 +305,8 @@ impl<'a, A: Answers> Sweep<'a, A> {
         leaders: &[VarId],
         slots: Slots,
     ) -> Result<Slots, NoMemory>
-        requires { IsRowOf (A.grammar self.now.answers.now) row }
-        ensures { IfOk result (λ more. more ≡ slots ++ with_ends self.now.infos.now self.now.known.now (A.answered self.now.answers.now) row v w leaders.now) }
+        requires { IsRowOf self.now.answers.now.whole.grammar row }
+        ensures { IfOk result (λ more. more ≡ slots ++ with_ends self.now.infos.now self.now.known.now (read_after self.now.answers.now.whole.kept self.now.answers.now.sample) row v w leaders.now) }
     {
         if v.0 == w.0 {
             return self.with_one(row, &[v], leaders, leaders, slots);
@@ -301,9 +323,9 @@ impl<'a, A: Answers> Sweep<'a, A> {
         leaders: &[VarId],
         slots: Slots,
     ) -> Result<Slots, NoMemory>
-        requires row { IsRowOf (A.grammar self.now.answers.now) row }
+        requires row { IsRowOf self.now.answers.now.whole.grammar row }
         requires some { 0 < length lost.now }
-        ensures { IfOk result (λ more. more ≡ slots ++ with_both self.now.infos.now self.now.known.now (A.answered self.now.answers.now) row lost.now leaders.now) }
+        ensures { IfOk result (λ more. more ≡ slots ++ with_both self.now.infos.now self.now.known.now (read_after self.now.answers.now.whole.kept self.now.answers.now.sample) row lost.now leaders.now) }
     {
         self.with_ends(row, lost[0], lost[lost.len() - 1], leaders, slots)
     }
@@ -316,8 +338,8 @@ impl<'a, A: Answers> Sweep<'a, A> {
         others: &[VarId],
         leaders: &[VarId],
     ) -> Result<Slots, NoMemory>
-        requires { A.grammar self.now.answers.now ≡ grammar }
-        ensures { IfOk result (λ slots. slots ≡ touched_slots grammar self.now.infos.now self.now.known.now (A.answered self.now.answers.now) touching.now others.now leaders.now) }
+        requires { self.now.answers.now.whole.grammar ≡ grammar }
+        ensures { IfOk result (λ slots. slots ≡ touched_slots grammar self.now.infos.now self.now.known.now (read_after self.now.answers.now.whole.kept self.now.answers.now.sample) touching.now others.now leaders.now) }
     {
         let mut slots = Slots::new(self.alloc);
         if touching.is_empty() {
@@ -338,7 +360,7 @@ impl<'a, A: Answers> Sweep<'a, A> {
         slots: Slots,
     ) -> Result<Slots, NoMemory>
         requires { 0 < length lost.now }
-        ensures { IfOk result (λ more. more ≡ slots ++ freed_slots self.now.infos.now self.now.known.now (A.answered self.now.answers.now) leaders.now row lost.now) }
+        ensures { IfOk result (λ more. more ≡ slots ++ freed_slots self.now.infos.now self.now.known.now (read_after self.now.answers.now.whole.kept self.now.answers.now.sample) leaders.now row lost.now) }
     {
         let mut slots = slots;
         for freed in reached(row) {
@@ -357,7 +379,7 @@ impl<'a, A: Answers> Sweep<'a, A> {
     ) -> Result<Slots, NoMemory>
         requires within { All (λ k. k < length kept.now) lost.now }
         requires some { All (λ s. 0 < length s.leaders) kept.now }
-        ensures { IfOk result (λ more. more ≡ slots ++ freed_by_all self.now.infos.now self.now.known.now (A.answered self.now.answers.now) leaders.now kept.now lost.now) }
+        ensures { IfOk result (λ more. more ≡ slots ++ freed_by_all self.now.infos.now self.now.known.now (read_after self.now.answers.now.whole.kept self.now.answers.now.sample) leaders.now kept.now lost.now) }
     {
         let mut slots = slots;
         for place in lost {

@@ -17,6 +17,3 @@ pub use filter::{Filter, kept};
 pub use found::PointFacts;
 pub use judging::{judge, judge_with};
 pub use parents::ParentView;
-
-#[cfg(test)]
-mod tests;

@@ -9,6 +9,3 @@ mod texts;
 
 pub use input::generate;
 pub use texts::{generated_line, generated_name};
-
-#[cfg(test)]
-mod tests;

@@ -1,19 +1,63 @@
 -- A slot with one sample more, and the first of a run that a sample changes.
-use Rattle.std.specs.Prelude.{◌≡◌, ◌↔◌, ◌<◌, ◌≤◌, ◌+◌, ℕ, Bool, true, false, All, IsSomeAnd, IsTrue, List, [], ◌∷◌, Some, if◌then◌else◌, length, refl, take}
+use Rattle.std.specs.Prelude.{◌≡◌, ◌↔◌, ◌<◌, ◌≤◌, ◌+◌, ◌&&◌, ℕ, Bool, true, false, All, IsSomeAnd, IsTrue, List, [], ◌∷◌, Some, if◌then◌else◌, length, refl, slice_get, take}
 use Rattle.std.proofs.Common.{ap, get_or, subst, sym, ◌∙◌}
 use Rattle.std.proofs.lemmas.Bool.{false≢true}
 use Rattle.std.proofs.lemmas.List.{take_all}
 use Rattle.std.proofs.lemmas.List.Elements.{All-more}
-use Rattle.std.proofs.lemmas.Option.{slice_get_read}
+use Rattle.std.proofs.lemmas.Option.{none-some, slice_get_read}
+use Rattle.dk_base.specs.Tuples.{value_at}
+use Rattle.dk_base.specs.Values.{kind_of}
 use Rattle.dk_base.specs.declared.kinds.Kind.{Kind}
 use Rattle.dk_base.specs.declared.kinds.VarId.{VarId}
 use Rattle.dk_base.specs.declared.values.Value.{Value}
+use Rattle.dk_base.specs.declared.values.Value.TheVariants as value
 use Rattle.dk_fits.specs.Fits.{is_whole, tuple_in}
 use Rattle.dk_forms.specs.declared.states.State.{State}
 use Rattle.dk_grammar.specs.Runs.{IsFirstWithout, IsSlot, Stays, with_tuple}
+use Rattle.dk_samples.specs.Samples.{is_present}
 use Rattle.dk_template.specs.Joins.{joined}
 use Rattle.dk_template.specs.Rows.{IsTuple}
 use Rattle.dk_template.specs.declared.templates.StateForm.{StateForm}
+
+-- ---- whether a value is missing, told by its kind
+-- a value of a kind isn't missing
+present : (x : Value) {kind : Kind} → kind_of x ≡ Some kind → is_present x ≡ true
+present value.Missing {kind} e = absurd (none-some kind e)
+present (value.Bool b) e = refl
+present (value.Int z) e = refl
+present (value.Hash n) e = refl
+present (value.Str s) e = refl
+present (value.BoolSeq bs) e = refl
+present (value.IntSeq zs) e = refl
+present (value.HashSeq ns) e = refl
+present (value.StrSeq ss) e = refl
+
+same_test : (b w : Bool) → (b ≡ true → w ≡ true) → (w ≡ true → b ≡ true) → b ≡ w
+same_test true w to from = sym (to refl)
+same_test false true to from = from refl
+same_test false false to from = refl
+
+-- a tuple of which a value isn't of its kind isn't whole
+pub lacks : (kinds : List Kind) (tuple : List Value) → (is_whole tuple ≡ true → IsTuple kinds tuple) → (role : ℕ) (kind : Kind) → slice_get kinds role ≡ Some kind
+    → {b : Bool} → IsTrue b ↔ (kind_of (value_at tuple role) ≡ Some kind) → b ≡ false → false ≡ is_whole tuple
+lacks kinds tuple is role kind at {b} tells not_of =
+    same_test false (is_whole tuple) (λ t. absurd (false≢true t)) (λ w. sym not_of ∙ tells.1 ((is w).each role ∙ at))
+
+pub whole_one : (a : Kind) (x : Value) → (is_whole (x ∷ []) ≡ true → IsTuple (a ∷ []) (x ∷ [])) → {b : Bool} → IsTrue b ↔ (kind_of x ≡ Some a) → b ≡ is_whole (x ∷ [])
+whole_one a x is {b} tells = same_test b (is_whole (x ∷ [])) (λ t. ap (λ p. p && true) (present x (tells.0 t))) (λ w. tells.1 ((is w).each 0))
+
+pub whole_two : (a c : Kind) (x y : Value) → (is_whole (x ∷ y ∷ []) ≡ true → IsTuple (a ∷ c ∷ []) (x ∷ y ∷ [])) → kind_of x ≡ Some a
+    → {b : Bool} → IsTrue b ↔ (kind_of y ≡ Some c) → b ≡ is_whole (x ∷ y ∷ [])
+whole_two a c x y is first {b} tells =
+    same_test b (is_whole (x ∷ y ∷ [])) (λ t. ap (λ p. p && (is_present y && true)) (present x first) ∙ ap (λ p. p && true) (present y (tells.0 t)))
+    (λ w. tells.1 ((is w).each 1))
+
+pub whole_three : (a c d : Kind) (x y z : Value) → (is_whole (x ∷ y ∷ z ∷ []) ≡ true → IsTuple (a ∷ c ∷ d ∷ []) (x ∷ y ∷ z ∷ [])) → kind_of x ≡ Some a → kind_of y ≡ Some c
+    → {b : Bool} → IsTrue b ↔ (kind_of z ≡ Some d) → b ≡ is_whole (x ∷ y ∷ z ∷ [])
+whole_three a c d x y z is first second {b} tells =
+    same_test b (is_whole (x ∷ y ∷ z ∷ []))
+    (λ t. ap (λ p. p && (is_present y && (is_present z && true))) (present x first) ∙ ap (λ p. p && (is_present z && true)) (present y second) ∙ ap (λ p. p && true) (present z (tells.0 t)))
+    (λ w. tells.1 ((is w).each 2))
 
 -- ---- one slot
 -- the values of its variables, if none is missing, are a tuple of the kinds

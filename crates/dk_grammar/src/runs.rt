@@ -14,7 +14,7 @@ use dk_base::View;
 use dk_binary::binary_row;
 use dk_elements::element_row;
 use dk_pairs::pair_row;
-use dk_template::RowId;
+use dk_template::{RowId, template_at};
 use dk_ternary::ternary_row;
 use dk_unary::unary_row;
 
@@ -24,7 +24,7 @@ fn unary_run<S: Slot>(row: RowId, run: &[S], sample: &[View<'_>]) -> Option<usiz
     requires run { AreSlots S.vars S.state row (values_of sample.now) run.now }
     ensures { IsFirstChanged S.vars S.state row (values_of sample.now) run.now result }
 {
-    unary_row!(row, row => first_changed_by(1, &row, run, sample))
+    unary_row!(row, row => first_changed_by(template_at(row.row()).takes, &row, run, sample))
 }
 
 // A row of two variables.
@@ -33,7 +33,7 @@ fn binary_run<S: Slot>(row: RowId, run: &[S], sample: &[View<'_>]) -> Option<usi
     requires run { AreSlots S.vars S.state row (values_of sample.now) run.now }
     ensures { IsFirstChanged S.vars S.state row (values_of sample.now) run.now result }
 {
-    binary_row!(row, row => first_changed_by(2, &row, run, sample))
+    binary_row!(row, row => first_changed_by(template_at(row.row()).takes, &row, run, sample))
 }
 
 // A row of three variables.
@@ -42,7 +42,7 @@ fn ternary_run<S: Slot>(row: RowId, run: &[S], sample: &[View<'_>]) -> Option<us
     requires run { AreSlots S.vars S.state row (values_of sample.now) run.now }
     ensures { IsFirstChanged S.vars S.state row (values_of sample.now) run.now result }
 {
-    ternary_row!(row, row => first_changed_by(3, &row, run, sample))
+    ternary_row!(row, row => first_changed_by(template_at(row.row()).takes, &row, run, sample))
 }
 
 // A row over the elements of a sequence.
@@ -51,7 +51,7 @@ fn element_run<S: Slot>(row: RowId, run: &[S], sample: &[View<'_>]) -> Option<us
     requires run { AreSlots S.vars S.state row (values_of sample.now) run.now }
     ensures { IsFirstChanged S.vars S.state row (values_of sample.now) run.now result }
 {
-    element_row!(row, row => first_changed_by(1, &row, run, sample))
+    element_row!(row, row => first_changed_by(template_at(row.row()).takes, &row, run, sample))
 }
 
 // A row of a value and a sequence or of two sequences.
@@ -60,7 +60,7 @@ fn pair_run<S: Slot>(row: RowId, run: &[S], sample: &[View<'_>]) -> Option<usize
     requires run { AreSlots S.vars S.state row (values_of sample.now) run.now }
     ensures { IsFirstChanged S.vars S.state row (values_of sample.now) run.now result }
 {
-    pair_row!(row, row => first_changed_by(2, &row, run, sample))
+    pair_row!(row, row => first_changed_by(template_at(row.row()).takes, &row, run, sample))
 }
 
 /// The first slot of a run of slots of one row that a sample changes, or none where it leaves all as they are. A sample joins the point

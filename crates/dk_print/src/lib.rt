@@ -12,6 +12,3 @@ mod values;
 
 pub use instances::{instance, push_instance};
 pub use sections::{fault, push_fault, push_section, push_stats, section, stats};
-
-#[cfg(test)]
-mod tests;

@@ -1,18 +1,24 @@
 -- A run over files that are held comes to its end.
-use Rattle.std.proofs.Common.{◌≡◌, ◌≤◌, ◌<◌, ◌+◌, ◌-◌, inl, inr, Bool, ℕ, zero, suc, List, [], ◌∷◌, map, take, length, Option, Some, None, Result, Ok, Err, refl, sym, ◌∙◌, ap, subst, arith}
+use Rattle.std.proofs.Common.{◌≡◌, ◌≤◌, ◌<◌, ◌+◌, ◌-◌, ◌⊎◌, inl, inr, Bool, ℕ, zero, suc, List, [], ◌∷◌, map, take, length, Option, Some, None, Result, Ok, Err, refl, sym, ◌∙◌, ap, subst, arith}
 use Rattle.std.proofs.lemmas.Bool.{cases_lt}
 use Rattle.std.proofs.lemmas.List.{length-take, take-map, take-take, take_all}
 use Rattle.dk_base.specs.Reading.{LineFault}
+use Rattle.dk_base.specs.declared.why.Why.{Why}
 use Rattle.dk_io.specs.Outside.{HeldFile, Absent, Holds, Rose}
-use Rattle.dk_core.specs.History.{History, file_ended, no_history}
+use Rattle.dk_io.specs.declared.outside.Stream.TheVariants.{Messages}
+use Rattle.dk_core.specs.History.{History, file_ended}
+use Rattle.dk_core.specs.Resuming.{IsStart, state_of}
+use Rattle.dk_core.proofs.Resuming.{spelled_start}
 use Rattle.dk_words.specs.declared.command.Command.{Command}
 use Rattle.dk_words.specs.declared.request.Request.{Request}
 use Rattle.dk_words.specs.declared.request.Request.TheVariants.{Run, Help, Version}
 use Rattle.dk_run.specs.Commands.{helds_of, names_of}
-use Rattle.dk_run.specs.Courses.{Course, course_of, course_of_file, course_of_files, ends, fault_in, first_fault, onto, then_files, total_limit}
+use Rattle.dk_run.specs.Courses.{Course, Outset, course_of, course_of_file, course_of_files, ends, fault_in, first_fault, onto, then_files}
+use Rattle.dk_run.specs.Starts.{Begins, HasBegun, IsRefusedAs, IsState}
 use Rattle.dk_run.specs.Files.{AreHeldFiles, File, FileFault, whole}
-use Rattle.dk_run.specs.Outputs.{Output, followed, output_along, output_of}
-use Rattle.dk_run.specs.Statuses.{AreClean, AtStart, Break, CompletesCalmly, HasBroken, IsCalm, IsComplete, IsRefused, Outside, Says, Within, held_file_at}
+use Rattle.dk_print.specs.Sections.{fault_line}
+use Rattle.dk_run.specs.Outputs.{Output, followed, only_on, output_along, output_of}
+use Rattle.dk_run.specs.Statuses.{AreCleanBehind, AtStart, Break, CompletesCalmly, HasBroken, IsCalm, IsComplete, IsDone, IsRefused, IsStateRefused, IsStateUnread, IsUnread, OutputIsWritten, Outside, Says, Within, held_file_at}
 use Rattle.dk_run.specs.declared.status.Status.{Status}
 use Rattle.dk_run.specs.declared.status.Status.TheVariants.{Done, Refused, Usage, Read, Write, NoMemory}
 use Rattle.dk_run.proofs.Saying.{held-take, same_length}
@@ -37,9 +43,9 @@ fault_is (Ok h) f e = absurd (cc (e))
 fault_is (Err g) f e = cc (e)
 
 -- the course over a front of the files that ends with a fault is that over all of them
-first_front : (ignores : Bool) (k : ℕ) (fs : List File) (f : FileFault) → first_fault ignores (take k fs) ≡ Some f → course_of ignores (take k fs) ≡ course_of ignores fs
+first_front : (start : Outset) (ignores : Bool) (k : ℕ) (fs : List File) (f : FileFault) → first_fault start ignores (take k fs) ≡ Some f → course_of start ignores (take k fs) ≡ course_of start ignores fs
 unfolding course_of
-first_front ignores k fs f e = course_front ignores total_limit no_history 0 k fs f (fault_is (course_of_files ignores total_limit no_history 0 (take k fs)).end f e)
+first_front start ignores k fs f e = course_front ignores start.room start.history 0 k fs f (fault_is (course_of_files ignores start.room start.history 0 (take k fs)).end f e)
 
 -- ---- files that are held
 held_take : (k : ℕ) (helds : List HeldFile) (contents : List (List ℕ)) → AreHeldFiles helds contents → AreHeldFiles (take k helds) (take k contents)
@@ -65,57 +71,139 @@ not_unread command before after AtStart place n contents calm held below named (
     cc (absent, same, there.1)
 
 -- of the first n files the contents are held, and they have a first fault: so the faulty one stands behind the clean ones
-not_clean : (ignores : Bool) (helds : List HeldFile) (k n : ℕ) (contents : List (List ℕ)) (fault : FileFault) → AreClean ignores helds k
-    → AreHeldFiles (take n helds) contents → first_fault ignores (map whole contents) ≡ Some fault → n ≤ k → ⊥
-not_clean ignores helds k n contents fault clean held first h = let none = clean n contents h held in cc (none, first)
+not_clean : (start : Outset) (ignores : Bool) (helds : List HeldFile) (k n : ℕ) (contents : List (List ℕ)) (fault : FileFault) → AreCleanBehind start ignores helds k
+    → AreHeldFiles (take n helds) contents → first_fault start ignores (map whole contents) ≡ Some fault → n ≤ k → ⊥
+not_clean start ignores helds k n contents fault clean held first h = let none = clean n contents h held in cc (none, first)
 
 -- what was told of a refused file holds of all files that are held
-told_refused : (command : Command) (before after : Outside) (output : Output) (comes : IsRefused command before after output) (n : ℕ) (contents : List (List ℕ))
-    → comes.fault.file < n → AreHeldFiles (take n (helds_of command before.file)) contents
-    → (first_fault command.ignore_missing_entry (map whole contents) ≡ Some comes.fault) × (output ≡ output_of command (map whole contents))
+told_refused : (command : Command) (before after : Outside) (output : Output) (comes : IsRefused command before after output) (start : Outset) → Begins command.resume before.file start
+    → (n : ℕ) (contents : List (List ℕ)) → comes.fault.file < n → AreHeldFiles (take n (helds_of command before.file)) contents
+    → (first_fault start command.ignore_missing_entry (map whole contents) ≡ Some comes.fault) × (output ≡ output_of start command (map whole contents))
 unfolding output_of
-told_refused command before after output comes n contents h held =
+told_refused command before after output comes start begins n contents h held =
     let k = comes.fault.file in
     let front : AreHeldFiles (take (k + 1) (helds_of command before.file)) (take (k + 1) contents) =
     subst (λ (l : List HeldFile). AreHeldFiles l (take (k + 1) contents)) (take-take (k + 1) n (helds_of command before.file) (omega arith)) (held_take (k + 1) (take n (helds_of command before.file)) contents held) in
-    let first = comes.first (take (k + 1) contents) front in
-    let same : course_of command.ignore_missing_entry (map whole (take (k + 1) contents)) ≡ course_of command.ignore_missing_entry (map whole contents) =
-    ap (course_of command.ignore_missing_entry) (sym (take-map whole (k + 1) contents))
-    ∙ first_front command.ignore_missing_entry (k + 1) (map whole contents) comes.fault (ap (first_fault command.ignore_missing_entry) (take-map whole (k + 1) contents) ∙ first) in
-    (ap (λ (c : Course FileFault). fault_in c.end) (sym same) ∙ first, comes.defined (take (k + 1) contents) front ∙ ap (output_along command) same)
+    let first = comes.first start begins (take (k + 1) contents) front in
+    let same : course_of start command.ignore_missing_entry (map whole (take (k + 1) contents)) ≡ course_of start command.ignore_missing_entry (map whole contents) =
+    ap (course_of start command.ignore_missing_entry) (sym (take-map whole (k + 1) contents))
+    ∙ first_front start command.ignore_missing_entry (k + 1) (map whole contents) comes.fault (ap (first_fault start command.ignore_missing_entry) (take-map whole (k + 1) contents) ∙ first) in
+    (ap (λ (c : Course FileFault). fault_in c.end) (sym same) ∙ first, comes.defined start begins (take (k + 1) contents) front ∙ ap (output_along command) same)
 
-pub complete_of : (command : Command) (before after : Outside) (result : Status) → Says result (Some (Run command)) before after → IsCalm before after → IsComplete command before after result
-complete_of command before after Done (output, comes, written) calm = record {
-  done = λ contents held none. inl (refl, written.0 ∙ ap (followed before.written) (comes.defined contents held));
-  refused = λ n contents fault held first. elim (cases_lt n (length (helds_of command before.file))) [
-    | inl below ↦ absurd (not_clean command.ignore_missing_entry (helds_of command before.file) (length (helds_of command before.file)) n contents fault comes.read.clean held first (omega arith))
+-- ---- the state file
+-- what is a state is not refused as one
+fine_state : (why : Why) (xs : List ℕ) → IsState xs → IsRefusedAs why xs → ⊥
+fine_state why xs state (inl (is, long)) = omega (arith, state.0, long)
+fine_state why xs state (inr (is, short, bad)) = bad state.1
+
+-- the state file that a run begins with is there, and is one
+start_state : (resume : Option (List ℕ)) (file : List ℕ → HeldFile) (start : Outset) → Begins resume file start → (name : List ℕ) → resume ≡ Some name → (xs : List ℕ) × (file name ≡ Holds xs) × IsState xs
+start_state None file start begins name is = absurd (cc (is))
+start_state (Some other) file start (h, begin, holds, short, same) name is =
+    let here : other ≡ name = cc (is) in
+    (state_of h, ap file (sym here) ∙ holds, (short, spelled_start h begin))
+
+not_state_refused : (command : Command) (before : Outside) (output : Output) (start : Outset) → Begins command.resume before.file start → IsStateRefused command before output → ⊥
+not_state_refused command before output start begins refused =
+    let (xs, holds, state) = start_state command.resume before.file start begins refused.name refused.named in
+    fine_state refused.why xs state (refused.fault xs holds)
+
+not_held_unread : (by : Break) (before after : Outside) (held : HeldFile) (xs : List ℕ) → IsCalm before after → held ≡ Holds xs → HasBroken by held (Rose before.read_faults after.read_faults) → ⊥
+not_held_unread AtStart before after held xs calm holds (inl absent) = cc (holds, absent)
+not_held_unread AtStart before after held xs calm holds (inr rose) = calm.read rose
+not_held_unread Within before after held xs calm holds (there, rose) = calm.read rose
+
+not_state_unread : (command : Command) (before after : Outside) (output : Output) (start : Outset) → IsCalm before after → Begins command.resume before.file start → IsStateUnread command before after output → ⊥
+not_state_unread command before after output start calm begins unread =
+    let (xs, holds, state) = start_state command.resume before.file start begins unread.name unread.named in
+    not_held_unread unread.by before after (before.file unread.name) xs calm holds unread.cause
+
+-- a run that has begun did so with a state
+begun_state : (resume : Option (List ℕ)) (file : List ℕ → HeldFile) (name xs : List ℕ) (why : Why) → HasBegun resume file → resume ≡ Some name → file name ≡ Holds xs → IsRefusedAs why xs → ⊥
+begun_state None file name xs why begun is holds bad = cc (is)
+begun_state (Some other) file name xs why begun is holds bad =
+    let here : other ≡ name = cc (is) in
+    fine_state why xs (begun.is_state xs (ap file here ∙ holds)) bad
+
+same_why : (a b : Why) (xs : List ℕ) → IsRefusedAs a xs → IsRefusedAs b xs → a ≡ b
+same_why a b xs (inl (is, long)) (inl (same, more)) = is ∙ sym same
+same_why a b xs (inl (is, long)) (inr (same, short, bad)) = absurd (omega (arith, long, short))
+same_why a b xs (inr (is, short, bad)) (inl (same, long)) = absurd (omega (arith, long, short))
+same_why a b xs (inr (is, short, bad)) (inr (same, more, worse)) = is ∙ sym same
+
+-- ---- what each status says
+done_of : (command : Command) (before after : Outside) (output : Output) → IsDone command before after output → OutputIsWritten before after output → IsComplete command before after Done
+done_of command before after output comes written = record {
+  done = λ start begins contents held none. inl (refl, written.0 ∙ ap (followed before.written) (comes.defined start begins contents held));
+  refused = λ start begins n contents fault held first. elim (cases_lt n (length (helds_of command before.file))) [
+    | inl below ↦ absurd (not_clean start command.ignore_missing_entry (helds_of command before.file) (length (helds_of command before.file)) n contents fault (comes.read.clean start begins) held first (omega arith))
     | inr above ↦
         let all = take_all n (helds_of command before.file) (omega arith) in
         let whole_held : AreHeldFiles (take (length (helds_of command before.file)) (helds_of command before.file)) contents =
         held_whole (helds_of command before.file) contents (subst (λ (l : List HeldFile). AreHeldFiles l contents) all held) in
-        absurd (not_clean command.ignore_missing_entry (helds_of command before.file) (length (helds_of command before.file)) (length (helds_of command before.file)) contents fault comes.read.clean whole_held first (omega arith))
+        absurd (not_clean start command.ignore_missing_entry (helds_of command before.file) (length (helds_of command before.file)) (length (helds_of command before.file)) contents fault (comes.read.clean start begins) whole_held first (omega arith))
   ];
+  state_refused = λ name xs why named holds bad. absurd (begun_state command.resume before.file name xs why comes.read.begun named holds bad);
 }
-complete_of command before after Refused (output, comes, written) calm = record {
-  done = λ contents held none.
-      let told = told_refused command before after output comes (length (helds_of command before.file)) contents (omega (arith, comes.named, same_length command before.file)) (held_whole (helds_of command before.file) contents held) in
+
+refused_of : (command : Command) (before after : Outside) (output : Output) → IsRefused command before after output → OutputIsWritten before after output → IsComplete command before after Refused
+refused_of command before after output comes written = record {
+  done = λ start begins contents held none.
+      let told = told_refused command before after output comes start begins (length (helds_of command before.file)) contents (omega (arith, comes.named, same_length command before.file)) (held_whole (helds_of command before.file) contents held) in
       absurd (cc (none, told.0));
-  refused = λ n contents fault held first. elim (cases_lt comes.fault.file n) [
-    | inl below ↦ inl (refl, written.0 ∙ ap (followed before.written) (told_refused command before after output comes n contents below held).1)
-    | inr above ↦ absurd (not_clean command.ignore_missing_entry (helds_of command before.file) comes.fault.file n contents fault comes.clean_before held first above)
+  refused = λ start begins n contents fault held first. elim (cases_lt comes.fault.file n) [
+    | inl below ↦ inl (refl, written.0 ∙ ap (followed before.written) (told_refused command before after output comes start begins n contents below held).1)
+    | inr above ↦ absurd (not_clean start command.ignore_missing_entry (helds_of command before.file) comes.fault.file n contents fault (comes.clean_before start begins) held first above)
   ];
+  state_refused = λ name xs why named holds bad. absurd (begun_state command.resume before.file name xs why comes.begun named holds bad);
 }
-complete_of command before after Usage (output, comes, written) calm = absurd comes
-complete_of command before after Read (output, comes, written) calm = record {
-  done = λ contents held none. absurd (not_unread command before after comes.by comes.place (length (helds_of command before.file)) contents calm (held_whole (helds_of command before.file) contents held)
+
+state_refused_of : (command : Command) (before after : Outside) (output : Output) → IsStateRefused command before output → OutputIsWritten before after output → IsComplete command before after Refused
+state_refused_of command before after output comes written = record {
+  done = λ start begins contents held none. absurd (not_state_refused command before output start begins comes);
+  refused = λ start begins n contents fault held first. absurd (not_state_refused command before output start begins comes);
+  state_refused = λ name xs why named holds bad.
+      let here : comes.name ≡ name = let e = sym comes.named ∙ named in cc (e) in
+      let same = same_why comes.why why xs (comes.fault xs (ap before.file here ∙ holds)) bad in
+      inl (
+        refl,
+        written.0 ∙ ap (followed before.written) (comes.message ∙ ap (λ (n : List ℕ). only_on Messages (fault_line n 0 comes.why)) here ∙ ap (λ (w : Why). only_on Messages (fault_line name 0 w)) same),
+      );
+}
+
+unread_of : (command : Command) (before after : Outside) (output : Output) → IsUnread command before after output → IsCalm before after → IsComplete command before after Read
+unread_of command before after output comes calm = record {
+  done = λ start begins contents held none. absurd (not_unread command before after comes.by comes.place (length (helds_of command before.file)) contents calm (held_whole (helds_of command before.file) contents held)
       (omega (arith, comes.named, same_length command before.file)) comes.named comes.cause);
-  refused = λ n contents fault held first. elim (cases_lt comes.place n) [
+  refused = λ start begins n contents fault held first. elim (cases_lt comes.place n) [
     | inl below ↦ absurd (not_unread command before after comes.by comes.place n contents calm held below comes.named comes.cause)
-    | inr above ↦ absurd (not_clean command.ignore_missing_entry (helds_of command before.file) comes.place n contents fault comes.clean_before held first above)
+    | inr above ↦ absurd (not_clean start command.ignore_missing_entry (helds_of command before.file) comes.place n contents fault (comes.clean_before start begins) held first above)
   ];
+  state_refused = λ name xs why named holds bad. absurd (begun_state command.resume before.file name xs why comes.begun named holds bad);
 }
+
+state_unread_of : (command : Command) (before after : Outside) (output : Output) → IsStateUnread command before after output → IsCalm before after → IsComplete command before after Read
+state_unread_of command before after output comes calm = record {
+  done = λ start begins contents held none. absurd (not_state_unread command before after output start calm begins comes);
+  refused = λ start begins n contents fault held first. absurd (not_state_unread command before after output start calm begins comes);
+  state_refused = λ name xs why named holds bad.
+      let here : comes.name ≡ name = let e = sym comes.named ∙ named in cc (e) in
+      absurd (not_held_unread comes.by before after (before.file comes.name) xs calm (ap before.file here ∙ holds) comes.cause);
+}
+
+pub complete_of : (command : Command) (before after : Outside) (result : Status) → Says result (Some (Run command)) before after → IsCalm before after → IsComplete command before after result
+complete_of command before after Done (output, comes, written) calm = done_of command before after output comes written
+complete_of command before after Refused (output, inl comes, written) calm = state_refused_of command before after output comes written
+complete_of command before after Refused (output, inr comes, written) calm = refused_of command before after output comes written
+complete_of command before after Usage (output, comes, written) calm = absurd comes
+complete_of command before after Read (output, inl comes, written) calm = state_unread_of command before after output comes calm
+complete_of command before after Read (output, inr comes, written) calm = unread_of command before after output comes calm
 complete_of command before after Write (rose, cut) calm = absurd (calm.write rose)
-complete_of command before after NoMemory cut calm = record { done = λ contents held none. inr refl; refused = λ n contents fault held first. inr refl }
+complete_of command before after NoMemory cut calm = record {
+  done = λ start begins contents held none. inr refl;
+  refused = λ start begins n contents fault held first. inr refl;
+  state_refused = λ name xs why named holds bad. inr refl;
+}
 
 pub complete_says : (asked : Option Request) (command : Command) (before after : Outside) (result : Status) → asked ≡ Some (Run command) → Says result (Some (Run command)) before after
     → CompletesCalmly asked before after result

@@ -316,10 +316,10 @@ pub alike_same : {F : Type 0} (a : Session F) → ReportsAlike a a
 alike_same a = record { grammar = refl; options = refl; select = refl }
 
 pub reports_on : {F : Type 0} (command : Command) (a b : Session F) → ReportsAlike a b → ReportsBy command a → ReportsBy command b
-reports_on command a b alike reports = record { grammar = alike.grammar ∙ reports.grammar; options = alike.options ∙ reports.options }
+reports_on command a b alike reports = alike.options ∙ reports
 
 pub ignores_by : {F : Type 0} (command : Command) (s : Session F) → ReportsBy command s → ignores_of s ≡ command.ignore_missing_entry
-ignores_by command s reports = ap (λ (o : Options). o.ignore_missing_entry) reports.options
+ignores_by command s reports = ap (λ (o : Options). o.ignore_missing_entry) reports
 
 -- the count of blocks behind one that was found, and whether the file is over behind none
 pub counted_on : {F : Type 0} (s next : Session F) (r last : Reading) (result : Result Bool Fault) → result ≡ Ok true → SessionCounts s r (left_with_answer next result) last → blocks_of next ≡ min (blocks_of s + 1) (2 ^ 64 - 1)

@@ -9,13 +9,14 @@ use Rattle.dk_graph.proofs.Places.{bytes_eq-same}
 use Rattle.dk_io.specs.NamedFiles.{bytes_of, held_or_empty}
 use Rattle.dk_io.specs.Outside.{HeldFile, Absent, Holds, Rose}
 use Rattle.dk_lines.specs.Reading.{Reading, room_of}
-use Rattle.dk_core.specs.History.{History, no_history}
+use Rattle.dk_core.specs.History.{History}
 use Rattle.dk_core.specs.Standing.{SessionStandsFor, blocks_of}
 use Rattle.dk_core.specs.declared.session.Session.{Session}
 use Rattle.dk_words.specs.declared.command.Command.{Command}
 use Rattle.dk_run.specs.AllFiles.{AreReadTo, FilesTroubleGives, HasBrokenAt, placed}
 use Rattle.dk_run.specs.Commands.{generated_count, helds_of, names_of}
-use Rattle.dk_run.specs.Courses.{standard, total_limit}
+use Rattle.dk_run.specs.Courses.{Outset, line_limit}
+use Rattle.dk_run.specs.Starts.{Begins}
 use Rattle.dk_run.specs.Files.{name_at}
 use Rattle.dk_run.specs.Reports.{capped}
 use Rattle.dk_run.specs.Statuses.{held_file_at, rest_behind}
@@ -64,7 +65,7 @@ rest_next : (count index : ℕ) (before after : Option (List ℕ)) → after ≡
 rest_next count index before after e = let next : suc index ≡ count + index + 1 - count = omega arith in subst (λ (n : ℕ). after ≡ rest_behind n before) next e
 
 pub named_on : {F : Type 0} (command : Command) (file : List ℕ → HeldFile) (before mid after : Option (List ℕ)) (s next : Session F) (index : ℕ) (r last : Reading) (told text name : List ℕ)
-    → name ≡ name_at command.files index → index < length command.files → r.limits ≡ standard → file name ≢ Absent
+    → name ≡ name_at command.files index → index < length command.files → r.limits.line ≡ line_limit → file name ≢ Absent
     → AreReadTo command file before mid (SessionStandsFor s) (blocks_of s) (room_of r) (generated_count command + index) told
     → ((h : History) (n : ℕ) → SessionStandsFor s h → blocks_of s ≡ capped n → (xs : List ℕ) → file name ≡ Holds xs → FileGives command n h r xs text mid (Ok next) last after)
     → AreReadTo command file before after (SessionStandsFor next) (blocks_of next) (room_of last) (generated_count command + (index + 1)) (told ++ text)
@@ -77,7 +78,7 @@ named_on command file before mid after s next index r last told text name is wit
     (λ h n stands counts xs holds. gives h n stands counts xs (sym here ∙ holds)))
 
 pub named_trouble : {F : Type 0} (command : Command) (file : List ℕ → HeldFile) (before mid rest : Option (List ℕ)) (s : Session F) (index : ℕ) (r : Reading) (told text name : List ℕ) (trouble : Trouble)
-    → name ≡ name_at command.files index → index < length command.files → r.limits ≡ standard → ((trouble ≡ t.Start → ⊥) → file name ≢ Absent)
+    → name ≡ name_at command.files index → index < length command.files → r.limits.line ≡ line_limit → ((trouble ≡ t.Start → ⊥) → file name ≢ Absent)
     → (trouble ≡ t.Start → (text ≡ []) × (rest ≡ mid))
     → AreReadTo command file before mid (SessionStandsFor s) (blocks_of s) (room_of r) (generated_count command + index) told
     → ((h : History) (n : ℕ) → SessionStandsFor s h → blocks_of s ≡ capped n → (xs : List ℕ) → file name ≡ Holds xs → FileTroubleGives command n h r xs text mid trouble rest)
@@ -155,39 +156,42 @@ first_there command file n e absent = let holds = first_held command file n e in
 first_text : (command : Command) (file : List ℕ → HeldFile) (n : ℕ) (text xs : List ℕ) → command.generate ≡ Some n → text ≡ generated_text n → held_file_at (helds_of command file) 0 ≡ Holds xs → text ≡ xs
 first_text command file n text xs e is holds = let first = first_held command file n e in cc (first, holds, is)
 
-pub none_generated : (command : Command) (file : List ℕ → HeldFile) (before : Option (List ℕ)) (Stands : History → Type 0) (blocks room : ℕ) → command.generate ≡ None → Stands no_history → blocks ≡ 0 → room ≡ total_limit
+pub none_generated : (command : Command) (file : List ℕ → HeldFile) (before : Option (List ℕ)) (Stands : History → Type 0) (blocks room : ℕ) → command.generate ≡ None
+    → ((start : Outset) → Begins command.resume file start → Stands start.history × (room ≡ start.room)) → blocks ≡ 0
     → AreReadTo command file before before Stands blocks room (generated_count command) []
-none_generated command file before Stands blocks room e stands none all =
+none_generated command file before Stands blocks room e stands none =
     let count : 0 ≡ generated_count command = sym (ap (λ (g : Option ℕ). option_map_or (λ n. 1) g 0) e) in
-    subst (λ (n : ℕ). AreReadTo command file before before Stands blocks room n []) count (read_none command file before Stands blocks room stands none all)
+    subst (λ (n : ℕ). AreReadTo command file before before Stands blocks room n []) count (read_none command file before Stands blocks room stands none)
 
 pub generated_on : {F : Type 0} (command : Command) (file : List ℕ → HeldFile) (before : Option (List ℕ)) (s next : Session F) (r last : Reading) (n : ℕ) (bytes text : List ℕ)
-    → command.generate ≡ Some n → bytes ≡ generated_text n → r.limits ≡ standard → SessionStandsFor s no_history → blocks_of s ≡ 0 → room_of r ≡ total_limit
+    → command.generate ≡ Some n → bytes ≡ generated_text n → r.limits.line ≡ line_limit
+    → ((start : Outset) → Begins command.resume file start → SessionStandsFor s start.history × (room_of r ≡ start.room)) → blocks_of s ≡ 0
     → ((h : History) (k : ℕ) → SessionStandsFor s h → blocks_of s ≡ capped k → TextGives command k h r bytes text (Ok next) last)
     → AreReadTo command file before before (SessionStandsFor next) (blocks_of next) (room_of last) (generated_count command) text
-generated_on command file before s next r last n bytes text e is limits stands none all gives =
+generated_on command file before s next r last n bytes text e is limits stands none gives =
     let count : 0 + 1 ≡ generated_count command = omega (arith, count_of command n e) in
     let rest : 0 + 1 - generated_count command ≡ 0 = omega (arith, count_of command n e) in
     subst (λ (k : ℕ). AreReadTo command file before before (SessionStandsFor next) (blocks_of next) (room_of last) k text) count
     (read_on command file before before before (Some []) (SessionStandsFor s) (SessionStandsFor next) (blocks_of s) (blocks_of next) 0 r last [] text limits (first_below command file n e) (first_there command file n e)
-    (λ first end. ap (λ (k : ℕ). rest_behind k before) (sym rest)) (read_none command file before (SessionStandsFor s) (blocks_of s) (room_of r) stands none all)
+    (λ first end. ap (λ (k : ℕ). rest_behind k before) (sym rest)) (read_none command file before (SessionStandsFor s) (blocks_of s) (room_of r) stands none)
     (λ h k stands counts xs holds. subst (λ (l : List ℕ). ComesToEnd command k h (fresh r) l text (SessionStandsFor next) (blocks_of next) last (Some [])) (first_text command file n bytes xs e is holds) (gives h k stands counts)))
 
 pub generated_trouble : {F : Type 0} (command : Command) (file : List ℕ → HeldFile) (before : Option (List ℕ)) (s : Session F) (r last : Reading) (n : ℕ) (bytes text : List ℕ) (trouble : Trouble)
-    → command.generate ≡ Some n → bytes ≡ generated_text n → r.limits ≡ standard → SessionStandsFor s no_history → blocks_of s ≡ 0 → room_of r ≡ total_limit
+    → command.generate ≡ Some n → bytes ≡ generated_text n → r.limits.line ≡ line_limit
+    → ((start : Outset) → Begins command.resume file start → SessionStandsFor s start.history × (room_of r ≡ start.room)) → blocks_of s ≡ 0
     → IsNoBreak {A = Session F} (Err trouble)
     → ((h : History) (k : ℕ) → SessionStandsFor s h → blocks_of s ≡ capped k → TextGives {F = F} command k h r bytes text (Err trouble) last)
     → FilesTroubleGives command file before text (placed 0 trouble) before
-generated_trouble command file before s r last n bytes text (t.Refused line why) e is limits stands none all steady gives =
-    refused_on command file before before (SessionStandsFor s) (blocks_of s) 0 line why r [] text limits (first_below command file n e) (first_there command file n e) (read_none command file before (SessionStandsFor s) (blocks_of s) (room_of r) stands none all)
+generated_trouble command file before s r last n bytes text (t.Refused line why) e is limits stands none steady gives =
+    refused_on command file before before (SessionStandsFor s) (blocks_of s) 0 line why r [] text limits (first_below command file n e) (first_there command file n e) (read_none command file before (SessionStandsFor s) (blocks_of s) (room_of r) stands none)
     (λ h k stands counts xs holds. subst (λ (l : List ℕ). HasFault command k h (fresh r) l text (record { line = line; why = why })) (first_text command file n bytes xs e is holds) (gives h k stands counts))
-generated_trouble command file before s r last n bytes text t.Start e is limits stands none all steady gives = absurd steady
-generated_trouble command file before s r last n bytes text t.Read e is limits stands none all steady gives = absurd steady
-generated_trouble command file before s r last n bytes text t.Write e is limits stands none all steady gives =
-    short_on command file before before (SessionStandsFor s) (blocks_of s) 0 r [] text limits (first_below command file n e) (first_there command file n e) (read_none command file before (SessionStandsFor s) (blocks_of s) (room_of r) stands none all)
+generated_trouble command file before s r last n bytes text t.Start e is limits stands none steady gives = absurd steady
+generated_trouble command file before s r last n bytes text t.Read e is limits stands none steady gives = absurd steady
+generated_trouble command file before s r last n bytes text t.Write e is limits stands none steady gives =
+    short_on command file before before (SessionStandsFor s) (blocks_of s) 0 r [] text limits (first_below command file n e) (first_there command file n e) (read_none command file before (SessionStandsFor s) (blocks_of s) (room_of r) stands none)
     (λ h k stands counts xs holds. subst (λ (l : List ℕ). IsShort command k h (fresh r) l text) (first_text command file n bytes xs e is holds) (gives h k stands counts))
-generated_trouble command file before s r last n bytes text t.NoMemory e is limits stands none all steady gives =
-    short_on command file before before (SessionStandsFor s) (blocks_of s) 0 r [] text limits (first_below command file n e) (first_there command file n e) (read_none command file before (SessionStandsFor s) (blocks_of s) (room_of r) stands none all)
+generated_trouble command file before s r last n bytes text t.NoMemory e is limits stands none steady gives =
+    short_on command file before before (SessionStandsFor s) (blocks_of s) 0 r [] text limits (first_below command file n e) (first_there command file n e) (read_none command file before (SessionStandsFor s) (blocks_of s) (room_of r) stands none)
     (λ h k stands counts xs holds. subst (λ (l : List ℕ). IsShort command k h (fresh r) l text) (first_text command file n bytes xs e is holds) (gives h k stands counts))
 
 pub nothing_told : (command : Command) (file : List ℕ → HeldFile) (before rest : Option (List ℕ)) (Stands : History → Type 0) (blocks room count : ℕ) (told : List ℕ)

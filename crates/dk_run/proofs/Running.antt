@@ -12,19 +12,19 @@ use Rattle.dk_io.specs.Outside.{HeldFile, Absent, Holds, Rose}
 use Rattle.dk_lines.proofs.Lined.{at_break}
 use Rattle.dk_lines.specs.Left.{Broken, Left, lined}
 use Rattle.dk_lines.specs.Reading.{Reading, room_of}
-use Rattle.dk_lines.specs.declared.lines.Limits.{Limits}
 use Rattle.dk_core.specs.Blocks.{Last, grouped}
-use Rattle.dk_core.specs.History.{History, effect_of, file_ended, no_history}
+use Rattle.dk_core.specs.History.{History, effect_of, file_ended}
 use Rattle.dk_core.specs.Standing.{SessionStandsFor, blocks_of}
 use Rattle.dk_core.specs.Steps.{groups_left}
 use Rattle.dk_core.specs.declared.session.Session.{Session}
 use Rattle.dk_words.specs.declared.command.Command.{Command}
 use Rattle.dk_run.specs.AllFiles.{AreReadTo, FilesTroubleGives, HasBrokenAt, IsRefusedAt, IsShortTo, IsUnreadAt, RunsOn, placed}
 use Rattle.dk_run.specs.Commands.{generated_count, helds_of, names_of}
-use Rattle.dk_run.specs.Courses.{Course, course_of, course_of_file, course_of_files, ends, fault_in, first_fault, goes_on, onto, standard, then_files, total_limit}
+use Rattle.dk_run.specs.Courses.{Course, Outset, course_of, course_of_file, course_of_files, ends, fault_in, first_fault, goes_on, line_limit, onto, then_files}
+use Rattle.dk_run.specs.Starts.{Begins}
 use Rattle.dk_run.specs.Files.{AreHeldFiles, File, FileFault, cut_off, name_at, whole}
 use Rattle.dk_run.specs.Reports.{capped, due_from, due_reports}
-use Rattle.dk_run.specs.Statuses.{AreClean, AtStart, Break, HasBroken, IsDelivered, Within, held_file_at, rest_behind}
+use Rattle.dk_run.specs.Statuses.{AreCleanBehind, AtStart, Break, HasBroken, IsDelivered, Within, held_file_at, rest_behind}
 use Rattle.dk_run.specs.WholeFile.{ComesToEnd, FileTroubleGives, HasFault, IsBroken, IsCalmUnless, IsShort, course_behind, fresh}
 use Rattle.dk_run.specs.declared.reading.Trouble.{Trouble}
 use Rattle.dk_run.specs.declared.reading.Trouble.TheVariants as t
@@ -62,15 +62,15 @@ files_of (c ∷ cs) x fs = ap (λ (l : List File). whole c ∷ l) (files_of cs x
 
 -- ---- the course over one file more
 -- the groups of a started file are those of its bytes
-started_file : (ignores : Bool) (r : Reading) (h : History) (is_ended : Bool) (xs : List ℕ) → r.limits ≡ standard
+started_file : (ignores : Bool) (r : Reading) (h : History) (is_ended : Bool) (xs : List ℕ) → r.limits.line ≡ line_limit
     → course_of_file ignores (room_of r) h (record { bytes = xs; is_ended = is_ended }) ≡ course_behind ignores h (groups_left false (fresh r) is_ended xs)
-started_file ignores r h is_ended xs limits = ap (λ (l : Limits). course_behind ignores h (grouped (lined l.line (room_of r) 0 is_ended xs))) (sym limits)
+started_file ignores r h is_ended xs limits = ap (λ (l : ℕ). course_behind ignores h (grouped (lined l (room_of r) 0 is_ended xs))) (sym limits)
 
 abbrev then_course : ℕ → Course LineFault → (History → Course FileFault) → Course FileFault
 then_course place c more = onto c.after (then_files place c.end more)
 
 -- the run goes on behind a file
-course_more : (ignores : Bool) (r last : Reading) (h next : History) (after : List History) (place : ℕ) (xs : List ℕ) (fs : List File) → r.limits ≡ standard → room_of last ≡ room_of (fresh r) - length xs
+course_more : (ignores : Bool) (r last : Reading) (h next : History) (after : List History) (place : ℕ) (xs : List ℕ) (fs : List File) → r.limits.line ≡ line_limit → room_of last ≡ room_of (fresh r) - length xs
     → course_behind ignores h (groups_left false (fresh r) true xs) ≡ record { after = after; end = Ok next }
     → course_of_files ignores (room_of r) h place (whole xs ∷ fs) ≡ onto after (course_of_files ignores (room_of last) (file_ended next) (place + 1) fs)
 course_more ignores r last h next after place xs fs limits room all =
@@ -78,7 +78,7 @@ course_more ignores r last h next after place xs fs limits room all =
     ∙ ap (λ (m : ℕ). onto after (course_of_files ignores m (file_ended next) (place + 1) fs)) (sym room)
 
 -- the run ends with a file's fault
-course_refused : (ignores : Bool) (r : Reading) (h : History) (after : List History) (place : ℕ) (xs : List ℕ) (fs : List File) (fault : LineFault) → r.limits ≡ standard
+course_refused : (ignores : Bool) (r : Reading) (h : History) (after : List History) (place : ℕ) (xs : List ℕ) (fs : List File) (fault : LineFault) → r.limits.line ≡ line_limit
     → course_behind ignores h (groups_left false (fresh r) true xs) ≡ record { after = after; end = Err fault }
     → course_of_files ignores (room_of r) h place (whole xs ∷ fs) ≡ record { after = after; end = Err (record { file = place; line = fault.line; why = fault.why }) }
 course_refused ignores r h after place xs fs fault limits all =
@@ -86,7 +86,7 @@ course_refused ignores r h after place xs fs fault limits all =
     ∙ ap (λ (l : List History). record { after = l; end = Err (record { file = place; line = fault.line; why = fault.why }) }) (append-nil after)
 
 -- the run up to a part of a file
-course_part : (ignores : Bool) (r : Reading) (h next : History) (after : List History) (place : ℕ) (is_ended : Bool) (xs : List ℕ) → r.limits ≡ standard
+course_part : (ignores : Bool) (r : Reading) (h next : History) (after : List History) (place : ℕ) (is_ended : Bool) (xs : List ℕ) → r.limits.line ≡ line_limit
     → course_behind ignores h (groups_left false (fresh r) is_ended xs) ≡ record { after = after; end = Ok next }
     → course_of_files ignores (room_of r) h place (record { bytes = xs; is_ended = is_ended } ∷ []) ≡ record { after = after; end = Ok (file_ended next) }
 course_part ignores r h next after place is_ended xs limits all =
@@ -101,31 +101,31 @@ there_more helds place below here k h = elim (cases_lt k place) [
 ]
 
 -- what the run over the files so far comes to
-pub alone : (command : Command) (before rest : Option (List ℕ)) (Stands : History → Type 0) (blocks room place : ℕ) (text : List ℕ) (contents : List (List ℕ))
-    → (on : RunsOn command before rest Stands blocks room place text contents) → course_of command.ignore_missing_entry (map whole contents) ≡ record { after = on.after; end = Ok on.history }
-alone command before rest Stands blocks room place text contents on =
-    ap (course_of command.ignore_missing_entry) (sym (append-nil (map whole contents))) ∙ on.goes [] ∙ ap (λ (l : List History). record { after = l; end = Ok on.history }) (append-nil on.after)
+pub alone : (start : Outset) (command : Command) (before rest : Option (List ℕ)) (Stands : History → Type 0) (blocks room place : ℕ) (text : List ℕ) (contents : List (List ℕ))
+    → (on : RunsOn start command before rest Stands blocks room place text contents) → course_of start command.ignore_missing_entry (map whole contents) ≡ record { after = on.after; end = Ok on.history }
+alone start command before rest Stands blocks room place text contents on =
+    ap (course_of start command.ignore_missing_entry) (sym (append-nil (map whole contents))) ∙ on.goes [] ∙ ap (λ (l : List History). record { after = l; end = Ok on.history }) (append-nil on.after)
 
-pub alone_clean : (command : Command) (before rest : Option (List ℕ)) (Stands : History → Type 0) (blocks room place : ℕ) (text : List ℕ) (contents : List (List ℕ))
-    → RunsOn command before rest Stands blocks room place text contents → first_fault command.ignore_missing_entry (map whole contents) ≡ None
-alone_clean command before rest Stands blocks room place text contents on =
-    ap (λ (c : Course FileFault). fault_in c.end) (alone command before rest Stands blocks room place text contents on)
+pub alone_clean : (start : Outset) (command : Command) (before rest : Option (List ℕ)) (Stands : History → Type 0) (blocks room place : ℕ) (text : List ℕ) (contents : List (List ℕ))
+    → RunsOn start command before rest Stands blocks room place text contents → first_fault start command.ignore_missing_entry (map whole contents) ≡ None
+alone_clean start command before rest Stands blocks room place text contents on =
+    ap (λ (c : Course FileFault). fault_in c.end) (alone start command before rest Stands blocks room place text contents on)
 
-clean_more : (ignores : Bool) (helds : List HeldFile) (place : ℕ) → AreClean ignores helds place
-    → ((contents : List (List ℕ)) → AreHeldFiles (take (place + 1) helds) contents → first_fault ignores (map whole contents) ≡ None) → AreClean ignores helds (place + 1)
-clean_more ignores helds place clean here k contents h held = elim (cases_lt place k) [
+clean_more : (start : Outset) (ignores : Bool) (helds : List HeldFile) (place : ℕ) → AreCleanBehind start ignores helds place
+    → ((contents : List (List ℕ)) → AreHeldFiles (take (place + 1) helds) contents → first_fault start ignores (map whole contents) ≡ None) → AreCleanBehind start ignores helds (place + 1)
+clean_more start ignores helds place clean here k contents h held = elim (cases_lt place k) [
   | inl more ↦ let same : k ≡ place + 1 = omega (arith, more, h) in here contents (subst (λ (n : ℕ). AreHeldFiles (take n helds) contents) same held)
   | inr less ↦ clean k contents less held
 ]
 
 -- one file more was read
-runs_on : (command : Command) (helds : List HeldFile) (before mid after left : Option (List ℕ)) (Stands Next : History → Type 0) (blocks more place : ℕ) (r last : Reading) (told text : List ℕ) (contents : List (List ℕ))
-    → r.limits ≡ standard → place < length helds
+runs_on : (start : Outset) (command : Command) (helds : List HeldFile) (before mid after left : Option (List ℕ)) (Stands Next : History → Type 0) (blocks more place : ℕ) (r last : Reading) (told text : List ℕ) (contents : List (List ℕ))
+    → r.limits.line ≡ line_limit → place < length helds
     → ((mid ≡ rest_behind (place - generated_count command) before) → left ≡ Some [] → after ≡ rest_behind (place + 1 - generated_count command) before)
-    → ((contents : List (List ℕ)) → AreHeldFiles (take place helds) contents → RunsOn command before mid Stands blocks (room_of r) place told contents)
+    → ((contents : List (List ℕ)) → AreHeldFiles (take place helds) contents → RunsOn start command before mid Stands blocks (room_of r) place told contents)
     → ((h : History) (n : ℕ) → Stands h → blocks ≡ capped n → (xs : List ℕ) → held_file_at helds place ≡ Holds xs → ComesToEnd command n h (fresh r) xs text Next more last left)
-    → AreHeldFiles (take (place + 1) helds) contents → RunsOn command before after Next more (room_of last) (place + 1) (told ++ text) contents
-runs_on command helds before mid after left Stands Next blocks more place r last told text contents limits within rest runs gives held =
+    → AreHeldFiles (take (place + 1) helds) contents → RunsOn start command before after Next more (room_of last) (place + 1) (told ++ text) contents
+runs_on start command helds before mid after left Stands Next blocks more place r last told text contents limits within rest runs gives held =
     let m = one_more helds contents place within held in
     let on = runs m.front m.held in
     let e = gives on.history (length on.after) on.stands on.counts m.bytes m.there in
@@ -138,31 +138,32 @@ runs_on command helds before mid after left Stands Next blocks more place r last
       told = ap (λ (l : List ℕ). l ++ text) on.told ∙ ap (λ (l : List ℕ). due_reports command on.after ++ l) (e.told ∙ ap (λ (n : ℕ). due_from command n e.after) number) ∙ sym (due_append command 1 on.after e.after);
       rest_is = rest on.rest_is e.nothing_left;
       goes = λ fs.
-          ap (λ (cs : List (List ℕ)). course_of command.ignore_missing_entry (map whole cs ++ fs)) m.split
-          ∙ ap (course_of command.ignore_missing_entry) (files_of m.front m.bytes fs)
+          ap (λ (cs : List (List ℕ)). course_of start command.ignore_missing_entry (map whole cs ++ fs)) m.split
+          ∙ ap (course_of start command.ignore_missing_entry) (files_of m.front m.bytes fs)
           ∙ on.goes (whole m.bytes ∷ fs)
           ∙ ap (onto on.after) (course_more command.ignore_missing_entry r last on.history e.next e.after place m.bytes fs limits e.room e.all)
           ∙ onto_more on.after e.after (course_of_files command.ignore_missing_entry (room_of last) (file_ended e.next) (place + 1) fs);
     }
 
 pub read_on : (command : Command) (file : List ℕ → HeldFile) (before mid after left : Option (List ℕ)) (Stands Next : History → Type 0) (blocks more place : ℕ) (r last : Reading) (told text : List ℕ)
-    → r.limits ≡ standard → place < length (helds_of command file) → held_file_at (helds_of command file) place ≢ Absent
+    → r.limits.line ≡ line_limit → place < length (helds_of command file) → held_file_at (helds_of command file) place ≢ Absent
     → ((mid ≡ rest_behind (place - generated_count command) before) → left ≡ Some [] → after ≡ rest_behind (place + 1 - generated_count command) before)
     → AreReadTo command file before mid Stands blocks (room_of r) place told
     → ((h : History) (n : ℕ) → Stands h → blocks ≡ capped n → (xs : List ℕ) → held_file_at (helds_of command file) place ≡ Holds xs → ComesToEnd command n h (fresh r) xs text Next more last left)
     → AreReadTo command file before after Next more (room_of last) (place + 1) (told ++ text)
 read_on command file before mid after left Stands Next blocks more place r last told text limits within there rest read gives =
-    let runs = runs_on command (helds_of command file) before mid after left Stands Next blocks more place r last told text in
+    let runs = λ (start : Outset) (begins : Begins command.resume file start) (contents : List (List ℕ)) (held : AreHeldFiles (take (place + 1) (helds_of command file)) contents).
+    runs_on start command (helds_of command file) before mid after left Stands Next blocks more place r last told text contents limits within rest (read.runs start begins) gives held in
     record {
       there = there_more (helds_of command file) place read.there there;
-      clean = clean_more command.ignore_missing_entry (helds_of command file) place read.clean
-          (λ contents held. alone_clean command before after Next more (room_of last) (place + 1) (told ++ text) contents (runs contents limits within rest read.runs gives held));
-      runs = λ contents held. runs contents limits within rest read.runs gives held;
+      clean = λ start begins. clean_more start command.ignore_missing_entry (helds_of command file) place (read.clean start begins)
+          (λ contents held. alone_clean start command before after Next more (room_of last) (place + 1) (told ++ text) contents (runs start begins contents held));
+      runs = runs;
     }
 
 -- a file is refused
 pub refused_on : (command : Command) (file : List ℕ → HeldFile) (before mid : Option (List ℕ)) (Stands : History → Type 0) (blocks place line : ℕ) (why : Why) (r : Reading) (told text : List ℕ)
-    → r.limits ≡ standard → place < length (helds_of command file) → held_file_at (helds_of command file) place ≢ Absent
+    → r.limits.line ≡ line_limit → place < length (helds_of command file) → held_file_at (helds_of command file) place ≢ Absent
     → AreReadTo command file before mid Stands blocks (room_of r) place told
     → ((h : History) (n : ℕ) → Stands h → blocks ≡ capped n → (xs : List ℕ) → held_file_at (helds_of command file) place ≡ Holds xs → HasFault command n h (fresh r) xs text (record { line = line; why = why }))
     → IsRefusedAt command file (told ++ text) place line why
@@ -170,28 +171,28 @@ refused_on command file before mid Stands blocks place line why r told text limi
   named = within;
   there = there_more (helds_of command file) place read.there there;
   clean = read.clean;
-  gives = λ contents held.
+  gives = λ start begins contents held.
       let m = one_more (helds_of command file) contents place within held in
-      let on = read.runs m.front m.held in
+      let on = read.runs start begins m.front m.held in
       let e = gives on.history (length on.after) on.stands on.counts m.bytes m.there in
       let number : length on.after + 1 ≡ 1 + length on.after = omega arith in (
         on.after ++ e.after,
         ap (λ (l : List ℕ). l ++ text) on.told ∙ ap (λ (l : List ℕ). due_reports command on.after ++ l) (e.told ∙ ap (λ (n : ℕ). due_from command n e.after) number) ∙ sym (due_append command 1 on.after e.after),
-        ap (λ (cs : List (List ℕ)). course_of command.ignore_missing_entry (map whole cs)) m.split
-            ∙ ap (course_of command.ignore_missing_entry) (sym (append-nil (map whole (m.front ++ m.bytes ∷ []))) ∙ files_of m.front m.bytes [])
+        ap (λ (cs : List (List ℕ)). course_of start command.ignore_missing_entry (map whole cs)) m.split
+            ∙ ap (course_of start command.ignore_missing_entry) (sym (append-nil (map whole (m.front ++ m.bytes ∷ []))) ∙ files_of m.front m.bytes [])
             ∙ on.goes (whole m.bytes ∷ [])
             ∙ ap (onto on.after) (course_refused command.ignore_missing_entry r on.history e.after place m.bytes [] (record { line = line; why = why }) limits e.all),
       );
 }
 
 -- a part of the next file, behind those that were read
-part_fine : (command : Command) (before mid : Option (List ℕ)) (Stands : History → Type 0) (blocks place : ℕ) (r : Reading) (told text : List ℕ) (contents : List (List ℕ)) (is_ended : Bool) (xs : List ℕ) (after : List History) (next : History)
-    → r.limits ≡ standard → (on : RunsOn command before mid Stands blocks (room_of r) place told contents)
+part_fine : (start : Outset) (command : Command) (before mid : Option (List ℕ)) (Stands : History → Type 0) (blocks place : ℕ) (r : Reading) (told text : List ℕ) (contents : List (List ℕ)) (is_ended : Bool) (xs : List ℕ) (after : List History) (next : History)
+    → r.limits.line ≡ line_limit → (on : RunsOn start command before mid Stands blocks (room_of r) place told contents)
     → text ≡ due_from command (length on.after + 1) after
     → course_behind command.ignore_missing_entry on.history (groups_left false (fresh r) is_ended xs) ≡ record { after = after; end = Ok next }
-    → (first_fault command.ignore_missing_entry (map whole contents ++ record { bytes = xs; is_ended = is_ended } ∷ []) ≡ None)
-    × (told ++ text ≡ due_reports command (course_of command.ignore_missing_entry (map whole contents ++ record { bytes = xs; is_ended = is_ended } ∷ [])).after)
-part_fine command before mid Stands blocks place r told text contents is_ended xs after next limits on due all =
+    → (first_fault start command.ignore_missing_entry (map whole contents ++ record { bytes = xs; is_ended = is_ended } ∷ []) ≡ None)
+    × (told ++ text ≡ due_reports command (course_of start command.ignore_missing_entry (map whole contents ++ record { bytes = xs; is_ended = is_ended } ∷ [])).after)
+part_fine start command before mid Stands blocks place r told text contents is_ended xs after next limits on due all =
     let course = on.goes (record { bytes = xs; is_ended = is_ended } ∷ []) ∙ ap (onto on.after) (course_part command.ignore_missing_entry r on.history next after place is_ended xs limits all) in
     let number : length on.after + 1 ≡ 1 + length on.after = omega arith in (
       ap (λ (c : Course FileFault). fault_in c.end) course,
@@ -210,17 +211,17 @@ unstarted_on command file before mid rest Stands blocks place r told text behind
   named = within;
   there = read.there;
   clean = read.clean;
-  gives = λ contents held.
-      let on = read.runs contents held in (
+  gives = λ start begins contents held.
+      let on = read.runs start begins contents held in (
         same ∙ on.rest_is,
         ap (λ (l : List ℕ). told ++ l) nothing ∙ append-nil told ∙ on.told
-            ∙ ap (λ (c : Course FileFault). due_reports command c.after) (sym (alone command before mid Stands blocks (room_of r) place told contents on)),
+            ∙ ap (λ (c : Course FileFault). due_reports command c.after) (sym (alone start command before mid Stands blocks (room_of r) place told contents on)),
       );
 }
 
 -- a read of a file failed
 pub unread_on : (command : Command) (file : List ℕ → HeldFile) (before mid rest : Option (List ℕ)) (Stands : History → Type 0) (blocks place : ℕ) (r : Reading) (told text : List ℕ)
-    → r.limits ≡ standard → generated_count command ≤ place → place < length (helds_of command file)
+    → r.limits.line ≡ line_limit → generated_count command ≤ place → place < length (helds_of command file)
     → AreReadTo command file before mid Stands blocks (room_of r) place told
     → ((h : History) (n : ℕ) → Stands h → blocks ≡ capped n → (xs : List ℕ) → held_file_at (helds_of command file) place ≡ Holds xs → IsBroken command n h (fresh r) xs text rest)
     → IsUnreadAt Within command file before rest (told ++ text) place
@@ -229,37 +230,37 @@ unread_on command file before mid rest Stands blocks place r told text limits be
   named = within;
   there = read.there;
   clean = read.clean;
-  gives = λ contents held xs holds.
-      let on = read.runs contents held in
+  gives = λ start begins contents held xs holds.
+      let on = read.runs start begins contents held in
       let e = gives on.history (length on.after) on.stands on.counts xs holds in
-      let fine = part_fine command before mid Stands blocks place r told text contents e.is_ended e.front e.after e.next limits on e.told e.all in
+      let fine = part_fine start command before mid Stands blocks place r told text contents e.is_ended e.front e.after e.next limits on e.told e.all in
       (record { bytes = e.front; is_ended = e.is_ended }, (e.rest, e.left_is, e.split, e.ended), fine.0, fine.1);
 }
 
 -- a report by the way was not written whole
 pub short_on : (command : Command) (file : List ℕ → HeldFile) (before mid : Option (List ℕ)) (Stands : History → Type 0) (blocks place : ℕ) (r : Reading) (told text : List ℕ)
-    → r.limits ≡ standard → place < length (helds_of command file) → held_file_at (helds_of command file) place ≢ Absent
+    → r.limits.line ≡ line_limit → place < length (helds_of command file) → held_file_at (helds_of command file) place ≢ Absent
     → AreReadTo command file before mid Stands blocks (room_of r) place told
     → ((h : History) (n : ℕ) → Stands h → blocks ≡ capped n → (xs : List ℕ) → held_file_at (helds_of command file) place ≡ Holds xs → IsShort command n h (fresh r) xs text)
     → IsShortTo command file (told ++ text)
 short_on command file before mid Stands blocks place r told text limits within there read gives = record {
   place = place + 1;
   there = there_more (helds_of command file) place read.there there;
-  due = λ contents held fs.
+  due = λ start begins contents held fs.
       let m = one_more (helds_of command file) contents place within held in
-      let on = read.runs m.front m.held in
+      let on = read.runs start begins m.front m.held in
       let e = gives on.history (length on.after) on.stands on.counts m.bytes m.there in
       let ignores = command.ignore_missing_entry in
       let number : length on.after + 1 ≡ 1 + length on.after = omega arith in
       let behind = (then_files place (course_of_file ignores (room_of r) on.history (whole m.bytes)).end (λ n. course_of_files ignores (room_of r - length m.bytes) (file_ended n) (place + 1) fs)).after in
       let here : (course_of_file ignores (room_of r) on.history (whole m.bytes)).after ≡ e.after ++ e.more = ap (λ (c : Course LineFault). c.after) (started_file ignores r on.history true m.bytes limits) ∙ e.all in
-      let course : (course_of ignores (map whole contents ++ fs)).after ≡ on.after ++ (e.after ++ (e.more ++ behind)) =
-      ap (λ (cs : List (List ℕ)). (course_of ignores (map whole cs ++ fs)).after) m.split
-      ∙ ap (λ (l : List File). (course_of ignores l).after) (files_of m.front m.bytes fs)
+      let course : (course_of start ignores (map whole contents ++ fs)).after ≡ on.after ++ (e.after ++ (e.more ++ behind)) =
+      ap (λ (cs : List (List ℕ)). (course_of start ignores (map whole cs ++ fs)).after) m.split
+      ∙ ap (λ (l : List File). (course_of start ignores l).after) (files_of m.front m.bytes fs)
       ∙ ap (λ (c : Course FileFault). c.after) (on.goes (whole m.bytes ∷ fs))
       ∙ ap (λ (l : List History). on.after ++ (l ++ behind)) here
       ∙ ap (λ (l : List History). on.after ++ l) (append_assoc e.after e.more behind) in
-      let due : due_reports command (course_of ignores (map whole contents ++ fs)).after
+      let due : due_reports command (course_of start ignores (map whole contents ++ fs)).after
       ≡ due_reports command on.after ++ (due_from command (1 + length on.after) e.after ++ due_from command (1 + length on.after + length e.after) (e.more ++ behind)) =
       ap (due_reports command) course ∙ due_append command 1 on.after (e.after ++ (e.more ++ behind))
       ∙ ap (λ (l : List ℕ). due_reports command on.after ++ l) (due_append command (1 + length on.after) e.after (e.more ++ behind)) in
@@ -272,30 +273,32 @@ short_on command file before mid Stands blocks place r told text limits within t
 
 -- nothing is told yet
 pub short_none : (command : Command) (file : List ℕ → HeldFile) → IsShortTo command file []
-short_none command file = record { place = 0; there = λ k h. absurd (omega arith); due = λ contents held fs. refl }
+short_none command file = record { place = 0; there = λ k h. absurd (omega arith); due = λ start begins contents held fs. refl }
 
 -- no file was read yet
-pub read_none : (command : Command) (file : List ℕ → HeldFile) (before : Option (List ℕ)) (Stands : History → Type 0) (blocks room : ℕ) → Stands no_history → blocks ≡ 0 → room ≡ total_limit
+pub read_none : (command : Command) (file : List ℕ → HeldFile) (before : Option (List ℕ)) (Stands : History → Type 0) (blocks room : ℕ)
+    → ((start : Outset) → Begins command.resume file start → Stands start.history × (room ≡ start.room)) → blocks ≡ 0
     → AreReadTo command file before before Stands blocks room 0 []
 unfolding course_of
-read_none command file before Stands blocks room stands none all = record {
+read_none command file before Stands blocks room stands none = record {
   there = λ k h. absurd (omega arith);
-  clean = λ k contents h held. nothing_clean k contents h held;
-  runs = λ contents held. nothing_read contents held;
+  clean = λ start begins k contents h held. nothing_clean start k contents h held;
+  runs = λ start begins contents held. nothing_read start (stands start begins) contents held;
 } where
-  nothing_clean : (k : ℕ) (contents : List (List ℕ)) → k ≤ 0 → AreHeldFiles (take k (helds_of command file)) contents → first_fault command.ignore_missing_entry (map whole contents) ≡ None
-  nothing_clean zero [] h held = refl
-  nothing_clean zero (c ∷ cs) h held = absurd (cc (held))
-  nothing_clean (suc k) contents h held = absurd (omega arith)
+  nothing_clean : (start : Outset) (k : ℕ) (contents : List (List ℕ)) → k ≤ 0 → AreHeldFiles (take k (helds_of command file)) contents → first_fault start command.ignore_missing_entry (map whole contents) ≡ None
+  nothing_clean start zero [] h held = refl
+  nothing_clean start zero (c ∷ cs) h held = absurd (cc (held))
+  nothing_clean start (suc k) contents h held = absurd (omega arith)
 
-  nothing_read : (contents : List (List ℕ)) → AreHeldFiles (take 0 (helds_of command file)) contents → RunsOn command before before Stands blocks room 0 [] contents
-  nothing_read [] held = record {
+  nothing_read : (start : Outset) → Stands start.history × (room ≡ start.room) → (contents : List (List ℕ)) → AreHeldFiles (take 0 (helds_of command file)) contents
+      → RunsOn start command before before Stands blocks room 0 [] contents
+  nothing_read start stands [] held = record {
     after = [];
-    history = no_history;
-    stands = stands;
+    history = start.history;
+    stands = stands.0;
     counts = none;
     told = sym (due_none command 1);
     rest_is = let none : 0 ≡ 0 - generated_count command = omega arith in ap (λ (n : ℕ). rest_behind n before) none;
-    goes = λ fs. ap (λ (m : ℕ). course_of_files command.ignore_missing_entry m no_history 0 fs) (sym all);
+    goes = λ fs. ap (λ (m : ℕ). course_of_files command.ignore_missing_entry m start.history 0 fs) (sym stands.1);
   }
-  nothing_read (c ∷ cs) held = absurd (cc (held))
+  nothing_read start stands (c ∷ cs) held = absurd (cc (held))

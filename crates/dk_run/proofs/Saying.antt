@@ -4,6 +4,7 @@ use Rattle.std.proofs.lemmas.List.{append-nil, length-take, take_all}
 use Rattle.std.specs.Io.{StartsWith}
 use Rattle.std.specs.Io.KnownBytes.{append_known}
 use Rattle.std.specs.Option.{option_map_or}
+use Rattle.std.specs.Prelude.{unwrap_or}
 use Rattle.dk_base.specs.declared.why.Why.{Why}
 use Rattle.dk_io.specs.Outside.{HeldFile, Absent, Holds, Rose}
 use Rattle.dk_io.specs.Streams.{AddsFront, Texts, with_bytes}
@@ -19,22 +20,27 @@ use Rattle.dk_words.specs.declared.request.Request.{Request}
 use Rattle.dk_words.specs.declared.request.Request.TheVariants.{Run, Help, Version}
 use Rattle.dk_run.specs.AllFiles.{AreCalmUnless, AreReadTo, FilesGive, FilesTroubleGives, HasBrokenAt, IsRefusedAt, IsShortTo, IsTroubleOf, IsUnreadAt, RunGives}
 use Rattle.dk_run.specs.Commands.{generated_count, helds_of, names_of}
-use Rattle.dk_run.specs.Courses.{Course, course_of, fault_in}
-use Rattle.dk_run.specs.Ending.{EndsBy, EndsWith, status_of}
+use Rattle.dk_run.specs.declared.starting.Beginning.{Beginning}
+use Rattle.dk_run.specs.Beginning.{HasCome, IsLeft, StartTroubleGives, StateTroubleGives, state_name}
+use Rattle.dk_run.specs.Courses.{Course, Outset, course_of, fault_in}
+use Rattle.dk_run.specs.Starts.{Begins, HasBegun}
+use Rattle.dk_run.specs.Ending.{EndsBy, EndsUnbegun, EndsWith, status_of}
 use Rattle.dk_run.specs.Files.{AreHeldFiles, File, FileFault, name_at, whole}
 use Rattle.dk_print.specs.Sections.{end_line, fault_line}
 use Rattle.dk_run.specs.Messages.{unread_line}
-use Rattle.dk_run.specs.Outputs.{IsFront, Output, first_line, followed, only_on, output_along, output_of, unread_output, usage_output}
+use Rattle.dk_run.specs.Outputs.{IsFront, Output, first_line, followed, only_on, output_along, output_of, saved, unread_output, usage_output}
 use Rattle.dk_run.specs.Reports.{due_reports, whole_report}
-use Rattle.dk_run.specs.Statuses.{AreRead, AtStart, Break, ComesTo, FollowedByFront, HasBroken, IsCutShort, IsDone, IsRefused, IsUnread, OutputIsWritten, Outside, Says, Within, held_file_at, rest_behind}
-use Rattle.dk_run.specs.Telling.{Added, CutOff, CutsText, HaltHasCause, ToldWhole}
+use Rattle.dk_run.specs.Statuses.{AreRead, AtStart, Break, ComesTo, FollowedByFront, HasBroken, IsCutShort, IsDone, IsRefused, IsStateRefused, IsStateUnread, IsUnread, OutputIsWritten, Outside, Says, StateUnreadGives, Within, held_file_at, rest_behind}
+use Rattle.dk_run.specs.Telling.{Added, CutOff, CutsText, HaltHasCause, StateCut, StateTold, ToldWhole}
 use Rattle.dk_run.specs.declared.reading.FilesTrouble.{FilesTrouble}
 use Rattle.dk_run.specs.declared.reading.FilesTrouble.TheVariants as t
 use Rattle.dk_run.specs.declared.reporting.Halt.{Halt}
 use Rattle.dk_run.specs.declared.reporting.Halt.TheVariants as w
+use Rattle.dk_run.specs.declared.starting.StartTrouble.{StartTrouble}
+use Rattle.dk_run.specs.declared.starting.StartTrouble.TheVariants as b
 use Rattle.dk_run.specs.declared.status.Status.{Status}
 use Rattle.dk_run.specs.declared.status.Status.TheVariants.{Done, Refused, Usage, Read, Write, NoMemory}
-use Rattle.dk_run.proofs.Placing.{helds_length, names_length}
+use Rattle.dk_run.proofs.Placing.{helds_length, names_length, rose_since}
 use Rattle.dk_run.proofs.Running.{alone}
 use Rattle.dk_run.proofs.Writing.{added_more, added_nothing, front_all, front_behind, front_more, front_take, known_nothing}
 
@@ -42,6 +48,13 @@ use Rattle.dk_run.proofs.Writing.{added_more, added_nothing, front_all, front_be
 -- the messages' first line, and a report
 abbrev so_far : List ℕ → List ℕ → Output
 so_far line report = record { report = report; messages = line; state = [] }
+
+-- the messages' first line, a report and a state
+abbrev with_state : List ℕ → List ℕ → List ℕ → Output
+with_state line report state = record { report = report; messages = line; state = state }
+
+followed_state : (old : Texts) (line report state : List ℕ) → with_bytes (with_bytes (with_bytes old Messages line) Report report) State state ≡ followed old (with_state line report state)
+followed_state old line report state = refl
 
 followed_first : (old : Texts) (line report : List ℕ) → with_bytes (with_bytes old Messages line) Report report ≡ followed old (so_far line report)
 followed_first old line report = ap (λ (k : Option (List ℕ)). record { report = append_known old.report report; messages = append_known old.messages line; state = k }) (sym (known_nothing old.state))
@@ -56,9 +69,9 @@ followed_only old Messages text = let r = known_nothing old.report in let s = kn
 followed_only old State text = let r = known_nothing old.report in let m = known_nothing old.messages in cc
 
 only_front : (stream : Stream) (n : ℕ) (text : List ℕ) → n ≤ length text → IsFront (only_on stream (take n text)) (only_on stream text)
-only_front Report n text h = record { report = front_take n text h; messages = refl; state = refl }
-only_front Messages n text h = record { report = refl; messages = front_take n text h; state = refl }
-only_front State n text h = record { report = refl; messages = refl; state = front_take n text h }
+only_front Report n text h = record { report = front_take n text h; messages = refl; state = refl; in_order = inr refl }
+only_front Messages n text h = record { report = refl; messages = front_take n text h; state = refl; in_order = inr refl }
+only_front State n text h = record { report = refl; messages = refl; state = front_take n text h; in_order = inl refl }
 
 -- ---- ends with a text
 -- a run that comes to an end and told its output says so
@@ -103,7 +116,7 @@ message_says status request before after line report text mid between result com
         comes,
         record {
           front = so_far (line ++ take n text) report;
-          is_front = record { report = front_all report; messages = front_behind line text (take n text) (front_take n text short); state = refl };
+          is_front = record { report = front_all report; messages = front_behind line text (take n text) (front_take n text short); state = refl; in_order = inr refl };
           written = e ∙ ap (λ (t : Texts). with_bytes t Messages (take n text)) is ∙ messages_behind before.written line report (take n text);
         },
       )),
@@ -117,7 +130,7 @@ message_says status request before after line report text mid between result com
         comes,
         record {
           front = so_far line report;
-          is_front = record { report = front_all report; messages = front_more line text line (front_all line); state = refl };
+          is_front = record { report = front_all report; messages = front_more line text line (front_all line); state = refl; in_order = inr refl };
           written = e ∙ is ∙ followed_first before.written line report;
         },
       )),
@@ -150,15 +163,22 @@ held_all : (command : Command) (file : List ℕ → HeldFile) (contents : List (
 held_all command file contents held =
     subst (λ (l : List HeldFile). AreHeldFiles l contents) (sym (take_all (length (names_of command)) (helds_of command file) (omega (arith, same_length command file)))) held
 
+-- The run has begun, and this is left of the inputs then.
+pub record Begun (command : Command) (before : Outside) (rest : Option (List ℕ)) : Type 0 where
+  begun : HasBegun command.resume before.file
+  left : IsLeft command.resume before.file before.rest rest
+
 -- all files were read
-are_read : (command : Command) (before after : Outside) (Stands : History → Type 0) (blocks room : ℕ) (text : List ℕ) → AreReadTo command before.file before.rest after.rest Stands blocks room (length (names_of command)) text
-    → AreRead command before after
-are_read command before after Stands blocks room text read = record {
+are_read : (command : Command) (before after : Outside) (rest : Option (List ℕ)) (Stands : History → Type 0) (blocks room : ℕ) (text : List ℕ) → Begun command before rest
+    → AreReadTo command before.file rest after.rest Stands blocks room (length (names_of command)) text → AreRead command before after
+are_read command before after rest Stands blocks room text behind read = record {
+  begun = behind.begun;
   none_absent = all_there (helds_of command before.file) (λ k h. read.there k (omega (arith, h, same_length command before.file)));
-  clean = λ k contents h held. read.clean k contents (omega (arith, h, same_length command before.file)) held;
-  all_read = λ contents held.
+  clean = λ start begins k contents h held. read.clean start begins k contents (omega (arith, h, same_length command before.file)) held;
+  all_read = λ start begins contents held.
       let number : length (names_of command) - generated_count command ≡ length command.files = omega (arith, names_length command) in
-      (read.runs contents (held_all command before.file contents held)).rest_is ∙ ap (λ (n : ℕ). rest_behind n before.rest) number;
+      (read.runs start begins contents (held_all command before.file contents held)).rest_is ∙ ap (λ (n : ℕ). rest_behind n rest) number
+      ∙ ap (rest_behind (length command.files)) (behind.left start begins);
 }
 
 -- the last report, as a session tells it
@@ -166,66 +186,99 @@ abbrev last_due : Command → ℕ → History → List ℕ
 last_due command blocks h = option_map_or (λ every. end_line blocks) command.every [] ++ whole_report command h
 
 -- the output of a run that was read to its end
-ended_output : (command : Command) (before after : Outside) (Stands : History → Type 0) (blocks room : ℕ) (text : List ℕ) (read : AreReadTo command before.file before.rest after.rest Stands blocks room (length (names_of command)) text)
-    → (contents : List (List ℕ)) → AreHeldFiles (helds_of command before.file) contents
-    → (h : History) × Stands h × (output_of command (map whole contents) ≡ so_far (first_line command) (text ++ last_due command blocks h))
+ended_output : (command : Command) (before after : Outside) (rest : Option (List ℕ)) (Stands : History → Type 0) (blocks room : ℕ) (text : List ℕ)
+    → (read : AreReadTo command before.file rest after.rest Stands blocks room (length (names_of command)) text)
+    → (start : Outset) → Begins command.resume before.file start → (contents : List (List ℕ)) → AreHeldFiles (helds_of command before.file) contents
+    → (h : History) × Stands h × (output_of start command (map whole contents) ≡ with_state (first_line command) (text ++ last_due command blocks h) (saved command h))
 unfolding output_of
-ended_output command before after Stands blocks room text read contents held =
-    let on = read.runs contents (held_all command before.file contents held) in (
+ended_output command before after rest Stands blocks room text read start begins contents held =
+    let on = read.runs start begins contents (held_all command before.file contents held) in (
       on.history,
       on.stands,
-      ap (output_along command) (alone command before.rest after.rest Stands blocks room (length (names_of command)) text contents on)
-          ∙ ap (λ (n : ℕ). so_far (first_line command) (due_reports command on.after ++ last_due command n on.history)) (sym on.counts)
-          ∙ ap (λ (l : List ℕ). so_far (first_line command) (l ++ last_due command blocks on.history)) (sym on.told),
+      ap (output_along command) (alone start command rest after.rest Stands blocks room (length (names_of command)) text contents on)
+          ∙ ap (λ (n : ℕ). with_state (first_line command) (due_reports command on.after ++ last_due command n on.history) (saved command on.history)) (sym on.counts)
+          ∙ ap (λ (l : List ℕ). with_state (first_line command) (l ++ last_due command blocks on.history) (saved command on.history)) (sym on.told),
     )
 
-pub done_says : (command : Command) (before after : Outside) (Stands : History → Type 0) (blocks room : ℕ) (mid mid2 : Texts) (between : ℕ) (text : List ℕ)
-    → mid ≡ with_bytes before.written Messages (first_line command) → mid2 ≡ with_bytes mid Report text → between ≡ before.write_faults
-    → AreReadTo command before.file before.rest after.rest Stands blocks room (length (names_of command)) text
-    → ToldWhole Stands (λ h. last_due command blocks h) mid2 after.written between after.write_faults
+-- the texts behind the first line, one behind another
+all_written : (before mid mid2 mid3 last : Texts) (line text report state : List ℕ) → mid ≡ with_bytes before Messages line → mid2 ≡ with_bytes mid Report text → mid3 ≡ with_bytes mid2 Report report
+    → last ≡ with_bytes mid3 State state → last ≡ followed before (with_state line (text ++ report) state)
+all_written before mid mid2 mid3 last line text report state first reported more saved =
+    saved
+    ∙ ap (λ (t : Texts). with_bytes t State state) (more ∙ ap (λ (t : Texts). with_bytes t Report report) (reported ∙ ap (λ (t : Texts). with_bytes t Report text) first) ∙ added_more (with_bytes before Messages line) Report text report)
+    ∙ followed_state before line (text ++ report) state
+
+pub done_says : (command : Command) (before after : Outside) (rest : Option (List ℕ)) (Stands : History → Type 0) (blocks room : ℕ) (mid mid2 mid3 : Texts) (between between2 : ℕ) (text : List ℕ)
+    → Begun command before rest → mid ≡ with_bytes before.written Messages (first_line command) → mid2 ≡ with_bytes mid Report text → between ≡ before.write_faults
+    → AreReadTo command before.file rest after.rest Stands blocks room (length (names_of command)) text
+    → ToldWhole Stands (λ h. last_due command blocks h) mid2 mid3 between between2
+    → StateTold command Stands mid3 after.written between2 after.write_faults
     → Says Done (Some (Run command)) before after
-done_says command before after Stands blocks room mid mid2 between text first reported calm read last = (
-  so_far (first_line command) (text ++ last.text),
+done_says command before after rest Stands blocks room mid mid2 mid3 between between2 text behind first reported calm read last state = (
+  with_state (first_line command) (text ++ last.text) state.text,
   record {
-    read = are_read command before after Stands blocks room text read;
+    read = are_read command before after rest Stands blocks room text behind read;
     messages = refl;
-    no_state = refl;
-    defined = λ contents held. let (h, stands, e) = ended_output command before after Stands blocks room text read contents held in
-        ap (λ (l : List ℕ). so_far (first_line command) (text ++ l)) (last.holds h stands) ∙ sym e;
+    unsaved = state.unsaved;
+    defined = λ start begins contents held. let (h, stands, e) = ended_output command before after rest Stands blocks room text read start begins contents held in
+        ap (λ (l : List ℕ). with_state (first_line command) (text ++ l) state.text) (last.holds h stands)
+        ∙ ap (λ (l : List ℕ). with_state (first_line command) (text ++ last_due command blocks h) l) (state.holds h stands) ∙ sym e;
   },
-  (
-    last.written ∙ ap (λ (t : Texts). with_bytes t Report last.text) (reported ∙ ap (λ (t : Texts). with_bytes t Report text) first)
-        ∙ added_more (with_bytes before.written Messages (first_line command)) Report text last.text ∙ followed_first before.written (first_line command) (text ++ last.text),
-    last.calm ∙ calm,
-  ),
+  (all_written before.written mid mid2 mid3 after.written (first_line command) text last.text state.text first reported last.written state.written, state.calm ∙ last.calm ∙ calm),
 )
 
-pub cut_says : (command : Command) (before after : Outside) (Stands : History → Type 0) (blocks room : ℕ) (mid mid2 : Texts) (between : ℕ) (text : List ℕ) (halt : Halt)
-    → mid ≡ with_bytes before.written Messages (first_line command) → mid2 ≡ with_bytes mid Report text → between ≡ before.write_faults
-    → AreReadTo command before.file before.rest after.rest Stands blocks room (length (names_of command)) text
+halt_says : (command : Command) (before after : Outside) (between : ℕ) (halt : Halt) → between ≡ before.write_faults → IsCutShort (Some (Run command)) before after
+    → HaltHasCause between after.write_faults halt → Says (status_of halt) (Some (Run command)) before after
+halt_says command before after between w.Write calm short rose = (subst (λ (k : ℕ). Rose k after.write_faults) calm rose, short)
+halt_says command before after between w.NoMemory calm short cause = (cause ∙ calm, short)
+
+pub cut_says : (command : Command) (before after : Outside) (rest : Option (List ℕ)) (Stands : History → Type 0) (blocks room : ℕ) (mid mid2 : Texts) (between : ℕ) (text : List ℕ) (halt : Halt)
+    → Begun command before rest → mid ≡ with_bytes before.written Messages (first_line command) → mid2 ≡ with_bytes mid Report text → between ≡ before.write_faults
+    → AreReadTo command before.file rest after.rest Stands blocks room (length (names_of command)) text
     → CutOff Stands (λ h. last_due command blocks h) mid2 after.written between after.write_faults halt
     → Says (status_of halt) (Some (Run command)) before after
-cut_says command before after Stands blocks room mid mid2 between text halt first reported calm read last = go halt last.cause where
-  short : IsCutShort (Some (Run command)) before after
-  short = inr (inl (inr (record {
-    front = so_far (first_line command) (text ++ last.text);
-    written = last.written ∙ ap (λ (t : Texts). with_bytes t Report last.text) (reported ∙ ap (λ (t : Texts). with_bytes t Report text) first)
-        ∙ added_more (with_bytes before.written Messages (first_line command)) Report text last.text ∙ followed_first before.written (first_line command) (text ++ last.text);
-    read = are_read command before after Stands blocks room text read;
-    messages = refl;
-    no_state = refl;
-    due = λ contents held. let (h, stands, e) = ended_output command before after Stands blocks room text read contents held in
-        subst (λ (o : Output). StartsWith o.report (text ++ last.text)) (sym e) (front_behind text (last_due command blocks h) last.text (last.holds h stands));
-  })))
+cut_says command before after rest Stands blocks room mid mid2 between text halt behind first reported calm read last = halt_says command before after between halt calm (inr (inl (inr (record {
+  front = so_far (first_line command) (text ++ last.text);
+  written = last.written ∙ ap (λ (t : Texts). with_bytes t Report last.text) (reported ∙ ap (λ (t : Texts). with_bytes t Report text) first)
+      ∙ added_more (with_bytes before.written Messages (first_line command)) Report text last.text ∙ followed_first before.written (first_line command) (text ++ last.text);
+  read = are_read command before after rest Stands blocks room text behind read;
+  messages = refl;
+  unsaved = λ no. refl;
+  due = λ start begins contents held. let (h, stands, e) = ended_output command before after rest Stands blocks room text read start begins contents held in
+      subst (λ (o : Output). IsFront (so_far (first_line command) (text ++ last.text)) o) (sym e)
+      (record { report = front_behind text (last_due command blocks h) last.text (last.holds h stands); messages = front_all (first_line command); state = refl; in_order = inr refl });
+})))) last.cause
 
-  go : (halt : Halt) → HaltHasCause between after.write_faults halt → Says (status_of halt) (Some (Run command)) before after
-  go w.Write rose = (subst (λ (k : ℕ). Rose k after.write_faults) calm rose, short)
-  go w.NoMemory cause = (cause ∙ calm, short)
+-- the state was not written whole
+pub state_says : (command : Command) (before after : Outside) (rest : Option (List ℕ)) (Stands : History → Type 0) (blocks room : ℕ) (mid mid2 mid3 : Texts) (between between2 : ℕ) (text : List ℕ) (halt : Halt)
+    → Begun command before rest → mid ≡ with_bytes before.written Messages (first_line command) → mid2 ≡ with_bytes mid Report text → between ≡ before.write_faults
+    → AreReadTo command before.file rest after.rest Stands blocks room (length (names_of command)) text
+    → ToldWhole Stands (λ h. last_due command blocks h) mid2 mid3 between between2
+    → StateCut command Stands mid3 after.written between2 after.write_faults halt
+    → Says (status_of halt) (Some (Run command)) before after
+state_says command before after rest Stands blocks room mid mid2 mid3 between between2 text halt behind first reported calm read last state =
+    halt_says command before after between2 halt (last.calm ∙ calm) (inr (inl (inr (record {
+      front = with_state (first_line command) (text ++ last.text) state.text;
+      written = all_written before.written mid mid2 mid3 after.written (first_line command) text last.text state.text first reported last.written state.written;
+      read = are_read command before after rest Stands blocks room text behind read;
+      messages = refl;
+      unsaved = state.unsaved;
+      due = λ start begins contents held. let (h, stands, e) = ended_output command before after rest Stands blocks room text read start begins contents held in
+          let same : text ++ last.text ≡ text ++ last_due command blocks h = ap (λ (l : List ℕ). text ++ l) (last.holds h stands) in
+          subst (λ (o : Output). IsFront (with_state (first_line command) (text ++ last.text) state.text) o) (sym e)
+          (record {
+            report = subst (λ (l : List ℕ). StartsWith l (text ++ last.text)) same (front_all (text ++ last.text));
+            messages = front_all (first_line command);
+            state = state.holds h stands;
+            in_order = inl same;
+          });
+    })))) state.cause
 
 -- ---- troubles
-short_within : (command : Command) (before after : Outside) (text : List ℕ) → after.written ≡ with_bytes (with_bytes before.written Messages (first_line command)) Report text → IsShortTo command before.file text
+short_within : (command : Command) (before after : Outside) (text : List ℕ) → HasBegun command.resume before.file → after.written ≡ with_bytes (with_bytes before.written Messages (first_line command)) Report text → IsShortTo command before.file text
     → IsCutShort (Some (Run command)) before after
-short_within command before after text e short = inr (inl (inl (record {
+short_within command before after text begun e short = inr (inl (inl (record {
+  begun = begun;
   front = so_far (first_line command) text;
   written = e ∙ followed_first before.written (first_line command) text;
   messages = front_all (first_line command);
@@ -235,26 +288,28 @@ short_within command before after text e short = inr (inl (inl (record {
   due = short.due;
 })))
 
-refused_comes : (command : Command) (before after : Outside) (text : List ℕ) (place line : ℕ) (why : Why) → IsRefusedAt command before.file text place line why
+refused_comes : (command : Command) (before after : Outside) (text : List ℕ) (place line : ℕ) (why : Why) → HasBegun command.resume before.file → IsRefusedAt command before.file text place line why
     → IsRefused command before after (so_far (first_line command ++ fault_line (name_at (names_of command) place) line why) text)
 unfolding output_of
-refused_comes command before after text place line why at = record {
+refused_comes command before after text place line why begun at = record {
+  begun = begun;
   fault = record { file = place; line = line; why = why };
   named = omega (arith, at.named, same_length command before.file);
   none_absent = front_there (helds_of command before.file) (place + 1) at.there;
   messages = refl;
   no_state = refl;
   clean_before = at.clean;
-  first = λ contents held. let (after, told, e) = at.gives contents held in ap (λ (c : Course FileFault). fault_in c.end) e;
-  defined = λ contents held. let (after, told, e) = at.gives contents held in
+  first = λ start begins contents held. let (after, told, e) = at.gives start begins contents held in ap (λ (c : Course FileFault). fault_in c.end) e;
+  defined = λ start begins contents held. let (after, told, e) = at.gives start begins contents held in
       ap (λ (l : List ℕ). so_far (first_line command ++ fault_line (name_at (names_of command) place) line why) l) told ∙ ap (output_along command) (sym e);
 }
 
-unstarted_comes : (command : Command) (before after : Outside) (text : List ℕ) (place : ℕ) → IsUnreadAt AtStart command before.file before.rest after.rest text place
+unstarted_comes : (command : Command) (before after : Outside) (rest : Option (List ℕ)) (text : List ℕ) (place : ℕ) → Begun command before rest → IsUnreadAt AtStart command before.file rest after.rest text place
     → HasBroken AtStart (held_file_at (helds_of command before.file) place) (Rose before.read_faults after.read_faults)
     → IsUnread command before after (so_far (first_line command ++ unread_line (name_at (names_of command) place)) text)
 unfolding unread_output
-unstarted_comes command before after text place at cause = record {
+unstarted_comes command before after rest text place behind at cause = record {
+  begun = behind.begun;
   place = place;
   named = omega (arith, at.named, same_length command before.file);
   by_the_words = at.behind;
@@ -264,14 +319,15 @@ unstarted_comes command before after text place at cause = record {
   messages = refl;
   no_state = refl;
   clean_before = at.clean;
-  defined = λ contents held. let e = at.gives contents held in (e.0, ap (λ (l : List ℕ). so_far (first_line command ++ unread_line (name_at (names_of command) place)) l) e.1);
+  defined = λ start begins contents held. let e = at.gives start begins contents held in (e.0 ∙ ap (rest_behind (place - generated_count command)) (behind.left start begins), ap (λ (l : List ℕ). so_far (first_line command ++ unread_line (name_at (names_of command) place)) l) e.1);
 }
 
-unread_comes : (command : Command) (before after : Outside) (text : List ℕ) (place : ℕ) → IsUnreadAt Within command before.file before.rest after.rest text place
+unread_comes : (command : Command) (before after : Outside) (rest : Option (List ℕ)) (text : List ℕ) (place : ℕ) → Begun command before rest → IsUnreadAt Within command before.file rest after.rest text place
     → HasBroken Within (held_file_at (helds_of command before.file) place) (Rose before.read_faults after.read_faults)
     → IsUnread command before after (so_far (first_line command ++ unread_line (name_at (names_of command) place)) text)
 unfolding unread_output
-unread_comes command before after text place at cause = record {
+unread_comes command before after rest text place behind at cause = record {
+  begun = behind.begun;
   place = place;
   named = omega (arith, at.named, same_length command before.file);
   by_the_words = at.behind;
@@ -281,30 +337,52 @@ unread_comes command before after text place at cause = record {
   messages = refl;
   no_state = refl;
   clean_before = at.clean;
-  defined = λ contents held xs holds. let (delivered, is, fine, told) = at.gives contents held xs holds in
+  defined = λ start begins contents held xs holds. let (delivered, is, fine, told) = at.gives start begins contents held xs holds in
       (delivered, is, fine, ap (λ (l : List ℕ). so_far (first_line command ++ unread_line (name_at (names_of command) place)) l) told);
 }
 
-pub trouble_says : (command : Command) (before after : Outside) (mid mid2 : Texts) (between : ℕ) (text : List ℕ) (trouble : FilesTrouble) (result : Status)
-    → mid ≡ with_bytes before.written Messages (first_line command) → mid2 ≡ with_bytes mid Report text
-    → FilesTroubleGives command before.file before.rest text trouble after.rest → AreCalmUnless before.write_faults between trouble
+-- faults that rose in the files rose in the run
+broken_since : (helds : List HeldFile) (a b c : ℕ) (trouble : FilesTrouble) → a ≤ b → HasBrokenAt helds (Rose b c) trouble → HasBrokenAt helds (Rose a c) trouble
+broken_since helds a b c (t.Refused place line why) h cause = tt
+broken_since helds a b c (t.Start place) h (inl absent) = inl absent
+broken_since helds a b c (t.Start place) h (inr rose) = inr (rose_since a b c h rose)
+broken_since helds a b c (t.Read place) h (there, rose) = (there, rose_since a b c h rose)
+broken_since helds a b c t.Write h cause = tt
+broken_since helds a b c t.NoMemory h cause = tt
+
+says_of_trouble : (command : Command) (before after : Outside) (rest : Option (List ℕ)) (mid mid2 : Texts) (between : ℕ) (text : List ℕ) (trouble : FilesTrouble) (result : Status)
+    → Begun command before rest → mid ≡ with_bytes before.written Messages (first_line command) → mid2 ≡ with_bytes mid Report text
+    → FilesTroubleGives command before.file rest text trouble after.rest → AreCalmUnless before.write_faults between trouble
     → HasBrokenAt (helds_of command before.file) (Rose before.read_faults after.read_faults) trouble
     → EndsBy command trouble mid2 after.written between after.write_faults result
     → Says result (Some (Run command)) before after
-trouble_says command before after mid mid2 between text (t.Refused place line why) result first reported gives calm cause ended =
+says_of_trouble command before after rest mid mid2 between text (t.Refused place line why) result behind first reported gives calm cause ended =
     message_says Refused (Some (Run command)) before after (first_line command) text (fault_line (name_at (names_of command) place) line why) mid2 between result
-    (refused_comes command before after text place line why gives) (reported ∙ ap (λ (t : Texts). with_bytes t Report text) first) calm ended
-trouble_says command before after mid mid2 between text (t.Start place) result first reported gives calm cause ended =
+    (inr (refused_comes command before after text place line why behind.begun gives)) (reported ∙ ap (λ (t : Texts). with_bytes t Report text) first) calm ended
+says_of_trouble command before after rest mid mid2 between text (t.Start place) result behind first reported gives calm cause ended =
     message_says Read (Some (Run command)) before after (first_line command) text (unread_line (name_at (names_of command) place)) mid2 between result
-    (unstarted_comes command before after text place gives cause) (reported ∙ ap (λ (t : Texts). with_bytes t Report text) first) calm ended
-trouble_says command before after mid mid2 between text (t.Read place) result first reported gives calm cause ended =
+    (inr (unstarted_comes command before after rest text place behind gives cause)) (reported ∙ ap (λ (t : Texts). with_bytes t Report text) first) calm ended
+says_of_trouble command before after rest mid mid2 between text (t.Read place) result behind first reported gives calm cause ended =
     message_says Read (Some (Run command)) before after (first_line command) text (unread_line (name_at (names_of command) place)) mid2 between result
-    (unread_comes command before after text place gives cause) (reported ∙ ap (λ (t : Texts). with_bytes t Report text) first) calm ended
-trouble_says command before after mid mid2 between text t.Write result first reported gives rose cause (is, e, same) =
+    (inr (unread_comes command before after rest text place behind gives cause)) (reported ∙ ap (λ (t : Texts). with_bytes t Report text) first) calm ended
+says_of_trouble command before after rest mid mid2 between text t.Write result behind first reported gives rose cause (is, e, same) =
     subst (λ (s : Status). Says s (Some (Run command)) before after) (sym is)
-    (subst (λ (k : ℕ). Rose before.write_faults k) (sym same) rose, short_within command before after text (e ∙ reported ∙ ap (λ (t : Texts). with_bytes t Report text) first) gives)
-trouble_says command before after mid mid2 between text t.NoMemory result first reported gives calm cause (is, e, same) =
-    subst (λ (s : Status). Says s (Some (Run command)) before after) (sym is) (same ∙ calm, short_within command before after text (e ∙ reported ∙ ap (λ (t : Texts). with_bytes t Report text) first) gives)
+    (subst (λ (k : ℕ). Rose before.write_faults k) (sym same) rose, short_within command before after text behind.begun (e ∙ reported ∙ ap (λ (t : Texts). with_bytes t Report text) first) gives)
+says_of_trouble command before after rest mid mid2 between text t.NoMemory result behind first reported gives calm cause (is, e, same) =
+    subst (λ (s : Status). Says s (Some (Run command)) before after) (sym is) (same ∙ calm, short_within command before after text behind.begun (e ∙ reported ∙ ap (λ (t : Texts). with_bytes t Report text) first) gives)
+
+calm_before : (a b c : ℕ) (trouble : FilesTrouble) → b ≡ a → AreCalmUnless b c trouble → AreCalmUnless a c trouble
+calm_before a b c trouble same calm = subst (λ (k : ℕ). AreCalmUnless k c trouble) same calm
+
+pub trouble_says : (command : Command) (before after : Outside) (rest : Option (List ℕ)) (mid mid2 : Texts) (began unread between : ℕ) (text : List ℕ) (trouble : FilesTrouble) (result : Status)
+    → Begun command before rest → before.read_faults ≤ unread → began ≡ before.write_faults → mid ≡ with_bytes before.written Messages (first_line command) → mid2 ≡ with_bytes mid Report text
+    → FilesTroubleGives command before.file rest text trouble after.rest → AreCalmUnless began between trouble
+    → HasBrokenAt (helds_of command before.file) (Rose unread after.read_faults) trouble
+    → EndsBy command trouble mid2 after.written between after.write_faults result
+    → Says result (Some (Run command)) before after
+trouble_says command before after rest mid mid2 began unread between text trouble result behind later same first reported gives calm cause ended =
+    says_of_trouble command before after rest mid mid2 between text trouble result behind first reported gives (calm_before before.write_faults began between trouble same calm)
+    (broken_since (helds_of command before.file) before.read_faults unread after.read_faults trouble later cause) ended
 
 pub trouble_placed : (command : Command) (file : List ℕ → HeldFile) (before rest : Option (List ℕ)) (text : List ℕ) (trouble : FilesTrouble) → FilesTroubleGives command file before text trouble rest → IsTroubleOf (length (names_of command)) trouble
 trouble_placed command file before rest text (t.Refused place line why) at = omega (arith, at.named, same_length command file)
@@ -314,21 +392,23 @@ trouble_placed command file before rest text t.Write at = tt
 trouble_placed command file before rest text t.NoMemory at = tt
 
 -- the first line was not written whole
-pub first_says : (command : Command) (before after : Outside) (halt : Halt) → CutsText Messages (first_line command) before.written after.written before.write_faults after.write_faults halt
+pub first_says : (command : Command) (before after : Outside) (halt : Halt) → HasBegun command.resume before.file
+    → CutsText Messages (first_line command) before.written after.written before.write_faults after.write_faults halt
     → Says (status_of halt) (Some (Run command)) before after
-first_says command before after w.Write ((n, short, e), rose) = (
+first_says command before after w.Write begun ((n, short, e), rose) = (
   rose,
   inr (inl (inl (record {
+    begun = begun;
     front = only_on Messages (take n (first_line command));
     written = e ∙ followed_only before.written Messages (take n (first_line command));
     messages = front_take n (first_line command) short;
     no_state = refl;
     place = 0;
     none_absent = front_there (helds_of command before.file) 0 (λ k h. absurd (omega arith));
-    due = λ contents held files. refl;
+    due = λ start begins contents held files. refl;
   }))),
 )
-first_says command before after w.NoMemory (e, calm) = (calm, inl e)
+first_says command before after w.NoMemory begun (e, calm) = (calm, inl e)
 
 -- ---- all files
 pub run_gives : {F : Type 0} (command : Command) (file : List ℕ → HeldFile) (before rest : Option (List ℕ)) (text : List ℕ) (result : Result (Session F) FilesTrouble) (new : Reading)
@@ -365,3 +445,80 @@ pub read_ends : (command : Command) (trouble : FilesTrouble) (place : ℕ) (name
     → EndsWith Read Messages (unread_line name) old new before after result → EndsBy command trouble old new before after result
 read_ends command trouble place name old new before after result is same ended =
     subst (λ (t : FilesTrouble). EndsBy command t old new before after result) (sym is) (unread_ends (unread_line name) (unread_line (name_at (names_of command) place)) old new before after result (ap unread_line same) ended)
+
+-- ---- behind the beginning
+pub behind_of : {F : Type 0} (command : Command) (before now : Outside) (beginning : Beginning F) → HasCome command before now beginning → Begun command before now.rest
+behind_of command before now beginning come = record { begun = come.begun.begun; left = come.left }
+
+-- the first line was not written whole, behind the beginning
+pub first_come : (command : Command) (before after : Outside) (halt : Halt) (mid : Texts) (began : ℕ) → HasBegun command.resume before.file → mid ≡ before.written → began ≡ before.write_faults
+    → CutsText Messages (first_line command) mid after.written began after.write_faults halt → Says (status_of halt) (Some (Run command)) before after
+first_come command before after halt mid began begun same calm cut =
+    first_says command before after halt begun
+    (subst (λ (n : ℕ). CutsText Messages (first_line command) before.written after.written n after.write_faults halt) calm
+    (subst (λ (t : Texts). CutsText Messages (first_line command) t after.written began after.write_faults halt) same cut))
+
+-- ---- behind a trouble with the state file
+pub unstarted_ends : (command : Command) (trouble : StartTrouble) (name : List ℕ) (old new : Texts) (before after : ℕ) (result : Status) → trouble ≡ b.Start → name ≡ state_name command
+    → EndsWith Read Messages (unread_line name) old new before after result → EndsUnbegun command trouble old new before after result
+unstarted_ends command trouble name old new before after result is same ended =
+    subst (λ (t : StartTrouble). EndsUnbegun command t old new before after result) (sym is)
+    (subst (λ (n : List ℕ). EndsWith Read Messages (unread_line n) old new before after result) same ended)
+
+pub unread_state_ends : (command : Command) (trouble : StartTrouble) (name : List ℕ) (old new : Texts) (before after : ℕ) (result : Status) → trouble ≡ b.Read → name ≡ state_name command
+    → EndsWith Read Messages (unread_line name) old new before after result → EndsUnbegun command trouble old new before after result
+unread_state_ends command trouble name old new before after result is same ended =
+    subst (λ (t : StartTrouble). EndsUnbegun command t old new before after result) (sym is)
+    (subst (λ (n : List ℕ). EndsWith Read Messages (unread_line n) old new before after result) same ended)
+
+pub refused_state_ends : (command : Command) (trouble : StartTrouble) (why : Why) (name : List ℕ) (old new : Texts) (before after : ℕ) (result : Status) → trouble ≡ b.Refused why → name ≡ state_name command
+    → EndsWith Refused Messages (fault_line name 0 why) old new before after result → EndsUnbegun command trouble old new before after result
+refused_state_ends command trouble why name old new before after result is same ended =
+    subst (λ (t : StartTrouble). EndsUnbegun command t old new before after result) (sym is)
+    (subst (λ (n : List ℕ). EndsWith Refused Messages (fault_line n 0 why) old new before after result) same ended)
+
+-- ---- a run that does not begin
+refused_begin : (command : Command) (before after : Outside) (name : List ℕ) (why : Why) → command.resume ≡ Some name
+    → StateTroubleGives (before.file name) (Rose before.read_faults after.read_faults) before.rest after.rest (b.Refused why)
+    → IsStateRefused command before (only_on Messages (fault_line (state_name command) 0 why))
+refused_begin command before after name why named gives = record {
+  name = name;
+  named = named;
+  there = gives.0;
+  why = why;
+  of_state = gives.1;
+  fault = gives.2;
+  message = ap (λ (o : Option (List ℕ)). only_on Messages (fault_line (unwrap_or o []) 0 why)) named;
+}
+
+unread_begin : (command : Command) (before after : Outside) (name : List ℕ) (by : Break) → command.resume ≡ Some name
+    → HasBroken by (before.file name) (Rose before.read_faults after.read_faults) → StateUnreadGives by (before.file name) before.rest after.rest
+    → IsStateUnread command before after (only_on Messages (unread_line (state_name command)))
+unread_begin command before after name by named cause left = record {
+  name = name;
+  named = named;
+  by = by;
+  cause = cause;
+  left = left;
+  message = ap (λ (o : Option (List ℕ)). only_on Messages (unread_line (unwrap_or o []))) named;
+}
+
+unbegun_of : (command : Command) (before after : Outside) (resume : Option (List ℕ)) (trouble : StartTrouble) (result : Status) → command.resume ≡ resume
+    → StartTroubleGives resume before.file (Rose before.read_faults after.read_faults) before.rest after.rest trouble
+    → EndsUnbegun command trouble before.written after.written before.write_faults after.write_faults result → Says result (Some (Run command)) before after
+unbegun_of command before after None (b.Refused why) result named gives ended = absurd (cc (gives))
+unbegun_of command before after None b.Start result named gives ended = absurd (cc (gives))
+unbegun_of command before after None b.Read result named gives ended = absurd (cc (gives))
+unbegun_of command before after None b.NoMemory result named gives (is, e, calm) = subst (λ (s : Status). Says s (Some (Run command)) before after) (sym is) (calm, inl e)
+unbegun_of command before after (Some name) (b.Refused why) result named gives ended =
+    only_says Refused (Some (Run command)) before after Messages (fault_line (state_name command) 0 why) result (inl (refused_begin command before after name why named gives)) ended
+unbegun_of command before after (Some name) b.Start result named gives ended =
+    only_says Read (Some (Run command)) before after Messages (unread_line (state_name command)) result (inl (unread_begin command before after name AtStart named gives.0 gives.1)) ended
+unbegun_of command before after (Some name) b.Read result named gives ended =
+    only_says Read (Some (Run command)) before after Messages (unread_line (state_name command)) result (inl (unread_begin command before after name Within named gives.0 gives.1)) ended
+unbegun_of command before after (Some name) b.NoMemory result named gives (is, e, calm) = subst (λ (s : Status). Says s (Some (Run command)) before after) (sym is) (calm, inl e)
+
+pub unbegun_says : (command : Command) (before after : Outside) (trouble : StartTrouble) (result : Status)
+    → StartTroubleGives command.resume before.file (Rose before.read_faults after.read_faults) before.rest after.rest trouble
+    → EndsUnbegun command trouble before.written after.written before.write_faults after.write_faults result → Says result (Some (Run command)) before after
+unbegun_says command before after trouble result gives ended = unbegun_of command before after command.resume trouble result refl gives ended

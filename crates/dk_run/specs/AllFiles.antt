@@ -9,9 +9,10 @@ use Rattle.dk_core.specs.Standing.{SessionStandsFor, blocks_of}
 use Rattle.dk_core.specs.declared.session.Session.{Session}
 use Rattle.dk_words.specs.declared.command.Command.{Command}
 use Rattle.dk_run.specs.Commands.{generated_count, helds_of, names_of}
-use Rattle.dk_run.specs.Courses.{course_of, course_of_files, first_fault, onto}
+use Rattle.dk_run.specs.Courses.{Outset, course_of, course_of_files, first_fault, onto}
 use Rattle.dk_run.specs.Files.{AreHeldFiles, File, whole}
 use Rattle.dk_run.specs.Reports.{capped, due_reports}
+use Rattle.dk_run.specs.Starts.{Begins}
 use Rattle.dk_run.specs.Statuses.{Break, AtStart, Within, AreClean, HasBroken, IsDelivered, held_file_at, rest_behind}
 use Rattle.dk_run.specs.declared.reading.Trouble.{Trouble}
 use Rattle.dk_run.specs.declared.reading.Trouble.TheVariants as t
@@ -19,54 +20,56 @@ use Rattle.dk_run.specs.declared.reading.FilesTrouble.{FilesTrouble}
 use Rattle.dk_run.specs.declared.reading.FilesTrouble.TheVariants.{Refused, Start, Read, Write, NoMemory}
 
 -- The files in front of this place were read, which hold these contents, and the reports that were due are told: the run over them and any
--- others goes on from here.
-pub record RunsOn (command : Command) (before rest : Option (List ℕ)) (Stands : History → Type 0) (blocks room place : ℕ) (text : List ℕ) (contents : List (List ℕ)) : Type 0 where
+-- others, behind this start, goes on from here.
+pub record RunsOn (start : Outset) (command : Command) (before rest : Option (List ℕ)) (Stands : History → Type 0) (blocks room place : ℕ) (text : List ℕ) (contents : List (List ℕ)) : Type 0 where
   pub after : List History
   pub history : History
   pub stands : Stands history
   pub counts : blocks ≡ capped (length after)
   pub told : text ≡ due_reports command after
   pub rest_is : rest ≡ rest_behind (place - generated_count command) before
-  pub goes : (files : List File) → course_of command.ignore_missing_entry (map whole contents ++ files) ≡ onto after (course_of_files command.ignore_missing_entry room history place files)
+  pub goes : (files : List File) → course_of start command.ignore_missing_entry (map whole contents ++ files) ≡ onto after (course_of_files command.ignore_missing_entry room history place files)
 
 -- The files in front of this place were read, whatever they hold.
 pub record AreReadTo (command : Command) (file : List ℕ → HeldFile) (before rest : Option (List ℕ)) (Stands : History → Type 0) (blocks room place : ℕ) (text : List ℕ) : Type 0 where
   pub there : (k : ℕ) → k < place → held_file_at (helds_of command file) k ≢ Absent
-  pub clean : AreClean command.ignore_missing_entry (helds_of command file) place
-  pub runs : (contents : List (List ℕ)) → AreHeldFiles (take place (helds_of command file)) contents → RunsOn command before rest Stands blocks room place text contents
+  pub clean : AreClean command file place
+  pub runs : (start : Outset) → Begins command.resume file start → (contents : List (List ℕ)) → AreHeldFiles (take place (helds_of command file)) contents
+      → RunsOn start command before rest Stands blocks room place text contents
 
 -- The files up to this place hold this fault as their first, and the reports that were due are told.
 pub record IsRefusedAt (command : Command) (file : List ℕ → HeldFile) (text : List ℕ) (place line : ℕ) (why : Why) : Type 0 where
   pub named : place < length (helds_of command file)
   pub there : (k : ℕ) → k < place + 1 → held_file_at (helds_of command file) k ≢ Absent
-  pub clean : AreClean command.ignore_missing_entry (helds_of command file) place
-  pub gives : (contents : List (List ℕ)) → AreHeldFiles (take (place + 1) (helds_of command file)) contents →
+  pub clean : AreClean command file place
+  pub gives : (start : Outset) → Begins command.resume file start → (contents : List (List ℕ)) → AreHeldFiles (take (place + 1) (helds_of command file)) contents →
       (after : List History) × (text ≡ due_reports command after)
-      × (course_of command.ignore_missing_entry (map whole contents) ≡ record { after = after; end = Err (record { file = place; line = line; why = why }) })
+      × (course_of start command.ignore_missing_entry (map whole contents) ≡ record { after = after; end = Err (record { file = place; line = line; why = why }) })
 
 -- What is told where a file can't be read, behind files of these contents.
-abbrev pub BreakGives : Break → Command → ℕ → HeldFile → Option (List ℕ) → Option (List ℕ) → List ℕ → List (List ℕ) → Type 0
-BreakGives AtStart command place held before rest text contents =
-    (rest ≡ rest_behind (place - generated_count command) before) × (text ≡ due_reports command (course_of command.ignore_missing_entry (map whole contents)).after)
-BreakGives Within command place held before rest text contents = (xs : List ℕ) → held ≡ Holds xs →
+abbrev pub BreakGives : Break → Outset → Command → ℕ → HeldFile → Option (List ℕ) → Option (List ℕ) → List ℕ → List (List ℕ) → Type 0
+BreakGives AtStart start command place held before rest text contents =
+    (rest ≡ rest_behind (place - generated_count command) before) × (text ≡ due_reports command (course_of start command.ignore_missing_entry (map whole contents)).after)
+BreakGives Within start command place held before rest text contents = (xs : List ℕ) → held ≡ Holds xs →
     (delivered : File) × IsDelivered xs rest delivered
-    × (first_fault command.ignore_missing_entry (map whole contents ++ delivered ∷ []) ≡ None)
-    × (text ≡ due_reports command (course_of command.ignore_missing_entry (map whole contents ++ delivered ∷ [])).after)
+    × (first_fault start command.ignore_missing_entry (map whole contents ++ delivered ∷ []) ≡ None)
+    × (text ≡ due_reports command (course_of start command.ignore_missing_entry (map whole contents ++ delivered ∷ [])).after)
 
 -- The file at this place, a named one, could not be read. What was delivered holds no fault, and the reports that are due within it are told.
 pub record IsUnreadAt (by : Break) (command : Command) (file : List ℕ → HeldFile) (before rest : Option (List ℕ)) (text : List ℕ) (place : ℕ) : Type 0 where
   pub behind : generated_count command ≤ place
   pub named : place < length (helds_of command file)
   pub there : (k : ℕ) → k < place → held_file_at (helds_of command file) k ≢ Absent
-  pub clean : AreClean command.ignore_missing_entry (helds_of command file) place
-  pub gives : (contents : List (List ℕ)) → AreHeldFiles (take place (helds_of command file)) contents → BreakGives by command place (held_file_at (helds_of command file) place) before rest text contents
+  pub clean : AreClean command file place
+  pub gives : (start : Outset) → Begins command.resume file start → (contents : List (List ℕ)) → AreHeldFiles (take place (helds_of command file)) contents
+      → BreakGives by start command place (held_file_at (helds_of command file) place) before rest text contents
 
 -- a front of the reports that are due is told, whatever files follow those in front of a place
 pub record IsShortTo (command : Command) (file : List ℕ → HeldFile) (text : List ℕ) : Type 0 where
   pub place : ℕ
   pub there : (k : ℕ) → k < place → held_file_at (helds_of command file) k ≢ Absent
-  pub due : (contents : List (List ℕ)) → AreHeldFiles (take place (helds_of command file)) contents → (files : List File) →
-      StartsWith (due_reports command (course_of command.ignore_missing_entry (map whole contents ++ files)).after) text
+  pub due : (start : Outset) → Begins command.resume file start → (contents : List (List ℕ)) → AreHeldFiles (take place (helds_of command file)) contents → (files : List File) →
+      StartsWith (due_reports command (course_of start command.ignore_missing_entry (map whole contents ++ files)).after) text
 
 -- what a trouble with the files says
 abbrev pub FilesTroubleGives : Command → (List ℕ → HeldFile) → Option (List ℕ) → List ℕ → FilesTrouble → Option (List ℕ) → Type 0

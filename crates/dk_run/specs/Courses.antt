@@ -18,6 +18,15 @@ total_limit = 1099511627776
 abbrev pub standard : Limits
 standard = record { line = line_limit; total = total_limit }
 
+-- What a run begins with: a history, and how many bytes its files may have together.
+pub record Outset : Type 0 where
+  pub history : History
+  pub room : ℕ
+
+-- no samples
+abbrev pub first_start : Outset
+first_start = record { history = no_history; room = total_limit }
+
 -- the histories after the blocks without a fault, one for each, and then the last history or the first fault
 pub record Course (Fault : Type 0) : Type 0 where
   pub after : List History
@@ -62,14 +71,14 @@ course_of_files ignores room h place (file ∷ files) =
     onto (course_of_file ignores room h file).after
     (then_files place (course_of_file ignores room h file).end (λ next. course_of_files ignores (room - length file.bytes) (file_ended next) (place + 1) files))
 
--- the course of a run over all of its files
-unfoldable pub course_of : Bool → List File → Course FileFault
-course_of ignores files = course_of_files ignores total_limit no_history 0 files
+-- the course of a run over all of its files, behind its start
+unfoldable pub course_of : Outset → Bool → List File → Course FileFault
+course_of start ignores files = course_of_files ignores start.room start.history 0 files
 
 abbrev pub fault_in : Result History FileFault → Option FileFault
 fault_in (Ok history) = None
 fault_in (Err fault) = Some fault
 
 -- the fault of the earliest moment
-abbrev pub first_fault : Bool → List File → Option FileFault
-first_fault ignores files = fault_in (course_of ignores files).end
+abbrev pub first_fault : Outset → Bool → List File → Option FileFault
+first_fault start ignores files = fault_in (course_of start ignores files).end

@@ -5,6 +5,7 @@ use Rattle.dk_io.specs.Streams.{AddsFront, Texts, with_bytes}
 use Rattle.dk_io.specs.declared.outside.Stream.{Stream}
 use Rattle.dk_io.specs.declared.outside.Stream.TheVariants.{Messages}
 use Rattle.dk_words.specs.declared.command.Command.{Command}
+use Rattle.dk_run.specs.Beginning.{state_name}
 use Rattle.dk_run.specs.Commands.{names_of}
 use Rattle.dk_run.specs.Files.{name_at}
 use Rattle.dk_print.specs.Sections.{fault_line}
@@ -13,6 +14,8 @@ use Rattle.dk_run.specs.declared.reading.FilesTrouble.{FilesTrouble}
 use Rattle.dk_run.specs.declared.reading.FilesTrouble.TheVariants as t
 use Rattle.dk_run.specs.declared.reporting.Halt.{Halt}
 use Rattle.dk_run.specs.declared.reporting.Halt.TheVariants as halt
+use Rattle.dk_run.specs.declared.starting.StartTrouble.{StartTrouble}
+use Rattle.dk_run.specs.declared.starting.StartTrouble.TheVariants as s
 use Rattle.dk_run.specs.declared.status.Status.{Status}
 use Rattle.dk_run.specs.declared.status.Status.TheVariants.{Read, Refused, Write, NoMemory}
 
@@ -30,6 +33,13 @@ EndsBy command (t.Start place) old new before after result = EndsWith Read Messa
 EndsBy command (t.Read place) old new before after result = EndsWith Read Messages (unread_line (name_at (names_of command) place)) old new before after result
 EndsBy command t.Write old new before after result = (result ≡ Write) × (new ≡ old) × (after ≡ before)
 EndsBy command t.NoMemory old new before after result = (result ≡ NoMemory) × (new ≡ old) × (after ≡ before)
+
+-- the run ends so behind a trouble with its state file
+abbrev pub EndsUnbegun : Command → StartTrouble → Texts → Texts → ℕ → ℕ → Status → Type 0
+EndsUnbegun command (s.Refused why) old new before after result = EndsWith Refused Messages (fault_line (state_name command) 0 why) old new before after result
+EndsUnbegun command s.Start old new before after result = EndsWith Read Messages (unread_line (state_name command)) old new before after result
+EndsUnbegun command s.Read old new before after result = EndsWith Read Messages (unread_line (state_name command)) old new before after result
+EndsUnbegun command s.NoMemory old new before after result = (result ≡ NoMemory) × (new ≡ old) × (after ≡ before)
 
 -- the status of a run in which a text is not written whole
 abbrev pub status_of : Halt → Status

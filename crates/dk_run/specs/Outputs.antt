@@ -1,9 +1,10 @@
 -- The three texts of a run.
-use Rattle.std.specs.Prelude.{◌≡◌, ℕ, List, [], ◌++◌, length, Result, Ok, Err}
+use Rattle.std.specs.Prelude.{◌≡◌, ◌⊎◌, ℕ, List, [], ◌++◌, length, Result, Ok, Err, if◌then◌else◌}
 use Rattle.std.specs.Io.{StartsWith}
 use Rattle.std.specs.Io.KnownBytes.{append_known}
 use Rattle.std.specs.Option.{option_map_or}
 use Rattle.dk_core.specs.History.{History}
+use Rattle.dk_core.specs.Resuming.{state_of}
 use Rattle.dk_generate.specs.Texts.{generated_line}
 use Rattle.dk_io.specs.Streams.{Texts}
 use Rattle.dk_io.specs.declared.outside.Stream.{Stream}
@@ -11,7 +12,7 @@ use Rattle.dk_io.specs.declared.outside.Stream.TheVariants.{Report, Messages, St
 use Rattle.dk_words.specs.Texts.{usage_line}
 use Rattle.dk_words.specs.declared.command.Command.{Command}
 use Rattle.dk_run.specs.Commands.{names_of}
-use Rattle.dk_run.specs.Courses.{Course, course_of}
+use Rattle.dk_run.specs.Courses.{Course, Outset, course_of}
 use Rattle.dk_run.specs.Files.{File, FileFault, name_at}
 use Rattle.dk_print.specs.Sections.{fault_line}
 use Rattle.dk_run.specs.Messages.{unread_line}
@@ -33,9 +34,17 @@ only_on State text = record { report = []; messages = []; state = text }
 abbrev pub first_line : Command → List ℕ
 first_line command = option_map_or (λ n. generated_line) command.generate []
 
--- With a fault there is no last report, and the messages end with the fault's line.
+-- the state, where it is to be saved
+abbrev pub saved : Command → History → List ℕ
+saved command h = if command.save then state_of h else []
+
+-- With a fault there is no last report and no state, and the messages end with the fault's line.
 abbrev pub output_at : Command → List History → Result History FileFault → Output
-output_at command after (Ok h) = record { report = due_reports command after ++ last_report command (length after) h; messages = first_line command; state = [] }
+output_at command after (Ok h) = record {
+  report = due_reports command after ++ last_report command (length after) h;
+  messages = first_line command;
+  state = saved command h;
+}
 output_at command after (Err fault) = record {
   report = due_reports command after;
   messages = first_line command ++ fault_line (name_at (names_of command) fault.file) fault.line fault.why;
@@ -45,15 +54,15 @@ output_at command after (Err fault) = record {
 abbrev pub output_along : Command → Course FileFault → Output
 output_along command course = output_at command course.after course.end
 
--- the output of a run over all of its files, the generated one among them
-unfoldable pub output_of : Command → List File → Output
-output_of command files = output_along command (course_of command.ignore_missing_entry files)
+-- the output of a run over all of its files, the generated one among them, behind its start
+unfoldable pub output_of : Outset → Command → List File → Output
+output_of start command files = output_along command (course_of start command.ignore_missing_entry files)
 
 -- The output of a run that ends since a file of this name can't be read: the reports due within the files that were delivered, of the last of
 -- which it may be a part.
-unfoldable pub unread_output : Command → List File → List ℕ → Output
-unread_output command delivered name = record {
-  report = due_reports command (course_of command.ignore_missing_entry delivered).after;
+unfoldable pub unread_output : Outset → Command → List File → List ℕ → Output
+unread_output start command delivered name = record {
+  report = due_reports command (course_of start command.ignore_missing_entry delivered).after;
   messages = first_line command ++ unread_line name;
   state = [];
 }
@@ -70,8 +79,9 @@ followed old output = record {
   state = append_known old.state output.state;
 }
 
--- each text is a front of the other's
+-- each text is a front of the other's, and the state is written behind the whole report
 pub record IsFront (front output : Output) : Type 0 where
   pub report : StartsWith output.report front.report
   pub messages : StartsWith output.messages front.messages
   pub state : StartsWith output.state front.state
+  pub in_order : (front.report ≡ output.report) ⊎ (front.state ≡ [])

@@ -4,7 +4,6 @@ use Rattle.std.specs.List.{enumerate_from}
 use Rattle.std.specs.Option.{option_map_or}
 use Rattle.dk_core.specs.History.{History}
 use Rattle.dk_core.specs.Sections.{all_stats_of, report_of}
-use Rattle.dk_template.specs.declared.grammar.Grammar.TheVariants as grammar
 use Rattle.dk_words.specs.declared.command.Command.{Command}
 use Rattle.dk_run.specs.Commands.{is_selected, options_of}
 use Rattle.dk_print.specs.Sections.{after_blocks_line, end_line}
@@ -15,7 +14,7 @@ capped n = min n (2 ^ 64 - 1)
 
 -- the sections, and behind them the sizes where they are asked for
 unfoldable pub whole_report : Command → History → List ℕ
-whole_report command h = report_of grammar.Two (options_of command) (is_selected command) h ++ (if command.stats then all_stats_of grammar.Two h else [])
+whole_report command h = report_of (options_of command) (is_selected command) h ++ (if command.stats then all_stats_of h else [])
 
 -- a report is due after each block whose number is a multiple of this one
 abbrev pub is_due : ℕ → ℕ → Bool

@@ -1,7 +1,9 @@
 -- What each status of a run says.
-use Rattle.std.specs.Prelude.{◌≡◌, ◌≢◌, ◌≤◌, ◌<◌, ◌⊎◌, ◌+◌, ◌-◌, ℕ, zero, suc, Bool, true, List, [], ◌∷◌, ◌++◌, map, take, length, All, Option, Some, None, slice_get, unwrap_or}
+use Rattle.std.specs.Prelude.{◌≡◌, ◌≢◌, ◌≤◌, ◌<◌, ◌⊎◌, ◌+◌, ◌-◌, ℕ, zero, suc, Bool, true, false, List, [], ◌∷◌, ◌++◌, map, take, length, All, Option, Some, None, slice_get, unwrap_or}
 use Rattle.std.specs.Io.{StartsWith}
-use Rattle.dk_io.specs.Outside.{HeldFile, Absent, Holds, Untold, Rose}
+use Rattle.dk_base.specs.declared.why.Why.{Why}
+use Rattle.dk_base.specs.declared.why.Why.TheVariants.{BadState, TooLong}
+use Rattle.dk_io.specs.Outside.{DeliversUpTo, HeldFile, Absent, Holds, Untold, Rose}
 use Rattle.dk_io.specs.Streams.{Texts}
 use Rattle.dk_io.specs.declared.outside.Stream.TheVariants as stream
 use Rattle.dk_words.specs.Texts.{help_text, version_text}
@@ -9,7 +11,8 @@ use Rattle.dk_words.specs.declared.command.Command.{Command}
 use Rattle.dk_words.specs.declared.request.Request.{Request}
 use Rattle.dk_words.specs.declared.request.Request.TheVariants.{Run, Help, Version}
 use Rattle.dk_run.specs.Commands.{generated_count, helds_of, names_of}
-use Rattle.dk_run.specs.Courses.{course_of, first_fault}
+use Rattle.dk_run.specs.Courses.{Outset, course_of, first_fault, total_limit}
+use Rattle.dk_run.specs.Starts.{Begins, HasBegun, IsRefusedAs, rest_begun}
 use Rattle.dk_run.specs.Files.{File, FileFault, AreHeldFiles, cut_off, name_at, whole}
 use Rattle.dk_print.specs.Sections.{fault_line}
 use Rattle.dk_run.specs.Messages.{unread_line}
@@ -61,48 +64,84 @@ abbrev pub HasBroken : Break → HeldFile → Type 0 → Type 0
 HasBroken AtStart held rose = (held ≡ Absent) ⊎ rose
 HasBroken Within held rose = (held ≢ Absent) × rose
 
--- As far as the first n files are held, from the first on, they hold no fault.
-abbrev pub AreClean : Bool → List HeldFile → ℕ → Type 0
-AreClean ignores helds n = (k : ℕ) (contents : List (List ℕ)) → k ≤ n → AreHeldFiles (take k helds) contents → first_fault ignores (map whole contents) ≡ None
+-- Behind this start, as far as the first n files are held, from the first on, they hold no fault.
+abbrev pub AreCleanBehind : Outset → Bool → List HeldFile → ℕ → Type 0
+AreCleanBehind start ignores helds n = (k : ℕ) (contents : List (List ℕ)) → k ≤ n → AreHeldFiles (take k helds) contents → first_fault start ignores (map whole contents) ≡ None
+
+-- So it is behind each start of the run.
+abbrev pub AreClean : Command → (List ℕ → HeldFile) → ℕ → Type 0
+AreClean command file n = (start : Outset) → Begins command.resume file start → AreCleanBehind start command.ignore_missing_entry (helds_of command file) n
 
 -- ---- how a run ends
--- All files were started and read to their ends, and they hold no fault.
+-- A state file that is named was read whole, and is one. All files were started and read to their ends, and they hold no fault.
 pub record AreRead (command : Command) (before after : Outside) : Type 0 where
+  pub begun : HasBegun command.resume before.file
   pub none_absent : All (λ held. held ≢ Absent) (helds_of command before.file)
-  pub clean : AreClean command.ignore_missing_entry (helds_of command before.file) (length (helds_of command before.file))
-  pub all_read : (contents : List (List ℕ)) → AreHeldFiles (helds_of command before.file) contents → after.rest ≡ rest_behind (length command.files) before.rest
+  pub clean : AreClean command before.file (length (helds_of command before.file))
+  pub all_read : (start : Outset) → Begins command.resume before.file start → (contents : List (List ℕ)) → AreHeldFiles (helds_of command before.file) contents
+      → after.rest ≡ rest_behind (length command.files) (rest_begun command.resume before.rest)
 
 -- This is the output then.
 pub record IsDone (command : Command) (before after : Outside) (output : Output) : Type 0 where
   pub read : AreRead command before after
   pub messages : output.messages ≡ first_line command
-  pub no_state : output.state ≡ []
-  pub defined : (contents : List (List ℕ)) → AreHeldFiles (helds_of command before.file) contents → output ≡ output_of command (map whole contents)
+  pub unsaved : command.save ≡ false → output.state ≡ []
+  pub defined : (start : Outset) → Begins command.resume before.file start → (contents : List (List ℕ)) → AreHeldFiles (helds_of command before.file) contents
+      → output ≡ output_of start command (map whole contents)
+
+-- The state file is refused, at its line 0. That is all that the run says.
+pub record IsStateRefused (command : Command) (before : Outside) (output : Output) : Type 0 where
+  pub name : List ℕ
+  pub named : command.resume ≡ Some name
+  pub there : before.file name ≢ Absent
+  pub why : Why
+  pub of_state : (why ≡ TooLong) ⊎ (why ≡ BadState)
+  pub fault : (xs : List ℕ) → before.file name ≡ Holds xs → IsRefusedAs why xs
+  pub message : output ≡ only_on stream.Messages (fault_line name 0 why)
 
 -- The files up to this fault's hold it as their first, and this is the output: its messages end with the fault's line.
 pub record IsRefused (command : Command) (before after : Outside) (output : Output) : Type 0 where
+  pub begun : HasBegun command.resume before.file
   pub fault : FileFault
   pub named : fault.file < length (names_of command)
   pub none_absent : All (λ held. held ≢ Absent) (take (fault.file + 1) (helds_of command before.file))
   pub messages : output.messages ≡ first_line command ++ fault_line (name_at (names_of command) fault.file) fault.line fault.why
   pub no_state : output.state ≡ []
-  pub clean_before : AreClean command.ignore_missing_entry (helds_of command before.file) fault.file
-  pub first : (contents : List (List ℕ)) → AreHeldFiles (take (fault.file + 1) (helds_of command before.file)) contents → first_fault command.ignore_missing_entry (map whole contents) ≡ Some fault
-  pub defined : (contents : List (List ℕ)) → AreHeldFiles (take (fault.file + 1) (helds_of command before.file)) contents → output ≡ output_of command (map whole contents)
+  pub clean_before : AreClean command before.file fault.file
+  pub first : (start : Outset) → Begins command.resume before.file start → (contents : List (List ℕ)) → AreHeldFiles (take (fault.file + 1) (helds_of command before.file)) contents
+      → first_fault start command.ignore_missing_entry (map whole contents) ≡ Some fault
+  pub defined : (start : Outset) → Begins command.resume before.file start → (contents : List (List ℕ)) → AreHeldFiles (take (fault.file + 1) (helds_of command before.file)) contents
+      → output ≡ output_of start command (map whole contents)
+
+-- What was read of a state file that could not be read to its end: nothing, or as many bytes as all files of a run may have, at most.
+abbrev pub StateUnreadGives : Break → HeldFile → Option (List ℕ) → Option (List ℕ) → Type 0
+StateUnreadGives AtStart held before after = after ≡ before
+StateUnreadGives Within held before after = (xs : List ℕ) → held ≡ Holds xs → DeliversUpTo total_limit (Some xs) after
+
+-- The state file could not be read: its start failed, or a read. That is all that the run says.
+pub record IsStateUnread (command : Command) (before after : Outside) (output : Output) : Type 0 where
+  pub name : List ℕ
+  pub named : command.resume ≡ Some name
+  pub by : Break
+  pub cause : HasBroken by (before.file name) (Rose before.read_faults after.read_faults)
+  pub left : StateUnreadGives by (before.file name) before.rest after.rest
+  pub message : output ≡ only_on stream.Messages (unread_line name)
 
 -- What the output of a run is that ends since a file can't be read, behind files of these contents. A start that fails leaves what is left of
 -- the inputs as it was, and delivers nothing of the file. What was delivered holds no fault.
-abbrev pub UnreadGives : Break → Command → ℕ → HeldFile → Outside → Outside → Output → List (List ℕ) → Type 0
-UnreadGives AtStart command place held before after output contents =
-    (after.rest ≡ rest_behind (place - generated_count command) before.rest) × (output ≡ unread_output command (map whole contents) (name_at (names_of command) place))
-UnreadGives Within command place held before after output contents = (xs : List ℕ) → held ≡ Holds xs →
+abbrev pub UnreadGives : Break → Outset → Command → ℕ → HeldFile → Outside → Outside → Output → List (List ℕ) → Type 0
+UnreadGives AtStart start command place held before after output contents =
+    (after.rest ≡ rest_behind (place - generated_count command) (rest_begun command.resume before.rest))
+    × (output ≡ unread_output start command (map whole contents) (name_at (names_of command) place))
+UnreadGives Within start command place held before after output contents = (xs : List ℕ) → held ≡ Holds xs →
     (delivered : File) × IsDelivered xs after.rest delivered
-    × (first_fault command.ignore_missing_entry (map whole contents ++ delivered ∷ []) ≡ None)
-    × (output ≡ unread_output command (map whole contents ++ delivered ∷ []) (name_at (names_of command) place))
+    × (first_fault start command.ignore_missing_entry (map whole contents ++ delivered ∷ []) ≡ None)
+    × (output ≡ unread_output start command (map whole contents ++ delivered ∷ []) (name_at (names_of command) place))
 
 -- The file at this place, one that the words name, could not be read: its start failed, or a read. None in front of it is absent, and the
 -- report has what is due within what was delivered.
 pub record IsUnread (command : Command) (before after : Outside) (output : Output) : Type 0 where
+  pub begun : HasBegun command.resume before.file
   pub place : ℕ
   pub named : place < length (names_of command)
   pub by_the_words : generated_count command ≤ place
@@ -111,17 +150,17 @@ pub record IsUnread (command : Command) (before after : Outside) (output : Outpu
   pub none_absent : All (λ held. held ≢ Absent) (take place (helds_of command before.file))
   pub messages : output.messages ≡ first_line command ++ unread_line (name_at (names_of command) place)
   pub no_state : output.state ≡ []
-  pub clean_before : AreClean command.ignore_missing_entry (helds_of command before.file) place
-  pub defined : (contents : List (List ℕ)) → AreHeldFiles (take place (helds_of command before.file)) contents →
-      UnreadGives by command place (held_file_at (helds_of command before.file) place) before after output contents
+  pub clean_before : AreClean command before.file place
+  pub defined : (start : Outset) → Begins command.resume before.file start → (contents : List (List ℕ)) → AreHeldFiles (take place (helds_of command before.file)) contents →
+      UnreadGives by start command place (held_file_at (helds_of command before.file) place) before after output contents
 
 -- A run that is asked for so comes to this status, and has this output, unless a write fails or memory runs out before.
 abbrev pub ComesTo : Status → Option Request → Outside → Outside → Output → Type 0
 ComesTo Done (Some (Run command)) before after output = IsDone command before after output
 ComesTo Done (Some Help) before after output = output ≡ only_on stream.Report help_text
 ComesTo Done (Some Version) before after output = output ≡ only_on stream.Report version_text
-ComesTo Refused (Some (Run command)) before after output = IsRefused command before after output
-ComesTo Read (Some (Run command)) before after output = IsUnread command before after output
+ComesTo Refused (Some (Run command)) before after output = IsStateRefused command before output ⊎ IsRefused command before after output
+ComesTo Read (Some (Run command)) before after output = IsStateUnread command before after output ⊎ IsUnread command before after output
 ComesTo Usage None before after output = output ≡ usage_output
 ComesTo status request before after output = ⊥
 
@@ -132,26 +171,28 @@ pub record FollowedByFront (old new : Texts) (output : Output) : Type 0 where
   pub is_front : IsFront front output
   pub written : new ≡ followed old front
 
--- While the files up to a place are read: the report got a front of the reports that are due, whatever files follow, and the messages a
--- front of the first line.
+-- While the files up to a place are read, behind the state file: the report got a front of the reports that are due, whatever files follow,
+-- and the messages a front of the first line.
 pub record IsCutWithin (command : Command) (before after : Outside) : Type 0 where
+  pub begun : HasBegun command.resume before.file
   pub front : Output
   pub written : after.written ≡ followed before.written front
   pub messages : StartsWith (first_line command) front.messages
   pub no_state : front.state ≡ []
   pub place : ℕ
   pub none_absent : All (λ held. held ≢ Absent) (take place (helds_of command before.file))
-  pub due : (contents : List (List ℕ)) → AreHeldFiles (take place (helds_of command before.file)) contents → (files : List File) →
-      StartsWith (due_reports command (course_of command.ignore_missing_entry (map whole contents ++ files)).after) front.report
+  pub due : (start : Outset) → Begins command.resume before.file start → (contents : List (List ℕ)) → AreHeldFiles (take place (helds_of command before.file)) contents → (files : List File) →
+      StartsWith (due_reports command (course_of start command.ignore_missing_entry (map whole contents ++ files)).after) front.report
 
--- While the last report is written: it got a front of it.
+-- While the last report or the state is written: each stream got a front of its text.
 pub record IsCutAtEnd (command : Command) (before after : Outside) : Type 0 where
   pub front : Output
   pub written : after.written ≡ followed before.written front
   pub read : AreRead command before after
   pub messages : front.messages ≡ first_line command
-  pub no_state : front.state ≡ []
-  pub due : (contents : List (List ℕ)) → AreHeldFiles (helds_of command before.file) contents → StartsWith (output_of command (map whole contents)).report front.report
+  pub unsaved : command.save ≡ false → front.state ≡ []
+  pub due : (start : Outset) → Begins command.resume before.file start → (contents : List (List ℕ)) → AreHeldFiles (helds_of command before.file) contents
+      → IsFront front (output_of start command (map whole contents))
 
 abbrev pub IsCutInRun : Option Request → Outside → Outside → Type 0
 IsCutInRun (Some (Run command)) before after = IsCutWithin command before after ⊎ IsCutAtEnd command before after
@@ -184,13 +225,16 @@ pub record IsCalm (before after : Outside) : Type 0 where
 abbrev pub GivesOutput : Status → Output → Status → Outside → Outside → Type 0
 GivesOutput status output result before after = ((result ≡ status) × (after.written ≡ followed before.written output)) ⊎ (result ≡ NoMemory)
 
--- Where no fault of the outside rises, a run over files that are held comes to its end. Files behind a faulty one need not be there.
+-- Where no fault of the outside rises, a run over files that are held comes to its end. Files behind a faulty one need not be there, behind a state file that is refused, too.
 pub record IsComplete (command : Command) (before after : Outside) (result : Status) : Type 0 where
-  pub done : (contents : List (List ℕ)) → AreHeldFiles (helds_of command before.file) contents → first_fault command.ignore_missing_entry (map whole contents) ≡ None
-      → GivesOutput Done (output_of command (map whole contents)) result before after
-  pub refused : (n : ℕ) (contents : List (List ℕ)) (fault : FileFault) → AreHeldFiles (take n (helds_of command before.file)) contents
-      → first_fault command.ignore_missing_entry (map whole contents) ≡ Some fault
-      → GivesOutput Refused (output_of command (map whole contents)) result before after
+  pub done : (start : Outset) → Begins command.resume before.file start → (contents : List (List ℕ)) → AreHeldFiles (helds_of command before.file) contents
+      → first_fault start command.ignore_missing_entry (map whole contents) ≡ None
+      → GivesOutput Done (output_of start command (map whole contents)) result before after
+  pub refused : (start : Outset) → Begins command.resume before.file start → (n : ℕ) (contents : List (List ℕ)) (fault : FileFault) → AreHeldFiles (take n (helds_of command before.file)) contents
+      → first_fault start command.ignore_missing_entry (map whole contents) ≡ Some fault
+      → GivesOutput Refused (output_of start command (map whole contents)) result before after
+  pub state_refused : (name xs : List ℕ) (why : Why) → command.resume ≡ Some name → before.file name ≡ Holds xs → IsRefusedAs why xs
+      → GivesOutput Refused (only_on stream.Messages (fault_line name 0 why)) result before after
 
 -- what is asked for is a run
 abbrev pub IsARun : Option Request → Type 0

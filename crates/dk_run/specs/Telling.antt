@@ -1,16 +1,16 @@
 -- What writing texts comes to.
-use Rattle.std.specs.Prelude.{◌≡◌, ℕ, List, Result, Ok, Err}
+use Rattle.std.specs.Prelude.{◌≡◌, ℕ, false, List, [], Result, Ok, Err}
 use Rattle.std.specs.Io.{StartsWith}
 use Rattle.dk_io.specs.Outside.{Rose}
 use Rattle.dk_io.specs.Streams.{AddsFront, Texts, with_bytes}
 use Rattle.dk_io.specs.declared.outside.Stream.{Stream}
-use Rattle.dk_io.specs.declared.outside.Stream.TheVariants.{Report}
+use Rattle.dk_io.specs.declared.outside.Stream.TheVariants.{Report, State}
 use Rattle.dk_core.specs.History.{History}
-use Rattle.dk_core.specs.Standing.{grammar_of, options_of as options_in}
+use Rattle.dk_core.specs.Standing.{options_of as options_in}
 use Rattle.dk_core.specs.declared.session.Session.{Session}
-use Rattle.dk_template.specs.declared.grammar.Grammar.TheVariants as grammar
 use Rattle.dk_words.specs.declared.command.Command.{Command}
 use Rattle.dk_run.specs.Commands.{options_of}
+use Rattle.dk_run.specs.Outputs.{saved}
 use Rattle.dk_run.specs.declared.reporting.Halt.{Halt}
 use Rattle.dk_run.specs.declared.reporting.Halt.TheVariants.{Write, NoMemory}
 
@@ -54,7 +54,28 @@ abbrev pub TellsOutcome : {A : Type 0} → (History → Type 0) → (History →
 TellsOutcome Stands due old new before after (Ok u) = ToldWhole Stands due old new before after
 TellsOutcome Stands due old new before after (Err halt) = CutOff Stands due old new before after halt
 
--- the session reports by what the command says, and by the second grammar
-pub record ReportsBy {F : Type 0} (command : Command) (session : Session F) : Type 0 where
-  pub grammar : grammar_of session ≡ grammar.Two
-  pub options : options_in session ≡ options_of command
+-- ---- the state
+-- The state of the history was added to the stream State, where it is to be saved, and no write failed.
+pub record StateTold (command : Command) (Stands : History → Type 0) (old new : Texts) (before after : ℕ) : Type 0 where
+  pub text : List ℕ
+  pub written : new ≡ with_bytes old State text
+  pub holds : (h : History) → Stands h → text ≡ saved command h
+  pub unsaved : command.save ≡ false → text ≡ []
+  pub calm : after ≡ before
+
+-- a front of it was added, and a write failed or memory ran out
+pub record StateCut (command : Command) (Stands : History → Type 0) (old new : Texts) (before after : ℕ) (halt : Halt) : Type 0 where
+  pub text : List ℕ
+  pub written : new ≡ with_bytes old State text
+  pub holds : (h : History) → Stands h → StartsWith (saved command h) text
+  pub unsaved : command.save ≡ false → text ≡ []
+  pub cause : HaltHasCause before after halt
+
+-- what writing the state comes to
+abbrev pub StateTells : {A : Type 0} → Command → (History → Type 0) → Texts → Texts → ℕ → ℕ → Result A Halt → Type 0
+StateTells command Stands old new before after (Ok u) = StateTold command Stands old new before after
+StateTells command Stands old new before after (Err halt) = StateCut command Stands old new before after halt
+
+-- the session reports by what the command says
+abbrev pub ReportsBy : {F : Type 0} → Command → Session F → Type 0
+ReportsBy command session = options_in session ≡ options_of command

@@ -1,5 +1,6 @@
 // What a command chooses.
 ghost use Rattle.std.specs.Prelude.{◌≡◌, ◌<◌, length};
+ghost use Rattle.dk_run.specs.Beginning.{state_name};
 ghost use Rattle.dk_run.specs.Commands.{generated_count, is_selected, names_of, options_of};
 ghost use Rattle.dk_run.specs.Files.{name_at};
 
@@ -39,6 +40,16 @@ pub(crate) fn generated_count(command: &Command) -> usize
     match command.generate {
         Some(_) => 1,
         None => 0,
+    }
+}
+
+/// The name of the state file, and an empty one where the run names none.
+pub(crate) fn state_name(command: &Command) -> &str
+    ensures { result.now ≡ state_name command.now }
+{
+    match &command.resume {
+        Some(name) => name.as_str(),
+        None => "",
     }
 }
 

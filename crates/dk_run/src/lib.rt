@@ -3,9 +3,11 @@
 #![tactic(auto)]
 
 mod choosing;
+pub mod laws;
 mod messages;
 mod reading;
 mod reporting;
+mod starting;
 mod status;
 mod top;
 mod words;

@@ -4,12 +4,13 @@ ghost use Rattle.dk_generate.specs.Texts.{generated_name};
 ghost use Rattle.dk_io.specs.Outside.{Absent, HeldFile, Holds, Rose};
 ghost use Rattle.dk_io.specs.declared.outside.Stream.TheVariants as stream;
 ghost use Rattle.dk_lines.specs.Reading.{left_of, room_of};
-ghost use Rattle.dk_core.specs.History.{History, no_history};
+ghost use Rattle.dk_core.specs.History.{History};
 ghost use Rattle.dk_core.specs.Selecting.{SelectsBy};
 ghost use Rattle.dk_core.specs.Standing.{ReportsAlike, SessionStandsFor, blocks_of, over_of, select_of};
 ghost use Rattle.dk_run.specs.AllFiles.{AreCalmBut, AreNoBreak, AreReadTo, FilesGive, IsCaused, placed};
 ghost use Rattle.dk_run.specs.Commands.{generated_count, helds_of, is_selected, names_of};
-ghost use Rattle.dk_run.specs.Courses.{standard, total_limit};
+ghost use Rattle.dk_run.specs.Courses.{Outset, line_limit};
+ghost use Rattle.dk_run.specs.Starts.{Begins};
 ghost use Rattle.dk_run.specs.Files.{name_at};
 ghost use Rattle.dk_run.specs.Reports.{capped};
 ghost use Rattle.dk_run.specs.Telling.{Added, ReportsBy};
@@ -177,7 +178,7 @@ pub(crate) fn read_files<F: Fn(&[u8]) -> bool + Drop, I: Inputs, S: Sinks>(
     sinks: &mut S,
 ) -> Result<Session<F>, FilesTrouble>
     requires begins { over_of session ≡ false }
-    requires limits { lines.old.limits ≡ standard }
+    requires limits { lines.old.limits.line ≡ line_limit }
     requires reports { ReportsBy command.now session }
     requires callable { F.IsAlwaysCallable (select_of session) }
     requires selects { SelectsBy (F.post (select_of session)) (is_selected command.now) }
@@ -267,14 +268,13 @@ pub(crate) fn read_generated<F: Fn(&[u8]) -> bool + Drop, S: Sinks>(
     sinks: &mut S,
 ) -> Result<Session<F>, FilesTrouble>
     requires begins { over_of session ≡ false }
-    requires limits { lines.old.limits ≡ standard }
-    requires room { room_of lines.old ≡ total_limit }
-    requires stands { SessionStandsFor session no_history }
+    requires limits { lines.old.limits.line ≡ line_limit }
     requires counts { blocks_of session ≡ 0 }
     requires reports { ReportsBy command.now session }
     requires callable { F.IsAlwaysCallable (select_of session) }
     requires selects { SelectsBy (F.post (select_of session)) (is_selected command.now) }
     ensures gives { Added (S.written sinks.old) (S.written sinks.new) stream.Report (λ text. (file : List ℕ → HeldFile) (before : Option (List ℕ)) →
+        ((start : Outset) → Begins command.now.resume file start → SessionStandsFor session start.history × (room_of lines.old ≡ start.room)) →
         FilesGive command.now file before (generated_count command.now) text result lines.new before) }
     ensures calm { AreCalmBut (S.faults sinks.old) (S.faults sinks.new) result }
     ensures steady { AreNoBreak result }

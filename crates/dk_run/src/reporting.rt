@@ -6,11 +6,10 @@ ghost use Rattle.dk_core.specs.History.{History};
 ghost use Rattle.dk_core.specs.Sections.{all_stats_of, report_of, section_of, stats_of};
 ghost use Rattle.dk_core.specs.Selecting.{SelectsBy};
 ghost use Rattle.dk_core.specs.Standing.{SessionStandsFor, blocks_of, points_of, select_of};
-ghost use Rattle.dk_template.specs.declared.grammar.Grammar.TheVariants as grammar;
 ghost use Rattle.dk_run.specs.Commands.{is_selected, options_of};
 ghost use Rattle.dk_print.specs.Sections.{after_blocks_line as blocks_text, end_line as end_text};
 ghost use Rattle.dk_run.specs.Reports.{is_due, whole_report};
-ghost use Rattle.dk_run.specs.Telling.{ReportsBy, TellsOutcome, WritesText};
+ghost use Rattle.dk_run.specs.Telling.{ReportsBy, StateTells, TellsOutcome, WritesText};
 
 use crate::messages::{after_blocks_line, end_line};
 use dk_base::{PointId, Text};
@@ -48,7 +47,7 @@ fn tell_section<F: Fn(&[u8]) -> bool + Drop, S: Sinks>(
     requires reports { ReportsBy command.now session.now }
     requires callable { F.IsAlwaysCallable (select_of session.now) }
     requires selects { SelectsBy (F.post (select_of session.now)) (is_selected command.now) }
-    ensures { TellsOutcome (SessionStandsFor session.now) (λ h. section_of grammar.Two (options_of command.now) (is_selected command.now) h p) (S.written sinks.old) (S.written sinks.new) (S.faults sinks.old) (S.faults sinks.new) result }
+    ensures { TellsOutcome (SessionStandsFor session.now) (λ h. section_of (options_of command.now) (is_selected command.now) h p) (S.written sinks.old) (S.written sinks.new) (S.faults sinks.old) (S.faults sinks.new) result }
 {
     let _command = command;
     let mut text = Text::new(alloc);
@@ -68,7 +67,7 @@ fn tell_sections<F: Fn(&[u8]) -> bool + Drop, S: Sinks>(
     requires reports { ReportsBy command.now session.now }
     requires callable { F.IsAlwaysCallable (select_of session.now) }
     requires selects { SelectsBy (F.post (select_of session.now)) (is_selected command.now) }
-    ensures { TellsOutcome (SessionStandsFor session.now) (λ h. report_of grammar.Two (options_of command.now) (is_selected command.now) h) (S.written sinks.old) (S.written sinks.new) (S.faults sinks.old) (S.faults sinks.new) result }
+    ensures { TellsOutcome (SessionStandsFor session.now) (λ h. report_of (options_of command.now) (is_selected command.now) h) (S.written sinks.old) (S.written sinks.new) (S.faults sinks.old) (S.faults sinks.new) result }
 {
     let points = session.points();
     for p in 0..points.len() {
@@ -90,7 +89,7 @@ fn tell_stats<F: Fn(&[u8]) -> bool + Drop, S: Sinks>(
 ) -> Result<(), Halt>
     requires within { p < length (points_of session.now) }
     requires reports { ReportsBy command.now session.now }
-    ensures { TellsOutcome (SessionStandsFor session.now) (λ h. stats_of grammar.Two h p) (S.written sinks.old) (S.written sinks.new) (S.faults sinks.old) (S.faults sinks.new) result }
+    ensures { TellsOutcome (SessionStandsFor session.now) (λ h. stats_of h p) (S.written sinks.old) (S.written sinks.new) (S.faults sinks.old) (S.faults sinks.new) result }
 {
     let _command = command;
     let mut text = Text::new(alloc);
@@ -108,7 +107,7 @@ fn tell_all_stats<F: Fn(&[u8]) -> bool + Drop, S: Sinks>(
     sinks: &mut S,
 ) -> Result<(), Halt>
     requires { ReportsBy command.now session.now }
-    ensures { TellsOutcome (SessionStandsFor session.now) (λ h. all_stats_of grammar.Two h) (S.written sinks.old) (S.written sinks.new) (S.faults sinks.old) (S.faults sinks.new) result }
+    ensures { TellsOutcome (SessionStandsFor session.now) (λ h. all_stats_of h) (S.written sinks.old) (S.written sinks.new) (S.faults sinks.old) (S.faults sinks.new) result }
 {
     let points = session.points();
     for p in 0..points.len() {
@@ -128,7 +127,7 @@ fn tell_sizes<F: Fn(&[u8]) -> bool + Drop, S: Sinks>(
     sinks: &mut S,
 ) -> Result<(), Halt>
     requires { ReportsBy command.now session.now }
-    ensures { TellsOutcome (SessionStandsFor session.now) (λ h. (if command.now.stats then all_stats_of grammar.Two h else [])) (S.written sinks.old) (S.written sinks.new) (S.faults sinks.old) (S.faults sinks.new) result }
+    ensures { TellsOutcome (SessionStandsFor session.now) (λ h. (if command.now.stats then all_stats_of h else [])) (S.written sinks.old) (S.written sinks.new) (S.faults sinks.old) (S.faults sinks.new) result }
 {
     if command.stats {
         tell_all_stats(alloc, command, session, sinks)
@@ -225,6 +224,25 @@ pub(crate) fn tell_by_the_way<F: Fn(&[u8]) -> bool + Drop, S: Sinks>(
     match command.every {
         Some(every) if is_due(every, session.blocks()) => tell_due(alloc, command, session, sinks),
         _ => Ok(()),
+    }
+}
+
+/// Writes the state, where the command asks for it.
+pub(crate) fn tell_state<F: Fn(&[u8]) -> bool + Drop, S: Sinks>(
+    alloc: Global,
+    command: &Command,
+    session: &Session<F>,
+    sinks: &mut S,
+) -> Result<(), Halt>
+    ensures { StateTells command.now (SessionStandsFor session.now) (S.written sinks.old) (S.written sinks.new) (S.faults sinks.old) (S.faults sinks.new) result }
+{
+    if !command.save {
+        return Ok(());
+    }
+    let mut text = Text::new(alloc);
+    match session.push_state(&mut text) {
+        Ok(()) => write(sinks, Stream::State, text.as_slice()),
+        Err(_) => Err(Halt::NoMemory),
     }
 }
 

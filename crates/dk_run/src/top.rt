@@ -10,17 +10,19 @@ ghost use Rattle.dk_words.specs.Texts.{usage_line as usage_text};
 ghost use Rattle.dk_words.specs.declared.request.Request.TheVariants as request;
 ghost use Rattle.dk_run.specs.AllFiles.{AreCalmBut, IsCaused, IsTroubleOf, RunGives};
 ghost use Rattle.dk_run.specs.Commands.{helds_of, is_selected as selects_name, names_of};
-ghost use Rattle.dk_run.specs.Ending.{EndsBy, EndsWith, status_of as status_by};
+ghost use Rattle.dk_run.specs.Beginning.{HasCome, IsBegun};
+ghost use Rattle.dk_run.specs.Ending.{EndsBy, EndsUnbegun, EndsWith, status_of as status_by};
 ghost use Rattle.dk_print.specs.Sections.{fault_line as fault_text};
 ghost use Rattle.dk_run.specs.Messages.{unread_line as unread_text};
 ghost use Rattle.dk_run.specs.Outputs.{first_line};
 ghost use Rattle.dk_run.specs.Statuses.{CompletesCalmly, IsARun, Outside, Says};
 ghost use Rattle.dk_run.specs.Telling.{Added, ReportsBy, WritesText};
 
-use crate::choosing::{is_selected, name_at, options_of};
+use crate::choosing::{is_selected, name_at, state_name};
 use crate::messages::unread_line;
 use crate::reading::{FilesTrouble, read_files, read_generated};
-use crate::reporting::{Halt, tell_last, write};
+use crate::reporting::{Halt, tell_last, tell_state, write};
+use crate::starting::{Beginning, StartTrouble, begin};
 use crate::status::Status;
 use dk_base::Why;
 use dk_core::Session;
@@ -98,6 +100,23 @@ fn tell_trouble<S: Sinks>(
     }
 }
 
+// Tells a trouble with the state file.
+fn tell_unbegun<S: Sinks>(
+    alloc: Global,
+    command: &Command,
+    trouble: StartTrouble,
+    sinks: &mut S,
+) -> Status
+    ensures { EndsUnbegun command.now trouble (S.written sinks.old) (S.written sinks.new) (S.faults sinks.old) (S.faults sinks.new) result }
+{
+    match trouble {
+        StartTrouble::Refused { why } => tell_fault(alloc, state_name(command), 0, why, sinks),
+        StartTrouble::Start => tell_unread(alloc, state_name(command), sinks),
+        StartTrouble::Read => tell_unread(alloc, state_name(command), sinks),
+        StartTrouble::NoMemory => Status::NoMemory,
+    }
+}
+
 fn status_of(halt: Halt) -> Status
     ensures { result ≡ status_by halt }
 {
@@ -117,50 +136,57 @@ fn tell_generated<S: Sinks>(command: &Command, sinks: &mut S) -> Result<(), Halt
     }
 }
 
-// Reads all files of the run. The session reports the points that the selection answers `true` to.
-fn read_all<F: Fn(&[u8]) -> bool + Drop, I: Inputs, S: Sinks>(
+// Reads all files of the run behind its state file.
+fn read_run<F: Fn(&[u8]) -> bool + Drop, I: Inputs, S: Sinks>(
     alloc: Global,
     command: &Command,
-    select: F,
+    beginning: Beginning<F>,
     inputs: &mut I,
     sinks: &mut S,
 ) -> Result<Session<F>, FilesTrouble>
-    requires callable { F.IsAlwaysCallable select }
-    requires selects { SelectsBy (F.post select) (selects_name command.now) }
+    requires callable { F.IsAlwaysCallable (select_of beginning.session) }
+    requires selects { SelectsBy (F.post (select_of beginning.session)) (selects_name command.now) }
+    requires begun { IsBegun command.now (I.file inputs.old) beginning }
     ensures gives { Added (S.written sinks.old) (S.written sinks.new) stream.Report (λ text.
         RunGives command.now (I.file inputs.old) (I.rest inputs.old) text result (I.rest inputs.new)) }
     ensures calm { AreCalmBut (S.faults sinks.old) (S.faults sinks.new) result }
     ensures cause { IsCaused (helds_of command.now (I.file inputs.old)) (Rose (I.faults inputs.old) (I.faults inputs.new)) result }
     ensures reports { IfOk result (λ session. ReportsBy command.now session) }
-    ensures select { IfOk result (λ session. select_of session ≡ select) }
+    ensures select { IfOk result (λ session. select_of session ≡ select_of beginning.session) }
     ensures files { I.file inputs.new ≡ I.file inputs.old }
 {
-    let mut lines = match Lines::new(alloc, Limits::STANDARD) {
+    let Beginning { session, room } = beginning;
+    let limits = Limits {
+        line: Limits::STANDARD.line,
+        total: room,
+    };
+    let mut lines = match Lines::new(alloc, limits) {
         Ok(lines) => lines,
         Err(_) => return Err(FilesTrouble::NoMemory),
     };
-    match Session::new(alloc, select, options_of(command)) {
-        Ok(first) => match read_generated(alloc, command, first, &mut lines, sinks) {
-            Ok(session) => read_files(alloc, command, session, inputs, &mut lines, sinks),
-            Err(trouble) => Err(trouble),
-        },
-        Err(_) => Err(FilesTrouble::NoMemory),
+    match read_generated(alloc, command, session, &mut lines, sinks) {
+        Ok(session) => read_files(alloc, command, session, inputs, &mut lines, sinks),
+        Err(trouble) => Err(trouble),
     }
 }
 
 // Reads the files of the run and tells what they come to, behind the first line of the messages.
-fn run_files<I: Inputs, S: Sinks>(
+fn run_files<F: Fn(&[u8]) -> bool + Drop, I: Inputs, S: Sinks>(
     alloc: Global,
     command: &Command,
+    beginning: Beginning<F>,
     inputs: &mut I,
     sinks: &mut S,
 ) -> Status
-    ensures says { (first : Texts) → S.written sinks.old ≡ with_bytes first stream.Messages (first_line command.now) →
-        let before : Outside = record {
+    requires callable { F.IsAlwaysCallable (select_of beginning.session) }
+    requires selects { SelectsBy (F.post (select_of beginning.session)) (selects_name command.now) }
+    requires begun { IsBegun command.now (I.file inputs.old) beginning }
+    ensures says { (before : Outside) →
+        let now : Outside = record {
           file = I.file inputs.old;
           rest = I.rest inputs.old;
           read_faults = I.faults inputs.old;
-          written = first;
+          written = S.written sinks.old;
           write_faults = S.faults sinks.old;
         } in
         let after : Outside = record {
@@ -170,21 +196,54 @@ fn run_files<I: Inputs, S: Sinks>(
           written = S.written sinks.new;
           write_faults = S.faults sinks.new;
         } in
-        Says result (Some (request.Run command.now)) before after }
+        HasCome command.now before now beginning → S.written sinks.old ≡ with_bytes before.written stream.Messages (first_line command.now)
+        → Says result (Some (request.Run command.now)) before after }
     ensures files { I.file inputs.new ≡ I.file inputs.old }
 {
-    match read_all(
-        alloc,
-        command,
-        |name: &[u8]| is_selected(command, name),
-        inputs,
-        sinks,
-    ) {
+    match read_run(alloc, command, beginning, inputs, sinks) {
         Ok(session) => match tell_last(alloc, command, &session, sinks) {
-            Ok(()) => Status::Done,
+            Ok(()) => match tell_state(alloc, command, &session, sinks) {
+                Ok(()) => Status::Done,
+                Err(halt) => status_of(halt),
+            },
             Err(halt) => status_of(halt),
         },
         Err(trouble) => tell_trouble(alloc, command, trouble, sinks),
+    }
+}
+
+// Does what a command says, where the run has begun.
+fn run_begun<F: Fn(&[u8]) -> bool + Drop, I: Inputs, S: Sinks>(
+    alloc: Global,
+    command: &Command,
+    beginning: Beginning<F>,
+    inputs: &mut I,
+    sinks: &mut S,
+) -> Status
+    requires callable { F.IsAlwaysCallable (select_of beginning.session) }
+    requires selects { SelectsBy (F.post (select_of beginning.session)) (selects_name command.now) }
+    requires begun { IsBegun command.now (I.file inputs.old) beginning }
+    ensures says { (before : Outside) →
+        let now : Outside = record {
+          file = I.file inputs.old;
+          rest = I.rest inputs.old;
+          read_faults = I.faults inputs.old;
+          written = S.written sinks.old;
+          write_faults = S.faults sinks.old;
+        } in
+        let after : Outside = record {
+          file = I.file inputs.new;
+          rest = I.rest inputs.new;
+          read_faults = I.faults inputs.new;
+          written = S.written sinks.new;
+          write_faults = S.faults sinks.new;
+        } in
+        HasCome command.now before now beginning → S.written sinks.old ≡ before.written → Says result (Some (request.Run command.now)) before after }
+    ensures files { I.file inputs.new ≡ I.file inputs.old }
+{
+    match tell_generated(command, sinks) {
+        Ok(()) => run_files(alloc, command, beginning, inputs, sinks),
+        Err(halt) => status_of(halt),
     }
 }
 
@@ -212,9 +271,14 @@ fn run_command<I: Inputs, S: Sinks>(
         Says result (Some (request.Run command.now)) before after }
     ensures files { I.file inputs.new ≡ I.file inputs.old }
 {
-    match tell_generated(command, sinks) {
-        Ok(()) => run_files(alloc, command, inputs, sinks),
-        Err(halt) => status_of(halt),
+    match begin(
+        alloc,
+        command,
+        |name: &[u8]| is_selected(command, name),
+        inputs,
+    ) {
+        Ok(beginning) => run_begun(alloc, command, beginning, inputs, sinks),
+        Err(trouble) => tell_unbegun(alloc, command, trouble, sinks),
     }
 }
 

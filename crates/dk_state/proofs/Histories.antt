@@ -1,5 +1,5 @@
 -- What state files of histories say, and what is loaded of them.
-use Rattle.std.specs.Prelude.{◌≡◌, ◌<◌, ◌^◌, ◌+◌, ◌==◌, ◌-◌, ◌++◌, ◌∷◌, [], ℕ, zero, suc, Bool, All, IsTrue, List, Option, Some, None, flat_map, is_none, is_some, length, map, min, slice_get, slice_index_or, refl}
+use Rattle.std.specs.Prelude.{◌≡◌, ◌<◌, ◌^◌, ◌+◌, ◌==◌, ◌-◌, ◌∷◌, [], ℕ, zero, suc, Bool, All, IsTrue, List, Option, Some, None, flat_map, is_none, is_some, length, map, min, slice_get, slice_index_or, refl}
 use Rattle.std.specs.List.{enumerate_from, range_with_len}
 use Rattle.std.proofs.Common.{◌∙◌, ap, arith, subst, sym}
 use Rattle.std.proofs.lemmas.Bool.{cond_both, eqb-true}
@@ -13,7 +13,6 @@ use Rattle.dk_engine.proofs.Saving.{kept_parts_are_saved}
 use Rattle.dk_engine.specs.Exact.{AreSamples, IsKeptOf}
 use Rattle.dk_engine.specs.Levels.{Whole}
 use Rattle.dk_engine.specs.Saved.{parts_of}
-use Rattle.dk_engine.specs.declared.kept.Kept.{Kept}
 use Rattle.dk_engine.specs.declared.parts.Parts.{Parts}
 use Rattle.dk_hierarchy.specs.Samples.{OwnSamples, all_vars_of, own_samples_of}
 use Rattle.dk_hierarchy.specs.Standing.{AreEnginesOf}
@@ -27,6 +26,7 @@ use Rattle.dk_state.specs.StateFile.{StandForHistory, state_file_of}
 use Rattle.dk_state.specs.declared.loading.Loaded.{Loaded}
 use Rattle.dk_state.proofs.Blocks.{all_alike, one_alike}
 use Rattle.dk_state.proofs.CompactParts.{kept_exact}
+use Rattle.dk_state.proofs.Loads.{map-map, saved_alike}
 use Rattle.dk_template.specs.declared.grammar.Grammar.{Grammar}
 
 some_within : {X : Type 0} (xs : List X) (i : ℕ) (x : X) → slice_get xs i ≡ Some x → i < length xs
@@ -48,18 +48,6 @@ saves_again c l meets loaded =
     from_zero p = omega arith
 
 -- ---- the content of a history
-saved_alike : (n : ℕ) (ks : List Kept) → flat_map saved_lines (enumerate_from n (map saved_of ks)) ≡ flat_map kept_lines (enumerate_from n ks)
-saved_alike n [] = refl
-saved_alike n (k ∷ ks) =
-    let here : saved_lines (n, saved_of k) ≡ kept_lines (n, k) =
-    cond_both (k.samples == 0) None (Some (parts_of k)) (λ o. saved_lines (n, o) ≡ kept_lines (n, k)) (λ e. rw e refl) (λ e. rw e refl) in
-    let later = saved_alike (n + 1) ks in
-    λ i. here i ++ later i
-
-map-map : {X Y Z : Type 0} (f : X → Y) (h : Y → Z) (xs : List X) → map h (map f xs) ≡ map (λ x. h (f x)) xs
-map-map f h [] = refl
-map-map f h (x ∷ xs) = ap (λ r. h (f x) ∷ r) (map-map f h xs)
-
 pub content_text : (g : Grammar) (ps : List Point) (implicit : Bool) (own : OwnSamples) → text_of (content_of g ps implicit own) ≡ state_file_of g ps implicit own
 unfolding saved_text state_file_of
 content_text g ps implicit own =

@@ -1,6 +1,7 @@
 pub mod Fronts
 pub mod Numerals
 pub mod Plain
+pub mod ReadWithin
 pub mod Going
 pub mod Onto
 pub mod DeclaredLines
@@ -8,6 +9,7 @@ pub mod StateFields
 pub mod KeptLines
 pub mod PartsFit
 pub mod Tables
+pub mod GivenPoints
 pub mod Blocks
 pub mod Pieces
 pub mod Declared
@@ -15,5 +17,6 @@ pub mod Engines
 pub mod CompactLeaders
 pub mod CompactParts
 pub mod SameTexts
+pub mod Loads
 pub mod Histories
 mod Examples

@@ -12,6 +12,7 @@ pub mod Kept
 pub mod Compact
 pub mod Reading
 pub mod Fitting
+pub mod Within
 pub mod Loading
 pub mod Numbered
 pub mod StateWords

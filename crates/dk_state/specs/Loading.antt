@@ -10,7 +10,7 @@ use Rattle.dk_engine.specs.declared.parts.Parts.{Parts}
 use Rattle.dk_hierarchy.specs.Samples.{all_vars_of}
 use Rattle.dk_points.specs.Table.{Point}
 use Rattle.dk_template.specs.declared.grammar.Grammar.{Grammar}
-use Rattle.dk_state.specs.Spelling.{Content, saved_lines}
+use Rattle.dk_state.specs.Spelling.{Content, IsSavedAt, saved_lines, saved_of}
 use Rattle.dk_state.specs.declared.loading.Loaded.{Loaded}
 use Rattle.dk_state.specs.declared.loading.LoadFault.{LoadFault}
 use Rattle.dk_state.specs.declared.loading.LoadFault.TheVariants.{BadState, NoMemory}
@@ -40,6 +40,10 @@ IsLoadedAs g ps p (Some parts) engine = (parts_of engine.kept ≡ parts)
 pub record AreLoadedAs (g : Grammar) (ps : List Point) (saved : List (Option Parts)) (engines : List Whole) : Type 0 where
   pub long : length engines ≡ length saved
   pub each : (p : ℕ) (own : Option Parts) (engine : Whole) → slice_get saved p ≡ Some own → slice_get engines p ≡ Some engine → IsLoadedAs g ps p own engine
+
+-- what is saved of each engine meets the conditions
+abbrev pub AreSaved : Grammar → List Point → List Whole → Type 0
+AreSaved g ps engines = (p : ℕ) (engine : Whole) → slice_get engines p ≡ Some engine → IsSavedAt g ps p (saved_of engine.kept)
 
 -- what a file of this content says
 abbrev pub IsLoaded : Content → Loaded → Type 0

@@ -8,10 +8,13 @@ use std::alloc::Global;
 
 /// What stands in lines or in fields of its own, as many as come one after another.
 pub(crate) trait Entry: Drop {
-    // how it is saved, which ones can be read where these are the point's variables, what tells that one comes next, and what may follow
+    // how it is saved, which ones can be read where these are the point's variables, what holds of each that is read, what tells that one
+    // comes next, and what may follow
     ghost text_of: { Self → List ℕ };
 
     ghost fits: { List VarInfo → Self → Type 0 };
+
+    ghost within: { Self → Type 0 };
 
     ghost begins: { List ℕ → Bool };
 
@@ -25,6 +28,7 @@ pub(crate) trait Entry: Drop {
     /// The one that comes next.
     fn read(alloc: Global, vars: &[VarInfo], front: &mut Front<'_>) -> Result<Self, NoMemory>
         ensures read { (x : Self) (rest : List ℕ) → fits vars.now x → follows rest → front.old ≡ text_of x ++ rest → IfOk result (λ own. (own ≡ x) × (front.new ≡ rest)) }
+        ensures within { IfOk result within }
         ensures shorter { length front.new ≤ length front.old - 1 };
 
     ghost first: { (vars : List VarInfo) (x : Self) (rest : List ℕ) → fits vars x → begins (text_of x ++ rest) ≡ true };
@@ -39,6 +43,7 @@ pub(crate) fn read_all<T: Entry>(
     front: &mut Front<'_>,
 ) -> Result<List<T>, NoMemory>
     ensures read { (xs : List T) (rest : List ℕ) → All (T.fits vars.now) xs → T.begins rest ≡ false → T.follows rest → front.old ≡ flat_map T.text_of xs ++ rest → IfOk result (λ own. (own ≡ xs) × (front.new ≡ rest)) }
+    ensures within { IfOk result (All T.within) }
     ensures shorter { length front.new ≤ length front.old }
 {
     let mut all = List::new(alloc);

@@ -1,5 +1,5 @@
 // What is left of a state file while it is read.
-ghost use Rattle.std.specs.Prelude.{◌≡◌, ◌++◌, ◌-◌, ◌<◌, ◌≤◌, ◌^◌, [], ℕ, ℤ, IfOk, IsTrue, List, Some, length, pos, nat_eq, take, drop, unsigned_abs};
+ghost use Rattle.std.specs.Prelude.{◌≡◌, ◌++◌, ◌-◌, ◌<◌, ◌≤◌, ◌^◌, [], ℕ, ℤ, IfOk, IfSome, IsTrue, List, Some, length, pos, nat_eq, take, drop, unsigned_abs, unwrap_or};
 ghost use Rattle.std.specs.List.{position_or_len, starts_with};
 ghost use Rattle.std.specs.Str.{bytes_eq};
 ghost use Rattle.std.specs.Fmt.{decimal, signed_decimal};
@@ -63,13 +63,33 @@ fn line_len(bytes: &[u8]) -> usize
 }
 
 // The whole number that a text writes.
-fn whole(text: &[u8]) -> Option<i128>
+fn parsed(text: &[u8]) -> Option<i128>
     ensures { (z : ℤ) → unsigned_abs z < 2 ^ 127 → text.now ≡ signed_decimal z → result ≡ Some z }
 {
     match str::from_utf8(text) {
         Ok(text) => text.parse().ok(),
         Err(_) => None,
     }
+}
+
+// The number, if it has at most 127 bits without its sign.
+fn in_wide(number: i128) -> Option<i128>
+    ensures read { unsigned_abs number < 2 ^ 127 → result ≡ Some number }
+    ensures within { IfSome result (λ z. unsigned_abs z < 2 ^ 127) }
+{
+    if number.unsigned_abs() < 1 << 127 {
+        Some(number)
+    } else {
+        None
+    }
+}
+
+// The whole number that a text writes, if it has at most 127 bits without its sign.
+fn whole(text: &[u8]) -> Option<i128>
+    ensures read { (z : ℤ) → unsigned_abs z < 2 ^ 127 → text.now ≡ signed_decimal z → result ≡ Some z }
+    ensures within { IfSome result (λ z. unsigned_abs z < 2 ^ 127) }
+{
+    in_wide(parsed(text)?)
 }
 
 // The number, if it is one of 64 bits with its sign.
@@ -190,6 +210,7 @@ impl<'a> Front<'a> {
     // What was found, or else this, where the reading ends.
     fn or_give_up<T: Drop>(&mut self, found: Option<T>, otherwise: T) -> T
         ensures read { (x : T) → found ≡ Some x → (result ≡ x) × (self.new ≡ self.old) }
+        ensures value { result ≡ unwrap_or found otherwise }
         ensures shorter { length self.new ≤ length self.old }
     {
         match found {
@@ -204,6 +225,7 @@ impl<'a> Front<'a> {
     /// A whole number as a field.
     pub(crate) fn wide(&mut self) -> i128
         ensures read { (z : ℤ) (rest : List ℕ) → unsigned_abs z < 2 ^ 127 → BeginsWith ends_field rest → self.old ≡ behind_blank (signed_decimal z) ++ rest → (result ≡ z) × (self.new ≡ rest) }
+        ensures within { unsigned_abs result < 2 ^ 127 }
         ensures shorter { length self.new ≤ length self.old - 1 }
     {
         let number = whole(self.field());
@@ -213,6 +235,7 @@ impl<'a> Front<'a> {
     /// A whole number of 64 bits with its sign, as a field.
     pub(crate) fn signed(&mut self) -> i64
         ensures read { (z : ℤ) (rest : List ℕ) → IsTrue (fits_i64 z) → BeginsWith ends_field rest → self.old ≡ behind_blank (signed_decimal z) ++ rest → (result ≡ z) × (self.new ≡ rest) }
+        ensures within { IsTrue (fits_i64 result) }
         ensures shorter { length self.new ≤ length self.old - 1 }
     {
         let number = in_i64(self.wide());
@@ -222,6 +245,7 @@ impl<'a> Front<'a> {
     /// A whole number of 64 bits without a sign, as a field.
     pub(crate) fn natural(&mut self) -> u64
         ensures read { (n : ℕ) (rest : List ℕ) → n < 2 ^ 64 → BeginsWith ends_field rest → self.old ≡ behind_blank (decimal n) ++ rest → (result ≡ n) × (self.new ≡ rest) }
+        ensures within { result < 2 ^ 64 }
         ensures shorter { length self.new ≤ length self.old - 1 }
     {
         let number = in_u64(self.wide());
@@ -231,6 +255,7 @@ impl<'a> Front<'a> {
     /// A whole number of 32 bits without a sign, as a field.
     pub(crate) fn place(&mut self) -> u32
         ensures read { (n : ℕ) (rest : List ℕ) → n < 2 ^ 32 → BeginsWith ends_field rest → self.old ≡ behind_blank (decimal n) ++ rest → (result ≡ n) × (self.new ≡ rest) }
+        ensures within { result < 2 ^ 32 }
         ensures shorter { length self.new ≤ length self.old - 1 }
     {
         let number = in_u32(self.natural());
@@ -248,6 +273,7 @@ impl<'a> Front<'a> {
     /// A value of this kind as the last field of its line.
     pub(crate) fn value(&mut self, alloc: Global, kind: Kind) -> Result<Value, NoMemory>
         ensures read { (v : Value) (rest : List ℕ) → IsOfKind kind v → IsWritten v → BeginsWith ends_line rest → self.old ≡ behind_blank (spelling v) ++ rest → IfOk result (λ own. (own ≡ v) × (self.new ≡ rest)) }
+        ensures within { IfOk result (λ own. IsOfKind kind own × IsWritten own) }
         ensures shorter { length self.new ≤ length self.old - 1 }
     {
         let text = self.last_field();
@@ -262,6 +288,7 @@ impl<'a> Front<'a> {
         text: &[u8],
     ) -> Result<Value, NoMemory>
         ensures read { (v : Value) → IsOfKind kind v → IsWritten v → text.now ≡ spelling v → IfOk result (λ own. (own ≡ v) × (self.new ≡ self.old)) }
+        ensures within { IfOk result (λ own. IsOfKind kind own × IsWritten own) }
         ensures shorter { length self.new ≤ length self.old }
     {
         let value = value_in(alloc, kind, text)?;

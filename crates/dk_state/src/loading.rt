@@ -3,18 +3,20 @@ ghost use Rattle.std.specs.Prelude.{◌≡◌, ◌<◌, ◌^◌, ◌+◌, ◌==�
 ghost use Rattle.std.specs.Fmt.{decimal};
 ghost use Rattle.std.specs.List.{starts_with};
 ghost use Rattle.std.specs.Str.{bytes_eq};
+ghost use Rattle.dk_engine.specs.Saved.{AreSavedParts, parts_of};
 ghost use Rattle.dk_engine.specs.declared.parts.Parts.{Parts as AllParts};
-ghost use Rattle.dk_hierarchy.specs.Samples.{OwnSamples};
+ghost use Rattle.dk_hierarchy.specs.Samples.{OwnSamples, all_vars_of};
 ghost use Rattle.dk_hierarchy.specs.Standing.{AreEnginesOf};
 ghost use Rattle.dk_points.specs.Declaring.{declared};
 ghost use Rattle.dk_points.specs.Table.{Point};
-ghost use Rattle.dk_state.specs.Given.{CanBeGiven, is_given};
+ghost use Rattle.dk_state.specs.Fitting.{FitsSlot};
+ghost use Rattle.dk_state.specs.Given.{is_given};
 ghost use Rattle.dk_state.specs.Lines.{behind_blank, line};
-ghost use Rattle.dk_state.specs.Loading.{AreLoadedAs, IsEngineAt, IsLoaded, IsLoadedAs, Loads, blocks};
+ghost use Rattle.dk_state.specs.Loading.{AreLoadedAs, AreSaved, IsEngineAt, IsLoaded, IsLoadedAs, Loads, blocks};
 ghost use Rattle.dk_state.specs.Reading.{BeginsWith, ends_field};
 ghost use Rattle.dk_state.specs.StateFile.{StandForHistory, state_file_of};
 ghost use Rattle.dk_state.specs.Saved.{saved_text, version_of, word_of};
-ghost use Rattle.dk_state.specs.Spelling.{AreSavedAt, CanBeSaved, Content, IsContent, IsSavedAt, IsSpelling, if_new, table_behind, text_of};
+ghost use Rattle.dk_state.specs.Spelling.{AreSavedAt, CanBeSaved, Content, IsContent, IsOwnTable, IsSavedAt, IsSpelling, if_new, saved_of, table_behind, text_of};
 ghost use Rattle.dk_template.specs.declared.grammar.Grammar.{Grammar as Grammars};
 
 use crate::entries::read_all;
@@ -154,6 +156,7 @@ fn engine_with(
 ) -> Result<Engine, LoadFault>
     requires { p.0 < length points.now }
     ensures engine { IfOk result (IsEngineAt points.now grammar p.0) }
+    ensures saved { IfOk result (λ e. AreSavedParts grammar (all_vars_of points.now p.0) (parts_of e.kept) × All FitsSlot e.kept.slots) }
     ensures read { (saved : AllParts) (more : List (Option AllParts)) → p.0 < 2 ^ 32 → AreSavedAt grammar points.now p.0 saved → front.old ≡ blocks p.0 (Some saved ∷ more) → Loads result (λ e. IsLoadedAs grammar points.now p.0 (Some saved) e × (front.new ≡ blocks (p.0 + 1) more)) }
 {
     front.pass(b"samples");
@@ -188,6 +191,7 @@ fn next_engine(
 ) -> Result<Engine, LoadFault>
     requires { p.0 < length points.now }
     ensures engine { IfOk result (IsEngineAt points.now grammar p.0) }
+    ensures saved { IfOk result (λ e. IsSavedAt grammar points.now p.0 (saved_of e.kept)) }
     ensures read { (saved : Option AllParts) (more : List (Option AllParts)) → IsSavedAt grammar points.now p.0 saved → p.0 + 1 + length more < 2 ^ 32 → front.old ≡ blocks p.0 (saved ∷ more) → Loads result (λ e. IsLoadedAs grammar points.now p.0 saved e × (front.new ≡ blocks (p.0 + 1) more)) }
 {
     if !comes_next(front, p) {
@@ -208,6 +212,7 @@ fn engines(
 ) -> Result<List<Engine>, LoadFault>
     ensures engines { IfOk result (AreEnginesOf points.now) }
     ensures grammar { IfOk result (All (λ e. e.grammar ≡ grammar)) }
+    ensures saved { IfOk result (AreSaved grammar points.now) }
     ensures read { (saved : List (Option AllParts)) → length saved ≡ length points.now → ((p : ℕ) (own : Option AllParts) → slice_get saved p ≡ Some own → IsSavedAt grammar points.now p own) → front.old ≡ blocks 0 saved → Loads result (AreLoadedAs grammar points.now saved) }
 {
     let mut engines = List::new(alloc);
@@ -221,6 +226,8 @@ fn engines(
 // What the bytes say, if they are a spelling.
 fn read(alloc: Global, bytes: &[u8]) -> Result<Loaded, LoadFault>
     ensures engines { IfOk result (λ l. AreEnginesOf l.points l.engines × All (λ e. e.grammar ≡ l.grammar) l.engines) }
+    ensures table { IfOk result (λ l. IsOwnTable l.points) }
+    ensures saved { IfOk result (λ l. AreSaved l.grammar l.points l.engines) }
     ensures read { (c : Content) → IsContent c → text_of c ≡ bytes.now → Loads result (IsLoaded c) }
 {
     let mut front = Front::of(bytes);
@@ -252,11 +259,13 @@ fn saves_to(alloc: Global, loaded: &Loaded, bytes: &[u8]) -> Result<bool, NoMemo
     Ok(is_word(text.as_slice(), bytes))
 }
 
-/// What a state file says. Bytes are a spelling of a state exactly where some table, comparability word and kept parts that meet the
-/// conditions save to them; others are refused. Loading and saving again gives the same bytes.
+/// What a state file says. It takes exactly the spellings of states: the bytes to which some table, comparability word and kept parts that
+/// meet the conditions save. All other bytes are BadState. Saving what was loaded gives the same bytes again.
 pub fn load(alloc: Global, bytes: &[u8]) -> Result<Loaded, LoadFault>
     ensures saves { IfOk result (λ l. saved_text l.grammar l.points l.implicit (map (λ e. e.kept) l.engines) ≡ bytes.now) }
     ensures engines { IfOk result (λ l. AreEnginesOf l.points l.engines × All (λ e. e.grammar ≡ l.grammar) l.engines) }
+    ensures spelling { IfOk result (λ l. IsSpelling bytes.now) }
+    ensures table { IfOk result (λ l. IsOwnTable l.points) }
     ensures bad { result ≡ Err LoadFault.BadState → IsSpelling bytes.now → ⊥ }
     ensures stands { IfOk result (λ l. (g : Grammars) (ps : List Point) (implicit : Bool) (own : OwnSamples) → CanBeSaved g ps own → state_file_of g ps implicit own ≡ bytes.now → (l.grammar ≡ g) × (l.points ≡ ps) × (l.implicit ≡ implicit) × StandForHistory g ps l.engines own) }
 {

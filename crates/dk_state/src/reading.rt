@@ -7,6 +7,7 @@ ghost use Rattle.dk_base.specs.declared.values.Value.{Value as Values};
 ghost use Rattle.dk_state.specs.Declarations.{constant_text, edge_line, mapped_line, point_lines, rep_text, var_lines};
 ghost use Rattle.dk_state.specs.Lines.{behind_blank};
 ghost use Rattle.dk_state.specs.Fitting.{FitsConstant, FitsEdge, FitsMapped, FitsPoint, FitsVar, IsBehindVars};
+ghost use Rattle.dk_state.specs.Within.{IsEdgeWithin, IsMappedWithin, IsPointWithin, IsVarWithin};
 
 use crate::entries::{Entry, read_all};
 use crate::front::{Front, is_word};
@@ -18,6 +19,8 @@ impl Entry for EdgeDecl {
     ghost text_of = { edge_line };
 
     ghost fits = { λ _ edge. FitsEdge edge };
+
+    ghost within = { λ edge. IsEdgeWithin edge };
 
     ghost begins = { λ front. starts_with nat_eq front (codes "edge ") };
 
@@ -44,6 +47,8 @@ impl Entry for ParentVar {
     ghost text_of = { mapped_line };
 
     ghost fits = { λ _ mapped. FitsMapped mapped };
+
+    ghost within = { λ mapped. IsMappedWithin mapped };
 
     ghost begins = { λ front. starts_with nat_eq front (codes "mapped ") };
 
@@ -102,6 +107,7 @@ fn constant_value(
     front: &mut Front<'_>,
 ) -> Result<Option<Value>, NoMemory>
     ensures read { (value : Option Values) (rest : List ℕ) → FitsConstant true kind value → front.old ≡ behind_blank (spelling (unwrap_or value Value.Missing)) ++ 10 ∷ rest → IfOk result (λ own. (own ≡ value) × (front.new ≡ 10 ∷ rest)) }
+    ensures within { IfOk result (λ own. FitsConstant true kind own) }
     ensures shorter { length front.new ≤ length front.old }
 {
     match kind {
@@ -120,6 +126,7 @@ fn constant(
     front: &mut Front<'_>,
 ) -> Result<(bool, Option<Value>), NoMemory>
     ensures read { (line : Bool) (value : Option Values) (rest : List ℕ) → FitsConstant line kind value → starts_with nat_eq rest (codes "constant ") ≡ false → front.old ≡ constant_text line value ++ rest → IfOk result (λ own. (own ≡ (line, value)) × (front.new ≡ rest)) }
+    ensures within { IfOk result (λ own. FitsConstant own.0 kind own.1) }
     ensures shorter { length front.new ≤ length front.old }
 {
     if !front.is_at(b"constant ") {
@@ -135,6 +142,8 @@ impl Entry for VarDecl {
     ghost text_of = { var_lines };
 
     ghost fits = { λ _ var. FitsVar var };
+
+    ghost within = { λ var. IsVarWithin var };
 
     ghost begins = { λ front. starts_with nat_eq front (codes "var ") };
 
@@ -172,6 +181,8 @@ impl Entry for PointDecl {
     ghost text_of = { point_lines };
 
     ghost fits = { λ _ point. FitsPoint point };
+
+    ghost within = { λ point. IsPointWithin point };
 
     ghost begins = { λ front. starts_with nat_eq front (codes "point ") };
 

@@ -1,5 +1,5 @@
 // What is kept of samples, as it is read.
-ghost use Rattle.std.specs.Prelude.{◌≡◌, ◌++◌, ◌-◌, ◌<◌, ◌≤◌, ◌^◌, ◌∷◌, ◌==◌, ℕ, false, Bool, IfOk, List, None, Some, codes, length, map, nat_eq, refl};
+ghost use Rattle.std.specs.Prelude.{◌≡◌, ◌++◌, ◌-◌, ◌<◌, ◌≤◌, ◌^◌, ◌∷◌, ◌==◌, ℕ, false, All, Bool, IfOk, List, None, Some, codes, length, map, nat_eq, refl};
 ghost use Rattle.std.specs.Fmt.{decimal};
 ghost use Rattle.std.specs.List.{starts_with};
 ghost use Rattle.dk_base.specs.Spelling.{IsWritten, spelling};
@@ -27,6 +27,8 @@ impl Entry for VarId {
 
     ghost fits = { λ _ v. FitsPlace v };
 
+    ghost within = { λ v. FitsPlace v };
+
     ghost begins = { begins_number };
 
     ghost follows = { BeginsWith ends_field };
@@ -48,6 +50,8 @@ impl Entry for List<VarId> {
     ghost text_of = { class_line };
 
     ghost fits = { λ _ members. FitsClass members };
+
+    ghost within = { λ members. FitsClass members };
 
     ghost begins = { λ front. starts_with nat_eq front (codes "class") };
 
@@ -100,6 +104,8 @@ impl Entry for Pattern {
 
     ghost fits = { λ _ pattern. FitsPattern pattern };
 
+    ghost within = { λ pattern. FitsPattern pattern };
+
     ghost begins = { λ front. starts_with nat_eq front (codes "pattern ") };
 
     ghost follows = { λ _. Unit {0} };
@@ -145,6 +151,8 @@ impl Entry for Known {
 
     ghost fits = { FitsKnown };
 
+    ghost within = { λ _. Unit {0} };
+
     ghost begins = { λ front. starts_with nat_eq front (codes "known ") };
 
     ghost follows = { λ _. Unit {0} };
@@ -169,6 +177,8 @@ impl Entry for Known {
 // These leaders, of which there are at most three.
 fn tuple(alloc: Global, vars: &[VarId], front: &mut Front<'_>) -> Tuple
     ensures read { length vars.now ≤ 3 → (result ≡ vars.now) × (front.new ≡ front.old) }
+    ensures few { length result ≤ 3 }
+    ensures within { All FitsPlace vars.now → All FitsPlace result }
     ensures shorter { length front.new ≤ length front.old }
 {
     if vars.len() <= 3 {
@@ -182,6 +192,7 @@ fn tuple(alloc: Global, vars: &[VarId], front: &mut Front<'_>) -> Tuple
 // The row's number.
 fn row(front: &mut Front<'_>) -> RowId
     ensures read { (r : Row) (rest : List ℕ) → r.0 < 2 ^ 8 → BeginsWith ends_field rest → front.old ≡ behind_blank (decimal r.0) ++ rest → (result ≡ r) × (front.new ≡ rest) }
+    ensures within { result.0 < 2 ^ 8 }
     ensures shorter { length front.new ≤ length front.old - 1 }
 {
     let number = front.natural();
@@ -196,6 +207,8 @@ impl Entry for Slot {
     ghost text_of = { slot_line };
 
     ghost fits = { λ _ slot. FitsSlot slot };
+
+    ghost within = { λ slot. FitsSlot slot };
 
     ghost begins = { λ front. starts_with nat_eq front (codes "slot ") };
 
@@ -230,7 +243,8 @@ pub(crate) fn parts(
     vars: &[VarInfo],
     front: &mut Front<'_>,
 ) -> Result<Parts, NoMemory>
-    ensures { (saved : AllParts) (rest : List ℕ) → FitsParts vars.now saved → front.old ≡ behind_blank (decimal saved.samples) ++ 10 ∷ (behind_samples saved ++ rest) → IfOk result (λ own. (own ≡ saved) × (front.new ≡ rest)) }
+    ensures read { (saved : AllParts) (rest : List ℕ) → FitsParts vars.now saved → front.old ≡ behind_blank (decimal saved.samples) ++ 10 ∷ (behind_samples saved ++ rest) → IfOk result (λ own. (own ≡ saved) × (front.new ≡ rest)) }
+    ensures within { IfOk result (λ own. All FitsSlot own.slots) }
 {
     let samples = front.natural();
     front.pass(b"\n");

@@ -78,6 +78,7 @@ fn word_in(field: &[u8]) -> Word
 // Between brackets, the fields that are left of the line are the text of a sequence.
 fn items(alloc: Global, kind: Kind, front: &mut Front<'_>) -> Result<Value, NoMemory>
     ensures read { (v : Values) (fields rest : List ℕ) → IsOfKind kind v → IsWritten v → HasNone ends_line fields → spelling v ≡ codes "[" ++ (fields ++ codes "]") → front.old ≡ behind_blank fields ++ 10 ∷ rest → IfOk result (λ own. (own ≡ v) × (front.new ≡ 10 ∷ rest)) }
+    ensures within { IfOk result (λ own. IsOfKind kind own × IsWritten own) }
     ensures shorter { length front.new ≤ length front.old }
 {
     let fields = front.last_field();
@@ -88,12 +89,13 @@ fn items(alloc: Global, kind: Kind, front: &mut Front<'_>) -> Result<Value, NoMe
     front.valued(alloc, kind, text.as_slice())
 }
 
-// The numbers of the value, at most three.
+// The numbers of the value, one to three.
 fn ints_in(alloc: Global, value: &Value) -> State
-    ensures { (ks : List ℤ) → length ks ≤ 3 → value.now ≡ Value.IntSeq ks → result ≡ State.Ints ks }
+    ensures read { (ks : List ℤ) → 0 < length ks → length ks ≤ 3 → value.now ≡ Value.IntSeq ks → result ≡ State.Ints ks }
+    ensures within { IsWritten value.now → FitsState result }
 {
     match value {
-        Value::IntSeq(numbers) => if numbers.len() <= 3 {
+        Value::IntSeq(numbers) => if 0 < numbers.len() && numbers.len() <= 3 {
             State::Ints(Few::of(alloc, numbers.as_slice()))
         } else {
             State::Empty
@@ -102,28 +104,35 @@ fn ints_in(alloc: Global, value: &Value) -> State
     }
 }
 
-// The numbers that are left of the line, at most three.
+// The numbers that are left of the line, one to three.
 fn ints(alloc: Global, front: &mut Front<'_>) -> Result<State, NoMemory>
     ensures read { (ks : List ℤ) (rest : List ℕ) → FitsState (State.Ints ks) → front.old ≡ fields_text (map signed_decimal ks) ++ 10 ∷ rest → IfOk result (λ own. (own ≡ State.Ints ks) × (front.new ≡ 10 ∷ rest)) }
+    ensures within { IfOk result FitsState }
     ensures shorter { length front.new ≤ length front.old }
 {
     let value = items(alloc, Kind::IntSeq, front)?;
     Ok(ints_in(alloc, &value))
 }
 
-// The texts of the value.
+// The texts of the value, one or more.
 fn texts_in(value: Value) -> State
-    ensures { (ts : List (List ℕ)) → value ≡ Value.StrSeq ts → result ≡ State.Texts ts }
+    ensures read { (ts : List (List ℕ)) → 0 < length ts → value ≡ Value.StrSeq ts → result ≡ State.Texts ts }
+    ensures within { IsWritten value → FitsState result }
 {
     match value {
-        Value::StrSeq(texts) => State::Texts(texts),
+        Value::StrSeq(texts) => if texts.is_empty() {
+            State::Empty
+        } else {
+            State::Texts(texts)
+        },
         _ => State::Empty,
     }
 }
 
-// The texts that are left of the line.
+// The texts that are left of the line, one or more.
 fn texts(alloc: Global, front: &mut Front<'_>) -> Result<State, NoMemory>
     ensures read { (ts : List (List ℕ)) (rest : List ℕ) → FitsState (State.Texts ts) → front.old ≡ fields_text ts ++ 10 ∷ rest → IfOk result (λ own. (own ≡ State.Texts ts) × (front.new ≡ 10 ∷ rest)) }
+    ensures within { IfOk result FitsState }
     ensures shorter { length front.new ≤ length front.old }
 {
     let value = items(alloc, Kind::StrSeq, front)?;
@@ -132,7 +141,8 @@ fn texts(alloc: Global, front: &mut Front<'_>) -> Result<State, NoMemory>
 
 // The truth value of the value.
 fn truth_in(value: &Value) -> State
-    ensures { (b : Bool) → value.now ≡ Value.Bool b → result ≡ State.Truth b }
+    ensures read { (b : Bool) → value.now ≡ Value.Bool b → result ≡ State.Truth b }
+    ensures within { FitsState result }
 {
     match value {
         Value::Bool(truth) => State::Truth(*truth),
@@ -143,6 +153,7 @@ fn truth_in(value: &Value) -> State
 // The truth value that is left of the line.
 fn truth(alloc: Global, front: &mut Front<'_>) -> Result<State, NoMemory>
     ensures read { (b : Bool) (rest : List ℕ) → front.old ≡ fields_text (bool_text b ∷ []) ++ 10 ∷ rest → IfOk result (λ own. (own ≡ State.Truth b) × (front.new ≡ 10 ∷ rest)) }
+    ensures within { IfOk result FitsState }
     ensures shorter { length front.new ≤ length front.old }
 {
     let value = front.value(alloc, Kind::Bool)?;
@@ -151,7 +162,8 @@ fn truth(alloc: Global, front: &mut Front<'_>) -> Result<State, NoMemory>
 
 // The hash code of the value.
 fn code_in(value: &Value) -> State
-    ensures { (h : ℕ) → value.now ≡ Value.Hash h → result ≡ State.Code h }
+    ensures read { (h : ℕ) → value.now ≡ Value.Hash h → result ≡ State.Code h }
+    ensures within { IsWritten value.now → FitsState result }
 {
     match value {
         Value::Hash(code) => State::Code(*code),
@@ -162,6 +174,7 @@ fn code_in(value: &Value) -> State
 // The hash code that is left of the line.
 fn code(alloc: Global, front: &mut Front<'_>) -> Result<State, NoMemory>
     ensures read { (h : ℕ) (rest : List ℕ) → h < 2 ^ 64 → front.old ≡ fields_text (hash_text h ∷ []) ++ 10 ∷ rest → IfOk result (λ own. (own ≡ State.Code h) × (front.new ≡ 10 ∷ rest)) }
+    ensures within { IfOk result FitsState }
     ensures shorter { length front.new ≤ length front.old }
 {
     let value = front.value(alloc, Kind::Hash)?;
@@ -171,6 +184,7 @@ fn code(alloc: Global, front: &mut Front<'_>) -> Result<State, NoMemory>
 // The least and the greatest of points on a line.
 fn span(front: &mut Front<'_>) -> State
     ensures read { (x1 y1 z1 x2 y2 z2 : ℤ) (rest : List ℕ) → FitsState (State.Span x1 y1 z1 x2 y2 z2) → front.old ≡ fields_text (told_fields (State.Span x1 y1 z1 x2 y2 z2)) ++ 10 ∷ rest → (result ≡ State.Span x1 y1 z1 x2 y2 z2) × (front.new ≡ 10 ∷ rest) }
+    ensures within { FitsState result }
     ensures shorter { length front.new ≤ length front.old }
 {
     let x1 = front.signed();
@@ -191,6 +205,7 @@ fn span(front: &mut Front<'_>) -> State
 
 fn straight(front: &mut Front<'_>) -> State
     ensures read { (a b c : ℤ) (rest : List ℕ) → FitsState (State.Straight a b c) → front.old ≡ fields_text (told_fields (State.Straight a b c)) ++ 10 ∷ rest → (result ≡ State.Straight a b c) × (front.new ≡ 10 ∷ rest) }
+    ensures within { FitsState result }
     ensures shorter { length front.new ≤ length front.old }
 {
     let a = front.wide();
@@ -201,6 +216,7 @@ fn straight(front: &mut Front<'_>) -> State
 
 fn plane(front: &mut Front<'_>) -> State
     ensures read { (a b c d : ℤ) (rest : List ℕ) → FitsState (State.Plane a b c d) → front.old ≡ fields_text (told_fields (State.Plane a b c d)) ++ 10 ∷ rest → (result ≡ State.Plane a b c d) × (front.new ≡ 10 ∷ rest) }
+    ensures within { FitsState result }
     ensures shorter { length front.new ≤ length front.old }
 {
     let a = front.wide();
@@ -212,6 +228,7 @@ fn plane(front: &mut Front<'_>) -> State
 
 fn modulus(front: &mut Front<'_>) -> State
     ensures read { (m r : ℕ) (rest : List ℕ) → FitsState (State.Modulus m r) → front.old ≡ fields_text (told_fields (State.Modulus m r)) ++ 10 ∷ rest → (result ≡ State.Modulus m r) × (front.new ≡ 10 ∷ rest) }
+    ensures within { FitsState result }
     ensures shorter { length front.new ≤ length front.old }
 {
     let m = front.natural();
@@ -221,6 +238,7 @@ fn modulus(front: &mut Front<'_>) -> State
 
 fn spot(front: &mut Front<'_>) -> State
     ensures read { (x y : ℤ) (rest : List ℕ) → FitsState (State.Spot x y) → front.old ≡ fields_text (told_fields (State.Spot x y)) ++ 10 ∷ rest → (result ≡ State.Spot x y) × (front.new ≡ 10 ∷ rest) }
+    ensures within { FitsState result }
     ensures shorter { length front.new ≤ length front.old }
 {
     let x = front.signed();
@@ -231,6 +249,7 @@ fn spot(front: &mut Front<'_>) -> State
 // What the state tells behind its word.
 fn told(alloc: Global, word: Word, front: &mut Front<'_>) -> Result<State, NoMemory>
     ensures read { (s : States) (rest : List ℕ) → word ≡ word_of s → FitsState s → front.old ≡ fields_text (told_fields s) ++ 10 ∷ rest → IfOk result (λ own. (own ≡ s) × (front.new ≡ 10 ∷ rest)) }
+    ensures within { IfOk result FitsState }
     ensures shorter { length front.new ≤ length front.old }
 {
     match word {
@@ -259,6 +278,7 @@ fn told(alloc: Global, word: Word, front: &mut Front<'_>) -> Result<State, NoMem
 /// The state whose fields are left of the line.
 pub(crate) fn state(alloc: Global, front: &mut Front<'_>) -> Result<State, NoMemory>
     ensures read { (s : States) (rest : List ℕ) → FitsState s → front.old ≡ fields_text (state_fields s) ++ 10 ∷ rest → IfOk result (λ own. (own ≡ s) × (front.new ≡ 10 ∷ rest)) }
+    ensures within { IfOk result FitsState }
     ensures shorter { length front.new ≤ length front.old - 1 }
 {
     let word = word_in(front.field());

@@ -184,23 +184,44 @@ static CASES: [Case; 140] = [
     (Kind::StrSeq, b"[\"a\nb\"]", None),
 ];
 
+// Whether a value is kept and placed as it is.
+fn is_placed_alike(alloc: Global, arena: &Arena, view: View<'_>) -> Result<bool, NoMemory> {
+    let kept = Value::keep(alloc, view)?;
+    let placed = kept.place(arena)?;
+    Ok(same(view, placed))
+}
+
+// Whether two values are kept as one.
+fn are_kept_alike(alloc: Global, one: View<'_>, other: View<'_>) -> Result<bool, NoMemory> {
+    let kept = Value::keep(alloc, one)?;
+    let again = Value::keep(alloc, other)?;
+    Ok(same_kept(&kept, &again))
+}
+
+// A value of this kind, spelled, read again, kept and placed.
+fn check_value(
+    rt: &impl Abort,
+    alloc: Global,
+    arena: &Arena,
+    kind: Kind,
+    view: View<'_>,
+    expected: &[u8],
+) -> Result<(), Fail> {
+    let spelled = spell(alloc, view)?;
+    assert!(rt; spelled.as_slice() == expected);
+    let again = parse_value(arena, kind, expected)?;
+    assert!(rt; same(view, again));
+    assert!(rt; is_placed_alike(alloc, arena, view)?);
+    assert!(rt; are_kept_alike(alloc, view, again)?);
+    Ok(())
+}
+
 fn check_case(rt: &impl Abort, alloc: Global, case: Case) -> Result<(), Fail> {
     let (kind, text, expected) = case;
     let arena = Arena::new(alloc);
-    match parse_value(&arena, kind, text) {
-        Ok(view) => {
-            let spelled = spell(alloc, view)?;
-            assert!(rt; expected == Some(spelled.as_slice()));
-            let again = parse_value(&arena, kind, spelled.as_slice())?;
-            assert!(rt; same(view, again));
-            let kept = Value::keep(alloc, view)?;
-            assert!(rt; same(view, kept.place(&arena)?));
-            assert!(rt; same_kept(&kept, &Value::keep(alloc, again)?));
-        }
-        Err(fault) => {
-            assert!(rt; fault == ValueFault::Bad);
-            assert!(rt; expected.is_none());
-        }
+    match (parse_value(&arena, kind, text), expected) {
+        (Ok(view), Some(spelled)) => check_value(rt, alloc, &arena, kind, view, spelled)?,
+        (found, wanted) => assert!(rt; found.err() == Some(ValueFault::Bad) && wanted.is_none()),
     }
     Ok(())
 }

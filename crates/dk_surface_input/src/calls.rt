@@ -1,12 +1,11 @@
 // What no clause says: that the calls succeed with ample memory; and records in turn with what exits get.
 ghost use Rattle.std.specs.Prelude.{◌<◌, length};
 
+use crate::reading::{numbered, show_fault, table};
 use bumpalo::collections::into_bump_slice;
 use dk_base::{Arena, BlockFault, NoMemory, Text, View, parse_integer, spell, words};
 use dk_calls::laws::exit_values_fit;
 use dk_calls::*;
-use dk_decl::PointDecl;
-use dk_decl::laws::read_block;
 use dk_points::Points;
 use dk_trace::BaseSample;
 use std::alloc::Global;
@@ -62,34 +61,8 @@ static CASES: [Case; 9] = [
     ),
 ];
 
-static BLOCKS: [&'static [u8]; 4] = [
-    b"ppt m:::ENTER\nvariable x\nrep-type int",
-    b"ppt n:::ENTER\nvariable x\nrep-type int",
-    b"ppt m:::EXIT1\nvariable x\nrep-type int",
-    b"ppt n:::EXIT1\nvariable x\nrep-type int",
-];
-
-fn declared(alloc: Global, block: &[u8]) -> Result<PointDecl, BlockFault> {
-    let mut lines: Vec<(u64, &[u8])> = Vec::new(alloc);
-    for line in block.split(|byte| *byte == b'\n') {
-        if lines.push((1, line)).is_err() {
-            return Err(BlockFault::NoMemory);
-        }
-    }
-    match lines.as_slice() {
-        [] => Err(BlockFault::NoMemory),
-        [first, rest @ ..] => read_block(alloc, true, *first, rest),
-    }
-}
-
-fn table(alloc: Global) -> Result<Points, BlockFault> {
-    let mut points = Points::new(alloc)?;
-    for block in &BLOCKS {
-        let (more, _) = points.declare(declared(alloc, block)?, 1)?;
-        points = more;
-    }
-    Ok(points)
-}
+const BLOCKS: &'static [u8] =
+    b"ppt m:::ENTER\nvariable x\nrep-type int\n\nppt n:::ENTER\nvariable x\nrep-type int\n\nppt m:::EXIT1\nvariable x\nrep-type int\n\nppt n:::EXIT1\nvariable x\nrep-type int";
 
 fn show_values(alloc: Global, shown: &mut Text, values: &[View<'_>]) -> Result<(), NoMemory> {
     let mut is_first = true;
@@ -101,15 +74,6 @@ fn show_values(alloc: Global, shown: &mut Text, values: &[View<'_>]) -> Result<(
         is_first = false;
     }
     shown.push(b';')
-}
-
-fn show_fault(alloc: Global, shown: &mut Text, fault: BlockFault) -> Result<(), NoMemory> {
-    match fault {
-        BlockFault::Refused { line, why } => {
-            shown.append(format!(in alloc; "{line}: {why};")?.as_bytes())
-        }
-        BlockFault::NoMemory => Err(NoMemory),
-    }
 }
 
 // An exit's record, if its point has an entry.
@@ -143,7 +107,10 @@ fn turn<'a>(
     }
     match leave(calls, points, arena, sample) {
         Ok(values) => show_values(alloc, shown, values),
-        Err(fault) => show_fault(alloc, shown, fault),
+        Err(fault) => {
+            shown.append(show_fault(alloc, fault)?.as_slice())?;
+            shown.push(b';')
+        }
     }
 }
 
@@ -216,10 +183,8 @@ fn take_line(
 fn outcome(alloc: Global, points: &Points, records: &[u8]) -> Result<Text, NoMemory> {
     let mut calls = Calls::new(alloc)?;
     let mut shown = Text::new(alloc);
-    let mut line = 0u64;
-    for bytes in records.split(|byte| *byte == b'\n') {
-        line = line.saturating_add(1);
-        take_line(alloc, &mut calls, points, line, bytes, &mut shown)?;
+    for (line, bytes) in numbered(alloc, 1, records)?.as_slice() {
+        take_line(alloc, &mut calls, points, *line, bytes, &mut shown)?;
     }
     calls.clear();
     Ok(shown)
@@ -235,7 +200,7 @@ fn check_case(rt: &impl Abort, alloc: Global, points: &Points, case: Case) -> Re
 #[test]
 fn exits_get_the_values_of_their_entries(rt: HostRuntime) -> Result<(), Fail> {
     exit_values_fit();
-    let points = table(rt.alloc())?;
+    let (points, _) = table(rt.alloc(), BLOCKS)?;
     for case in &CASES {
         check_case(&rt, rt.alloc(), &points, *case)?;
     }

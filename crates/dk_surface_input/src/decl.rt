@@ -1,6 +1,6 @@
 // What no clause says: that the calls succeed with ample memory, and tables of header lines and of blocks with their outcomes.
+use crate::reading::{declared, numbered, show_fault};
 use dk_base::{BlockFault, Kind, NoMemory, Text, View, escape, spell};
-use dk_decl::laws::read_block;
 use dk_decl::*;
 use std::alloc::Global;
 use std::process::Abort;
@@ -449,17 +449,6 @@ static DECLARE_BLOCKS: [Case; 26] = [
     (true, b"DECLARE\nQ\nx\nint\nfloat", b"5: 4 BadVariable"),
 ];
 
-// The lines of a text with their numbers, from 1 on.
-fn numbered(alloc: Global, text: &[u8]) -> Result<Vec<(u64, &[u8])>, NoMemory> {
-    let mut lines = Vec::new(alloc);
-    let mut number = 0u64;
-    for line in text.split(|byte| *byte == b'\n') {
-        number = number.saturating_add(1);
-        lines.push((number, line))?;
-    }
-    Ok(lines)
-}
-
 fn kind_name(kind: Option<Kind>) -> &'static str {
     match kind {
         None => "double",
@@ -525,21 +514,14 @@ fn show_point(alloc: Global, point: &PointDecl) -> Result<Text, NoMemory> {
 fn show(alloc: Global, outcome: Result<PointDecl, BlockFault>) -> Result<Text, NoMemory> {
     match outcome {
         Ok(point) => show_point(alloc, &point),
-        Err(BlockFault::Refused { line, why }) => {
-            let fault = format!(in alloc; "{line}: {why}")?;
-            Text::from_slice(alloc, fault.as_bytes())
-        }
-        Err(BlockFault::NoMemory) => Err(NoMemory),
+        Err(fault) => show_fault(alloc, fault),
     }
 }
 
 fn check_block(rt: &impl Abort, alloc: Global, case: Case) -> Result<(), Fail> {
     let (implicit, block, expected) = case;
-    let lines = numbered(alloc, block)?;
-    let shown = match lines.as_slice() {
-        [] => Text::new(alloc),
-        [first, rest @ ..] => show(alloc, read_block(alloc, implicit, *first, rest))?,
-    };
+    let lines = numbered(alloc, 1, block)?;
+    let shown = show(alloc, declared(alloc, implicit, lines.as_slice()))?;
     assert_eq!(rt; shown.as_slice(), expected);
     Ok(())
 }
@@ -560,31 +542,41 @@ fn declare_blocks_have_their_outcomes(rt: HostRuntime) -> Result<(), Fail> {
     Ok(())
 }
 
+// What header lines answer, and what they come to.
+fn show_header(alloc: Global, lines: &[u8]) -> Result<Text, NoMemory> {
+    let mut header = Header::new();
+    let mut shown = Text::new(alloc);
+    for (_, line) in numbered(alloc, 1, lines)?.as_slice() {
+        shown.push(match header.line(line) {
+            Ok(true) => b't',
+            Ok(false) => b'f',
+            Err(_) => b'B',
+        })?;
+    }
+    shown.push(if header.end().is_ok() { b'.' } else { b'E' })?;
+    shown.push(if header.implicit() { b'i' } else { b'n' })?;
+    Ok(shown)
+}
+
 #[test]
 fn header_lines_have_their_outcomes(rt: HostRuntime) -> Result<(), Fail> {
     for (lines, expected) in &HEADERS {
-        let mut header = Header::new();
-        let mut shown = Text::new(rt.alloc());
-        for line in lines.split(|byte| *byte == b'\n') {
-            shown.push(match header.line(line) {
-                Ok(true) => b't',
-                Ok(false) => b'f',
-                Err(_) => b'B',
-            })?;
-        }
-        shown.push(if header.end().is_ok() { b'.' } else { b'E' })?;
-        shown.push(if header.implicit() { b'i' } else { b'n' })?;
+        let shown = show_header(rt.alloc(), lines)?;
         assert_eq!(&rt; shown.as_slice(), *expected);
     }
     Ok(())
 }
 
-#[test]
-fn blocks_are_read_line_by_line(rt: HostRuntime) -> Result<(), Fail> {
-    let block = DeclBlock::begin(rt.alloc(), 1, b"ppt P", true)?;
+fn read_by_lines(alloc: Global) -> Result<PointDecl, BlockFault> {
+    let block = DeclBlock::begin(alloc, 1, b"ppt P", true)?;
     let block = block.line(2, b"variable x")?;
     let block = block.line(3, b"rep-type int")?;
-    let declaration = block.end()?;
-    assert_eq!(&rt; declaration.vars.len(), 1);
+    block.end()
+}
+
+#[test]
+fn blocks_are_read_line_by_line(rt: HostRuntime) -> Result<(), Fail> {
+    let declaration = read_by_lines(rt.alloc())?;
+    assert!(&rt; declaration.vars.len() == 1);
     Ok(())
 }

@@ -1,5 +1,6 @@
 // What no clause says: that the calls succeed with ample memory, and tables of graphs with their edges and depths, and of cycles.
-use dk_base::{List, NoMemory, PointId, Text};
+use crate::reading::numbered;
+use dk_base::{List, NoMemory, PointId, Text, first_word, rest_of_line, words};
 use dk_graph::*;
 use std::alloc::Global;
 use std::process::Abort;
@@ -54,18 +55,15 @@ static CYCLES: [&'static [u8]; 6] = [
 ];
 
 // A point, from its name and its parents' names.
-fn node_of(alloc: Global, words: &[u8]) -> Result<Node, NoMemory> {
-    let mut name = Text::new(alloc);
+fn node_of(alloc: Global, line: &[u8]) -> Result<Node, NoMemory> {
     let mut links = List::new(alloc);
-    for (place, word) in words.split(|b| *b == b' ').enumerate() {
-        let text = Text::from_slice(alloc, word)?;
-        if place == 0 {
-            name = text;
-        } else {
-            links.push(text)?;
-        }
+    for word in words(alloc, rest_of_line(line))?.as_slice() {
+        links.push(Text::from_slice(alloc, word)?)?;
     }
-    Ok(Node { name, links })
+    Ok(Node {
+        name: Text::from_slice(alloc, first_word(line))?,
+        links,
+    })
 }
 
 // One or two points more.
@@ -95,7 +93,7 @@ fn with_line(
 
 fn graph_of(rt: &impl Abort, alloc: Global, points: &[u8]) -> Result<Option<Graph>, NoMemory> {
     let mut graph = Graph::new(alloc)?;
-    for line in points.split(|b| *b == b'\n') {
+    for (_, line) in numbered(alloc, 1, points)?.as_slice() {
         match with_line(rt, alloc, graph, line)? {
             Some(more) => graph = more,
             None => return Ok(None),

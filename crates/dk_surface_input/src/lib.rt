@@ -19,4 +19,6 @@ mod outside;
 #[cfg(test)]
 mod points;
 #[cfg(test)]
+mod reading;
+#[cfg(test)]
 mod trace;

@@ -6,17 +6,88 @@ use std::alloc::Global;
 use std::process::Abort;
 use std::test::Fail;
 
-// The lines of a file, each with a slash behind it, and how they end.
-fn lines_of(
+/// A file's lines, each with a slash behind it, and how they end.
+type Ends = (&'static str, Result<(), LineFault>);
+
+/// What the lines of a first file of these bytes, and then of one with the byte `z`, come to in pieces of some sizes, where a call
+/// fails.
+struct Case {
+    bytes: &'static str,
+    failing: u64,
+    least: usize,
+    below: usize,
+    first: Ends,
+    second: Ends,
+}
+
+const LIMITS: Limits = Limits { line: 4, total: 10 };
+
+static CASES: [Case; 7] = [
+    Case {
+        bytes: "abcd\nefghi",
+        failing: 0,
+        least: 1,
+        below: 9,
+        first: ("abcd/", Err(LineFault::LongLine { line: 2 })),
+        second: ("", Err(LineFault::TooLong { line: 1 })),
+    },
+    Case {
+        bytes: "ab\nab\nab\nab\n",
+        failing: 0,
+        least: 1,
+        below: 9,
+        first: ("ab/ab/ab/", Err(LineFault::TooLong { line: 4 })),
+        second: ("", Err(LineFault::TooLong { line: 1 })),
+    },
+    Case {
+        bytes: "a\r\n\r\nb",
+        failing: 0,
+        least: 1,
+        below: 9,
+        first: ("a//b/", Ok(())),
+        second: ("z/", Ok(())),
+    },
+    Case {
+        bytes: "",
+        failing: 0,
+        least: 1,
+        below: 9,
+        first: ("", Ok(())),
+        second: ("z/", Ok(())),
+    },
+    Case {
+        bytes: "ab\ncd\n",
+        failing: 3,
+        least: 2,
+        below: 3,
+        first: ("", Err(LineFault::Read)),
+        second: ("z/", Ok(())),
+    },
+    Case {
+        bytes: "ab\ncd\n",
+        failing: 3,
+        least: 3,
+        below: 6,
+        first: ("ab/", Err(LineFault::Read)),
+        second: ("z/", Ok(())),
+    },
+    Case {
+        bytes: "ab\ncd\n",
+        failing: 3,
+        least: 6,
+        below: 9,
+        first: ("ab/cd/", Err(LineFault::Read)),
+        second: ("z/", Ok(())),
+    },
+];
+
+// The lines of the started file, each with a slash behind it, and how they end.
+fn read_lines(
     rt: &impl Abort,
-    alloc: Global,
     lines: &mut Lines,
     inputs: &mut MemoryInputs,
-    name: &str,
-) -> Result<(Text, Result<(), LineFault>), NoMemory> {
-    let mut all = Text::new(alloc);
-    let started = lines.start(inputs, name);
-    assert!(rt; started.is_ok());
+    all: &mut Text,
+) -> Result<Result<(), LineFault>, NoMemory> {
     for _ in 0..9 {
         assert!(rt; lines.is_started());
         match lines.next(inputs) {
@@ -24,11 +95,29 @@ fn lines_of(
                 all.append(line.bytes)?;
                 all.push(b'/')?;
             }
-            Ok(None) => return Ok((all, Ok(()))),
-            Err(fault) => return Ok((all, Err(fault))),
+            Ok(None) => return Ok(Ok(())),
+            Err(fault) => return Ok(Err(fault)),
         }
     }
-    Ok((all, Ok(())))
+    Ok(Ok(()))
+}
+
+fn check_file(
+    rt: &impl Abort,
+    alloc: Global,
+    lines: &mut Lines,
+    inputs: &mut MemoryInputs,
+    name: &str,
+    ends: Ends,
+) -> Result<(), NoMemory> {
+    let started = lines.start(inputs, name);
+    assert!(rt; started.is_ok());
+    let mut all = Text::new(alloc);
+    let end = read_lines(rt, lines, inputs, &mut all)?;
+    assert!(rt; all.as_slice() == ends.0.as_bytes(), "the lines of {name}");
+    assert_eq!(rt; end, ends.1, "the end of {name}");
+    assert!(rt; !lines.is_started());
+    Ok(())
 }
 
 fn inputs_of(
@@ -48,59 +137,18 @@ fn inputs_of(
     Ok(MemoryInputs::new(files, failing, piece))
 }
 
+fn check_case(rt: &impl Abort, alloc: Global, case: &Case, piece: usize) -> Result<(), NoMemory> {
+    let mut inputs = inputs_of(rt, alloc, case.bytes, case.failing, piece)?;
+    let mut lines = Lines::new(alloc, LIMITS)?;
+    check_file(rt, alloc, &mut lines, &mut inputs, "t", case.first)?;
+    check_file(rt, alloc, &mut lines, &mut inputs, "u", case.second)
+}
+
 #[test]
 fn lines_however_cut(rt: HostRuntime) -> Result<(), Fail> {
-    let alloc = rt.alloc();
-    let limits = Limits { line: 4, total: 10 };
-    let long = Err(LineFault::LongLine { line: 2 });
-    let many = Err(LineFault::TooLong { line: 4 });
-    let none_left = Err(LineFault::TooLong { line: 1 });
-    for (pieces, failing, bytes, first, end, second, second_end) in [
-        (1..9, 0, "abcd\nefghi", "abcd/", long, "", none_left),
-        (
-            1..9,
-            0,
-            "ab\nab\nab\nab\n",
-            "ab/ab/ab/",
-            many,
-            "",
-            none_left,
-        ),
-        (1..9, 0, "a\r\n\r\nb", "a//b/", Ok(()), "z/", Ok(())),
-        (1..9, 0, "", "", Ok(()), "z/", Ok(())),
-        (2..3, 3, "ab\ncd\n", "", Err(LineFault::Read), "z/", Ok(())),
-        (
-            3..6,
-            3,
-            "ab\ncd\n",
-            "ab/",
-            Err(LineFault::Read),
-            "z/",
-            Ok(()),
-        ),
-        (
-            6..9,
-            3,
-            "ab\ncd\n",
-            "ab/cd/",
-            Err(LineFault::Read),
-            "z/",
-            Ok(()),
-        ),
-    ] {
-        for piece in pieces {
-            let mut inputs = inputs_of(&rt, alloc, bytes, failing, piece)?;
-            let mut lines = Lines::new(alloc, limits)?;
-            for (name, want, want_end) in [("t", first, end), ("u", second, second_end)] {
-                let (all, answer) = lines_of(&rt, alloc, &mut lines, &mut inputs, name)?;
-                assert_eq!(rt;
-                    all.as_slice(),
-                    want.as_bytes(),
-                    "{bytes} in pieces of {piece}"
-                );
-                assert_eq!(rt; answer, want_end, "{bytes} in pieces of {piece}");
-                assert!(rt; !lines.is_started());
-            }
+    for case in &CASES {
+        for piece in case.least..case.below {
+            check_case(&rt, rt.alloc(), case, piece)?;
         }
     }
     Ok(())

@@ -1,8 +1,8 @@
 // What no clause says: that the calls succeed with ample memory; and tables of declarations with the points that they make.
 ghost use Rattle.std.specs.Prelude.{◌<◌, length};
 
+use crate::reading::{show_fault, table};
 use dk_base::{BlockFault, Compar, Kind, List, NoMemory, PointId, Text, VarId};
-use dk_decl::laws::read_block;
 use dk_decl::{EdgeDecl, PointDecl, VarDecl};
 use dk_points::laws::{full_table_takes_none, same_is_equal};
 use dk_points::*;
@@ -168,66 +168,20 @@ fn show(alloc: Global, points: &Points, last: Declared) -> Result<Text, NoMemory
     Ok(shown)
 }
 
-fn push_line<'a>(
-    block: &mut Vec<(u64, &'a [u8])>,
-    number: u64,
-    line: &'a [u8],
-) -> Result<(), NoMemory> {
-    block.push((number, line))?;
-    Ok(())
-}
-
-fn declare_block(
-    alloc: Global,
-    points: Points,
-    block: &[(u64, &[u8])],
-    number: u64,
-) -> Result<(Points, Declared), BlockFault> {
-    match block {
-        [] => Ok((points, Declared::New(PointId(0)))),
-        [first, rest @ ..] => {
-            let decl = read_block(alloc, true, *first, rest)?;
-            points.declare(decl, number)
-        }
-    }
-}
-
-// The table behind the blocks of a text, which blank lines separate, and what the last one was.
-fn declare_all(alloc: Global, text: &[u8]) -> Result<(Points, Declared), BlockFault> {
-    let mut points = Points::new(alloc)?;
-    let mut block: Vec<(u64, &[u8])> = Vec::new(alloc);
-    let mut number = 1u64;
-    for line in text.split(|byte| *byte == b'\n') {
-        if line.is_empty() {
-            let declared = declare_block(alloc, points, block.as_slice(), number)?;
-            points = declared.0;
-            block = Vec::new(alloc);
-            number = number.saturating_add(1);
-        } else {
-            push_line(&mut block, number, line)?;
-        }
-    }
-    declare_block(alloc, points, block.as_slice(), number)
-}
-
 fn show_outcome(
     alloc: Global,
     outcome: Result<(Points, Declared), BlockFault>,
 ) -> Result<Text, NoMemory> {
     match outcome {
         Ok((points, last)) => show(alloc, &points, last),
-        Err(BlockFault::Refused { line, why }) => {
-            let fault = format!(in alloc; "{line}: {why}")?;
-            Text::from_slice(alloc, fault.as_bytes())
-        }
-        Err(BlockFault::NoMemory) => Err(NoMemory),
+        Err(fault) => show_fault(alloc, fault),
     }
 }
 
 #[test]
 fn declarations_make_their_points(rt: HostRuntime) -> Result<(), Fail> {
     for (blocks, expected) in &CASES {
-        let shown = show_outcome(rt.alloc(), declare_all(rt.alloc(), blocks))?;
+        let shown = show_outcome(rt.alloc(), table(rt.alloc(), blocks))?;
         assert_eq!(&rt; shown.as_slice(), *expected);
     }
     Ok(())
@@ -311,13 +265,9 @@ fn points_have_few_variables(rt: HostRuntime) -> Result<(), Fail> {
 
 #[test]
 fn names_are_found(rt: HostRuntime) -> Result<(), Fail> {
-    let (points, _) = match declare_all(rt.alloc(), b"ppt A\n\nppt M:::EXIT1") {
-        Ok(declared) => declared,
-        Err(_) => return Err(NoMemory)?,
-    };
-    assert_eq!(&rt; points.find(b"M:::EXIT"), Some(PointId(1)));
-    assert_eq!(&rt; points.find(b"B"), None);
-    assert_eq!(&rt; points.len(), 3);
+    let (points, _) = table(rt.alloc(), b"ppt A\n\nppt M:::EXIT1")?;
+    assert!(&rt; points.find(b"M:::EXIT") == Some(PointId(1)) && points.find(b"B").is_none());
+    assert!(&rt; points.len() == 3);
     assert!(&rt; points.decl(PointId(1)).is_none() && points.decl(PointId(2)).is_some());
     same_is_equal();
     full_table_takes_none();

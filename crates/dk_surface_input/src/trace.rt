@@ -1,7 +1,6 @@
 // What no clause says: that the calls succeed with ample memory; and a table of records with their samples or first faults.
+use crate::reading::{numbered, show_fault, table};
 use dk_base::{Arena, BlockFault, NoMemory, Text, View, spell};
-use dk_decl::PointDecl;
-use dk_decl::laws::read_block;
 use dk_points::Points;
 use dk_trace::laws::{no_fault_yet, read_record, values_fit};
 use dk_trace::*;
@@ -101,30 +100,6 @@ static CASES: [Case; 40] = [
     (ALL_CONSTANT, b"P\nx\n1\n1", b"7: 13 ExtraLine"),
 ];
 
-fn numbered(alloc: Global, from: u64, block: &[u8]) -> Result<Vec<(u64, &[u8])>, NoMemory> {
-    let mut lines = Vec::new(alloc);
-    let mut number = from;
-    for line in block.split(|byte| *byte == b'\n') {
-        lines.push((number, line))?;
-        number = number.saturating_add(1);
-    }
-    Ok(lines)
-}
-
-fn declared(alloc: Global, block: &[u8]) -> Result<PointDecl, BlockFault> {
-    let lines = numbered(alloc, 1, block)?;
-    match lines.as_slice() {
-        [] => Err(BlockFault::NoMemory),
-        [first, rest @ ..] => read_block(alloc, true, *first, rest),
-    }
-}
-
-fn table(alloc: Global, block: &[u8]) -> Result<Points, BlockFault> {
-    let decl = declared(alloc, block)?;
-    let (points, _) = Points::new(alloc)?.declare(decl, 1)?;
-    Ok(points)
-}
-
 fn show_sample(alloc: Global, sample: &BaseSample<'_>) -> Result<Text, NoMemory> {
     let mut shown = Text::new(alloc);
     match sample.nonce {
@@ -146,18 +121,14 @@ fn outcome(alloc: Global, points: &Points, record: &[u8]) -> Result<Text, NoMemo
         [] => Err(NoMemory),
         [first, rest @ ..] => match read_record(alloc, points, &arena, *first, rest, close) {
             Ok(sample) => show_sample(alloc, &sample),
-            Err(BlockFault::Refused { line, why }) => {
-                let fault = format!(in alloc; "{line}: {why}")?;
-                Text::from_slice(alloc, fault.as_bytes())
-            }
-            Err(BlockFault::NoMemory) => Err(NoMemory),
+            Err(fault) => show_fault(alloc, fault),
         },
     }
 }
 
 fn check_case(rt: &impl Abort, alloc: Global, case: Case) -> Result<(), Fail> {
     let (block, record, expected) = case;
-    let points = table(alloc, block)?;
+    let (points, _) = table(alloc, block)?;
     let shown = outcome(alloc, &points, record)?;
     assert_eq!(rt; shown.as_slice(), expected);
     Ok(())
@@ -173,15 +144,23 @@ fn records_have_their_outcomes(rt: HostRuntime) -> Result<(), Fail> {
     Ok(())
 }
 
+fn read_by_lines<'a>(
+    alloc: Global,
+    points: &Points,
+    arena: &'a Arena,
+) -> Result<BaseSample<'a>, BlockFault> {
+    let mut reader = RecordReader::begin(alloc, points, arena, 6, b"P")?;
+    reader.line(points, 7, b"x")?;
+    reader.line(points, 8, b"3")?;
+    reader.line(points, 9, b"1")?;
+    reader.end(points, 10)
+}
+
 #[test]
 fn records_are_read_line_by_line(rt: HostRuntime) -> Result<(), Fail> {
-    let points = table(rt.alloc(), INT)?;
+    let (points, _) = table(rt.alloc(), INT)?;
     let arena = Arena::new(rt.alloc());
-    let mut reader = RecordReader::begin(rt.alloc(), &points, &arena, 6, b"P")?;
-    reader.line(&points, 7, b"x")?;
-    reader.line(&points, 8, b"3")?;
-    reader.line(&points, 9, b"1")?;
-    let sample = reader.end(&points, 10)?;
+    let sample = read_by_lines(rt.alloc(), &points, &arena)?;
     assert!(&rt; sample.line == 6 && matches!(sample.values, [View::Int(3)]));
     Ok(())
 }

@@ -6,6 +6,7 @@ ghost use Rattle.dk_binary.specs.Rows.{IsBinary};
 ghost use Rattle.dk_template.specs.Proper.{IsProper};
 ghost use Rattle.dk_template.specs.Templates.{form_of, role_kinds};
 
+use crate::want::{Want, is};
 use dk_base::{NoMemory, View};
 use dk_binary::*;
 use dk_template::{Row, RowId, State};
@@ -19,14 +20,14 @@ fn check_ints(
     alloc: Global,
     row: u8,
     tuple: (i64, i64),
-    expected: &State,
+    expected: Want,
 ) -> Result<(), NoMemory>
     requires row { IsBinary (record { 0 = row }) }
     requires kinds { role_kinds (record { 0 = row }) ≡ kind.Int ∷ kind.Int ∷ [] }
 {
     let (x, y) = tuple;
     let found = point(alloc, RowId(row), &[View::Int(x), View::Int(y)])?;
-    assert!(rt; found == *expected);
+    assert!(rt; is(&found, expected));
     Ok(())
 }
 
@@ -36,30 +37,28 @@ fn check_hashes(
     alloc: Global,
     row: u8,
     tuple: (u64, u64),
-    expected: &State,
+    expected: Want,
 ) -> Result<(), NoMemory>
     requires row { IsBinary (record { 0 = row }) }
     requires kinds { role_kinds (record { 0 = row }) ≡ kind.Hash ∷ kind.Hash ∷ [] }
 {
     let (x, y) = tuple;
     let found = point(alloc, RowId(row), &[View::Hash(x), View::Hash(y)])?;
-    assert!(rt; found == *expected);
+    assert!(rt; is(&found, expected));
     Ok(())
 }
 
 #[tactic(auto, unfolding(dk_template::specs::Templates::rows))]
 #[test]
 fn states_of_two_numbers(rt: HostRuntime) -> Result<(), Fail> {
-    let holds = State::Holds;
-    let broken = State::Broken;
-    check_ints(&rt, rt.alloc(), 11, (i64::MIN, i64::MIN), &holds)?;
-    check_ints(&rt, rt.alloc(), 12, (i64::MIN, i64::MAX), &holds)?;
-    check_ints(&rt, rt.alloc(), 13, (3, 3), &broken)?;
-    check_ints(&rt, rt.alloc(), 14, (3, 3), &holds)?;
-    check_ints(&rt, rt.alloc(), 16, (i64::MIN, -1), &holds)?;
-    check_ints(&rt, rt.alloc(), 16, (0, 0), &broken)?;
-    check_ints(&rt, rt.alloc(), 17, (0, 1 << 32), &broken)?;
-    check_ints(&rt, rt.alloc(), 17, (9, -3), &holds)?;
+    check_ints(&rt, rt.alloc(), 11, (i64::MIN, i64::MIN), Want::Holds)?;
+    check_ints(&rt, rt.alloc(), 12, (i64::MIN, i64::MAX), Want::Holds)?;
+    check_ints(&rt, rt.alloc(), 13, (3, 3), Want::Broken)?;
+    check_ints(&rt, rt.alloc(), 14, (3, 3), Want::Holds)?;
+    check_ints(&rt, rt.alloc(), 16, (i64::MIN, -1), Want::Holds)?;
+    check_ints(&rt, rt.alloc(), 16, (0, 0), Want::Broken)?;
+    check_ints(&rt, rt.alloc(), 17, (0, 1 << 32), Want::Broken)?;
+    check_ints(&rt, rt.alloc(), 17, (9, -3), Want::Holds)?;
     Ok(())
 }
 
@@ -72,24 +71,24 @@ fn states_of_one_point(rt: HostRuntime) -> Result<(), Fail> {
         rt.alloc(),
         15,
         (end, -end),
-        &State::Spot { x: end, y: -end },
+        Want::Spot { x: end, y: -end },
     )?;
-    check_ints(&rt, rt.alloc(), 15, (end + 1, 0), &State::Broken)?;
-    check_ints(&rt, rt.alloc(), 15, (0, -end - 1), &State::Broken)?;
+    check_ints(&rt, rt.alloc(), 15, (end + 1, 0), Want::Broken)?;
+    check_ints(&rt, rt.alloc(), 15, (0, -end - 1), Want::Broken)?;
     Ok(())
 }
 
 #[tactic(auto, unfolding(dk_template::specs::Templates::rows, dk_base::specs::Items::is_text, dk_base::specs::Items::is_quoted))]
 #[test]
 fn states_of_other_values(rt: HostRuntime) -> Result<(), Fail> {
-    check_hashes(&rt, rt.alloc(), 20, (7, 7), &State::Holds)?;
-    check_hashes(&rt, rt.alloc(), 21, (7, 7), &State::Broken)?;
+    check_hashes(&rt, rt.alloc(), 20, (7, 7), Want::Holds)?;
+    check_hashes(&rt, rt.alloc(), 21, (7, 7), Want::Broken)?;
     let truths = [View::Bool(true), View::Bool(false)];
-    assert!(rt; point(rt.alloc(), RowId(18), &truths)? == State::Broken);
-    assert!(rt; point(rt.alloc(), RowId(19), &truths)? == State::Holds);
+    assert!(rt; is(&point(rt.alloc(), RowId(18), &truths)?, Want::Broken));
+    assert!(rt; is(&point(rt.alloc(), RowId(19), &truths)?, Want::Holds));
     let texts = [View::Str(b"\"a\""), View::Str(b"null")];
-    assert!(rt; point(rt.alloc(), RowId(22), &texts)? == State::Broken);
-    assert!(rt; point(rt.alloc(), RowId(23), &texts)? == State::Holds);
+    assert!(rt; is(&point(rt.alloc(), RowId(22), &texts)?, Want::Broken));
+    assert!(rt; is(&point(rt.alloc(), RowId(23), &texts)?, Want::Holds));
     Ok(())
 }
 
@@ -102,13 +101,12 @@ fn joins_two_points_to_a_line(rt: HostRuntime) -> Result<(), Fail> {
         State::Spot { x: 2, y: -2 },
         &State::Spot { x: 4, y: 12 },
     )?;
-    assert!(rt;
-        line == State::Straight {
-            a: 7,
-            b: -1,
-            c: -16
-        }
-    );
+    let wanted = Want::Straight {
+        a: 7,
+        b: -1,
+        c: -16,
+    };
+    assert!(rt; is(&line, wanted));
     Ok(())
 }
 

@@ -6,9 +6,10 @@ ghost use Rattle.dk_base.specs.declared.kinds.Kind.TheVariants as kind;
 ghost use Rattle.dk_elements.specs.Rows.{IsElementRow};
 ghost use Rattle.dk_template.specs.Templates.{role_kinds};
 
-use dk_base::{List, NoMemory, Text, View};
+use crate::want::{Want, is};
+use dk_base::{NoMemory, View};
 use dk_elements::*;
-use dk_template::{Few, Row, RowId, State};
+use dk_template::{Row, RowId, State};
 use std::alloc::Global;
 use std::process::Abort;
 use std::test::Fail;
@@ -21,14 +22,14 @@ fn check_ints(
     alloc: Global,
     row: u8,
     s: &[i64],
-    expected: &State,
+    expected: Want,
 ) -> Result<(), NoMemory>
     requires row { IsElementRow (record { 0 = row }) }
     requires kinds { role_kinds (record { 0 = row }) ≡ kind.IntSeq ∷ [] }
     requires fit { All (λ z. IsTrue (fits_i64 z)) s.now }
 {
     let found = point(alloc, RowId(row), &[View::IntSeq(s)])?;
-    assert!(rt; found == *expected);
+    assert!(rt; is(&found, expected));
     Ok(())
 }
 
@@ -39,14 +40,14 @@ fn check_compared(
     row: u8,
     s: &[i64],
     x: i64,
-    expected: &State,
+    expected: Want,
 ) -> Result<(), NoMemory>
     requires row { IsElementRow (record { 0 = row }) }
     requires kinds { role_kinds (record { 0 = row }) ≡ kind.IntSeq ∷ kind.Int ∷ [] }
     requires fit { All (λ z. IsTrue (fits_i64 z)) s.now }
 {
     let found = point(alloc, RowId(row), &[View::IntSeq(s), View::Int(x)])?;
-    assert!(rt; found == *expected);
+    assert!(rt; is(&found, expected));
     Ok(())
 }
 
@@ -56,13 +57,13 @@ fn check_bools(
     alloc: Global,
     row: u8,
     s: &[bool],
-    expected: &State,
+    expected: Want,
 ) -> Result<(), NoMemory>
     requires row { IsElementRow (record { 0 = row }) }
     requires kinds { role_kinds (record { 0 = row }) ≡ kind.BoolSeq ∷ [] }
 {
     let found = point(alloc, RowId(row), &[View::BoolSeq(s)])?;
-    assert!(rt; found == *expected);
+    assert!(rt; is(&found, expected));
     Ok(())
 }
 
@@ -72,14 +73,14 @@ fn check_hashes(
     alloc: Global,
     row: u8,
     s: &[u64],
-    expected: &State,
+    expected: Want,
 ) -> Result<(), NoMemory>
     requires row { IsElementRow (record { 0 = row }) }
     requires kinds { role_kinds (record { 0 = row }) ≡ kind.HashSeq ∷ [] }
     requires fit { All (λ n. n < 2 ^ 64) s.now }
 {
     let found = point(alloc, RowId(row), &[View::HashSeq(s)])?;
-    assert!(rt; found == *expected);
+    assert!(rt; is(&found, expected));
     Ok(())
 }
 
@@ -89,14 +90,14 @@ fn check_strs(
     alloc: Global,
     row: u8,
     s: &[&[u8]],
-    expected: &State,
+    expected: Want,
 ) -> Result<(), NoMemory>
     requires row { IsElementRow (record { 0 = row }) }
     requires kinds { role_kinds (record { 0 = row }) ≡ kind.StrSeq ∷ [] }
     requires texts { All (λ t. IsTrue (is_text t)) (map (λ t. t.now) s.now) }
 {
     let found = point(alloc, RowId(row), &[View::StrSeq(s)])?;
-    assert!(rt; found == *expected);
+    assert!(rt; is(&found, expected));
     Ok(())
 }
 
@@ -105,21 +106,20 @@ fn check_strs(
 fn states_of_numbers(rt: HostRuntime) -> Result<(), Fail> {
     let alloc = rt.alloc();
     let ends = [i64::MAX, i64::MIN];
-    let few = State::Ints(Few::of(alloc, &[i64::MIN, i64::MAX]));
-    check_ints(&rt, alloc, 35, &[], &State::Empty)?;
-    check_ints(&rt, alloc, 35, &ends, &few)?;
-    check_ints(&rt, alloc, 35, &NINE, &State::Broken)?;
-    check_ints(&rt, alloc, 36, &[], &State::Empty)?;
-    check_ints(&rt, alloc, 36, &ends, &State::Least(i64::MIN))?;
-    check_ints(&rt, alloc, 37, &ends, &State::Greatest(i64::MAX))?;
-    check_ints(&rt, alloc, 38, &[1, 0], &State::Broken)?;
-    check_ints(&rt, alloc, 38, &NINE, &State::Holds)?;
-    check_ints(&rt, alloc, 39, &NINE, &State::Broken)?;
-    check_ints(&rt, alloc, 40, &NINE, &State::Holds)?;
-    check_ints(&rt, alloc, 41, &ends, &State::Holds)?;
-    check_ints(&rt, alloc, 42, &[], &State::Holds)?;
-    check_ints(&rt, alloc, 43, &[7], &State::Holds)?;
-    check_ints(&rt, alloc, 43, &ends, &State::Broken)?;
+    check_ints(&rt, alloc, 35, &[], Want::Empty)?;
+    check_ints(&rt, alloc, 35, &ends, Want::Ints(&[i64::MIN, i64::MAX]))?;
+    check_ints(&rt, alloc, 35, &NINE, Want::Broken)?;
+    check_ints(&rt, alloc, 36, &[], Want::Empty)?;
+    check_ints(&rt, alloc, 36, &ends, Want::Least(i64::MIN))?;
+    check_ints(&rt, alloc, 37, &ends, Want::Greatest(i64::MAX))?;
+    check_ints(&rt, alloc, 38, &[1, 0], Want::Broken)?;
+    check_ints(&rt, alloc, 38, &NINE, Want::Holds)?;
+    check_ints(&rt, alloc, 39, &NINE, Want::Broken)?;
+    check_ints(&rt, alloc, 40, &NINE, Want::Holds)?;
+    check_ints(&rt, alloc, 41, &ends, Want::Holds)?;
+    check_ints(&rt, alloc, 42, &[], Want::Holds)?;
+    check_ints(&rt, alloc, 43, &[7], Want::Holds)?;
+    check_ints(&rt, alloc, 43, &ends, Want::Broken)?;
     Ok(())
 }
 
@@ -127,12 +127,12 @@ fn states_of_numbers(rt: HostRuntime) -> Result<(), Fail> {
 #[test]
 fn states_of_numbers_and_a_number(rt: HostRuntime) -> Result<(), Fail> {
     let alloc = rt.alloc();
-    check_compared(&rt, alloc, 52, &[], 0, &State::Holds)?;
-    check_compared(&rt, alloc, 52, &[5, 6], 5, &State::Broken)?;
-    check_compared(&rt, alloc, 53, &NINE, 8, &State::Broken)?;
-    check_compared(&rt, alloc, 54, &NINE, 8, &State::Holds)?;
-    check_compared(&rt, alloc, 55, &[i64::MAX], i64::MIN, &State::Holds)?;
-    check_compared(&rt, alloc, 56, &NINE, 2, &State::Broken)?;
+    check_compared(&rt, alloc, 52, &[], 0, Want::Holds)?;
+    check_compared(&rt, alloc, 52, &[5, 6], 5, Want::Broken)?;
+    check_compared(&rt, alloc, 53, &NINE, 8, Want::Broken)?;
+    check_compared(&rt, alloc, 54, &NINE, 8, Want::Holds)?;
+    check_compared(&rt, alloc, 55, &[i64::MAX], i64::MIN, Want::Holds)?;
+    check_compared(&rt, alloc, 56, &NINE, 2, Want::Broken)?;
     Ok(())
 }
 
@@ -140,16 +140,14 @@ fn states_of_numbers_and_a_number(rt: HostRuntime) -> Result<(), Fail> {
 #[test]
 fn states_of_other_values(rt: HostRuntime) -> Result<(), Fail> {
     let alloc = rt.alloc();
-    check_bools(&rt, alloc, 44, &[true, true], &State::Truth(true))?;
-    check_bools(&rt, alloc, 44, &[true, false], &State::Broken)?;
-    check_hashes(&rt, alloc, 45, &[u64::MAX], &State::Code(u64::MAX))?;
-    check_hashes(&rt, alloc, 46, &[1, 0], &State::Broken)?;
-    let mut texts = List::new(alloc);
-    texts.push(Text::from_slice(alloc, b"\"a\"")?)?;
+    check_bools(&rt, alloc, 44, &[true, true], Want::Truth(true))?;
+    check_bools(&rt, alloc, 44, &[true, false], Want::Broken)?;
+    check_hashes(&rt, alloc, 45, &[u64::MAX], Want::Code(u64::MAX))?;
+    check_hashes(&rt, alloc, 46, &[1, 0], Want::Broken)?;
     let strings: [&[u8]; 2] = [b"\"a\"", b"\"a\""];
-    check_strs(&rt, alloc, 47, &strings, &State::Texts(texts))?;
-    check_strs(&rt, alloc, 48, &strings, &State::Holds)?;
-    check_strs(&rt, alloc, 48, &[b"\"a\"", b"null"], &State::Broken)?;
+    check_strs(&rt, alloc, 47, &strings, Want::Text(b"\"a\""))?;
+    check_strs(&rt, alloc, 48, &strings, Want::Holds)?;
+    check_strs(&rt, alloc, 48, &[b"\"a\"", b"null"], Want::Broken)?;
     Ok(())
 }
 
@@ -157,7 +155,7 @@ fn states_of_other_values(rt: HostRuntime) -> Result<(), Fail> {
 #[test]
 fn joins_states(rt: HostRuntime) -> Result<(), Fail> {
     let found = join(rt.alloc(), RowId(36), State::Least(-1), &State::Least(-4))?;
-    assert!(rt; found == State::Least(-4));
+    assert!(rt; is(&found, Want::Least(-4)));
     Ok(())
 }
 

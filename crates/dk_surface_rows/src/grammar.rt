@@ -1,4 +1,5 @@
 // Each call once, by the row's number.
+use crate::want::{Want, is};
 use dk_base::{VarId, View};
 use dk_grammar::*;
 use dk_template::{RowId, State};
@@ -32,14 +33,14 @@ fn points_and_lines(rt: HostRuntime) -> Result<(), Fail> {
     let alloc = rt.alloc();
     let row = RowId(15);
     let first = point(alloc, row, &[View::Int(1), View::Int(2)])?;
-    assert!(rt; first == State::Spot { x: 1, y: 2 });
+    assert!(rt; is(&first, Want::Spot { x: 1, y: 2 }));
     let line = join(
         alloc,
         row,
         State::Spot { x: 1, y: 2 },
         &State::Spot { x: 2, y: 3 },
     )?;
-    assert!(rt; line == State::Straight { a: 1, b: -1, c: 1 });
+    assert!(rt; is(&line, Want::Straight { a: 1, b: -1, c: 1 }));
     assert!(rt; stays(row, &line, &[View::Int(-7), View::Int(-6)]));
     assert!(rt; !stays(row, &line, &[View::Int(-7), View::Int(-7)]));
     assert!(rt; breaks(RowId(13), &[View::Int(2), View::Int(2)]));

@@ -24,3 +24,5 @@ mod template;
 mod ternary;
 #[cfg(test)]
 mod unary;
+#[cfg(test)]
+mod want;

@@ -7,6 +7,7 @@ ghost use Rattle.dk_pairs.specs.Rows.{IsPair};
 ghost use Rattle.dk_template.specs.Proper.{IsProper};
 ghost use Rattle.dk_template.specs.Templates.{form_of, role_kinds};
 
+use crate::want::{Want, is};
 use dk_base::{NoMemory, View};
 use dk_pairs::*;
 use dk_template::{Row, RowId, State};
@@ -22,7 +23,7 @@ fn check_ints(
     alloc: Global,
     row: u8,
     tuple: (&[i64], &[i64]),
-    expected: &State,
+    expected: Want,
 ) -> Result<(), NoMemory>
     requires row { IsPair (record { 0 = row }) }
     requires kinds { role_kinds (record { 0 = row }) ≡ kind.IntSeq ∷ kind.IntSeq ∷ [] }
@@ -31,23 +32,27 @@ fn check_ints(
 {
     let (s, t) = tuple;
     let found = point(alloc, RowId(row), &[View::IntSeq(s), View::IntSeq(t)])?;
-    assert!(rt; found == *expected);
+    assert!(rt; is(&found, expected));
     Ok(())
 }
 
 #[tactic(auto, unfolding(dk_template::specs::Templates::rows))]
 #[test]
 fn states_of_two_sequences(rt: HostRuntime) -> Result<(), Fail> {
-    let holds = State::Holds;
-    let broken = State::Broken;
-    check_ints(&rt, rt.alloc(), 57, (&NINE, &NINE), &holds)?;
-    check_ints(&rt, rt.alloc(), 61, (&[], &[1]), &broken)?;
-    check_ints(&rt, rt.alloc(), 62, (&[1, 2], &[2, 2]), &holds)?;
-    check_ints(&rt, rt.alloc(), 63, (&[], &[]), &holds)?;
-    check_ints(&rt, rt.alloc(), 63, (&[i64::MAX, i64::MAX], &NINE), &holds)?;
-    check_ints(&rt, rt.alloc(), 63, (&NINE, &[i64::MAX]), &broken)?;
-    check_ints(&rt, rt.alloc(), 66, (&[1, 2], &[2, 1]), &holds)?;
-    check_ints(&rt, rt.alloc(), 66, (&NINE, &NINE), &broken)?;
+    check_ints(&rt, rt.alloc(), 57, (&NINE, &NINE), Want::Holds)?;
+    check_ints(&rt, rt.alloc(), 61, (&[], &[1]), Want::Broken)?;
+    check_ints(&rt, rt.alloc(), 62, (&[1, 2], &[2, 2]), Want::Holds)?;
+    check_ints(&rt, rt.alloc(), 63, (&[], &[]), Want::Holds)?;
+    check_ints(
+        &rt,
+        rt.alloc(),
+        63,
+        (&[i64::MAX, i64::MAX], &NINE),
+        Want::Holds,
+    )?;
+    check_ints(&rt, rt.alloc(), 63, (&NINE, &[i64::MAX]), Want::Broken)?;
+    check_ints(&rt, rt.alloc(), 66, (&[1, 2], &[2, 1]), Want::Holds)?;
+    check_ints(&rt, rt.alloc(), 66, (&NINE, &NINE), Want::Broken)?;
     Ok(())
 }
 
@@ -56,18 +61,18 @@ fn states_of_two_sequences(rt: HostRuntime) -> Result<(), Fail> {
 fn offsets_of_two_sequences(rt: HostRuntime) -> Result<(), Fail> {
     let span = u64::MAX as i128;
     let alloc = rt.alloc();
-    check_ints(&rt, alloc, 68, (&[], &[]), &State::Empty)?;
-    check_ints(&rt, alloc, 68, (&[1], &[]), &State::Broken)?;
+    check_ints(&rt, alloc, 68, (&[], &[]), Want::Empty)?;
+    check_ints(&rt, alloc, 68, (&[1], &[]), Want::Broken)?;
     check_ints(
         &rt,
         alloc,
         68,
         (&[i64::MIN], &[i64::MAX]),
-        &State::Offset { k: span },
+        Want::Offset { k: span },
     )?;
-    check_ints(&rt, alloc, 68, (&[4, 5], &[1, 2]), &State::Offset { k: -3 })?;
-    check_ints(&rt, alloc, 68, (&NINE, &NINE), &State::Offset { k: 0 })?;
-    check_ints(&rt, alloc, 68, (&[1, 2], &[3, 5]), &State::Broken)?;
+    check_ints(&rt, alloc, 68, (&[4, 5], &[1, 2]), Want::Offset { k: -3 })?;
+    check_ints(&rt, alloc, 68, (&NINE, &NINE), Want::Offset { k: 0 })?;
+    check_ints(&rt, alloc, 68, (&[1, 2], &[3, 5]), Want::Broken)?;
     Ok(())
 }
 
@@ -77,7 +82,7 @@ fn check_member(
     alloc: Global,
     row: u8,
     tuple: (i64, &[i64]),
-    expected: &State,
+    expected: Want,
 ) -> Result<(), NoMemory>
     requires row { IsPair (record { 0 = row }) }
     requires kinds { role_kinds (record { 0 = row }) ≡ kind.Int ∷ kind.IntSeq ∷ [] }
@@ -85,20 +90,18 @@ fn check_member(
 {
     let (x, s) = tuple;
     let found = point(alloc, RowId(row), &[View::Int(x), View::IntSeq(s)])?;
-    assert!(rt; found == *expected);
+    assert!(rt; is(&found, expected));
     Ok(())
 }
 
 #[tactic(auto, unfolding(dk_template::specs::Templates::rows))]
 #[test]
 fn members_of_sequences(rt: HostRuntime) -> Result<(), Fail> {
-    let holds = State::Holds;
-    let broken = State::Broken;
-    check_member(&rt, rt.alloc(), 49, (0, &[]), &broken)?;
-    check_member(&rt, rt.alloc(), 49, (5, &[5]), &holds)?;
-    check_member(&rt, rt.alloc(), 49, (6, &[5, 6]), &holds)?;
-    check_member(&rt, rt.alloc(), 49, (i64::MAX, &NINE), &holds)?;
-    check_member(&rt, rt.alloc(), 49, (4, &NINE), &broken)?;
+    check_member(&rt, rt.alloc(), 49, (0, &[]), Want::Broken)?;
+    check_member(&rt, rt.alloc(), 49, (5, &[5]), Want::Holds)?;
+    check_member(&rt, rt.alloc(), 49, (6, &[5, 6]), Want::Holds)?;
+    check_member(&rt, rt.alloc(), 49, (i64::MAX, &NINE), Want::Holds)?;
+    check_member(&rt, rt.alloc(), 49, (4, &NINE), Want::Broken)?;
     Ok(())
 }
 
@@ -109,27 +112,27 @@ fn states_of_other_elements(rt: HostRuntime) -> Result<(), Fail> {
     let a = b"\"a\"".as_slice();
     let null = b"null".as_slice();
     let codes = point(alloc, RowId(50), &[View::Hash(7), View::HashSeq(&[0, 7])])?;
-    assert!(rt; codes == State::Holds);
+    assert!(rt; is(&codes, Want::Holds));
     let texts = point(alloc, RowId(51), &[View::Str(a), View::StrSeq(&[null])])?;
-    assert!(rt; texts == State::Broken);
+    assert!(rt; is(&texts, Want::Broken));
     let truths = point(
         alloc,
         RowId(58),
         &[View::BoolSeq(&[true]), View::BoolSeq(&[true, true])],
     )?;
-    assert!(rt; truths == State::Broken);
+    assert!(rt; is(&truths, Want::Broken));
     let same = point(
         alloc,
         RowId(60),
         &[View::StrSeq(&[a, null]), View::StrSeq(&[a, null])],
     )?;
-    assert!(rt; same == State::Holds);
+    assert!(rt; is(&same, Want::Holds));
     let within = point(
         alloc,
         RowId(65),
         &[View::StrSeq(&[a]), View::StrSeq(&[null, a])],
     )?;
-    assert!(rt; within == State::Holds);
+    assert!(rt; is(&within, Want::Holds));
     Ok(())
 }
 
@@ -142,14 +145,14 @@ fn joins_offsets(rt: HostRuntime) -> Result<(), Fail> {
         State::Offset { k: 2 },
         &State::Offset { k: 2 },
     )?;
-    assert!(rt; same == State::Offset { k: 2 });
+    assert!(rt; is(&same, Want::Offset { k: 2 }));
     let other = join(
         rt.alloc(),
         RowId(68),
         State::Offset { k: 2 },
         &State::Offset { k: -2 },
     )?;
-    assert!(rt; other == State::Broken);
+    assert!(rt; is(&other, Want::Broken));
     Ok(())
 }
 

@@ -204,7 +204,7 @@ fn check_turned(
     let sorted = written(RowId(row), alloc, tuple);
     assert!(rt; is_written(RowId(row), sorted.as_slice()));
     assert!(rt; proper(RowId(row), &state));
-    let found = turned(RowId(row), alloc, tuple, state);
+    let found = turn_state(RowId(row), alloc, tuple, state);
     assert!(rt; found == *expected);
 }
 

@@ -6,8 +6,9 @@ ghost use Rattle.dk_template.specs.Proper.{IsProper};
 ghost use Rattle.dk_template.specs.Templates.{form_of, role_kinds};
 ghost use Rattle.dk_unary.specs.Rows.{IsUnary};
 
-use dk_base::{List, NoMemory, Text, View};
-use dk_template::{Few, Row, RowId, State};
+use crate::want::{Want, is};
+use dk_base::{NoMemory, View};
+use dk_template::{Row, RowId, State};
 use dk_unary::*;
 use std::alloc::Global;
 use std::process::Abort;
@@ -19,13 +20,13 @@ fn check_int(
     alloc: Global,
     row: u8,
     x: i64,
-    expected: &State,
+    expected: Want,
 ) -> Result<(), NoMemory>
     requires row { IsUnary (record { 0 = row }) }
     requires kinds { role_kinds (record { 0 = row }) ≡ kind.Int ∷ [] }
 {
     let found = point(alloc, RowId(row), &[View::Int(x)])?;
-    assert!(rt; found == *expected);
+    assert!(rt; is(&found, expected));
     Ok(())
 }
 
@@ -35,13 +36,13 @@ fn check_hash(
     alloc: Global,
     row: u8,
     x: u64,
-    expected: &State,
+    expected: Want,
 ) -> Result<(), NoMemory>
     requires row { IsUnary (record { 0 = row }) }
     requires kinds { role_kinds (record { 0 = row }) ≡ kind.Hash ∷ [] }
 {
     let found = point(alloc, RowId(row), &[View::Hash(x)])?;
-    assert!(rt; found == *expected);
+    assert!(rt; is(&found, expected));
     Ok(())
 }
 
@@ -51,14 +52,14 @@ fn check_str(
     alloc: Global,
     row: u8,
     x: &[u8],
-    expected: &State,
+    expected: Want,
 ) -> Result<(), NoMemory>
     requires row { IsUnary (record { 0 = row }) }
     requires kinds { role_kinds (record { 0 = row }) ≡ kind.Str ∷ [] }
     requires text { IsTrue (is_text x.now) }
 {
     let found = point(alloc, RowId(row), &[View::Str(x)])?;
-    assert!(rt; found == *expected);
+    assert!(rt; is(&found, expected));
     Ok(())
 }
 
@@ -69,32 +70,26 @@ fn check_join(
     row: u8,
     a: State,
     b: &State,
-    expected: &State,
+    expected: Want,
 ) -> Result<(), NoMemory>
     requires row { IsUnary (record { 0 = row }) }
     requires a { IsProper (form_of (record { 0 = row })) a }
     requires b { IsProper (form_of (record { 0 = row })) b.now }
 {
     let found = join(alloc, RowId(row), a, b)?;
-    assert!(rt; found == *expected);
+    assert!(rt; is(&found, expected));
     Ok(())
 }
 
 #[tactic(auto, unfolding(dk_template::specs::Templates::rows))]
 #[test]
 fn states_of_one_number(rt: HostRuntime) -> Result<(), Fail> {
-    check_int(
-        &rt,
-        rt.alloc(),
-        1,
-        -7,
-        &State::Ints(Few::of(rt.alloc(), &[-7])),
-    )?;
-    check_int(&rt, rt.alloc(), 2, i64::MIN, &State::Least(i64::MIN))?;
-    check_int(&rt, rt.alloc(), 3, i64::MAX, &State::Greatest(i64::MAX))?;
-    check_int(&rt, rt.alloc(), 4, 0, &State::Broken)?;
-    check_int(&rt, rt.alloc(), 4, -1, &State::Holds)?;
-    check_int(&rt, rt.alloc(), 5, i64::MIN, &State::One(i64::MIN))?;
+    check_int(&rt, rt.alloc(), 1, -7, Want::Ints(&[-7]))?;
+    check_int(&rt, rt.alloc(), 2, i64::MIN, Want::Least(i64::MIN))?;
+    check_int(&rt, rt.alloc(), 3, i64::MAX, Want::Greatest(i64::MAX))?;
+    check_int(&rt, rt.alloc(), 4, 0, Want::Broken)?;
+    check_int(&rt, rt.alloc(), 4, -1, Want::Holds)?;
+    check_int(&rt, rt.alloc(), 5, i64::MIN, Want::One(i64::MIN))?;
     Ok(())
 }
 
@@ -102,30 +97,28 @@ fn states_of_one_number(rt: HostRuntime) -> Result<(), Fail> {
 #[test]
 fn states_of_other_values(rt: HostRuntime) -> Result<(), Fail> {
     let truth = point(rt.alloc(), RowId(6), &[View::Bool(false)])?;
-    assert!(rt; truth == State::Truth(false));
-    check_hash(&rt, rt.alloc(), 7, u64::MAX, &State::Code(u64::MAX))?;
-    check_hash(&rt, rt.alloc(), 8, 0, &State::Broken)?;
-    check_hash(&rt, rt.alloc(), 8, 1, &State::Holds)?;
-    let mut texts = List::new(rt.alloc());
-    texts.push(Text::from_slice(rt.alloc(), b"\"a\"")?)?;
-    check_str(&rt, rt.alloc(), 9, b"\"a\"", &State::Texts(texts))?;
-    check_str(&rt, rt.alloc(), 10, b"null", &State::Broken)?;
-    check_str(&rt, rt.alloc(), 10, b"\"null\"", &State::Holds)?;
+    assert!(rt; is(&truth, Want::Truth(false)));
+    check_hash(&rt, rt.alloc(), 7, u64::MAX, Want::Code(u64::MAX))?;
+    check_hash(&rt, rt.alloc(), 8, 0, Want::Broken)?;
+    check_hash(&rt, rt.alloc(), 8, 1, Want::Holds)?;
+    check_str(&rt, rt.alloc(), 9, b"\"a\"", Want::Text(b"\"a\""))?;
+    check_str(&rt, rt.alloc(), 10, b"null", Want::Broken)?;
+    check_str(&rt, rt.alloc(), 10, b"\"null\"", Want::Holds)?;
     Ok(())
 }
 
 #[tactic(auto, unfolding(dk_template::specs::Templates::rows))]
 #[test]
 fn joins_states(rt: HostRuntime) -> Result<(), Fail> {
-    let two = State::Modulus { m: 4, r: 3 };
-    check_join(&rt, rt.alloc(), 5, State::One(3), &State::One(7), &two)?;
+    let two = Want::Modulus { m: 4, r: 3 };
+    check_join(&rt, rt.alloc(), 5, State::One(3), &State::One(7), two)?;
     check_join(
         &rt,
         rt.alloc(),
         5,
         State::Modulus { m: 4, r: 3 },
         &State::One(19),
-        &two,
+        two,
     )?;
     check_join(
         &rt,
@@ -133,16 +126,9 @@ fn joins_states(rt: HostRuntime) -> Result<(), Fail> {
         2,
         State::Least(-1),
         &State::Least(4),
-        &State::Least(-1),
+        Want::Least(-1),
     )?;
-    check_join(
-        &rt,
-        rt.alloc(),
-        8,
-        State::Empty,
-        &State::Holds,
-        &State::Holds,
-    )?;
+    check_join(&rt, rt.alloc(), 8, State::Empty, &State::Holds, Want::Holds)?;
     Ok(())
 }
 

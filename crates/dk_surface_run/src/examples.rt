@@ -1,7 +1,6 @@
 // Worked examples: words and files with what their runs come to, in whatever pieces the bytes come.
-use crate::outcomes::{ran, steady};
+use crate::outcomes::{Wanted, comes_to};
 use dk_base::{NoMemory, Text};
-use dk_io::Stream;
 use dk_run::Status;
 use std::alloc::Global;
 use std::process::Abort;
@@ -19,7 +18,7 @@ struct Example {
 }
 
 const USAGE: &str =
-    "usage: daikon [--min-samples N] [--every N] [--select PREFIX] [--keep-implied] [--keep-incomparable] [--keep-members] [--keep-constant] [--keep-parent] [--ignore-missing-entry] [--stats] [--generate N] [FILE]...\n";
+    "usage: daikon [--min-samples N] [--every N] [--select PREFIX] [--keep-implied] [--keep-incomparable] [--keep-members] [--keep-constant] [--keep-parent] [--ignore-missing-entry] [--stats] [--save] [--resume NAME] [--generate N] [FILE]...\n";
 
 const RULE: &[u8] = b"===========================================================================";
 
@@ -411,30 +410,14 @@ pub(crate) fn ruled(alloc: Global, report: &str) -> Result<Text, NoMemory> {
 // What the run of each example comes to, however its bytes are cut.
 fn come_to_their_outputs(rt: &impl Abort, alloc: Global, examples: &[Example]) -> Result<(), Fail> {
     for example in examples {
-        let name = example.name;
         let report = ruled(alloc, example.report)?;
-        for piece in [1usize, 7, 65_536] {
-            assert!(rt; piece > 0);
-            let (status, sinks) = ran(
-                alloc,
-                example.text.as_bytes(),
-                example.words,
-                steady(piece),
-            )?;
-            assert_eq!(rt; status, example.status, "at {name}");
-            assert!(rt;
-                sinks.written(Stream::Report) == report.as_slice(),
-                "the report at {name}"
-            );
-            assert!(rt;
-                sinks.written(Stream::Messages) == example.messages.as_bytes(),
-                "the messages at {name}"
-            );
-            assert!(rt;
-                sinks.written(Stream::State).is_empty(),
-                "the state at {name}"
-            );
-        }
+        let wanted = Wanted {
+            status: example.status,
+            report: report.as_slice(),
+            messages: example.messages.as_bytes(),
+        };
+        let files = [("t", example.text.as_bytes())];
+        comes_to(rt, alloc, &files, example.words, wanted, example.name)?;
     }
     Ok(())
 }

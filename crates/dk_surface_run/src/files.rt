@@ -1,7 +1,6 @@
 // Runs over two files, with reports by the way, sizes and selections. The outputs are those of an independent implementation.
 use crate::examples::ruled;
-use crate::outcomes::{ran_over, steady};
-use dk_io::Stream;
+use crate::outcomes::{Wanted, comes_to};
 use dk_run::Status;
 use std::test::Fail;
 
@@ -141,25 +140,17 @@ static EXAMPLES: [Example; 13] = [
 fn runs_over_two_files_come_to_their_outputs(rt: HostRuntime) -> Result<(), Fail> {
     let alloc = rt.alloc();
     for example in &EXAMPLES {
-        let name = example.name;
         let report = ruled(alloc, example.report)?;
+        let wanted = Wanted {
+            status: example.status,
+            report: report.as_slice(),
+            messages: example.messages.as_bytes(),
+        };
         let files = [
             ("t", example.first.as_bytes()),
             ("u", example.second.as_bytes()),
         ];
-        for piece in [1usize, 7, 65_536] {
-            assert!(rt; piece > 0);
-            let (status, sinks) = ran_over(alloc, &files, example.words, steady(piece))?;
-            assert_eq!(rt; status, example.status, "at {name}");
-            assert!(rt;
-                sinks.written(Stream::Report) == report.as_slice(),
-                "the report at {name}"
-            );
-            assert!(rt;
-                sinks.written(Stream::Messages) == example.messages.as_bytes(),
-                "the messages at {name}"
-            );
-        }
+        comes_to(&rt, alloc, &files, example.words, wanted, example.name)?;
     }
     Ok(())
 }

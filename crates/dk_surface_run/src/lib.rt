@@ -15,4 +15,6 @@ mod sizes;
 #[cfg(test)]
 mod stack_ar;
 #[cfg(test)]
+mod states;
+#[cfg(test)]
 mod worked;

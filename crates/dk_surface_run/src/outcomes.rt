@@ -2,9 +2,10 @@
 ghost use Rattle.std.specs.Prelude.{◌≡◌, ◌<◌};
 
 use dk_base::{List, NoMemory, Text};
-use dk_io::{MemoryInputs, MemorySinks};
+use dk_io::{MemoryInputs, MemorySinks, Stream};
 use dk_run::{Status, run};
 use std::alloc::Global;
+use std::process::Abort;
 use std::test::Fail;
 
 const RULE: &str = "===========================================================================\n";
@@ -66,6 +67,34 @@ pub(crate) fn steady(piece: usize) -> Calls<'static>
     }
 }
 
+fn strings(alloc: Global, words: &[&str]) -> Result<Vec<String>, Fail> {
+    let mut strings = Vec::new(alloc);
+    for word in words {
+        strings.push(String::from_str(alloc, word)?)?;
+    }
+    Ok(strings)
+}
+
+fn files_of(alloc: Global, named: &[(&str, &[u8])]) -> Result<List<(Text, Text)>, NoMemory> {
+    let mut files = List::new(alloc);
+    for (name, bytes) in named {
+        let name = Text::from_slice(alloc, name.as_bytes())?;
+        files.push((name, Text::from_slice(alloc, bytes)?))?;
+    }
+    Ok(files)
+}
+
+fn inputs_of(
+    alloc: Global,
+    named: &[(&str, &[u8])],
+    calls: Calls<'_>,
+) -> Result<MemoryInputs, NoMemory>
+    requires { 0 < calls.piece }
+{
+    let failing = List::from_slice(alloc, calls.failing_reads)?;
+    Ok(MemoryInputs::new(files_of(alloc, named)?, failing, calls.piece))
+}
+
 /// The status of a run over files of these names and bytes, and its sinks.
 pub(crate) fn ran_over(
     alloc: Global,
@@ -75,21 +104,49 @@ pub(crate) fn ran_over(
 ) -> Result<(Status, MemorySinks), Fail>
     requires { 0 < calls.piece }
 {
-    let mut files = List::new(alloc);
-    for (name, bytes) in named {
-        let name = Text::from_slice(alloc, name.as_bytes())?;
-        files.push((name, Text::from_slice(alloc, bytes)?))?;
-    }
-    let failing_reads = List::from_slice(alloc, calls.failing_reads)?;
+    let names = strings(alloc, words)?;
     let failing_writes = List::from_slice(alloc, calls.failing_writes)?;
-    let mut inputs = MemoryInputs::new(files, failing_reads, calls.piece);
     let mut sinks = MemorySinks::new(alloc, failing_writes, calls.piece, 65_536)?;
-    let mut names = Vec::new(alloc);
-    for word in words {
-        names.push(String::from_str(alloc, word)?)?;
-    }
+    let mut inputs = inputs_of(alloc, named, calls)?;
     let status = run(alloc, names.as_slice(), &mut inputs, &mut sinks);
     Ok((status, sinks))
+}
+
+/// What a run comes to.
+#[derive(Clone, Copy)]
+pub(crate) struct Wanted<'a> {
+    pub(crate) status: Status,
+    pub(crate) report: &'a [u8],
+    pub(crate) messages: &'a [u8],
+}
+
+/// How many bytes a call moves, in turn.
+static PIECES: [usize; 3] = [1, 7, 65_536];
+
+/// A run over files of these names and bytes comes to what is wanted, in whatever pieces the bytes come. Nothing is written to State.
+pub(crate) fn comes_to(
+    rt: &impl Abort,
+    alloc: Global,
+    named: &[(&str, &[u8])],
+    words: &[&str],
+    wanted: Wanted<'_>,
+    shows: &str,
+) -> Result<(), Fail> {
+    for piece in &PIECES {
+        assert!(rt; *piece > 0);
+        let (status, sinks) = ran_over(alloc, named, words, steady(*piece))?;
+        assert!(rt; status == wanted.status, "at {shows}");
+        assert!(rt;
+            sinks.written(Stream::Report) == wanted.report,
+            "at {shows}"
+        );
+        assert!(rt;
+            sinks.written(Stream::Messages) == wanted.messages,
+            "at {shows}"
+        );
+        assert!(rt; sinks.written(Stream::State).is_empty(), "at {shows}");
+    }
+    Ok(())
 }
 
 /// The status of a run where the file `t` has these bytes, and its sinks.

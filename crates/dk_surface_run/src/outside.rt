@@ -19,7 +19,7 @@ struct Case {
 }
 
 const USAGE: &str =
-    "usage: daikon [--min-samples N] [--every N] [--select PREFIX] [--keep-implied] [--keep-incomparable] [--keep-members] [--keep-constant] [--keep-parent] [--ignore-missing-entry] [--stats] [--generate N] [FILE]...\n";
+    "usage: daikon [--min-samples N] [--every N] [--select PREFIX] [--keep-implied] [--keep-incomparable] [--keep-members] [--keep-constant] [--keep-parent] [--ignore-missing-entry] [--stats] [--save] [--resume NAME] [--generate N] [FILE]...\n";
 
 static CASES: [Case; 8] = [
     Case {

@@ -5,12 +5,14 @@ use dk_base::{NoMemory, Text, first_word, trimmed};
 use dk_io::Stream;
 use dk_run::Status;
 use std::alloc::Global;
+use std::process::Abort;
 use std::test::Fail;
 
 const WORDS: [&str; 3] = ["--min-samples", "1", "t"];
 
-// Declarations of an object and of a method's entry and exit, and the records of two calls.
-const TRACE: &str = "// Declarations for StackAr
+// Declarations of an object and of a method's entry and exit, and the records of two calls. In a function the text is proved once.
+fn trace() -> &'static str {
+    "// Declarations for StackAr
 decl-version 2.0
 var-comparability implicit
 
@@ -165,7 +167,8 @@ x
 1
 
 # EOF
-";
+"
+}
 
 // The report, by an independent implementation.
 static WHOLE: Outcome = Sections(&[
@@ -246,12 +249,35 @@ fn message(alloc: Global, cut: Cut, count: usize) -> Result<Text, NoMemory> {
     Text::from_slice(alloc, text.as_bytes())
 }
 
-#[test]
-fn a_cut_file_is_told_where_it_ends_too_early(rt: HostRuntime) -> Result<(), Fail> {
-    let mut lines: Vec<&[u8]> = Vec::new(rt.alloc());
-    for line in TRACE.as_bytes().split(|byte| *byte == b'\n') {
+fn lines_of(alloc: Global, text: &[u8]) -> Result<Vec<&[u8]>, NoMemory> {
+    let mut lines = Vec::new(alloc);
+    for line in text.split(|byte| *byte == b'\n') {
         lines.push(line)?;
     }
+    Ok(lines)
+}
+
+// What a run comes to over this many lines.
+fn check_cut(
+    rt: &impl Abort,
+    alloc: Global,
+    kept: &[u8],
+    cut: Cut,
+    count: usize,
+) -> Result<(), Fail> {
+    let wanted = message(alloc, cut, count)?;
+    let (status, sinks) = ran(alloc, kept, &WORDS, steady(64))?;
+    assert!(rt; status == cut.status(), "behind line {count}");
+    assert!(rt;
+        sinks.written(Stream::Messages) == wanted.as_slice(),
+        "behind line {count}"
+    );
+    Ok(())
+}
+
+#[test]
+fn a_cut_file_is_told_where_it_ends_too_early(rt: HostRuntime) -> Result<(), Fail> {
+    let lines = lines_of(rt.alloc(), trace().as_bytes())?;
     let mut kept = Text::new(rt.alloc());
     for (place, line) in lines.iter().enumerate() {
         let Some(next) = lines.get(place.saturating_add(1)) else {
@@ -261,40 +287,46 @@ fn a_cut_file_is_told_where_it_ends_too_early(rt: HostRuntime) -> Result<(), Fai
         kept.push(b'\n')?;
         let count = place.saturating_add(1);
         let cut = cut_of(&lines[..count], next);
-        let (status, sinks) = ran(rt.alloc(), kept.as_slice(), &WORDS, steady(64))?;
-        assert_eq!(rt; status, cut.status(), "behind line {count}");
-        assert!(rt;
-            sinks.written(Stream::Messages) == message(rt.alloc(), cut, count)?.as_slice(),
-            "behind line {count}"
-        );
+        check_cut(&rt, rt.alloc(), kept.as_slice(), cut, count)?;
     }
     Ok(())
 }
 
 const PIECE: usize = 64;
 
+// What a run comes to where this call reads, or none.
+fn check_read(rt: &impl Abort, alloc: Global, call: u64, fails: bool) -> Result<(), Fail> {
+    let report = WHOLE.report(alloc)?;
+    let calls = Calls {
+        piece: PIECE,
+        failing_reads: &[call],
+        failing_writes: &[],
+    };
+    let (status, sinks) = ran(alloc, trace().as_bytes(), &WORDS, calls)?;
+    let (wanted, told, message) = if fails {
+        (
+            Status::Read,
+            b"".as_slice(),
+            b"daikon: cannot read t\n".as_slice(),
+        )
+    } else {
+        (Status::Done, report.as_slice(), b"".as_slice())
+    };
+    assert!(rt; status == wanted, "at call {call}");
+    assert!(rt; sinks.written(Stream::Report) == told, "at call {call}");
+    assert!(rt;
+        sinks.written(Stream::Messages) == message,
+        "at call {call}"
+    );
+    Ok(())
+}
+
 // One call starts the file, each further one reads a piece, and the last one finds the end.
 #[test]
 fn each_read_that_fails_is_told(rt: HostRuntime) -> Result<(), Fail> {
-    let count = TRACE.len().div_ceil(PIECE) as u64 + 2;
+    let count = trace().len().div_ceil(PIECE) as u64 + 2;
     for call in 1..count + 2 {
-        let calls = Calls {
-            piece: PIECE,
-            failing_reads: &[call],
-            failing_writes: &[],
-        };
-        let (status, sinks) = ran(rt.alloc(), TRACE.as_bytes(), &WORDS, calls)?;
-        if call <= count {
-            assert_eq!(rt; status, Status::Read, "at call {call}");
-            assert!(rt;
-                sinks.written(Stream::Messages) == b"daikon: cannot read t\n".as_slice(),
-                "at call {call}"
-            );
-            assert!(rt; sinks.written(Stream::Report).is_empty(), "at call {call}");
-        } else {
-            assert_eq!(rt; status, Status::Done, "at call {call}");
-            assert!(rt; sinks.written(Stream::Report) == WHOLE.report(rt.alloc())?.as_slice());
-        }
+        check_read(&rt, rt.alloc(), call, call <= count)?;
     }
     Ok(())
 }
@@ -311,29 +343,38 @@ fn writes() -> u64 {
     count
 }
 
+// What a run comes to where this call writes, or none.
+fn check_write(
+    rt: &impl Abort,
+    alloc: Global,
+    report: &[u8],
+    call: u64,
+    fails: bool,
+) -> Result<(), Fail> {
+    let calls = Calls {
+        piece: PIECE,
+        failing_reads: &[],
+        failing_writes: &[call],
+    };
+    let (status, sinks) = ran(alloc, trace().as_bytes(), &WORDS, calls)?;
+    let written = sinks.written(Stream::Report);
+    let wanted = if fails { Status::Write } else { Status::Done };
+    assert!(rt; status == wanted, "at call {call}");
+    assert!(rt; report.starts_with(written), "at call {call}");
+    assert!(rt; fails || written == report, "at call {call}");
+    assert!(rt;
+        sinks.written(Stream::Messages).is_empty(),
+        "at call {call}"
+    );
+    Ok(())
+}
+
 #[test]
 fn each_write_that_fails_leaves_a_front(rt: HostRuntime) -> Result<(), Fail> {
     let report = WHOLE.report(rt.alloc())?;
     let count = writes();
     for call in 1..count.saturating_add(2) {
-        let calls = Calls {
-            piece: PIECE,
-            failing_reads: &[],
-            failing_writes: &[call],
-        };
-        let (status, sinks) = ran(rt.alloc(), TRACE.as_bytes(), &WORDS, calls)?;
-        let written = sinks.written(Stream::Report);
-        assert!(rt; report.as_slice().starts_with(written), "at call {call}");
-        if call <= count {
-            assert_eq!(rt; status, Status::Write, "at call {call}");
-        } else {
-            assert_eq!(rt; status, Status::Done, "at call {call}");
-            assert!(rt; report.as_slice() == written);
-        }
-        assert!(rt;
-            sinks.written(Stream::Messages).is_empty(),
-            "at call {call}"
-        );
+        check_write(&rt, rt.alloc(), report.as_slice(), call, call <= count)?;
     }
     Ok(())
 }

@@ -1,8 +1,7 @@
 // Worked examples: files with the reports or the faults that they come to, in whatever pieces their bytes come.
 use crate::outcomes::Outcome::{Fault, Sections};
-use crate::outcomes::{Outcome, ran, steady};
+use crate::outcomes::{Outcome, Wanted, comes_to};
 use dk_base::Text;
-use dk_io::Stream;
 use std::alloc::Global;
 use std::process::Abort;
 use std::test::Fail;
@@ -351,28 +350,22 @@ fn come_to_their_outcomes(rt: &impl Abort, alloc: Global, cases: &[Case]) -> Res
         for part in *parts {
             bytes.append(part.as_bytes())?;
         }
-        for piece in [1usize, 7, 65536] {
-            assert!(rt; piece > 0);
-            let (status, sinks) = ran(
-                alloc,
-                bytes.as_slice(),
-                &["--min-samples", "1", "t"],
-                steady(piece),
-            )?;
-            assert_eq!(rt; status, outcome.status(), "at {shows}");
-            assert!(rt;
-                sinks.written(Stream::Report) == outcome.report(alloc)?.as_slice(),
-                "the report at {shows}"
-            );
-            assert!(rt;
-                sinks.written(Stream::Messages) == outcome.messages(alloc)?.as_slice(),
-                "the messages at {shows}"
-            );
-            assert!(rt;
-                sinks.written(Stream::State).is_empty(),
-                "the state at {shows}"
-            );
-        }
+        let report = outcome.report(alloc)?;
+        let messages = outcome.messages(alloc)?;
+        let wanted = Wanted {
+            status: outcome.status(),
+            report: report.as_slice(),
+            messages: messages.as_slice(),
+        };
+        let files = [("t", bytes.as_slice())];
+        comes_to(
+            rt,
+            alloc,
+            &files,
+            &["--min-samples", "1", "t"],
+            wanted,
+            shows,
+        )?;
     }
     Ok(())
 }

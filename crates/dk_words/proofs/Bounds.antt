@@ -388,7 +388,7 @@ rules_sound = (
                         free _ refl (λ e. cc),
                         (
                           free _ refl (λ e. cc),
-                          (free _ refl (λ e. cc), tt),
+                          (free _ refl (λ e. cc), (free _ refl (λ e. cc), (free _ refl (λ e. cc), tt))),
                         ),
                       ),
                     ),

@@ -19,6 +19,8 @@ run : request_of (codes "t" ∷ codes "--min-samples" ∷ codes "001" ∷ codes 
   keep_parent = false;
   ignore_missing_entry = false;
   stats = true;
+  save = false;
+  resume = None;
   generate = None;
   files = codes "t" ∷ codes "u" ∷ codes "t" ∷ [];
 }))
@@ -37,6 +39,8 @@ default : request_of [] ≡ Some (Run (record {
   keep_parent = false;
   ignore_missing_entry = false;
   stats = false;
+  save = false;
+  resume = None;
   generate = None;
   files = [];
 }))
@@ -55,11 +59,33 @@ behind : request_of (codes "--select=P" ∷ codes "--keep-parent" ∷ codes "--"
   keep_parent = true;
   ignore_missing_entry = false;
   stats = false;
+  save = false;
+  resume = None;
   generate = None;
   files = codes "--stats" ∷ [];
 }))
 unfolding request_of faults_at matches_at daikon clap_on_literals natural_of
 behind = refl
+
+-- a state to begin with, and one to be written
+resumed : request_of (codes "--resume" ∷ codes "s" ∷ codes "--save" ∷ codes "t" ∷ []) ≡ Some (Run (record {
+  least = 5;
+  every = None;
+  select = None;
+  keep_implied = false;
+  keep_incomparable = false;
+  keep_members = false;
+  keep_constant = false;
+  keep_parent = false;
+  ignore_missing_entry = false;
+  stats = false;
+  save = true;
+  resume = Some (codes "s");
+  generate = None;
+  files = codes "t" ∷ [];
+}))
+unfolding request_of faults_at matches_at daikon clap_on_literals natural_of
+resumed = refl
 
 help : request_of (codes "--help" ∷ []) ≡ Some Help
 unfolding request_of faults_at matches_at daikon clap_on_literals
@@ -97,6 +123,10 @@ too_large = refl
 twice : faults_at (named (codes "--stats" ∷ codes "--stats" ∷ [])) ≡ kind.ArgumentConflict ∷ []
 unfolding faults_at daikon clap_on_literals
 twice = refl
+
+resumed_twice : faults_at (named (codes "--resume" ∷ codes "s" ∷ codes "--resume=s" ∷ [])) ≡ kind.ArgumentConflict ∷ []
+unfolding faults_at daikon clap_on_literals
+resumed_twice = refl
 
 with_value : request_of (codes "--stats=1" ∷ []) ≡ None
 unfolding request_of faults_at matches_at daikon clap_on_literals

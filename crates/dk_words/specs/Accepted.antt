@@ -41,6 +41,8 @@ rules =
     ∷ flag_rule (codes "keep-parent")
     ∷ flag_rule (codes "ignore-missing-entry")
     ∷ flag_rule (codes "stats")
+    ∷ flag_rule (codes "save")
+    ∷ text_rule (codes "resume")
     ∷ number_rule (codes "generate") 0 18446744073709551615
     ∷ files_rule
     ∷ []

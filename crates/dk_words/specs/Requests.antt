@@ -35,6 +35,8 @@ command_of rows = record {
   keep_parent = is_given (codes "keep-parent") rows;
   ignore_missing_entry = is_given (codes "ignore-missing-entry") rows;
   stats = is_given (codes "stats") rows;
+  save = is_given (codes "save") rows;
+  resume = first_of (codes "resume") rows;
   generate = number_at (codes "generate") rows;
   files = unwrap_or (all_of (codes "file") rows) [];
 }

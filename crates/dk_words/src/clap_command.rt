@@ -110,7 +110,9 @@ pub(crate) fn clap_command<'a>(alloc: Global) -> Result<Command<'a>, NoMemory>
     let c8 = with_flag(alloc, c7, "keep-parent")?;
     let c9 = with_flag(alloc, c8, "ignore-missing-entry")?;
     let c10 = with_flag(alloc, c9, "stats")?;
-    let c11 = with_number(alloc, c10, "generate", 0, u64::MAX)?;
-    let c12 = with_files(alloc, c11)?;
-    Ok(c12)
+    let c11 = with_flag(alloc, c10, "save")?;
+    let c12 = with_text(alloc, c11, "resume")?;
+    let c13 = with_number(alloc, c12, "generate", 0, u64::MAX)?;
+    let c14 = with_files(alloc, c13)?;
+    Ok(c14)
 }

@@ -25,6 +25,10 @@ pub struct Command {
     pub ignore_missing_entry: bool,
     /// Whether each report is followed by sizes.
     pub stats: bool,
+    /// Whether the state is written behind the last report.
+    pub save: bool,
+    /// The name of the file with the state that the run begins with; without it the run begins with no samples.
+    pub resume: Option<Word>,
     /// The number that the generated input is made from; without it none is made.
     pub generate: Option<u64>,
     /// The names of the files, in order. One that stands twice is read twice.

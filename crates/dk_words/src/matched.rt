@@ -67,6 +67,7 @@ pub(crate) fn command_of(alloc: Global, matches: &ArgMatches<'_>) -> Result<Comm
     ensures { IfOk result (λ command. command ≡ command_of (rows_of (found_of matches.now))) }
 {
     let select = text_at(alloc, matches, "select")?;
+    let resume = text_at(alloc, matches, "resume")?;
     let files = files_of(alloc, matches)?;
     Ok(Command {
         least: least_of(matches),
@@ -79,6 +80,8 @@ pub(crate) fn command_of(alloc: Global, matches: &ArgMatches<'_>) -> Result<Comm
         keep_parent: is_given(matches, "keep-parent"),
         ignore_missing_entry: is_given(matches, "ignore-missing-entry"),
         stats: is_given(matches, "stats"),
+        save: is_given(matches, "save"),
+        resume,
         generate: number_at(matches, "generate"),
         files,
     })

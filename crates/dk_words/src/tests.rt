@@ -3,7 +3,7 @@ use super::{Command, Request, WordsFault, help_text, read_words, usage_line, ver
 use std::alloc::{AllocError, Global};
 use std::test::Fail;
 
-static REFUSED: [&[&str]; 18] = [
+static REFUSED: [&[&str]; 20] = [
     &["--colour", "t"],
     &["--min-samples", "0", "t"],
     &["--min-samples", "1000000001", "t"],
@@ -19,8 +19,10 @@ static REFUSED: [&[&str]; 18] = [
     &["--stats", "--stats", "t"],
     &["--stats=1", "t"],
     &["-x"],
-    &["--save"],
-    &["--resume", "s"],
+    &["--save", "--save"],
+    &["--save=s"],
+    &["--resume"],
+    &["--resume", "s", "--resume", "s"],
     &["--colour", "--help"],
 ];
 
@@ -44,7 +46,7 @@ static TAKEN: [Taken; 10] = [
     (&["t", "u", "--stats", "t"], 5, &["t", "u", "t"]),
 ];
 
-const WORDS: [&str; 14] = [
+const WORDS: [&str; 16] = [
     "FILE",
     "--min-samples N",
     "--every N",
@@ -56,6 +58,8 @@ const WORDS: [&str; 14] = [
     "--keep-parent",
     "--ignore-missing-entry",
     "--stats",
+    "--save",
+    "--resume NAME",
     "--generate N",
     "-h, --help",
     "-V, --version",
@@ -128,6 +132,8 @@ fn each_word_is_read(rt: HostRuntime) -> Result<(), Fail> {
             "--every",
             "3",
             "--select=",
+            "--resume",
+            "s",
             "--generate",
             "18446744073709551615",
             "t",
@@ -138,6 +144,8 @@ fn each_word_is_read(rt: HostRuntime) -> Result<(), Fail> {
     assert_eq!(rt; command.generate, Some(u64::MAX));
     let prefix = command.select.as_ref().ok_or("no prefix")?;
     assert!(rt; prefix.as_str().is_empty());
+    let state = command.resume.as_ref().ok_or("no state")?;
+    assert_eq!(rt; state.as_str(), "s");
     Ok(())
 }
 
@@ -151,6 +159,7 @@ fn flags_are_read(rt: HostRuntime) -> Result<(), Fail> {
         "--keep-parent",
         "--ignore-missing-entry",
         "--stats",
+        "--save",
     ];
     for (i, flag) in flags.iter().enumerate() {
         let command = command(rt.alloc(), &[*flag])?.ok_or("refused")?;
@@ -162,11 +171,13 @@ fn flags_are_read(rt: HostRuntime) -> Result<(), Fail> {
             command.keep_parent,
             command.ignore_missing_entry,
             command.stats,
+            command.save,
         ];
         for (k, is_given) in given.iter().enumerate() {
             assert_eq!(rt; *is_given, i == k, "{flag}");
         }
         assert!(rt; command.every.is_none() && command.select.is_none());
+        assert!(rt; command.resume.is_none());
     }
     Ok(())
 }

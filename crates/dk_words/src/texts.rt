@@ -3,15 +3,15 @@ ghost use Rattle.std.specs.Prelude.{◌≡◌};
 ghost use Rattle.dk_words.specs.Texts.{help_text, usage_line, version_text};
 
 const USAGE_LINE: &str =
-    "usage: daikon [--min-samples N] [--every N] [--select PREFIX] [--keep-implied] [--keep-incomparable] [--keep-members] [--keep-constant] [--keep-parent] [--ignore-missing-entry] [--stats] [--generate N] [FILE]...\n";
+    "usage: daikon [--min-samples N] [--every N] [--select PREFIX] [--keep-implied] [--keep-incomparable] [--keep-members] [--keep-constant] [--keep-parent] [--ignore-missing-entry] [--stats] [--save] [--resume NAME] [--generate N] [FILE]...\n";
 
 const VERSION_TEXT: &str = "daikon 0.1.0\n";
 
 const HELP_TEXT: &str = "\
 usage: daikon [--min-samples N] [--every N] [--select PREFIX] [--keep-implied]
               [--keep-incomparable] [--keep-members] [--keep-constant]
-              [--keep-parent] [--ignore-missing-entry] [--stats]
-              [--generate N] [FILE]...
+              [--keep-parent] [--ignore-missing-entry] [--stats] [--save]
+              [--resume NAME] [--generate N] [FILE]...
 
 Reads declarations of program points and records of their samples from the
 FILEs, in order, and reports for each point the invariants no sample breaks.
@@ -30,6 +30,10 @@ FILEs, in order, and reports for each point the invariants no sample breaks.
   --keep-parent           print also those that a parent point has
   --ignore-missing-entry  leave out exits without an entry, default refuse them
   --stats                 print behind each report the size of what is kept
+  --save                  write the state behind the last report, to the file
+                          daikon.state, default write none
+  --resume NAME           begin with the state in the file NAME, as --save wrote
+                          it, default with no samples
   --generate N            first read 20000 records of a stack, made from N: 0 to
                           18446744073709551615, default none
   -h, --help              print this text and read nothing
@@ -39,8 +43,8 @@ FILEs, in order, and reports for each point the invariants no sample breaks.
 A value may stand behind = in the same word, as in --every=100. Only FILE may be
 given more than once.
 
-Status: 0 done, 1 a line is refused, 2 the words are refused, 3 a file can't be
-read, 4 the output can't be written, 5 out of memory.
+Status: 0 done, 1 a line or a state is refused, 2 the words are refused, 3 a
+file can't be read, 4 the output can't be written, 5 out of memory.
 
 Examples: daikon --min-samples 1 --select Stack.push stack.dtrace
           daikon --every 1000 --stats stack.decls stack.dtrace

@@ -1,6 +1,6 @@
-use Rattle.std.proofs.Common.{◌≡◌, ◌+◌, rules, sym, subst, ℕ, List, length}
+use Rattle.std.proofs.Common.{◌≡◌, ◌+◌, rules, sym, subst, List, length}
 use Rattle.dk_engine.specs.Levels.{Whole}
-use Rattle.dk_core.proofs.Keeping.{AreGrowing, growing_all, growing_more, growing_none}
+use Rattle.dk_core.proofs.Keeping.{AreGrowing, growing_more, growing_none}
 use Rattle.dk_core.proofs.kept.with_new.Goals as goal
 
 pub loop-place-init : goal.loop-place-init

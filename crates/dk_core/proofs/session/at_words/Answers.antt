@@ -1,4 +1,4 @@
-use Rattle.std.proofs.Common.{Err, Result, sym, subst}
+use Rattle.std.proofs.Common.{Err, sym, subst}
 use Rattle.dk_base.specs.Reading.{Line}
 use Rattle.dk_core.proofs.Fronting.{told_words}
 use Rattle.dk_core.specs.Standing.{block_resumed}

@@ -1,6 +1,6 @@
 use Rattle.std.proofs.Common.{rules, ◌≡◌}
 use Rattle.dk_base.specs.Values.{values_of}
-use Rattle.dk_grammar.proofs.Numbers.{first_changed_by_number}
+use Rattle.dk_grammar.proofs.Numbers.{first_changed_by_number, slots_by_number}
 use Rattle.dk_grammar.proofs.runs.binary_run.Goals as goal
 
 pub returns-in-11-binary_row : goal.returns-in-11-binary_row
@@ -62,6 +62,11 @@ pub returns-in-22-binary_row : goal.returns-in-22-binary_row
 returns-in-22-binary_row g c =
     first_changed_by_number g.S.Slot.vars g.S.Slot.state (values_of c.args.sample.now) c.args.run.now c.first_changed_by-12.result
     c.args.row 22 c.in-22-binary_row.is c.first_changed_by-12.ensures
+
+pub first_changed_by-requires-13-clause-slots : goal.first_changed_by-requires-13-clause-slots
+first_changed_by-requires-13-clause-slots g c =
+    let last : c.args.row.0 ≡ 23 = search rules in
+    slots_by_number g.S.Slot.vars g.S.Slot.state (values_of c.args.sample.now) c.args.run.now c.args.row 23 last c.requires.run
 
 pub returns-in_default : goal.returns-in_default
 returns-in_default g c =

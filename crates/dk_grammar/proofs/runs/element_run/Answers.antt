@@ -1,6 +1,6 @@
 use Rattle.std.proofs.Common.{rules, ◌≡◌}
 use Rattle.dk_base.specs.Values.{values_of}
-use Rattle.dk_grammar.proofs.Numbers.{first_changed_by_number}
+use Rattle.dk_grammar.proofs.Numbers.{first_changed_by_number, slots_by_number}
 use Rattle.dk_grammar.proofs.runs.element_run.Goals as goal
 
 pub returns-in-35-element_row : goal.returns-in-35-element_row
@@ -92,6 +92,11 @@ pub returns-in-55-element_row : goal.returns-in-55-element_row
 returns-in-55-element_row g c =
     first_changed_by_number g.S.Slot.vars g.S.Slot.state (values_of c.args.sample.now) c.args.run.now c.first_changed_by-18.result
     c.args.row 55 c.in-55-element_row.is c.first_changed_by-18.ensures
+
+pub first_changed_by-requires-19-clause-slots : goal.first_changed_by-requires-19-clause-slots
+first_changed_by-requires-19-clause-slots g c =
+    let last : c.args.row.0 ≡ 56 = search rules in
+    slots_by_number g.S.Slot.vars g.S.Slot.state (values_of c.args.sample.now) c.args.run.now c.args.row 56 last c.requires.run
 
 pub returns-in_default : goal.returns-in_default
 returns-in_default g c =

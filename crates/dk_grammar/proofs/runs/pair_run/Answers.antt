@@ -1,6 +1,6 @@
 use Rattle.std.proofs.Common.{rules, ◌≡◌}
 use Rattle.dk_base.specs.Values.{values_of}
-use Rattle.dk_grammar.proofs.Numbers.{first_changed_by_number}
+use Rattle.dk_grammar.proofs.Numbers.{first_changed_by_number, slots_by_number}
 use Rattle.dk_grammar.proofs.runs.pair_run.Goals as goal
 
 pub returns-in-49-pair_row : goal.returns-in-49-pair_row
@@ -67,6 +67,11 @@ pub returns-in-66-pair_row : goal.returns-in-66-pair_row
 returns-in-66-pair_row g c =
     first_changed_by_number g.S.Slot.vars g.S.Slot.state (values_of c.args.sample.now) c.args.run.now c.first_changed_by-13.result
     c.args.row 66 c.in-66-pair_row.is c.first_changed_by-13.ensures
+
+pub first_changed_by-requires-14-clause-slots : goal.first_changed_by-requires-14-clause-slots
+first_changed_by-requires-14-clause-slots g c =
+    let last : c.args.row.0 ≡ 68 = search rules in
+    slots_by_number g.S.Slot.vars g.S.Slot.state (values_of c.args.sample.now) c.args.run.now c.args.row 68 last c.requires.run
 
 pub returns-in_default : goal.returns-in_default
 returns-in_default g c =

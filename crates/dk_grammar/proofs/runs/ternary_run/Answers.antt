@@ -1,6 +1,6 @@
 use Rattle.std.proofs.Common.{rules, ◌≡◌}
 use Rattle.dk_base.specs.Values.{values_of}
-use Rattle.dk_grammar.proofs.Numbers.{first_changed_by_number}
+use Rattle.dk_grammar.proofs.Numbers.{first_changed_by_number, slots_by_number}
 use Rattle.dk_grammar.proofs.runs.ternary_run.Goals as goal
 
 pub returns-in-24-ternary_row : goal.returns-in-24-ternary_row
@@ -57,6 +57,11 @@ pub returns-in-34-ternary_row : goal.returns-in-34-ternary_row
 returns-in-34-ternary_row g c =
     first_changed_by_number g.S.Slot.vars g.S.Slot.state (values_of c.args.sample.now) c.args.run.now c.first_changed_by-11.result
     c.args.row 34 c.in-34-ternary_row.is c.first_changed_by-11.ensures
+
+pub first_changed_by-requires-12-clause-slots : goal.first_changed_by-requires-12-clause-slots
+first_changed_by-requires-12-clause-slots g c =
+    let last : c.args.row.0 ≡ 67 = search rules in
+    slots_by_number g.S.Slot.vars g.S.Slot.state (values_of c.args.sample.now) c.args.run.now c.args.row 67 last c.requires.run
 
 pub returns-in_default : goal.returns-in_default
 returns-in_default g c =

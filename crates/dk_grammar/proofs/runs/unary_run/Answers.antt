@@ -1,6 +1,6 @@
 use Rattle.std.proofs.Common.{rules, ◌≡◌}
 use Rattle.dk_base.specs.Values.{values_of}
-use Rattle.dk_grammar.proofs.Numbers.{first_changed_by_number}
+use Rattle.dk_grammar.proofs.Numbers.{first_changed_by_number, slots_by_number}
 use Rattle.dk_grammar.proofs.runs.unary_run.Goals as goal
 
 pub returns-in-1-unary_row : goal.returns-in-1-unary_row
@@ -47,6 +47,11 @@ pub returns-in-9-unary_row : goal.returns-in-9-unary_row
 returns-in-9-unary_row g c =
     first_changed_by_number g.S.Slot.vars g.S.Slot.state (values_of c.args.sample.now) c.args.run.now c.first_changed_by-9.result
     c.args.row 9 c.in-9-unary_row.is c.first_changed_by-9.ensures
+
+pub first_changed_by-requires-10-clause-slots : goal.first_changed_by-requires-10-clause-slots
+first_changed_by-requires-10-clause-slots g c =
+    let last : c.args.row.0 ≡ 10 = search rules in
+    slots_by_number g.S.Slot.vars g.S.Slot.state (values_of c.args.sample.now) c.args.run.now c.args.row 10 last c.requires.run
 
 pub returns-in_default : goal.returns-in_default
 returns-in_default g c =

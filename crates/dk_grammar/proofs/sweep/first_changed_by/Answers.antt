@@ -4,10 +4,10 @@ use Rattle.dk_grammar.proofs.Sweeping.{all_stay, first_here, it_changes, it_stay
 use Rattle.dk_grammar.specs.Runs.{Stays}
 use Rattle.dk_grammar.proofs.sweep.first_changed_by.Goals as goal
 
-pub stays_over-requires : goal.stays_over-requires
-stays_over-requires g c =
+pub stays_over-requires-clause-slot : goal.stays_over-requires-clause-slot
+stays_over-requires-clause-slot g c =
     slot_read (g.R.Row.kinds c.args.row.now) (g.R.Row.form c.args.row.now) (values_of c.args.sample.now) g.S.Slot.vars g.S.Slot.state c.args.run.now c.loop-place.place c.index-run-place.result
-    (omega arith) c.index-run-place.is c.requires c.vars.result.now c.state.result.now c.vars.ensures c.state.ensures
+    (omega arith) c.index-run-place.is c.requires.slots c.vars.result.now c.state.result.now c.vars.ensures c.state.ensures
 
 pub loop-place-preserved : goal.loop-place-preserved
 loop-place-preserved g c =

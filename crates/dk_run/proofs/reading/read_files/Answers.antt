@@ -1,5 +1,5 @@
-use Rattle.std.proofs.Common.{rules, arith, ap, subst, sym, refl, ◌∙◌, ◌≡◌, ◌≢◌, ◌≤◌, ◌++◌, ◌+◌, ℕ, List, [], length, append_assoc, Ok, Err}
-use Rattle.dk_io.specs.Outside.{HeldFile, Absent, Holds, Rose}
+use Rattle.std.proofs.Common.{rules, arith, ap, subst, sym, refl, ◌∙◌, ◌≡◌, ◌++◌, ◌+◌, ℕ, List, [], length, append_assoc, Err}
+use Rattle.dk_io.specs.Outside.{HeldFile, Rose}
 use Rattle.dk_io.specs.declared.outside.Stream.TheVariants.{Report}
 use Rattle.dk_lines.specs.Reading.{room_of}
 use Rattle.dk_core.specs.Selecting.{SelectsBy}

@@ -5,14 +5,14 @@ use Rattle.dk_core.specs.Standing.{ReportsAlike, SessionStandsFor, blocks_of, ov
 use Rattle.dk_io.specs.declared.outside.Stream.TheVariants.{Report}
 use Rattle.dk_run.specs.AllFiles.{AreReadTo}
 use Rattle.dk_run.specs.Commands.{generated_count, is_selected}
-use Rattle.dk_run.specs.Courses.{standard}
+use Rattle.dk_run.specs.Courses.{line_limit}
 use Rattle.dk_run.specs.Telling.{Added, ReportsBy}
 use Rattle.dk_run.proofs.reading.read_files.Given as goal
 
 abbrev pub invariant-loop-index : goal.invariant-loop-index
 invariant-loop-index g l = record {
   begins : over_of l.session ≡ false;
-  limits : l.lines.limits ≡ standard;
+  limits : l.lines.limits.line ≡ line_limit;
   files : g.I.Inputs.file l.inputs ≡ g.I.Inputs.file l.fn.inputs;
   later : g.I.Inputs.faults l.fn.inputs ≤ g.I.Inputs.faults l.inputs;
   calm : g.S.Sinks.faults l.sinks ≡ g.S.Sinks.faults l.fn.sinks;

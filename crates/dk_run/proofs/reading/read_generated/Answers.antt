@@ -1,4 +1,4 @@
-use Rattle.std.proofs.Common.{rules, ap, sym, refl, [], ◌∙◌, ◌≡◌, subst}
+use Rattle.std.proofs.Common.{rules, sym, [], subst}
 use Rattle.dk_io.specs.declared.outside.Stream.TheVariants.{Report}
 use Rattle.dk_core.specs.Standing.{SessionStandsFor}
 use Rattle.dk_run.specs.AllFiles.{FilesTroubleGives}
@@ -11,7 +11,7 @@ pub returns-in-None-clause-gives : goal.returns-in-None-clause-gives
 returns-in-None-clause-gives g c = record {
   text = [];
   written = sym (added_nothing _ Report);
-  holds = λ file before. none_generated c.args.command.now file before (SessionStandsFor c.args.session) _ _ (search rules) c.requires.stands c.requires.counts c.requires.room;
+  holds = λ file before stands. none_generated c.args.command.now file before (SessionStandsFor c.args.session) _ _ (search rules) stands c.requires.counts;
 }
 
 pub returns-in-Ok-read_text-clause-gives : goal.returns-in-Ok-read_text-clause-gives
@@ -20,8 +20,8 @@ returns-in-Ok-read_text-clause-gives g c =
     record {
       text = told.text;
       written = told.written;
-      holds = λ file before. generated_on c.args.command.now file before c.args.session c.in-Ok-read_text.next c.args.lines.now c.read_text.new.lines c.in-Some.n c.in-Ok.text told.text
-          c.in-Some.is c.in-Ok.ensures c.requires.limits c.requires.stands c.requires.counts c.requires.room told.holds;
+      holds = λ file before stands. generated_on c.args.command.now file before c.args.session c.in-Ok-read_text.next c.args.lines.now c.read_text.new.lines c.in-Some.n c.in-Ok.text told.text
+          c.in-Some.is c.in-Ok.ensures c.requires.limits stands c.requires.counts told.holds;
     }
 
 pub returns-in-Err-read_text-clause-gives : goal.returns-in-Err-read_text-clause-gives
@@ -30,7 +30,7 @@ returns-in-Err-read_text-clause-gives g c =
     record {
       text = told.text;
       written = told.written;
-      holds = λ file before. subst (λ (t : FilesTrouble). FilesTroubleGives c.args.command.now file before told.text t before) (sym c.at_place.ensures)
+      holds = λ file before stands. subst (λ (t : FilesTrouble). FilesTroubleGives c.args.command.now file before told.text t before) (sym c.at_place.ensures)
           (generated_trouble c.args.command.now file before c.args.session c.args.lines.now c.read_text.new.lines c.in-Some.n c.in-Ok.text told.text c.in-Err-read_text.trouble
-          c.in-Some.is c.in-Ok.ensures c.requires.limits c.requires.stands c.requires.counts c.requires.room c.in-Err-read_text.ensures.steady told.holds);
+          c.in-Some.is c.in-Ok.ensures c.requires.limits stands c.requires.counts c.in-Err-read_text.ensures.steady told.holds);
     }

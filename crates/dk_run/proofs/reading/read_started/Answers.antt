@@ -1,4 +1,4 @@
-use Rattle.std.proofs.Common.{rules, subst, sym, ◌∙◌, ◌≡◌, ◌++◌, ℕ, List, [], Bool, true, false, IfSome, Result, Ok, Err, refl, ap}
+use Rattle.std.proofs.Common.{rules, subst, sym, ◌∙◌, ◌≡◌, ◌++◌, [], Bool, true, false, IfSome, Result, Ok, Err, refl, ap}
 use Rattle.dk_lines.specs.Reading.{left_of}
 use Rattle.dk_core.specs.History.{History}
 use Rattle.dk_core.specs.Selecting.{SelectsBy}
@@ -7,7 +7,7 @@ use Rattle.dk_core.specs.Steps.{NextBlock}
 use Rattle.dk_base.specs.declared.faults.Fault.{Fault}
 use Rattle.dk_io.specs.declared.outside.Stream.TheVariants.{Report}
 use Rattle.dk_run.specs.Commands.{is_selected}
-use Rattle.dk_run.specs.WholeFile.{TroubleGives, faulted, halted}
+use Rattle.dk_run.specs.WholeFile.{TroubleGives}
 use Rattle.dk_run.specs.declared.reading.Trouble.{Trouble}
 use Rattle.dk_run.specs.declared.reading.Trouble.TheVariants as t
 use Rattle.dk_run.proofs.Filing.{alike_on, alike_same, counted_end, counted_on, faulted_calm, faulted_read, faulted_started, file_end, file_fault, file_on, file_short, halted_calm, halted_read, halted_started, ignores_by, not_begun, reports_on, same_trouble, short_gives}

@@ -1,4 +1,5 @@
-use Rattle.std.proofs.Common.{◌≡◌, true, false, arith}
+use Rattle.std.proofs.Common.{◌≡◌, true, false, All, arith, subst, sym}
+use Rattle.std.proofs.lemmas.List.Elements.{All-push}
 use Rattle.dk_state.proofs.Going.{all_read, one_read}
 use Rattle.dk_state.proofs.entries.read_all.Goals as goal
 
@@ -12,6 +13,7 @@ entries-preserved g c =
           one_read entry.text_of (entry.fits vars) entry.begins entry.follows (g.met.T.Entry.first vars) (g.met.T.Entry.follow vars) xs rest c.entries.all c.push.new.self
           c.entries.front c.read.new.front c.in_ok-entry.entry all ended last comes c.in_ok-entry.ensures.read
           c.in_ok-push.ensures.ok (c.entries.invariant.read xs rest all ended last is);
+      within = subst (All entry.within) (sym c.in_ok-push.ensures.ok) (All-push entry.within c.entries.all c.in_ok-entry.entry c.entries.invariant.within c.in_ok-entry.ensures.within);
       shorter = omega (arith, c.in_ok-entry.ensures.shorter, c.entries.invariant.shorter);
     }
 

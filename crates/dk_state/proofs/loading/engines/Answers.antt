@@ -6,8 +6,10 @@ use Rattle.std.proofs.lemmas.Result.{err_from_is_err_and}
 use Rattle.dk_engine.specs.Levels.{Whole}
 use Rattle.dk_graph.proofs.Places.{some-injective}
 use Rattle.dk_hierarchy.proofs.TableEngines.{AreFirst, all_engines, one_more}
-use Rattle.dk_state.specs.Loading.{AreLoadedAs, IsEngineAt, IsLoadedAs, blocks}
+use Rattle.dk_state.specs.Loading.{AreLoadedAs, AreSaved, IsEngineAt, IsLoadedAs, blocks}
+use Rattle.dk_state.specs.Spelling.{IsSavedAt, saved_of}
 use Rattle.dk_state.proofs.Blocks.{got_push, loads_err}
+use Rattle.dk_state.proofs.Loads.{more_saved}
 use Rattle.dk_state.proofs.loading.engines.Goals as goal
 
 pub loop-p-preserved : goal.loop-p-preserved
@@ -24,6 +26,7 @@ loop-p-preserved c =
     record {
       first = subst (AreFirst ps g) (sym pushed) (one_more ps g before engine inv.first at);
       long = omega (arith, ap length pushed, length_push before engine, inv.long);
+      saved = subst (AreSaved g ps) (sym pushed) (more_saved g ps before engine inv.saved (subst (λ n. IsSavedAt g ps n (saved_of engine.kept)) (sym inv.long) c.in_ok-engine.ensures.saved));
       read = λ saved as_many each is.
           let so_far = inv.read saved as_many each is in
           let inside : p < length saved = omega (arith, within, as_many) in

@@ -1,11 +1,13 @@
-use Rattle.std.specs.Prelude.{◌≡◌, All}
+use Rattle.std.specs.Prelude.{◌≡◌, All, map}
 use Rattle.std.proofs.Common.{◌∙◌, subst, sym}
 use Rattle.std.proofs.lemmas.Bool.{false≢true}
 use Rattle.std.proofs.lemmas.Slice.Eq.{bytes_eq-Decides}
 use Rattle.dk_engine.specs.Levels.{Whole}
 use Rattle.dk_hierarchy.specs.Standing.{AreEnginesOf}
+use Rattle.dk_state.specs.Saved.{saved_text}
 use Rattle.dk_state.specs.Spelling.{content_of}
 use Rattle.dk_state.proofs.Histories.{content_text, history_meets, loaded_stands, saves_again}
+use Rattle.dk_state.proofs.Loads.{content_loaded, loaded_meets, loaded_text}
 use Rattle.dk_state.proofs.loading.load.Goals as goal
 
 pub returns-else-branch-clause-bad : goal.returns-else-branch-clause-bad
@@ -25,3 +27,14 @@ returns-then-branch-clause-stands c g ps implicit own can text =
       loaded.2,
       loaded_stands g ps implicit own l.engines can (subst (λ points. AreEnginesOf points l.engines) loaded.1 are.0) (subst (λ h. All (λ (e : Whole). e.grammar ≡ h) l.engines) loaded.0 are.1) loaded.3,
     )
+
+pub returns-then-branch-clause-spelling : goal.returns-then-branch-clause-spelling
+returns-then-branch-clause-spelling c =
+    let l = c.in_ok-loaded.loaded in
+    let own = c.in_ok-loaded.ensures in
+    let same = (bytes_eq-Decides (saved_text l.grammar l.points l.implicit (map (λ (e : Whole). e.kept) l.engines)) c.args.bytes.now).0 (sym c.in_ok-saves_to.ensures ∙ c.if-branch.true) in
+    record {
+      content = content_loaded l;
+      meets = loaded_meets l own.table own.engines.0.long own.saved;
+      text = loaded_text l ∙ same;
+    }

@@ -13,7 +13,8 @@ use Rattle.dk_state.specs.Loading.{AreLoadedAs, IsLoaded, blocks}
 use Rattle.dk_state.specs.Saved.{word_of}
 use Rattle.dk_state.specs.Spelling.{IsSavedAt, table_behind}
 use Rattle.dk_state.proofs.Blocks.{loads_err, no_point}
-use Rattle.dk_state.proofs.Tables.{few_made}
+use Rattle.dk_state.proofs.GivenPoints.{all_given}
+use Rattle.dk_state.proofs.Tables.{few_made, own_table}
 use Rattle.dk_state.proofs.loading.read.Goals as goal
 
 abbrev Given : PointDecl → Type 0
@@ -82,3 +83,8 @@ returns-in_err-engines-clause-read c ct meets text =
     λ p own at. subst (λ h. IsSavedAt h c.in_ok-points.points p own) (sym version.0) (subst (λ ps. IsSavedAt ct.grammar ps p own) (sym table) (meets.saved p own at)) in
     let fault = err_from_is_err_and c.from_residual-in_err-engines.result c.from_residual-in_err-engines.ensures.1 in
     rw (fault.1, fault.2) (loads_err (AreLoadedAs g c.in_ok-points.points saved) (IsLoaded ct) c.in_err-engines.field-0.0 (c.in_err-engines.ensures.read saved long each decls.1))
+
+pub returns-clause-table : goal.returns-clause-table
+returns-clause-table c =
+    let ds = c.in_ok-decls.decls in
+    own_table ds c.in_ok-points.points c.in_ok-points.ensures.made (all_given ds c.in_ok-points.ensures.given c.in_ok-decls.ensures.within)

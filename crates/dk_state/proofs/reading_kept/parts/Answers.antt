@@ -4,8 +4,8 @@ use Rattle.dk_state.specs.Kept.{behind_samples, class_line, known_line, pattern_
 use Rattle.dk_state.proofs.KeptLines.{no_class, no_known, no_pattern}
 use Rattle.dk_state.proofs.reading_kept.parts.Goals as goal
 
-pub returns : goal.returns
-returns c saved rest fits is =
+pub returns-clause-read : goal.returns-clause-read
+returns-clause-read c saved rest fits is =
     let classes = flat_map class_line saved.classes in
     let patterns = flat_map pattern_line saved.patterns in
     let known = flat_map known_line saved.known in

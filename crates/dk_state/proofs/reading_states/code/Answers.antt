@@ -8,4 +8,4 @@ use Rattle.dk_state.proofs.reading_states.code.Goals as goal
 pub returns-clause-read : goal.returns-clause-read
 returns-clause-read c h rest small is =
     let value = c.in_ok-value.ensures.read (Hash h) (10 ∷ rest) refl small refl (is ∙ ap (λ t. t ++ 10 ∷ rest) (append-nil (behind_blank (hash_text h)))) in
-    (c.code_in.ensures h value.0, value.1)
+    (c.code_in.ensures.read h value.0, value.1)

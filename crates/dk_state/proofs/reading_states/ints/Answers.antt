@@ -21,4 +21,4 @@ returns-clause-read c ks rest fits is = go ks fits is
         let joined = join_with_byte 32 (map signed_decimal (k ∷ ks)) in
         let plain = joined_plain signed_decimal (λ z. IsTrue (fits_i64 z)) int_plain (k ∷ ks) fits.2 in
         let value = c.in_ok-value.ensures.read (IntSeq (k ∷ ks)) joined rest refl fits.2 plain refl (is ∙ ap (λ t. t ++ 10 ∷ rest) (fields_joined (signed_decimal k) (map signed_decimal ks))) in
-        (c.ints_in.ensures (k ∷ ks) fits.1 value.0, value.1)
+        (c.ints_in.ensures.read (k ∷ ks) fits.0 fits.1 value.0, value.1)

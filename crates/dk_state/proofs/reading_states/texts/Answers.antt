@@ -21,4 +21,4 @@ returns-clause-read c ts rest fits is = go ts fits is
         let joined = join_with_byte 32 (t ∷ ts) in
         let plain : HasNone ends_line joined = subst (λ all. HasNone ends_line (join_with_byte 32 all)) (map-id (t ∷ ts)) (joined_plain (λ s. s) (λ s. IsTrue (is_text s)) text_plain (t ∷ ts) fits.1) in
         let value = c.in_ok-value.ensures.read (StrSeq (t ∷ ts)) joined rest refl fits.1 plain refl (is ∙ ap (λ all. all ++ 10 ∷ rest) (fields_joined t ts)) in
-        (c.texts_in.ensures (t ∷ ts) value.0, value.1)
+        (c.texts_in.ensures.read (t ∷ ts) fits.0 value.0, value.1)

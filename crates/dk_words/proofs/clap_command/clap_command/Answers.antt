@@ -8,8 +8,10 @@ before r a = with_rule a r
 
 pub returns : goal.returns
 unfolding daikon
-returns c = c.in_ok-c12.ensures ∙ ap (before files_rule)
-    (c.in_ok-c11.ensures ∙ ap (before (number_rule (codes "generate") 0 18446744073709551615))
+returns c = c.in_ok-c14.ensures ∙ ap (before files_rule)
+    (c.in_ok-c13.ensures ∙ ap (before (number_rule (codes "generate") 0 18446744073709551615))
+    (c.in_ok-c12.ensures ∙ ap (before (text_rule (codes "resume")))
+    (c.in_ok-c11.ensures ∙ ap (before (flag_rule (codes "save")))
     (c.in_ok-c10.ensures ∙ ap (before (flag_rule (codes "stats")))
     (c.in_ok-c9.ensures ∙ ap (before (flag_rule (codes "ignore-missing-entry")))
     (c.in_ok-c8.ensures ∙ ap (before (flag_rule (codes "keep-parent")))
@@ -19,4 +21,4 @@ returns c = c.in_ok-c12.ensures ∙ ap (before files_rule)
     (c.in_ok-c4.ensures ∙ ap (before (flag_rule (codes "keep-implied")))
     (c.in_ok-c3.ensures ∙ ap (before (text_rule (codes "select")))
     (c.in_ok-c2.ensures ∙ ap (before (number_rule (codes "every") 1 1000000000))
-    (c.in_ok-c1.ensures ∙ ap (before least_rule) c.bare-c0.ensures)))))))))))
+    (c.in_ok-c1.ensures ∙ ap (before least_rule) c.bare-c0.ensures)))))))))))))

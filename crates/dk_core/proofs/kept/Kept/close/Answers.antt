@@ -4,7 +4,7 @@ use Rattle.dk_decl.specs.Outcomes.{FaultAgrees}
 use Rattle.dk_points.specs.Table.{Point}
 use Rattle.dk_trace.specs.Records.{Sample}
 use Rattle.dk_trace.specs.RecordsResumed.{IsOf, record_resumed, shown}
-use Rattle.dk_core.specs.Fitting.{FitAt, ReadsFitting}
+use Rattle.dk_core.specs.Fitting.{ReadsFitting}
 use Rattle.dk_core.specs.Keeping.{Keeping}
 use Rattle.dk_core.specs.History.{History, Taken, with_record}
 use Rattle.dk_core.specs.Standing.{Closes, Fits, Stands, StateFits, block_resumed, left_with_answer, resumed_by}
@@ -37,7 +37,7 @@ unfolding block_resumed
 returns-in-Front-clause-closes c h stands =
     let now : History = record h { header = c.args.block.now.header } in
     let points : c.self.inside.points ≡ c.args.self.now.points = ap (λ (k : Keeping). k.points) c.self.view_is in
-    let held = with_header c.args.self.now _ h c.args.block.now.header stands points refl (ap (λ (k : Keeping). k.calls) c.self.view_is) (ap (λ (k : Keeping). k.engines) c.self.view_is) in
+    let held = with_header c.args.self.now _ h c.args.block.now.header stands points refl (ap (λ (k : Keeping). k.calls) c.self.view_is) (ap (λ (k : Keeping). k.engines) c.self.view_is) (ap (λ (k : Keeping). k.grammar) c.self.view_is) in
     rw c.in-Front.is (c.without_record.ensures now held c.args.number)
 
 pub returns-in-Declaration-clause-closes : goal.returns-in-Declaration-clause-closes
@@ -45,7 +45,7 @@ unfolding block_resumed
 returns-in-Declaration-clause-closes c h stands =
     let now : History = record h { header = c.args.block.now.header } in
     let points : c.self.inside.points ≡ c.args.self.now.points = ap (λ (k : Keeping). k.points) c.self.view_is in
-    let held = with_header c.args.self.now _ h c.args.block.now.header stands points refl (ap (λ (k : Keeping). k.calls) c.self.view_is) (ap (λ (k : Keeping). k.engines) c.self.view_is) in
+    let held = with_header c.args.self.now _ h c.args.block.now.header stands points refl (ap (λ (k : Keeping). k.calls) c.self.view_is) (ap (λ (k : Keeping). k.engines) c.self.view_is) (ap (λ (k : Keeping). k.grammar) c.self.view_is) in
     c.declaration_end.ensures.closes c.args.ignores now held
 
 pub returns-in-Implementors-clause-closes : goal.returns-in-Implementors-clause-closes
@@ -53,7 +53,7 @@ unfolding block_resumed
 returns-in-Implementors-clause-closes c h stands =
     let now : History = record h { header = c.args.block.now.header } in
     let points : c.self.inside.points ≡ c.args.self.now.points = ap (λ (k : Keeping). k.points) c.self.view_is in
-    let held = with_header c.args.self.now _ h c.args.block.now.header stands points refl (ap (λ (k : Keeping). k.calls) c.self.view_is) (ap (λ (k : Keeping). k.engines) c.self.view_is) in
+    let held = with_header c.args.self.now _ h c.args.block.now.header stands points refl (ap (λ (k : Keeping). k.calls) c.self.view_is) (ap (λ (k : Keeping). k.engines) c.self.view_is) (ap (λ (k : Keeping). k.grammar) c.self.view_is) in
     (now, held, ap (λ (s : State). resumed_by c.args.ignores now s [] (Some c.args.number)) c.in-Implementors.is)
 
 pub returns-in-Ok-clause-closes : goal.returns-in-Ok-clause-closes
@@ -61,7 +61,7 @@ unfolding block_resumed Stands
 returns-in-Ok-clause-closes c h stands =
     let now : History = record h { header = c.args.block.now.header } in
     let points : c.self.inside.points ≡ c.args.self.now.points = ap (λ (k : Keeping). k.points) c.self.view_is in
-    let held = with_header c.args.self.now _ h c.args.block.now.header stands points refl (ap (λ (k : Keeping). k.calls) c.self.view_is) (ap (λ (k : Keeping). k.engines) c.self.view_is) in
+    let held = with_header c.args.self.now _ h c.args.block.now.header stands points refl (ap (λ (k : Keeping). k.calls) c.self.view_is) (ap (λ (k : Keeping). k.engines) c.self.view_is) (ap (λ (k : Keeping). k.grammar) c.self.view_is) in
     subst (λ (r : Result Taken LineFault). Closes (left_with_answer c.with_record.new.self c.with_record.result) r)
     (sym (ap (λ (s : State). resumed_by c.args.ignores now s [] (Some c.args.number)) c.in-Record.is
     ∙ ap (λ (r : Result Sample LineFault). r >>= λ s. with_record c.args.ignores now s)

@@ -1,4 +1,4 @@
-use Rattle.std.proofs.Common.{ap, arith, sym, subst}
+use Rattle.std.proofs.Common.{arith, sym, subst}
 use Rattle.dk_core.proofs.Declaring.{declaration_closes, sound_grown}
 use Rattle.dk_core.proofs.Growing.{declared_points, more_points}
 use Rattle.dk_core.proofs.Keeping.{declared_told}

@@ -1,4 +1,4 @@
-use Rattle.std.proofs.Common.{◌≡◌, ◌<◌, ◌∙◌, ap, arith, length, slice_get, sym, subst, List, Some}
+use Rattle.std.proofs.Common.{◌≡◌, ◌∙◌, ap, arith, length, slice_get, sym, subst, Some}
 use Rattle.dk_engine.specs.Levels.{Whole}
 use Rattle.dk_core.proofs.Keeping.{all_get}
 use Rattle.dk_core.proofs.Recording.{engine_stands, got}

@@ -1,6 +1,4 @@
-use Rattle.std.proofs.Common.{◌≡◌, ◌<◌, ◌++◌, IfOk, ap, arith, length, sym, subst}
-use Rattle.dk_report.specs.Sizes.{stats_of as stats_in}
-use Rattle.dk_template.specs.declared.grammar.Grammar.{Grammar}
+use Rattle.std.proofs.Common.{◌≡◌, ◌<◌, ap, arith, length, sym, subst}
 use Rattle.dk_core.proofs.Asking.{asked, grammar_is, if_ok_map, on_ok_if, stats_told}
 use Rattle.dk_core.specs.Keeping.{Keeping}
 use Rattle.dk_core.specs.Standing.{Stands}
@@ -18,7 +16,5 @@ returns-clause-text c h stands =
     let own : Stands k h = subst (λ (x : Keeping). Stands x h) (sym c.self.view_is) stands in
     let points : c.self.inside.points ≡ c.args.self.now.points = ap (λ (x : Keeping). x.points) c.self.view_is in
     let within : c.args.p.0 < length k.points = omega (arith, c.requires, ap length points) in
-    let grammar : c.self.inside.grammar ≡ c.args.self.now.grammar = ap (λ (x : Keeping). x.grammar) c.self.view_is in
-    subst (λ (g : Grammar). IfOk c.push_stats.result (λ x. c.push_stats.new.text ≡ c.args.text.now ++ stats_in g h.table h.samples c.args.p.0)) grammar
     (on_ok_if c.push_stats.result _ _ c.push_stats.ensures.text
     (λ says. stats_told k h c.args.p.0 c.args.text.now c.push_stats.new.text _ own (grammar_is k c.as_slice.result.now c.args.p.0 c.self.invariant c.as_slice.ensures.value within) (says h.samples (asked k c.as_slice.result.now h own c.as_slice.ensures.value))))

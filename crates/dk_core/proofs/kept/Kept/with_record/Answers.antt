@@ -1,14 +1,13 @@
-use Rattle.std.proofs.Common.{◌≡◌, ◌<◌, ◌∙◌, ap, arith, length, slice_get, subst, sym, Bool, List, Result, Some}
+use Rattle.std.proofs.Common.{◌≡◌, ◌<◌, ap, arith, length, slice_get, subst, sym, Bool, List, Result, Some}
 use Rattle.dk_base.specs.Values.{values_of}
 use Rattle.dk_base.specs.declared.faults.BlockFault.{BlockFault}
-use Rattle.dk_base.specs.declared.values.Value.{Value}
 use Rattle.dk_points.specs.Table.{Point}
 use Rattle.dk_trace.specs.Records.{Sample}
 use Rattle.dk_trace.specs.RecordsResumed.{shown}
 use Rattle.dk_core.proofs.Recording.{base_given, engine_derived, fed_with, got, record_closes, record_refused, sound_fed}
 use Rattle.dk_core.specs.Fitting.{FitAt}
 use Rattle.dk_core.specs.History.{with_record}
-use Rattle.dk_core.specs.Keeping.{IsSound, Keeping}
+use Rattle.dk_core.specs.Keeping.{Keeping}
 use Rattle.dk_core.specs.Standing.{Closes, Stands, left_with_answer}
 use Rattle.dk_core.proofs.kept.Kept.with_record.Goals as goal
 use Rattle.dk_core.proofs.kept.Kept.with_record.Goals.{in-Ok-feed, in-Err-feed}

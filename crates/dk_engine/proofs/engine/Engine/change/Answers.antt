@@ -3,6 +3,7 @@ use Rattle.std.proofs.Common.{ap, rules, subst, sym, ◌∙◌}
 use Rattle.dk_base.specs.Values.{values_of}
 use Rattle.dk_classes.specs.Leaders.{own_leaders}
 use Rattle.dk_fits.specs.Laws.{IsSample}
+use Rattle.dk_presence.proofs.Refining.{refined_none}
 use Rattle.dk_presence.specs.Patterns.{capped, present_in}
 use Rattle.dk_presence.specs.Steps.{refined, with_sample_of}
 use Rattle.dk_presence.specs.declared.held.Held.{Held}
@@ -10,7 +11,7 @@ use Rattle.dk_engine.proofs.Emptied.{parts, patterns_out, same_parts}
 use Rattle.dk_engine.proofs.Leaving.{left_formed}
 use Rattle.dk_engine.proofs.StillFed.{can_be_fed_after}
 use Rattle.dk_engine.specs.Conditions.{CanBeFed}
-use Rattle.dk_engine.specs.Feeding.{IsTurned, read_after, unturned}
+use Rattle.dk_engine.specs.Feeding.{IsTurned, parts_after, read_after, unturned}
 use Rattle.dk_engine.specs.Levels.{Whole}
 use Rattle.dk_engine.specs.Narrow.{AreChanges, left_of, outcome}
 use Rattle.dk_engine.specs.declared.slot.Slot.{Slot}
@@ -35,11 +36,31 @@ invariant_of-self-2 c =
     let changes : AreChanges made e.kept.slots c.args.changes.all =
     subst (λ (w : Whole). AreChanges (outcome asked (read_after w.kept sample) sample) w.kept.slots c.args.changes.all) (sym c.self.view_is) c.requires.changes in
     let number : c.saturating_add-self-inside.result ≡ capped (e.kept.samples + 1) = search rules in
-    let held : c.in_ok-held.held ≡ with_sample_of (present_in (own_leaders e.kept.leaders) sample) (map (refined []) e.kept.held) = search rules in
+    let more = with_sample_of (present_in (own_leaders e.kept.leaders) sample) in
+    let counted : c.count_sample.new.self ≡ more c.replace-held.result = search rules in
+    let held : c.count_sample.new.self ≡ more (map (refined []) e.kept.held) = counted ∙ ap more (c.replace-held.ensures.value ∙ sym (refined_none e.kept.held)) in
     let was : c.replace-slots.result ≡ e.kept.slots = c.replace-slots.ensures.value in
     let slots : c.changed.result ≡ left = c.changed.ensures made (subst (λ (ss : List Slot). AreChanges made ss c.args.changes.all) (sym was) changes) ∙ ap (left_of made) was in (
       c.self.invariant.0,
       subst (CanBeFed e.grammar e.infos)
-          (sym (same_parts e.kept.leaders e.kept.known c.saturating_add-self-inside.result (capped (e.kept.samples + 1)) c.in_ok-held.held (with_sample_of (present_in (own_leaders e.kept.leaders) sample) (map (refined []) e.kept.held)) c.changed.result left number held slots))
+          (sym (same_parts e.kept.leaders e.kept.known c.saturating_add-self-inside.result (capped (e.kept.samples + 1)) c.count_sample.new.self (with_sample_of (present_in (own_leaders e.kept.leaders) sample) (map (refined []) e.kept.held)) c.changed.result left number held slots))
           (can_be_fed_after e.grammar e.infos c.self.invariant.0 e.kept c.self.invariant.1 sample sampled now turned left (left_formed e.grammar e.infos e.kept c.self.invariant.1 sample sampled asked (read_after e.kept sample))),
     )
+
+pub returns-clause-kept : goal.returns-clause-kept
+returns-clause-kept c =
+    let e = c.self.inside in
+    let sample = values_of c.args.sample.now in
+    let asked = c.args.changes.asked in
+    let made = outcome asked (read_after e.kept sample) sample in
+    let left = left_of made e.kept.slots in
+    let changes : AreChanges made e.kept.slots c.args.changes.all =
+    subst (λ (w : Whole). AreChanges (outcome asked (read_after w.kept sample) sample) w.kept.slots c.args.changes.all) (sym c.self.view_is) c.requires.changes in
+    let number : c.saturating_add-self-inside.result ≡ capped (e.kept.samples + 1) = search rules in
+    let more = with_sample_of (present_in (own_leaders e.kept.leaders) sample) in
+    let counted : c.count_sample.new.self ≡ more c.replace-held.result = search rules in
+    let held : c.count_sample.new.self ≡ more (map (refined []) e.kept.held) = counted ∙ ap more (c.replace-held.ensures.value ∙ sym (refined_none e.kept.held)) in
+    let was : c.replace-slots.result ≡ e.kept.slots = c.replace-slots.ensures.value in
+    let slots : c.changed.result ≡ left = c.changed.ensures made (subst (λ (ss : List Slot). AreChanges made ss c.args.changes.all) (sym was) changes) ∙ ap (left_of made) was in
+    same_parts e.kept.leaders e.kept.known c.saturating_add-self-inside.result (capped (e.kept.samples + 1)) c.count_sample.new.self (more (map (refined []) e.kept.held)) c.changed.result left number held slots
+    ∙ ap (λ (w : Whole). parts_after w.kept.samples w.kept.held sample (unturned w.kept) (left_of (outcome asked (read_after w.kept sample) sample) w.kept.slots)) c.self.view_is

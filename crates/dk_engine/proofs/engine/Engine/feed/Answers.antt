@@ -1,13 +1,13 @@
 use Rattle.std.specs.Prelude.{◌≡◌, ◌<◌, ◌++◌, ◌∷◌, ℕ, [], All, List, true, false, filter, length}
 use Rattle.std.specs.List.{list_any}
-use Rattle.std.proofs.Common.{get_or, subst, sym, ◌∙◌, ap}
+use Rattle.std.proofs.Common.{get_or, subst, sym, ◌∙◌, ap, arith}
 use Rattle.std.proofs.lemmas.List.Elements.{All-contains, All-weaker, Contains-get_or}
 use Rattle.std.proofs.lemmas.Result.{IfOk-weaker}
 use Rattle.dk_base.specs.Values.{values_of}
 use Rattle.dk_base.specs.declared.values.Value.{Value}
 use Rattle.dk_fits.proofs.Members.{contained, is_in, of_filter, of_map}
 use Rattle.dk_forms.specs.declared.states.State.{State}
-use Rattle.dk_engine.proofs.Fed.{fed_parts_exact}
+use Rattle.dk_engine.proofs.Fed.{fed_parts_exact, first_parts_exact}
 use Rattle.dk_engine.proofs.Opened.{merged_parts_exact}
 use Rattle.dk_engine.proofs.Settling.{settled_parts_exact}
 use Rattle.dk_engine.specs.Exact.{AreSamples, IsKeptOf}
@@ -40,14 +40,15 @@ lost-requires c =
     let P : Change → Type 0 = λ d. d.place < length w.kept.slots in
     subst (λ (ds : List Change). All P ds) (sym c.as_slice-2.ensures) (All-weaker (IsChange made w.kept.slots) P (λ d is. is.within) changes c.in_ok-changes-2.ensures.each)
 
-pub is_swept-requires : goal.is_swept-requires
-is_swept-requires c =
+pub are_many-requires : goal.are_many-requires
+are_many-requires c =
     let w : Whole = c.args.self.now in
     let sample = values_of c.args.sample.now in
     let made = outcome true (read_after w.kept sample) sample in
     let changes = c.in_ok-changes-2.changes in
     let lost : c.in_ok-lost.lost ≡ lost_places w.kept.slots changes = lost_of w.kept.slots c.as_slice-2.result.now changes c.in_ok-lost.lost c.as_slice-2.ensures c.in_ok-lost.ensures in
-    subst (All (λ k. k < length w.kept.slots)) (sym (c.as_slice-3.ensures ∙ lost)) (lost_within made w.kept.slots changes c.in_ok-changes-2.ensures.each)
+    subst (λ (ss : List Slot). All (λ k. k < length ss) c.as_slice-3.result.now) (sym c.slots-2.ensures)
+    (subst (All (λ k. k < length w.kept.slots)) (sym (c.as_slice-3.ensures ∙ lost)) (lost_within made w.kept.slots changes c.in_ok-changes-2.ensures.each))
 
 pub opened-requires-clause-within : goal.opened-requires-clause-within
 opened-requires-clause-within c =
@@ -71,17 +72,17 @@ step-requires-clause-within c =
 abbrev With : Whole → List Value → Kept → Type 0
 With w sample after = (samples : List (List Value)) → AreSamples w.infos samples → IsKeptOf w.grammar w.infos samples w.kept → IsKeptOf w.grammar w.infos (samples ++ sample ∷ []) after
 
-pub returns-then-is_swept-clause-stands : goal.returns-then-is_swept-clause-stands
-returns-then-is_swept-clause-stands c =
+pub returns-then-are_many-clause-stands : goal.returns-then-are_many-clause-stands
+returns-then-are_many-clause-stands c =
     let w : Whole = c.args.self.now in
     let sample = values_of c.args.sample.now in
     let now = c.in_ok-now.now in
-    let after = c.set_parts.new.self.kept in
-    IfOk-weaker c.set_parts.result (λ (u : Unit {0}). after ≡ parts_after w.kept.samples w.kept.held sample now c.in_ok-slots.slots) (λ (u : Unit {0}). With w sample after)
+    let after = c.set_parts-then-are_many.new.self.kept in
+    IfOk-weaker c.set_parts-then-are_many.result (λ (u : Unit {0}). after ≡ parts_after w.kept.samples w.kept.held sample now c.in_ok-slots.slots) (λ (u : Unit {0}). With w sample after)
     (λ u h samples all is. fed_parts_exact w.grammar w.infos c.is_settled.ensures.point samples all w.kept is sample c.requires now after (record {
       turned = c.in_ok-now.ensures;
       parts = h ∙ ap (parts_after w.kept.samples w.kept.held sample now) c.in_ok-slots.ensures.exact;
-    })) c.set_parts.ensures.kept
+    })) c.set_parts-then-are_many.ensures.kept
 
 pub returns-clause-stands : goal.returns-clause-stands
 returns-clause-stands c =
@@ -90,7 +91,9 @@ returns-clause-stands c =
     let changes = c.in_ok-changes-2.changes in
     let lost : c.in_ok-lost.lost ≡ lost_places w.kept.slots changes = lost_of w.kept.slots c.as_slice-2.result.now changes c.in_ok-lost.lost c.as_slice-2.ensures c.in_ok-lost.ensures in
     let now = c.in_ok-now.now in
-    let some : 0 < w.kept.samples = c.is_swept.ensures c.if-is_swept.false in
+    let same : c.self.inside.kept.samples ≡ w.kept.samples = ap (λ (v : Whole). v.kept.samples) c.self.view_is in
+    let later : w.kept.samples ≡ 0 → ⊥ = λ e. c.if-self-eq0.false (same ∙ e) in
+    let some : 0 < w.kept.samples = omega (arith, later) in
     let asked = c.as_slice-5.result.now in
     let is_lost : asked ≡ lost_places w.kept.slots changes = c.as_slice-5.ensures ∙ lost in
     let after = c.step.new.self.kept in
@@ -113,3 +116,16 @@ returns-then-not-lose_some-clause-stands c =
     (λ u h samples all is.
     subst (IsKeptOf w.grammar w.infos (samples ++ sample ∷ [])) (sym h)
     (settled_parts_exact w.grammar w.infos c.is_settled.ensures.point samples all w.kept is sample c.requires some turned changes.asked changes.all c.in_ok-changes.ensures.changes c.in_ok-changes.ensures.unasked none)) c.change.ensures.kept
+
+pub returns-then-self-eq0-clause-stands : goal.returns-then-self-eq0-clause-stands
+returns-then-self-eq0-clause-stands c =
+    let w : Whole = c.args.self.now in
+    let sample = values_of c.args.sample.now in
+    let now = c.in_ok-now.now in
+    let after = c.set_parts.new.self.kept in
+    let same : c.self.inside.kept.samples ≡ w.kept.samples = ap (λ (v : Whole). v.kept.samples) c.self.view_is in
+    let first : w.kept.samples ≡ 0 = sym same ∙ c.if-self-eq0.true in
+    IfOk-weaker c.set_parts.result (λ (u : Unit {0}). after ≡ parts_after w.kept.samples w.kept.held sample now c.new-none.result) (λ (u : Unit {0}). With w sample after)
+    (λ u h samples all is.
+    subst (IsKeptOf w.grammar w.infos (samples ++ sample ∷ [])) (sym (h ∙ ap (parts_after w.kept.samples w.kept.held sample now) c.new-none.ensures))
+    (first_parts_exact w.grammar w.infos c.is_settled.ensures.point samples all w.kept is sample now c.in_ok-now.ensures first)) c.set_parts.ensures.kept

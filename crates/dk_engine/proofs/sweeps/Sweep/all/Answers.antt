@@ -3,14 +3,14 @@ use Rattle.std.proofs.Common.{ap, ◌∙◌, arith}
 use Rattle.dk_template.specs.Templates.{rows_in}
 use Rattle.dk_template.specs.declared.grammar.RowId.{RowId}
 use Rattle.dk_engine.proofs.Spread.{row_more, rows_all}
-use Rattle.dk_engine.specs.Feeding.{slots_of, slots_of_row}
+use Rattle.dk_engine.specs.Feeding.{read_after, slots_of, slots_of_row}
 use Rattle.dk_engine.specs.declared.slot.Slot.{Slot}
 use Rattle.dk_engine.proofs.sweeps.Sweep.all.Goals as goal
 
 pub loop-n-preserved : goal.loop-n-preserved
-loop-n-preserved g c =
+loop-n-preserved c =
     let s = c.args.self.now in
-    let F : RowId → List Slot = slots_of_row s.infos.now c.args.leaders.now s.known.now (g.A.Answers.answered s.answers.now) in
+    let F : RowId → List Slot = slots_of_row s.infos.now c.args.leaders.now s.known.now (read_after s.answers.now.whole.kept s.answers.now.sample) in
     let test = c.loop-n-test.true in
     let last = c.rows-n-end.ensures in
     let within : c.loop-n.n < rows_in c.args.grammar = omega (arith, test, last) in
@@ -18,9 +18,9 @@ loop-n-preserved g c =
 
 pub returns : goal.returns
 unfolding slots_of
-returns g c =
+returns c =
     let s = c.args.self.now in
-    let F : RowId → List Slot = slots_of_row s.infos.now c.args.leaders.now s.known.now (g.A.Answers.answered s.answers.now) in
+    let F : RowId → List Slot = slots_of_row s.infos.now c.args.leaders.now s.known.now (read_after s.answers.now.whole.kept s.answers.now.sample) in
     let test = c.loop-n-test.false in
     let last = c.rows-n-end.ensures in
     let past : rows_in c.args.grammar ≤ c.loop-n.n = omega (arith, test, last) in

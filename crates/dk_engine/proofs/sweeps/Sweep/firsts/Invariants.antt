@@ -1,6 +1,7 @@
 use Rattle.std.specs.Prelude.{◌≡◌, ◌++◌, take}
+use Rattle.dk_engine.specs.Feeding.{read_after}
 use Rattle.dk_engine.specs.Sweeps.{firsts}
 use Rattle.dk_engine.proofs.sweeps.Sweep.firsts.Given as goal
 
 abbrev pub invariant-loop-v : goal.invariant-loop-v
-invariant-loop-v g l = l.slots ≡ l.initial.slots ++ firsts l.self.infos.now l.self.known.now (g.A.Answers.answered l.self.answers.now) l.row (take l.v-index l.first)
+invariant-loop-v l = l.slots ≡ l.initial.slots ++ firsts l.self.infos.now l.self.known.now (read_after l.self.answers.now.whole.kept l.self.answers.now.sample) l.row (take l.v-index l.first)

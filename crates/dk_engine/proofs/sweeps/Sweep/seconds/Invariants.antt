@@ -1,6 +1,7 @@
 use Rattle.std.specs.Prelude.{◌≡◌, ◌++◌, take}
+use Rattle.dk_engine.specs.Feeding.{read_after}
 use Rattle.dk_engine.specs.Sweeps.{seconds}
 use Rattle.dk_engine.proofs.sweeps.Sweep.seconds.Given as goal
 
 abbrev pub invariant-loop-w : goal.invariant-loop-w
-invariant-loop-w g l = l.slots ≡ l.initial.slots ++ seconds l.self.infos.now l.self.known.now (g.A.Answers.answered l.self.answers.now) l.row l.v (take l.w-index l.second)
+invariant-loop-w l = l.slots ≡ l.initial.slots ++ seconds l.self.infos.now l.self.known.now (read_after l.self.answers.now.whole.kept l.self.answers.now.sample) l.row l.v (take l.w-index l.second)

@@ -1,13 +1,14 @@
 use Rattle.std.specs.Prelude.{◌≡◌, ◌++◌}
 use Rattle.std.proofs.Common.{ap, ◌∙◌, append_assoc}
 use Rattle.std.proofs.lemmas.Result.{IfOk-weaker}
+use Rattle.dk_engine.specs.Feeding.{read_after}
 use Rattle.dk_engine.specs.Sweeps.{threes_with_one, triples}
 use Rattle.dk_engine.proofs.sweeps.Sweep.threes_with_one.Goals as goal
 
 pub returns : goal.returns
-returns g c =
+returns c =
     let s = c.args.self.now in
-    let answered = g.A.Answers.answered s.answers.now in
+    let answered = read_after s.answers.now.whole.kept s.answers.now.sample in
     let row = c.args.row in
     let of = c.args.of.now in
     let before = c.args.before.now in

@@ -6,14 +6,15 @@ use Rattle.dk_template.specs.Templates.{rows_in}
 use Rattle.dk_template.specs.declared.grammar.RowId.{RowId}
 use Rattle.dk_engine.proofs.Spread.{row_more, rows_all}
 use Rattle.dk_engine.proofs.Swept.{none_touched}
+use Rattle.dk_engine.specs.Feeding.{read_after}
 use Rattle.dk_engine.specs.Sweeps.{touched_slots, with_one}
 use Rattle.dk_engine.specs.declared.slot.Slot.{Slot}
 use Rattle.dk_engine.proofs.sweeps.Sweep.touched.Goals as goal
 
 pub loop-n-preserved : goal.loop-n-preserved
-loop-n-preserved g c =
+loop-n-preserved c =
     let s = c.args.self.now in
-    let F : RowId → List Slot = λ row. with_one s.infos.now s.known.now (g.A.Answers.answered s.answers.now) row c.args.touching.now c.args.others.now c.args.leaders.now in
+    let F : RowId → List Slot = λ row. with_one s.infos.now s.known.now (read_after s.answers.now.whole.kept s.answers.now.sample) row c.args.touching.now c.args.others.now c.args.leaders.now in
     let test = c.loop-n-test.true in
     let last = c.rows-n-end.ensures in
     let within : c.loop-n.n < rows_in c.args.grammar = omega (arith, test, last) in
@@ -21,9 +22,9 @@ loop-n-preserved g c =
 
 pub returns : goal.returns
 unfolding touched_slots
-returns g c =
+returns c =
     let s = c.args.self.now in
-    let F : RowId → List Slot = λ row. with_one s.infos.now s.known.now (g.A.Answers.answered s.answers.now) row c.args.touching.now c.args.others.now c.args.leaders.now in
+    let F : RowId → List Slot = λ row. with_one s.infos.now s.known.now (read_after s.answers.now.whole.kept s.answers.now.sample) row c.args.touching.now c.args.others.now c.args.leaders.now in
     let test = c.loop-n-test.false in
     let last = c.rows-n-end.ensures in
     let past : rows_in c.args.grammar ≤ c.loop-n.n = omega (arith, test, last) in
@@ -34,10 +35,10 @@ none [] e = refl
 none (v ∷ vars) e = absurd (omega (arith, e))
 
 pub returns-then-is_empty : goal.returns-then-is_empty
-returns-then-is_empty g c =
+returns-then-is_empty c =
     let s = c.args.self.now in
     let touching = c.args.touching.now in
-    let answered = g.A.Answers.answered s.answers.now in
+    let answered = read_after s.answers.now.whole.kept s.answers.now.sample in
     let empty : touching ≡ [] = none touching (eqb-true (length touching) 0 (sym c.is_empty.ensures ∙ c.if-is_empty.true)) in
     c.new-slots.ensures
     ∙ sym (ap (λ ts. touched_slots c.args.grammar s.infos.now s.known.now answered ts c.args.others.now c.args.leaders.now) empty ∙ none_touched c.args.grammar s.infos.now s.known.now answered c.args.others.now c.args.leaders.now)

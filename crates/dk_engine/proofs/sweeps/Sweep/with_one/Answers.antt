@@ -4,13 +4,14 @@ use Rattle.std.proofs.lemmas.Result.{IfOk-weaker}
 use Rattle.dk_template.specs.Templates.{arity_of}
 use Rattle.dk_template.specs.declared.templates.RowInfo.{RowInfo}
 use Rattle.dk_engine.proofs.Swept.{with_one_role, with_three_roles, with_two_roles}
+use Rattle.dk_engine.specs.Feeding.{read_after}
 use Rattle.dk_engine.specs.Sweeps.{firsts, threes_with_one, twos_with_one, with_one}
 use Rattle.dk_engine.proofs.sweeps.Sweep.with_one.Goals as goal
 
 pub returns-then-arity-eq1 : goal.returns-then-arity-eq1
-returns-then-arity-eq1 g c =
+returns-then-arity-eq1 c =
     let s = c.args.self.now in
-    let answered = g.A.Answers.answered s.answers.now in
+    let answered = read_after s.answers.now.whole.kept s.answers.now.sample in
     let row = c.args.row in
     let of = c.args.of.now in
     let before = c.args.before.now in
@@ -21,9 +22,9 @@ returns-then-arity-eq1 g c =
     (λ more e. e ∙ ap (λ ss. c.args.slots ++ ss) told) c.firsts.ensures
 
 pub returns-then-arity-eq2 : goal.returns-then-arity-eq2
-returns-then-arity-eq2 g c =
+returns-then-arity-eq2 c =
     let s = c.args.self.now in
-    let answered = g.A.Answers.answered s.answers.now in
+    let answered = read_after s.answers.now.whole.kept s.answers.now.sample in
     let row = c.args.row in
     let of = c.args.of.now in
     let before = c.args.before.now in
@@ -34,9 +35,9 @@ returns-then-arity-eq2 g c =
     (λ more e. e ∙ ap (λ ss. c.args.slots ++ ss) told) c.twos_with_one.ensures
 
 pub returns-else-arity-eq2 : goal.returns-else-arity-eq2
-returns-else-arity-eq2 g c =
+returns-else-arity-eq2 c =
     let s = c.args.self.now in
-    let answered = g.A.Answers.answered s.answers.now in
+    let answered = read_after s.answers.now.whole.kept s.answers.now.sample in
     let row = c.args.row in
     let of = c.args.of.now in
     let before = c.args.before.now in

@@ -5,13 +5,14 @@ use Rattle.std.proofs.lemmas.Result.{IfOk-weaker}
 use Rattle.dk_template.specs.Templates.{arity_of}
 use Rattle.dk_template.specs.declared.templates.RowInfo.{RowInfo}
 use Rattle.dk_engine.proofs.Swept.{both_one_role, both_three_roles, both_two_roles}
+use Rattle.dk_engine.specs.Feeding.{read_after}
 use Rattle.dk_engine.specs.Sweeps.{pairs, threes_with_two, with_two}
 use Rattle.dk_engine.proofs.sweeps.Sweep.with_two.Goals as goal
 
 pub returns-then-arity-eq1 : goal.returns-then-arity-eq1
-returns-then-arity-eq1 g c =
+returns-then-arity-eq1 c =
     let s = c.args.self.now in
-    let answered = g.A.Answers.answered s.answers.now in
+    let answered = read_after s.answers.now.whole.kept s.answers.now.sample in
     let row = c.args.row in
     let v = c.args.v in
     let w = c.args.w in
@@ -21,9 +22,9 @@ returns-then-arity-eq1 g c =
     sym (append-nil c.args.slots) ∙ ap (λ ss. c.args.slots ++ ss) told
 
 pub returns-then-arity-eq2 : goal.returns-then-arity-eq2
-returns-then-arity-eq2 g c =
+returns-then-arity-eq2 c =
     let s = c.args.self.now in
-    let answered = g.A.Answers.answered s.answers.now in
+    let answered = read_after s.answers.now.whole.kept s.answers.now.sample in
     let row = c.args.row in
     let v = c.args.v in
     let w = c.args.w in
@@ -34,9 +35,9 @@ returns-then-arity-eq2 g c =
     (λ more e. e ∙ ap (λ ss. c.args.slots ++ ss) told) c.pairs.ensures
 
 pub returns-else-arity-eq2 : goal.returns-else-arity-eq2
-returns-else-arity-eq2 g c =
+returns-else-arity-eq2 c =
     let s = c.args.self.now in
-    let answered = g.A.Answers.answered s.answers.now in
+    let answered = read_after s.answers.now.whole.kept s.answers.now.sample in
     let row = c.args.row in
     let v = c.args.v in
     let w = c.args.w in

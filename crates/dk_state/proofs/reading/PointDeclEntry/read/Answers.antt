@@ -23,3 +23,6 @@ returns-clause-read c d rest fits last is =
     let own_edges = c.in_ok-edges.ensures.read d.edges (vars ++ behind_vars) fits.edges (no_edge d.vars rest) tt ended in
     let own_vars = c.in_ok-vars.ensures.read d.vars behind_vars fits.vars refl (refl, refl) own_edges.1 in
     ((λ i. record { name = name.0 i; edges = own_edges.0 i; vars = own_vars.0 i }), c.pass-3.ensures.read rest own_vars.1)
+
+pub returns-clause-within : goal.returns-clause-within
+returns-clause-within c = record { edges = c.in_ok-edges.ensures.within; vars = c.in_ok-vars.ensures.within }

@@ -1,8 +1,9 @@
-use Rattle.std.specs.Prelude.{◌++◌, ◌∷◌, [], codes, flat_map, refl}
+use Rattle.std.specs.Prelude.{◌++◌, ◌∷◌, [], IsTrue, codes, flat_map, refl}
 use Rattle.std.specs.Fmt.{signed_decimal}
 use Rattle.std.proofs.Common.{◌∙◌, ap, append_assoc, subst, sym, w64}
 use Rattle.std.proofs.lemmas.Int.{to_z-of_z}
 use Rattle.dk_base.specs.Names.{escaped}
+use Rattle.dk_base.specs.Numbers.{fits_i64}
 use Rattle.dk_state.specs.Declarations.{constant_line, constant_text, mapped_line, rep_text, var_line}
 use Rattle.dk_state.specs.Fitting.{FitsConstant}
 use Rattle.dk_state.proofs.DeclaredLines.{no_constant, rep_plain}
@@ -41,3 +42,11 @@ returns-clause-read c v rest fits last is =
       }),
       parents.1,
     )
+
+pub returns-clause-within : goal.returns-clause-within
+returns-clause-within c = record {
+  elem = subst (λ z. IsTrue (fits_i64 z)) (sym (to_z-of_z w64 c.signed-elem.result (record { sfits = c.signed-elem.type_inv }))) c.signed-elem.ensures.within;
+  index = subst (λ z. IsTrue (fits_i64 z)) (sym (to_z-of_z w64 c.signed-index.result (record { sfits = c.signed-index.type_inv }))) c.signed-index.ensures.within;
+  constant = c.in_ok-constant_line.ensures.within;
+  parents = c.in_ok-parents.ensures.within;
+}

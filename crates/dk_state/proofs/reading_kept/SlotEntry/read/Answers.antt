@@ -1,6 +1,7 @@
-use Rattle.std.specs.Prelude.{◌≤◌, ◌++◌, ◌∷◌, length}
+use Rattle.std.specs.Prelude.{◌≤◌, ◌++◌, ◌∷◌, All, length}
 use Rattle.std.specs.Fmt.{decimal}
 use Rattle.std.proofs.Common.{◌∙◌, subst, sym}
+use Rattle.dk_state.specs.Fitting.{FitsPlace}
 use Rattle.dk_state.specs.Lines.{behind_blank, fields_text}
 use Rattle.dk_state.specs.States.{state_fields}
 use Rattle.dk_state.proofs.KeptLines.{leaders_first, slot_onto, vars_text}
@@ -19,3 +20,11 @@ returns-clause-read c s rest fits last is =
     let both = tuple.0 ∙ list in
     let state = c.in_ok-state.ensures.read s.state rest fits.state (tuple.1 ∙ leaders.1) in
     ((λ i. record { row = row.0 i; leaders = both i; state = state.0 i }), c.pass-2.ensures.read rest state.1)
+
+pub returns-clause-within : goal.returns-clause-within
+returns-clause-within c = record {
+  row = c.row-row.ensures.within;
+  few = c.tuple-leaders.ensures.few;
+  leaders = c.tuple-leaders.ensures.within (subst (All FitsPlace) (sym c.as_slice.ensures) c.in_ok-leaders.ensures.within);
+  state = c.in_ok-state.ensures.within;
+}

@@ -1,0 +1,73 @@
+-- What is kept of a state, and what state is saved of it.
+use Rattle.std.proofs.Common.{◌≡◌, ◌∙◌, ◌++◌, All, Bool, false, List, [], ℕ, Result, Ok, Err, refl, sym, ap, subst}
+use Rattle.std.specs.Prelude.{OnOk}
+use Rattle.dk_calls.specs.Standing.{CallsStandForRecords as CallsStandFor}
+use Rattle.dk_calls.specs.Waiting.{Call}
+use Rattle.dk_decl.specs.Headers.{awaits_word, is_implicit, with_word}
+use Rattle.dk_decl.specs.declared.header.Header.{Header}
+use Rattle.dk_engine.specs.Levels.{Whole}
+use Rattle.dk_hierarchy.specs.Samples.{OwnSamples, own_samples_of}
+use Rattle.dk_hierarchy.specs.Standing.{AreEnginesOf, EnginesStandFor}
+use Rattle.dk_points.specs.Table.{Point}
+use Rattle.dk_state.proofs.Histories.{content_text, history_meets}
+use Rattle.dk_state.specs.Spelling.{IsSpelling, content_of}
+use Rattle.dk_state.specs.StateFile.{StandForHistory, state_file_of}
+use Rattle.dk_template.specs.declared.grammar.Grammar.{Grammar}
+use Rattle.dk_core.specs.History.{History}
+use Rattle.dk_core.specs.Keeping.{IsSound, Keeping}
+use Rattle.dk_core.specs.Resuming.{IsStart, state_of}
+use Rattle.dk_core.specs.Standing.{Stands}
+use Rattle.dk_core.specs.declared.kept.Kept.{Kept}
+use Rattle.dk_core.proofs.Asking.{asked}
+
+pub on_ok : {A E : Type 0} (r : Result A E) (P Q : Type 0) → OnOk r P → (P → Q) → OnOk r Q
+on_ok (Ok x) P Q p f = f p
+on_ok (Err e) P Q p f = p
+
+pub grammar_told : (k : Kept) (h : History) → Stands k h → k.grammar ≡ h.grammar
+unfolding Stands
+grammar_told k h stands = stands.grammar
+
+word_again : (header : Header) → awaits_word header ≡ false → with_word (is_implicit header) ≡ header
+word_again header none = ap (λ (b : Bool). record { implicit = header.implicit; awaits_word = b }) (sym none)
+
+-- what is kept of a state file stands for what it tells
+pub begins : (k : Keeping) (h : History) (engines : List Whole) (implicit : Bool) → IsStart h → StandForHistory h.grammar h.table engines h.samples → k.engines ≡ engines → k.grammar ≡ h.grammar
+    → k.points ≡ h.table → k.header ≡ with_word implicit → implicit ≡ is_implicit h.header → CallsStandFor k.calls [] → Stands k h
+unfolding Stands
+begins k h engines implicit start stands same grammar points header word calls = record {
+  table = points;
+  header = header ∙ ap with_word word ∙ word_again h.header start.no_word;
+  calls = subst (λ (cs : List Call). CallsStandFor k.calls cs) (sym start.no_calls) calls;
+  many = start.many;
+  engines = subst (λ (es : List Whole). EnginesStandFor es (own_samples_of h.table h.samples)) (sym same) stands.standing;
+  grammar = grammar;
+}
+
+-- what a state file tells is what it is loaded as
+pub loaded_as : (h : History) (bytes : List ℕ) (Q : Type 0) → state_of h ≡ bytes → (state_file_of h.grammar h.table (is_implicit h.header) h.samples ≡ bytes → Q) → Q
+unfolding state_of
+loaded_as h bytes Q is f = f is
+
+-- the state of what is kept
+pub state_told : (k : Keeping) (h : History) (engines : List Whole) (implicit : Bool) (old new : List ℕ) → IsSound k → Stands k h → engines ≡ k.engines → implicit ≡ is_implicit k.header
+    → ((own : OwnSamples) → StandForHistory k.grammar k.points engines own → new ≡ old ++ state_file_of k.grammar k.points implicit own) → new ≡ old ++ state_of h
+unfolding Stands state_of
+state_told k h engines implicit old new sound stands same word says =
+    says h.samples (record {
+      of_table = subst (AreEnginesOf k.points) (sym same) sound.engines;
+      of_grammar = subst (λ (es : List Whole). All (λ (e : Whole). e.grammar ≡ k.grammar) es) (sym same) sound.grammar;
+      standing = asked k engines h stands same;
+    })
+    ∙ ap (λ (g : Grammar). old ++ state_file_of g k.points implicit h.samples) stands.grammar
+    ∙ ap (λ (ps : List Point). old ++ state_file_of h.grammar ps implicit h.samples) stands.table
+    ∙ ap (λ (b : Bool). old ++ state_file_of h.grammar h.table b h.samples) (word ∙ ap is_implicit stands.header)
+
+-- the state file of a start is one
+pub spelled_start : (h : History) → IsStart h → IsSpelling (state_of h)
+unfolding state_of
+spelled_start h start = record {
+  content = content_of h.grammar h.table (is_implicit h.header) h.samples;
+  meets = history_meets h.grammar h.table (is_implicit h.header) h.samples start.saved;
+  text = content_text h.grammar h.table (is_implicit h.header) h.samples;
+}

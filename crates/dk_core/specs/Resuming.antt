@@ -1,0 +1,31 @@
+-- Histories that are saved, and that a session begins with.
+use Rattle.std.specs.Prelude.{◌≡◌, ◌≤◌, ◌<◌, ◌^◌, ℕ, All, List, [], false, length, slice_index_or}
+use Rattle.dk_base.specs.declared.values.Value.{Value}
+use Rattle.dk_decl.specs.Headers.{awaits_word, is_implicit}
+use Rattle.dk_derive.specs.Values.{number_of_elements}
+use Rattle.dk_hierarchy.specs.Samples.{OwnSamples}
+use Rattle.dk_state.specs.Spelling.{CanBeSaved}
+use Rattle.dk_state.specs.StateFile.{state_file_of}
+use Rattle.dk_template.specs.declared.grammar.Grammar.{Grammar}
+use Rattle.dk_core.specs.History.{History, nothing_by}
+
+-- the state file of a history, in the version of its grammar
+unfoldable pub state_of : History → List ℕ
+state_of h = state_file_of h.grammar h.table (is_implicit h.header) h.samples
+
+-- A history that a state file tells whole: it stands between two files, so that no entry waits and no header line awaits its word, and what
+-- it has can be saved.
+pub record IsStart (h : History) : Type 0 where
+  pub no_calls : h.calls ≡ []
+  pub no_word : awaits_word h.header ≡ false
+  pub many : length h.samples ≡ length h.table
+  pub saved : CanBeSaved h.grammar h.table h.samples
+
+-- Each point has at most 2^40 own samples, and each of their sequences fewer than 2^63 elements.
+pub record AreFew (own : OwnSamples) : Type 0 where
+  pub few : (p : ℕ) → length (slice_index_or own p []) ≤ 2 ^ 40
+  pub short : (p : ℕ) → All (All (λ (v : Value). number_of_elements v < 2 ^ 63)) (slice_index_or own p [])
+
+-- no samples, by either grammar, are one
+abbrev pub NoSamplesAreAStart : Type 0
+NoSamplesAreAStart = (g : Grammar) → IsStart (nothing_by g)

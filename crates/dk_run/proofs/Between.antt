@@ -1,0 +1,73 @@
+-- Runs that end where another one can begin.
+use Rattle.std.proofs.Common.{◌≡◌, ◌∙◌, ◌+◌, ◌-◌, ◌<◌, ◌≤◌, ◌^◌, ◌++◌, ℕ, All, Bool, true, List, [], ◌∷◌, Option, Some, None, Result, Ok, Err, ap, arith, length, map, refl, subst, sym}
+use Rattle.dk_base.specs.Reading.{Line, LineFault, Reads, ◌>>=◌}
+use Rattle.dk_base.specs.declared.why.Why.TheVariants.{LongLine as WhyLong, TooLong as WhyMany}
+use Rattle.dk_lines.specs.Left.{End, Over, Broken, LongLine, TooLong, lined}
+use Rattle.dk_core.proofs.Going.{IsGoing, block_going, ended_going, going_start, start_going}
+use Rattle.dk_core.proofs.GivenVars.{IsLineSpelled}
+use Rattle.dk_core.proofs.SpelledLines.{AreSpelled, IsEnded, file_ends, file_spelled}
+use Rattle.dk_core.specs.Blocks.{Group, Groups, Last, grouped}
+use Rattle.dk_core.specs.History.{History, Taken, effect_of, file_ended}
+use Rattle.dk_core.specs.Reading.{after_last}
+use Rattle.dk_core.specs.Resuming.{AreFew, IsStart}
+use Rattle.dk_run.specs.Courses.{Course, Outset, course_of, course_of_file, course_of_files, course_of_groups, ends, goes_on, line_limit, onto, then_files, total_limit}
+use Rattle.dk_run.specs.Files.{File, FileFault, whole}
+use Rattle.dk_run.specs.Laws.{RunsEndAtStarts}
+
+over_many : (r : Result Taken LineFault) (fault : LineFault) (n : History) → (goes_on (r >>= λ _. Err fault) (λ h. ends (Ok h))).end ≡ Ok n → ⊥
+over_many (Ok t) fault n e = cc e
+over_many (Err f) fault n e = cc e
+
+-- groups of lines that are spelled
+groups_going : (ignores : Bool) (h n : History) (room : ℕ) (gs : Groups) → room < 2 ^ 64 → AreSpelled room gs → IsEnded gs → IsGoing h
+    → (course_of_groups ignores (effect_of ignores h) gs).end ≡ Ok n → IsGoing n
+groups_going ignores h n room (Group ls close rest) few own ended going e =
+    by (effect_of ignores h ls (Some close)) (λ t is. block_going ignores h ls close t going own.0 (omega (arith, own.1, few)) is) refl e
+    (λ t now later. groups_going ignores t n room rest few own.2 ended now later)
+  where
+    by : (r : Result Taken LineFault) → ((t : Taken) → effect_of ignores h ls (Some close) ≡ Ok t → IsGoing t.history) → effect_of ignores h ls (Some close) ≡ r
+        → (goes_on r (λ k. course_of_groups ignores (effect_of ignores k) rest)).end ≡ Ok n
+        → ((k : History) → IsGoing k → (course_of_groups ignores (effect_of ignores k) rest).end ≡ Ok n → IsGoing n) → IsGoing n
+    by (Ok t) gives is e more = more t.history (gives t is) e
+    by (Err fault) gives is e more = absurd (cc e)
+groups_going ignores h n room (Last ls Broken) few own ended going e = absurd ended
+groups_going ignores h n room (Last ls (LongLine line)) few own ended going e = absurd (over_many (effect_of ignores h ls None) (record { line = line; why = WhyLong }) n e)
+groups_going ignores h n room (Last ls (TooLong line)) few own ended going e = absurd (over_many (effect_of ignores h ls None) (record { line = line; why = WhyMany }) n e)
+groups_going ignores h n room (Last ls (Over line)) few own ended going e =
+    by (effect_of ignores h ls (Some line)) (λ t is. block_going ignores h ls line t going own.0 (omega (arith, own.1, few)) is) refl e
+  where
+    by : (r : Result Taken LineFault) → ((t : Taken) → effect_of ignores h ls (Some line) ≡ Ok t → IsGoing t.history) → effect_of ignores h ls (Some line) ≡ r
+        → (goes_on r (λ k. ends (Ok k))).end ≡ Ok n → IsGoing n
+    by (Ok t) gives is e = let same : t.history ≡ n = cc e in subst IsGoing same (gives t is)
+    by (Err fault) gives is e = absurd (cc e)
+
+file_going : (ignores : Bool) (room : ℕ) (h n : History) (content : List ℕ) → room ≤ total_limit → IsGoing h → (course_of_file ignores room h (whole content)).end ≡ Ok n → IsGoing n
+file_going ignores room h n content few going e =
+    groups_going ignores h n room (grouped (lined line_limit room 0 true content)) (omega (arith, few)) (file_spelled line_limit room 0 true content) (file_ends line_limit room 0 content) going e
+
+-- between two files
+record IsBetween (h : History) : Type 0 where
+  going : IsGoing h
+  calls : h.calls ≡ []
+
+between : (h : History) → IsGoing h → IsBetween (file_ended h)
+unfolding file_ended
+between h going = record { going = ended_going h going; calls = refl }
+
+files_going : (ignores : Bool) (room : ℕ) (h n : History) (place : ℕ) (contents : List (List ℕ)) → room ≤ total_limit → IsBetween h
+    → (course_of_files ignores room h place (map whole contents)).end ≡ Ok n → IsBetween n
+files_going ignores room h n place [] few is e = let same : h ≡ n = cc e in subst IsBetween same is
+files_going ignores room h n place (content ∷ contents) few is e =
+    by (course_of_file ignores room h (whole content)).end refl e (λ next now later. files_going ignores (room - length content) next n (place + 1) contents (omega (arith, few)) now later)
+  where
+    by : (r : Result History LineFault) → (course_of_file ignores room h (whole content)).end ≡ r
+        → (then_files place r (λ next. course_of_files ignores (room - length content) (file_ended next) (place + 1) (map whole contents))).end ≡ Ok n
+        → ((next : History) → IsBetween next → (course_of_files ignores (room - length content) next (place + 1) (map whole contents)).end ≡ Ok n → IsBetween n) → IsBetween n
+    by (Ok next) got e more = more (file_ended next) (between next (file_going ignores room h next content few is.going got)) e
+    by (Err fault) got e more = absurd (cc e)
+
+pub run_ends : RunsEndAtStarts
+unfolding course_of
+run_ends start ignores contents mid begins few e own =
+    let is = files_going ignores start.room start.history mid 0 contents few (record { going = start_going start.history begins; calls = begins.no_calls }) e in
+    going_start mid is.going is.calls own

@@ -1,0 +1,15 @@
+use Rattle.std.proofs.Common.{rules, ◌++◌, ◌∙◌}
+use Rattle.dk_run.proofs.Saying.{run_gives}
+use Rattle.dk_run.proofs.Writing.{written_behind}
+use Rattle.dk_run.proofs.top.read_run.Goals as goal
+
+pub returns-in-Ok-read_generated-clause-gives : goal.returns-in-Ok-read_generated-clause-gives
+returns-in-Ok-read_generated-clause-gives g c =
+    let first = c.in-Ok-read_generated.ensures.gives in
+    let more = c.read_files.ensures.gives in
+    record {
+      text = first.text ++ more.text;
+      written = written_behind _ _ _ first.text more.text first.written more.written;
+      holds = run_gives c.args.command.now (g.I.Inputs.file c.args.inputs.now) (g.I.Inputs.rest c.args.inputs.now) (g.I.Inputs.rest c.read_files.new.inputs) (first.text ++ more.text) c.read_files.result c.read_files.new.lines
+          (more.holds first.text (first.holds (g.I.Inputs.file c.args.inputs.now) (g.I.Inputs.rest c.args.inputs.now) (λ start begins. let told = c.requires.begun.stands start begins in (told.0, search rules ∙ told.1))));
+    }

@@ -1,0 +1,90 @@
+-- What reading the state file of a run comes to, before all else.
+use Rattle.std.specs.Prelude.{◌≡◌, ◌≢◌, ◌≤◌, ◌⊎◌, ◌-◌, ℕ, false, List, [], length, Option, Some, None, unwrap_or}
+use Rattle.dk_base.specs.declared.why.Why.{Why}
+use Rattle.dk_base.specs.declared.why.Why.TheVariants.{BadState, TooLong}
+use Rattle.dk_io.specs.Outside.{HeldFile, Absent, Holds}
+use Rattle.dk_io.specs.declared.whole.AllFault.{AllFault}
+use Rattle.dk_io.specs.declared.whole.AllFault.TheVariants as all
+use Rattle.dk_state.specs.declared.loading.LoadFault.{LoadFault}
+use Rattle.dk_state.specs.declared.loading.LoadFault.TheVariants as load
+use Rattle.dk_state.specs.Spelling.{IsSpelling}
+use Rattle.dk_core.specs.History.{History}
+use Rattle.dk_core.specs.Resuming.{IsStart, state_of}
+use Rattle.dk_core.specs.Standing.{SessionStandsFor, blocks_of, over_of}
+use Rattle.dk_words.specs.declared.command.Command.{Command}
+use Rattle.dk_run.specs.Courses.{Outset, total_limit}
+use Rattle.dk_run.specs.Starts.{Begins, HasBegun, IsRefusedAs, rest_begun}
+use Rattle.dk_run.specs.Statuses.{AtStart, HasBroken, Outside, StateUnreadGives, Within}
+use Rattle.dk_run.specs.Telling.{ReportsBy}
+use Rattle.dk_run.specs.declared.starting.Beginning.{Beginning}
+use Rattle.dk_run.specs.declared.starting.StartTrouble.{StartTrouble}
+use Rattle.dk_run.specs.declared.starting.StartTrouble.TheVariants.{Refused, Start as Unstarted, Read, NoMemory}
+
+-- the name of the state file, and an empty one where the run names none
+abbrev pub state_name : Command → List ℕ
+state_name command = unwrap_or command.resume []
+
+-- The session stands for what the run begins with, and no block was read.
+pub record IsBegun {F : Type 0} (command : Command) (file : List ℕ → HeldFile) (beginning : Beginning F) : Type 0 where
+  pub begun : HasBegun command.resume file
+  pub stands : (start : Outset) → Begins command.resume file start → SessionStandsFor beginning.session start.history × (beginning.room ≡ start.room)
+  pub room : beginning.room ≤ total_limit
+  pub counts : blocks_of beginning.session ≡ 0
+  pub over : over_of beginning.session ≡ false
+  pub reports : ReportsBy command beginning.session
+
+-- What a trouble with a state file says, of which this is told.
+abbrev pub StateTroubleGives : HeldFile → Type 0 → Option (List ℕ) → Option (List ℕ) → StartTrouble → Type 0
+StateTroubleGives held rose before rest (Refused why) = (held ≢ Absent) × ((why ≡ TooLong) ⊎ (why ≡ BadState)) × ((xs : List ℕ) → held ≡ Holds xs → IsRefusedAs why xs)
+StateTroubleGives held rose before rest Unstarted = HasBroken AtStart held rose × StateUnreadGives AtStart held before rest
+StateTroubleGives held rose before rest Read = HasBroken Within held rose × StateUnreadGives Within held before rest
+StateTroubleGives held rose before rest NoMemory = Unit {0}
+
+-- Without a state file only memory can be wanting.
+abbrev pub StartTroubleGives : Option (List ℕ) → (List ℕ → HeldFile) → Type 0 → Option (List ℕ) → Option (List ℕ) → StartTrouble → Type 0
+StartTroubleGives None file rose before rest trouble = trouble ≡ NoMemory
+StartTroubleGives (Some name) file rose before rest trouble = StateTroubleGives (file name) rose before rest trouble
+
+-- What is left of the inputs when the run has begun.
+abbrev pub IsLeft : Option (List ℕ) → (List ℕ → HeldFile) → Option (List ℕ) → Option (List ℕ) → Type 0
+IsLeft resume file before rest = (start : Outset) → Begins resume file start → rest ≡ rest_begun resume before
+
+-- The outside at a moment when the run has begun, and before all else.
+pub record HasCome {F : Type 0} (command : Command) (before now : Outside) (beginning : Beginning F) : Type 0 where
+  pub file : now.file ≡ before.file
+  pub begun : IsBegun command before.file beginning
+  pub left : IsLeft command.resume before.file before.rest now.rest
+  pub later : before.read_faults ≤ now.read_faults
+  pub calm : now.write_faults ≡ before.write_faults
+
+-- ---- reading the state file
+-- It was read whole.
+pub record IsWhole (held : HeldFile) (text : List ℕ) (rest : Option (List ℕ)) : Type 0 where
+  pub there : held ≢ Absent
+  pub short : length text ≤ total_limit
+  pub all : (xs : List ℕ) → held ≡ Holds xs → (text ≡ xs) × (rest ≡ Some [])
+
+-- The session is that of this state file.
+pub record IsResumed {F : Type 0} (command : Command) (state : List ℕ) (beginning : Beginning F) : Type 0 where
+  pub spelling : IsSpelling state
+  pub stands : (h : History) → IsStart h → state_of h ≡ state → SessionStandsFor beginning.session h
+  pub room : beginning.room ≡ total_limit - length state
+  pub counts : blocks_of beginning.session ≡ 0
+  pub over : over_of beginning.session ≡ false
+  pub reports : ReportsBy command beginning.session
+
+-- why there is none
+abbrev pub IsUnloaded : List ℕ → StartTrouble → Type 0
+IsUnloaded state (Refused why) = (why ≡ BadState) × (IsSpelling state → ⊥)
+IsUnloaded state Unstarted = ⊥
+IsUnloaded state Read = ⊥
+IsUnloaded state NoMemory = Unit {0}
+
+abbrev pub unread : AllFault → StartTrouble
+unread all.Read = Read
+unread all.TooLong = Refused TooLong
+unread all.NoMemory = NoMemory
+
+abbrev pub unloaded : LoadFault → StartTrouble
+unloaded load.BadState = Refused BadState
+unloaded load.NoMemory = NoMemory
