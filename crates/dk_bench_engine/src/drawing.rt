@@ -43,11 +43,7 @@ fn number(noise: &mut Noise, bound: u32) -> View<'static>
 }
 
 /// So many numbers, each of which is a little above the one before it.
-pub fn rising(
-    alloc: Global,
-    noise: &mut Noise,
-    vars: usize,
-) -> Result<Vec<View<'static>>, NoMemory>
+pub fn rising(alloc: Global, noise: &mut Noise, vars: usize) -> Result<Vec<View<'static>>, NoMemory>
     ensures { IfOk result (λ sample. All IsWritten (values_of sample.items)) }
 {
     let mut sample = Vec::new(alloc);
