@@ -109,18 +109,25 @@ static EXAMPLES: [Example; 7] = [
     },
 ];
 
+// The files that are there: the first one is a state file.
+fn there<'a>(all: &'a [(&'a str, &'a [u8])], has_state: bool) -> &'a [(&'a str, &'a [u8])] {
+    if has_state {
+        return all;
+    }
+    match all.split_first() {
+        Some((_, others)) => others,
+        None => all,
+    }
+}
+
 #[test]
 fn states_are_resumed(rt: HostRuntime) -> Result<(), Fail> {
     for example in &EXAMPLES {
         let with_state = [
-            ("u", SECOND.as_bytes()),
             ("daikon.state", example.state.unwrap_or("").as_bytes()),
+            ("u", SECOND.as_bytes()),
         ];
-        let files = if example.state.is_some() {
-            &with_state[..]
-        } else {
-            &with_state[..1]
-        };
+        let files = there(&with_state, example.state.is_some());
         let (status, sinks) = ran_over(rt.alloc(), files, example.words, steady(7))?;
         assert_eq!(rt; status, example.status, "{}", example.name);
         let report = ruled(rt.alloc(), example.report)?;
