@@ -16,11 +16,11 @@ const SECOND: &str = "P\nx\n3\n1\n\nP\nx\n7\n1\n\n";
 const OLD: &str =
     "daikon-state 1\ncomparability implicit\npoints 1\npoint P\nvar int -1 -1 x\nend\nsamples 0 4\nclass 0\npattern 4 1\nslot 2 0 least 1\nslot 3 0 greatest 7\nslot 11 0 0 holds\nslot 15 0 0 straight 1 -1 0\nend\nend-state\n";
 
-/// A run with these words, where the file `daikon.state` has this text, if any, and `u` the records.
+/// A run with these words, where the file `daikon.state` has this text, and `u` the records.
 struct Example {
     name: &'static str,
     words: &'static [&'static str],
-    state: Option<&'static str>,
+    state: &'static str,
     status: Status,
     /// Where a section begins, a line of `@` stands for the one of `=`.
     report: &'static str,
@@ -32,7 +32,7 @@ static EXAMPLES: [Example; 7] = [
     Example {
         name: "a text that is no state",
         words: &["--resume", "daikon.state", "u"],
-        state: Some("x"),
+        state: "x",
         status: Status::Refused,
         report: "",
         messages: "daikon: daikon.state:0: 18 BadState\n",
@@ -41,7 +41,7 @@ static EXAMPLES: [Example; 7] = [
     Example {
         name: "no state, in front of a generated file",
         words: &["--generate", "1", "--save", "--resume", "daikon.state"],
-        state: Some(""),
+        state: "",
         status: Status::Refused,
         report: "",
         messages: "daikon: daikon.state:0: 18 BadState\n",
@@ -49,17 +49,17 @@ static EXAMPLES: [Example; 7] = [
     },
     Example {
         name: "a state that isn't there",
-        words: &["--generate", "1", "--save", "--resume", "daikon.state"],
-        state: None,
+        words: &["--generate", "1", "--save", "--resume", "other.state"],
+        state: "",
         status: Status::Read,
         report: "",
-        messages: "daikon: cannot read daikon.state\n",
+        messages: "daikon: cannot read other.state\n",
         saved: "",
     },
     Example {
         name: "a state alone",
         words: &["--min-samples", "1", "--resume", "daikon.state"],
-        state: Some(OLD),
+        state: OLD,
         status: Status::Done,
         report: "@\nP  [4]\nx >= 1  [4]\nx <= 7  [4]\n",
         messages: "",
@@ -76,7 +76,7 @@ static EXAMPLES: [Example; 7] = [
             "daikon.state",
             "u",
         ],
-        state: Some(OLD),
+        state: OLD,
         status: Status::Done,
         report: "--- after 2 blocks\n@\nP  [6]\nx >= 1  [6]\nx <= 7  [6]\n--- end after 2 blocks\n@\nP  [6]\nx >= 1  [6]\nx <= 7  [6]\n",
         messages: "",
@@ -92,7 +92,7 @@ static EXAMPLES: [Example; 7] = [
             "daikon.state",
             "u",
         ],
-        state: Some(OLD),
+        state: OLD,
         status: Status::Done,
         report: "@\nP  [6]\nx >= 1  [6]\nx <= 7  [6]\n",
         messages: "",
@@ -101,7 +101,7 @@ static EXAMPLES: [Example; 7] = [
     Example {
         name: "a run with a fault saves nothing",
         words: &["--save", "--resume", "daikon.state", "u", "daikon.state"],
-        state: Some(OLD),
+        state: OLD,
         status: Status::Refused,
         report: "",
         messages: "daikon: daikon.state:1: 7 UnknownPoint\n",
@@ -109,26 +109,14 @@ static EXAMPLES: [Example; 7] = [
     },
 ];
 
-// The files that are there: the first one is a state file.
-fn there<'a>(all: &'a [(&'a str, &'a [u8])], has_state: bool) -> &'a [(&'a str, &'a [u8])] {
-    if has_state {
-        return all;
-    }
-    match all.split_first() {
-        Some((_, others)) => others,
-        None => all,
-    }
-}
-
 #[test]
 fn states_are_resumed(rt: HostRuntime) -> Result<(), Fail> {
     for example in &EXAMPLES {
-        let with_state = [
-            ("daikon.state", example.state.unwrap_or("").as_bytes()),
+        let files = [
+            ("daikon.state", example.state.as_bytes()),
             ("u", SECOND.as_bytes()),
         ];
-        let files = there(&with_state, example.state.is_some());
-        let (status, sinks) = ran_over(rt.alloc(), files, example.words, steady(7))?;
+        let (status, sinks) = ran_over(rt.alloc(), &files, example.words, steady(7))?;
         assert_eq!(rt; status, example.status, "{}", example.name);
         let report = ruled(rt.alloc(), example.report)?;
         assert!(rt;
