@@ -27,14 +27,25 @@ pub fn join_plain(left: State, right: &State) -> State
     }
 }
 
+// The same of a state that isn't Holds. It stands apart so that a loop over states, which mostly are, branches at the others.
+#[cold]
+#[inline(never)]
+fn other_stays(state: &State, holds: bool) -> bool
+    requires state { IsPlainState state.now }
+    requires other { state.now ≡ State.Holds → ⊥ }
+    ensures { IsTrue result ↔ (plain_join state.now (plain_of (holds ∷ [])) ≡ state.now) }
+{
+    matches!(state, State::Broken)
+}
+
 /// Whether a tuple, which satisfies the relation or not, leaves the state as it is.
-#[inline]
+#[inline(always)]
 pub fn plain_stays(state: &State, holds: bool) -> bool
     requires { IsPlainState state.now }
     ensures { IsTrue result ↔ (plain_join state.now (plain_of (holds ∷ [])) ≡ state.now) }
 {
     match state {
         State::Holds => holds,
-        _ => matches!(state, State::Broken),
+        _ => other_stays(state, holds),
     }
 }
