@@ -8,7 +8,7 @@ use Rattle.dk_base.specs.declared.faults.BlockFault.{BlockFault}
 use Rattle.dk_base.specs.declared.faults.BlockFault.TheVariants as r
 use Rattle.dk_lines.specs.declared.lines.LineFault.{LineFault}
 use Rattle.dk_lines.specs.declared.lines.LineFault.TheVariants as f
-use Rattle.dk_core.specs.Blocks.{Groups, Last, grouped}
+use Rattle.dk_core.specs.Blocks.{Groups, Last, groups_of}
 use Rattle.dk_core.specs.History.{Taken, History, effect_of}
 use Rattle.dk_core.specs.Reading.{Stepped, after_next}
 use Rattle.dk_core.specs.Standing.{Fits, Stands, block_resumed, ignores_of}
@@ -26,7 +26,7 @@ use Rattle.dk_core.specs.declared.session.Stop.TheVariants.{Refused, Read, NoMem
 -- The groups that are left: none where the session has come to the file's end.
 abbrev pub groups_left : Bool → Reading → Bool → List ℕ → Groups
 groups_left true r is_ended xs = Last [] (Over (r.number + 1))
-groups_left false r is_ended xs = grouped (lines_left r is_ended xs)
+groups_left false r is_ended xs = groups_of (lines_left r is_ended xs)
 
 -- no block is found, and no fault
 abbrev pub IsNoBlock : Result Stepped BlockLineFault → Type 0
@@ -75,10 +75,10 @@ TurnGives ignores read r xs (Err NoMemory) r' left' = ⊤
 -- what a line does to a block, whatever follows it
 abbrev pub LineGives : Bool → Reads Taken → Line → Result Turn Stop → Type 0
 LineGives ignores read line (Ok (Goes kept block)) = (h : History) × Stands kept h × ((rest : Left) →
-    after_next ignores read (grouped (Next line rest)) ≡ after_next ignores (block_resumed ignores h block) (grouped rest))
+    after_next ignores read (groups_of (Next line rest)) ≡ after_next ignores (block_resumed ignores h block) (groups_of rest))
 LineGives ignores read line (Ok (Ends end)) = (h : History) × Stands end.kept h × (end.is_over ≡ false) × ((rest : Left) →
-    after_next ignores read (grouped (Next line rest)) ≡ Ok (record { found = end.found; history = h; left = grouped rest }))
-LineGives ignores read line (Err (Refused number why)) = (rest : Left) → after_next ignores read (grouped (Next line rest)) ≡ Err (record { line = number; why = why })
+    after_next ignores read (groups_of (Next line rest)) ≡ Ok (record { found = end.found; history = h; left = groups_of rest }))
+LineGives ignores read line (Err (Refused number why)) = (rest : Left) → after_next ignores read (groups_of (Next line rest)) ≡ Err (record { line = number; why = why })
 LineGives ignores read line (Err Read) = ⊥
 LineGives ignores read line (Err NoMemory) = ⊤
 

@@ -14,7 +14,7 @@ use Rattle.dk_template.specs.Templates.{IsRowOf}
 use Rattle.dk_template.specs.declared.grammar.Grammar.{Grammar}
 use Rattle.dk_template.specs.declared.grammar.RowId.{RowId}
 use Rattle.dk_filters.specs.Answers.{Answers, Parent}
-use Rattle.dk_filters.specs.Candidates.{candidate_of, candidates_of, it_holds, kept_by}
+use Rattle.dk_filters.specs.Candidates.{candidate_of, candidates_kept, candidates_of, it_holds}
 use Rattle.dk_filters.specs.Facts.{facts_of, has_partner, info_at}
 use Rattle.dk_filters.specs.OfSamples.{agrees}
 use Rattle.dk_filters.specs.Sameness.{same_state}
@@ -73,4 +73,4 @@ CandidatesAscend = (grammar : Grammar) (least : ℕ) (here : Answers) (parents :
 abbrev pub KeptCandidatesAscend : Type 0
 KeptCandidatesAscend =
     (grammar : Grammar) (least : ℕ) (here : Answers) (parents : List Parent) (keeps : Candidate → Bool)
-    → AllPairs StandsBefore (kept_by keeps (candidates_of grammar least here parents))
+    → AllPairs StandsBefore (candidates_kept keeps (candidates_of grammar least here parents))

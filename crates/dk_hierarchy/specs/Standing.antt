@@ -16,7 +16,7 @@ use Rattle.dk_template.specs.declared.grammar.RowId.{RowId}
 use Rattle.dk_hierarchy.specs.Descent.{IsDescent}
 use Rattle.dk_hierarchy.specs.Merging.{AreWays, Joint, merged_agree, merged_count, merged_state}
 use Rattle.dk_hierarchy.specs.Samples.{OwnSamples, all_vars_of, own_samples_of, samples_of}
-use Rattle.dk_hierarchy.specs.Ways.{all_brought}
+use Rattle.dk_hierarchy.specs.Ways.{samples_through_all}
 use Rattle.dk_hierarchy.specs.declared.way.Way.{Way}
 
 -- The engine keeps what there is to keep of these samples of its variables.
@@ -41,7 +41,7 @@ pub record JointStandsFor (joint : Joint) (samples : List (List Value)) : Type 0
 abbrev pub MergedStandForWhatIsBrought : Type 0
 MergedStandForWhatIsBrought =
     (joint : Joint) → AreWays joint → All (λ way. 0 < way.paths) joint.ways → (samples : ℕ → List (List Value)) → EnginesStandFor joint.engines samples
-    → JointStandsFor joint (all_brought samples joint.ways)
+    → JointStandsFor joint (samples_through_all samples joint.ways)
 
 -- ---- the points of a table
 -- The engines are those of the table's points in order, over their variables, all by one grammar.

@@ -2,7 +2,7 @@
 ghost use Rattle.std.specs.Prelude.{◌≡◌, ◌<◌, ◌≤◌, ◌^◌, IfOk, length};
 ghost use Rattle.dk_hierarchy.specs.Descent.{own_partners};
 ghost use Rattle.dk_hierarchy.specs.Samples.{all_vars_of, partners_of};
-ghost use Rattle.dk_hierarchy.specs.Ways.{onward};
+ghost use Rattle.dk_hierarchy.specs.Ways.{partners_below};
 
 use crate::way::partner_at;
 use dk_base::{List, NoMemory, VarId, VarInfo};
@@ -51,7 +51,7 @@ pub(crate) fn onward(
     below: &[Option<VarId>],
     partners: &[Option<VarId>],
 ) -> Result<List<Option<VarId>>, NoMemory>
-    ensures { IfOk result (λ next. next ≡ onward below.now partners.now) }
+    ensures { IfOk result (λ next. next ≡ partners_below below.now partners.now) }
 {
     let mut next = List::new(alloc);
     for partner in partners {

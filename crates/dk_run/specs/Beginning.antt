@@ -9,7 +9,7 @@ use Rattle.dk_state.specs.declared.loading.LoadFault.{LoadFault}
 use Rattle.dk_state.specs.declared.loading.LoadFault.TheVariants as load
 use Rattle.dk_state.specs.Spelling.{IsSpelling}
 use Rattle.dk_core.specs.History.{History}
-use Rattle.dk_core.specs.Resuming.{IsStart, state_of}
+use Rattle.dk_core.specs.Resuming.{IsStart, state_file}
 use Rattle.dk_core.specs.Standing.{SessionStandsFor, blocks_of, over_of}
 use Rattle.dk_words.specs.declared.command.Command.{Command}
 use Rattle.dk_run.specs.Courses.{Outset, total_limit}
@@ -67,7 +67,7 @@ pub record IsWhole (held : HeldFile) (text : List ℕ) (rest : Option (List ℕ)
 -- The session is that of this state file.
 pub record IsResumed {F : Type 0} (command : Command) (state : List ℕ) (beginning : Beginning F) : Type 0 where
   pub spelling : IsSpelling state
-  pub stands : (h : History) → IsStart h → state_of h ≡ state → SessionStandsFor beginning.session h
+  pub stands : (h : History) → IsStart h → state_file h ≡ state → SessionStandsFor beginning.session h
   pub room : beginning.room ≡ total_limit - length state
   pub counts : blocks_of beginning.session ≡ 0
   pub over : over_of beginning.session ≡ false
@@ -80,11 +80,11 @@ IsUnloaded state Unstarted = ⊥
 IsUnloaded state Read = ⊥
 IsUnloaded state NoMemory = Unit {0}
 
-abbrev pub unread : AllFault → StartTrouble
-unread all.Read = Read
-unread all.TooLong = Refused TooLong
-unread all.NoMemory = NoMemory
+abbrev pub trouble_of_read : AllFault → StartTrouble
+trouble_of_read all.Read = Read
+trouble_of_read all.TooLong = Refused TooLong
+trouble_of_read all.NoMemory = NoMemory
 
-abbrev pub unloaded : LoadFault → StartTrouble
-unloaded load.BadState = Refused BadState
-unloaded load.NoMemory = NoMemory
+abbrev pub trouble_of_load : LoadFault → StartTrouble
+trouble_of_load load.BadState = Refused BadState
+trouble_of_load load.NoMemory = NoMemory

@@ -9,7 +9,7 @@ ghost use Rattle.dk_words.specs.Requests.{request_of};
 ghost use Rattle.dk_words.specs.Texts.{usage_line as usage_text};
 ghost use Rattle.dk_words.specs.declared.request.Request.TheVariants as request;
 ghost use Rattle.dk_run.specs.AllFiles.{AreCalmBut, IsCaused, IsTroubleOf, RunGives};
-ghost use Rattle.dk_run.specs.Commands.{helds_of, is_selected as selects_name, names_of};
+ghost use Rattle.dk_run.specs.Commands.{file_names, helds_of, is_selected as selects_name};
 ghost use Rattle.dk_run.specs.Beginning.{HasCome, IsBegun};
 ghost use Rattle.dk_run.specs.Ending.{EndsBy, EndsUnbegun, EndsWith, status_of as status_by};
 ghost use Rattle.dk_print.specs.Sections.{fault_line as fault_text};
@@ -82,7 +82,7 @@ fn tell_trouble<S: Sinks>(
     trouble: FilesTrouble,
     sinks: &mut S,
 ) -> Status
-    requires { IsTroubleOf (length (names_of command.now)) trouble }
+    requires { IsTroubleOf (length (file_names command.now)) trouble }
     ensures { EndsBy command.now trouble (S.written sinks.old) (S.written sinks.new) (S.faults sinks.old) (S.faults sinks.new) result }
 {
     match trouble {
