@@ -27,7 +27,8 @@ parent_of_view view = parent_shown merged_state merged_count merged_agree view
 
 -- a view of a parent of the point, by the second grammar
 abbrev pub CanShow : Joint → ParentView Joint → Type 0
-CanShow here view = (view.answers.now.here.grammar ≡ grammar.Two) × IsViewOf view.answers.now.here.infos here.here.infos (parent_of_view view)
+CanShow here view =
+    (view.answers.now.here.grammar ≡ grammar.Two) × IsViewOf view.answers.now.here.infos here.here.infos (parent_of_view view)
 
 -- The point and its parents go by the second grammar, and what is found of the point is all that its facts ask about it.
 pub record CanBeJudged (here : Joint) (views : List (ParentView Joint)) (facts : PointFacts) : Type 0 where

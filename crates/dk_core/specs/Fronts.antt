@@ -24,4 +24,5 @@ abbrev pub block_front : Header → Option ℕ → List Line → Result Front Li
 block_front header last [] = Ok (record { header = header; last = last; lines = [] })
 block_front header last (l ∷ ls) =
     if is_comment l.bytes then block_front header last ls
-    else at_header_line (header_line header l.bytes) l.number (record { header = header; last = last; lines = l ∷ ls }) (λ next. block_front next (Some l.number) ls)
+    else at_header_line (header_line header l.bytes) l.number (record { header = header; last = last; lines = l ∷ ls })
+    (λ next. block_front next (Some l.number) ls)

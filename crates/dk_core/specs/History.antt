@@ -95,7 +95,8 @@ is_list_of_implementors bytes = bytes_eq bytes (codes "ListImplementors")
 
 -- what the lines of a declaration do, behind its first line
 abbrev pub after_declaration : History → Line → Reads Taken
-after_declaration h first ls close = block_decl (is_implicit h.header) first ls close >>= λ d. where_it_ends close h (with_declaration h first.number d)
+after_declaration h first ls close =
+    block_decl (is_implicit h.header) first ls close >>= λ d. where_it_ends close h (with_declaration h first.number d)
 
 -- what the lines of a sample record do, behind its first line
 abbrev pub after_sample : Bool → History → Line → Reads Taken
@@ -108,7 +109,8 @@ after_record ignores h first ls close =
     else if is_list_of_implementors first.bytes then where_it_ends close h (Ok (block h))
     else after_sample ignores h first ls close
 
--- A block without a record, whose last header line has this number. It must not end where a word is awaited. Without header lines, too, it is none.
+-- A block without a record, whose last header line has this number. It must not end where a word is awaited. Without header lines, too, it
+-- is none.
 abbrev pub without_record : History → Option ℕ → Option ℕ → Result Taken LineFault
 without_record h None close = Ok (no_block h)
 without_record h (Some last) close = where_it_ends close h (if awaits_word h.header then refused BadHeader last else Ok (block h))

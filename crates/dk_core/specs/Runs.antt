@@ -19,7 +19,8 @@ pub record IsRun (run : List Line) (left rest : Left) : Type 0 where
 -- The groups are the runs of what is left, one behind the other: each ends at a blank line, the last one where the lines end.
 abbrev pub AreRuns : Groups → Left → Type 0
 AreRuns (Group ls close more) left =
-    (blank : Line) × ((rest : Left) × (is_blank_line blank ≡ true) × (blank.number ≡ close) × IsRun ls left (Next blank rest) × AreRuns more rest)
+    (blank : Line)
+    × ((rest : Left) × (is_blank_line blank ≡ true) × (blank.number ≡ close) × IsRun ls left (Next blank rest) × AreRuns more rest)
 AreRuns (Last ls end) left = IsRun ls left (Ends end)
 
 abbrev pub GroupsAreLongestRuns : Type 0

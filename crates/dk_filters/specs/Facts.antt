@@ -54,7 +54,8 @@ index_compar_of_var infos s = record { elem = (compar_of_var infos s).index; ind
 
 abbrev pub are_comparable : List VarInfo → List VarId → Bool
 are_comparable infos [] = true
-are_comparable infos (v ∷ vars) = list_all (λ w. comparable (compar_of_var infos v) (compar_of_var infos w)) vars && are_comparable infos vars
+are_comparable infos (v ∷ vars) =
+    list_all (λ w. comparable (compar_of_var infos v) (compar_of_var infos w)) vars && are_comparable infos vars
 
 -- the sequence and the index of an element or a slice that is taken by an index
 abbrev pub sequence_and_index : Form → Option (VarId × VarId)
@@ -67,7 +68,9 @@ sequence_and_index _ = None
 
 -- the variable is taken by an index that isn't comparable with the indices of its sequence
 abbrev pub has_foreign_index : List VarInfo → VarId → Bool
-has_foreign_index infos v = option_map_or (λ b. not (comparable (compar_of_var infos b.1) (index_compar_of_var infos b.0))) (sequence_and_index (info_at infos v).form) false
+has_foreign_index infos v =
+    option_map_or (λ b. not (comparable (compar_of_var infos b.1) (index_compar_of_var infos b.0)))
+    (sequence_and_index (info_at infos v).form) false
 
 abbrev pub is_incomparable : List VarInfo → List VarId → Bool
 is_incomparable infos vars = not (are_comparable infos vars) || list_any (has_foreign_index infos) vars

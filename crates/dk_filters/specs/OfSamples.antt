@@ -14,7 +14,8 @@ use Rattle.dk_filters.specs.Facts.{info_at}
 
 -- two variables of one kind have the same value in each sample; the missing value is the same as itself alone
 abbrev pub agrees : List VarInfo → List (List Value) → VarId → VarId → Bool
-agrees infos samples v w = same_kind (info_at infos v).kind (info_at infos w).kind && list_all (λ s. same_value (value_in s v) (value_in s w)) samples
+agrees infos samples v w =
+    same_kind (info_at infos v).kind (info_at infos w).kind && list_all (λ s. same_value (value_in s v) (value_in s w)) samples
 
 -- fits, counts and agreement on the samples
 abbrev pub answers_of : List VarInfo → List (List Value) → Answers

@@ -13,7 +13,8 @@ abbrev pub answers_by : List VarInfo → (RowId → List VarId → State) → (L
 answers_by infos answered counted agreeing = record { infos = infos; answered = answered; counted = counted; agreeing = agreeing }
 
 -- what a view shows of a parent, whose answers tell by these functions
-abbrev pub parent_shown : {P : Type 0} → (P → RowId → List VarId → State) → (P → List VarId → ℕ) → (P → VarId → VarId → Bool) → ParentView P → Parent
+abbrev pub parent_shown : {P : Type 0} → (P → RowId → List VarId → State) → (P → List VarId → ℕ) → (P → VarId → VarId → Bool) → ParentView P
+    → Parent
 parent_shown answered counted agreeing view = record {
   answers = answers_by view.vars.now (answered view.answers.now) (counted view.answers.now) (agreeing view.answers.now);
   partners = view.partner.now;

@@ -29,7 +29,8 @@ is_left_out facts = facts.few || facts.incomparable || facts.member || facts.imp
 
 -- the instances that hold in samples and that aren't dropped there
 abbrev pub kept_in : Grammar → ℕ → List VarInfo → List (List Value) → List Candidate
-kept_in grammar least infos samples = candidates_kept (λ c. not (is_left_out c.facts)) (candidates_of grammar least (answers_of infos samples) [])
+kept_in grammar least infos samples =
+    candidates_kept (λ c. not (is_left_out c.facts)) (candidates_of grammar least (answers_of infos samples) [])
 
 -- None of its variables agrees with the Bool in all samples, and its state isn't the one that it has in all of them.
 abbrev pub is_told_by : List VarInfo → List (List Value) → VarId → Candidate → Bool

@@ -46,4 +46,5 @@ pub record IsDescent (ps : List Point) (p : ℕ) (ways : List Way) (levels : Lis
   pub done : All (IsWayDown ps p) ways
   pub pending : (depth : ℕ) → All (λ way. IsWayDown ps p way × (depth_of (nodes ps) way.point.0 ≡ depth)) (slice_index_or levels depth [])
   pub brings : (own : OwnSamples)
-      → SamplesTellTheSame (samples_of ps own p) (samples_through_all (own_samples_of ps own) ways ++ flat_map (samples_through_all (samples_of ps own)) levels)
+      → SamplesTellTheSame (samples_of ps own p)
+      (samples_through_all (own_samples_of ps own) ways ++ flat_map (samples_through_all (samples_of ps own)) levels)

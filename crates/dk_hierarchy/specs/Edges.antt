@@ -47,10 +47,12 @@ same_through samples (Some v) (Some w) = list_all (λ s. same_value (value_in s 
 abbrev pub AgreementThroughEdges : Type 0
 AgreementThroughEdges =
     (partners : List (Option VarId)) (v w : VarId) (samples : List (List Value))
-    → list_all (λ s. same_value (value_in s v) (value_in s w)) (map (mapped_sample partners) samples) ≡ same_through samples (partner_at partners v) (partner_at partners w)
+    → list_all (λ s. same_value (value_in s v) (value_in s w)) (map (mapped_sample partners) samples)
+    ≡ same_through samples (partner_at partners v) (partner_at partners w)
 
 -- ---- partners that can stand for variables
 -- A variable and its partner are of one kind, and both base variables or both derived ones.
 pub record ArePartners (infos there : List VarInfo) (partners : List (Option VarId)) : Type 0 where
   pub long : length partners ≡ length infos
-  pub alike : (v w : VarId) → partner_at partners v ≡ Some w → IsSomeAnd (slice_get infos v.0) (λ a. IsSomeAnd (slice_get there w.0) (IsAlike a))
+  pub alike : (v w : VarId) → partner_at partners v ≡ Some w
+      → IsSomeAnd (slice_get infos v.0) (λ a. IsSomeAnd (slice_get there w.0) (IsAlike a))

@@ -25,7 +25,8 @@ abbrev pub WaysGoOn : Type 0
 WaysGoOn =
     (ps : List Point) → has_cycle (nodes ps) ≡ false → (own : OwnSamples) (way : Way)
     → SamplesTellTheSame (samples_through (samples_of ps own) way)
-    (samples_through (own_samples_of ps own) way ++ flat_map (λ e. samples_through (samples_of ps own) (way_below ps way e)) (edges_into (nodes ps) way.point.0))
+    (samples_through (own_samples_of ps own) way
+    ++ flat_map (λ e. samples_through (samples_of ps own) (way_below ps way e)) (edges_into (nodes ps) way.point.0))
 
 -- a way more
 abbrev pub EqualWaysAreOne : Type 0

@@ -31,5 +31,7 @@ TellsStrings _ = Unit {0}
 -- known of it: two different instances print differently.
 abbrev pub TextsTellInstances : Type 0
 TextsTellInstances =
-    (grammar : Grammar) (infos : List VarInfo) → NamesTell infos → (r q : RowId) (vars others : List VarId) → IsInstance grammar infos r vars → IsInstance grammar infos q others
-    → (s t : State) → TellsStrings s → TellsStrings t → instance_text infos r vars s ≡ instance_text infos q others t → (r ≡ q) × (vars ≡ others)
+    (grammar : Grammar) (infos : List VarInfo) → NamesTell infos → (r q : RowId) (vars others : List VarId)
+    → IsInstance grammar infos r vars → IsInstance grammar infos q others
+    → (s t : State) → TellsStrings s → TellsStrings t → instance_text infos r vars s ≡ instance_text infos q others t
+    → (r ≡ q) × (vars ≡ others)

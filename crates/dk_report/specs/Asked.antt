@@ -36,7 +36,9 @@ listed_candidates_by asking row vars = listed_candidates asking.options.now (her
 -- The parents go by the point's grammar and are parents of it, and what is found of the point is all that its facts ask about it.
 pub record CanBeAsked (asking : Asking) : Type 0 where
   pub grammar : asking.grammar ≡ asking.here.now.here.grammar
-  pub parents : All (λ view. (view.answers.now.here.grammar ≡ asking.here.now.here.grammar) × IsViewOf view.answers.now.here.infos asking.here.now.here.infos (parent_of_view view)) asking.parents.now
+  pub parents : All
+      (λ view. (view.answers.now.here.grammar ≡ asking.here.now.here.grammar)
+      × IsViewOf view.answers.now.here.infos asking.here.now.here.infos (parent_of_view view)) asking.parents.now
   pub found : asking.found.now ≡ found_of (here_of asking) (views_of asking)
 
 -- ---- the variables that rows are asked about

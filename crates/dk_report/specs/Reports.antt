@@ -31,14 +31,17 @@ answers_of_point ps own p = answers_of (all_vars_of ps p) (all_samples_of ps own
 
 -- the parents of a point, one for each edge from it
 abbrev pub parents_of : List Point → OwnSamples → ℕ → List Parent
-parents_of ps own p = map (λ e. record { answers = answers_of_point ps own e.parent.0; partners = partners_of ps e }) (edges_from (nodes ps) p)
+parents_of ps own p =
+    map (λ e. record { answers = answers_of_point ps own e.parent.0; partners = partners_of ps e }) (edges_from (nodes ps) p)
 
 -- the instances of the grammar that hold at a point and that no filter that is on drops, in order
 unfoldable pub kept_instances : Grammar → Options → List Point → OwnSamples → ℕ → List Candidate
-kept_instances grammar options ps own p = candidates_kept (keeps options) (candidates_of grammar options.least (answers_of_point ps own p) (parents_of ps own p))
+kept_instances grammar options ps own p =
+    candidates_kept (keeps options) (candidates_of grammar options.least (answers_of_point ps own p) (parents_of ps own p))
 
 -- the section of a point; one without samples has none
 unfoldable pub section_of : Grammar → Options → List Point → OwnSamples → ℕ → List ℕ
 section_of grammar options ps own p =
     if is_empty (all_samples_of ps own p) then []
-    else section_text (name_in_table ps p) ((answers_of_point ps own p).counted []) (all_vars_of ps p) (kept_instances grammar options ps own p)
+    else section_text (name_in_table ps p) ((answers_of_point ps own p).counted []) (all_vars_of ps p)
+    (kept_instances grammar options ps own p)

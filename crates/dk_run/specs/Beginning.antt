@@ -27,7 +27,8 @@ state_name command = unwrap_or command.resume []
 -- The session stands for what the run begins with, and no block was read.
 pub record IsBegun {F : Type 0} (command : Command) (file : List ℕ → HeldFile) (beginning : Beginning F) : Type 0 where
   pub begun : HasBegun command.resume file
-  pub stands : (start : Outset) → Begins command.resume file start → SessionStandsFor beginning.session start.history × (beginning.room ≡ start.room)
+  pub stands : (start : Outset) → Begins command.resume file start
+      → SessionStandsFor beginning.session start.history × (beginning.room ≡ start.room)
   pub room : beginning.room ≤ total_limit
   pub counts : blocks_of beginning.session ≡ 0
   pub over : over_of beginning.session ≡ false
@@ -35,7 +36,8 @@ pub record IsBegun {F : Type 0} (command : Command) (file : List ℕ → HeldFil
 
 -- What a trouble with a state file says, of which this is told.
 abbrev pub StateTroubleGives : HeldFile → Type 0 → Option (List ℕ) → Option (List ℕ) → StartTrouble → Type 0
-StateTroubleGives held rose before rest (Refused why) = (held ≢ Absent) × ((why ≡ TooLong) ⊎ (why ≡ BadState)) × ((xs : List ℕ) → held ≡ Holds xs → IsRefusedAs why xs)
+StateTroubleGives held rose before rest (Refused why) =
+    (held ≢ Absent) × ((why ≡ TooLong) ⊎ (why ≡ BadState)) × ((xs : List ℕ) → held ≡ Holds xs → IsRefusedAs why xs)
 StateTroubleGives held rose before rest Unstarted = HasBroken AtStart held rose × StateUnreadGives AtStart held before rest
 StateTroubleGives held rose before rest Read = HasBroken Within held rose × StateUnreadGives Within held before rest
 StateTroubleGives held rose before rest NoMemory = Unit {0}

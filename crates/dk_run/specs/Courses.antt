@@ -51,12 +51,14 @@ goes_on (Ok t) more = behind_histories (after_block t) (more t.history)
 
 -- the course over groups of lines, the first of which is read by `read`; exits without an entry are left out or refused
 abbrev pub course_of_groups : Bool → Reads Taken → Groups → Course LineFault
-course_of_groups ignores read (Group ls close rest) = goes_on (read ls (Some close)) (λ h. course_of_groups ignores (effect_of ignores h) rest)
+course_of_groups ignores read (Group ls close rest) =
+    goes_on (read ls (Some close)) (λ h. course_of_groups ignores (effect_of ignores h) rest)
 course_of_groups ignores read (Last ls end) = goes_on (after_last read ls end) (λ h. course_end (Ok h))
 
 -- the course over a file, where room bytes may still come
 abbrev pub course_of_file : Bool → ℕ → History → File → Course LineFault
-course_of_file ignores room h file = course_of_groups ignores (effect_of ignores h) (groups_of (lined line_limit room 0 file.is_ended file.bytes))
+course_of_file ignores room h file =
+    course_of_groups ignores (effect_of ignores h) (groups_of (lined line_limit room 0 file.is_ended file.bytes))
 
 -- ---- files
 -- the run ends with the fault of the file at this place, or goes on
@@ -69,7 +71,8 @@ abbrev pub course_of_files : Bool → ℕ → History → ℕ → List File → 
 course_of_files ignores room h place [] = course_end (Ok h)
 course_of_files ignores room h place (file ∷ files) =
     behind_histories (course_of_file ignores room h file).after
-    (then_files place (course_of_file ignores room h file).end (λ next. course_of_files ignores (room - length file.bytes) (file_ended next) (place + 1) files))
+    (then_files place (course_of_file ignores room h file).end
+    (λ next. course_of_files ignores (room - length file.bytes) (file_ended next) (place + 1) files))
 
 -- the course of a run over all of its files, behind its start
 unfoldable pub course_of : Outset → Bool → List File → Course FileFault

@@ -10,7 +10,8 @@ use Rattle.dk_run.specs.Starts.{resumed_start}
 abbrev pub ResumedRunsGoOn : Type 0
 ResumedRunsGoOn =
     (start : Outset) (ignores : Bool) (front files : List File) (mid resumed whole : History) → (course_of start ignores front).end ≡ Ok mid
-    → (course_of (resumed_start mid) ignores files).end ≡ Ok resumed → (course_of start ignores (front ++ files)).end ≡ Ok whole → resumed ≡ whole
+    → (course_of (resumed_start mid) ignores files).end ≡ Ok resumed → (course_of start ignores (front ++ files)).end ≡ Ok whole
+    → resumed ≡ whole
 
 -- A run that begins with what a state file can tell ends with what one can tell.
 abbrev pub RunsEndAtStarts : Type 0

@@ -58,8 +58,8 @@ output_along command course = output_at command course.after course.end
 unfoldable pub output_of : Outset → Command → List File → Output
 output_of start command files = output_along command (course_of start command.ignore_missing_entry files)
 
--- The output of a run that ends since a file of this name can't be read: the reports due within the files that were delivered, of the last of
--- which it may be a part.
+-- The output of a run that ends since a file of this name can't be read: the reports due within the files that were delivered, of the last
+-- of which it may be a part.
 unfoldable pub unread_output : Outset → Command → List File → List ℕ → Output
 unread_output start command delivered name = record {
   report = due_reports command (course_of start command.ignore_missing_entry delivered).after;

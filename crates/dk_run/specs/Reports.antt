@@ -22,7 +22,8 @@ is_due every blocks = nat_lt 0 every && (blocks % every == 0)
 
 -- the report by the way after the block of this number, if one is due
 abbrev pub due_report : Command → ℕ → ℕ × History → List ℕ
-due_report command every e = if is_due every (capped_blocks e.0) then after_blocks_line (capped_blocks e.0) ++ whole_report command e.1 else []
+due_report command every e =
+    if is_due every (capped_blocks e.0) then after_blocks_line (capped_blocks e.0) ++ whole_report command e.1 else []
 
 -- the reports by the way, in the order of the blocks, the first of which has this number
 abbrev pub due_from : Command → ℕ → List History → List ℕ

@@ -50,7 +50,8 @@ var_lines v = var_decl_line v ++ (constant_line v ++ flat_map mapped_line v.pare
 
 -- A declared point: `point NAME`, its edges as they were declared, its variables with what belongs to each, and `end`.
 abbrev pub point_lines : PointDecl → List ℕ
-point_lines d = state_line "point" (escaped d.name ∷ []) ++ (flat_map edge_line d.edges ++ (flat_map var_lines d.vars ++ state_line "end" []))
+point_lines d =
+    state_line "point" (escaped d.name ∷ []) ++ (flat_map edge_line d.edges ++ (flat_map var_lines d.vars ++ state_line "end" []))
 
 -- the declarations of the declared points, in order
 abbrev pub decls_of : List Point → List PointDecl

@@ -21,7 +21,8 @@ has_none bytes other = list_all (λ b. not (b == other)) bytes
 -- a name that a line can tell: it is not empty, neither begins nor ends with a tab (9), and has no LF (10)
 abbrev pub is_name : List ℕ → Bool
 is_name name =
-    nat_lt 0 (length name) && (not (slice_index_or name 0 0 == 9) && (not (slice_index_or name (length name - 1) 0 == 9) && has_none name 10))
+    nat_lt 0 (length name)
+    && (not (slice_index_or name 0 0 == 9) && (not (slice_index_or name (length name - 1) 0 == 9) && has_none name 10))
 
 -- an edge is told by words, so its name has no tab
 abbrev pub is_given_edge : EdgeDecl → Bool
@@ -37,7 +38,8 @@ is_given_constant there kind None = not there || is_none kind
 is_given_constant there kind (Some x) = there && not (is_missing x)
 
 abbrev pub is_given_var : ℕ → VarDecl → Bool
-is_given_var edges v = is_name v.name && (is_given_constant v.constant_line v.kind v.constant && list_all (is_given_counterpart v.name edges) v.parents)
+is_given_var edges v =
+    is_name v.name && (is_given_constant v.constant_line v.kind v.constant && list_all (is_given_counterpart v.name edges) v.parents)
 
 -- none of the names is one that was seen, or comes twice
 abbrev pub all_new : List (List ℕ) → List (List ℕ) → Bool

@@ -13,14 +13,18 @@ use Rattle.dk_state.specs.StateFile.{state_file_of}
 
 -- the compact form of samples is what an engine keeps of them
 abbrev pub CompactFormIsKept : Type 0
-CompactFormIsKept = (g : Grammar) (infos : List VarInfo) (samples : List (List Value)) → IsKeptOf g infos samples (compact_form_of g infos samples)
+CompactFormIsKept =
+    (g : Grammar) (infos : List VarInfo) (samples : List (List Value)) → IsKeptOf g infos samples (compact_form_of g infos samples)
 
 -- the state file doesn't depend on the order of a point's samples
 abbrev pub OrderOfSamplesDoesNotMatter : Type 0
 OrderOfSamplesDoesNotMatter =
-    (g : Grammar) (ps : List Point) (implicit : Bool) (own others : OwnSamples) → ((p : ℕ) → IsPermutation (slice_index_or own p []) (slice_index_or others p []))
+    (g : Grammar) (ps : List Point) (implicit : Bool) (own others : OwnSamples)
+    → ((p : ℕ) → IsPermutation (slice_index_or own p []) (slice_index_or others p []))
     → state_file_of g ps implicit own ≡ state_file_of g ps implicit others
 
 -- every state file of a history that can be saved is a spelling
 abbrev pub StateFilesAreSpellings : Type 0
-StateFilesAreSpellings = (g : Grammar) (ps : List Point) (implicit : Bool) (own : OwnSamples) → CanBeSaved g ps own → IsSpelling (state_file_of g ps implicit own)
+StateFilesAreSpellings =
+    (g : Grammar) (ps : List Point) (implicit : Bool) (own : OwnSamples) → CanBeSaved g ps own
+    → IsSpelling (state_file_of g ps implicit own)

@@ -33,13 +33,15 @@ IsEngineAt ps g p engine = (engine.infos ≡ all_vars_of ps p) × AreOfPoint eng
 abbrev pub IsLoadedAs : Grammar → List Point → ℕ → Option Parts → Whole → Type 0
 IsLoadedAs g ps p None engine = IsKeptOf g (all_vars_of ps p) [] engine.kept
 IsLoadedAs g ps p (Some parts) engine = (parts_of engine.kept ≡ parts)
-    × ((samples : List (List Value)) (kept : Kept) → AreSamples (all_vars_of ps p) samples → IsKeptOf g (all_vars_of ps p) samples kept → parts_of kept ≡ parts
+    × ((samples : List (List Value)) (kept : Kept) → AreSamples (all_vars_of ps p) samples → IsKeptOf g (all_vars_of ps p) samples kept
+    → parts_of kept ≡ parts
     → IsKeptOf g (all_vars_of ps p) samples engine.kept)
 
 -- engines of what is saved for each point
 pub record AreLoadedAs (g : Grammar) (ps : List Point) (saved : List (Option Parts)) (engines : List Whole) : Type 0 where
   pub long : length engines ≡ length saved
-  pub each : (p : ℕ) (own : Option Parts) (engine : Whole) → slice_get saved p ≡ Some own → slice_get engines p ≡ Some engine → IsLoadedAs g ps p own engine
+  pub each : (p : ℕ) (own : Option Parts) (engine : Whole) → slice_get saved p ≡ Some own → slice_get engines p ≡ Some engine
+      → IsLoadedAs g ps p own engine
 
 -- what is saved of each engine meets the conditions
 abbrev pub AreSaved : Grammar → List Point → List Whole → Type 0
@@ -47,4 +49,5 @@ AreSaved g ps engines = (p : ℕ) (engine : Whole) → slice_get engines p ≡ S
 
 -- what a file of this content says
 abbrev pub IsLoaded : Content → Loaded → Type 0
-IsLoaded c l = (l.grammar ≡ c.grammar) × (l.points ≡ c.points) × (l.implicit ≡ c.implicit) × AreLoadedAs c.grammar c.points c.saved l.engines
+IsLoaded c l =
+    (l.grammar ≡ c.grammar) × (l.points ≡ c.points) × (l.implicit ≡ c.implicit) × AreLoadedAs c.grammar c.points c.saved l.engines

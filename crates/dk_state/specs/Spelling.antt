@@ -39,7 +39,8 @@ pub record IsOwnTable (ps : List Point) : Type 0 where
   pub given : All CanBeGiven (decls_of ps)
 
 -- ---- what a state file says
--- the grammar, the table of points, the comparability word, and for each point of the table what is kept of its own samples, if there are any
+-- the grammar, the table of points, the comparability word, and for each point of the table what is kept of its own samples, if there are
+-- any
 pub record Content : Type 0 where
   pub grammar : Grammar
   pub points : List Point

@@ -61,6 +61,7 @@ told_fields (state.One k) = signed_decimal k ∷ []
 told_fields (state.Modulus m r) = decimal m ∷ decimal r ∷ []
 told_fields (state.Spot x y) = signed_decimal x ∷ signed_decimal y ∷ []
 told_fields (state.Straight a b c) = signed_decimal a ∷ signed_decimal b ∷ signed_decimal c ∷ []
-told_fields (state.Span x1 y1 z1 x2 y2 z2) = signed_decimal x1 ∷ signed_decimal y1 ∷ signed_decimal z1 ∷ signed_decimal x2 ∷ signed_decimal y2 ∷ signed_decimal z2 ∷ []
+told_fields (state.Span x1 y1 z1 x2 y2 z2) =
+    signed_decimal x1 ∷ signed_decimal y1 ∷ signed_decimal z1 ∷ signed_decimal x2 ∷ signed_decimal y2 ∷ signed_decimal z2 ∷ []
 told_fields (state.Plane a b c d) = signed_decimal a ∷ signed_decimal b ∷ signed_decimal c ∷ signed_decimal d ∷ []
 told_fields (state.Offset k) = signed_decimal k ∷ []
