@@ -22,8 +22,9 @@ pub(crate) fn own_partners(alloc: Global, number: u32) -> Result<List<Option<Var
     Ok(partners)
 }
 
-// The partner of each variable of the edge's parent, in their order.
-pub(crate) fn partners_of(
+/// The partner of each variable of the edge's parent, in their order; none where a variable has none. It asks for the variables of the two
+/// points, fewer than 2^32 each. Want of memory is the only error.
+pub fn partners_of(
     alloc: Global,
     points: &Points,
     edge: Edge,

@@ -6,6 +6,7 @@ use Rattle.dk_base.specs.declared.kinds.VarId.{VarId}
 use Rattle.dk_base.specs.declared.kinds.VarInfo.{VarInfo}
 use Rattle.dk_base.specs.declared.values.Value.{Value}
 use Rattle.dk_classes.specs.Leaders.{own_leaders}
+use Rattle.dk_engine.specs.Feeding.{is_broken}
 use Rattle.dk_engine.specs.declared.counts.Counts.{Counts}
 use Rattle.dk_engine.specs.declared.kept.Kept.{Kept}
 use Rattle.dk_filters.specs.OfSamples.{agrees}
@@ -42,10 +43,6 @@ is_constant_in (s ∷ samples) v = list_all (λ t. same_value (value_in t v) (va
 abbrev pub each_once : List (List VarId) → List (List VarId)
 each_once [] = []
 each_once (pattern ∷ patterns) = pattern ∷ filter (λ p. not (same_vars pattern p)) (each_once patterns)
-
-abbrev pub is_broken : State → Bool
-is_broken state.Broken = true
-is_broken _ = false
 
 -- A slot is a row with leaders that it admits in its written order, repeats allowed, not all of them constant; its fit isn't broken, and
 -- no rule suppresses it.

@@ -26,7 +26,8 @@ use Rattle.dk_report.specs.declared.options.Options.{Options}
 use Rattle.dk_words.specs.declared.command.Command.{Command}
 use Rattle.dk_run.specs.Courses.{Course, behind_histories, course_end, goes_on}
 use Rattle.dk_print.specs.Sections.{after_blocks_line}
-use Rattle.dk_run.specs.Reports.{capped_blocks, due_from, due_report, is_due, whole_report}
+use Rattle.dk_presence.specs.Patterns.{capped}
+use Rattle.dk_run.specs.Reports.{due_from, due_report, is_due, whole_report}
 use Rattle.dk_run.specs.WholeFile.{ComesToEnd, FileGoesOn, HasFault, FileGives, IsBroken, IsCalmUnless, IsShort, StartedGives, TroubleGives, Within, course_behind, trouble_of_fault, fresh_reading, trouble_of_halt}
 use Rattle.dk_run.specs.Telling.{HaltHasCause, ReportsBy}
 use Rattle.dk_run.specs.declared.reading.Trouble.{Trouble}
@@ -43,7 +44,7 @@ due_text command blocks h = option_map_or (λ every. (if is_due every blocks the
 
 due_one : (command : Command) (every : Option ℕ) (n : ℕ) (h : History)
     → option_map_or (λ every. flat_map (due_report command every) (enumerate_from n (h ∷ []))) every []
-    ≡ option_map_or (λ every. (if is_due every (capped_blocks n) then after_blocks_line (capped_blocks n) ++ whole_report command h else [])) every []
+    ≡ option_map_or (λ every. (if is_due every (capped n) then after_blocks_line (capped n) ++ whole_report command h else [])) every []
 due_one command None n h = refl
 due_one command (Some every) n h = append-nil _
 
@@ -69,17 +70,17 @@ due_none_of command (Some every) n = refl
 pub due_none : (command : Command) (n : ℕ) → due_from command n [] ≡ []
 due_none command n = due_none_of command command.every n
 
-pub due_more : (command : Command) (n : ℕ) (a : List History) (h : History) (blocks : ℕ) → blocks ≡ capped_blocks (n + length a) → due_from command n (a ++ h ∷ []) ≡ due_from command n a ++ due_text command blocks h
+pub due_more : (command : Command) (n : ℕ) (a : List History) (h : History) (blocks : ℕ) → blocks ≡ capped (n + length a) → due_from command n (a ++ h ∷ []) ≡ due_from command n a ++ due_text command blocks h
 due_more command n a h blocks e =
     due_append command n a (h ∷ [])
     ∙ ap (λ (l : List ℕ). due_from command n a ++ l) (due_one command command.every (n + length a) h)
     ∙ ap (λ (b : ℕ). due_from command n a ++ due_text command b h) (sym e)
 
 -- ---- numbers of blocks
-one_more : (n : ℕ) (a : List History) (h : History) (b c : ℕ) → b ≡ capped_blocks (n + length a) → c ≡ min (b + 1) (2 ^ 64 - 1) → c ≡ capped_blocks (n + length (a ++ h ∷ []))
+one_more : (n : ℕ) (a : List History) (h : History) (b c : ℕ) → b ≡ capped (n + length a) → c ≡ min (b + 1) (2 ^ 64 - 1) → c ≡ capped (n + length (a ++ h ∷ []))
 one_more n a h b c e f = omega (arith, e, f, length-append a (h ∷ []))
 
-one_next : (n : ℕ) (a : List History) (b c : ℕ) → b ≡ capped_blocks (n + length a) → c ≡ min (b + 1) (2 ^ 64 - 1) → c ≡ capped_blocks (n + 1 + length a)
+one_next : (n : ℕ) (a : List History) (b c : ℕ) → b ≡ capped (n + length a) → c ≡ min (b + 1) (2 ^ 64 - 1) → c ≡ capped (n + 1 + length a)
 one_next n a b c e f = omega (arith, e, f)
 
 -- ---- bytes
@@ -139,14 +140,14 @@ within_on ignores h h1 h2 r new last xs ys zs after over over2 a b = record {
 
 -- ---- a file
 -- in front of the first block
-pub not_begun : (command : Command) (n : ℕ) (h : History) (r : Reading) (o : Option (List ℕ)) (Stands : History → Type 0) (blocks : ℕ) (over : Bool) → over ≡ false → Stands h → blocks ≡ capped_blocks n
+pub not_begun : (command : Command) (n : ℕ) (h : History) (r : Reading) (o : Option (List ℕ)) (Stands : History → Type 0) (blocks : ℕ) (over : Bool) → over ≡ false → Stands h → blocks ≡ capped n
     → IfSome o (λ xs. FileGoesOn command n h r xs [] Stands blocks over r o)
 not_begun command n h r None Stands blocks over begun stands counts = tt
 not_begun command n h r (Some xs) Stands blocks over begun stands counts = record {
   after = [];
   next = h;
   stands = stands;
-  counts = counts ∙ ap capped_blocks (omega arith);
+  counts = counts ∙ ap capped (omega arith);
   told = sym (due_none command (n + 1));
   ys = xs;
   left_is = refl;

@@ -18,7 +18,7 @@ use Rattle.dk_run.specs.Commands.{file_names, generated_count, helds_of}
 use Rattle.dk_run.specs.Courses.{Outset, line_limit}
 use Rattle.dk_run.specs.Starts.{Begins}
 use Rattle.dk_run.specs.Files.{file_name_at}
-use Rattle.dk_run.specs.Reports.{capped_blocks}
+use Rattle.dk_presence.specs.Patterns.{capped}
 use Rattle.dk_run.specs.Statuses.{held_file_at, rest_behind}
 use Rattle.dk_run.specs.WholeFile.{ComesToEnd, FileGives, FileTroubleGives, HasFault, IsNoBreak, IsShort, TextGives, fresh_reading}
 use Rattle.dk_run.specs.declared.reading.Trouble.{Trouble}
@@ -67,7 +67,7 @@ rest_next count index before after e = let next : suc index ≡ count + index + 
 pub named_on : {F : Type 0} (command : Command) (file : List ℕ → HeldFile) (before mid after : Option (List ℕ)) (s next : Session F) (index : ℕ) (r last : Reading) (told text name : List ℕ)
     → name ≡ file_name_at command.files index → index < length command.files → r.limits.line ≡ line_limit → file name ≢ Absent
     → AreReadTo command file before mid (SessionStandsFor s) (blocks_of s) (room_of r) (generated_count command + index) told
-    → ((h : History) (n : ℕ) → SessionStandsFor s h → blocks_of s ≡ capped_blocks n → (xs : List ℕ) → file name ≡ Holds xs → FileGives command n h r xs text mid (Ok next) last after)
+    → ((h : History) (n : ℕ) → SessionStandsFor s h → blocks_of s ≡ capped n → (xs : List ℕ) → file name ≡ Holds xs → FileGives command n h r xs text mid (Ok next) last after)
     → AreReadTo command file before after (SessionStandsFor next) (blocks_of next) (room_of last) (generated_count command + (index + 1)) (told ++ text)
 named_on command file before mid after s next index r last told text name is within limits there read gives =
     let here : held_file_at (helds_of command file) (generated_count command + index) ≡ file name = held_named command file index within ∙ ap file (sym is) in
@@ -81,7 +81,7 @@ pub named_trouble : {F : Type 0} (command : Command) (file : List ℕ → HeldFi
     → name ≡ file_name_at command.files index → index < length command.files → r.limits.line ≡ line_limit → ((trouble ≡ t.Start → ⊥) → file name ≢ Absent)
     → (trouble ≡ t.Start → (text ≡ []) × (rest ≡ mid))
     → AreReadTo command file before mid (SessionStandsFor s) (blocks_of s) (room_of r) (generated_count command + index) told
-    → ((h : History) (n : ℕ) → SessionStandsFor s h → blocks_of s ≡ capped_blocks n → (xs : List ℕ) → file name ≡ Holds xs → FileTroubleGives command n h r xs text mid trouble rest)
+    → ((h : History) (n : ℕ) → SessionStandsFor s h → blocks_of s ≡ capped n → (xs : List ℕ) → file name ≡ Holds xs → FileTroubleGives command n h r xs text mid trouble rest)
     → FilesTroubleGives command file before (told ++ text) (files_trouble (generated_count command + index) trouble) rest
 named_trouble command file before mid rest s index r told text name trouble is within limits there unstarted read gives =
     let here : held_file_at (helds_of command file) (generated_count command + index) ≡ file name = held_named command file index within ∙ ap file (sym is) in
@@ -89,7 +89,7 @@ named_trouble command file before mid rest s index r told text name trouble is w
     go trouble below here there unstarted gives where
       go : (trouble : Trouble) → generated_count command + index < length (helds_of command file) → held_file_at (helds_of command file) (generated_count command + index) ≡ file name
           → ((trouble ≡ t.Start → ⊥) → file name ≢ Absent) → (trouble ≡ t.Start → (text ≡ []) × (rest ≡ mid))
-          → ((h : History) (n : ℕ) → SessionStandsFor s h → blocks_of s ≡ capped_blocks n → (xs : List ℕ) → file name ≡ Holds xs → FileTroubleGives command n h r xs text mid trouble rest)
+          → ((h : History) (n : ℕ) → SessionStandsFor s h → blocks_of s ≡ capped n → (xs : List ℕ) → file name ≡ Holds xs → FileTroubleGives command n h r xs text mid trouble rest)
           → FilesTroubleGives command file before (told ++ text) (files_trouble (generated_count command + index) trouble) rest
       go (t.Refused line why) below here there unstarted gives = refused_on command file before mid (SessionStandsFor s) (blocks_of s) (generated_count command + index) line why r told text limits below
           (λ absent. there (λ e. cc (e)) (sym here ∙ absent)) read (λ h n stands counts xs holds. gives h n stands counts xs (sym here ∙ holds))
@@ -166,7 +166,7 @@ none_generated command file before Stands blocks room e stands none =
 pub generated_on : {F : Type 0} (command : Command) (file : List ℕ → HeldFile) (before : Option (List ℕ)) (s next : Session F) (r last : Reading) (n : ℕ) (bytes text : List ℕ)
     → command.generate ≡ Some n → bytes ≡ generated_text n → r.limits.line ≡ line_limit
     → ((start : Outset) → Begins command.resume file start → SessionStandsFor s start.history × (room_of r ≡ start.room)) → blocks_of s ≡ 0
-    → ((h : History) (k : ℕ) → SessionStandsFor s h → blocks_of s ≡ capped_blocks k → TextGives command k h r bytes text (Ok next) last)
+    → ((h : History) (k : ℕ) → SessionStandsFor s h → blocks_of s ≡ capped k → TextGives command k h r bytes text (Ok next) last)
     → AreReadTo command file before before (SessionStandsFor next) (blocks_of next) (room_of last) (generated_count command) text
 generated_on command file before s next r last n bytes text e is limits stands none gives =
     let count : 0 + 1 ≡ generated_count command = omega (arith, count_of command n e) in
@@ -180,7 +180,7 @@ pub generated_trouble : {F : Type 0} (command : Command) (file : List ℕ → He
     → command.generate ≡ Some n → bytes ≡ generated_text n → r.limits.line ≡ line_limit
     → ((start : Outset) → Begins command.resume file start → SessionStandsFor s start.history × (room_of r ≡ start.room)) → blocks_of s ≡ 0
     → IsNoBreak {A = Session F} (Err trouble)
-    → ((h : History) (k : ℕ) → SessionStandsFor s h → blocks_of s ≡ capped_blocks k → TextGives {F = F} command k h r bytes text (Err trouble) last)
+    → ((h : History) (k : ℕ) → SessionStandsFor s h → blocks_of s ≡ capped k → TextGives {F = F} command k h r bytes text (Err trouble) last)
     → FilesTroubleGives command file before text (files_trouble 0 trouble) before
 generated_trouble command file before s r last n bytes text (t.Refused line why) e is limits stands none steady gives =
     refused_on command file before before (SessionStandsFor s) (blocks_of s) 0 line why r [] text limits (first_below command file n e) (first_there command file n e) (read_none command file before (SessionStandsFor s) (blocks_of s) (room_of r) stands none)

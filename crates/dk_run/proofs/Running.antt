@@ -23,7 +23,8 @@ use Rattle.dk_run.specs.Commands.{file_names, generated_count, helds_of}
 use Rattle.dk_run.specs.Courses.{Course, Outset, behind_histories, course_end, course_of, course_of_file, course_of_files, fault_in, first_fault, goes_on, line_limit, then_files}
 use Rattle.dk_run.specs.Starts.{Begins}
 use Rattle.dk_run.specs.Files.{AreHeldFiles, File, FileFault, cut_file, ended_file, file_name_at}
-use Rattle.dk_run.specs.Reports.{capped_blocks, due_from, due_reports}
+use Rattle.dk_presence.specs.Patterns.{capped}
+use Rattle.dk_run.specs.Reports.{due_from, due_reports}
 use Rattle.dk_run.specs.Statuses.{AreCleanBehind, AtStart, Break, HasBroken, IsDelivered, Within, held_file_at, rest_behind}
 use Rattle.dk_run.specs.WholeFile.{ComesToEnd, FileTroubleGives, HasFault, IsBroken, IsCalmUnless, IsShort, course_behind, fresh_reading}
 use Rattle.dk_run.specs.declared.reading.Trouble.{Trouble}
@@ -123,7 +124,7 @@ runs_on : (start : Outset) (command : Command) (helds : List HeldFile) (before m
     → r.limits.line ≡ line_limit → place < length helds
     → ((mid ≡ rest_behind (place - generated_count command) before) → left ≡ Some [] → after ≡ rest_behind (place + 1 - generated_count command) before)
     → ((contents : List (List ℕ)) → AreHeldFiles (take place helds) contents → RunsOn start command before mid Stands blocks (room_of r) place told contents)
-    → ((h : History) (n : ℕ) → Stands h → blocks ≡ capped_blocks n → (xs : List ℕ) → held_file_at helds place ≡ Holds xs → ComesToEnd command n h (fresh_reading r) xs text Next more last left)
+    → ((h : History) (n : ℕ) → Stands h → blocks ≡ capped n → (xs : List ℕ) → held_file_at helds place ≡ Holds xs → ComesToEnd command n h (fresh_reading r) xs text Next more last left)
     → AreHeldFiles (take (place + 1) helds) contents → RunsOn start command before after Next more (room_of last) (place + 1) (told ++ text) contents
 runs_on start command helds before mid after left Stands Next blocks more place r last told text contents limits within rest runs gives held =
     let m = one_more helds contents place within held in
@@ -134,7 +135,7 @@ runs_on start command helds before mid after left Stands Next blocks more place 
       after = on.after ++ e.after;
       history = file_ended e.next;
       stands = e.stands;
-      counts = e.counts ∙ ap capped_blocks (sym (length-append on.after e.after));
+      counts = e.counts ∙ ap capped (sym (length-append on.after e.after));
       told = ap (λ (l : List ℕ). l ++ text) on.told ∙ ap (λ (l : List ℕ). due_reports command on.after ++ l) (e.told ∙ ap (λ (n : ℕ). due_from command n e.after) number) ∙ sym (due_append command 1 on.after e.after);
       rest_is = rest on.rest_is e.nothing_left;
       goes = λ fs.
@@ -149,7 +150,7 @@ pub read_on : (command : Command) (file : List ℕ → HeldFile) (before mid aft
     → r.limits.line ≡ line_limit → place < length (helds_of command file) → held_file_at (helds_of command file) place ≢ Absent
     → ((mid ≡ rest_behind (place - generated_count command) before) → left ≡ Some [] → after ≡ rest_behind (place + 1 - generated_count command) before)
     → AreReadTo command file before mid Stands blocks (room_of r) place told
-    → ((h : History) (n : ℕ) → Stands h → blocks ≡ capped_blocks n → (xs : List ℕ) → held_file_at (helds_of command file) place ≡ Holds xs → ComesToEnd command n h (fresh_reading r) xs text Next more last left)
+    → ((h : History) (n : ℕ) → Stands h → blocks ≡ capped n → (xs : List ℕ) → held_file_at (helds_of command file) place ≡ Holds xs → ComesToEnd command n h (fresh_reading r) xs text Next more last left)
     → AreReadTo command file before after Next more (room_of last) (place + 1) (told ++ text)
 read_on command file before mid after left Stands Next blocks more place r last told text limits within there rest read gives =
     let runs = λ (start : Outset) (begins : Begins command.resume file start) (contents : List (List ℕ)) (held : AreHeldFiles (take (place + 1) (helds_of command file)) contents).
@@ -165,7 +166,7 @@ read_on command file before mid after left Stands Next blocks more place r last 
 pub refused_on : (command : Command) (file : List ℕ → HeldFile) (before mid : Option (List ℕ)) (Stands : History → Type 0) (blocks place line : ℕ) (why : Why) (r : Reading) (told text : List ℕ)
     → r.limits.line ≡ line_limit → place < length (helds_of command file) → held_file_at (helds_of command file) place ≢ Absent
     → AreReadTo command file before mid Stands blocks (room_of r) place told
-    → ((h : History) (n : ℕ) → Stands h → blocks ≡ capped_blocks n → (xs : List ℕ) → held_file_at (helds_of command file) place ≡ Holds xs → HasFault command n h (fresh_reading r) xs text (record { line = line; why = why }))
+    → ((h : History) (n : ℕ) → Stands h → blocks ≡ capped n → (xs : List ℕ) → held_file_at (helds_of command file) place ≡ Holds xs → HasFault command n h (fresh_reading r) xs text (record { line = line; why = why }))
     → IsRefusedAt command file (told ++ text) place line why
 refused_on command file before mid Stands blocks place line why r told text limits within there read gives = record {
   named = within;
@@ -223,7 +224,7 @@ unstarted_on command file before mid rest Stands blocks place r told text behind
 pub unread_on : (command : Command) (file : List ℕ → HeldFile) (before mid rest : Option (List ℕ)) (Stands : History → Type 0) (blocks place : ℕ) (r : Reading) (told text : List ℕ)
     → r.limits.line ≡ line_limit → generated_count command ≤ place → place < length (helds_of command file)
     → AreReadTo command file before mid Stands blocks (room_of r) place told
-    → ((h : History) (n : ℕ) → Stands h → blocks ≡ capped_blocks n → (xs : List ℕ) → held_file_at (helds_of command file) place ≡ Holds xs → IsBroken command n h (fresh_reading r) xs text rest)
+    → ((h : History) (n : ℕ) → Stands h → blocks ≡ capped n → (xs : List ℕ) → held_file_at (helds_of command file) place ≡ Holds xs → IsBroken command n h (fresh_reading r) xs text rest)
     → IsUnreadAt Within command file before rest (told ++ text) place
 unread_on command file before mid rest Stands blocks place r told text limits behind within read gives = record {
   behind = behind;
@@ -241,7 +242,7 @@ unread_on command file before mid rest Stands blocks place r told text limits be
 pub short_on : (command : Command) (file : List ℕ → HeldFile) (before mid : Option (List ℕ)) (Stands : History → Type 0) (blocks place : ℕ) (r : Reading) (told text : List ℕ)
     → r.limits.line ≡ line_limit → place < length (helds_of command file) → held_file_at (helds_of command file) place ≢ Absent
     → AreReadTo command file before mid Stands blocks (room_of r) place told
-    → ((h : History) (n : ℕ) → Stands h → blocks ≡ capped_blocks n → (xs : List ℕ) → held_file_at (helds_of command file) place ≡ Holds xs → IsShort command n h (fresh_reading r) xs text)
+    → ((h : History) (n : ℕ) → Stands h → blocks ≡ capped n → (xs : List ℕ) → held_file_at (helds_of command file) place ≡ Holds xs → IsShort command n h (fresh_reading r) xs text)
     → IsShortTo command file (told ++ text)
 short_on command file before mid Stands blocks place r told text limits within there read gives = record {
   place = place + 1;

@@ -11,7 +11,8 @@ use Rattle.dk_words.specs.declared.command.Command.{Command}
 use Rattle.dk_run.specs.Commands.{file_names, generated_count, helds_of}
 use Rattle.dk_run.specs.Courses.{Outset, behind_histories, course_of, course_of_files, first_fault}
 use Rattle.dk_run.specs.Files.{AreHeldFiles, File, ended_file}
-use Rattle.dk_run.specs.Reports.{capped_blocks, due_reports}
+use Rattle.dk_presence.specs.Patterns.{capped}
+use Rattle.dk_run.specs.Reports.{due_reports}
 use Rattle.dk_run.specs.Starts.{Begins}
 use Rattle.dk_run.specs.Statuses.{Break, AtStart, Within, AreClean, HasBroken, IsDelivered, held_file_at, rest_behind}
 use Rattle.dk_run.specs.declared.reading.Trouble.{Trouble}
@@ -26,7 +27,7 @@ pub record RunsOn (start : Outset) (command : Command) (before rest : Option (Li
   pub after : List History
   pub history : History
   pub stands : Stands history
-  pub counts : blocks ≡ capped_blocks (length after)
+  pub counts : blocks ≡ capped (length after)
   pub told : text ≡ due_reports command after
   pub rest_is : rest ≡ rest_behind (place - generated_count command) before
   pub goes : (files : List File)

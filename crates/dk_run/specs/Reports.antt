@@ -1,16 +1,13 @@
 -- The reports of a run.
-use Rattle.std.specs.Prelude.{◌==◌, ◌%◌, ◌^◌, ◌-◌, ◌&&◌, ℕ, Bool, List, [], ◌++◌, flat_map, min, nat_lt, if◌then◌else◌}
+use Rattle.std.specs.Prelude.{◌==◌, ◌%◌, ◌&&◌, ℕ, Bool, List, [], ◌++◌, flat_map, nat_lt, if◌then◌else◌}
 use Rattle.std.specs.List.{enumerate_from}
 use Rattle.std.specs.Option.{option_map_or}
 use Rattle.dk_core.specs.History.{History}
 use Rattle.dk_core.specs.Sections.{all_stats_of, report_of}
+use Rattle.dk_presence.specs.Patterns.{capped}
 use Rattle.dk_words.specs.declared.command.Command.{Command}
 use Rattle.dk_run.specs.Commands.{is_selected, report_options}
 use Rattle.dk_print.specs.Sections.{after_blocks_line, end_line}
-
--- a number of blocks, which stays at 2^64 - 1
-abbrev pub capped_blocks : ℕ → ℕ
-capped_blocks n = min n (2 ^ 64 - 1)
 
 -- the sections, and behind them the sizes where they are asked for
 unfoldable pub whole_report : Command → History → List ℕ
@@ -23,7 +20,7 @@ is_due every blocks = nat_lt 0 every && (blocks % every == 0)
 -- the report by the way after the block of this number, if one is due
 abbrev pub due_report : Command → ℕ → ℕ × History → List ℕ
 due_report command every e =
-    if is_due every (capped_blocks e.0) then after_blocks_line (capped_blocks e.0) ++ whole_report command e.1 else []
+    if is_due every (capped e.0) then after_blocks_line (capped e.0) ++ whole_report command e.1 else []
 
 -- the reports by the way, in the order of the blocks, the first of which has this number
 abbrev pub due_from : Command → ℕ → List History → List ℕ
@@ -34,4 +31,4 @@ due_reports command after = due_from command 1 after
 
 -- the last report, after so many blocks; where there are reports by the way, it follows a line that says so
 abbrev pub last_report : Command → ℕ → History → List ℕ
-last_report command blocks h = option_map_or (λ every. end_line (capped_blocks blocks)) command.every [] ++ whole_report command h
+last_report command blocks h = option_map_or (λ every. end_line (capped blocks)) command.every [] ++ whole_report command h

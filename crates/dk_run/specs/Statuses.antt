@@ -38,6 +38,16 @@ pub record Outside : Type 0 where
   pub written : Texts
   pub write_faults : ℕ
 
+-- the moment at which they tell these
+abbrev pub outside : (List ℕ → HeldFile) → Option (List ℕ) → ℕ → Texts → ℕ → Outside
+outside file rest read_faults written write_faults = record {
+  file = file;
+  rest = rest;
+  read_faults = read_faults;
+  written = written;
+  write_faults = write_faults;
+}
+
 -- ---- what was read
 -- what is left of the inputs when this many named files were read to their ends
 abbrev pub rest_behind : ℕ → Option (List ℕ) → Option (List ℕ)

@@ -11,7 +11,8 @@ use Rattle.dk_core.specs.Steps.{groups_left}
 use Rattle.dk_core.specs.declared.session.Session.{Session}
 use Rattle.dk_words.specs.declared.command.Command.{Command}
 use Rattle.dk_run.specs.Courses.{Course, behind_histories, course_of_groups}
-use Rattle.dk_run.specs.Reports.{capped_blocks, due_from}
+use Rattle.dk_presence.specs.Patterns.{capped}
+use Rattle.dk_run.specs.Reports.{due_from}
 use Rattle.dk_base.specs.declared.faults.Fault.{Fault}
 use Rattle.dk_base.specs.declared.faults.Fault.TheVariants as fault
 use Rattle.dk_run.specs.declared.reporting.Halt.{Halt}
@@ -43,7 +44,7 @@ pub record FileGoesOn (command : Command) (n : ℕ) (history : History) (old : R
   pub after : List History
   pub next : History
   pub stands : Stands next
-  pub counts : blocks ≡ capped_blocks (n + length after)
+  pub counts : blocks ≡ capped (n + length after)
   pub told : text ≡ due_from command (n + 1) after
   pub ys : List ℕ
   pub left_is : left ≡ Some ys
@@ -55,7 +56,7 @@ pub record ComesToEnd (command : Command) (n : ℕ) (history : History) (old : R
   pub after : List History
   pub next : History
   pub stands : Stands (file_ended next)
-  pub counts : blocks ≡ capped_blocks (n + length after)
+  pub counts : blocks ≡ capped (n + length after)
   pub told : text ≡ due_from command (n + 1) after
   pub nothing_left : left ≡ Some []
   pub room : room_of new ≡ room_of old - length xs

@@ -12,7 +12,7 @@ ghost use Rattle.dk_run.specs.Commands.{file_names, generated_count, helds_of, i
 ghost use Rattle.dk_run.specs.Courses.{Outset, line_limit};
 ghost use Rattle.dk_run.specs.Starts.{Begins};
 ghost use Rattle.dk_run.specs.Files.{file_name_at};
-ghost use Rattle.dk_run.specs.Reports.{capped_blocks};
+ghost use Rattle.dk_presence.specs.Patterns.{capped};
 ghost use Rattle.dk_run.specs.Telling.{Added, ReportsBy};
 ghost use Rattle.dk_run.specs.WholeFile.{FileGives, IsCalmBut, IsNoBreak, StartedGives, TextGives, trouble_of_fault as faulted_by, trouble_of_halt as halted_by, unstarted_reading};
 
@@ -87,7 +87,7 @@ fn read_started<F: Fn(&[u8]) -> bool + Drop, I: Inputs, S: Sinks>(
     requires callable { F.IsAlwaysCallable (select_of session) }
     requires selects { SelectsBy (F.post (select_of session)) (is_selected command.now) }
     ensures gives { Added (S.written sinks.old) (S.written sinks.new) stream.Report (λ text.
-        (h : History) (n : ℕ) → SessionStandsFor session h → blocks_of session ≡ capped_blocks n → IfSome (left_of lines.old (I.rest inputs.old))
+        (h : History) (n : ℕ) → SessionStandsFor session h → blocks_of session ≡ capped n → IfSome (left_of lines.old (I.rest inputs.old))
         (λ xs. StartedGives command.now n h lines.old xs text result lines.new (left_of lines.new (I.rest inputs.new)))) }
     ensures calm { IsCalmBut (S.faults sinks.old) (S.faults sinks.new) result }
     ensures over { IfOk result (λ next. over_of next ≡ false) }
@@ -128,7 +128,7 @@ fn read_file<F: Fn(&[u8]) -> bool + Drop, I: Inputs, S: Sinks>(
     requires selects { SelectsBy (F.post (select_of session)) (is_selected command.now) }
     ensures gives { Added (S.written sinks.old) (S.written sinks.new) stream.Report (λ text.
         (result ≡ Err Trouble.Start → text ≡ [])
-        × ((h : History) (n : ℕ) → SessionStandsFor session h → blocks_of session ≡ capped_blocks n → (xs : List ℕ) → I.file inputs.old name.now ≡ Holds xs
+        × ((h : History) (n : ℕ) → SessionStandsFor session h → blocks_of session ≡ capped n → (xs : List ℕ) → I.file inputs.old name.now ≡ Holds xs
         → FileGives command.now n h lines.old xs text (I.rest inputs.old) result lines.new (I.rest inputs.new))) }
     ensures calm { IsCalmBut (S.faults sinks.old) (S.faults sinks.new) result }
     ensures over { IfOk result (λ next. over_of next ≡ false) }
@@ -235,7 +235,7 @@ fn read_text<F: Fn(&[u8]) -> bool + Drop, S: Sinks>(
     requires callable { F.IsAlwaysCallable (select_of session) }
     requires selects { SelectsBy (F.post (select_of session)) (is_selected command.now) }
     ensures gives { Added (S.written sinks.old) (S.written sinks.new) stream.Report (λ told.
-        (h : History) (n : ℕ) → SessionStandsFor session h → blocks_of session ≡ capped_blocks n → TextGives command.now n h lines.old text told result lines.new) }
+        (h : History) (n : ℕ) → SessionStandsFor session h → blocks_of session ≡ capped n → TextGives command.now n h lines.old text told result lines.new) }
     ensures calm { IsCalmBut (S.faults sinks.old) (S.faults sinks.new) result }
     ensures over { IfOk result (λ next. over_of next ≡ false) }
     ensures alike { IfOk result (λ next. ReportsAlike session next) }
