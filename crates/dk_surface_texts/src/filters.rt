@@ -1,6 +1,6 @@
 // Facts of instances at a point of which least numbers alone are known, and which candidates a filter keeps.
 ghost use Rattle.std.specs.Prelude.{◌≡◌, ◌==◌, if◌then◌else◌, nat_lt};
-ghost use Rattle.dk_filters.specs.Candidates.{kept_by};
+ghost use Rattle.dk_filters.specs.Candidates.{candidates_kept};
 ghost use Rattle.dk_forms.specs.declared.states.State.TheVariants as state;
 ghost use Rattle.dk_template.specs.declared.grammar.Grammar.TheVariants as grammar;
 
@@ -95,7 +95,7 @@ fn judges_each_instance_once(rt: HostRuntime) -> Result<(), Fail> {
 
 // Those of several samples.
 fn of_several(list: List<Candidate>) -> List<Candidate>
-    ensures { result ≡ kept_by (λ c. nat_lt 1 c.count) list }
+    ensures { result ≡ candidates_kept (λ c. nat_lt 1 c.count) list }
 {
     let filter = Filter::new(|c: &Candidate| 1 < c.count);
     kept(list, &filter)
