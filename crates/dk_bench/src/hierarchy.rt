@@ -81,7 +81,7 @@ fn fitting(
         }
         all.push(Question {
             row: question.row,
-            vars: Tuple::of(alloc, vars),
+            vars: Tuple::of(vars),
         })?;
     }
     Ok(all)

@@ -115,7 +115,7 @@ fn instances_of(
         match fit_state(here, question.row, vars)? {
             Some(state) => all.push(Instance {
                 row: question.row,
-                vars: Tuple::of(alloc, vars),
+                vars: Tuple::of(vars),
                 state,
             })?,
             None => continue,

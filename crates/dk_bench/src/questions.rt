@@ -61,7 +61,7 @@ fn push_row(
         }
         questions.push(Question {
             row,
-            vars: Tuple::of(alloc, vars),
+            vars: Tuple::of(vars),
         })?;
     }
     Ok(())

@@ -165,13 +165,10 @@ impl Engine {
     {
         let classes = &self.kept.leaders;
         match vars {
-            [] => Tuple::of(self.alloc, &[]),
-            [v] => Tuple::of(self.alloc, &[classes.leader(*v)]),
-            [v, w] => Tuple::of(self.alloc, &[classes.leader(*v), classes.leader(*w)]),
-            [v, w, x] => Tuple::of(
-                self.alloc,
-                &[classes.leader(*v), classes.leader(*w), classes.leader(*x)],
-            ),
+            [] => Tuple::of(&[]),
+            [v] => Tuple::of(&[classes.leader(*v)]),
+            [v, w] => Tuple::of(&[classes.leader(*v), classes.leader(*w)]),
+            [v, w, x] => Tuple::of(&[classes.leader(*v), classes.leader(*w), classes.leader(*x)]),
             _ => unreachable!(),
         }
     }

@@ -79,9 +79,9 @@ impl<'a, B: Answers> Over<'a, B> {
         ensures proper { IfOk result (λ s. IsProper (form_of row) s) }
         ensures err { OnErr result (IsTrue (wants_memory row)) }
     {
-        let ordered = written(row, self.alloc, vars);
+        let ordered = written(row, vars);
         let state = self.state_written(row, ordered.as_slice())?;
-        Ok(turn_state(row, self.alloc, vars, state))
+        Ok(turn_state(row, vars, state))
     }
 }
 

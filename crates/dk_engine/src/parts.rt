@@ -25,7 +25,7 @@ fn copy_slot(alloc: Global, slot: &Slot) -> Result<Slot, NoMemory>
     let state = slot.state.copy(alloc)?;
     Ok(Slot {
         row: slot.row,
-        leaders: Tuple::of(alloc, slot.leaders.as_slice()),
+        leaders: Tuple::of(slot.leaders.as_slice()),
         state,
     })
 }

@@ -46,7 +46,7 @@ impl<'a> Sweep<'a> {
         let mut slots = slots;
         slots.push(Slot {
             row,
-            leaders: Tuple::of(self.alloc, vars),
+            leaders: Tuple::of(vars),
             state,
         })?;
         Ok(slots)

@@ -81,7 +81,7 @@ impl<'e> Merged<'e> {
         ensures proper { IfOk result (λ state. IsProper (form_of row) state) }
         ensures err { OnErr result (MayWantMemory row) }
     {
-        match partners_at(self.alloc, way.partners.as_slice(), vars) {
+        match partners_at(way.partners.as_slice(), vars) {
             None => Ok(State::Empty),
             Some(there) => self.engine_at(way).answer(row, there.as_slice()),
         }
@@ -94,7 +94,7 @@ impl<'e> Merged<'e> {
         requires there { AreThere self.now.here.infos vars.now }
         ensures { result ≡ capped (count_through self.now vars.now way.now) }
     {
-        match partners_at(self.alloc, way.partners.as_slice(), vars) {
+        match partners_at(way.partners.as_slice(), vars) {
             None => 0,
             Some(there) => {
                 let once = self.engine_at(way).count(there.as_slice());

@@ -4,7 +4,6 @@ ghost use Rattle.dk_hierarchy.specs.Edges.{partner_at, partners_at};
 
 use dk_base::{List, PointId, VarId};
 use dk_template::Tuple;
-use std::alloc::Global;
 
 /// A way from a point down to another one: for each variable of the upper point its partner in the lower one, and how many paths of
 /// edges give just these partners, at most 2^64 - 1. A point has a way to itself, by the path without an edge.
@@ -25,21 +24,17 @@ pub(crate) fn partner_at(partners: &[Option<VarId>], v: VarId) -> Option<VarId>
     }
 }
 
-/// The partners of at most three variables, if each has one. It takes no memory.
-pub(crate) fn partners_at(
-    alloc: Global,
-    partners: &[Option<VarId>],
-    vars: &[VarId],
-) -> Option<Tuple>
+/// The partners of at most three variables, if each has one.
+pub(crate) fn partners_at(partners: &[Option<VarId>], vars: &[VarId]) -> Option<Tuple>
     requires { length vars.now ≤ 3 }
     ensures { result ≡ partners_at partners.now vars.now }
 {
     let partner = |v: VarId| partner_at(partners, v);
     match vars {
-        [] => Some(Tuple::of(alloc, &[])),
-        [v] => Some(Tuple::of(alloc, &[partner(*v)?])),
-        [v, w] => Some(Tuple::of(alloc, &[partner(*v)?, partner(*w)?])),
-        [v, w, x] => Some(Tuple::of(alloc, &[partner(*v)?, partner(*w)?, partner(*x)?])),
+        [] => Some(Tuple::of(&[])),
+        [v] => Some(Tuple::of(&[partner(*v)?])),
+        [v, w] => Some(Tuple::of(&[partner(*v)?, partner(*w)?])),
+        [v, w, x] => Some(Tuple::of(&[partner(*v)?, partner(*w)?, partner(*x)?])),
         _ => unreachable!(),
     }
 }

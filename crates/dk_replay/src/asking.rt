@@ -33,7 +33,7 @@ fn compare_row(both: &Both<'_, '_>, row: RowId, tally: &mut Tally) -> Result<(),
     let arity = info(row).arity;
     let count = listed.count_vars();
     for place in 0..tuples(count, arity) {
-        let vars = tuple_at(listed.alloc(), count, arity, place);
+        let vars = tuple_at(count, arity, place);
         if admits(row, listed.vars(), vars.as_slice()) {
             compare_answer(both, row, vars.as_slice(), tally)?;
         }
@@ -61,7 +61,7 @@ fn compare_count(both: &Both<'_, '_>, vars: &[VarId], tally: &mut Tally)
 fn compare_counts_of(both: &Both<'_, '_>, arity: u8, tally: &mut Tally) {
     let count = both.listed.count_vars();
     for place in 0..tuples(count, arity) {
-        let vars = tuple_at(both.listed.alloc(), count, arity, place);
+        let vars = tuple_at(count, arity, place);
         compare_count(both, vars.as_slice(), tally);
     }
 }

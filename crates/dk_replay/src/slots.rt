@@ -63,7 +63,7 @@ fn compare_row(
     let count = both.listed.count_vars();
     let mut next = first;
     for place in 0..tuples(count, arity) {
-        let vars = tuple_at(both.listed.alloc(), count, arity, place);
+        let vars = tuple_at(count, arity, place);
         let vars = vars.as_slice();
         if let Some(state) = slot_state(&both.listed, leading, row, vars)? {
             tally.slot(is_slot(slots.get(next), row, vars, &state));

@@ -3,7 +3,6 @@ ghost use Rattle.std.specs.Prelude.{◌<◌, All};
 
 use dk_base::VarId;
 use dk_template::Tuple;
-use std::alloc::Global;
 
 /// How many tuples of so many of the variables there are.
 pub fn tuples(count: u32, arity: u8) -> u32 {
@@ -16,7 +15,7 @@ pub fn tuples(count: u32, arity: u8) -> u32 {
 }
 
 /// The tuple of so many of the variables at this place of all, by the first variable, then by the second, then by the third.
-pub fn tuple_at(alloc: Global, count: u32, arity: u8, place: u32) -> Tuple
+pub fn tuple_at(count: u32, arity: u8, place: u32) -> Tuple
     requires { 0 < count }
     ensures { All (λ v. v.0 < count) result }
 {
@@ -24,9 +23,9 @@ pub fn tuple_at(alloc: Global, count: u32, arity: u8, place: u32) -> Tuple
     let middle = VarId(place / count % count);
     let first = VarId(place / count / count % count);
     match arity {
-        0 => Tuple::of(alloc, &[]),
-        1 => Tuple::of(alloc, &[last]),
-        2 => Tuple::of(alloc, &[middle, last]),
-        _ => Tuple::of(alloc, &[first, middle, last]),
+        0 => Tuple::of(&[]),
+        1 => Tuple::of(&[last]),
+        2 => Tuple::of(&[middle, last]),
+        _ => Tuple::of(&[first, middle, last]),
     }
 }

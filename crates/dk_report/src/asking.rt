@@ -87,7 +87,7 @@ impl<'a, 'e> Asking<'a, 'e> {
         let mut list = list;
         list.push(Candidate {
             row,
-            vars: Tuple::of(self.alloc, vars),
+            vars: Tuple::of(vars),
             state,
             count: self.here.count(vars),
             facts,

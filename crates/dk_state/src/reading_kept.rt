@@ -175,17 +175,17 @@ impl Entry for Known {
 }
 
 // These leaders, of which there are at most three.
-fn tuple(alloc: Global, vars: &[VarId], front: &mut Front<'_>) -> Tuple
+fn tuple(vars: &[VarId], front: &mut Front<'_>) -> Tuple
     ensures read { length vars.now ≤ 3 → (result ≡ vars.now) × (front.new ≡ front.old) }
     ensures few { length result ≤ 3 }
     ensures within { All FitsPlace vars.now → All FitsPlace result }
     ensures shorter { length front.new ≤ length front.old }
 {
     if vars.len() <= 3 {
-        Tuple::of(alloc, vars)
+        Tuple::of(vars)
     } else {
         front.give_up();
-        Tuple::of(alloc, &[])
+        Tuple::of(&[])
     }
 }
 
@@ -222,7 +222,7 @@ impl Entry for Slot {
         front.pass(b"slot");
         let row = row(front);
         let leaders: List<VarId> = read_all(alloc, vars, front)?;
-        let leaders = tuple(alloc, leaders.as_slice(), front);
+        let leaders = tuple(leaders.as_slice(), front);
         let state = state(alloc, front)?;
         front.pass(b"\n");
         Ok(Slot {

@@ -186,7 +186,7 @@ fn keeps_rows_and_variables(rt: HostRuntime) {
     assert!(rt; Grammar::One.has(RowId(66)) && !Grammar::One.has(RowId(67)));
     assert!(rt; Grammar::Two.has(RowId(68)) && !Grammar::Two.has(RowId(0)));
     let vars = [VarId(3), VarId(1), VarId(2)];
-    let tuple = Tuple::of(rt.alloc(), &vars);
+    let tuple = Tuple::of(&vars);
     assert!(rt; tuple.as_slice() == vars.as_slice());
 }
 
@@ -201,10 +201,10 @@ fn check_turned(
     requires row { IsRow (record { 0 = row }) }
     requires few { length tuple.now ≤ 3 }
 {
-    let sorted = written(RowId(row), alloc, tuple);
+    let sorted = written(RowId(row), tuple);
     assert!(rt; is_written(RowId(row), sorted.as_slice()));
     assert!(rt; proper(RowId(row), &state));
-    let found = turn_state(RowId(row), alloc, tuple, state);
+    let found = turn_state(RowId(row), tuple, state);
     assert!(rt; found == *expected);
 }
 

@@ -112,7 +112,7 @@ fn keeps_in_order(rt: HostRuntime) -> Result<(), Fail> {
     for count in [3, 1, 2] {
         list.push(Candidate {
             row: RowId(4),
-            vars: Tuple::of(rt.alloc(), &[VarId(0)]),
+            vars: Tuple::of(&[VarId(0)]),
             state: State::Holds,
             count,
             facts: Facts {

@@ -105,9 +105,9 @@ fn candidates(alloc: Global, lines: &[Line]) -> Result<List<Candidate>, NoMemory
         list.push(Candidate {
             row: RowId(*row),
             vars: match *places {
-                [x] => Tuple::of(alloc, &[VarId(*x)]),
-                [x, y] => Tuple::of(alloc, &[VarId(*x), VarId(*y)]),
-                _ => Tuple::of(alloc, &[]),
+                [x] => Tuple::of(&[VarId(*x)]),
+                [x, y] => Tuple::of(&[VarId(*x), VarId(*y)]),
+                _ => Tuple::of(&[]),
             },
             state: state_of(alloc, *said),
             count: *count,

@@ -13,7 +13,6 @@ use crate::properness::is_before;
 use crate::templates::template_at;
 use crate::{RowId, State, StateForm, Symmetry, Tuple};
 use dk_base::VarId;
-use std::alloc::Global;
 
 /// Two neighbouring roles of a row.
 #[derive(Clone, Copy, Debug, PartialEq, Eq)]
@@ -184,57 +183,57 @@ fn descends(exchange: Exchange, tuple: &[VarId]) -> bool
     }
 }
 
-fn exchange_tuple(alloc: Global, exchange: Exchange, tuple: &[VarId]) -> Tuple
+fn exchange_tuple(exchange: Exchange, tuple: &[VarId]) -> Tuple
     requires { length tuple.now ≤ 3 }
     ensures { result ≡ exchange_of exchange tuple.now }
 {
     match exchange {
         Exchange::First => match tuple {
-            [v, w] => Tuple::of(alloc, &[*w, *v]),
-            [v, w, x] => Tuple::of(alloc, &[*w, *v, *x]),
-            _ => Tuple::of(alloc, tuple),
+            [v, w] => Tuple::of(&[*w, *v]),
+            [v, w, x] => Tuple::of(&[*w, *v, *x]),
+            _ => Tuple::of(tuple),
         },
         Exchange::Last => match tuple {
-            [u, v, w] => Tuple::of(alloc, &[*u, *w, *v]),
-            _ => Tuple::of(alloc, tuple),
+            [u, v, w] => Tuple::of(&[*u, *w, *v]),
+            _ => Tuple::of(tuple),
         },
     }
 }
 
 // The two variables in order.
-fn ordered(alloc: Global, exchange: Exchange, tuple: &[VarId]) -> Tuple
+fn ordered(exchange: Exchange, tuple: &[VarId]) -> Tuple
     requires { length tuple.now ≤ 3 }
     ensures { result ≡ ordered exchange tuple.now }
 {
     if descends(exchange, tuple) {
-        exchange_tuple(alloc, exchange, tuple)
+        exchange_tuple(exchange, tuple)
     } else {
-        Tuple::of(alloc, tuple)
+        Tuple::of(tuple)
     }
 }
 
-/// The tuple in the row's written order: at the roles that may be exchanged the variables don't descend. It takes no memory.
-pub fn written(row: RowId, alloc: Global, tuple: &[VarId]) -> Tuple
+/// The tuple in the row's written order: at the roles that may be exchanged the variables don't descend.
+pub fn written(row: RowId, tuple: &[VarId]) -> Tuple
     requires row { IsRow row }
     requires few { length tuple.now ≤ 3 }
     ensures value { result ≡ written_tuple row tuple.now }
     ensures written { IsTrue (is_written row result) }
 {
-    arranged(alloc, template_at(row).symmetry, tuple)
+    arranged(template_at(row).symmetry, tuple)
 }
 
-fn arranged(alloc: Global, symmetry: Symmetry, tuple: &[VarId]) -> Tuple
+fn arranged(symmetry: Symmetry, tuple: &[VarId]) -> Tuple
     requires { length tuple.now ≤ 3 }
     ensures { result ≡ arranged symmetry tuple.now }
 {
     match symmetry {
-        Symmetry::Fixed => Tuple::of(alloc, tuple),
+        Symmetry::Fixed => Tuple::of(tuple),
         Symmetry::All => {
-            let one = ordered(alloc, Exchange::Last, tuple);
-            let two = ordered(alloc, Exchange::First, one.as_slice());
-            ordered(alloc, Exchange::Last, two.as_slice())
+            let one = ordered(Exchange::Last, tuple);
+            let two = ordered(Exchange::First, one.as_slice());
+            ordered(Exchange::Last, two.as_slice())
         }
-        Symmetry::Arguments => ordered(alloc, Exchange::Last, tuple),
+        Symmetry::Arguments => ordered(Exchange::Last, tuple),
     }
 }
 
@@ -251,13 +250,7 @@ fn exchanged_back(form: StateForm, exchange: Exchange, tuple: &[VarId], state: S
     }
 }
 
-fn disarranged(
-    form: StateForm,
-    symmetry: Symmetry,
-    alloc: Global,
-    tuple: &[VarId],
-    state: State,
-) -> State
+fn disarranged(form: StateForm, symmetry: Symmetry, tuple: &[VarId], state: State) -> State
     requires few { length tuple.now ≤ 3 }
     requires state { IsProper form state }
     ensures value { result ≡ disarranged symmetry tuple.now state }
@@ -266,8 +259,8 @@ fn disarranged(
     match symmetry {
         Symmetry::Fixed => state,
         Symmetry::All => {
-            let one = ordered(alloc, Exchange::Last, tuple);
-            let two = ordered(alloc, Exchange::First, one.as_slice());
+            let one = ordered(Exchange::Last, tuple);
+            let two = ordered(Exchange::First, one.as_slice());
             let third = exchanged_back(form, Exchange::Last, two.as_slice(), state);
             let second = exchanged_back(form, Exchange::First, one.as_slice(), third);
             exchanged_back(form, Exchange::Last, tuple, second)
@@ -276,8 +269,8 @@ fn disarranged(
     }
 }
 
-/// From the state of the row over a tuple in its written order, that over the tuple as it stands. It takes no memory.
-pub fn turn_state(row: RowId, alloc: Global, tuple: &[VarId], state: State) -> State
+/// From the state of the row over a tuple in its written order, that over the tuple as it stands.
+pub fn turn_state(row: RowId, tuple: &[VarId], state: State) -> State
     requires row { IsRow row }
     requires few { length tuple.now ≤ 3 }
     requires state { IsProper (form_of row) state }
@@ -285,5 +278,5 @@ pub fn turn_state(row: RowId, alloc: Global, tuple: &[VarId], state: State) -> S
     ensures proper { IsProper (form_of row) result }
 {
     let template = template_at(row);
-    disarranged(template.form, template.symmetry, alloc, tuple, state)
+    disarranged(template.form, template.symmetry, tuple, state)
 }

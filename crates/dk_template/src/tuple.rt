@@ -1,15 +1,14 @@
 // At most three variables.
 ghost use Rattle.std.specs.Prelude.{◌≡◌, ◌≤◌, length};
 
+use arrayvec::ArrayVec;
 use dk_base::VarId;
-use smallvec::SmallVec;
-use std::alloc::Global;
 use std::marker::Model;
 
 /// At most three variables, which lie inline; contracts see them as a list.
 #[derive(Debug, Drop)]
 pub struct Tuple {
-    items: SmallVec<VarId, 3>,
+    items: ArrayVec<VarId, 3>,
 }
 
 impl Model for Tuple {
@@ -24,12 +23,12 @@ impl Model for Tuple {
 }
 
 impl Tuple {
-    /// These variables. It takes no memory.
-    pub fn of(alloc: Global, vars: &[VarId]) -> Tuple
+    /// These variables.
+    pub fn of(vars: &[VarId]) -> Tuple
         requires { length vars.now ≤ 3 }
         ensures { result ≡ vars.now }
     {
-        match SmallVec::from_slice(alloc, vars) {
+        match ArrayVec::try_from(vars) {
             Ok(items) => Tuple { items },
             Err(_) => unreachable!(),
         }
