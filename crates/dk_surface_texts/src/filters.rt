@@ -101,6 +101,11 @@ fn of_several(list: List<Candidate>) -> List<Candidate>
     kept(list, &filter)
 }
 
+fn is_of_several(candidate: &Candidate) -> bool {
+    let filter = Filter::new(|c: &Candidate| 1 < c.count);
+    filter.keeps(candidate)
+}
+
 #[test]
 fn keeps_in_order(rt: HostRuntime) -> Result<(), Fail> {
     let mut list = List::new(rt.alloc());
@@ -122,7 +127,9 @@ fn keeps_in_order(rt: HostRuntime) -> Result<(), Fail> {
     }
     let list = of_several(list);
     match list.as_slice() {
-        [first, second] => assert!(rt; first.count == 3 && second.count == 2),
+        [first, second] => {
+            assert!(rt; first.count == 3 && second.count == 2 && is_of_several(first))
+        }
         _ => assert!(rt; false),
     }
     Ok(())
