@@ -6,13 +6,9 @@ ghost use Rattle.dk_template.specs.Admitted.{admits};
 ghost use Rattle.dk_template.specs.Templates.{IsRow};
 ghost use Rattle.dk_template.specs.declared.grammar.Grammar.TheVariants as grammar;
 
-use crate::faults::Fault;
-use crate::noise::Noise;
 use crate::questions::{Question, questions_of};
-use crate::rows::plain_nanos;
-use crate::tables::{engines_of, push_point, table_of};
-use crate::timing::nanos_each;
 use dk_base::{NoMemory, PointId, Text, VarId};
+use dk_bench_base::{Fault, Noise, engines_of, nanos_each, plain_nanos, push_point, table_of};
 use dk_engine::Engine;
 use dk_hierarchy::{Merged, merge};
 use dk_points::Points;

@@ -9,12 +9,9 @@ ghost use Rattle.dk_template.specs.Admitted.{admits};
 ghost use Rattle.dk_template.specs.Templates.{IsRow};
 ghost use Rattle.dk_template.specs.declared.grammar.Grammar.TheVariants as grammar;
 
-use crate::faults::Fault;
 use crate::questions::{Question, questions_of};
-use crate::rows::plain_nanos;
-use crate::tables::{engines_of, push_point, table_of};
-use crate::timing::nanos_each;
 use dk_base::{Form, Kind, NoMemory, PointId, Text, VarId, VarInfo};
+use dk_bench_base::{Fault, engines_of, nanos_each, plain_nanos, push_point, table_of};
 use dk_engine::Engine;
 use dk_filters::{Facts, ParentView, PointFacts, judge_with};
 use dk_hierarchy::{Merged, merge};

@@ -2,21 +2,17 @@
 //! and the facts of an instance cost; and traces for measuring how fast they are read.
 #![tactic(auto)]
 
-mod faults;
 mod hierarchy;
 mod judge;
 mod lending;
-mod noise;
 mod questions;
 mod rows;
 mod samples;
 mod scans;
 mod slot;
-mod tables;
-mod timing;
 mod traces;
 
-use faults::Fault;
+use dk_bench_base::Fault;
 use std::{env, io};
 use traces::{Records, write_trace};
 

@@ -13,9 +13,9 @@ ghost use Rattle.dk_template.specs.Templates.{IsRow, form_of, role_kinds};
 use crate::lending::slot_of;
 use crate::samples::{sample_at, variables};
 use crate::slot::RowSlot;
-use crate::timing::nanos_each;
 use bumpalo::Bump;
 use dk_base::{NoMemory, VarId, VarInfo, View};
+use dk_bench_base::{nanos_each, plain_nanos};
 use dk_grammar::{Slot, first_changed, join, point};
 use dk_samples::{is_present, value_at};
 use dk_template::{RowId, State, admits, fits, info};
@@ -212,32 +212,6 @@ fn joined(alloc: Global, row: RowId, run: &[RowSlot], a: &[View<'_>]) -> Result<
         }
     }
     Ok(found)
-}
-
-// A plain loop: whether the first of two numbers is at most the second, of all pairs, so often.
-#[inline(never)]
-fn plain(a: &[i64; 16], b: &[i64; 16], pairs: &[[u8; 2]]) -> u64 {
-    let mut found = 0u64;
-    let mut noise = 1;
-    for _ in 0..TURNS {
-        noise = next_noise(noise);
-        let numbers = if noise % 2 == 0 { a } else { b };
-        let ascend = pairs.iter().all(|[v, w]| numbers[*v as usize % 16]
-            <= numbers[*w as usize % 16]);
-        found = found.wrapping_add(ascend as u64);
-    }
-    found
-}
-
-/// The nanoseconds for each pair of the plain loop.
-pub fn plain_nanos(rt: &(impl Clock + AllocGlobal)) -> io::Result<f64> {
-    let a = [0, 1, 2, 3, 4, 5, 6, 7, 8, 9, 10, 11, 12, 13, 14, 15];
-    let b = [1, 3, 4, 5, 6, 7, 8, 9, 10, 11, 12, 13, 14, 15, 16, 17];
-    let mut pairs = Vec::new(rt.alloc());
-    for n in 0..200u8 {
-        pairs.push([n % 10, (n % 10).max(n / 10 % 10)])?;
-    }
-    nanos_each(rt, || plain(&a, &b, &pairs), 200.0 * f64::from(TURNS))
 }
 
 // The nanoseconds for each slot, of a sample that changes none.

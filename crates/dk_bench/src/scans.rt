@@ -1,7 +1,7 @@
 // The scans beside plain loops, on sequences that lie in the cache.
 ghost use Rattle.std.specs.Prelude.{◌<◌};
 
-use crate::timing::nanos_each;
+use dk_bench_base::nanos_each;
 use dk_lanes::{Rel, Shift, all, bounds, member, offset, pairwise, sorted};
 use std::alloc::{AllocError, Global};
 use std::io;

@@ -1,7 +1,7 @@
 // Traces for measuring how fast they are read.
 ghost use Rattle.std.specs.Prelude.{◌<◌};
 
-use crate::noise::Noise;
+use dk_bench_base::Noise;
 use std::io::{self, BufWriter, Write};
 
 /// What the records of a trace hold.

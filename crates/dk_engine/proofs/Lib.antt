@@ -52,4 +52,5 @@ pub mod Opened
 pub mod Ordered
 pub mod Saving
 mod Examples
+mod SeenSooner
 mod Slotless

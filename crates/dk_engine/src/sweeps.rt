@@ -9,7 +9,7 @@ ghost use Rattle.dk_engine.specs.Sweeps.{behind, considered, firsts, freed_slots
 
 use crate::after::After;
 use crate::constant::are_known;
-use crate::operations::{breaks, operation_of};
+use crate::operations::{breaks, descend, operation_of};
 use crate::reaching::reached;
 use crate::{Slot, Slots};
 use dk_base::{NoMemory, VarId, VarInfo};
@@ -60,8 +60,7 @@ impl<'a> Sweep<'a> {
     {
         match operation {
             Some(operation) => {
-                !is_written(operation.row(), &[v, w, x])
-                    || breaks(operation, self.answers.sample(), v, w, x)
+                descend(operation, w, x) || breaks(operation, self.answers.sample(), v, w, x)
             }
             None => false,
         }

@@ -4,7 +4,7 @@ use Rattle.std.proofs.lemmas.List.Elements.{All-push}
 use Rattle.dk_engine.specs.Levels.{Whole}
 use Rattle.dk_hierarchy.proofs.TableEngines.{AreFirst, IsEngineOf, all_engines, one_more}
 use Rattle.dk_template.specs.declared.grammar.Grammar.TheVariants as grammar
-use Rattle.dk_bench.proofs.tables.engines_of.Goals as goal
+use Rattle.dk_bench_base.proofs.tables.engines_of.Goals as goal
 
 pub loop-p-preserved : goal.loop-p-preserved
 loop-p-preserved c =

@@ -105,8 +105,8 @@ fn sample_of(alloc: Global, noise: &mut Noise, vars: usize) -> Result<Vec<View<'
     Ok(sample)
 }
 
-// Feeds the sample, if it is one of the engine's variables.
-fn feed(engine: &mut Engine, sample: &[View<'_>]) -> Result<(), NoMemory>
+/// Feeds the sample, if it is one of the engine's variables.
+pub fn feed(engine: &mut Engine, sample: &[View<'_>]) -> Result<(), NoMemory>
     requires { All IsWritten (values_of sample.now) }
     ensures grammar { engine.new.grammar ≡ engine.old.grammar }
     ensures infos { engine.new.infos ≡ engine.old.infos }

@@ -2,7 +2,7 @@ use Rattle.std.specs.Prelude.{◌≡◌, All, length}
 use Rattle.dk_engine.specs.Levels.{Whole}
 use Rattle.dk_hierarchy.proofs.TableEngines.{AreFirst}
 use Rattle.dk_template.specs.declared.grammar.Grammar.TheVariants as grammar
-use Rattle.dk_bench.proofs.tables.engines_of.Given as goal
+use Rattle.dk_bench_base.proofs.tables.engines_of.Given as goal
 
 abbrev pub invariant-loop-p : goal.invariant-loop-p
 invariant-loop-p l = record {

@@ -1,5 +1,5 @@
 use Rattle.std.specs.Prelude.{◌≡◌}
-use Rattle.dk_bench.proofs.tables.feed_numbers.Given as goal
+use Rattle.dk_bench_base.proofs.tables.feed_numbers.Given as goal
 
 abbrev pub invariant-loop : goal.invariant-loop
 invariant-loop l = record {
