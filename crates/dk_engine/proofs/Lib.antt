@@ -53,3 +53,4 @@ pub mod Ordered
 pub mod Saving
 mod Examples
 mod Slotless
+pub mod BitmapFacts

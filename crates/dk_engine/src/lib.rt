@@ -2,6 +2,7 @@
 #![tactic(auto)]
 
 mod after;
+mod bitmaps;
 mod changes;
 mod changing;
 mod conditions;
