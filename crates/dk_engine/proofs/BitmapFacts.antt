@@ -1,11 +1,8 @@
 -- What bitmaps say of patterns.
 use Rattle.std.proofs.Common.{◌≡◌, ◌≢◌, ◌<◌, ◌≤◌, ◌+◌, ◌-◌, ◌*◌, ◌/◌, ◌%◌, ◌^◌, ◌↔◌, ◌&&◌, ◌||◌, ◌++◌, ◌∙◌, ℕ, zero, suc, min, Bool, true, false, cond, All, List, [], ◌∷◌, Ok, arith, ap, sym, refl, subst, inl, inr, length, get_or, take, drop, fold, sum_by, bit_and}
 use Rattle.std.specs.List.{list_any}
-use Rattle.std.specs.List.Sorted.{IsSearchInRange, IsBinarySearchResult}
-use Rattle.std.specs.Ordering.{nat_cmp}
 use Rattle.std.specs.Int.Bits.{and_step}
 use Rattle.std.proofs.lemmas.Bool.{cases_Bool, false≢true, true≢false}
-use Rattle.std.proofs.lemmas.Cmp.{ranked}
 use Rattle.std.proofs.lemmas.List.{get_or-drop, get_or-take, take-append-drop}
 use Rattle.std.proofs.lemmas.List.Elements.{All-head, All-tail}
 use Rattle.std.proofs.lemmas.List.Folds.{list_any-append, list_any_at, list_any_none}
@@ -17,7 +14,7 @@ use Rattle.dk_forms.specs.declared.states.State.{State}
 use Rattle.dk_forms.specs.declared.states.State.TheVariants.{Empty, Holds}
 use Rattle.dk_suppress.specs.Soundness.{holds_of}
 use Rattle.dk_template.specs.declared.templates.StateForm.{StateForm}
-use Rattle.dk_engine.specs.Bitmaps.{IsBitmap, IsPlaceOf, are_together, block_at, digits}
+use Rattle.dk_engine.specs.Bitmaps.{IsBitmap, are_together, block_at, digits}
 use Rattle.dk_engine.specs.Restored.{IsStateOf}
 
 -- ---- digits
@@ -149,15 +146,15 @@ pub common_none : (held : List Held) (x y z : VarId) (a b c : List ℕ) → IsBi
 common_none held x y z a b c ia ib ic none =
     let p : Held → Bool = λ h. all_three h x y z in
     three_are held x y z ∙ no_block p held (λ j l.
-      let within : j < length a = omega (arith, l, ia.long) in
-      elim (cases_Bool (list_any p (block_at held j))) [
-        | inl e ↦
-            let some = digits_some p (block_at held j) e in
-            let word = word_and held x y z a b c ia ib ic j within in
-            let nil = none j within in
-            absurd (omega (arith, some, word, nil))
-        | inr n ↦ n
-      ])
+    let within : j < length a = omega (arith, l, ia.long) in
+    elim (cases_Bool (list_any p (block_at held j))) [
+      | inl e ↦
+          let some = digits_some p (block_at held j) e in
+          let word = word_and held x y z a b c ia ib ic j within in
+          let nil = none j within in
+          absurd (omega (arith, some, word, nil))
+      | inr n ↦ n
+    ])
 
 -- ---- counts
 count_none : (held : List Held) (vars : List VarId) → are_together held vars ≡ false → sum_by (λ h. cond (has_all h.leaders vars) h.count 0) held ≡ 0
@@ -226,13 +223,6 @@ two_of_three held are x y = alike held are (x ∷ y ∷ y ∷ []) (x ∷ y ∷ [
     same true true = refl
     same true false = refl
     same false c = refl
-
--- ---- places
-same_var : (v w : VarId) → v.0 ≡ w.0 → v ≡ w
-same_var v w e = ap (λ n. record { 0 = n }) e
-
-pub place_found : (vars : List VarId) (v : VarId) (at : ℕ) → IsSearchInRange (Ok at) (length vars) → IsBinarySearchResult (λ w. nat_cmp w.0 v.0) vars (Ok at) → IsPlaceOf vars v at
-place_found vars v at within equal = record { within = within; there = λ d. same_var (get_or vars at d) v (ranked _ v.0 _ (sym (equal d))) }
 
 -- ---- states
 -- a state that a row can have depends only on whether there are samples

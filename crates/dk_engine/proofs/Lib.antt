@@ -53,4 +53,5 @@ pub mod Ordered
 pub mod Saving
 mod Examples
 mod Slotless
+pub mod PostingFacts
 pub mod BitmapFacts

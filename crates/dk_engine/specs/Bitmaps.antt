@@ -23,12 +23,11 @@ pub record IsBitmap (held : List Held) (v : VarId) (words : List ℕ) : Type 0 w
   pub long : length words ≡ length held / 64 + 1
   pub each : (j : ℕ) → j < length words → get_or words j 0 ≡ digits (λ h. has h.leaders v) (block_at held j)
 
--- the bitmap of each of the variables
-pub record AreBitmaps (held : List Held) (vars : List VarId) (maps : List (Vec ℕ)) : Type 0 where
-  pub long : length maps ≡ length vars
-  pub each : (i : ℕ) (v : VarId) (map : Vec ℕ) → i < length vars → IsBitmap held (get_or vars i v) (get_or maps i map).items
+-- the variable has a bitmap, which has words
+pub record IsMapped (maps : List (Vec ℕ)) (v : VarId) : Type 0 where
+  pub within : v.0 < length maps
+  pub some : (d : Vec ℕ) → 0 < length (get_or maps v.0 d).items
 
--- where the variable stands
-pub record IsPlaceOf (vars : List VarId) (v : VarId) (place : ℕ) : Type 0 where
-  pub within : place < length vars
-  pub there : (d : VarId) → get_or vars place d ≡ v
+-- by the number of each variable its bitmap, or no words
+abbrev pub AreBitmaps : List Held → List (Vec ℕ) → Type 0
+AreBitmaps held maps = (v : VarId) (d : Vec ℕ) → v.0 < length maps → 0 < length (get_or maps v.0 d).items → IsBitmap held v (get_or maps v.0 d).items

@@ -170,10 +170,14 @@ pub(crate) fn has(vars: &[VarId], v: VarId) -> bool
 }
 
 // Whether the leader is present in all patterns, or absent from all.
-fn is_throughout(held: &[Held], leader: VarId, present: bool) -> bool
-    requires { All (λ h. VarsAscend h.leaders) held.now }
+fn is_throughout(bitmaps: &Bitmaps<'_>, held: &[Held], leader: VarId, present: bool) -> bool
+    requires ascend { All (λ h. VarsAscend h.leaders) held.now }
+    requires bitmaps { bitmaps.now ≡ held.now }
     ensures { IsTrue result ↔ All (λ h. has h.leaders leader ≡ present) held.now }
 {
+    if !present && bitmaps.is_in_none(leader) {
+        return true;
+    }
     for pattern in held {
         if has(pattern.leaders.as_slice(), leader) != present {
             return false;
@@ -190,24 +194,31 @@ fn is_there(value: &Value) -> bool
 }
 
 // Whether a constant leads, has a value of its kind that some text writes, and is present in all patterns, or in none if it's missing.
-fn is_constant(infos: &[VarInfo], kept: &Kept, entry: &(VarId, Value)) -> bool
-    requires { AreShaped (length infos.now) kept.now }
+fn is_constant(
+    infos: &[VarInfo],
+    kept: &Kept,
+    bitmaps: &Bitmaps<'_>,
+    entry: &(VarId, Value),
+) -> bool
+    requires shaped { AreShaped (length infos.now) kept.now }
+    requires bitmaps { bitmaps.now ≡ kept.now.held }
     ensures { IsTrue result ↔ IsConstant infos.now kept.now entry.now }
 {
     let (leader, value) = entry;
     leads(&kept.leaders, infos.len(), *leader)
         && is_of_kind(kind_of(infos, *leader), value)
         && is_written(value)
-        && is_throughout(kept.held.held(), *leader, is_there(value))
+        && is_throughout(bitmaps, kept.held.held(), *leader, is_there(value))
 }
 
 // The same of all constants.
-fn are_constants(infos: &[VarInfo], kept: &Kept) -> bool
-    requires { AreShaped (length infos.now) kept.now }
+fn are_constants(infos: &[VarInfo], kept: &Kept, bitmaps: &Bitmaps<'_>) -> bool
+    requires shaped { AreShaped (length infos.now) kept.now }
+    requires bitmaps { bitmaps.now ≡ kept.now.held }
     ensures { IsTrue result ↔ All (IsConstant infos.now kept.now) kept.now.known }
 {
     for entry in kept.known.entries() {
-        if !is_constant(infos, kept, entry) {
+        if !is_constant(infos, kept, bitmaps, entry) {
             return false;
         }
     }
@@ -285,12 +296,7 @@ fn is_open_slot(
 }
 
 // The same of all slots.
-fn are_open_slots(
-    grammar: Grammar,
-    infos: &[VarInfo],
-    kept: &Kept,
-    bitmaps: &Bitmaps<'_>,
-) -> bool
+fn are_open_slots(grammar: Grammar, infos: &[VarInfo], kept: &Kept, bitmaps: &Bitmaps<'_>) -> bool
     requires shaped { AreShaped (length infos.now) kept.now }
     requires bitmaps { bitmaps.now ≡ kept.now.held }
     ensures { IsTrue result ↔ All (IsOpenSlot grammar infos.now kept.now) kept.now.slots }
@@ -313,10 +319,12 @@ pub(crate) fn are_open(
     requires { AreShaped (length infos.now) kept.now }
     ensures { IfOk result (λ are. IsTrue are ↔ AreOpen grammar infos.now kept.now) }
 {
-    let bitmaps = Bitmaps::of(alloc, &kept.leaders, &kept.held)?;
-    Ok(have_kinds(infos, &kept.leaders)
-        && kept.held.count(&[]) == kept.samples
-        && are_constants(infos, kept)
-        && are_in_order(kept.slots.as_slice())
-        && are_open_slots(grammar, infos, kept, &bitmaps))
+    let bitmaps = Bitmaps::of(alloc, infos.len() as u32, &kept.held)?;
+    Ok(
+        have_kinds(infos, &kept.leaders)
+            && kept.held.count(&[]) == kept.samples
+            && are_constants(infos, kept, &bitmaps)
+            && are_in_order(kept.slots.as_slice())
+            && are_open_slots(grammar, infos, kept, &bitmaps),
+    )
 }

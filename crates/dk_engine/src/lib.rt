@@ -22,6 +22,7 @@ mod over;
 mod parts;
 mod places;
 mod points;
+mod postings;
 mod reaching;
 mod runs;
 mod saved;

@@ -91,7 +91,7 @@ impl Engine {
     fn suppresses_none(&self) -> Result<bool, NoMemory>
         ensures { IfOk result (λ none. IsTrue none ↔ AreUnsuppressed self.now.kept) }
     {
-        let bitmaps = Bitmaps::of(self.alloc, &self.kept.leaders, &self.kept.held)?;
+        let bitmaps = Bitmaps::of(self.alloc, self.infos.len() as u32, &self.kept.held)?;
         let lowest = self.over(
             Some(&bitmaps),
             0,

@@ -1,4 +1,4 @@
-use Rattle.std.proofs.Common.{◌∙◌, ◌-◌, ap, arith, drop, length, sym, take}
+use Rattle.std.proofs.Common.{◌≡◌, ◌∙◌, ◌-◌, ap, arith, drop, length, sym, take}
 use Rattle.std.proofs.lemmas.List.{length-drop, take_all}
 use Rattle.dk_engine.proofs.bitmaps.block.Goals as goal
 use Rattle.dk_engine.proofs.bitmaps.block.Goals.{then-held-start-lt-BLOCK, else-held-start-lt-BLOCK}
@@ -12,5 +12,7 @@ returns c =
       | then-held-start-lt-BLOCK w ↦
           let few = w.if-held-start-lt-BLOCK.true in
           take_all (c.if-held-start-lt-BLOCK.end - c.args.start) rest (omega (arith, long, w.end-is)) ∙ sym (take_all 64 rest (omega (arith, long, few)))
-      | else-held-start-lt-BLOCK w ↦ ap (λ n. take n rest) (omega (arith, w.end-is))
+      | else-held-start-lt-BLOCK w ↦
+          let whole : c.if-held-start-lt-BLOCK.end - c.args.start ≡ 64 = omega (arith, w.end-is) in
+          ap (λ n. take n rest) whole
     ]
