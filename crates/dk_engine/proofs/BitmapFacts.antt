@@ -1,9 +1,10 @@
 -- What bitmaps say of patterns.
-use Rattle.std.proofs.Common.{◌≡◌, ◌≢◌, ◌<◌, ◌≤◌, ◌+◌, ◌-◌, ◌*◌, ◌/◌, ◌%◌, ◌^◌, ◌↔◌, ◌&&◌, ◌||◌, ◌++◌, ◌∙◌, ℕ, zero, suc, min, Bool, true, false, cond, All, List, [], ◌∷◌, Ok, arith, ap, sym, refl, subst, inl, inr, length, get_or, take, drop, fold, sum_by, bit_and}
+use Rattle.std.proofs.Common.{◌≡◌, ◌≢◌, ◌<◌, ◌≤◌, ◌+◌, ◌-◌, ◌*◌, ◌/◌, ◌%◌, ◌^◌, ◌↔◌, ◌&&◌, ◌||◌, ◌⊎◌, ◌++◌, ◌∙◌, ℕ, zero, suc, min, Bool, true, false, cond, All, List, [], ◌∷◌, Ok, arith, ap, sym, refl, subst, inl, inr, length, get_or, take, drop, fold, sum_by, bit_and}
+use Rattle.std.specs.Global.{Vec}
 use Rattle.std.specs.List.{list_any}
 use Rattle.std.specs.Int.Bits.{and_step}
 use Rattle.std.proofs.lemmas.Bool.{cases_Bool, false≢true, true≢false}
-use Rattle.std.proofs.lemmas.List.{get_or-drop, get_or-take, take-append-drop}
+use Rattle.std.proofs.lemmas.List.{get_or-drop, get_or-take, get_or_default, get_or_push, get_or_append_left, length-drop, length-take, length_push, take-append-drop}
 use Rattle.std.proofs.lemmas.List.Elements.{All-head, All-tail}
 use Rattle.std.proofs.lemmas.List.Folds.{list_any-append, list_any_at, list_any_none}
 use Rattle.std.proofs.lemmas.List.Sums.{sum_by-cons}
@@ -14,7 +15,7 @@ use Rattle.dk_forms.specs.declared.states.State.{State}
 use Rattle.dk_forms.specs.declared.states.State.TheVariants.{Empty, Holds}
 use Rattle.dk_suppress.specs.Soundness.{holds_of}
 use Rattle.dk_template.specs.declared.templates.StateForm.{StateForm}
-use Rattle.dk_engine.specs.Bitmaps.{IsBitmap, are_together, block_at, digits}
+use Rattle.dk_engine.specs.Bitmaps.{AreBitmaps, IsBitmap, IsMapped, are_together, block_at, digits}
 use Rattle.dk_engine.specs.Restored.{IsStateOf}
 
 -- ---- digits
@@ -98,7 +99,7 @@ no_block p held none = list_any_none p held (λ i d l.
     ])
   where
     length_block : (held : List Held) (j : ℕ) → length (block_at held j) ≡ min 64 (length held - j * 64)
-    length_block held j = grind arith
+    length_block held j = length-take 64 (drop (j * 64) held) ∙ ap (min 64) (length-drop (j * 64) held)
 
 list_any_ext : (p q : Held → Bool) (held : List Held) → ((h : Held) → p h ≡ q h) → list_any p held ≡ list_any q held
 list_any_ext p q [] e = refl
@@ -223,6 +224,61 @@ two_of_three held are x y = alike held are (x ∷ y ∷ y ∷ []) (x ∷ y ∷ [
     same true true = refl
     same true false = refl
     same false c = refl
+
+-- the same of one or two variables, and of three
+pub one_alike : (held : List Held) → AreHeld held → (vars : List VarId) (x : VarId) (b : Bool) → vars ≡ x ∷ [] → (b ≡ true) ↔ (0 < counted_by held (x ∷ x ∷ x ∷ [])) → (b ≡ true) ↔ (0 < counted_by held vars)
+one_alike held are vars x b is h = subst (λ vs. (b ≡ true) ↔ (0 < counted_by held vs)) (sym is) (one_of_three held are x b h)
+
+pub two_alike : (held : List Held) → AreHeld held → (vars : List VarId) (x y : VarId) (b : Bool) → vars ≡ x ∷ y ∷ [] → (b ≡ true) ↔ (0 < counted_by held (x ∷ y ∷ y ∷ [])) → (b ≡ true) ↔ (0 < counted_by held vars)
+two_alike held are vars x y b is h = subst (λ vs. (b ≡ true) ↔ (0 < counted_by held vs)) (sym is) (two_of_three held are x y b h)
+
+pub three_alike : (held : List Held) (vars : List VarId) (x y z : VarId) (b : Bool) → vars ≡ x ∷ y ∷ z ∷ [] → (b ≡ true) ↔ (0 < counted_by held (x ∷ y ∷ z ∷ [])) → (b ≡ true) ↔ (0 < counted_by held vars)
+three_alike held vars x y z b is h = subst (λ vs. (b ≡ true) ↔ (0 < counted_by held vs)) (sym is) h
+
+pub one_long : (vars : List VarId) (d : VarId) → 1 ≤ length vars → length vars < 2 → vars ≡ get_or vars 0 d ∷ []
+one_long [] d least most = absurd (omega (arith, least))
+one_long (x ∷ []) d least most = refl
+one_long (x ∷ y ∷ vars) d least most = absurd (omega (arith, most))
+
+pub two_long : (vars : List VarId) (d e : VarId) → 2 ≤ length vars → length vars < 3 → vars ≡ get_or vars 0 d ∷ get_or vars 1 e ∷ []
+two_long [] d e least most = absurd (omega (arith, least))
+two_long (x ∷ []) d e least most = absurd (omega (arith, least))
+two_long (x ∷ y ∷ []) d e least most = refl
+two_long (x ∷ y ∷ z ∷ vars) d e least most = absurd (omega (arith, most))
+
+pub three_long : (vars : List VarId) (d e f : VarId) → 3 ≤ length vars → length vars < 4 → vars ≡ get_or vars 0 d ∷ get_or vars 1 e ∷ get_or vars 2 f ∷ []
+three_long [] d e f least most = absurd (omega (arith, least))
+three_long (x ∷ []) d e f least most = absurd (omega (arith, least))
+three_long (x ∷ y ∷ []) d e f least most = absurd (omega (arith, least))
+three_long (x ∷ y ∷ z ∷ []) d e f least most = refl
+three_long (x ∷ y ∷ z ∷ w ∷ vars) d e f least most = absurd (omega (arith, most))
+
+-- ---- maps
+-- the words of a variable that has a bitmap
+pub bitmap_of : (held : List Held) (maps : List (Vec ℕ)) (v : VarId) (map : Vec ℕ) (words : List ℕ) → AreBitmaps held maps → IsMapped maps v → map ≡ get_or maps v.0 map → words ≡ map.items → IsBitmap held v words
+bitmap_of held maps v map words are mapped is of =
+    subst (IsBitmap held v) (ap (λ (m : Vec ℕ). m.items) (sym is) ∙ sym of) (are v map mapped.within (mapped.some map))
+
+-- one bitmap more
+pub with_bitmap : (held : List Held) (maps : List (Vec ℕ)) (n : ℕ) (map : Vec ℕ) → length maps ≡ n → AreBitmaps held maps → (0 < length map.items → IsBitmap held (record { 0 = n }) map.items) → AreBitmaps held (maps ++ map ∷ [])
+with_bitmap held maps n map long are here = λ v d l some. elim (less_or_same v.0 n (omega (arith, l, long, length_push maps map))) [
+  | inl before ↦
+      let at : get_or (maps ++ map ∷ []) v.0 d ≡ get_or maps v.0 d = get_or_append_left maps (map ∷ []) d v.0 (omega (arith, before, long)) in
+      subst (λ (m : Vec ℕ). IsBitmap held v m.items) (sym at) (are v d (omega (arith, before, long)) (subst (λ (m : Vec ℕ). 0 < length m.items) at some))
+  | inr same ↦
+      let at : get_or (maps ++ map ∷ []) v.0 d ≡ map = get_or_push maps map d v.0 (long ∙ sym same) in
+      let v_is : record { 0 = n } ≡ v = ap (λ k. record { 0 = k }) (sym same) in
+      subst (λ (m : Vec ℕ). IsBitmap held v m.items) (sym at) (subst (λ (w : VarId). IsBitmap held w map.items) v_is (here (subst (λ (m : Vec ℕ). 0 < length m.items) at some)))
+]
+  where
+    less_or_same : (k i : ℕ) → k < i + 1 → (k < i) ⊎ (k ≡ i)
+    less_or_same zero zero l = inr refl
+    less_or_same zero (suc i) l = inl (omega arith)
+    less_or_same (suc k) zero l = absurd (omega (arith, l))
+    less_or_same (suc k) (suc i) l = elim (less_or_same k i (omega (arith, l))) [
+      | inl before ↦ inl (omega (arith, before))
+      | inr same ↦ inr (ap suc same)
+    ]
 
 -- ---- states
 -- a state that a row can have depends only on whether there are samples

@@ -1,5 +1,5 @@
 -- What an inverted index says of patterns.
-use Rattle.std.proofs.Common.{◌≡◌, ◌≢◌, ◌≤◌, ◌<◌, ◌+◌, ◌++◌, ◌==◌, ◌||◌, ◌∙◌, ℕ, zero, suc, Bool, true, false, All, Contains, List, [], ◌∷◌, arith, ap, sym, refl, subst, inl, inr, length, get_or, take}
+use Rattle.std.proofs.Common.{◌≡◌, ◌≢◌, ◌≤◌, ◌<◌, ◌+◌, ◌++◌, ◌==◌, ◌&&◌, ◌||◌, ◌⊎◌, ◌∙◌, ℕ, zero, suc, Bool, true, false, All, Contains, List, [], ◌∷◌, arith, ap, sym, refl, subst, inl, inr, length, get_or, take}
 use Rattle.std.specs.Global.{Vec}
 use Rattle.std.specs.List.{list_any}
 use Rattle.std.proofs.Math.ListN.{set}
@@ -14,13 +14,28 @@ use Rattle.dk_engine.specs.Bitmaps.{are_together}
 use Rattle.dk_engine.specs.Postings.{ArePostings, Find, IsPosted, KeepPostings}
 
 same_or_not : (m n : ℕ) → (m ≡ n) ⊎ (m ≢ n)
-same_or_not m n = elim (cases_Bool (m == n)) [
-  | inl e ↦ inl (eqb-true m n e)
-  | inr e ↦ inr (λ h. true≢false (sym (ap (λ k. m == k) (sym h) ∙ itself m) ∙ e))
+same_or_not zero zero = inl refl
+same_or_not zero (suc n) = inr (λ h. absurd (omega (arith, h)))
+same_or_not (suc m) zero = inr (λ h. absurd (omega (arith, h)))
+same_or_not (suc m) (suc n) = elim (same_or_not m n) [
+  | inl e ↦ inl (ap suc e)
+  | inr other ↦ inr (λ h. other (omega (arith, h)))
+]
+
+less : (k i : ℕ) → k < i + 1 → k ≢ i → k < i
+less k i l other = elim (less_or_same k i l) [
+  | inl before ↦ before
+  | inr same ↦ absurd (other same)
 ]
   where
-    itself : (m : ℕ) → (m == m) ≡ true
-    itself m = refl
+    less_or_same : (k i : ℕ) → k < i + 1 → (k < i) ⊎ (k ≡ i)
+    less_or_same zero zero l = inr refl
+    less_or_same zero (suc i) l = inl (omega arith)
+    less_or_same (suc k) zero l = absurd (omega (arith, l))
+    less_or_same (suc k) (suc i) l = elim (less_or_same k i (omega (arith, l))) [
+      | inl before ↦ inl (omega (arith, before))
+      | inr same ↦ inr (ap suc same)
+    ]
 
 -- a place that is added to one list stands there, and nothing else is lost
 pub keep_with_one : (lists : List (Vec ℕ)) (n : ℕ) (old more : Vec ℕ) (place : ℕ) → old ≡ get_or lists n old → more.items ≡ old.items ++ place ∷ [] → KeepPostings lists (set lists n more)
@@ -49,8 +64,14 @@ keep_same lists = record { long = refl; each = λ v p posted. posted }
 pub keep_both : (first second third : List (Vec ℕ)) → KeepPostings first second → KeepPostings second third → KeepPostings first third
 keep_both first second third one two = record { long = two.long ∙ one.long; each = λ v p posted. two.each v p (one.each v p posted) }
 
-pub all_posted : (old new : List (Vec ℕ)) (place : ℕ) (vars : List VarId) → KeepPostings old new → All (λ v. IsPosted old v place) vars → All (λ v. IsPosted new v place) vars
-all_posted old new place vars keep all = λ k d l. keep.each (get_or vars k d) place (all k d l)
+-- one variable of a pattern more
+pub posted_up_to : (old new : List (Vec ℕ)) (place i : ℕ) (vars : List VarId) (e : VarId) → KeepPostings old new
+    → ((k : ℕ) (d : VarId) → k < i → IsPosted old (get_or vars k d) place) → i < length vars → IsPosted new (get_or vars i e) place
+    → (k : ℕ) (d : VarId) → k < i + 1 → IsPosted new (get_or vars k d) place
+posted_up_to old new place i vars e keep before within here = λ k d l. elim (same_or_not k i) [
+  | inl same ↦ subst (λ (v : VarId). IsPosted new v place) (get_or_default vars i e d within ∙ ap (λ n. get_or vars n d) (sym same)) here
+  | inr other ↦ keep.each (get_or vars k d) place (before k d (less k i l other))
+]
 
 -- what is posted for all variables of a pattern is for each that it has
 pub posted_of : (lists : List (Vec ℕ)) (place : ℕ) (vars : List VarId) → All (λ w. IsPosted lists w place) vars → (v : VarId) → has vars v ≡ true → IsPosted lists v place
@@ -58,6 +79,19 @@ posted_of lists place [] all v h = absurd (false≢true h)
 posted_of lists place (w ∷ vars) all v h = elim (cases_Bool (w.0 == v.0)) [
   | inl e ↦ subst (λ n. IsPosted lists (record { 0 = n }) place) (eqb-true w.0 v.0 e) (All-head (λ x. IsPosted lists x place) w vars all)
   | inr n ↦ posted_of lists place vars (All-tail (λ x. IsPosted lists x place) w vars all) v (ap (λ b. b || has vars v) (sym n) ∙ h)
+]
+
+-- one pattern more
+pub posted_before : (held : List Held) (old new : List (Vec ℕ)) (n : ℕ) (pattern : Held) (leaders : List VarId) → KeepPostings old new
+    → ((p : ℕ) (d : Held) → p < n → (v : VarId) → has (get_or held p d).leaders v ≡ true → IsPosted old v p)
+    → n < length held → pattern ≡ get_or held n pattern → leaders ≡ pattern.leaders → All (λ w. IsPosted new w n) leaders
+    → (p : ℕ) (d : Held) → p < n + 1 → (v : VarId) → has (get_or held p d).leaders v ≡ true → IsPosted new v p
+posted_before held old new n pattern leaders keep before within is of all = λ p d l v h. elim (same_or_not p n) [
+  | inl same ↦
+      let at : get_or held p d ≡ pattern = ap (λ k. get_or held k d) same ∙ (get_or_default held n d pattern within ∙ sym is) in
+      let has_it : has leaders v ≡ true = ap (λ vs. has vs v) of ∙ (ap (λ (x : Held). has x.leaders v) (sym at) ∙ h) in
+      subst (λ k. IsPosted new v k) (sym same) (posted_of new n leaders all v has_it)
+  | inr other ↦ keep.each v p (before p d (less p n l other) v h)
 ]
 
 -- a variable with an empty list is in no pattern
@@ -114,3 +148,8 @@ apart held vars places find none = list_any_none (λ (x : Held). has_all x.leade
       absurd (true≢false (sym (ap (λ n. has_all (get_or held n d).leaders vars) at ∙ e) ∙ no))
   | inr n ↦ n
 ])
+
+pub together_by : (held held' : List Held) (vars : List VarId) (places places' : List ℕ) (r : Bool) → held' ≡ held → places' ≡ places
+    → (Find held' vars places' → r ≡ are_together held' vars) → Find held vars places → r ≡ are_together held vars
+together_by held held' vars places places' r same_held same_places gives find =
+    subst (λ hs. r ≡ are_together hs vars) same_held (gives (subst (λ hs. Find hs vars places') (sym same_held) (subst (λ ps. Find held vars ps) (sym same_places) find)))

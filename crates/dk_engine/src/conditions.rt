@@ -268,9 +268,10 @@ fn is_state_of(row: RowId, count: u64, state: &State) -> bool
 }
 
 // Whether the slot's row can have its state over leaders that are together in so many samples.
-fn has_state(bitmaps: &Bitmaps<'_>, slot: &Slot) -> bool
-    requires { IsRow slot.now.row }
-    ensures { IsTrue result ↔ IsStateOf (form_of slot.now.row) (counted_by bitmaps.now slot.now.leaders) slot.now.state }
+fn has_state(kept: &Kept, bitmaps: &Bitmaps<'_>, slot: &Slot) -> bool
+    requires row { IsRow slot.now.row }
+    requires bitmaps { bitmaps.now ≡ kept.now.held }
+    ensures { IsTrue result ↔ IsStateOf (form_of slot.now.row) (counted_by kept.now.held slot.now.leaders) slot.now.state }
 {
     let together = bitmaps.are_together(slot.leaders.as_slice());
     is_state_of(slot.row, bit(together), &slot.state)
@@ -292,7 +293,7 @@ fn is_open_slot(
     is_over(grammar, infos, &kept.leaders, slot.row, leaders)
         && stands_written(slot.row, leaders)
         && !are_known(&kept.known, leaders)
-        && has_state(bitmaps, slot)
+        && has_state(kept, bitmaps, slot)
 }
 
 // The same of all slots.
@@ -309,6 +310,19 @@ fn are_open_slots(grammar: Grammar, infos: &[VarInfo], kept: &Kept, bitmaps: &Bi
     true
 }
 
+// Whether parts meet the conditions, but that a rule may suppress a slot, as the bitmaps of their patterns tell.
+fn are_open_by(grammar: Grammar, infos: &[VarInfo], kept: &Kept, bitmaps: &Bitmaps<'_>) -> bool
+    requires shaped { AreShaped (length infos.now) kept.now }
+    requires bitmaps { bitmaps.now ≡ kept.now.held }
+    ensures { IsTrue result ↔ AreOpen grammar infos.now kept.now }
+{
+    have_kinds(infos, &kept.leaders)
+        && kept.held.count(&[]) == kept.samples
+        && are_constants(infos, kept, bitmaps)
+        && are_in_order(kept.slots.as_slice())
+        && are_open_slots(grammar, infos, kept, bitmaps)
+}
+
 /// Whether parts meet the conditions, but that a rule may suppress a slot.
 pub(crate) fn are_open(
     alloc: Global,
@@ -320,11 +334,5 @@ pub(crate) fn are_open(
     ensures { IfOk result (λ are. IsTrue are ↔ AreOpen grammar infos.now kept.now) }
 {
     let bitmaps = Bitmaps::of(alloc, infos.len() as u32, &kept.held)?;
-    Ok(
-        have_kinds(infos, &kept.leaders)
-            && kept.held.count(&[]) == kept.samples
-            && are_constants(infos, kept, &bitmaps)
-            && are_in_order(kept.slots.as_slice())
-            && are_open_slots(grammar, infos, kept, &bitmaps),
-    )
+    Ok(are_open_by(grammar, infos, kept, &bitmaps))
 }
