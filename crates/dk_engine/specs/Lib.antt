@@ -20,3 +20,5 @@ pub mod Sweeps
 pub mod Merged
 pub mod Narrow
 pub mod Restored
+pub mod Postings
+pub mod Bitmaps
