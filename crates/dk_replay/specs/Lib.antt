@@ -1,2 +1,1 @@
--- cited by the clauses of its functions
 pub mod Samples
