@@ -1,5 +1,5 @@
 // Whether kept parts meet the conditions, but for suppression.
-ghost use Rattle.std.specs.Prelude.{◌≡◌, ◌↔◌, ◌<◌, ◌^◌, All, Contains, IsTrue, length};
+ghost use Rattle.std.specs.Prelude.{◌≡◌, ◌↔◌, ◌<◌, ◌^◌, All, Contains, IfOk, IsTrue, length};
 ghost use Rattle.std.specs.List.{AllPairs};
 ghost use Rattle.dk_base.specs.Items.{is_text as is_string};
 ghost use Rattle.dk_base.specs.Numbers.{fits_i64};
@@ -9,18 +9,20 @@ ghost use Rattle.dk_classes.specs.Classes.{kind_at, var_kinds};
 ghost use Rattle.dk_classes.specs.Leaders.{AreClasses, own_leaders};
 ghost use Rattle.dk_engine.specs.Exact.{IsOverLeaders, Lead, SlotBefore};
 ghost use Rattle.dk_engine.specs.Restored.{AreOpen, AreShaped, HaveKinds, IsConstant, IsOpenSlot, IsStateOf};
-ghost use Rattle.dk_presence.specs.Patterns.{has};
+ghost use Rattle.dk_presence.specs.Patterns.{counted_by, has};
 ghost use Rattle.dk_samples.specs.Leaders.{VarsAscend};
 ghost use Rattle.dk_samples.specs.Samples.{is_present};
 ghost use Rattle.dk_template.specs.Templates.{IsRow, form_of};
 
+use crate::bitmaps::{Bitmaps, bit};
 use crate::constant::are_known;
 use crate::places::is_before;
 use crate::{Kept, Slot};
-use dk_base::{Kind, Text, Value, VarId, VarInfo, is_text};
+use dk_base::{Kind, NoMemory, Text, Value, VarId, VarInfo, is_text};
 use dk_classes::Classes;
 use dk_presence::Held;
 use dk_template::{Grammar, RowId, State, admits, info, is_written as stands_written, proper};
+use std::alloc::Global;
 
 // The kind of a variable.
 fn kind_of(infos: &[VarInfo], v: VarId) -> Kind
@@ -160,7 +162,7 @@ fn is_written(value: &Value) -> bool
 }
 
 // Whether the variable is one of these, which ascend.
-fn has(vars: &[VarId], v: VarId) -> bool
+pub(crate) fn has(vars: &[VarId], v: VarId) -> bool
     requires { VarsAscend vars.now }
     ensures { result ≡ has vars.now v }
 {
@@ -168,10 +170,14 @@ fn has(vars: &[VarId], v: VarId) -> bool
 }
 
 // Whether the leader is present in all patterns, or absent from all.
-fn is_throughout(held: &[Held], leader: VarId, present: bool) -> bool
-    requires { All (λ h. VarsAscend h.leaders) held.now }
+fn is_throughout(bitmaps: &Bitmaps<'_>, held: &[Held], leader: VarId, present: bool) -> bool
+    requires ascend { All (λ h. VarsAscend h.leaders) held.now }
+    requires bitmaps { bitmaps.now ≡ held.now }
     ensures { IsTrue result ↔ All (λ h. has h.leaders leader ≡ present) held.now }
 {
+    if !present && bitmaps.is_in_none(leader) {
+        return true;
+    }
     for pattern in held {
         if has(pattern.leaders.as_slice(), leader) != present {
             return false;
@@ -188,24 +194,31 @@ fn is_there(value: &Value) -> bool
 }
 
 // Whether a constant leads, has a value of its kind that some text writes, and is present in all patterns, or in none if it's missing.
-fn is_constant(infos: &[VarInfo], kept: &Kept, entry: &(VarId, Value)) -> bool
-    requires { AreShaped (length infos.now) kept.now }
+fn is_constant(
+    infos: &[VarInfo],
+    kept: &Kept,
+    bitmaps: &Bitmaps<'_>,
+    entry: &(VarId, Value),
+) -> bool
+    requires shaped { AreShaped (length infos.now) kept.now }
+    requires bitmaps { bitmaps.now ≡ kept.now.held }
     ensures { IsTrue result ↔ IsConstant infos.now kept.now entry.now }
 {
     let (leader, value) = entry;
     leads(&kept.leaders, infos.len(), *leader)
         && is_of_kind(kind_of(infos, *leader), value)
         && is_written(value)
-        && is_throughout(kept.held.held(), *leader, is_there(value))
+        && is_throughout(bitmaps, kept.held.held(), *leader, is_there(value))
 }
 
 // The same of all constants.
-fn are_constants(infos: &[VarInfo], kept: &Kept) -> bool
-    requires { AreShaped (length infos.now) kept.now }
+fn are_constants(infos: &[VarInfo], kept: &Kept, bitmaps: &Bitmaps<'_>) -> bool
+    requires shaped { AreShaped (length infos.now) kept.now }
+    requires bitmaps { bitmaps.now ≡ kept.now.held }
     ensures { IsTrue result ↔ All (IsConstant infos.now kept.now) kept.now.known }
 {
     for entry in kept.known.entries() {
-        if !is_constant(infos, kept, entry) {
+        if !is_constant(infos, kept, bitmaps, entry) {
             return false;
         }
     }
@@ -254,39 +267,72 @@ fn is_state_of(row: RowId, count: u64, state: &State) -> bool
     }
 }
 
+// Whether the slot's row can have its state over leaders that are together in so many samples.
+fn has_state(kept: &Kept, bitmaps: &Bitmaps<'_>, slot: &Slot) -> bool
+    requires row { IsRow slot.now.row }
+    requires bitmaps { bitmaps.now ≡ kept.now.held }
+    ensures { IsTrue result ↔ IsStateOf (form_of slot.now.row) (counted_by kept.now.held slot.now.leaders) slot.now.state }
+{
+    let together = bitmaps.are_together(slot.leaders.as_slice());
+    is_state_of(slot.row, bit(together), &slot.state)
+}
+
 // Whether it is a slot, but that a rule may suppress it.
-fn is_open_slot(grammar: Grammar, infos: &[VarInfo], kept: &Kept, slot: &Slot) -> bool
-    requires { AreShaped (length infos.now) kept.now }
+fn is_open_slot(
+    grammar: Grammar,
+    infos: &[VarInfo],
+    kept: &Kept,
+    bitmaps: &Bitmaps<'_>,
+    slot: &Slot,
+) -> bool
+    requires shaped { AreShaped (length infos.now) kept.now }
+    requires bitmaps { bitmaps.now ≡ kept.now.held }
     ensures { IsTrue result ↔ IsOpenSlot grammar infos.now kept.now slot.now }
 {
     let leaders = slot.leaders.as_slice();
     is_over(grammar, infos, &kept.leaders, slot.row, leaders)
         && stands_written(slot.row, leaders)
         && !are_known(&kept.known, leaders)
-        && is_state_of(slot.row, kept.held.count(leaders), &slot.state)
+        && has_state(kept, bitmaps, slot)
 }
 
 // The same of all slots.
-fn are_open_slots(grammar: Grammar, infos: &[VarInfo], kept: &Kept) -> bool
-    requires { AreShaped (length infos.now) kept.now }
+fn are_open_slots(grammar: Grammar, infos: &[VarInfo], kept: &Kept, bitmaps: &Bitmaps<'_>) -> bool
+    requires shaped { AreShaped (length infos.now) kept.now }
+    requires bitmaps { bitmaps.now ≡ kept.now.held }
     ensures { IsTrue result ↔ All (IsOpenSlot grammar infos.now kept.now) kept.now.slots }
 {
     for slot in kept.slots.as_slice() {
-        if !is_open_slot(grammar, infos, kept, slot) {
+        if !is_open_slot(grammar, infos, kept, bitmaps, slot) {
             return false;
         }
     }
     true
 }
 
-/// Whether parts meet the conditions, but that a rule may suppress a slot.
-pub(crate) fn are_open(grammar: Grammar, infos: &[VarInfo], kept: &Kept) -> bool
-    requires { AreShaped (length infos.now) kept.now }
+// Whether parts meet the conditions, but that a rule may suppress a slot, as the bitmaps of their patterns tell.
+fn are_open_by(grammar: Grammar, infos: &[VarInfo], kept: &Kept, bitmaps: &Bitmaps<'_>) -> bool
+    requires shaped { AreShaped (length infos.now) kept.now }
+    requires bitmaps { bitmaps.now ≡ kept.now.held }
     ensures { IsTrue result ↔ AreOpen grammar infos.now kept.now }
 {
     have_kinds(infos, &kept.leaders)
         && kept.held.count(&[]) == kept.samples
-        && are_constants(infos, kept)
+        && are_constants(infos, kept, bitmaps)
         && are_in_order(kept.slots.as_slice())
-        && are_open_slots(grammar, infos, kept)
+        && are_open_slots(grammar, infos, kept, bitmaps)
+}
+
+/// Whether parts meet the conditions, but that a rule may suppress a slot.
+pub(crate) fn are_open(
+    alloc: Global,
+    grammar: Grammar,
+    infos: &[VarInfo],
+    kept: &Kept,
+) -> Result<bool, NoMemory>
+    requires { AreShaped (length infos.now) kept.now }
+    ensures { IfOk result (λ are. IsTrue are ↔ AreOpen grammar infos.now kept.now) }
+{
+    let bitmaps = Bitmaps::of(alloc, infos.len() as u32, &kept.held)?;
+    Ok(are_open_by(grammar, infos, kept, &bitmaps))
 }

@@ -1,5 +1,5 @@
 // The engine of a point.
-ghost use Rattle.std.specs.Prelude.{◌≡◌, ◌↔◌, ◌<◌, ◌≤◌, suc, [], IfOk, IsTrue, List, OnErr, length};
+ghost use Rattle.std.specs.Prelude.{◌≡◌, ◌↔◌, ◌<◌, ◌≤◌, suc, [], IfOk, IfSome, IsTrue, List, OnErr, length};
 ghost use Rattle.dk_base.specs.Values.{values_of};
 ghost use Rattle.dk_base.specs.declared.kinds.VarId.{VarId};
 ghost use Rattle.dk_base.specs.declared.kinds.VarInfo.{VarInfo};
@@ -14,6 +14,7 @@ ghost use Rattle.dk_engine.specs.Memory.{wants_memory};
 ghost use Rattle.dk_engine.specs.Parts.{leaders_of};
 ghost use Rattle.dk_engine.specs.Reading.{agree_read, count_read, read_leaders, state_read};
 
+use crate::bitmaps::Bitmaps;
 use crate::nothing::Nothing;
 use crate::over::Over;
 use crate::taking::are_of_kinds;
@@ -140,8 +141,14 @@ impl Engine {
         are_of_kinds(self.infos.as_slice(), sample)
     }
 
-    // One level over a lower one.
-    pub(crate) fn over<'a, B: Answers>(&'a self, below: u8, lower: B) -> Over<'a, B>
+    // One level over a lower one, with bitmaps of the patterns or none.
+    pub(crate) fn over<'a, B: Answers>(
+        &'a self,
+        bitmaps: Option<&'a Bitmaps<'a>>,
+        below: u8,
+        lower: B,
+    ) -> Over<'a, B>
+        requires bitmaps { IfSome bitmaps (λ b. b.now ≡ self.now.kept.held) }
         requires grammar { B.grammar lower ≡ self.now.grammar }
         requires infos { B.infos lower ≡ self.now.infos }
         requires lower { B.answered lower ≡ read_leaders below self.now.kept }
@@ -152,6 +159,7 @@ impl Engine {
             grammar: self.grammar,
             infos: self.infos.as_slice(),
             kept: &self.kept,
+            bitmaps,
             below,
             lower,
         }
@@ -186,6 +194,7 @@ impl Engine {
         }
         let leaders = self.leaders_of(vars);
         let lowest = self.over(
+            None,
             0,
             Nothing {
                 grammar: self.grammar,
@@ -193,7 +202,7 @@ impl Engine {
                 kept: &self.kept,
             },
         );
-        let levels = self.over(3, self.over(2, self.over(1, lowest)));
+        let levels = self.over(None, 3, self.over(None, 2, self.over(None, 1, lowest)));
         levels.state(row, leaders.as_slice())
     }
 }

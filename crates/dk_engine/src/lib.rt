@@ -2,6 +2,7 @@
 #![tactic(auto)]
 
 mod after;
+mod bitmaps;
 mod changes;
 mod changing;
 mod conditions;
@@ -21,6 +22,7 @@ mod over;
 mod parts;
 mod places;
 mod points;
+mod postings;
 mod reaching;
 mod runs;
 mod saved;

@@ -1,8 +1,9 @@
 // One level of reading over another.
-ghost use Rattle.std.specs.Prelude.{◌≡◌, ◌-◌, ◌≤◌, false, IfOk, IsTrue, List, OnErr, length};
+ghost use Rattle.std.specs.Prelude.{◌≡◌, ◌↔◌, ◌-◌, ◌<◌, ◌≤◌, false, IfOk, IsTrue, List, OnErr, length};
 ghost use Rattle.dk_base.specs.declared.kinds.VarInfo.{VarInfo};
 ghost use Rattle.dk_forms.specs.declared.states.State.{State};
 ghost use Rattle.dk_presence.specs.Patterns.{counted_by};
+ghost use Rattle.dk_suppress.specs.Soundness.{holds_of};
 ghost use Rattle.dk_template.specs.Admitted.{admits};
 ghost use Rattle.dk_template.specs.Proper.{IsProper};
 ghost use Rattle.dk_template.specs.Templates.{IsRowOf, form_of};
@@ -12,6 +13,7 @@ ghost use Rattle.dk_engine.specs.Memory.{wants_memory};
 ghost use Rattle.dk_engine.specs.Reading.{agree_read, read_leaders, read_written};
 
 use crate::Kept;
+use crate::bitmaps::{Bitmaps, counts_some};
 use crate::constant::{are_known, constant_state};
 use crate::places::find;
 use dk_base::{NoMemory, VarId, VarInfo};
@@ -20,19 +22,21 @@ use dk_template::{Answers, Grammar, RowId, State, turn_state, written};
 use std::alloc::Global;
 use std::marker::Model;
 
-/// What kept parts answer over leaders for the rows of the lowest ranks, where `lower` answers for those of one rank less.
+/// What kept parts answer over leaders for the rows of the lowest ranks, where `lower` answers for those of one rank less. The bitmaps,
+/// if there are any, are those of the kept patterns.
 #[derive(Drop)]
 pub(crate) struct Over<'a, B: Answers> {
     pub(crate) alloc: Global,
     pub(crate) grammar: Grammar,
     pub(crate) infos: &'a [VarInfo],
     pub(crate) kept: &'a Kept,
+    pub(crate) bitmaps: Option<&'a Bitmaps<'a>>,
     pub(crate) below: u8,
     pub(crate) lower: B,
 }
 
 impl<'a, B: Answers> Model for Over<'a, B> {
-    ghost use Rattle.std.specs.Prelude.{◌≡◌, suc};
+    ghost use Rattle.std.specs.Prelude.{◌≡◌, IfSome, suc};
     ghost use Rattle.std.specs.List.{AllPairs};
     ghost use Rattle.dk_engine.specs.Conditions.{CanBeRead};
     ghost use Rattle.dk_engine.specs.Exact.{SlotBefore};
@@ -43,10 +47,31 @@ impl<'a, B: Answers> Model for Over<'a, B> {
 
     ghost view = { λ o. record { grammar = o.grammar; infos = o.infos.now; kept = o.kept.now; ranks = suc o.below } };
 
-    ghost invariant = { λ o. CanBeRead o.infos.now o.kept.now × ((B.grammar o.lower ≡ o.grammar) × ((B.infos o.lower ≡ o.infos.now) × ((B.answered o.lower ≡ read_leaders o.below o.kept.now) × AllPairs SlotBefore o.kept.now.slots))) };
+    ghost invariant = { λ o. CanBeRead o.infos.now o.kept.now × ((B.grammar o.lower ≡ o.grammar) × ((B.infos o.lower ≡ o.infos.now) × ((B.answered o.lower ≡ read_leaders o.below o.kept.now) × (AllPairs SlotBefore o.kept.now.slots × IfSome o.bitmaps (λ b. b.now ≡ o.kept.now.held))))) };
 }
 
 impl<'a, B: Answers> Over<'a, B> {
+    // Whether in some sample all of these leaders are present.
+    fn are_together(&self, vars: &[VarId]) -> bool
+        ensures { IsTrue result ↔ (0 < counted_by self.now.kept.held vars.now) }
+    {
+        match self.bitmaps {
+            Some(bitmaps) => bitmaps.are_together(vars),
+            None => counts_some(&self.kept.held, vars),
+        }
+    }
+
+    // The state of leaders for which a relation holds.
+    fn state_held(&self, vars: &[VarId]) -> State
+        ensures { result ≡ holds_of (counted_by self.now.kept.held vars.now) }
+    {
+        if self.are_together(vars) {
+            State::Holds
+        } else {
+            State::Empty
+        }
+    }
+
     // The state of leaders in the row's written order.
     fn state_written(&self, row: RowId, vars: &[VarId]) -> Result<State, NoMemory>
         requires row { IsRowOf self.now.grammar row }
@@ -60,11 +85,7 @@ impl<'a, B: Answers> Over<'a, B> {
         match find(self.kept.slots.as_slice(), row, vars) {
             Some(slot) => slot.state.copy(self.alloc),
             None => Ok(if suppressed(row, vars, &self.lower) {
-                if self.kept.held.count(vars) == 0 {
-                    State::Empty
-                } else {
-                    State::Holds
-                }
+                self.state_held(vars)
             } else {
                 State::Broken
             }),

@@ -9,6 +9,7 @@ ghost use Rattle.dk_engine.specs.Restored.{AreShaped, AreUnsuppressed, HaveParts
 ghost use Rattle.dk_engine.specs.Saved.{AreSavedParts, parts_of};
 ghost use Rattle.dk_engine.specs.declared.kept.Kept.{Kept};
 
+use crate::bitmaps::Bitmaps;
 use crate::conditions::are_open;
 use crate::nothing::Nothing;
 use crate::{Engine, Kept, Parts, Slot, Slots};
@@ -87,10 +88,12 @@ fn kept_from(alloc: Global, count: usize, parts: Parts) -> Result<Option<Kept>, 
 
 impl Engine {
     // Whether no rule suppresses a slot in the parts as they stand.
-    fn suppresses_none(&self) -> bool
-        ensures { IsTrue result ↔ AreUnsuppressed self.now.kept }
+    fn suppresses_none(&self) -> Result<bool, NoMemory>
+        ensures { IfOk result (λ none. IsTrue none ↔ AreUnsuppressed self.now.kept) }
     {
+        let bitmaps = Bitmaps::of(self.alloc, self.infos.len() as u32, &self.kept.held)?;
         let lowest = self.over(
+            Some(&bitmaps),
             0,
             Nothing {
                 grammar: self.grammar,
@@ -98,23 +101,30 @@ impl Engine {
                 kept: &self.kept,
             },
         );
-        let levels = self.over(3, self.over(2, self.over(1, lowest)));
-        none_suppressed(self.kept.slots.as_slice(), &levels)
+        let second = self.over(Some(&bitmaps), 1, lowest);
+        let third = self.over(Some(&bitmaps), 2, second);
+        let levels = self.over(Some(&bitmaps), 3, third);
+        Ok(none_suppressed(self.kept.slots.as_slice(), &levels))
     }
 
     // The engine with these parts, or None where they don't meet the conditions.
-    fn with_kept(alloc: Global, vars: List<VarInfo>, kept: Kept, grammar: Grammar) -> Option<Engine>
+    fn with_kept(
+        alloc: Global,
+        vars: List<VarInfo>,
+        kept: Kept,
+        grammar: Grammar,
+    ) -> Result<Option<Engine>, NoMemory>
         requires point { AreOfPoint vars }
         requires shaped { AreShaped (length vars) kept }
         requires some { 1 ≤ kept.samples }
-        ensures grammar { IfSome result (λ e. e.grammar ≡ grammar) }
-        ensures infos { IfSome result (λ e. e.infos ≡ vars) }
-        ensures kept { IfSome result (λ e. e.kept ≡ kept) }
-        ensures meets { IfSome result (λ e. AreParts grammar vars kept) }
-        ensures none { result ≡ None → AreParts grammar vars kept → ⊥ }
+        ensures grammar { IfOk result (λ found. IfSome found (λ e. e.grammar ≡ grammar)) }
+        ensures infos { IfOk result (λ found. IfSome found (λ e. e.infos ≡ vars)) }
+        ensures kept { IfOk result (λ found. IfSome found (λ e. e.kept ≡ kept)) }
+        ensures meets { IfOk result (λ found. IfSome found (λ e. AreParts grammar vars kept)) }
+        ensures none { IfOk result (λ found. found ≡ None → AreParts grammar vars kept → ⊥) }
     {
-        if !are_open(grammar, vars.as_slice(), &kept) {
-            return None;
+        if !are_open(alloc, grammar, vars.as_slice(), &kept)? {
+            return Ok(None);
         }
         let engine = Engine {
             alloc,
@@ -122,10 +132,10 @@ impl Engine {
             infos: vars,
             kept,
         };
-        if engine.suppresses_none() {
-            Some(engine)
+        if engine.suppresses_none()? {
+            Ok(Some(engine))
         } else {
-            None
+            Ok(None)
         }
     }
 
@@ -149,7 +159,7 @@ impl Engine {
             return Err(PartsFault::Bad);
         }
         match kept_from(alloc, vars.len(), parts)? {
-            Some(kept) => match Engine::with_kept(alloc, vars, kept, grammar) {
+            Some(kept) => match Engine::with_kept(alloc, vars, kept, grammar)? {
                 Some(engine) => Ok(engine),
                 None => Err(PartsFault::Bad),
             },

@@ -4,7 +4,7 @@ ghost use Rattle.dk_samples.specs.Leaders.{VarsAscend};
 ghost use Rattle.dk_presence.specs.Patterns.{AreHeld};
 
 use dk_base::{List, NoMemory, VarId, View};
-use dk_presence::{Held, Presence, present_leaders};
+use dk_classes::{Held, Presence, present_leaders};
 use std::alloc::Global;
 use std::process::Abort;
 use std::test::Fail;

@@ -5,5 +5,5 @@ use Rattle.dk_engine.proofs.conditions.is_constant.Goals as goal
 pub kind_of-requires : goal.kind_of-requires
 kind_of-requires c =
     let within = (leads_from_own c.args.kept.now.leaders c.args.entry.now.0 (c.leads.ensures.0 c.if-leads.true)).0 in
-    let long = c.requires.long in
+    let long = c.requires.shaped.long in
     omega (arith, within, long)
