@@ -16,34 +16,20 @@ const FILE: &str =
     "ppt P\nppt-type point\nvariable x\nrep-type int\n\nP\nx\n1\n1\n\nP\nx\n2\n1\n\nP\nx\n3\n1\n\nP\nx\n7\n1\n\n";
 
 // After a record: how many samples there are, whether the number has had one value, and how many slots of the rows 1 to 66 are kept.
+#[derive(Drop)]
 struct Kept {
     samples: u64,
     is_constant: bool,
     slots: usize,
 }
 
-const AFTER: [Kept; 4] = [
+fn kept_after(samples: u64, is_constant: bool, slots: usize) -> Kept {
     Kept {
-        samples: 1,
-        is_constant: true,
-        slots: 0,
-    },
-    Kept {
-        samples: 2,
-        is_constant: false,
-        slots: 5,
-    },
-    Kept {
-        samples: 3,
-        is_constant: false,
-        slots: 5,
-    },
-    Kept {
-        samples: 4,
-        is_constant: false,
-        slots: 4,
-    },
-];
+        samples,
+        is_constant,
+        slots,
+    }
+}
 
 fn one_file(alloc: Global) -> Result<MemoryInputs, NoMemory> {
     let name = Text::from_slice(alloc, b"t")?;
@@ -87,6 +73,19 @@ fn lends<F: Fn(&[u8]) -> bool + Drop>(session: &Session<F>, kept: &Kept) -> bool
     points == 1 && has_kept(session.engine(PointId(0)), kept)
 }
 
+// Whether there is a next block, and the first point's engine keeps this behind it.
+fn lends_next<F: Fn(&[u8]) -> bool + Drop, I: Inputs>(
+    session: &mut Session<F>,
+    inputs: &mut I,
+    lines: &mut Lines,
+    kept: Kept,
+) -> bool
+    requires { lines.old.is_started ≡ not (over_of session.old) }
+    ensures { result ≡ true → lines.new.is_started ≡ not (over_of session.new) }
+{
+    is_block(session, inputs, lines) && lends(session, &kept)
+}
+
 #[test]
 fn lent_parts(rt: HostRuntime) -> Result<(), Fail> {
     let mut inputs = one_file(rt.alloc())?;
@@ -94,10 +93,38 @@ fn lent_parts(rt: HostRuntime) -> Result<(), Fail> {
     let mut session = Session::new(rt.alloc(), |_: &[u8]| true, options())?;
     assert!(rt; lines.start(&mut inputs, "t").is_ok());
     assert!(rt; is_block(&mut session, &mut inputs, &mut lines));
-    for kept in &AFTER {
-        assert!(rt; is_block(&mut session, &mut inputs, &mut lines));
-        assert!(rt; lends(&session, kept), "after {} records", kept.samples);
-    }
+    assert!(rt;
+        lends_next(
+            &mut session,
+            &mut inputs,
+            &mut lines,
+            kept_after(1, true, 0)
+        )
+    );
+    assert!(rt;
+        lends_next(
+            &mut session,
+            &mut inputs,
+            &mut lines,
+            kept_after(2, false, 5)
+        )
+    );
+    assert!(rt;
+        lends_next(
+            &mut session,
+            &mut inputs,
+            &mut lines,
+            kept_after(3, false, 5)
+        )
+    );
+    assert!(rt;
+        lends_next(
+            &mut session,
+            &mut inputs,
+            &mut lines,
+            kept_after(4, false, 4)
+        )
+    );
     assert!(rt; !is_block(&mut session, &mut inputs, &mut lines));
     let session = session.end_file();
     assert!(rt; session.blocks() == 5);
