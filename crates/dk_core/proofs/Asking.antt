@@ -14,7 +14,7 @@ use Rattle.dk_report.specs.declared.options.Options.{Options}
 use Rattle.dk_template.specs.declared.grammar.Grammar.{Grammar}
 use Rattle.dk_core.specs.History.{History}
 use Rattle.dk_core.specs.Keeping.{IsSound, Keeping}
-use Rattle.dk_core.specs.Sections.{has_samples, has_section, name_of, section_of, some_if}
+use Rattle.dk_core.specs.Sections.{has_samples, has_section, name_in_history, section_of, some_if}
 use Rattle.dk_core.specs.Standing.{Stands}
 
 pub if_ok_map : {A E : Type 0} (r : Result A E) (P Q : A → Type 0) → IfOk r P → ((x : A) → P x → Q x) → IfOk r Q
@@ -71,23 +71,23 @@ name_there [] p name is = absurd (cc is)
 name_there (n ∷ ns) zero name is = cc is
 name_there (n ∷ ns) (suc p) name is = name_there ns p name is
 
-pub name_is : (ps : List Point) (h : History) (p : ℕ) (name : List ℕ) → ps ≡ h.table → slice_get (names ps) p ≡ Some name → name_of h p ≡ name
+pub name_is : (ps : List Point) (h : History) (p : ℕ) (name : List ℕ) → ps ≡ h.table → slice_get (names ps) p ≡ Some name → name_in_history h p ≡ name
 name_is ps h p name table is = ap (λ (qs : List Point). slice_index_or (names qs) p []) (sym table) ∙ name_there (names ps) p name is
 
 -- a point that is not selected, and one that is
-pub not_selected : (selects : List ℕ → Bool) (h : History) (p : ℕ) → selects (name_of h p) ≡ false → has_section selects h p ≡ false
+pub not_selected : (selects : List ℕ → Bool) (h : History) (p : ℕ) → selects (name_in_history h p) ≡ false → has_section selects h p ≡ false
 not_selected selects h p off = ap (λ (b : Bool). b && has_samples h p) off
 
-pub none_written : (options : Options) (selects : List ℕ → Bool) (h : History) (p : ℕ) (text : List ℕ) → selects (name_of h p) ≡ false
+pub none_written : (options : Options) (selects : List ℕ → Bool) (h : History) (p : ℕ) (text : List ℕ) → selects (name_in_history h p) ≡ false
     → text ≡ text ++ section_of options selects h p
 unfolding section_of
 none_written options selects h p text off =
     sym (append-nil text) ∙ ap (λ (b : Bool). text ++ (if b then section_in h.grammar options h.table h.samples p else [])) (sym off)
 
-pub selected : (selects : List ℕ → Bool) (h : History) (p : ℕ) → selects (name_of h p) ≡ true → has_section selects h p ≡ has_samples h p
+pub selected : (selects : List ℕ → Bool) (h : History) (p : ℕ) → selects (name_in_history h p) ≡ true → has_section selects h p ≡ has_samples h p
 selected selects h p on = ap (λ (b : Bool). b && has_samples h p) on
 
-pub all_written : (options : Options) (selects : List ℕ → Bool) (h : History) (p : ℕ) → selects (name_of h p) ≡ true
+pub all_written : (options : Options) (selects : List ℕ → Bool) (h : History) (p : ℕ) → selects (name_in_history h p) ≡ true
     → section_in h.grammar options h.table h.samples p ≡ section_of options selects h p
 unfolding section_of
 all_written options selects h p on = ap (λ (b : Bool). if b then section_in h.grammar options h.table h.samples p else []) (sym on)

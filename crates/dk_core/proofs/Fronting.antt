@@ -7,7 +7,7 @@ use Rattle.dk_base.specs.declared.why.Why.{Why}
 use Rattle.dk_decl.specs.Headers.{HeaderAnswers, header_line}
 use Rattle.dk_decl.specs.Outcomes.{refused, ReaderGoesOn as DeclGoesOn, FaultAgrees, FaultAgreesOnward as DeclToldOn}
 use Rattle.dk_decl.specs.declared.header.Header.{Header}
-use Rattle.dk_core.specs.Fronts.{Front, at_header_line, front_of, is_comment}
+use Rattle.dk_core.specs.Fronts.{Front, at_header_line, block_front, is_comment}
 use Rattle.dk_core.specs.History.{History, Taken, after_declaration, after_front, after_record, after_sample, block, effect_of, is_declaration, is_list_of_implementors, where_it_ends, with_record}
 use Rattle.dk_base.specs.declared.why.Why.TheVariants.{BadHeader}
 use Rattle.std.specs.Prelude.{OnOk}
@@ -25,23 +25,23 @@ use Rattle.dk_core.specs.declared.block.State.TheVariants as state
 
 -- nothing was read yet
 pub begun : (ignores : Bool) (h : History) (header : Header) (ls : List Line) (close : Option ℕ) → header ≡ h.header
-    → (front_of header None ls >>= λ front. after_front ignores (record h { header = header }) front close) ≡ effect_of ignores h ls close
+    → (block_front header None ls >>= λ front. after_front ignores (record h { header = header }) front close) ≡ effect_of ignores h ls close
 unfolding effect_of
-begun ignores h header ls close is = ap (λ (x : Header). front_of x None ls >>= λ front. after_front ignores (record h { header = x }) front close) is
+begun ignores h header ls close is = ap (λ (x : Header). block_front x None ls >>= λ front. after_front ignores (record h { header = x }) front close) is
 
-front_comment : (header : Header) (last : Option ℕ) (l : Line) (ls : List Line) → is_comment l.bytes ≡ true → front_of header last (l ∷ ls) ≡ front_of header last ls
+front_comment : (header : Header) (last : Option ℕ) (l : Line) (ls : List Line) → is_comment l.bytes ≡ true → block_front header last (l ∷ ls) ≡ block_front header last ls
 front_comment header last l ls is =
-    ap (λ b. cond b (front_of header last ls) (at_header_line (header_line header l.bytes) l.number (record { header = header; last = last; lines = l ∷ ls }) (λ next. front_of next (Some l.number) ls))) is
+    ap (λ b. cond b (block_front header last ls) (at_header_line (header_line header l.bytes) l.number (record { header = header; last = last; lines = l ∷ ls }) (λ next. block_front next (Some l.number) ls))) is
 
 front_header : (header : Header) (last : Option ℕ) (l : Line) (ls : List Line) (o : Option (Result Header Why)) → is_comment l.bytes ≡ false → header_line header l.bytes ≡ o
-    → front_of header last (l ∷ ls) ≡ at_header_line o l.number (record { header = header; last = last; lines = l ∷ ls }) (λ next. front_of next (Some l.number) ls)
+    → block_front header last (l ∷ ls) ≡ at_header_line o l.number (record { header = header; last = last; lines = l ∷ ls }) (λ next. block_front next (Some l.number) ls)
 front_header header last l ls o is at =
-    ap (λ b. cond b (front_of header last ls) (at_header_line (header_line header l.bytes) l.number (record { header = header; last = last; lines = l ∷ ls }) (λ next. front_of next (Some l.number) ls))) is
-    ∙ ap (λ (p : Option (Result Header Why)). at_header_line p l.number (record { header = header; last = last; lines = l ∷ ls }) (λ next. front_of next (Some l.number) ls)) at
+    ap (λ b. cond b (block_front header last ls) (at_header_line (header_line header l.bytes) l.number (record { header = header; last = last; lines = l ∷ ls }) (λ next. block_front next (Some l.number) ls))) is
+    ∙ ap (λ (p : Option (Result Header Why)). at_header_line p l.number (record { header = header; last = last; lines = l ∷ ls }) (λ next. block_front next (Some l.number) ls)) at
 
 -- a comment
 pub past_comment : (ignores : Bool) (h : History) (last : Option ℕ) (l : Line) (ls : List Line) (close : Option ℕ) → is_comment l.bytes ≡ true
-    → (front_of h.header last (l ∷ ls) >>= λ front. after_front ignores h front close) ≡ (front_of h.header last ls >>= λ front. after_front ignores h front close)
+    → (block_front h.header last (l ∷ ls) >>= λ front. after_front ignores h front close) ≡ (block_front h.header last ls >>= λ front. after_front ignores h front close)
 past_comment ignores h last l ls close is = ap (λ (r : Result Front LineFault). r >>= λ front. after_front ignores h front close) (front_comment h.header last l ls is)
 
 -- what an answer of a header says of the line
@@ -63,8 +63,8 @@ answered_fault (Some (Err w)) h h' why a = let e = a.0 in let same : w ≡ why =
 -- a header line, behind which this header is in force
 pub past_header : (ignores : Bool) (h : History) (header : Header) (last : Option ℕ) (l : Line) (ls : List Line) (close : Option ℕ) → is_comment l.bytes ≡ false
     → HeaderAnswers (header_line h.header l.bytes) h.header (Ok true) header
-    → (front_of h.header last (l ∷ ls) >>= λ front. after_front ignores h front close)
-    ≡ (front_of header (Some l.number) ls >>= λ front. after_front ignores (record h { header = header }) front close)
+    → (block_front h.header last (l ∷ ls) >>= λ front. after_front ignores h front close)
+    ≡ (block_front header (Some l.number) ls >>= λ front. after_front ignores (record h { header = header }) front close)
 past_header ignores h header last l ls close is answers =
     ap (λ (r : Result Front LineFault). r >>= λ front. after_front ignores h front close)
     (front_header h.header last l ls (Some (Ok header)) is (answered_true (header_line h.header l.bytes) h.header header answers))
@@ -72,7 +72,7 @@ past_header ignores h header last l ls close is answers =
 -- a header line that is refused
 pub bad_header : (ignores : Bool) (h : History) (header : Header) (last : Option ℕ) (l : Line) (why : Why) (ls : List Line) (close : Option ℕ) → is_comment l.bytes ≡ false
     → HeaderAnswers (header_line h.header l.bytes) h.header (Err why) header
-    → (front_of h.header last (l ∷ ls) >>= λ front. after_front ignores h front close) ≡ Err (record { line = l.number; why = why })
+    → (block_front h.header last (l ∷ ls) >>= λ front. after_front ignores h front close) ≡ Err (record { line = l.number; why = why })
 bad_header ignores h header last l why ls close is answers =
     ap (λ (r : Result Front LineFault). r >>= λ front. after_front ignores h front close)
     (front_header h.header last l ls (Some (Err why)) is (answered_fault (header_line h.header l.bytes) h.header header why answers))
@@ -80,7 +80,7 @@ bad_header ignores h header last l why ls close is answers =
 -- the first line of the record
 pub at_record : (ignores : Bool) (h : History) (header : Header) (last : Option ℕ) (l : Line) (ls : List Line) (close : Option ℕ) → is_comment l.bytes ≡ false
     → HeaderAnswers (header_line h.header l.bytes) h.header (Ok false) header
-    → (front_of h.header last (l ∷ ls) >>= λ front. after_front ignores h front close) ≡ after_record ignores (record h { header = header }) l ls close
+    → (block_front h.header last (l ∷ ls) >>= λ front. after_front ignores h front close) ≡ after_record ignores (record h { header = header }) l ls close
 at_record ignores h header last l ls close is answers =
     let both = answered_false (header_line h.header l.bytes) h.header header answers in
     ap (λ (r : Result Front LineFault). r >>= λ front. after_front ignores h front close) (front_header h.header last l ls None is both.0)

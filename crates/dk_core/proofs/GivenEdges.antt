@@ -24,7 +24,7 @@ use Rattle.dk_decl.specs.Outcomes.{refused}
 use Rattle.dk_decl.specs.declared.decls.EdgeDecl.{EdgeDecl}
 use Rattle.dk_graph.specs.Names.{place_of}
 use Rattle.dk_state.specs.Fitting.{FitsEdge}
-use Rattle.dk_state.specs.Given.{all_new, edge_key, has_none, is_edge}
+use Rattle.dk_state.specs.Given.{all_new, edge_key, has_none, is_given_edge}
 use Rattle.dk_state.specs.Lines.{behind_blank}
 use Rattle.dk_core.proofs.Spelled.{IsSpelled, IsWord, are_words, both, is_name_spelled, left, none_rest, right, spelled_undone, spelled_word, unescaped_none}
 
@@ -127,17 +127,17 @@ key_tells e f small less same =
 -- ---- edges
 pub record AreGivenEdges (es : List EdgeDecl) : Type 0 where
   pub new : all_new [] (map edge_key es) ≡ true
-  pub each : list_all is_edge es ≡ true
+  pub each : list_all is_given_edge es ≡ true
   pub fits : All FitsEdge es
 
 pub no_edges : AreGivenEdges []
 no_edges = record { new = refl; each = refl; fits = All-nil FitsEdge }
 
 -- one edge more
-one_more : (es : List EdgeDecl) (e : EdgeDecl) → AreGivenEdges es → is_edge e ≡ true → FitsEdge e → list_any (same_edge e.parent e.id) es ≡ false → AreGivenEdges (es ++ e ∷ [])
+one_more : (es : List EdgeDecl) (e : EdgeDecl) → AreGivenEdges es → is_given_edge e ≡ true → FitsEdge e → list_any (same_edge e.parent e.id) es ≡ false → AreGivenEdges (es ++ e ∷ [])
 one_more es e given own fits none = record {
   new = subst (λ (ks : List (List ℕ)). all_new [] ks ≡ true) (sym (map_push es)) (all_new_push [] (map edge_key es) (edge_key e) given.new (new_key es given.fits none));
-  each = list_all-append is_edge es (e ∷ []) ∙ both _ _ given.each (both _ _ own refl);
+  each = list_all-append is_given_edge es (e ∷ []) ∙ both _ _ given.each (both _ _ own refl);
   fits = All-push FitsEdge es e given.fits fits;
 }
   where

@@ -38,14 +38,14 @@ use Rattle.dk_decl.specs.declared.types.RepType.{RepType}
 use Rattle.dk_decl.specs.declared.types.RepType.TheVariants.{Of, Opaque}
 use Rattle.dk_decl.specs.declared.variables.OpenVar.{OpenVar}
 use Rattle.dk_state.specs.Fitting.{FitsConstant, FitsMapped, FitsVar}
-use Rattle.dk_state.specs.Given.{all_new, has_none, is_constant, is_mapped, is_name, is_var}
+use Rattle.dk_state.specs.Given.{all_new, has_none, is_given_constant, is_given_counterpart, is_given_var, is_name}
 use Rattle.dk_core.proofs.GivenEdges.{HasNoLf, all_new_push, new_name, or_none_left, or_none_right}
 use Rattle.dk_core.proofs.Spelled.{IsSpelled, IsWord, are_words, both, is_name_spelled, left, none_rest, right, spelled_rest, spelled_undone, spelled_word, unescaped_none}
 
 -- ---- constants
 -- a constant that is read can be told again
 abbrev IsTold : Bool → Option Kind → Option Value → Type 0
-IsTold there kind constant = (is_constant there kind constant ≡ true) × FitsConstant there kind constant
+IsTold there kind constant = (is_given_constant there kind constant ≡ true) × FitsConstant there kind constant
 
 constant_told : (rep : RepType) (o : Option Placed) (c : Option Value) → constant_at rep o ≡ Ok c → IsTold (is_some o) (rep_kind rep) c
 unfolding constant_at constant_of
@@ -119,14 +119,14 @@ or_refused_some line (Some y) x e = cc e
 
 -- ---- counterparts
 record AreMapped (own : List ℕ) (n : ℕ) (ps : List ParentVar) : Type 0 where
-  each : list_all (is_mapped own n) ps ≡ true
+  each : list_all (is_given_counterpart own n) ps ≡ true
   fits : All FitsMapped ps
 
 none_mapped : (own : List ℕ) (n : ℕ) → AreMapped own n []
 none_mapped own n = record { each = refl; fits = All-nil FitsMapped }
 
 more_mapped : (own : List ℕ) (n : ℕ) (ps more : List ParentVar) → AreMapped own n ps → AreMapped own n more → AreMapped own n (ps ++ more)
-more_mapped own n ps more old new = record { each = list_all-append (is_mapped own n) ps more ∙ both _ _ old.each new.each; fits = All-append FitsMapped ps more old.fits new.fits }
+more_mapped own n ps more old new = record { each = list_all-append (is_given_counterpart own n) ps more ∙ both _ _ old.each new.each; fits = All-append FitsMapped ps more old.fits new.fits }
 
 same_bytes : (bs : List ℕ) → bytes_eq bs bs ≡ true
 same_bytes bs = (bytes_eq-Decides bs bs).1 refl
@@ -180,7 +180,7 @@ counterparts_given es own (parent ∷ id ∷ name ∷ []) ps few spelled all e =
 -- ---- variables
 pub record AreGivenVars (n : ℕ) (vs : List VarDecl) : Type 0 where
   pub new : all_new [] (map (λ v. v.name) vs) ≡ true
-  pub each : list_all (is_var n) vs ≡ true
+  pub each : list_all (is_given_var n) vs ≡ true
   pub fits : All FitsVar vs
 
 pub no_vars : (n : ℕ) → AreGivenVars n []
@@ -193,7 +193,7 @@ one_var n vs v given none spelled compar told mapped = record {
   new = subst (λ (ks : List (List ℕ)). all_new [] ks ≡ true) (sym (map_push vs))
       (all_new_push [] (map (λ (w : VarDecl). w.name) vs) v.name given.new
       (new_name (λ (w : VarDecl). Unit {0}) (λ (w : VarDecl). w.name) (λ (w : VarDecl). bytes_eq v.name w.name) vs v.name (λ w _ same. same) (λ k d within. tt) none));
-  each = list_all-append (is_var n) vs (v ∷ []) ∙ both _ _ given.each (both _ _ (both _ _ (is_name_spelled v.name spelled) (both _ _ told.0 mapped.each)) refl);
+  each = list_all-append (is_given_var n) vs (v ∷ []) ∙ both _ _ given.each (both _ _ (both _ _ (is_name_spelled v.name spelled) (both _ _ told.0 mapped.each)) refl);
   fits = All-push FitsVar vs v given.fits (record { name = spelled.none; elem = compar.elem; index = compar.index; constant = told.1; parents = mapped.fits });
 }
   where

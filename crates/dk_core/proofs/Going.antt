@@ -34,15 +34,15 @@ use Rattle.dk_hierarchy.specs.Samples.{OwnSamples, own_samples_of}
 use Rattle.dk_points.specs.Declaring.{at_line, declared}
 use Rattle.dk_points.specs.Table.{Point, decl_at, decl_if_declared}
 use Rattle.dk_points.specs.declared.declared.Declared.{Declared}
-use Rattle.dk_state.specs.Compact.{kept_of}
+use Rattle.dk_state.specs.Compact.{compact_form_of}
 use Rattle.dk_state.specs.Fitting.{FitsSlot}
 use Rattle.dk_state.specs.Given.{CanBeGiven}
-use Rattle.dk_state.specs.Spelling.{CanBeSaved, IsOwnTable, form_of}
+use Rattle.dk_state.specs.Spelling.{CanBeSaved, IsOwnTable, compact_form_at}
 use Rattle.dk_trace.specs.Fitting.{FitKinds}
 use Rattle.dk_trace.specs.Records.{Sample, sample_of}
 use Rattle.dk_template.specs.declared.grammar.Grammar.{Grammar}
 use Rattle.dk_core.specs.Fitting.{CallFits, FitAt}
-use Rattle.dk_core.specs.Fronts.{Front, at_header_line, front_of, is_comment}
+use Rattle.dk_core.specs.Fronts.{Front, at_header_line, block_front, is_comment}
 use Rattle.dk_core.specs.History.{History, Taken, after_declaration, after_front, after_lines, after_record, after_sample, base_values, block, effect_of, file_ended, is_declaration, is_list_of_implementors, no_block, nothing_by, or_left_out, with_declaration, with_record, with_table, with_values, without_record}
 use Rattle.dk_core.specs.Resuming.{AreFew, IsStart, NoSamplesAreAStart}
 use Rattle.dk_core.proofs.Feeding.{are_derived, base_among, sample_given}
@@ -212,7 +212,7 @@ record IsFront (header : Header) (last : Option ℕ) (n : ℕ) (front : Front) :
   none : front.lines ≡ [] → front.last ≡ None → (last ≡ None) × (front.header ≡ header)
   word : (front.lines ≡ [] → ⊥) → awaits_word front.header ≡ false
 
-front_is : (header : Header) (last : Option ℕ) (ls : List Line) (front : Front) → All IsLineSpelled ls → front_of header last ls ≡ Ok front → IsFront header last (length ls) front
+front_is : (header : Header) (last : Option ℕ) (ls : List Line) (front : Front) → All IsLineSpelled ls → block_front header last ls ≡ Ok front → IsFront header last (length ls) front
 front_is header last [] front all e =
     let same : record { header = header; last = last; lines = [] } ≡ front = cc e in
     subst (IsFront header last 0) same (record { spelled = All-nil IsLineSpelled; few = omega arith; none = λ _ is. (is, refl); word = λ some. absurd (some refl) })
@@ -220,8 +220,8 @@ front_is header last (l ∷ ls) front all e =
     by (is_comment l.bytes) e (λ next from read. front_is next from ls front (All-tail IsLineSpelled l ls all) read)
   where
     at : (o : Option (Result Header Why)) → header_line header l.bytes ≡ o
-        → at_header_line o l.number (record { header = header; last = last; lines = l ∷ ls }) (λ next. front_of next (Some l.number) ls) ≡ Ok front
-        → ((next : Header) (from : Option ℕ) → front_of next from ls ≡ Ok front → IsFront next from (length ls) front) → IsFront header last (suc (length ls)) front
+        → at_header_line o l.number (record { header = header; last = last; lines = l ∷ ls }) (λ next. block_front next (Some l.number) ls) ≡ Ok front
+        → ((next : Header) (from : Option ℕ) → block_front next from ls ≡ Ok front → IsFront next from (length ls) front) → IsFront header last (suc (length ls)) front
     at None is e later =
         let same : record { header = header; last = last; lines = l ∷ ls } ≡ front = cc e in
         subst (IsFront header last (suc (length ls))) same
@@ -231,9 +231,9 @@ front_is header last (l ∷ ls) front all e =
         let own = later next (Some l.number) e in
         record { spelled = own.spelled; few = omega (arith, own.few); none = λ empty ends. absurd (cc (own.none empty ends).0); word = own.word }
 
-    by : (b : Bool) → (if b then front_of header last ls
-        else at_header_line (header_line header l.bytes) l.number (record { header = header; last = last; lines = l ∷ ls }) (λ next. front_of next (Some l.number) ls)) ≡ Ok front
-        → ((next : Header) (from : Option ℕ) → front_of next from ls ≡ Ok front → IsFront next from (length ls) front) → IsFront header last (suc (length ls)) front
+    by : (b : Bool) → (if b then block_front header last ls
+        else at_header_line (header_line header l.bytes) l.number (record { header = header; last = last; lines = l ∷ ls }) (λ next. block_front next (Some l.number) ls)) ≡ Ok front
+        → ((next : Header) (from : Option ℕ) → block_front next from ls ≡ Ok front → IsFront next from (length ls) front) → IsFront header last (suc (length ls)) front
     by true e later = let own = later header last e in record { spelled = own.spelled; few = omega (arith, own.few); none = own.none; word = own.word }
     by false e later = at (header_line header l.bytes) refl e later
 
@@ -288,7 +288,7 @@ pub block_going : (ignores : Bool) (h : History) (ls : List Line) (close : ℕ) 
     → effect_of ignores h ls (Some close) ≡ Ok t → IsGoing t.history
 unfolding effect_of
 block_going ignores h ls close t going all few e =
-    bind_ok (front_of h.header None ls) (λ front. after_front ignores h front (Some close)) t e (λ front is rest.
+    bind_ok (block_front h.header None ls) (λ front. after_front ignores h front (Some close)) t e (λ front is rest.
     lines_going ignores h front (length ls) close t going few (front_is h.header None ls front all is) rest)
 
 -- ---- starts
@@ -344,10 +344,10 @@ going_start h going calls few = record {
     samples : (p : ℕ) → All (IsSample (all_vars_of h.table p)) (own_samples_of h.table h.samples p)
     samples = all_samples h going few
 
-    by : (p : ℕ) (o : Option PointDecl) → decl_at h.table p ≡ o → All FitsSlot (form_of h.grammar h.table h.samples p).slots
+    by : (p : ℕ) (o : Option PointDecl) → decl_at h.table p ≡ o → All FitsSlot (compact_form_at h.grammar h.table h.samples p).slots
     by p None none =
         let nothing : get_or h.samples p [] ≡ [] = going.declared_alone p (ap is_none none) in
-        subst (λ (own : List (List Value)). All FitsSlot (kept_of h.grammar (all_vars_of h.table p) (map (values_by_form (all_vars_of h.table p)) own)).slots) (sym nothing) (no_slots h.grammar (all_vars_of h.table p))
+        subst (λ (own : List (List Value)). All FitsSlot (compact_form_of h.grammar (all_vars_of h.table p) (map (values_by_form (all_vars_of h.table p)) own)).slots) (sym nothing) (no_slots h.grammar (all_vars_of h.table p))
     by p (Some d) some = slots_fit h.grammar (all_vars_of h.table p) (own_samples_of h.table h.samples p) (own_vars h.table going.table p (decl_there h.table p d some)) (samples p)
 
 pub no_samples : NoSamplesAreAStart

@@ -3,7 +3,7 @@ use Rattle.std.proofs.Common.{◌≡◌, Bool, true, false, List, [], ◌∷◌,
 use Rattle.std.proofs.lemmas.List.Elements.{All-cons, All-nil}
 use Rattle.dk_base.specs.Reading.{Line}
 use Rattle.dk_lines.specs.Left.{Left, Ends, Next}
-use Rattle.dk_core.specs.Blocks.{Groups, Group, Last, grouped, is_blank_line, onto_group, trimmed_line}
+use Rattle.dk_core.specs.Blocks.{Groups, Group, Last, groups_of, is_blank_line, onto_group, trimmed_line}
 use Rattle.dk_core.specs.Runs.{AreRuns, GroupsAreLongestRuns, IsRun}
 
 no_run : (left : Left) → IsRun [] left left
@@ -25,7 +25,7 @@ pub longest_runs : GroupsAreLongestRuns
 longest_runs (Ends end) = no_run (Ends end)
 longest_runs (Next l rest) = by (is_blank_line l) refl (longest_runs rest)
   where
-    by : (b : Bool) → is_blank_line l ≡ b → AreRuns (grouped rest) rest
-        → AreRuns (if b then Group [] l.number (grouped rest) else onto_group (trimmed_line l) (grouped rest)) (Next l rest)
+    by : (b : Bool) → is_blank_line l ≡ b → AreRuns (groups_of rest) rest
+        → AreRuns (if b then Group [] l.number (groups_of rest) else onto_group (trimmed_line l) (groups_of rest)) (Next l rest)
     by true is more = (l, (rest, is, refl, no_run (Next l rest), more))
-    by false is more = onto l rest (grouped rest) is more
+    by false is more = onto l rest (groups_of rest) is more

@@ -32,7 +32,7 @@ use Rattle.dk_core.proofs.Growing.{Extends, more_points, same_all_vars, still_fi
 use Rattle.dk_core.proofs.Values.{call_fits}
 use Rattle.dk_core.specs.Fitting.{CallFits, ConstantsFit, FitAt, WaitingFit}
 use Rattle.dk_core.specs.Growing.{AreGrown, IsNewAt}
-use Rattle.dk_core.specs.History.{History, Taken, base_values, block, or_left_out, with_declaration, with_record, with_sample, with_table, with_values}
+use Rattle.dk_core.specs.History.{History, Taken, base_values, block, or_left_out, own_samples_with, with_declaration, with_record, with_table, with_values}
 use Rattle.dk_core.specs.Keeping.{IsSound, Keeping}
 use Rattle.dk_core.specs.Standing.{Closes, Stands}
 use Rattle.dk_core.specs.declared.kept.Kept.{Kept}
@@ -84,13 +84,13 @@ get_or_behind (x ∷ xs) n (suc i) d past = get_or_behind xs n i d (omega arith)
 
 -- one more at the point
 own_here : (ps : List Point) (own : OwnSamples) (p : ℕ) (values : List Value) → p < length own
-    → own_samples_of ps (with_sample own p values) p ≡ own_samples_of ps own p ++ values_by_form (all_vars_of ps p) values ∷ []
+    → own_samples_of ps (own_samples_with own p values) p ≡ own_samples_of ps own p ++ values_by_form (all_vars_of ps p) values ∷ []
 own_here ps own p values there =
     let f : List Value → List Value = values_by_form (all_vars_of ps p) in
     ap (map f) (get_or-set_same own p (get_or own p [] ++ values ∷ []) [] there) ∙ map-append f (get_or own p []) (values ∷ [])
 
 -- and none at the others
-own_elsewhere : (ps : List Point) (own : OwnSamples) (p i : ℕ) (values : List Value) → i ≢ p → own_samples_of ps (with_sample own p values) i ≡ own_samples_of ps own i
+own_elsewhere : (ps : List Point) (own : OwnSamples) (p i : ℕ) (values : List Value) → i ≢ p → own_samples_of ps (own_samples_with own p values) i ≡ own_samples_of ps own i
 own_elsewhere ps own p i values away = ap (map (values_by_form (all_vars_of ps i))) (get_or-set_other own p i (get_or own p [] ++ values ∷ []) [] away)
 
 -- a point of the table as it was has the samples that it had
@@ -123,11 +123,11 @@ engine_fed old new samples sample grammar infos is fed stands =
 -- one of the engines has
 pub engines_fed : (ps : List Point) (engines : List Whole) (own : OwnSamples) (p : ℕ) (old new : Whole) (values : List Value) → p < length own → slice_get engines p ≡ Some old
     → ((samples : List (List Value)) → EngineStandsFor old samples → EngineStandsFor new (samples ++ values_by_form (all_vars_of ps p) values ∷ []))
-    → EnginesStandFor engines (own_samples_of ps own) → EnginesStandFor (slice_set engines p new) (own_samples_of ps (with_sample own p values))
+    → EnginesStandFor engines (own_samples_of ps own) → EnginesStandFor (slice_set engines p new) (own_samples_of ps (own_samples_with own p values))
 engines_fed ps engines own p old new values there at fed stands = λ i engine is.
-    let S : ℕ → Type 0 = λ k. EngineStandsFor engine (own_samples_of ps (with_sample own p values) k) in
+    let S : ℕ → Type 0 = λ k. EngineStandsFor engine (own_samples_of ps (own_samples_with own p values) k) in
     ⊎_elim
-    (λ h. subst S (sym h.0) (subst (λ (e : Whole). EngineStandsFor e (own_samples_of ps (with_sample own p values) p)) h.1
+    (λ h. subst S (sym h.0) (subst (λ (e : Whole). EngineStandsFor e (own_samples_of ps (own_samples_with own p values) p)) h.1
     (subst (EngineStandsFor new) (sym (own_here ps own p values there)) (fed (own_samples_of ps own p) (stands p old at)))))
     (λ h. subst (EngineStandsFor engine) (sym (own_elsewhere ps own p i values h.0)) (stands i engine h.1))
     (get_set engines p i new engine is)

@@ -28,7 +28,7 @@ use Rattle.dk_core.proofs.Feeding.{are_derived, base_among}
 use Rattle.dk_core.proofs.Keeping.{all_get, engines_fed, engines_still, recorded_left, recorded_ok, recorded_told, stand_alike, waiting_more}
 use Rattle.dk_core.proofs.Values.{base_fit, sample_fits}
 use Rattle.dk_core.specs.Fitting.{ConstantsFit, FitAt, ReadsFitting}
-use Rattle.dk_core.specs.History.{History, base_values, with_record, with_sample}
+use Rattle.dk_core.specs.History.{History, base_values, own_samples_with, with_record}
 use Rattle.dk_core.specs.Keeping.{IsSound, Keeping}
 use Rattle.dk_core.specs.Refusing.{unmatched_answer}
 use Rattle.dk_core.specs.Standing.{Closes, Stands, left_with_answer}
@@ -91,7 +91,7 @@ pub record_closes : (ignores : Bool) (k : Keeping) (s : Sample) (base : List Val
 unfolding Stands
 record_closes ignores k s base calls old new h sound within at values more fed stands =
     let infos : old.infos ≡ all_vars_of h.table s.point = (sound.engines.variables s.point old at).0 ∙ ap (λ (ps : List Point). all_vars_of ps s.point) stands.table in (
-      record h { samples = with_sample h.samples s.point base; calls = call_of h.table s ∷ h.calls },
+      record h { samples = own_samples_with h.samples s.point base; calls = call_of h.table s ∷ h.calls },
       record {
         table = stands.table;
         header = stands.header;

@@ -15,7 +15,7 @@ use Rattle.dk_state.specs.StateFile.{StandForHistory, state_file_of}
 use Rattle.dk_template.specs.declared.grammar.Grammar.{Grammar}
 use Rattle.dk_core.specs.History.{History}
 use Rattle.dk_core.specs.Keeping.{IsSound, Keeping}
-use Rattle.dk_core.specs.Resuming.{IsStart, state_of}
+use Rattle.dk_core.specs.Resuming.{IsStart, state_file}
 use Rattle.dk_core.specs.Standing.{Stands}
 use Rattle.dk_core.specs.declared.kept.Kept.{Kept}
 use Rattle.dk_core.proofs.Asking.{asked}
@@ -45,14 +45,14 @@ begins k h engines implicit start stands same grammar points header word calls =
 }
 
 -- what a state file tells is what it is loaded as
-pub loaded_as : (h : History) (bytes : List ℕ) (Q : Type 0) → state_of h ≡ bytes → (state_file_of h.grammar h.table (is_implicit h.header) h.samples ≡ bytes → Q) → Q
-unfolding state_of
+pub loaded_as : (h : History) (bytes : List ℕ) (Q : Type 0) → state_file h ≡ bytes → (state_file_of h.grammar h.table (is_implicit h.header) h.samples ≡ bytes → Q) → Q
+unfolding state_file
 loaded_as h bytes Q is f = f is
 
 -- the state of what is kept
 pub state_told : (k : Keeping) (h : History) (engines : List Whole) (implicit : Bool) (old new : List ℕ) → IsSound k → Stands k h → engines ≡ k.engines → implicit ≡ is_implicit k.header
-    → ((own : OwnSamples) → StandForHistory k.grammar k.points engines own → new ≡ old ++ state_file_of k.grammar k.points implicit own) → new ≡ old ++ state_of h
-unfolding Stands state_of
+    → ((own : OwnSamples) → StandForHistory k.grammar k.points engines own → new ≡ old ++ state_file_of k.grammar k.points implicit own) → new ≡ old ++ state_file h
+unfolding Stands state_file
 state_told k h engines implicit old new sound stands same word says =
     says h.samples (record {
       of_table = subst (AreEnginesOf k.points) (sym same) sound.engines;
@@ -64,8 +64,8 @@ state_told k h engines implicit old new sound stands same word says =
     ∙ ap (λ (b : Bool). old ++ state_file_of h.grammar h.table b h.samples) (word ∙ ap is_implicit stands.header)
 
 -- the state file of a start is one
-pub spelled_start : (h : History) → IsStart h → IsSpelling (state_of h)
-unfolding state_of
+pub spelled_start : (h : History) → IsStart h → IsSpelling (state_file h)
+unfolding state_file
 spelled_start h start = record {
   content = content_of h.grammar h.table (is_implicit h.header) h.samples;
   meets = history_meets h.grammar h.table (is_implicit h.header) h.samples start.saved;

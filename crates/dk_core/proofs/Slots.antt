@@ -20,7 +20,7 @@ use Rattle.dk_forms.specs.declared.states.State.TheVariants.{Broken}
 use Rattle.dk_rows.specs.Meaning.{Meaning, form_by, relation, state_by}
 use Rattle.dk_rows.specs.Meanings.{meaning_of, state_of}
 use Rattle.dk_state.proofs.CompactParts.{kept_exact}
-use Rattle.dk_state.specs.Compact.{kept_of}
+use Rattle.dk_state.specs.Compact.{compact_form_of}
 use Rattle.dk_state.specs.Fitting.{FitsPlace, FitsSlot, FitsState}
 use Rattle.dk_template.specs.Admitted.{admits, suits}
 use Rattle.dk_template.specs.Proper.{IsProper}
@@ -89,12 +89,12 @@ slot_fits g infos samples kept slot point all is own =
       state = subst FitsState (sym own.state) fits;
     }
 
-pub slots_fit : (g : Grammar) (infos : List VarInfo) (samples : List (List Value)) → AreOfPoint infos → AreSamples infos samples → All FitsSlot (kept_of g infos samples).slots
+pub slots_fit : (g : Grammar) (infos : List VarInfo) (samples : List (List Value)) → AreOfPoint infos → AreSamples infos samples → All FitsSlot (compact_form_of g infos samples).slots
 slots_fit g infos samples point all =
-    let kept = kept_of g infos samples in
+    let kept = compact_form_of g infos samples in
     let is = kept_exact g infos samples in
     λ k d l. slot_fits g infos samples kept (get_or kept.slots k d) point all is ((is.slots.each (get_or kept.slots k d)).0 (Contains-get_or kept.slots k d l))
 
-pub no_slots : (g : Grammar) (infos : List VarInfo) → All FitsSlot (kept_of g infos []).slots
-unfolding kept_of
+pub no_slots : (g : Grammar) (infos : List VarInfo) → All FitsSlot (compact_form_of g infos []).slots
+unfolding compact_form_of
 no_slots g infos = All-nil FitsSlot

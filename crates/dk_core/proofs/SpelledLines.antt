@@ -6,7 +6,7 @@ use Rattle.dk_base.specs.Pieces.{is_empty}
 use Rattle.dk_base.specs.Reading.{Line}
 use Rattle.dk_base.specs.Words.{trimmed}
 use Rattle.dk_lines.specs.Left.{End, Over, Broken, LongLine, TooLong, Left, Ends, Next, Piece, is_long, is_over, lined, lined_by, onto_first, pieces, size_of, without_cr}
-use Rattle.dk_core.specs.Blocks.{Group, Groups, Last, grouped, is_blank_line, onto_group, trimmed_line}
+use Rattle.dk_core.specs.Blocks.{Group, Groups, Last, groups_of, is_blank_line, onto_group, trimmed_line}
 use Rattle.dk_state.specs.Given.{has_none}
 use Rattle.dk_core.proofs.GivenEdges.{HasNoLf}
 use Rattle.dk_core.proofs.GivenVars.{IsLineSpelled}
@@ -92,21 +92,21 @@ onto_spelled : (n : ℕ) (l : Line) (gs : Groups) → IsLineSpelled l → AreSpe
 onto_spelled n l (Group ls close rest) own all = (All-cons IsLineSpelled l ls own all.0, omega (arith, all.1), more_lines n (suc n) rest (omega arith) all.2)
 onto_spelled n l (Last ls end) own all = (All-cons IsLineSpelled l ls own all.0, omega (arith, all.1))
 
-groups_spelled : (ls : Left) → ArePlain ls → AreSpelled (lines_in ls) (grouped ls)
+groups_spelled : (ls : Left) → ArePlain ls → AreSpelled (lines_in ls) (groups_of ls)
 groups_spelled (Ends end) plain = (All-nil IsLineSpelled, omega arith)
 groups_spelled (Next l rest) plain = by (is_blank_line l) refl (groups_spelled rest plain.1)
   where
-    by : (b : Bool) → is_blank_line l ≡ b → AreSpelled (lines_in rest) (grouped rest) → AreSpelled (suc (lines_in rest)) (if b then Group [] l.number (grouped rest) else onto_group (trimmed_line l) (grouped rest))
-    by true is all = (All-nil IsLineSpelled, omega arith, more_lines (lines_in rest) (suc (lines_in rest)) (grouped rest) (omega arith) all)
-    by false is all = onto_spelled (lines_in rest) (trimmed_line l) (grouped rest) (spelled_trimmed l.bytes is plain.0) all
+    by : (b : Bool) → is_blank_line l ≡ b → AreSpelled (lines_in rest) (groups_of rest) → AreSpelled (suc (lines_in rest)) (if b then Group [] l.number (groups_of rest) else onto_group (trimmed_line l) (groups_of rest))
+    by true is all = (All-nil IsLineSpelled, omega arith, more_lines (lines_in rest) (suc (lines_in rest)) (groups_of rest) (omega arith) all)
+    by false is all = onto_spelled (lines_in rest) (trimmed_line l) (groups_of rest) (spelled_trimmed l.bytes is plain.0) all
 
 -- the lines of a file's groups are spelled, and in no group more than bytes may come
-pub file_spelled : (limit room n : ℕ) (is_ended : Bool) (bytes : List ℕ) → AreSpelled room (grouped (lined limit room n is_ended bytes))
+pub file_spelled : (limit room n : ℕ) (is_ended : Bool) (bytes : List ℕ) → AreSpelled room (groups_of (lined limit room n is_ended bytes))
 unfolding lined
 file_spelled limit room n is_ended bytes =
     let all = lines_plain limit room is_ended n (pieces bytes) (are_pieces bytes) in
     let ls = lined_by limit room is_ended n (pieces bytes) in
-    more_lines (lines_in ls) room (grouped ls) all.few (groups_spelled ls all.plain)
+    more_lines (lines_in ls) room (groups_of ls) all.few (groups_spelled ls all.plain)
 
 -- ---- how a file's groups end
 -- not within a line
@@ -128,13 +128,13 @@ onto_ended l (Last ls Broken) h = h
 onto_ended l (Last ls (LongLine n)) h = h
 onto_ended l (Last ls (TooLong n)) h = h
 
-grouped_ended : (ls : Left) → EndsSo ls → IsEnded (grouped ls)
+grouped_ended : (ls : Left) → EndsSo ls → IsEnded (groups_of ls)
 grouped_ended (Ends end) h = h
 grouped_ended (Next l rest) h = by (is_blank_line l) (grouped_ended rest h)
   where
-    by : (b : Bool) → IsEnded (grouped rest) → IsEnded (if b then Group [] l.number (grouped rest) else onto_group (trimmed_line l) (grouped rest))
+    by : (b : Bool) → IsEnded (groups_of rest) → IsEnded (if b then Group [] l.number (groups_of rest) else onto_group (trimmed_line l) (groups_of rest))
     by true own = own
-    by false own = onto_ended (trimmed_line l) (grouped rest) own
+    by false own = onto_ended (trimmed_line l) (groups_of rest) own
 
 lines_ended : (limit room n : ℕ) (ps : List Piece) → EndsSo (lined_by limit room true n ps)
 lines_ended limit room n [] = tt
@@ -150,6 +150,6 @@ lines_ended limit room n (p ∷ ps) = by (is_long limit room p) (is_over room p)
     by false false true own = own
     by false false false own = own
 
-pub file_ends : (limit room n : ℕ) (bytes : List ℕ) → IsEnded (grouped (lined limit room n true bytes))
+pub file_ends : (limit room n : ℕ) (bytes : List ℕ) → IsEnded (groups_of (lined limit room n true bytes))
 unfolding lined
 file_ends limit room n bytes = grouped_ended (lined_by limit room true n (pieces bytes)) (lines_ended limit room n (pieces bytes))

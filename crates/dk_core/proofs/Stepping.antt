@@ -12,7 +12,7 @@ use Rattle.dk_core.specs.Steps.{stop_of_unread, Grown, TurnCounts, BlockCounts, 
 use Rattle.std.specs.Prelude.{◌==◌}
 use Rattle.dk_base.specs.Pieces.{is_empty}
 use Rattle.std.proofs.Math.Dec.{eqb-suc-zero}
-use Rattle.dk_core.specs.Blocks.{Groups, Group, Last, onto_group, is_blank_line, trimmed_line, grouped}
+use Rattle.dk_core.specs.Blocks.{Groups, Group, Last, onto_group, is_blank_line, trimmed_line, groups_of}
 use Rattle.dk_core.specs.History.{History, Taken, effect_of}
 use Rattle.dk_core.specs.Reading.{after_last, after_all, after_next, stop_or, Stepped}
 use Rattle.dk_core.specs.Standing.{Fits, Stands, block_resumed, ignores_of}
@@ -55,11 +55,11 @@ next_same ignores read more (Last ls end) e = ap (λ (r : Result Taken LineFault
 
 -- ---- one line
 
-grouped_blank : (line : Line) (rest : Left) → is_blank_line line ≡ true → grouped (Next line rest) ≡ Group [] line.number (grouped rest)
-grouped_blank line rest e = ap (λ (b : Bool). if b then Group [] line.number (grouped rest) else onto_group (trimmed_line line) (grouped rest)) e
+grouped_blank : (line : Line) (rest : Left) → is_blank_line line ≡ true → groups_of (Next line rest) ≡ Group [] line.number (groups_of rest)
+grouped_blank line rest e = ap (λ (b : Bool). if b then Group [] line.number (groups_of rest) else onto_group (trimmed_line line) (groups_of rest)) e
 
-grouped_words : (line : Line) (rest : Left) → is_blank_line line ≡ false → grouped (Next line rest) ≡ onto_group (trimmed_line line) (grouped rest)
-grouped_words line rest e = ap (λ (b : Bool). if b then Group [] line.number (grouped rest) else onto_group (trimmed_line line) (grouped rest)) e
+grouped_words : (line : Line) (rest : Left) → is_blank_line line ≡ false → groups_of (Next line rest) ≡ onto_group (trimmed_line line) (groups_of rest)
+grouped_words line rest e = ap (λ (b : Bool). if b then Group [] line.number (groups_of rest) else onto_group (trimmed_line line) (groups_of rest)) e
 
 abbrev next_from : Bool → Groups → Result Taken LineFault → Result Stepped LineFault
 next_from ignores rest r = r >>= λ t. stop_or t rest (after_next ignores (effect_of ignores t.history) rest)
@@ -68,15 +68,15 @@ pub blank_line : (ignores : Bool) (read : Reads Taken) (line : Line) (result : R
 blank_line ignores read line (Ok (Goes kept block)) blank (h, stands, closes, begins) = (
   h,
   stands,
-  λ rest. ap (after_next ignores read) (grouped_blank line rest blank) ∙ ap (next_from ignores (grouped rest)) closes ∙ sym (next_same ignores (block_resumed ignores h block) (effect_of ignores h) (grouped rest) begins),
+  λ rest. ap (after_next ignores read) (grouped_blank line rest blank) ∙ ap (next_from ignores (groups_of rest)) closes ∙ sym (next_same ignores (block_resumed ignores h block) (effect_of ignores h) (groups_of rest) begins),
 )
 blank_line ignores read line (Ok (Stands_end end)) blank (h, stands, over, found, closes) = (
   h,
   stands,
   over,
-  λ rest. ap (after_next ignores read) (grouped_blank line rest blank) ∙ ap (next_from ignores (grouped rest)) closes ∙ ap (λ (b : Bool). Ok (record { found = b; history = h; left = grouped rest })) (sym found),
+  λ rest. ap (after_next ignores read) (grouped_blank line rest blank) ∙ ap (next_from ignores (groups_of rest)) closes ∙ ap (λ (b : Bool). Ok (record { found = b; history = h; left = groups_of rest })) (sym found),
 )
-blank_line ignores read line (Err (Refused n why)) blank closes = λ rest. ap (after_next ignores read) (grouped_blank line rest blank) ∙ ap (next_from ignores (grouped rest)) closes
+blank_line ignores read line (Err (Refused n why)) blank closes = λ rest. ap (after_next ignores read) (grouped_blank line rest blank) ∙ ap (next_from ignores (groups_of rest)) closes
 blank_line ignores read line (Err Read) blank gives = absurd gives
 blank_line ignores read line (Err NoMemory) blank gives = tt
 
@@ -84,11 +84,11 @@ pub words_line : (ignores : Bool) (read : Reads Taken) (line : Line) (result : R
 words_line ignores read line (Ok (Goes kept block)) words (h, stands, goes) = (
   h,
   stands,
-  λ rest. ap (after_next ignores read) (grouped_words line rest words) ∙ next_onto ignores read (trimmed_line line) (grouped rest) ∙ next_same ignores (λ ls close. read (trimmed_line line ∷ ls) close) (block_resumed ignores h block) (grouped rest) goes,
+  λ rest. ap (after_next ignores read) (grouped_words line rest words) ∙ next_onto ignores read (trimmed_line line) (groups_of rest) ∙ next_same ignores (λ ls close. read (trimmed_line line ∷ ls) close) (block_resumed ignores h block) (groups_of rest) goes,
 )
 words_line ignores read line (Ok (Stands_end end)) words gives = absurd gives
-words_line ignores read line (Err (Refused n why)) words gives = λ rest. ap (after_next ignores read) (grouped_words line rest words) ∙ next_onto ignores read (trimmed_line line) (grouped rest)
-    ∙ next_same ignores (λ ls close. read (trimmed_line line ∷ ls) close) (λ ls close. Err (record { line = n; why = why })) (grouped rest) gives ∙ refused (grouped rest) where
+words_line ignores read line (Err (Refused n why)) words gives = λ rest. ap (after_next ignores read) (grouped_words line rest words) ∙ next_onto ignores read (trimmed_line line) (groups_of rest)
+    ∙ next_same ignores (λ ls close. read (trimmed_line line ∷ ls) close) (λ ls close. Err (record { line = n; why = why })) (groups_of rest) gives ∙ refused (groups_of rest) where
       refused : (gs : Groups) → after_next ignores (λ ls close. Err (record { line = n; why = why })) gs ≡ Err (record { line = n; why = why })
       refused (Group ls close rest) = refl
       refused (Last ls (Over m)) = refl
@@ -101,7 +101,7 @@ words_line ignores read line (Err NoMemory) words gives = tt
 -- ---- one line of the bytes that are left
 
 -- the groups that a broken line leaves are no block, and have no fault
-none_broken : (ignores : Bool) (h : History) (b : Block) → IsNoBlock (after_next ignores (block_resumed ignores h b) (grouped (Ends Broken)))
+none_broken : (ignores : Bool) (h : History) (b : Block) → IsNoBlock (after_next ignores (block_resumed ignores h b) (groups_of (Ends Broken)))
 none_broken ignores h b = go (block_resumed ignores h b [] None) (no_block_yet ignores h b) where
   go : (r : Result Taken LineFault) → IsNone r → IsNoBlock (r >>= λ t. Ok (record { found = t.counts; history = t.history; left = Last [] Broken }))
   go (Ok t) none = none
@@ -119,10 +119,10 @@ turn_line ignores h b old new xs ys line (Ok (Goes kept block)) left is one (h',
       front = one.front;
       split = one.split;
       room = one.room;
-      same = ap (λ (l : Left). after_next ignores (block_resumed ignores h b) (grouped l)) one.ended ∙ gives (lines_left new true ys);
+      same = ap (λ (l : Left). after_next ignores (block_resumed ignores h b) (groups_of l)) one.ended ∙ gives (lines_left new true ys);
       cut = λ d rest e. elim (one.cut d rest e) [
-        | inl s ↦ inl (ap (λ (l : Left). after_next ignores (block_resumed ignores h b) (grouped l)) s ∙ gives (lines_left new false d))
-        | inr s ↦ inr (s.0, subst (λ (l : Left). IsNoBlock (after_next ignores (block_resumed ignores h b) (grouped l))) (sym s.1) (none_broken ignores h b))
+        | inl s ↦ inl (ap (λ (l : Left). after_next ignores (block_resumed ignores h b) (groups_of l)) s ∙ gives (lines_left new false d))
+        | inr s ↦ inr (s.0, subst (λ (l : Left). IsNoBlock (after_next ignores (block_resumed ignores h b) (groups_of l))) (sym s.1) (none_broken ignores h b))
       ];
     },
   ),
@@ -138,17 +138,17 @@ turn_line ignores h b old new xs ys line (Ok (Stands_end end)) left is one (h', 
       split = one.split;
       room = one.room;
       nothing = λ first last. absurd (cc (last, over));
-      takes = ap (λ (l : Left). after_next ignores (block_resumed ignores h b) (grouped l)) one.ended ∙ gives (lines_left new true ys)
+      takes = ap (λ (l : Left). after_next ignores (block_resumed ignores h b) (groups_of l)) one.ended ∙ gives (lines_left new true ys)
           ∙ ap (λ (o : Bool). Ok (record { found = end.found; history = h'; left = groups_left o new true ys })) (sym over);
       cut = λ d rest e. elim (one.cut d rest e) [
-        | inl s ↦ inl (ap (λ (l : Left). after_next ignores (block_resumed ignores h b) (grouped l)) s ∙ gives (lines_left new false d)
+        | inl s ↦ inl (ap (λ (l : Left). after_next ignores (block_resumed ignores h b) (groups_of l)) s ∙ gives (lines_left new false d)
             ∙ ap (λ (o : Bool). Ok (record { found = end.found; history = h'; left = groups_left o new false d })) (sym over))
-        | inr s ↦ inr (s.0, subst (λ (l : Left). IsNoBlock (after_next ignores (block_resumed ignores h b) (grouped l))) (sym s.1) (none_broken ignores h b))
+        | inr s ↦ inr (s.0, subst (λ (l : Left). IsNoBlock (after_next ignores (block_resumed ignores h b) (groups_of l))) (sym s.1) (none_broken ignores h b))
       ];
     },
   ),
 )
-turn_line ignores h b old new xs ys line (Err (Refused n why)) left is one gives = ap (λ (l : Left). after_next ignores (block_resumed ignores h b) (grouped l)) one.ended ∙ gives (lines_left new true ys)
+turn_line ignores h b old new xs ys line (Err (Refused n why)) left is one gives = ap (λ (l : Left). after_next ignores (block_resumed ignores h b) (groups_of l)) one.ended ∙ gives (lines_left new true ys)
 turn_line ignores h b old new xs ys line (Err Read) left is one gives = absurd gives
 turn_line ignores h b old new xs ys line (Err NoMemory) left is one gives = tt
 
@@ -175,19 +175,19 @@ turn_end ignores h b old new xs (Ok (Stands_end end)) left is none over number r
       split = none;
       room = room ∙ omega arith;
       nothing = λ first last. refl;
-      takes = ap (λ (l : Left). after_next ignores (block_resumed ignores h b) (grouped l)) over ∙ gives
+      takes = ap (λ (l : Left). after_next ignores (block_resumed ignores h b) (groups_of l)) over ∙ gives
           ∙ ap (λ (n : ℕ). Ok (record { found = end.found; history = h'; left = Last [] (Over (n + 1)) })) (sym number)
           ∙ ap (λ (o : Bool). Ok (record { found = end.found; history = h'; left = groups_left o new true [] })) (sym ends);
       cut = λ d rest e. let none = nothing_left d rest e in
           inr (
             refl,
-            subst (λ (l : List ℕ). IsNoBlock (after_next ignores (block_resumed ignores h b) (grouped (lines_left old false l)))) (sym none)
-                (subst (λ (l : Left). IsNoBlock (after_next ignores (block_resumed ignores h b) (grouped l))) (sym (at_break old)) (none_broken ignores h b)),
+            subst (λ (l : List ℕ). IsNoBlock (after_next ignores (block_resumed ignores h b) (groups_of (lines_left old false l)))) (sym none)
+                (subst (λ (l : Left). IsNoBlock (after_next ignores (block_resumed ignores h b) (groups_of l))) (sym (at_break old)) (none_broken ignores h b)),
           );
     },
   ),
 )
-turn_end ignores h b old new xs (Err (Refused n why)) left is none over number room gives = ap (λ (l : Left). after_next ignores (block_resumed ignores h b) (grouped l)) over ∙ gives
+turn_end ignores h b old new xs (Err (Refused n why)) left is none over number room gives = ap (λ (l : Left). after_next ignores (block_resumed ignores h b) (groups_of l)) over ∙ gives
 turn_end ignores h b old new xs (Err Read) left is none over number room gives = absurd gives
 turn_end ignores h b old new xs (Err NoMemory) left is none over number room gives = tt
 
@@ -205,13 +205,13 @@ turn_fault ignores h b old new xs left line.Read gives = record {
   rest = gives.1.0;
   split = gives.1.1;
   left_is = gives.1.2;
-  fine = subst (λ (l : Left). IsNoBlock (after_next ignores (block_resumed ignores h b) (grouped l))) (sym gives.1.3) (none_broken ignores h b);
+  fine = subst (λ (l : Left). IsNoBlock (after_next ignores (block_resumed ignores h b) (groups_of l))) (sym gives.1.3) (none_broken ignores h b);
 }
 turn_fault ignores h b old new xs left (line.LongLine n) gives =
-    ap (λ (l : Left). after_next ignores (block_resumed ignores h b) (grouped l)) (gives true)
+    ap (λ (l : Left). after_next ignores (block_resumed ignores h b) (groups_of l)) (gives true)
     ∙ ap (λ (r : Result Taken LineFault). r >>= λ t. Ok (record { found = t.counts; history = t.history; left = Last [] (LongLine n) })) (faulty ignores h b n WhyLong)
 turn_fault ignores h b old new xs left (line.TooLong n) gives =
-    ap (λ (l : Left). after_next ignores (block_resumed ignores h b) (grouped l)) (gives true)
+    ap (λ (l : Left). after_next ignores (block_resumed ignores h b) (groups_of l)) (gives true)
     ∙ ap (λ (r : Result Taken LineFault). r >>= λ t. Ok (record { found = t.counts; history = t.history; left = Last [] (TooLong n) })) (faulty ignores h b n WhyMany)
 turn_fault ignores h b old new xs left line.NoMemory gives = tt
 

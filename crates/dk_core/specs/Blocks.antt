@@ -21,6 +21,6 @@ is_blank_line l = is_empty (trimmed l.bytes)
 abbrev pub trimmed_line : Line → Line
 trimmed_line l = record l { bytes = trimmed l.bytes }
 
-abbrev pub grouped : Left → Groups
-grouped (Ends end) = Last [] end
-grouped (Next l rest) = if is_blank_line l then Group [] l.number (grouped rest) else onto_group (trimmed_line l) (grouped rest)
+abbrev pub groups_of : Left → Groups
+groups_of (Ends end) = Last [] end
+groups_of (Next l rest) = if is_blank_line l then Group [] l.number (groups_of rest) else onto_group (trimmed_line l) (groups_of rest)

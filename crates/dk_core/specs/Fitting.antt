@@ -33,7 +33,8 @@ FitAt ps p values = (d : PointDecl) × (decl_at ps p ≡ Some d) × FitKinds (de
 
 -- whatever lines are left, the record's values are
 abbrev pub ReadsFitting : List Point → RecordReader → Type 0
-ReadsFitting ps reader = (ls : List Line) (close : ℕ) (s : Sample) → record_resumed ps reader ls (Some close) ≡ Ok s → FitAt ps s.point s.values
+ReadsFitting ps reader =
+    (ls : List Line) (close : ℕ) (s : Sample) → record_resumed ps reader ls (Some close) ≡ Ok s → FitAt ps s.point s.values
 
 -- ---- calls
 abbrev pub CallFits : List Point → Call → Type 0

@@ -20,8 +20,9 @@ at_header_line (Some (Err why)) number front more = refused why number
 at_header_line (Some (Ok header)) number front more = more header
 
 -- what stands in front of the record of these lines, or the first header line that is refused
-abbrev pub front_of : Header → Option ℕ → List Line → Result Front LineFault
-front_of header last [] = Ok (record { header = header; last = last; lines = [] })
-front_of header last (l ∷ ls) =
-    if is_comment l.bytes then front_of header last ls
-    else at_header_line (header_line header l.bytes) l.number (record { header = header; last = last; lines = l ∷ ls }) (λ next. front_of next (Some l.number) ls)
+abbrev pub block_front : Header → Option ℕ → List Line → Result Front LineFault
+block_front header last [] = Ok (record { header = header; last = last; lines = [] })
+block_front header last (l ∷ ls) =
+    if is_comment l.bytes then block_front header last ls
+    else at_header_line (header_line header l.bytes) l.number (record { header = header; last = last; lines = l ∷ ls })
+    (λ next. block_front next (Some l.number) ls)

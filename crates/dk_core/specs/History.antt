@@ -18,7 +18,7 @@ use Rattle.dk_calls.specs.Records.{call_of, values_at_exit}
 use Rattle.dk_calls.specs.Waiting.{Call}
 use Rattle.dk_template.specs.declared.grammar.Grammar.{Grammar}
 use Rattle.dk_template.specs.declared.grammar.Grammar.TheVariants.{Two}
-use Rattle.dk_core.specs.Fronts.{Front, front_of}
+use Rattle.dk_core.specs.Fronts.{Front, block_front}
 
 -- what the blocks so far come to
 pub record History : Type 0 where
@@ -67,12 +67,12 @@ unfoldable pub base_values : List Point → Sample → List Call → Result (Lis
 base_values ps s earlier = if is_some (entry_of ps s.point) then values_at_exit ps s earlier else Ok s.values
 
 -- the samples of all points, with one more at a point
-abbrev pub with_sample : List (List (List Value)) → ℕ → List Value → List (List (List Value))
-with_sample samples p values = slice_set samples p (slice_index_or samples p [] ++ values ∷ [])
+abbrev pub own_samples_with : List (List (List Value)) → ℕ → List Value → List (List (List Value))
+own_samples_with samples p values = slice_set samples p (slice_index_or samples p [] ++ values ∷ [])
 
 -- a record's base values give its point one sample more
 abbrev pub with_values : History → Sample → List Value → Taken
-with_values h s values = block (record h { samples = with_sample h.samples s.point values; calls = call_of h.table s ∷ h.calls })
+with_values h s values = block (record h { samples = own_samples_with h.samples s.point values; calls = call_of h.table s ∷ h.calls })
 
 -- Where exits without an entry are left out, such a record changes nothing, and its block counts.
 abbrev pub or_left_out : Bool → History → Result Taken LineFault → Result Taken LineFault
@@ -95,7 +95,8 @@ is_list_of_implementors bytes = bytes_eq bytes (codes "ListImplementors")
 
 -- what the lines of a declaration do, behind its first line
 abbrev pub after_declaration : History → Line → Reads Taken
-after_declaration h first ls close = block_decl (is_implicit h.header) first ls close >>= λ d. where_it_ends close h (with_declaration h first.number d)
+after_declaration h first ls close =
+    block_decl (is_implicit h.header) first ls close >>= λ d. where_it_ends close h (with_declaration h first.number d)
 
 -- what the lines of a sample record do, behind its first line
 abbrev pub after_sample : Bool → History → Line → Reads Taken
@@ -108,7 +109,8 @@ after_record ignores h first ls close =
     else if is_list_of_implementors first.bytes then where_it_ends close h (Ok (block h))
     else after_sample ignores h first ls close
 
--- A block without a record, whose last header line has this number. It must not end where a word is awaited. Without header lines, too, it is none.
+-- A block without a record, whose last header line has this number. It must not end where a word is awaited. Without header lines, too, it
+-- is none.
 abbrev pub without_record : History → Option ℕ → Option ℕ → Result Taken LineFault
 without_record h None close = Ok (no_block h)
 without_record h (Some last) close = where_it_ends close h (if awaits_word h.header then refused BadHeader last else Ok (block h))
@@ -123,7 +125,7 @@ after_front ignores h front close = after_lines ignores (record h { header = fro
 -- The effect of a block on a history: of its header lines, and then of its record. A line's fault is found at the line; the rest is judged
 -- where the block ends. It takes whether exits without an entry are left out, and not refused.
 unfoldable pub effect_of : Bool → History → Reads Taken
-effect_of ignores h ls close = front_of h.header None ls >>= λ front. after_front ignores h front close
+effect_of ignores h ls close = block_front h.header None ls >>= λ front. after_front ignores h front close
 
 -- ---- files
 

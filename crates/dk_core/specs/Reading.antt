@@ -29,5 +29,7 @@ stop_or t rest more = if t.counts then Ok (record { found = true; history = t.hi
 
 -- The next block: groups that are none are passed over.
 abbrev pub after_next : Bool → Reads Taken → Groups → Result Stepped LineFault
-after_next ignores read (Group ls close rest) = read ls (Some close) >>= λ t. stop_or t rest (after_next ignores (effect_of ignores t.history) rest)
-after_next ignores read (Last ls end) = after_last read ls end >>= λ t. Ok (record { found = t.counts; history = t.history; left = Last [] end })
+after_next ignores read (Group ls close rest) =
+    read ls (Some close) >>= λ t. stop_or t rest (after_next ignores (effect_of ignores t.history) rest)
+after_next ignores read (Last ls end) =
+    after_last read ls end >>= λ t. Ok (record { found = t.counts; history = t.history; left = Last [] end })

@@ -10,8 +10,8 @@ use Rattle.dk_template.specs.declared.grammar.Grammar.{Grammar}
 use Rattle.dk_core.specs.History.{History, nothing_by}
 
 -- the state file of a history, in the version of its grammar
-unfoldable pub state_of : History → List ℕ
-state_of h = state_file_of h.grammar h.table (is_implicit h.header) h.samples
+unfoldable pub state_file : History → List ℕ
+state_file h = state_file_of h.grammar h.table (is_implicit h.header) h.samples
 
 -- A history that a state file tells whole: it stands between two files, so that no entry waits and no header line awaits its word, and what
 -- it has can be saved.

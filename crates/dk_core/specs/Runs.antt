@@ -2,7 +2,7 @@
 use Rattle.std.specs.Prelude.{◌≡◌, false, true, All, List, [], ◌∷◌, map}
 use Rattle.dk_base.specs.Reading.{Line}
 use Rattle.dk_lines.specs.Left.{Left, Ends, Next}
-use Rattle.dk_core.specs.Blocks.{Groups, Group, Last, grouped, is_blank_line, trimmed_line}
+use Rattle.dk_core.specs.Blocks.{Groups, Group, Last, groups_of, is_blank_line, trimmed_line}
 
 -- these lines, and then what is left
 abbrev pub in_front : List Line → Left → Left
@@ -19,8 +19,9 @@ pub record IsRun (run : List Line) (left rest : Left) : Type 0 where
 -- The groups are the runs of what is left, one behind the other: each ends at a blank line, the last one where the lines end.
 abbrev pub AreRuns : Groups → Left → Type 0
 AreRuns (Group ls close more) left =
-    (blank : Line) × ((rest : Left) × (is_blank_line blank ≡ true) × (blank.number ≡ close) × IsRun ls left (Next blank rest) × AreRuns more rest)
+    (blank : Line)
+    × ((rest : Left) × (is_blank_line blank ≡ true) × (blank.number ≡ close) × IsRun ls left (Next blank rest) × AreRuns more rest)
 AreRuns (Last ls end) left = IsRun ls left (Ends end)
 
 abbrev pub GroupsAreLongestRuns : Type 0
-GroupsAreLongestRuns = (left : Left) → AreRuns (grouped left) left
+GroupsAreLongestRuns = (left : Left) → AreRuns (groups_of left) left

@@ -1,13 +1,13 @@
 -- The report of a history: the sections of its points, and their sizes.
 use Rattle.std.specs.Prelude.{◌&&◌, ℕ, Bool, List, [], flat_map, Option, Some, None, if◌then◌else◌}
 use Rattle.std.specs.List.{enumerate_from}
-use Rattle.dk_report.specs.Reports.{has_samples as has_samples_in, name_of as name_in, section_of as section_in}
+use Rattle.dk_report.specs.Reports.{has_samples as has_samples_in, name_in_table as name_in, section_of as section_in}
 use Rattle.dk_report.specs.Sizes.{has_own_samples as has_own_samples_in, stats_of as stats_in}
 use Rattle.dk_report.specs.declared.options.Options.{Options}
 use Rattle.dk_core.specs.History.{History}
 
-abbrev pub name_of : History → ℕ → List ℕ
-name_of h p = name_in h.table p
+abbrev pub name_in_history : History → ℕ → List ℕ
+name_in_history h p = name_in h.table p
 
 -- a text where there is one
 abbrev pub some_if : Bool → List ℕ → Option (List ℕ)
@@ -20,10 +20,10 @@ has_samples h p = has_samples_in h.table h.samples p
 
 -- it has a section if its name is selected and it has samples
 abbrev pub has_section : (List ℕ → Bool) → History → ℕ → Bool
-has_section selects h p = selects (name_of h p) && has_samples h p
+has_section selects h p = selects (name_in_history h p) && has_samples h p
 
 unfoldable pub section_of : Options → (List ℕ → Bool) → History → ℕ → List ℕ
-section_of options selects h p = if selects (name_of h p) then section_in h.grammar options h.table h.samples p else []
+section_of options selects h p = if selects (name_in_history h p) then section_in h.grammar options h.table h.samples p else []
 
 -- the sections of all points, in the order of the table
 unfoldable pub report_of : Options → (List ℕ → Bool) → History → List ℕ

@@ -12,7 +12,7 @@ use Rattle.dk_template.specs.declared.grammar.Grammar.{Grammar}
 use Rattle.dk_trace.specs.RecordsResumed.{IsOf, record_resumed}
 use Rattle.dk_calls.specs.Standing.{CallsStandForRecords as CallsStandFor}
 use Rattle.dk_core.specs.Fitting.{DeclaresFitting, ReadsFitting}
-use Rattle.dk_core.specs.Fronts.{front_of}
+use Rattle.dk_core.specs.Fronts.{block_front}
 use Rattle.dk_core.specs.History.{History, Taken, after_front, block, where_it_ends, with_declaration, with_record}
 use Rattle.dk_core.specs.declared.block.Block.{Block}
 use Rattle.dk_core.specs.declared.block.State.{State}
@@ -35,10 +35,12 @@ Stands kept h = KeepsAll kept h
 
 -- what a block so far says of the lines that are left; the header is that behind its header lines
 abbrev pub resumed_by : Bool → History → State → Reads Taken
-resumed_by ignores h (state.Front last) ls close = front_of h.header last ls >>= λ front. after_front ignores h front close
-resumed_by ignores h (state.Declaration line reader) ls close = decl_resumed reader ls close >>= λ d. where_it_ends close h (with_declaration h line d)
+resumed_by ignores h (state.Front last) ls close = block_front h.header last ls >>= λ front. after_front ignores h front close
+resumed_by ignores h (state.Declaration line reader) ls close =
+    decl_resumed reader ls close >>= λ d. where_it_ends close h (with_declaration h line d)
 resumed_by ignores h state.Implementors ls close = where_it_ends close h (Ok (block h))
-resumed_by ignores h (state.Record reader) ls close = record_resumed h.table reader ls close >>= λ s. where_it_ends close h (with_record ignores h s)
+resumed_by ignores h (state.Record reader) ls close =
+    record_resumed h.table reader ls close >>= λ s. where_it_ends close h (with_record ignores h s)
 
 unfoldable pub block_resumed : Bool → History → Block → Reads Taken
 block_resumed ignores h b ls close = resumed_by ignores (record h { header = b.header }) b.state ls close

@@ -8,7 +8,7 @@ use Rattle.dk_base.specs.declared.faults.BlockFault.{BlockFault}
 use Rattle.dk_base.specs.declared.faults.BlockFault.TheVariants as r
 use Rattle.dk_lines.specs.declared.lines.LineFault.{LineFault}
 use Rattle.dk_lines.specs.declared.lines.LineFault.TheVariants as f
-use Rattle.dk_core.specs.Blocks.{Groups, Last, grouped}
+use Rattle.dk_core.specs.Blocks.{Groups, Last, groups_of}
 use Rattle.dk_core.specs.History.{Taken, History, effect_of}
 use Rattle.dk_core.specs.Reading.{Stepped, after_next}
 use Rattle.dk_core.specs.Standing.{Fits, Stands, block_resumed, ignores_of}
@@ -26,35 +26,42 @@ use Rattle.dk_core.specs.declared.session.Stop.TheVariants.{Refused, Read, NoMem
 -- The groups that are left: none where the session has come to the file's end.
 abbrev pub groups_left : Bool → Reading → Bool → List ℕ → Groups
 groups_left true r is_ended xs = Last [] (Over (r.number + 1))
-groups_left false r is_ended xs = grouped (lines_left r is_ended xs)
+groups_left false r is_ended xs = groups_of (lines_left r is_ended xs)
 
 -- no block is found, and no fault
 abbrev pub IsNoBlock : Result Stepped BlockLineFault → Type 0
 IsNoBlock (Ok step) = step.found ≡ false
 IsNoBlock (Err fault) = ⊥
 
--- Of a file that is cut off the same is said; but the last line of an ended file, which no LF ends, and which nothing follows, is none there.
+-- Of a file that is cut off the same is said; but the last line of an ended file, which no LF ends, and which nothing follows, is none
+-- there.
 abbrev pub IsCutAlike : Result Stepped BlockLineFault → Result Stepped BlockLineFault → List ℕ → Type 0
 IsCutAlike all later ys = (all ≡ later) ⊎ ((ys ≡ []) × IsNoBlock all)
 
 -- Within a block: what `read` says of what was left is what `read'` says of what is left now.
-pub record Moves (ignores : Bool) (read : Reads Taken) (r : Reading) (xs : List ℕ) (read' : Reads Taken) (r' : Reading) (ys : List ℕ) : Type 0 where
+pub record Moves (ignores : Bool) (read : Reads Taken) (r : Reading) (xs : List ℕ) (read' : Reads Taken) (r' : Reading)
+    (ys : List ℕ) : Type 0 where
   pub front : List ℕ
   pub split : xs ≡ front ++ ys
   pub room : room_of r' ≡ room_of r - length front
   pub same : after_next ignores read (groups_left false r true xs) ≡ after_next ignores read' (groups_left false r' true ys)
-  pub cut : (d rest : List ℕ) → ys ≡ d ++ rest → IsCutAlike (after_next ignores read (groups_left false r false (front ++ d))) (after_next ignores read' (groups_left false r' false d)) ys
+  pub cut : (d rest : List ℕ) → ys ≡ d ++ rest
+      → IsCutAlike (after_next ignores read (groups_left false r false (front ++ d)))
+      (after_next ignores read' (groups_left false r' false d)) ys
 
 -- The next block, or the file's end, was read, and the history is h now.
-pub record Steps (ignores : Bool) (read : Reads Taken) (over : Bool) (r : Reading) (xs : List ℕ) (found : Bool) (h : History) (over' : Bool) (r' : Reading) (ys : List ℕ) : Type 0 where
+pub record Steps (ignores : Bool) (read : Reads Taken) (over : Bool) (r : Reading) (xs : List ℕ) (found : Bool) (h : History) (over' : Bool)
+    (r' : Reading) (ys : List ℕ) : Type 0 where
   pub front : List ℕ
   pub split : xs ≡ front ++ ys
   pub room : room_of r' ≡ room_of r - length front
   -- nothing is left at the file's end
   pub nothing : (over ≡ true → xs ≡ []) → over' ≡ true → ys ≡ []
-  pub takes : after_next ignores read (groups_left over r true xs) ≡ Ok (record { found = found; history = h; left = groups_left over' r' true ys })
+  pub takes : after_next ignores read (groups_left over r true xs)
+      ≡ Ok (record { found = found; history = h; left = groups_left over' r' true ys })
   pub cut : (d rest : List ℕ) → ys ≡ d ++ rest →
-      IsCutAlike (after_next ignores read (groups_left over r false (front ++ d))) (Ok (record { found = found; history = h; left = groups_left over' r' false d })) ys
+      IsCutAlike (after_next ignores read (groups_left over r false (front ++ d)))
+      (Ok (record { found = found; history = h; left = groups_left over' r' false d })) ys
 
 -- Reading failed, and what was delivered holds no block and no fault.
 pub record Stops (ignores : Bool) (read : Reads Taken) (over : Bool) (r : Reading) (xs : List ℕ) (left' : Option (List ℕ)) : Type 0 where
@@ -66,19 +73,23 @@ pub record Stops (ignores : Bool) (read : Reads Taken) (over : Bool) (r : Readin
 
 -- what one line does to a block
 abbrev pub TurnGives : Bool → Reads Taken → Reading → List ℕ → Result Turn Stop → Reading → Option (List ℕ) → Type 0
-TurnGives ignores read r xs (Ok (Goes kept block)) r' left' = (h : History) × Stands kept h × ((ys : List ℕ) × (left' ≡ Some ys) × Moves ignores read r xs (block_resumed ignores h block) r' ys)
-TurnGives ignores read r xs (Ok (Ends end)) r' left' = (h : History) × Stands end.kept h × ((ys : List ℕ) × (left' ≡ Some ys) × Steps ignores read false r xs end.found h end.is_over r' ys)
-TurnGives ignores read r xs (Err (Refused line why)) r' left' = after_next ignores read (groups_left false r true xs) ≡ Err (record { line = line; why = why })
+TurnGives ignores read r xs (Ok (Goes kept block)) r' left' =
+    (h : History) × Stands kept h × ((ys : List ℕ) × (left' ≡ Some ys) × Moves ignores read r xs (block_resumed ignores h block) r' ys)
+TurnGives ignores read r xs (Ok (Ends end)) r' left' =
+    (h : History) × Stands end.kept h × ((ys : List ℕ) × (left' ≡ Some ys) × Steps ignores read false r xs end.found h end.is_over r' ys)
+TurnGives ignores read r xs (Err (Refused line why)) r' left' =
+    after_next ignores read (groups_left false r true xs) ≡ Err (record { line = line; why = why })
 TurnGives ignores read r xs (Err Read) r' left' = Stops ignores read false r xs left'
 TurnGives ignores read r xs (Err NoMemory) r' left' = ⊤
 
 -- what a line does to a block, whatever follows it
 abbrev pub LineGives : Bool → Reads Taken → Line → Result Turn Stop → Type 0
 LineGives ignores read line (Ok (Goes kept block)) = (h : History) × Stands kept h × ((rest : Left) →
-    after_next ignores read (grouped (Next line rest)) ≡ after_next ignores (block_resumed ignores h block) (grouped rest))
+    after_next ignores read (groups_of (Next line rest)) ≡ after_next ignores (block_resumed ignores h block) (groups_of rest))
 LineGives ignores read line (Ok (Ends end)) = (h : History) × Stands end.kept h × (end.is_over ≡ false) × ((rest : Left) →
-    after_next ignores read (grouped (Next line rest)) ≡ Ok (record { found = end.found; history = h; left = grouped rest }))
-LineGives ignores read line (Err (Refused number why)) = (rest : Left) → after_next ignores read (grouped (Next line rest)) ≡ Err (record { line = number; why = why })
+    after_next ignores read (groups_of (Next line rest)) ≡ Ok (record { found = end.found; history = h; left = groups_of rest }))
+LineGives ignores read line (Err (Refused number why)) =
+    (rest : Left) → after_next ignores read (groups_of (Next line rest)) ≡ Err (record { line = number; why = why })
 LineGives ignores read line (Err Read) = ⊥
 LineGives ignores read line (Err NoMemory) = ⊤
 
@@ -87,7 +98,8 @@ abbrev pub EndGives : Bool → Reads Taken → ℕ → Result Turn Stop → Type
 EndGives ignores read number (Ok (Goes kept block)) = ⊥
 EndGives ignores read number (Ok (Ends end)) = (h : History) × Stands end.kept h × (end.is_over ≡ true)
     × (after_next ignores read (Last [] (Over number)) ≡ Ok (record { found = end.found; history = h; left = Last [] (Over number) }))
-EndGives ignores read number (Err (Refused line why)) = after_next ignores read (Last [] (Over number)) ≡ Err (record { line = line; why = why })
+EndGives ignores read number (Err (Refused line why)) =
+    after_next ignores read (Last [] (Over number)) ≡ Err (record { line = line; why = why })
 EndGives ignores read number (Err Read) = ⊥
 EndGives ignores read number (Err NoMemory) = ⊤
 
@@ -101,24 +113,30 @@ EndCounts r end r' = (r'.is_started ≡ not end.is_over) × Grown end.is_over r 
 
 -- lines and totals, whatever is told
 abbrev pub TurnCounts : Reading → Result Turn Stop → Reading → Type 0
-TurnCounts r (Ok (Goes kept block)) r' = (r'.limits ≡ r.limits) × (r'.is_started ≡ true) × (r.total < r'.total) × (r'.total ≤ r.limits.total)
+TurnCounts r (Ok (Goes kept block)) r' =
+    (r'.limits ≡ r.limits) × (r'.is_started ≡ true) × (r.total < r'.total) × (r'.total ≤ r.limits.total)
 TurnCounts r (Ok (Ends end)) r' = (r'.limits ≡ r.limits) × EndCounts r end r'
 TurnCounts r (Err e) r' = r'.limits ≡ r.limits
 
 -- what a blank line of this number does to a block, whatever follows it
 abbrev pub BlankGives : Bool → Reads Taken → ℕ → Result Turn Stop → Type 0
-BlankGives ignores read number (Ok (Goes kept block)) = (h : History) × Stands kept h × (read [] (Some number) ≡ Ok (record { history = h; counts = false }))
+BlankGives ignores read number (Ok (Goes kept block)) =
+    (h : History) × Stands kept h × (read [] (Some number) ≡ Ok (record { history = h; counts = false }))
     × ((ls : List Line) (close : Option ℕ) → block_resumed ignores h block ls close ≡ effect_of ignores h ls close)
-BlankGives ignores read number (Ok (Ends end)) = (h : History) × Stands end.kept h × (end.is_over ≡ false) × (end.found ≡ true) × (read [] (Some number) ≡ Ok (record { history = h; counts = true }))
+BlankGives ignores read number (Ok (Ends end)) =
+    (h : History) × Stands end.kept h × (end.is_over ≡ false) × (end.found ≡ true)
+    × (read [] (Some number) ≡ Ok (record { history = h; counts = true }))
 BlankGives ignores read number (Err (Refused line why)) = read [] (Some number) ≡ Err (record { line = line; why = why })
 BlankGives ignores read number (Err Read) = ⊥
 BlankGives ignores read number (Err NoMemory) = ⊤
 
 -- what a line that isn't blank does
 abbrev pub WordsGive : Bool → Reads Taken → Line → Result Turn Stop → Type 0
-WordsGive ignores read line (Ok (Goes kept block)) = (h : History) × Stands kept h × ((ls : List Line) (close : Option ℕ) → read (line ∷ ls) close ≡ block_resumed ignores h block ls close)
+WordsGive ignores read line (Ok (Goes kept block)) =
+    (h : History) × Stands kept h × ((ls : List Line) (close : Option ℕ) → read (line ∷ ls) close ≡ block_resumed ignores h block ls close)
 WordsGive ignores read line (Ok (Ends end)) = ⊥
-WordsGive ignores read line (Err (Refused number why)) = (ls : List Line) (close : Option ℕ) → read (line ∷ ls) close ≡ Err (record { line = number; why = why })
+WordsGive ignores read line (Err (Refused number why)) =
+    (ls : List Line) (close : Option ℕ) → read (line ∷ ls) close ≡ Err (record { line = number; why = why })
 WordsGive ignores read line (Err Read) = ⊥
 WordsGive ignores read line (Err NoMemory) = ⊤
 
@@ -165,7 +183,8 @@ ShapeAt false turn = LineShape turn
 -- end comes to.
 abbrev pub LineStep : Bool → Kept → Block → Reads Taken → Line → Result Step Stop → Type 0
 LineStep ignores kept block read line (Ok More) = LineGives ignores read line (Ok (Goes kept block))
-LineStep ignores kept block read line (Ok (Ended number is_over)) = (turn : Result Turn Stop) → ClosesAt ignores is_over read number turn → LineGives ignores read line turn
+LineStep ignores kept block read line (Ok (Ended number is_over)) =
+    (turn : Result Turn Stop) → ClosesAt ignores is_over read number turn → LineGives ignores read line turn
 LineStep ignores kept block read line (Err stop) = LineGives ignores read line (Err stop)
 
 -- a block with a line more fits what is kept; a line that isn't read ends no block
@@ -182,7 +201,8 @@ StepShape kept old block (Err stop) = ⊤
 -- what one line does to a block, which is `block` then, of the bytes that are left
 abbrev pub StepGives : Bool → Kept → Block → Reads Taken → Reading → List ℕ → Result Step Stop → Reading → Option (List ℕ) → Type 0
 StepGives ignores kept block read r xs (Ok More) r' left' = TurnGives ignores read r xs (Ok (Goes kept block)) r' left'
-StepGives ignores kept block read r xs (Ok (Ended number is_over)) r' left' = (turn : Result Turn Stop) → ClosesAt ignores is_over read number turn → TurnGives ignores read r xs turn r' left'
+StepGives ignores kept block read r xs (Ok (Ended number is_over)) r' left' =
+    (turn : Result Turn Stop) → ClosesAt ignores is_over read number turn → TurnGives ignores read r xs turn r' left'
 StepGives ignores kept block read r xs (Err stop) r' left' = TurnGives ignores read r xs (Err stop) r' left'
 
 -- lines and totals, whatever is told
@@ -193,8 +213,10 @@ StepCounts r (Err e) r' = r'.limits ≡ r.limits
 
 -- what reading up to the end of a block comes to
 abbrev pub BlockGives : Bool → Reads Taken → Bool → Reading → List ℕ → Result Ending Stop → Reading → Option (List ℕ) → Type 0
-BlockGives ignores read over r xs (Ok end) r' left' = (h : History) × Stands end.kept h × ((ys : List ℕ) × (left' ≡ Some ys) × Steps ignores read over r xs end.found h end.is_over r' ys)
-BlockGives ignores read over r xs (Err (Refused line why)) r' left' = after_next ignores read (groups_left over r true xs) ≡ Err (record { line = line; why = why })
+BlockGives ignores read over r xs (Ok end) r' left' =
+    (h : History) × Stands end.kept h × ((ys : List ℕ) × (left' ≡ Some ys) × Steps ignores read over r xs end.found h end.is_over r' ys)
+BlockGives ignores read over r xs (Err (Refused line why)) r' left' =
+    after_next ignores read (groups_left over r true xs) ≡ Err (record { line = line; why = why })
 BlockGives ignores read over r xs (Err Read) r' left' = Stops ignores read over r xs left'
 BlockGives ignores read over r xs (Err NoMemory) r' left' = ⊤
 
@@ -204,13 +226,17 @@ BlockCounts r (Err e) r' = r'.limits ≡ r.limits
 
 -- what a fault of `block` says, where the bytes xs are left: it is that of the next block, or reading failed
 abbrev pub FaultAnswers : Bool → Reads Taken → Bool → Reading → List ℕ → Fault → Option (List ℕ) → Type 0
-FaultAnswers ignores read over r xs (x.Refused file line why) left' = after_next ignores read (groups_left over r true xs) ≡ Err (record { line = line; why = why })
+FaultAnswers ignores read over r xs (x.Refused file line why) left' =
+    after_next ignores read (groups_left over r true xs) ≡ Err (record { line = line; why = why })
 FaultAnswers ignores read over r xs (x.Read file) left' = Stops ignores read over r xs left'
 FaultAnswers ignores read over r xs x.NoMemory left' = ⊤
 
 -- what `block` answers: the session after the next block, and whether there was one
-abbrev pub NextBlock : {F : Type 0} → Session F → History → Reading → List ℕ → Result (Session F × Bool) Fault → Reading → Option (List ℕ) → Type 0
-NextBlock s h r xs (Ok a) r' left' = (h' : History) × Stands a.0.kept h' × ((ys : List ℕ) × (left' ≡ Some ys) × Steps (ignores_of s) (effect_of (ignores_of s) h) s.is_over r xs a.1 h' a.0.is_over r' ys)
+abbrev pub NextBlock : {F : Type 0} → Session F → History → Reading → List ℕ → Result (Session F × Bool) Fault → Reading → Option (List ℕ)
+    → Type 0
+NextBlock s h r xs (Ok a) r' left' =
+    (h' : History) × Stands a.0.kept h'
+    × ((ys : List ℕ) × (left' ≡ Some ys) × Steps (ignores_of s) (effect_of (ignores_of s) h) s.is_over r xs a.1 h' a.0.is_over r' ys)
 NextBlock s h r xs (Err fault) r' left' = FaultAnswers (ignores_of s) (effect_of (ignores_of s) h) s.is_over r xs fault left'
 
 -- a fault has this file number

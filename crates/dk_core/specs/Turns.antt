@@ -18,14 +18,14 @@ pub data Turn : Type 0 where
   Goes : (kept : Kept) → (block : Block) → Turn
   Ends : (end : Ending) → Turn
 
-abbrev pub ended : Kept → End → Ending
-ended kept end = record { kept = kept; is_over = end.is_over; found = end.found }
+abbrev pub ending_at : Kept → End → Ending
+ending_at kept end = record { kept = kept; is_over = end.is_over; found = end.found }
 
 abbrev pub turn_of : Kept → Block → Result After Stop → Result Turn Stop
 turn_of kept block (Ok after.Goes) = Ok (Goes kept block)
-turn_of kept block (Ok (after.Ends end)) = Ok (Ends (ended kept end))
+turn_of kept block (Ok (after.Ends end)) = Ok (Ends (ending_at kept end))
 turn_of kept block (Err stop) = Err stop
 
 abbrev pub ending_of : Kept → Result End Stop → Result Ending Stop
-ending_of kept (Ok end) = Ok (ended kept end)
+ending_of kept (Ok end) = Ok (ending_at kept end)
 ending_of kept (Err stop) = Err stop

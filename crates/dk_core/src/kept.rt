@@ -21,7 +21,7 @@ ghost use Rattle.dk_trace.specs.RecordsResumed.{shown};
 ghost use Rattle.dk_core.specs.Fitting.{ConstantsFit, FitAt, HasFittingConstants};
 ghost use Rattle.dk_core.specs.Growing.{AreGrown};
 ghost use Rattle.dk_core.specs.History.{History, after_declaration, after_record, after_sample, base_values, effect_of, file_ended, nothing_by, with_declaration, with_record, without_record};
-ghost use Rattle.dk_core.specs.Resuming.{IsStart, state_of};
+ghost use Rattle.dk_core.specs.Resuming.{IsStart, state_file};
 ghost use Rattle.dk_core.specs.Sections.{has_own_samples, has_samples, stats_of};
 ghost use Rattle.dk_core.specs.Refusing.{unmatched_answer};
 
@@ -527,7 +527,7 @@ impl Kept {
 
     /// Writes the state behind the text.
     pub(crate) fn push_state(&self, text: &mut Text) -> Result<(), NoMemory>
-        ensures { OnOk result ((h : History) → Stands self.now h → text.new ≡ text.old ++ state_of h) }
+        ensures { OnOk result ((h : History) → Stands self.now h → text.new ≡ text.old ++ state_file h) }
     {
         push_saved(
             self.alloc,

@@ -10,7 +10,7 @@ use Rattle.dk_forms.specs.declared.states.State.TheVariants.{Broken}
 use Rattle.dk_engine.proofs.Readings.{broken_is}
 use Rattle.dk_engine.proofs.Standing.{none_passes}
 use Rattle.dk_engine.specs.Feeding.{is_broken}
-use Rattle.dk_engine.specs.Narrow.{AreChanges, IsChange, left_of, no_slot, slot_in, with_change, with_state}
+use Rattle.dk_engine.specs.Narrow.{AreChanges, IsChange, no_slot, slot_in, slots_left, with_change, with_state}
 use Rattle.dk_engine.specs.declared.changes.Change.{Change}
 use Rattle.dk_engine.specs.declared.slot.Slot.{Slot}
 
@@ -83,11 +83,11 @@ module _ (made : Slot → State) (slots : List Slot) where
         map_at (x ∷ xs) zero l = refl
         map_at (x ∷ xs) (suc k) l = map_at xs k (omega (arith, l))
 
-    pub left_by_changes : filter (λ (s : Slot). not (is_broken s.state)) (fold with_change slots changes) ≡ left_of made slots
+    pub left_by_changes : filter (λ (s : Slot). not (is_broken s.state)) (fold with_change slots changes) ≡ slots_left made slots
     left_by_changes = ap (filter (λ (s : Slot). not (is_broken s.state))) all_changed
 
     -- where no change breaks a slot, all are left
-    pub all_left : list_any (λ (c : Change). is_broken c.state) changes ≡ false → fold with_change slots changes ≡ left_of made slots
+    pub all_left : list_any (λ (c : Change). is_broken c.state) changes ≡ false → fold with_change slots changes ≡ slots_left made slots
     all_left none = all_changed ∙ sym (filter_all (map moved slots) (All-map (λ (s : Slot). is_broken s.state ≡ false) moved slots unbroken))
       where
         not_broken_is : (s : State) → (s ≢ Broken) → is_broken s ≡ false

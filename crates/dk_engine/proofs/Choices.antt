@@ -13,7 +13,7 @@ use Rattle.dk_template.specs.Premises.{at_role, roles_read}
 use Rattle.dk_template.specs.declared.answers.Premise.{Premise}
 use Rattle.dk_engine.proofs.PremiseSlots.{roles_read_the_slot}
 use Rattle.dk_engine.proofs.Standing.{none_passes}
-use Rattle.dk_engine.specs.Choices.{freed_choices, others, touched_choices, touching, tuples_from}
+use Rattle.dk_engine.specs.Choices.{freed_choices, other_leaders, touched_choices, touching_leaders, tuples_from}
 use Rattle.dk_engine.specs.Exact.{Lead}
 use Rattle.dk_engine.specs.Step.{is_touched, slot_vars, touches}
 use Rattle.dk_engine.specs.declared.now.Now.{Now}
@@ -33,7 +33,7 @@ module _ (now : Now) where
   abbrev own : List VarId
   own = own_leaders now.leaders
 
-  other : (v : VarId) → Contains own v → touches now v ≡ false → IsIn v (others now)
+  other : (v : VarId) → Contains own v → touches now v ≡ false → IsIn v (other_leaders now)
   other v c e = in_filter (λ w. not (touches now w)) v own (is_in v own c.0 c.1 c.2) (ap not e)
 
   -- ---- touched tuples
@@ -43,25 +43,25 @@ module _ (now : Now) where
       let c = All-head (Contains own) v vars lead in
       let rest = All-tail (Contains own) v vars lead in
       elim (cases_Bool (touches now v)) [
-        | inl e ↦ (0, omega arith, role_more v vars (touching now) (replicate (length vars) own) (in_filter (touches now) v own (is_in v own c.0 c.1 c.2) e) (all_roles own vars rest))
+        | inl e ↦ (0, omega arith, role_more v vars (touching_leaders now) (replicate (length vars) own) (in_filter (touches now) v own (is_in v own c.0 c.1 c.2) e) (all_roles own vars rest))
         | inr e ↦
             let more = touched vars rest (ap (λ b. b || is_touched now vars) (sym e) ∙ h) in
             let l = more.1 in
-            (suc more.0, omega (arith, l), role_more v vars (others now) (touched_choices now more.0 (length vars)) (other v c e) more.2)
+            (suc more.0, omega (arith, l), role_more v vars (other_leaders now) (touched_choices now more.0 (length vars)) (other v c e) more.2)
       ]
 
   -- ---- freed tuples
-  freed : (p : Premise) (lost : List VarId) (k : ℕ) (vars : List VarId) → All (λ v. IsIn v (others now)) vars
+  freed : (p : Premise) (lost : List VarId) (k : ℕ) (vars : List VarId) → All (λ v. IsIn v (other_leaders now)) vars
       → ((j : ℕ) → j < length vars → list_any (λ role. role == k + j) (roles_read p) ≡ true → IsIn (at_role j vars) lost) → IsIn vars (tuples_from (freed_choices now p lost k (length vars)))
   freed p lost k [] old read = inl refl
   freed p lost k (v ∷ vars) old read =
-      let Other : VarId → Type 0 = λ w. IsIn w (others now) in
+      let Other : VarId → Type 0 = λ w. IsIn w (other_leaders now) in
       let is_read = list_any (λ role. role == k) (roles_read p) in
-      let here : IsIn v (cond is_read lost (others now)) = elim (cases_Bool is_read) [
-        | inl e ↦ subst (λ b. IsIn v (cond b lost (others now))) (sym e) (read 0 (omega arith) (ap (λ n. list_any (λ role. role == n) (roles_read p)) (zero_more k) ∙ e))
-        | inr e ↦ subst (λ b. IsIn v (cond b lost (others now))) (sym e) (All-head Other v vars old)
+      let here : IsIn v (cond is_read lost (other_leaders now)) = elim (cases_Bool is_read) [
+        | inl e ↦ subst (λ b. IsIn v (cond b lost (other_leaders now))) (sym e) (read 0 (omega arith) (ap (λ n. list_any (λ role. role == n) (roles_read p)) (zero_more k) ∙ e))
+        | inr e ↦ subst (λ b. IsIn v (cond b lost (other_leaders now))) (sym e) (All-head Other v vars old)
       ] in
-      role_more v vars (cond is_read lost (others now)) (freed_choices now p lost (k + 1) (length vars)) here (freed p lost (k + 1) vars (All-tail Other v vars old) (λ j l e.
+      role_more v vars (cond is_read lost (other_leaders now)) (freed_choices now p lost (k + 1) (length vars)) here (freed p lost (k + 1) vars (All-tail Other v vars old) (λ j l e.
       read (suc j) (omega (arith, l)) (ap (λ n. list_any (λ role. role == n) (roles_read p)) (one_more k j) ∙ e)))
     where
       zero_more : (k : ℕ) → k + 0 ≡ k

@@ -45,7 +45,7 @@ use Rattle.dk_engine.specs.Exact.{ArePatterns, Lead}
 use Rattle.dk_engine.specs.Feeding.{with_sample}
 use Rattle.dk_engine.specs.Parts.{all_known, slot_at}
 use Rattle.dk_engine.specs.declared.kept.Kept.{Kept}
-use Rattle.dk_engine.specs.Step.{IsPlaced, IsPremiseOf, IsStep, is_begun, is_empty, is_of_elements, slot_vars}
+use Rattle.dk_engine.specs.Step.{IsPlaced, IsPremiseOf, IsStep, is_begun, is_empty_state, is_of_elements, slot_vars}
 use Rattle.dk_engine.specs.declared.now.Now.{Now}
 use Rattle.dk_engine.specs.StepLaws.{FewSlotsClose}
 
@@ -144,7 +144,7 @@ module _ {grammar : Grammar} {infos : List VarInfo} {samples : List (List Value)
       (had_slot step (row_of p) own (asks_placed grammar infos kept.leaders vars p can placed.over.lead) varies unbroken (elements_are_unsuppressed (row_of p) elements (fit_of samples) own), empty)
     where
       empty_is_not_broken : Empty ≢ Broken
-      empty_is_not_broken e = true≢false (ap is_empty e)
+      empty_is_not_broken e = true≢false (ap is_empty_state e)
 
 -- ---- the variables of a rule that asks for a bound of elements
 one_role : AllPremises (λ r p. not (is_of_elements (row_of p)) || (arity_of r.0 == 1))

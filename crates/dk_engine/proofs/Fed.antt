@@ -31,7 +31,7 @@ use Rattle.dk_engine.proofs.Unchanging.{first_sample_has_no_slots, unchanged_slo
 use Rattle.dk_engine.proofs.Turned.{differ, parts_can_be_fed, unheld}
 use Rattle.dk_engine.specs.Conditions.{CanBeFed}
 use Rattle.dk_engine.specs.Exact.{AreOfPoint, ArePatterns, AreSamples, AreSlots, IsKeptOf}
-use Rattle.dk_engine.specs.Feeding.{IsTurned, parts_after, read_after, slots_of, unturned}
+use Rattle.dk_engine.specs.Feeding.{IsTurned, parts_after, read_after, slots_of, unchanged_now}
 use Rattle.dk_engine.specs.Laws.{FedPartsAreExact}
 use Rattle.dk_engine.specs.declared.kept.Kept.{Kept}
 use Rattle.dk_engine.specs.declared.now.Now.{Now}
@@ -128,8 +128,8 @@ fed_parts_exact g infos point samples sampled kept is sample of now after fed =
 
 -- where a sample changes nothing only the patterns' counts grow
 pub quiet_parts_exact : (g : Grammar) (infos : List VarInfo) → AreOfPoint infos → (samples : List (List Value)) → AreSamples infos samples → (kept : Kept) → IsKeptOf g infos samples kept
-    → (sample : List Value) → IsSample infos sample → 0 < kept.samples → IsTurned kept sample (unturned kept) → ChangesNothing sample kept (unturned kept)
-    → IsKeptOf g infos (samples ++ sample ∷ []) (parts_after kept.samples kept.held sample (unturned kept) kept.slots)
+    → (sample : List Value) → IsSample infos sample → 0 < kept.samples → IsTurned kept sample (unchanged_now kept) → ChangesNothing sample kept (unchanged_now kept)
+    → IsKeptOf g infos (samples ++ sample ∷ []) (parts_after kept.samples kept.held sample (unchanged_now kept) kept.slots)
 quiet_parts_exact g infos point samples sampled kept is sample of some turned quiet =
-    let step = is_step g infos point samples sampled kept is sample (unturned kept) turned of (let number = is.number in omega (arith, number, some)) in
-    kept_now g infos point samples sampled kept is sample (unturned kept) turned kept.slots (unchanged_slots_are_exact g infos samples sample kept (unturned kept) step quiet)
+    let step = is_step g infos point samples sampled kept is sample (unchanged_now kept) turned of (let number = is.number in omega (arith, number, some)) in
+    kept_now g infos point samples sampled kept is sample (unchanged_now kept) turned kept.slots (unchanged_slots_are_exact g infos samples sample kept (unchanged_now kept) step quiet)

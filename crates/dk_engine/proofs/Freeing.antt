@@ -26,7 +26,7 @@ use Rattle.dk_engine.proofs.Stepping.{had_slot, loses_so_varies, placed_before, 
 use Rattle.dk_engine.specs.Exact.{IsSlot}
 use Rattle.dk_engine.specs.Feeding.{with_sample}
 use Rattle.dk_engine.specs.Parts.{slot_at}
-use Rattle.dk_engine.specs.Reached.{has_row, reached}
+use Rattle.dk_engine.specs.Reached.{has_row, rows_reached}
 use Rattle.dk_engine.specs.Step.{IsFreedBy, IsPlaced, IsPremiseOf, IsStep, is_touched, slot_vars}
 use Rattle.dk_engine.specs.StepLaws.{OpenedTuplesAreFreed}
 use Rattle.dk_engine.specs.declared.kept.Kept.{Kept}
@@ -60,7 +60,7 @@ module _ {grammar : Grammar} {infos : List VarInfo} {samples : List (List Value)
           same = same;
           was = ap (suffices p) (sym before) ∙ sufficed;
           isnt = ap (suffices p) (sym more) ∙ fails;
-          reaches = subst (λ (r : RowId). IsTrue (has_row (reached r) row)) (sym same) (reached_directly row p of);
+          reaches = subst (λ (r : RowId). IsTrue (has_row (rows_reached r) row)) (sym same) (reached_directly row p of);
           among = subst (All (Contains vars)) (sym leaders) own;
         },
       )

@@ -21,7 +21,7 @@ use Rattle.dk_engine.proofs.Unchanging.{same_slot}
 use Rattle.dk_engine.specs.Conditions.{AreFormed, CanBeFed}
 use Rattle.dk_engine.specs.Exact.{SlotBefore}
 use Rattle.dk_engine.specs.Feeding.{is_broken, with_sample}
-use Rattle.dk_engine.specs.Narrow.{AreLeft, closes, left_of, outcome, with_state}
+use Rattle.dk_engine.specs.Narrow.{AreLeft, closes, outcome, slots_left, with_state}
 use Rattle.dk_engine.specs.Step.{Answer, IsLeftOf, IsPlaced, can_close}
 use Rattle.dk_engine.specs.declared.kept.Kept.{Kept}
 use Rattle.dk_engine.specs.declared.slot.Slot.{Slot}
@@ -34,21 +34,21 @@ module _ (made : Slot → State) (slots : List Slot) where
   abbrev whole : Slot → Bool
   whole slot = not (is_broken slot.state)
 
-  pub left_ascend : AllPairs SlotBefore slots → AllPairs SlotBefore (left_of made slots)
-  left_ascend up = pairs SlotBefore (left_of made slots) (kept SlotBefore whole (map moved slots) (along SlotBefore moved slots (ascend_from_pairs SlotBefore slots up)))
+  pub left_ascend : AllPairs SlotBefore slots → AllPairs SlotBefore (slots_left made slots)
+  left_ascend up = pairs SlotBefore (slots_left made slots) (kept SlotBefore whole (map moved slots) (along SlotBefore moved slots (ascend_from_pairs SlotBefore slots up)))
 
   -- each was made of one of the slots
-  pub left_from : (slot : Slot) → Contains (left_of made slots) slot → (old : Slot) × Contains slots old × (slot ≡ moved old) × (made old ≢ Broken)
+  pub left_from : (slot : Slot) → Contains (slots_left made slots) slot → (old : Slot) × Contains slots old × (slot ≡ moved old) × (made old ≢ Broken)
   left_from slot c =
-      let f = of_filter whole slot (map moved slots) (is_in slot (left_of made slots) c.0 c.1 c.2) in
+      let f = of_filter whole slot (map moved slots) (is_in slot (slots_left made slots) c.0 c.1 c.2) in
       let m = of_map {X = Slot} {Y = Slot} moved slot slots f.0 in
       let there = not_broken slot.state (not-true (is_broken slot.state) f.1) in
       (m.0, contained m.0 slots m.1, m.2, λ e. there (ap (λ (s : Slot). s.state) m.2 ∙ e))
 
-  pub left_has : (old : Slot) → Contains slots old → (made old ≢ Broken) → Contains (left_of made slots) (moved old)
+  pub left_has : (old : Slot) → Contains slots old → (made old ≢ Broken) → Contains (slots_left made slots) (moved old)
   left_has old c n =
       let unbroken : whole (moved old) ≡ true = elim (cases_Bool (is_broken (made old))) as (λ _. not (is_broken (made old)) ≡ true) [ inl e ↦ absurd (n (broken_is (made old) e)) | inr e ↦ ap not e ] in
-      contained (moved old) (left_of made slots) (in_filter whole (moved old) (map moved slots) (in_map {X = Slot} {Y = Slot} moved old slots (is_in old slots c.0 c.1 c.2)) unbroken)
+      contained (moved old) (slots_left made slots) (in_filter whole (moved old) (map moved slots) (in_map {X = Slot} {Y = Slot} moved old slots (is_in old slots c.0 c.1 c.2)) unbroken)
 
 -- ---- by a sample
 module _ (asked : Bool) (after : Answer) (sample : List Value) where
@@ -78,7 +78,7 @@ module _ (asked : Bool) (after : Answer) (sample : List Value) where
       never false = refl
 
   pub left_are_left : (slots : List Slot) → AllPairs SlotBefore slots
-      → (asked ≡ false → (old : Slot) → Contains slots old → can_close old ≡ true → is_suppressed after old.row old.leaders ≡ false) → AreLeft after sample slots (left_of made_with slots)
+      → (asked ≡ false → (old : Slot) → Contains slots old → can_close old ≡ true → is_suppressed after old.row old.leaders ≡ false) → AreLeft after sample slots (slots_left made_with slots)
   left_are_left slots up shut = record {
     ascend = left_ascend made_with slots up;
     each = λ slot. (
@@ -101,7 +101,7 @@ module _ (asked : Bool) (after : Answer) (sample : List Value) where
           let left = from.2 in
           let state = open_outcome old (λ can. ap (λ r. is_suppressed after r old.leaders) (sym left.row) ∙ (ap (is_suppressed after slot.row) (sym left.vars) ∙ left.unsuppressed can)) in
           let same : with_state old (made_with old) ≡ slot = same_slot (with_state old (made_with old)) slot (sym left.row) (sym left.vars) (state ∙ sym left.state) in
-          subst (Contains (left_of made_with slots)) same (left_has made_with slots old from.1 (λ e. left.unbroken (left.state ∙ (sym state ∙ e)))),
+          subst (Contains (slots_left made_with slots)) same (left_has made_with slots old from.1 (λ e. left.unbroken (left.state ∙ (sym state ∙ e)))),
     );
   }
     where
@@ -118,10 +118,10 @@ module _ (asked : Bool) (after : Answer) (sample : List Value) where
 
 -- ---- they can be fed
 pub left_formed : (g : Grammar) (infos : List VarInfo) (kept : Kept) → CanBeFed g infos kept → (sample : List Value) → IsSample infos sample → (asked : Bool) (after : Answer)
-    → AreFormed g infos kept.leaders (left_of (outcome asked after sample) kept.slots)
+    → AreFormed g infos kept.leaders (slots_left (outcome asked after sample) kept.slots)
 left_formed g infos kept can sample sampled asked after =
     let made = outcome asked after sample in
-    let left = left_of made kept.slots in
+    let left = slots_left made kept.slots in
     let from : (k : ℕ) (d : Slot) → k < length left → (old : Slot) × Contains kept.slots old × (get_or left k d ≡ with_state old (made old)) × (made old ≢ Broken) = λ k d l. left_from made kept.slots (get_or left k d) (Contains-get_or left k d l) in
     let Placed : Slot → Type 0 = λ s. IsPlaced g infos kept.leaders s.row s.leaders in
     let Proper : Slot → Type 0 = λ s. IsProper (form_of s.row) s.state in

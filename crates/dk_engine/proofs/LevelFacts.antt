@@ -7,7 +7,7 @@ use Rattle.dk_forms.specs.declared.states.State.TheVariants as state
 use Rattle.dk_template.specs.Exchange.{turned_state, written}
 use Rattle.dk_template.specs.declared.grammar.RowId.{RowId}
 use Rattle.dk_engine.specs.Parts.{leaders_of}
-use Rattle.dk_engine.specs.Reading.{read, read_leaders, read_written}
+use Rattle.dk_engine.specs.Reading.{read_leaders, read_written, state_read}
 use Rattle.dk_engine.specs.declared.kept.Kept.{Kept}
 
 -- ---- a level
@@ -21,11 +21,11 @@ level_is (suc n) l kept row vars = ap (λ m. turned_state row vars (read_written
 
 -- ---- any variables
 -- before the first sample each state is Empty
-pub read_none : (kept : Kept) (row : RowId) (vars : List VarId) → kept.samples ≡ 0 → state.Empty ≡ read kept row vars
-unfolding read
+pub read_none : (kept : Kept) (row : RowId) (vars : List VarId) → kept.samples ≡ 0 → state.Empty ≡ state_read kept row vars
+unfolding state_read
 read_none kept row vars none = sym (ap (λ b. if b then state.Empty else read_leaders 4 kept row (leaders_of kept.leaders vars)) (eq-eqb kept.samples 0 none))
 
 -- and then it is that of the leaders
-pub read_some : (kept : Kept) (row : RowId) (vars : List VarId) → (kept.samples ≡ 0 → ⊥) → read_leaders 4 kept row (leaders_of kept.leaders vars) ≡ read kept row vars
-unfolding read
+pub read_some : (kept : Kept) (row : RowId) (vars : List VarId) → (kept.samples ≡ 0 → ⊥) → read_leaders 4 kept row (leaders_of kept.leaders vars) ≡ state_read kept row vars
+unfolding state_read
 read_some kept row vars some = sym (ap (λ b. if b then state.Empty else read_leaders 4 kept row (leaders_of kept.leaders vars)) (ne_eqb kept.samples 0 some))

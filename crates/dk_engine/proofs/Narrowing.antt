@@ -16,8 +16,8 @@ use Rattle.dk_engine.proofs.Fed.{is_step, kept_now}
 use Rattle.dk_engine.proofs.Stepping.{stepped_slots_are_exact}
 use Rattle.dk_engine.specs.Exact.{AreOfPoint, AreSamples, IsKeptOf}
 use Rattle.dk_engine.specs.Feeding.{IsTurned, parts_after, read_after}
-use Rattle.dk_engine.specs.Narrow.{AreChangesBelow, AreLeft, AreMerged, AreOpened, IsChange, StayBetween, Stays, slot_in}
-use Rattle.dk_engine.specs.Reading.{read}
+use Rattle.dk_engine.specs.Narrow.{AreChangesBelow, AreLeft, AreMerged, AreOpened, IsChange, StateStays, StayBetween, slot_in}
+use Rattle.dk_engine.specs.Reading.{state_read}
 use Rattle.dk_engine.specs.Step.{Answer, AreCandidates, IsStepped, IsSteppedSlot}
 use Rattle.dk_engine.specs.declared.changes.Change.{Change}
 use Rattle.dk_engine.specs.declared.kept.Kept.{Kept}
@@ -38,14 +38,14 @@ merged_are_stepped after sample slots known candidates left opened merged are_le
 -- ---- all parts
 pub stepped_parts_exact : (g : Grammar) (infos : List VarInfo) → AreOfPoint infos → (samples : List (List Value)) → AreSamples infos samples → (kept : Kept) → IsKeptOf g infos samples kept
     → (sample : List Value) → IsSample infos sample → 0 < kept.samples → (now : Now) → IsTurned kept sample now
-    → (candidates : List (RowId × List VarId)) → AreCandidates g infos (read kept) (read_after kept sample) kept.slots now candidates
+    → (candidates : List (RowId × List VarId)) → AreCandidates g infos (state_read kept) (read_after kept sample) kept.slots now candidates
     → (stepped : List Slot) → IsStepped (read_after kept sample) sample kept.slots now.known candidates stepped
     → IsKeptOf g infos (samples ++ sample ∷ []) (parts_after kept.samples kept.held sample now stepped)
 stepped_parts_exact g infos point samples sampled kept is sample of some now turned candidates are stepped stands =
     let step = is_step g infos point samples sampled kept is sample now turned of (let number = is.number in omega (arith, number, some)) in
     let tell = reading_tells g infos samples sample kept now step point in
     kept_now g infos point samples sampled kept is sample now turned stepped
-    ((stepped_slots_are_exact g infos samples sample kept now step (read kept) (read_after kept sample) tell.0 tell.1 candidates are stepped).0 stands)
+    ((stepped_slots_are_exact g infos samples sample kept now step (state_read kept) (read_after kept sample) tell.0 tell.1 candidates are stepped).0 stands)
 
 -- ---- changes
 module _ (made : Slot → State) (slots : List Slot) where
@@ -56,12 +56,12 @@ module _ (made : Slot → State) (slots : List Slot) where
   }
 
   module _ (n : ℕ) (changes : List Change) (are : AreChangesBelow n made slots changes) where
-    pub stays_more : Stays made (slot_in slots n) → AreChangesBelow (n + 1) made slots changes
+    pub stays_more : StateStays made (slot_in slots n) → AreChangesBelow (n + 1) made slots changes
     stays_more stays = record {
       each = are.each;
       all = λ k l. elim (cases_lt k n) [
         | inl lt ↦ are.all k lt
-        | inr ge ↦ let same : n ≡ k = omega (arith, l, ge) in inl (subst (λ m. Stays made (slot_in slots m)) same stays)
+        | inr ge ↦ let same : n ≡ k = omega (arith, l, ge) in inl (subst (λ m. StateStays made (slot_in slots m)) same stays)
       ];
     }
 
@@ -74,8 +74,8 @@ module _ (made : Slot → State) (slots : List Slot) where
     pub change_more : (change : Change) → change.place ≡ n → IsChange made slots change → AreChangesBelow (n + 1) made slots (changes ++ change ∷ [])
     change_more change at is = record {
       each = All-push (IsChange made slots) changes change are.each is;
-      all = λ k l. elim (cases_lt k n) as (λ _. Stays made (slot_in slots k) ⊎ ((c : Change) × Contains (changes ++ change ∷ []) c × (c.place ≡ k))) [
-        | inl lt ↦ elim (are.all k lt) as (λ _. Stays made (slot_in slots k) ⊎ ((c : Change) × Contains (changes ++ change ∷ []) c × (c.place ≡ k))) [
+      all = λ k l. elim (cases_lt k n) as (λ _. StateStays made (slot_in slots k) ⊎ ((c : Change) × Contains (changes ++ change ∷ []) c × (c.place ≡ k))) [
+        | inl lt ↦ elim (are.all k lt) as (λ _. StateStays made (slot_in slots k) ⊎ ((c : Change) × Contains (changes ++ change ∷ []) c × (c.place ≡ k))) [
           | inl s ↦ inl s
           | inr f ↦ inr (f.0, Contains-append_left changes (change ∷ []) f.0 f.1, f.2)
         ]

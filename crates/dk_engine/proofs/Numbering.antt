@@ -15,11 +15,11 @@ use Rattle.dk_fits.specs.Instances.{Precedes}
 use Rattle.dk_forms.specs.Laws.{IsIn}
 use Rattle.dk_template.specs.Templates.{arity_of}
 use Rattle.dk_engine.specs.Exact.{SlotBefore}
-use Rattle.dk_engine.specs.Merged.{AreTogether, HasNumber, all_vars, number_of, var_in}
+use Rattle.dk_engine.specs.Merged.{AreTogether, HasNumber, slot_number, var_bound, var_in}
 use Rattle.dk_engine.specs.declared.slot.Slot.{Slot}
 
 -- ---- numbers of two digits
-digit_below : (a b x y : ℕ) → x < all_vars → y < all_vars → a * all_vars + x < b * all_vars + y → (a < b) ⊎ ((a ≡ b) × (x < y))
+digit_below : (a b x y : ℕ) → x < var_bound → y < var_bound → a * var_bound + x < b * var_bound + y → (a < b) ⊎ ((a ≡ b) × (x < y))
 digit_below a b x y l m h = elim (cases_lt a b) as (λ _. (a < b) ⊎ ((a ≡ b) × (x < y))) [
   | inl lt ↦ inl lt
   | inr ge ↦
@@ -27,16 +27,16 @@ digit_below a b x y l m h = elim (cases_lt a b) as (λ _. (a < b) ⊎ ((a ≡ b)
       inr (same, omega (arith, h, same))
 ]
 
-digit_same : (a b x y : ℕ) → x < all_vars → y < all_vars → a * all_vars + x ≡ b * all_vars + y → (a ≡ b) × (x ≡ y)
+digit_same : (a b x y : ℕ) → x < var_bound → y < var_bound → a * var_bound + x ≡ b * var_bound + y → (a ≡ b) × (x ≡ y)
 digit_same a b x y l m h =
     let same : a ≡ b = omega (arith, l, m, h) in
     (same, omega (arith, h, same))
 
 -- ---- tuples
-in_below : (vars : List VarId) → All (λ (v : VarId). v.0 < all_vars) vars → (k : ℕ) → var_in vars k < all_vars
+in_below : (vars : List VarId) → All (λ (v : VarId). v.0 < var_bound) vars → (k : ℕ) → var_in vars k < var_bound
 in_below vars below k = elim (cases_lt k (length vars)) [
   | inl l ↦ below k (var 0) l
-  | inr past ↦ subst (λ (v : VarId). v.0 < all_vars) (sym (get_or_past vars k (var 0) past)) (omega arith)
+  | inr past ↦ subst (λ (v : VarId). v.0 < var_bound) (sym (get_or_past vars k (var 0) past)) (omega arith)
 ]
 
 -- three numbers in the order of the first at which they differ
@@ -85,16 +85,16 @@ alike (v ∷ x ∷ u ∷ t ∷ vs) (w ∷ y ∷ z ∷ ws) same few a b c = absur
 
 -- ---- slots
 abbrev first_of : Slot → ℕ
-first_of s = s.row.0 * all_vars + var_in s.leaders 0
+first_of s = s.row.0 * var_bound + var_in s.leaders 0
 
 abbrev second_of : Slot → ℕ
-second_of s = first_of s * all_vars + var_in s.leaders 1
+second_of s = first_of s * var_bound + var_in s.leaders 1
 
 arities : (a b : Slot) → HasNumber a → HasNumber b → a.row ≡ b.row → length a.leaders ≡ length b.leaders
 arities a b ha hb same = ha.long ∙ (ap arity_of same ∙ sym hb.long)
 
-pub number_before : (a b : Slot) → HasNumber a → HasNumber b → number_of a < number_of b → SlotBefore a b
-unfolding number_of
+pub number_before : (a b : Slot) → HasNumber a → HasNumber b → slot_number a < slot_number b → SlotBefore a b
+unfolding slot_number
 number_before a b ha hb h =
     let third = digit_below (second_of a) (second_of b) (var_in a.leaders 2) (var_in b.leaders 2) (in_below a.leaders ha.below 2) (in_below b.leaders hb.below 2) h in
     elim third as (λ _. SlotBefore a b) [
@@ -126,8 +126,8 @@ number_before a b ha hb h =
         let d = digit_same (first_of a) (first_of b) (var_in a.leaders 1) (var_in b.leaders 1) (in_below a.leaders ha.below 1) (in_below b.leaders hb.below 1) e in
         by_first (inr (d.0, inr (d.1, l)))
 
-pub number_same : (a b : Slot) → HasNumber a → HasNumber b → number_of a ≡ number_of b → (a.row ≡ b.row) × (a.leaders ≡ b.leaders)
-unfolding number_of
+pub number_same : (a b : Slot) → HasNumber a → HasNumber b → slot_number a ≡ slot_number b → (a.row ≡ b.row) × (a.leaders ≡ b.leaders)
+unfolding slot_number
 number_same a b ha hb h =
     let third = digit_same (second_of a) (second_of b) (var_in a.leaders 2) (var_in b.leaders 2) (in_below a.leaders ha.below 2) (in_below b.leaders hb.below 2) h in
     let second = digit_same (first_of a) (first_of b) (var_in a.leaders 1) (var_in b.leaders 1) (in_below a.leaders ha.below 1) (in_below b.leaders hb.below 1) third.0 in
@@ -137,10 +137,10 @@ number_same a b ha hb h =
 
 -- ---- lists that don't fall, without what has a number twice
 abbrev pub same_number : Slot → Slot → Bool
-same_number a b = number_of a == number_of b
+same_number a b = slot_number a == slot_number b
 
 abbrev Rises : List Slot → Type 0
-Rises slots = Ascend (λ a b. number_of a ≤ number_of b) slots
+Rises slots = Ascend (λ a b. slot_number a ≤ slot_number b) slots
 
 from_dedup : (k : Slot) (slots : List Slot) (s : Slot) → IsIn s (dedup_from same_number k slots) → IsIn s (k ∷ slots)
 from_dedup k [] s i = i
@@ -153,54 +153,54 @@ from_dedup k (x ∷ slots) s i = elim (cases_Bool (same_number x k)) [
       elim here as (λ _. IsIn s (k ∷ x ∷ slots)) [ inl a ↦ inl a | inr a ↦ inr (from_dedup x slots s a) ]
 ]
 
-dedup_rises : (k : Slot) (slots : List Slot) → Rises (k ∷ slots) → Ascend (λ a b. number_of a < number_of b) (dedup_from same_number k slots)
+dedup_rises : (k : Slot) (slots : List Slot) → Rises (k ∷ slots) → Ascend (λ a b. slot_number a < slot_number b) (dedup_from same_number k slots)
 dedup_rises k [] up = (λ y i. absurd i, tt)
 dedup_rises k (x ∷ slots) up = elim (cases_Bool (same_number x k)) [
   | inl e ↦
-      subst (λ b. Ascend (λ s t. number_of s < number_of t) (cond b (dedup_from same_number k slots) (k ∷ dedup_from same_number x slots))) (sym e) (dedup_rises k slots (λ y i. up.0 y (inr i), up.1.1))
+      subst (λ b. Ascend (λ s t. slot_number s < slot_number t) (cond b (dedup_from same_number k slots) (k ∷ dedup_from same_number x slots))) (sym e) (dedup_rises k slots (λ y i. up.0 y (inr i), up.1.1))
   | inr e ↦
-      subst (λ b. Ascend (λ s t. number_of s < number_of t) (cond b (dedup_from same_number k slots) (k ∷ dedup_from same_number x slots))) (sym e)
+      subst (λ b. Ascend (λ s t. slot_number s < slot_number t) (cond b (dedup_from same_number k slots) (k ∷ dedup_from same_number x slots))) (sym e)
       (λ y i. above y (from_dedup x slots y i) (up.0 x (inl refl)) (apart e), dedup_rises x slots up.1)
 ]
   where
-    apart : same_number x k ≡ false → number_of k < number_of x
-    apart e = elim (cases_eq (number_of x) (number_of k)) [
-      | inl same ↦ absurd (true≢false (sym (eq-eqb (number_of x) (number_of k) same) ∙ e))
-      | inr not_same ↦ let low = up.0 x (inl refl) in omega (arith, low, λ (q : number_of x ≡ number_of k). not_same q)
+    apart : same_number x k ≡ false → slot_number k < slot_number x
+    apart e = elim (cases_eq (slot_number x) (slot_number k)) [
+      | inl same ↦ absurd (true≢false (sym (eq-eqb (slot_number x) (slot_number k) same) ∙ e))
+      | inr not_same ↦ let low = up.0 x (inl refl) in omega (arith, low, λ (q : slot_number x ≡ slot_number k). not_same q)
     ]
 
-    above : (y : Slot) → IsIn y (x ∷ slots) → number_of k ≤ number_of x → number_of k < number_of x → number_of k < number_of y
-    above y (inl same) low lt = subst (λ s. number_of k < number_of s) (sym same) lt
+    above : (y : Slot) → IsIn y (x ∷ slots) → slot_number k ≤ slot_number x → slot_number k < slot_number x → slot_number k < slot_number y
+    above y (inl same) low lt = subst (λ s. slot_number k < slot_number s) (sym same) lt
     above y (inr later) low lt = let high = up.1.0 y later in omega (arith, lt, high)
 
-dedup_has : (k : Slot) (slots : List Slot) (s : Slot) → IsIn s (k ∷ slots) → (t : Slot) × IsIn t (dedup_from same_number k slots) × (number_of t ≡ number_of s)
-dedup_has k [] s (inl e) = (k, inl refl, ap number_of (sym e))
+dedup_has : (k : Slot) (slots : List Slot) (s : Slot) → IsIn s (k ∷ slots) → (t : Slot) × IsIn t (dedup_from same_number k slots) × (slot_number t ≡ slot_number s)
+dedup_has k [] s (inl e) = (k, inl refl, ap slot_number (sym e))
 dedup_has k [] s (inr i) = absurd i
 dedup_has k (x ∷ slots) s i = elim (cases_Bool (same_number x k)) [
   | inl e ↦
-      let found : (t : Slot) × IsIn t (dedup_from same_number k slots) × (number_of t ≡ number_of s) = elim i as (λ _. (t : Slot) × IsIn t (dedup_from same_number k slots) × (number_of t ≡ number_of s)) [
+      let found : (t : Slot) × IsIn t (dedup_from same_number k slots) × (slot_number t ≡ slot_number s) = elim i as (λ _. (t : Slot) × IsIn t (dedup_from same_number k slots) × (slot_number t ≡ slot_number s)) [
         | inl a ↦ dedup_has k slots s (inl a)
-        | inr rest ↦ elim rest as (λ _. (t : Slot) × IsIn t (dedup_from same_number k slots) × (number_of t ≡ number_of s)) [
-          | inl b ↦ let first = dedup_has k slots k (inl refl) in (first.0, first.1, first.2 ∙ (sym (eqb-true (number_of x) (number_of k) e) ∙ ap number_of (sym b)))
+        | inr rest ↦ elim rest as (λ _. (t : Slot) × IsIn t (dedup_from same_number k slots) × (slot_number t ≡ slot_number s)) [
+          | inl b ↦ let first = dedup_has k slots k (inl refl) in (first.0, first.1, first.2 ∙ (sym (eqb-true (slot_number x) (slot_number k) e) ∙ ap slot_number (sym b)))
           | inr c ↦ dedup_has k slots s (inr c)
         ]
       ] in
       (found.0, subst (λ b. IsIn found.0 (cond b (dedup_from same_number k slots) (k ∷ dedup_from same_number x slots))) (sym e) found.1, found.2)
   | inr e ↦
-      let found : (t : Slot) × IsIn t (k ∷ dedup_from same_number x slots) × (number_of t ≡ number_of s) = elim i as (λ _. (t : Slot) × IsIn t (k ∷ dedup_from same_number x slots) × (number_of t ≡ number_of s)) [
-        | inl a ↦ (k, inl refl, ap number_of (sym a))
+      let found : (t : Slot) × IsIn t (k ∷ dedup_from same_number x slots) × (slot_number t ≡ slot_number s) = elim i as (λ _. (t : Slot) × IsIn t (k ∷ dedup_from same_number x slots) × (slot_number t ≡ slot_number s)) [
+        | inl a ↦ (k, inl refl, ap slot_number (sym a))
         | inr rest ↦ let later = dedup_has x slots s rest in (later.0, inr later.1, later.2)
       ] in
       (found.0, subst (λ b. IsIn found.0 (cond b (dedup_from same_number k slots) (k ∷ dedup_from same_number x slots))) (sym e) found.1, found.2)
 ]
 
-rises : (slots : List Slot) → IsNonDecreasingBy number_of slots → Rises slots
+rises : (slots : List Slot) → IsNonDecreasingBy slot_number slots → Rises slots
 rises slots up = ascend_from_weak slots (λ i j d l m. up i j d (omega (arith, l)) m)
   where
-    ascend_from_weak : (xs : List Slot) → AllPairs (λ a b. number_of a ≤ number_of b) xs → Rises xs
-    ascend_from_weak xs h = ascend_from_pairs (λ a b. number_of a ≤ number_of b) xs h
+    ascend_from_weak : (xs : List Slot) → AllPairs (λ a b. slot_number a ≤ slot_number b) xs → Rises xs
+    ascend_from_weak xs h = ascend_from_pairs (λ a b. slot_number a ≤ slot_number b) xs h
 
-pub deduped_together : (all sorted : List Slot) → All HasNumber all → IsPermutation all sorted → IsNonDecreasingBy number_of sorted → AreTogether all (dedup same_number sorted)
+pub deduped_together : (all sorted : List Slot) → All HasNumber all → IsPermutation all sorted → IsNonDecreasingBy slot_number sorted → AreTogether all (dedup same_number sorted)
 deduped_together all sorted numbered permuted up = go sorted numbered_now (rises sorted up) (λ s c. Contains-permutation all sorted s permuted c) (λ s c. Contains-permutation sorted all s (IsPermutation-sym all sorted permuted) c)
   where
     numbered_now : All HasNumber sorted
@@ -220,7 +220,7 @@ deduped_together all sorted numbered permuted up = go sorted numbered_now (rises
               let a = get_or made i d in
               let b = get_or made j d in
               number_before a b (All-contains HasNumber (x ∷ xs) a each (back a (Contains-get_or made i d (omega (arith, l, m))))) (All-contains HasNumber (x ∷ xs) b each (back b (Contains-get_or made j d m)))
-              (pairs (λ s t. number_of s < number_of t) made (dedup_rises x xs low) i j d l m);
+              (pairs (λ s t. slot_number s < slot_number t) made (dedup_rises x xs low) i j d l m);
           from = λ s c. from s (back s c);
           has = λ s c.
               let there = to s c in

@@ -44,14 +44,14 @@ use Rattle.dk_engine.proofs.Stepping.{left_is_slot, long_more, slot_is_left}
 use Rattle.dk_engine.proofs.Swept.{IsAtRole, IsGiven, in_with_both, in_with_one, of_with_both, of_with_one}
 use Rattle.dk_engine.proofs.Turned.{leaders_now, still}
 use Rattle.dk_engine.proofs.Unchanging.{same_slot}
-use Rattle.dk_engine.specs.Choices.{others, touching}
+use Rattle.dk_engine.specs.Choices.{other_leaders, touching_leaders}
 use Rattle.dk_engine.specs.Conditions.{AreFormed, CanBeFed}
 use Rattle.dk_engine.specs.Exact.{AreOfPoint, AreSamples, AreSlots, IsKeptOf, IsSlot, Lead}
 use Rattle.dk_engine.specs.Feeding.{IsTurned, has_slot, read_after}
 use Rattle.dk_engine.specs.Merged.{AreTogether, HasNumber}
-use Rattle.dk_engine.specs.Narrow.{AreChanges, AreLeft, IsChange, IsMergedStep, freed_by_all, left_of, loses_by, lost_places, opened_slots, outcome, slot_in, no_slot}
+use Rattle.dk_engine.specs.Narrow.{AreChanges, AreLeft, IsChange, IsMergedStep, freed_by_all, slots_left, loses_by, lost_places, opened_slots, outcome, slot_in, no_slot}
 use Rattle.dk_engine.specs.Parts.{slot_at}
-use Rattle.dk_engine.specs.Reached.{reached}
+use Rattle.dk_engine.specs.Reached.{rows_reached}
 use Rattle.dk_engine.specs.Step.{Answer, IsFreedBy, IsPlaced, IsStep, Tells, is_touched, touches}
 use Rattle.dk_engine.specs.Sweeps.{freed_slots, touched_slots, with_both, with_one}
 use Rattle.dk_engine.specs.declared.changes.Change.{Change}
@@ -79,12 +79,12 @@ module _ (g : Grammar) (infos : List VarInfo) (after : Answer) (now : Now) where
     state = subst (λ r. s.state ≡ after r s.leaders) (sym given.of_row) given.state;
   }
 
-  touched_open : (s : Slot) → IsIn s (touched_slots g infos now.known after (touching now) (others now) own) → IsOpen s
+  touched_open : (s : Slot) → IsIn s (touched_slots g infos now.known after (touching_leaders now) (other_leaders now) own) → IsOpen s
   unfolding touched_slots
   touched_open s i =
-      let r = of_flat (λ row. with_one infos now.known after row (touching now) (others now) own) s (rows_of g) i in
+      let r = of_flat (λ row. with_one infos now.known after row (touching_leaders now) (other_leaders now) own) s (rows_of g) i in
       open_given r.0 (row_of_grammar g r.0 r.1) s
-      (of_with_one infos now.known after r.0 own (touching now) (others now) (λ v j. (of_filter (touches now) v own j).0) (λ v j. (of_filter (λ w. not (touches now w)) v own j).0) s r.2)
+      (of_with_one infos now.known after r.0 own (touching_leaders now) (other_leaders now) (λ v j. (of_filter (touches now) v own j).0) (λ v j. (of_filter (λ w. not (touches now w)) v own j).0) s r.2)
 
   module _ (slots : List Slot) (some : All (λ (s : Slot). 0 < length s.leaders) slots) (led : All (λ (s : Slot). All (λ v. IsIn v own) s.leaders) slots) where
     freed_open : (lost : List ℕ) → All (λ k. k < length slots) lost → (s : Slot) → IsIn s (freed_by_all infos now.known after own slots lost) → IsOpen s
@@ -93,14 +93,14 @@ module _ (g : Grammar) (infos : List VarInfo) (after : Answer) (now : Now) where
         let f = of_flat (λ k. freed_slots infos now.known after own (slot_in slots k).row (slot_in slots k).leaders) s lost i in
         let at = All-contains (λ k. k < length slots) lost f.0 within (contained f.0 lost f.1) in
         let old = slot_in slots f.0 in
-        let r = of_flat (λ row. with_both infos now.known after row old.leaders own) s (reached old.row) f.2 in
-        let is = All-contains (IsRowOf g) (reached old.row) r.0 (reached_rows g old.row) (contained r.0 (reached old.row) r.1) in
+        let r = of_flat (λ row. with_both infos now.known after row old.leaders own) s (rows_reached old.row) f.2 in
+        let is = All-contains (IsRowOf g) (rows_reached old.row) r.0 (reached_rows g old.row) (contained r.0 (rows_reached old.row) r.1) in
         open_given r.0 is s (of_with_both infos now.known after r.0 old.leaders own (some f.0 no_slot at) (led f.0 no_slot at) s r.2)
 
     pub opened_open : (lost : List ℕ) → All (λ k. k < length slots) lost → (s : Slot) → IsIn s (opened_slots g infos after slots now lost) → IsOpen s
     unfolding opened_slots
     opened_open lost within s i =
-        elim (append_cases s (touched_slots g infos now.known after (touching now) (others now) own) (freed_by_all infos now.known after own slots lost) i) [
+        elim (append_cases s (touched_slots g infos now.known after (touching_leaders now) (other_leaders now) own) (freed_by_all infos now.known after own slots lost) i) [
           | inl a ↦ touched_open s a
           | inr b ↦ freed_open lost within s b
         ]
@@ -109,7 +109,7 @@ module _ (g : Grammar) (infos : List VarInfo) (after : Answer) (now : Now) where
   made : Slot → Slot
   made s = record { row = s.row; leaders = s.leaders; state = after s.row s.leaders }
 
-  touched_role : (vars : List VarId) → All (λ v. IsIn v own) vars → is_touched now vars ≡ true → (k : ℕ) × IsAtRole (touching now) (others now) own k vars
+  touched_role : (vars : List VarId) → All (λ v. IsIn v own) vars → is_touched now vars ≡ true → (k : ℕ) × IsAtRole (touching_leaders now) (other_leaders now) own k vars
   touched_role [] led h = absurd (false≢true h)
   touched_role (v ∷ vars) led h =
       let here = All-head (λ u. IsIn u own) v vars led in
@@ -122,15 +122,15 @@ module _ (g : Grammar) (infos : List VarInfo) (after : Answer) (now : Now) where
       ]
 
   touched_in : (row : RowId) (vars : List VarId) → IsRowOf g row → length vars ≡ arity_of row → length vars < 4 → All (λ v. IsIn v own) vars → is_touched now vars ≡ true → has_slot infos now.known after row vars ≡ true
-      → IsIn (record { row = row; leaders = vars; state = after row vars }) (touched_slots g infos now.known after (touching now) (others now) own)
+      → IsIn (record { row = row; leaders = vars; state = after row vars }) (touched_slots g infos now.known after (touching_leaders now) (other_leaders now) own)
   unfolding touched_slots
   touched_in row vars of long few led touched has =
       let at = touched_role vars led touched in
-      in_flat (λ r. with_one infos now.known after r (touching now) (others now) own) (record { row = row; leaders = vars; state = after row vars }) row (rows_of g)
-      (in_with_one infos now.known after row (touching now) (others now) own at.0 vars long (omega (arith, few)) at.1 has) (row_in g row of)
+      in_flat (λ r. with_one infos now.known after r (touching_leaders now) (other_leaders now) own) (record { row = row; leaders = vars; state = after row vars }) row (rows_of g)
+      (in_with_one infos now.known after row (touching_leaders now) (other_leaders now) own at.0 vars long (omega (arith, few)) at.1 has) (row_in g row of)
 
   -- the place of the slot that frees a tuple
-  freed_in : (slots : List Slot) (lost : List ℕ) (k : ℕ) → IsIn k lost → 0 < length (slot_in slots k).leaders → (row : RowId) (vars : List VarId) → Contains (reached (slot_in slots k).row) row → All (Contains vars) (slot_in slots k).leaders
+  freed_in : (slots : List Slot) (lost : List ℕ) (k : ℕ) → IsIn k lost → 0 < length (slot_in slots k).leaders → (row : RowId) (vars : List VarId) → Contains (rows_reached (slot_in slots k).row) row → All (Contains vars) (slot_in slots k).leaders
       → length vars ≡ arity_of row → length vars < 4 → All (λ v. IsIn v own) vars → has_slot infos now.known after row vars ≡ true
       → IsIn (record { row = row; leaders = vars; state = after row vars }) (freed_by_all infos now.known after own slots lost)
   unfolding freed_slots
@@ -138,14 +138,14 @@ module _ (g : Grammar) (infos : List VarInfo) (after : Answer) (now : Now) where
       let s : Slot = record { row = row; leaders = vars; state = after row vars } in
       let old = slot_in slots k in
       in_flat (λ n. freed_slots infos now.known after own (slot_in slots n).row (slot_in slots n).leaders) s k lost
-      (in_flat (λ r. with_both infos now.known after r old.leaders own) s row (reached old.row) (in_with_both infos now.known after row old.leaders own vars some among long (omega (arith, few)) led has)
-      (is_in row (reached old.row) reaches.0 reaches.1 reaches.2)) i
+      (in_flat (λ r. with_both infos now.known after r old.leaders own) s row (rows_reached old.row) (in_with_both infos now.known after row old.leaders own vars some among long (omega (arith, few)) led has)
+      (is_in row (rows_reached old.row) reaches.0 reaches.1 reaches.2)) i
 
   opened_in : (slots : List Slot) (lost : List ℕ) (s : Slot)
-      → IsIn s (touched_slots g infos now.known after (touching now) (others now) own) ⊎ IsIn s (freed_by_all infos now.known after own slots lost) → IsIn s (opened_slots g infos after slots now lost)
+      → IsIn s (touched_slots g infos now.known after (touching_leaders now) (other_leaders now) own) ⊎ IsIn s (freed_by_all infos now.known after own slots lost) → IsIn s (opened_slots g infos after slots now lost)
   unfolding opened_slots
   opened_in slots lost s from =
-      let t = touched_slots g infos now.known after (touching now) (others now) own in
+      let t = touched_slots g infos now.known after (touching_leaders now) (other_leaders now) own in
       let f = freed_by_all infos now.known after own slots lost in
       elim from as (λ _. IsIn s (t ++ f)) [ inl a ↦ IsIn-append_left s t f a | inr b ↦ IsIn-append_right s t f b ]
 
@@ -262,7 +262,7 @@ module _ (g : Grammar) (infos : List VarInfo) (point : AreOfPoint infos) (sample
     lost = lost_places kept.slots changes
 
     abbrev left : List Slot
-    left = left_of (outcome true after_sample sample) kept.slots
+    left = slots_left (outcome true after_sample sample) kept.slots
 
     abbrev opened_now : List Slot
     opened_now = opened_slots g infos after_sample kept.slots now lost
@@ -312,7 +312,7 @@ module _ (g : Grammar) (infos : List VarInfo) (point : AreOfPoint infos) (sample
               let at = freeing_is_lost slot.row vars freed.0 by in
               let some : 0 < length freed.0.leaders = has_vars freed.0.row infos freed.0.leaders ((step.before.slots.each freed.0).0 by.kept).over.admitted in
               inr (freed_in g infos after_sample now kept.slots lost at.0 at.1 (subst (λ (s : Slot). 0 < length s.leaders) (sym at.2) some) slot.row vars
-              (subst (λ (s : Slot). Contains (reached s.row) slot.row) (sym at.2) (reached_listed freed.0.row slot.row by.reaches)) (subst (λ (s : Slot). All (Contains vars) s.leaders) (sym at.2) by.among) long few led there)
+              (subst (λ (s : Slot). Contains (rows_reached s.row) slot.row) (sym at.2) (reached_listed freed.0.row slot.row by.reaches)) (subst (λ (s : Slot). All (Contains vars) s.leaders) (sym at.2) by.among) long few led there)
         ]) in
         contained slot opened_now (subst (λ s. IsIn s opened_now) same here)
 

@@ -4,13 +4,13 @@ use Rattle.std.proofs.Common.{arith, get_or, inl, inr, subst}
 use Rattle.std.proofs.lemmas.Bool.{cases_lt}
 use Rattle.dk_engine.proofs.SlotPlaces.{before_true, earlier, true_before}
 use Rattle.dk_engine.specs.Exact.{SlotBefore}
-use Rattle.dk_engine.specs.Ordering.{is_before}
+use Rattle.dk_engine.specs.Ordering.{is_slot_before}
 use Rattle.dk_engine.specs.declared.slot.Slot.{Slot}
 
-pub test_before : (a b : Slot) → is_before b.row b.leaders a ≡ true → SlotBefore a b
+pub test_before : (a b : Slot) → is_slot_before b.row b.leaders a ≡ true → SlotBefore a b
 test_before a b h = true_before b.row b.leaders a h
 
-pub before_test : (a b : Slot) → SlotBefore a b → is_before b.row b.leaders a ≡ true
+pub before_test : (a b : Slot) → SlotBefore a b → is_slot_before b.row b.leaders a ≡ true
 before_test a b h = before_true b.row b.leaders a h
 
 before_both : (a b c : Slot) → SlotBefore a b → SlotBefore b c → SlotBefore a c

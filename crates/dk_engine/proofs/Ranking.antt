@@ -12,13 +12,13 @@ use Rattle.dk_template.specs.Templates.{rank_of, rows}
 use Rattle.dk_template.specs.declared.grammar.Grammar.{Grammar}
 use Rattle.dk_template.specs.declared.grammar.RowId.{RowId}
 use Rattle.dk_engine.proofs.PremiseSlots.{passes, rank_below}
-use Rattle.dk_engine.specs.Reading.{ranks}
+use Rattle.dk_engine.specs.Reading.{rank_bound}
 use Rattle.dk_engine.specs.Step.{Answer, IsFreed, slot_vars}
 use Rattle.dk_engine.specs.declared.now.Now.{Now}
 use Rattle.dk_engine.specs.StepLaws.{FreedByRank, FreedTuplesComeByRank}
 use Rattle.dk_engine.specs.declared.slot.Slot.{Slot}
 
-few_ranks : AllPremises (λ r p. nat_lt (rank_of r.0) ranks)
+few_ranks : AllPremises (λ r p. nat_lt (rank_of r.0) rank_bound)
 unfolding rules rows
 few_ranks = refl
 
@@ -63,8 +63,8 @@ module _ (grammar : Grammar) (infos : List VarInfo) (before after : Answer) (slo
         ];
     all = λ candidates lower row vars freed.
         let of = freed.of_row in
-        let few = ltb-true (rank_of of.rule.0) ranks (passes (λ r p. nat_lt (rank_of r.0) ranks) few_ranks row freed.premise of) in
-        lower row vars (subst (λ (r : RowId). rank_of r < ranks) of.concludes few) freed;
+        let few = ltb-true (rank_of of.rule.0) rank_bound (passes (λ r p. nat_lt (rank_of r.0) rank_bound) few_ranks row freed.premise of) in
+        lower row vars (subst (λ (r : RowId). rank_of r < rank_bound) of.concludes few) freed;
   }
 
 pub freed_by_rank : FreedTuplesComeByRank

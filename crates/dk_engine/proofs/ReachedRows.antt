@@ -15,7 +15,7 @@ use Rattle.dk_template.specs.declared.grammar.Grammar.{Grammar}
 use Rattle.dk_template.specs.declared.grammar.Grammar.TheVariants as grammar
 use Rattle.dk_template.specs.declared.grammar.RowId.{RowId}
 use Rattle.dk_engine.proofs.PremiseSlots.{passes}
-use Rattle.dk_engine.specs.Reached.{has_row, reached, reached_by_number, reached_from}
+use Rattle.dk_engine.specs.Reached.{has_row, reached_by_number, reached_from, rows_reached}
 use Rattle.dk_engine.specs.Step.{IsPremiseOf}
 
 -- ---- tests of a table
@@ -64,8 +64,8 @@ all_low = refl
 
 -- ---- what is read of it
 -- a test that all lists of the table pass
-read_passes : (test : List RowId → Bool) → test [] ≡ true → list_all test reached_by_number ≡ true → (row : RowId) → test (reached row) ≡ true
-unfolding reached
+read_passes : (test : List RowId → Bool) → test [] ≡ true → list_all test reached_by_number ≡ true → (row : RowId) → test (rows_reached row) ≡ true
+unfolding rows_reached
 read_passes test empty all row = elim (cases_lt row.0 (length reached_by_number)) [
   | inl l ↦
       let there = Contains-get_or reached_by_number row.0 [] l in
@@ -73,8 +73,8 @@ read_passes test empty all row = elim (cases_lt row.0 (length reached_by_number)
   | inr past ↦ ap test (get_or_past reached_by_number row.0 [] past) ∙ empty
 ]
 
-pub reached_directly : (row : RowId) (p : Premise) → IsPremiseOf row p → has_row (reached (row_of p)) row ≡ true
-unfolding reached
+pub reached_directly : (row : RowId) (p : Premise) → IsPremiseOf row p → has_row (rows_reached (row_of p)) row ≡ true
+unfolding rows_reached
 reached_directly row p of = subst (λ (r : RowId). has_row (at reached_by_number (row_of p).0) r ≡ true) of.concludes (passes (λ r q. has_row (at reached_by_number (row_of q).0) r.0) conclusions_there row p of)
 
 -- a row that is there is one of the list
@@ -84,26 +84,26 @@ listed rows row h =
     let same : found.1 ≡ row = ap (λ (n : ℕ). record { 0 = n }) (eqb-true found.1.0 row.0 found.4) in
     subst (Contains rows) same (found.0, found.2, found.3)
 
-pub reached_listed : (row other : RowId) → has_row (reached row) other ≡ true → Contains (reached row) other
-reached_listed row other h = listed (reached row) other h
+pub reached_listed : (row other : RowId) → has_row (rows_reached row) other ≡ true → Contains (rows_reached row) other
+reached_listed row other h = listed (rows_reached row) other h
 
-closed_at : (row : RowId) → is_closed reached_by_number (reached row) ≡ true
+closed_at : (row : RowId) → is_closed reached_by_number (rows_reached row) ≡ true
 closed_at row = read_passes (is_closed reached_by_number) refl all_closed row
 
-pub reached_further : (p q r : RowId) → has_row (reached p) q ≡ true → has_row (reached q) r ≡ true → has_row (reached p) r ≡ true
-unfolding reached
+pub reached_further : (p q r : RowId) → has_row (rows_reached p) q ≡ true → has_row (rows_reached q) r ≡ true → has_row (rows_reached p) r ≡ true
+unfolding rows_reached
 reached_further p q r there further =
-    let here = listed (reached p) q there in
-    let each = All-contains (λ (s : RowId). list_all (has_row (reached p)) (at reached_by_number s.0) ≡ true) (reached p) q (AllPass-from_list_all (λ (s : RowId). list_all (has_row (reached p)) (at reached_by_number s.0)) (reached p) (closed_at p)) here in
-    let behind = listed (reached q) r further in
-    All-contains (λ s. has_row (reached p) s ≡ true) (reached q) r (AllPass-from_list_all (has_row (reached p)) (reached q) each) behind
+    let here = listed (rows_reached p) q there in
+    let each = All-contains (λ (s : RowId). list_all (has_row (rows_reached p)) (at reached_by_number s.0) ≡ true) (rows_reached p) q (AllPass-from_list_all (λ (s : RowId). list_all (has_row (rows_reached p)) (at reached_by_number s.0)) (rows_reached p) (closed_at p)) here in
+    let behind = listed (rows_reached q) r further in
+    All-contains (λ s. has_row (rows_reached p) s ≡ true) (rows_reached q) r (AllPass-from_list_all (has_row (rows_reached p)) (rows_reached q) each) behind
 
 -- all of them are rows of either grammar
-pub reached_rows : (g : Grammar) (row : RowId) → All (IsRowOf g) (reached row)
+pub reached_rows : (g : Grammar) (row : RowId) → All (IsRowOf g) (rows_reached row)
 reached_rows g row k d l =
-    let low = AllPass-from_list_all is_row (reached row) (read_passes (list_all is_row) refl all_rows row) k d l in
-    let high = AllPass-from_list_all is_low (reached row) (read_passes (list_all is_low) refl all_low row) k d l in
-    let r : RowId = get_or (reached row) k d in
+    let low = AllPass-from_list_all is_row (rows_reached row) (read_passes (list_all is_row) refl all_rows row) k d l in
+    let high = AllPass-from_list_all is_low (rows_reached row) (read_passes (list_all is_low) refl all_low row) k d l in
+    let r : RowId = get_or (rows_reached row) k d in
     of_either g r (leb-true 1 r.0 low) (leb-true r.0 66 high)
   where
     of_either : (h : Grammar) (r : RowId) → 1 ≤ r.0 → r.0 ≤ 66 → IsRowOf h r
@@ -112,11 +112,11 @@ reached_rows g row k d l =
 
 -- ---- the code's table
 module _ (items : List (Bor (List RowId))) (known : map (λ r. r.now) items ≡ reached_by_number) (row : RowId) where
-  pub reached_found : (found : Bor (List RowId)) → row.0 < length items → found ≡ slice_index_or items row.0 found → found.now ≡ reached row
-  unfolding reached
+  pub reached_found : (found : Bor (List RowId)) → row.0 < length items → found ≡ slice_index_or items row.0 found → found.now ≡ rows_reached row
+  unfolding rows_reached
   reached_found found within is =
       ap (λ (r : Bor (List RowId)). r.now) is ∙ (sym (get_or-map (λ (r : Bor (List RowId)). r.now) items row.0 found [] within) ∙ ap (λ l. slice_index_or l row.0 []) known)
 
-  pub reached_past : length items ≤ row.0 → reached row ≡ []
-  unfolding reached
+  pub reached_past : length items ≤ row.0 → rows_reached row ≡ []
+  unfolding rows_reached
   reached_past past = get_or_past reached_by_number row.0 [] (subst (λ n. n ≤ row.0) (sym (length-map items (λ (r : Bor (List RowId)). r.now)) ∙ ap length known) past)

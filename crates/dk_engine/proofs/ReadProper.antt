@@ -29,7 +29,7 @@ use Rattle.dk_engine.specs.Conditions.{CanBeRead}
 use Rattle.dk_engine.specs.Exact.{AreOfPoint}
 use Rattle.dk_engine.specs.Feeding.{read_after, with_sample}
 use Rattle.dk_engine.specs.Parts.{leaders_of}
-use Rattle.dk_engine.specs.Reading.{read, read_leaders, read_written}
+use Rattle.dk_engine.specs.Reading.{read_leaders, read_written, state_read}
 use Rattle.dk_engine.specs.declared.kept.Kept.{Kept}
 
 module _ (infos : List VarInfo) (sample : List Value) (sampled : IsSample infos sample) where
@@ -50,8 +50,8 @@ module _ (g : Grammar) (infos : List VarInfo) (point : AreOfPoint infos) (kept :
       proper_disarranged (form_of row) (template_of row).symmetry vars (read_written kept (read_leaders n kept) row (written row vars))
       (read_written_proper g infos kept can (read_leaders n kept) row (written row vars) of (written_tuples_are_admitted row (row_is g row of) infos vars a))
 
-  pub read_proper : (row : RowId) → IsRowOf g row → (vars : List VarId) → admits row infos vars ≡ true → IsProper (form_of row) (read kept row vars)
-  unfolding read
+  pub read_proper : (row : RowId) → IsRowOf g row → (vars : List VarId) → admits row infos vars ≡ true → IsProper (form_of row) (state_read kept row vars)
+  unfolding state_read
   read_proper row of vars a = elim (kept.samples == 0) as (λ b. IsProper (form_of row) (cond b state.Empty (read_leaders 4 kept row (leaders_of kept.leaders vars)))) [
     | true ↦ (proper_laws (form_of row)).empty_proper
     | false ↦ read_leaders_proper 4 row of (leaders_of kept.leaders vars) (admit_all infos point kept.leaders can.leaders row vars a)
@@ -59,4 +59,4 @@ module _ (g : Grammar) (infos : List VarInfo) (point : AreOfPoint infos) (kept :
 
   pub read_after_proper : (sample : List Value) → IsSample infos sample → (row : RowId) → IsRowOf g row → (vars : List VarId) → admits row infos vars ≡ true → IsProper (form_of row) (read_after kept sample row vars)
   unfolding read_after
-  read_after_proper sample sampled row of vars a = with_sample_proper infos sample sampled row (row_is g row of) vars a (read kept row vars) (read_proper row of vars a)
+  read_after_proper sample sampled row of vars a = with_sample_proper infos sample sampled row (row_is g row of) vars a (state_read kept row vars) (read_proper row of vars a)

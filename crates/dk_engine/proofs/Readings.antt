@@ -45,7 +45,7 @@ use Rattle.dk_engine.specs.Exact.{AreOfPoint, AreSamples, IsKeptOf, IsOverLeader
 use Rattle.dk_engine.specs.Feeding.{is_broken}
 use Rattle.dk_engine.specs.Laws.{AgreeReadIsAgreement, CountReadIsCount, ReadingIsFit}
 use Rattle.dk_engine.specs.Parts.{all_known, known_tuple, leaders_of, slot_at}
-use Rattle.dk_engine.specs.Reading.{agree_read, count_read, read, read_leaders, read_slot, read_written, state_of_one}
+use Rattle.dk_engine.specs.Reading.{agree_read, count_read, read_leaders, read_slot, read_written, state_of_one, state_read}
 use Rattle.dk_engine.specs.declared.kept.Kept.{Kept}
 
 -- ---- states
@@ -145,8 +145,8 @@ module _ (g : Grammar) (infos : List VarInfo) (point : AreOfPoint infos) (sample
         ∙ sym (fits_turn row isrow vars (admitted_arity row infos vars over.admitted) samples)
 
   -- ---- any variables
-  pub read_fits : (row : RowId) → IsRowOf g row → (vars : List VarId) → admits row infos vars ≡ true → read kept row vars ≡ fit row vars samples
-  unfolding read
+  pub read_fits : (row : RowId) → IsRowOf g row → (vars : List VarId) → admits row infos vars ≡ true → state_read kept row vars ≡ fit row vars samples
+  unfolding state_read
   read_fits row of vars admitted = elim (cases_Bool (kept.samples == 0)) [
     | inl e ↦
         let none : length samples ≡ 0 = (let number = is.number in let zero = eqb-true kept.samples 0 e in omega arith) in

@@ -17,7 +17,7 @@ use Rattle.dk_template.specs.Templates.{form_of, role_kinds}
 use Rattle.dk_template.specs.declared.grammar.Grammar.{Grammar}
 use Rattle.dk_template.specs.declared.grammar.RowId.{RowId}
 use Rattle.dk_engine.specs.Feeding.{is_broken, with_sample}
-use Rattle.dk_engine.specs.Narrow.{Stays, closes, is_in_run, no_slot, outcome, slot_in}
+use Rattle.dk_engine.specs.Narrow.{StateStays, closes, is_in_run, no_slot, outcome, slot_in}
 use Rattle.dk_engine.specs.Step.{Answer, IsPlaced, can_close}
 use Rattle.dk_engine.specs.declared.slot.Slot.{Slot}
 
@@ -67,7 +67,7 @@ module _ (asked : Bool) (row : RowId) (slot : Slot) (is : is_in_run asked row sl
   pub outcome_of_run : (after : Answer) (sample : List Value) → outcome asked after sample slot ≡ with_sample slot.row slot.leaders sample slot.state
   outcome_of_run after sample = ap (λ b. cond b Broken (with_sample slot.row slot.leaders sample slot.state)) (stays_open after)
 
-  pub stays_of_still : (after : Answer) (sample : List Value) → IsStill row sample slot → Stays (outcome asked after sample) slot
+  pub stays_of_still : (after : Answer) (sample : List Value) → IsStill row sample slot → StateStays (outcome asked after sample) slot
   stays_of_still after sample still = (
     outcome_of_run after sample ∙ (ap (λ r. with_sample r slot.leaders sample slot.state) of_row ∙ still),
     unbroken,

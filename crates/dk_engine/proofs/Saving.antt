@@ -29,7 +29,7 @@ use Rattle.dk_engine.proofs.PartsOfSamples.{kept_parts_meet}
 use Rattle.dk_engine.specs.Exact.{ArePatterns, IsKeptOf}
 use Rattle.dk_engine.specs.Laws.{KeptPartsAreSaved}
 use Rattle.dk_engine.specs.Parts.{all_known, known_tuple, slot_at}
-use Rattle.dk_engine.specs.Reading.{ranks, read_leaders, read_slot, state_of_one}
+use Rattle.dk_engine.specs.Reading.{rank_bound, read_leaders, read_slot, state_of_one}
 use Rattle.dk_engine.specs.Restored.{AreOpen, AreShaped, AreUnsuppressed, HaveParts, IsConstant, IsRearranged}
 use Rattle.dk_engine.specs.Saved.{parts_of}
 use Rattle.dk_engine.specs.declared.kept.Kept.{Kept}
@@ -149,7 +149,7 @@ module _ (kept : Kept) (held : List Held) (moved : IsPermutation kept.held held)
           unbroken = of.unbroken;
           absent = λ e. of.absent (sym counted ∙ e);
           present = λ plain empty. counted ∙ of.present plain empty;
-          unsuppressed = ap (λ answered. is_suppressed answered slot.row slot.leaders) (read_moved ranks) ∙ of.unsuppressed;
+          unsuppressed = ap (λ answered. is_suppressed answered slot.row slot.leaders) (read_moved rank_bound) ∙ of.unsuppressed;
         };
     none = are.none;
   }

@@ -27,10 +27,10 @@ use Rattle.dk_engine.proofs.PremiseSlots.{row_of_grammar}
 use Rattle.dk_engine.proofs.SlotLookups.{slot_cases}
 use Rattle.dk_engine.proofs.Standing.{none_passes}
 use Rattle.dk_engine.specs.Exact.{AreOfPoint, AreSamples, IsKeptOf}
-use Rattle.dk_engine.specs.Feeding.{IsTurned, parts_after, read_after, unturned, with_sample}
-use Rattle.dk_engine.specs.Narrow.{AreChanges, AreLeft, AreMerged, AreOpened, IsChange, closes, IsShut, left_of, loses_by, may_begin, outcome, slot_in, no_slot}
-use Rattle.dk_engine.specs.Reading.{read}
-use Rattle.dk_engine.specs.Step.{Answer, AreCandidates, IsBegunBound, IsPlaced, IsPremiseOf, IsStep, Tells, can_close, is_empty, is_of_elements, is_touched, slot_vars}
+use Rattle.dk_engine.specs.Feeding.{IsTurned, parts_after, read_after, unchanged_now, with_sample}
+use Rattle.dk_engine.specs.Narrow.{AreChanges, AreLeft, AreMerged, AreOpened, IsChange, closes, IsShut, slots_left, loses_by, may_begin, outcome, slot_in, no_slot}
+use Rattle.dk_engine.specs.Reading.{state_read}
+use Rattle.dk_engine.specs.Step.{Answer, AreCandidates, IsBegunBound, IsPlaced, IsPremiseOf, IsStep, Tells, can_close, is_empty_state, is_of_elements, is_touched, slot_vars}
 use Rattle.dk_engine.specs.declared.changes.Change.{Change}
 use Rattle.dk_engine.specs.declared.kept.Kept.{Kept}
 use Rattle.dk_engine.specs.declared.slot.Slot.{Slot}
@@ -79,22 +79,22 @@ module _ (made : Slot → State) (slots : List Slot) (changes : List Change) (ar
   bounds_stand none bound has elements was = elim (slot_changes bound has) [
     | inl e ↦ e ∙ was
     | inr f ↦
-        let begins : (is_empty bound.state && is_of_elements bound.row) ≡ false =
-        subst (λ s. (is_empty s.state && is_of_elements s.row) ≡ false) f.2 (All-contains (λ d. may_begin slots d ≡ false) changes f.0 (none_passes (may_begin slots) changes none) f.1) in
-        absurd (true≢false (sym elements ∙ (ap (λ s. is_empty s && is_of_elements bound.row) (sym was) ∙ begins)))
+        let begins : (is_empty_state bound.state && is_of_elements bound.row) ≡ false =
+        subst (λ s. (is_empty_state s.state && is_of_elements s.row) ≡ false) f.2 (All-contains (λ d. may_begin slots d ≡ false) changes f.0 (none_passes (may_begin slots) changes none) f.1) in
+        absurd (true≢false (sym elements ∙ (ap (λ s. is_empty_state s && is_of_elements bound.row) (sym was) ∙ begins)))
   ]
 
 -- ---- no tuple is touched, and none is freed
-none_touched : (kept : Kept) (vars : List VarId) → is_touched (unturned kept) vars ≡ false
+none_touched : (kept : Kept) (vars : List VarId) → is_touched (unchanged_now kept) vars ≡ false
 none_touched kept [] = refl
 none_touched kept (v ∷ vars) = none_touched kept vars
 
-module _ (g : Grammar) (infos : List VarInfo) (point : AreOfPoint infos) (samples : List (List Value)) (sample : List Value) (kept : Kept) (step : IsStep g infos samples sample kept (unturned kept)) where
+module _ (g : Grammar) (infos : List VarInfo) (point : AreOfPoint infos) (samples : List (List Value)) (sample : List Value) (kept : Kept) (step : IsStep g infos samples sample kept (unchanged_now kept)) where
   abbrev more : List (List Value)
   more = samples ++ sample ∷ []
 
   abbrev before : Answer
-  before = read kept
+  before = state_read kept
 
   abbrev after : Answer
   after = read_after kept sample
@@ -103,10 +103,10 @@ module _ (g : Grammar) (infos : List VarInfo) (point : AreOfPoint infos) (sample
   state_with slot = with_sample slot.row slot.leaders sample slot.state
 
   tells_before : Tells g infos samples before
-  tells_before = (reading_tells g infos samples sample kept (unturned kept) step point).0
+  tells_before = (reading_tells g infos samples sample kept (unchanged_now kept) step point).0
 
   tells_after : Tells g infos more after
-  tells_after = (reading_tells g infos samples sample kept (unturned kept) step point).1
+  tells_after = (reading_tells g infos samples sample kept (unchanged_now kept) step point).1
 
   -- what answers before and after say of a kept slot
   pub slot_says : (slot : Slot) → Contains kept.slots slot → (before slot.row slot.leaders ≡ slot.state) × (after slot.row slot.leaders ≡ state_with slot)
@@ -121,7 +121,7 @@ module _ (g : Grammar) (infos : List VarInfo) (point : AreOfPoint infos) (sample
       state_with_state slot s = with_sample slot.row slot.leaders sample s
 
   module _ (asked : Bool) (changes : List Change) (are : AreChanges (outcome asked after sample) kept.slots changes) (none : list_any (loses_by kept.slots) changes ≡ false) where
-    nothing_freed : AreCandidates g infos before after kept.slots (unturned kept) []
+    nothing_freed : AreCandidates g infos before after kept.slots (unchanged_now kept) []
     nothing_freed = record {
       placed = All-nil (λ (c : RowId × List VarId). IsPlaced g infos kept.leaders c.0 c.1);
       touched = λ row vars placed touched unbroken. absurd (true≢false (sym touched ∙ none_touched kept vars));
@@ -154,7 +154,7 @@ module _ (g : Grammar) (infos : List VarInfo) (point : AreOfPoint infos) (sample
     nothing_closes : asked ≡ false → IsShut sample kept changes → (old : Slot) → Contains kept.slots old → can_close old ≡ true → is_suppressed after old.row old.leaders ≡ false
     nothing_closes not_asked shut old has can = elim (cases_Bool (is_suppressed after old.row old.leaders)) [
       | inr e ↦ e
-      | inl e ↦ elim (few_slots_close g infos samples sample kept (unturned kept) step after tells_after kept.held step.before.held old has e) [
+      | inl e ↦ elim (few_slots_close g infos samples sample kept (unchanged_now kept) step after tells_after kept.held step.before.held old has e) [
         | inl empty ↦ let seen = shut.seen in let new = empty.1 in absurd (omega (arith, seen, new))
         | inr begun ↦
             let bound = begun.0 in
@@ -180,14 +180,14 @@ module _ (g : Grammar) (infos : List VarInfo) (point : AreOfPoint infos) (sample
     }
 
 pub settled_parts_exact : (g : Grammar) (infos : List VarInfo) → AreOfPoint infos → (samples : List (List Value)) → AreSamples infos samples → (kept : Kept) → IsKeptOf g infos samples kept
-    → (sample : List Value) → IsSample infos sample → 0 < kept.samples → IsTurned kept sample (unturned kept)
+    → (sample : List Value) → IsSample infos sample → 0 < kept.samples → IsTurned kept sample (unchanged_now kept)
     → (asked : Bool) (changes : List Change) → AreChanges (outcome asked (read_after kept sample) sample) kept.slots changes → (asked ≡ false → IsShut sample kept changes)
     → list_any (loses_by kept.slots) changes ≡ false
-    → IsKeptOf g infos (samples ++ sample ∷ []) (parts_after kept.samples kept.held sample (unturned kept) (left_of (outcome asked (read_after kept sample) sample) kept.slots))
+    → IsKeptOf g infos (samples ++ sample ∷ []) (parts_after kept.samples kept.held sample (unchanged_now kept) (slots_left (outcome asked (read_after kept sample) sample) kept.slots))
 settled_parts_exact g infos point samples sampled kept is sample of some turned asked changes are shut none =
-    let now = unturned kept in
+    let now = unchanged_now kept in
     let step = is_step g infos point samples sampled kept is sample now turned of (let number = is.number in omega (arith, number, some)) in
-    let left = left_of (outcome asked (read_after kept sample) sample) kept.slots in
+    let left = slots_left (outcome asked (read_after kept sample) sample) kept.slots in
     let are_left = left_are_left asked (read_after kept sample) sample kept.slots is.slots.ascend (λ e. nothing_closes g infos point samples sample kept step asked changes are none e (shut e)) in
     stepped_parts_exact g infos point samples sampled kept is sample of some now turned [] (nothing_freed g infos point samples sample kept step asked changes are none) left
     (merged_are_stepped (read_after kept sample) sample kept.slots kept.known [] left [] left are_left

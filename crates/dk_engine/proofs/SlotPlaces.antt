@@ -11,7 +11,7 @@ use Rattle.dk_presence.proofs.Sameness.{same_vars-true}
 use Rattle.dk_presence.specs.Patterns.{same_vars}
 use Rattle.dk_template.specs.declared.grammar.RowId.{RowId}
 use Rattle.dk_engine.specs.Exact.{SlotBefore}
-use Rattle.dk_engine.specs.Ordering.{is_before, precedes}
+use Rattle.dk_engine.specs.Ordering.{is_slot_before, precedes}
 use Rattle.dk_engine.specs.Parts.{is_slot_of, slot_at}
 use Rattle.dk_engine.specs.declared.slot.Slot.{Slot}
 
@@ -62,13 +62,13 @@ precedes_not_itself (v ∷ vs) h = elim h as (λ _. ⊥) [ inl l ↦ omega (arit
 
 -- ---- slots
 module _ (row : RowId) (vars : List VarId) where
-  pub before_true : (slot : Slot) → SlotBefore slot (record { row = row; leaders = vars; state = slot.state }) → is_before row vars slot ≡ true
-  before_true slot h = elim h as (λ _. is_before row vars slot ≡ true) [
+  pub before_true : (slot : Slot) → SlotBefore slot (record { row = row; leaders = vars; state = slot.state }) → is_slot_before row vars slot ≡ true
+  before_true slot h = elim h as (λ _. is_slot_before row vars slot ≡ true) [
     | inl l ↦ or_left (nat_lt slot.row.0 row.0) (slot.row.0 == row.0 && precedes slot.leaders vars) (lt-ltb slot.row.0 row.0 l)
     | inr r ↦ or_right (nat_lt slot.row.0 row.0) (slot.row.0 == row.0 && precedes slot.leaders vars) (both (slot.row.0 == row.0) (precedes slot.leaders vars) (eq-eqb slot.row.0 row.0 (ap (λ (q : RowId). q.0) r.0)) (precedes_true slot.leaders vars r.1))
   ]
 
-  pub true_before : (slot : Slot) → is_before row vars slot ≡ true → SlotBefore slot (record { row = row; leaders = vars; state = slot.state })
+  pub true_before : (slot : Slot) → is_slot_before row vars slot ≡ true → SlotBefore slot (record { row = row; leaders = vars; state = slot.state })
   true_before slot h = elim (cases_Bool (nat_lt slot.row.0 row.0)) as (λ _. SlotBefore slot (record { row = row; leaders = vars; state = slot.state })) [
     | inl l ↦ inl (ltb-true slot.row.0 row.0 l)
     | inr n ↦
@@ -77,7 +77,7 @@ module _ (row : RowId) (vars : List VarId) where
   ]
 
   -- what stands in front of a slot that comes before the row and variables comes before them too
-  pub earlier : (a b : Slot) → SlotBefore a b → is_before row vars b ≡ true → is_before row vars a ≡ true
+  pub earlier : (a b : Slot) → SlotBefore a b → is_slot_before row vars b ≡ true → is_slot_before row vars a ≡ true
   earlier a b ab h = before_true a (elim ab as (λ _. SlotBefore a (record { row = row; leaders = vars; state = a.state })) [
     | inl l ↦ elim (true_before b h) as (λ _. SlotBefore a (record { row = row; leaders = vars; state = a.state })) [
       | inl m ↦ inl (omega (arith, l, m))
@@ -90,8 +90,8 @@ module _ (row : RowId) (vars : List VarId) where
   ])
 
   -- the slot itself doesn't
-  not_before : (slot : Slot) → is_slot_of row vars slot ≡ true → is_before row vars slot ≡ false
-  not_before slot is = false_from_ne_true (is_before row vars slot) (λ h.
+  not_before : (slot : Slot) → is_slot_of row vars slot ≡ true → is_slot_before row vars slot ≡ false
+  not_before slot is = false_from_ne_true (is_slot_before row vars slot) (λ h.
       let same = and_parts (slot.row.0 == row.0) (same_vars slot.leaders vars) is in
       let rows = eqb-true slot.row.0 row.0 same.0 in
       elim (true_before slot h) as (λ _. ⊥) [
@@ -100,7 +100,7 @@ module _ (row : RowId) (vars : List VarId) where
       ])
 
   -- what stands in front of it does
-  in_front : (a b : Slot) → SlotBefore a b → is_slot_of row vars b ≡ true → is_before row vars a ≡ true
+  in_front : (a b : Slot) → SlotBefore a b → is_slot_of row vars b ≡ true → is_slot_before row vars a ≡ true
   in_front a b ab is =
       let same = and_parts (b.row.0 == row.0) (same_vars b.leaders vars) is in
       let rows : b.row ≡ row = ap (λ (k : ℕ). record { 0 = k }) (eqb-true b.row.0 row.0 same.0) in
@@ -110,10 +110,10 @@ module _ (row : RowId) (vars : List VarId) where
         | inr r ↦ inr (r.0 ∙ rows, subst (Precedes a.leaders) leaders r.1)
       ])
 
-  pub parted : (slots : List Slot) → AllPairs SlotBefore slots → IsPartitionedBy (is_before row vars) slots
+  pub parted : (slots : List Slot) → AllPairs SlotBefore slots → IsPartitionedBy (is_slot_before row vars) slots
   parted slots up i j d l m h = elim (cases_lt i j) [
     | inl lt ↦ earlier (get_or slots i d) (get_or slots j d) (up i j d lt m) h
-    | inr ge ↦ let same : j ≡ i = omega (arith, l, ge) in subst (λ k. is_before row vars (get_or slots k d) ≡ true) same h
+    | inr ge ↦ let same : j ≡ i = omega (arith, l, ge) in subst (λ k. is_slot_before row vars (get_or slots k d) ≡ true) same h
   ]
 
   -- ---- the place of the slot
@@ -130,7 +130,7 @@ module _ (row : RowId) (vars : List VarId) where
       let Other : Slot → Type 0 = λ s. is_slot_of row vars s ≡ false in
       ap (λ b. if b then Some a.state else slot_at slots row vars) (All-head Other a slots none) ∙ missing_all slots (All-tail Other a slots none)
 
-  module _ (slots : List Slot) (up : AllPairs SlotBefore slots) (place : ℕ) (at : IsPartitionPoint (λ s. is_before row vars s ≡ true) (λ s. is_before row vars s ≡ false) slots place) where
+  module _ (slots : List Slot) (up : AllPairs SlotBefore slots) (place : ℕ) (at : IsPartitionPoint (λ s. is_slot_before row vars s ≡ true) (λ s. is_slot_before row vars s ≡ false) slots place) where
     in_front_not : (k : ℕ) (d : Slot) → k < place → is_slot_of row vars (get_or slots k d) ≡ false
     in_front_not k d l = false_from_ne_true (is_slot_of row vars (get_or slots k d)) (λ is. true≢false (sym (at.0 k d (omega arith) l) ∙ not_before (get_or slots k d) is))
 

@@ -29,7 +29,7 @@ use Rattle.dk_engine.specs.Exact.{IsOverLeaders, IsSlot}
 use Rattle.dk_engine.specs.Feeding.{with_sample}
 use Rattle.dk_engine.specs.Parts.{all_known, slot_at}
 use Rattle.dk_engine.specs.declared.kept.Kept.{Kept}
-use Rattle.dk_engine.specs.Step.{Answer, AreCandidates, IsLeftOf, IsStep, IsOpened, IsPlaced, IsSteppedSlot, Tells, asks_elements, can_close, is_empty, is_touched, slot_vars}
+use Rattle.dk_engine.specs.Step.{Answer, AreCandidates, IsLeftOf, IsStep, IsOpened, IsPlaced, IsSteppedSlot, Tells, asks_elements, can_close, is_empty_state, is_touched, slot_vars}
 use Rattle.dk_engine.specs.declared.now.Now.{Now}
 use Rattle.dk_engine.specs.StepLaws.{SteppedSlotsAreExact}
 use Rattle.dk_engine.specs.declared.slot.Slot.{Slot}
@@ -74,14 +74,14 @@ module _ {grammar : Grammar} {infos : List VarInfo} {samples : List (List Value)
   -- no rule begins to suppress a slot that can't close
   pub stays_open : (slot : Slot) → IsSlot grammar infos samples kept.leaders kept.known slot → can_close slot ≡ false → is_suppressed (fit_of more) slot.row slot.leaders ≡ false
   stays_open slot had shut =
-      let parts = or_parts (is_empty slot.state) (list_any (λ (r : Rule). r.0.0 == slot.row.0 && asks_elements r) rules) shut in
+      let parts = or_parts (is_empty_state slot.state) (list_any (λ (r : Rule). r.0.0 == slot.row.0 && asks_elements r) rules) shut in
       false_from_ne_true (is_suppressed (fit_of more) slot.row slot.leaders) (λ closed.
       let begun = begun_premise_suppresses samples sample slot.row slot.leaders had.unsuppressed closed in
       let p = begun.0 in
       let can = usable grammar infos slot.leaders slot.row had.over.admitted p begun.1 in
       let empty = empty_alone_begins slot.row (row_of_grammar grammar slot.row had.over.of_grammar) slot.leaders p can.formed (row_of_grammar grammar (row_of p) can.row) can.roles
       (about_no_elements slot.row p begun.1 parts.1) samples sample begun.2 in
-      true≢false (sym (ap is_empty (had.state ∙ empty.1)) ∙ parts.0))
+      true≢false (sym (ap is_empty_state (had.state ∙ empty.1)) ∙ parts.0))
 
   -- ---- a tuple without a slot before
   -- that isn't constant, broken or suppressed has a slot

@@ -20,7 +20,7 @@ use Rattle.dk_template.specs.declared.grammar.Grammar.{Grammar}
 use Rattle.dk_template.specs.declared.templates.StateForm.TheVariants as form
 use Rattle.dk_engine.specs.Exact.{IsOverLeaders, SlotBefore}
 use Rattle.dk_engine.specs.Parts.{all_known}
-use Rattle.dk_engine.specs.Reading.{ranks, read_leaders}
+use Rattle.dk_engine.specs.Reading.{rank_bound, read_leaders}
 use Rattle.dk_engine.specs.Step.{IsPlaced}
 use Rattle.dk_engine.specs.declared.kept.Kept.{Kept}
 use Rattle.dk_engine.specs.declared.slot.Slot.{Slot}
@@ -77,7 +77,7 @@ pub record IsSlotOf (grammar : Grammar) (infos : List VarInfo) (kept : Kept) (sl
   pub unbroken : slot.state ≢ Broken
   pub absent : counted_by kept.held slot.leaders ≡ 0 → slot.state ≡ Empty
   pub present : form_of slot.row ≡ form.Plain → slot.state ≡ Empty → counted_by kept.held slot.leaders ≡ 0
-  pub unsuppressed : is_suppressed (read_leaders ranks kept) slot.row slot.leaders ≡ false
+  pub unsuppressed : is_suppressed (read_leaders rank_bound kept) slot.row slot.leaders ≡ false
 
 -- all parts
 pub record AreParts (grammar : Grammar) (infos : List VarInfo) (kept : Kept) : Type 0 where

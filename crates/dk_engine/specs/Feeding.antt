@@ -23,7 +23,7 @@ use Rattle.dk_template.specs.Templates.{arity_of, form_of}
 use Rattle.dk_template.specs.declared.grammar.Grammar.{Grammar}
 use Rattle.dk_template.specs.declared.grammar.RowId.{RowId}
 use Rattle.dk_engine.specs.Parts.{all_known}
-use Rattle.dk_engine.specs.Reading.{agree_read, count_read, read}
+use Rattle.dk_engine.specs.Reading.{agree_read, count_read, state_read}
 use Rattle.dk_base.specs.SameValues.{same_value}
 use Rattle.dk_engine.specs.declared.kept.Kept.{Kept}
 use Rattle.dk_engine.specs.declared.now.Now.{Now}
@@ -36,7 +36,7 @@ with_sample row vars sample s = if is_whole (tuple_in vars sample) then joined (
 
 -- The state of a row over variables with one sample more, by what was kept before it. A leader that is new is read as its old one.
 unfoldable pub read_after : Kept → List Value → RowId → List VarId → State
-read_after kept sample row vars = with_sample row vars sample (read kept row vars)
+read_after kept sample row vars = with_sample row vars sample (state_read kept row vars)
 
 -- in how many samples the variables are present, with that one
 abbrev pub count_after : Kept → List Value → List VarId → ℕ
@@ -91,5 +91,5 @@ pub record IsFed (grammar : Grammar) (infos : List VarInfo) (kept : Kept) (sampl
   pub parts : after ≡ parts_after kept.samples kept.held sample now (slots_of grammar infos (own_leaders now.leaders) now.known (read_after kept sample))
 
 -- where no class splits and no constant ends
-abbrev pub unturned : Kept → Now
-unturned kept = record { leaders = kept.leaders; known = kept.known; new = []; ended = [] }
+abbrev pub unchanged_now : Kept → Now
+unchanged_now kept = record { leaders = kept.leaders; known = kept.known; new = []; ended = [] }

@@ -23,7 +23,7 @@ use Rattle.dk_engine.specs.Conditions.{AreParts}
 use Rattle.dk_engine.specs.Exact.{AreOfPoint, AreSamples, AreSlots, IsKeptOf}
 use Rattle.dk_engine.specs.Feeding.{IsFed, read_after, slots_of}
 use Rattle.dk_engine.specs.Parts.{leaders_of}
-use Rattle.dk_engine.specs.Reading.{agree_read, count_read, read}
+use Rattle.dk_engine.specs.Reading.{agree_read, count_read, state_read}
 use Rattle.dk_engine.specs.Saved.{AreSavedParts, parts_of}
 use Rattle.dk_engine.specs.declared.kept.Kept.{Kept}
 use Rattle.dk_engine.specs.declared.now.Now.{Now}
@@ -38,7 +38,7 @@ OfKept P =
 -- the state of each row over variables that it admits, in any order and with any repeats
 abbrev pub ReadingIsFit : Type 0
 ReadingIsFit = OfKept (λ grammar infos samples kept. (row : RowId) → IsRowOf grammar row → (vars : List VarId) → IsTrue (admits row infos vars)
-    → read kept row vars ≡ fit row vars samples)
+    → state_read kept row vars ≡ fit row vars samples)
 
 -- the counts
 abbrev pub CountReadIsCount : Type 0

@@ -12,18 +12,18 @@ abbrev pub var_in : List VarId → ℕ → ℕ
 var_in vars k = (slice_index_or vars k (var 0)).0
 
 -- one more than the greatest number of a variable
-abbrev pub all_vars : ℕ
-all_vars = 4294967296
+abbrev pub var_bound : ℕ
+var_bound = 4294967296
 
 -- a number by which slots ascend: the row's, and then those of the leaders
-unfoldable pub number_of : Slot → ℕ
-number_of slot = ((slot.row.0 * all_vars + var_in slot.leaders 0) * all_vars + var_in slot.leaders 1) * all_vars + var_in slot.leaders 2
+unfoldable pub slot_number : Slot → ℕ
+slot_number slot = ((slot.row.0 * var_bound + var_in slot.leaders 0) * var_bound + var_in slot.leaders 1) * var_bound + var_in slot.leaders 2
 
 -- as many leaders as the row has roles, each with a number of 32 bits
 pub record HasNumber (slot : Slot) : Type 0 where
   pub long : length slot.leaders ≡ arity_of slot.row
   pub few : length slot.leaders ≤ 3
-  pub below : All (λ (v : VarId). v.0 < all_vars) slot.leaders
+  pub below : All (λ (v : VarId). v.0 < var_bound) slot.leaders
 
 -- The slots ascend, each is one of all, and for each of all there is one of the same row over the same leaders.
 pub record AreTogether (all slots : List Slot) : Type 0 where

@@ -13,11 +13,11 @@ use Rattle.dk_suppress.specs.Rules.{Rule, is_suppressed, rules}
 use Rattle.dk_template.specs.Premises.{row_of, suffices}
 use Rattle.dk_template.specs.declared.grammar.Grammar.{Grammar}
 use Rattle.dk_template.specs.declared.grammar.RowId.{RowId}
-use Rattle.dk_engine.specs.Choices.{others, touching}
+use Rattle.dk_engine.specs.Choices.{other_leaders, touching_leaders}
 use Rattle.dk_engine.specs.Exact.{SlotBefore}
 use Rattle.dk_engine.specs.Feeding.{is_broken, parts_after, read_after, with_sample}
 use Rattle.dk_engine.specs.Merged.{AreTogether}
-use Rattle.dk_engine.specs.Step.{Answer, IsLeftOf, IsOpened, can_close, is_empty, is_of_elements}
+use Rattle.dk_engine.specs.Step.{Answer, IsLeftOf, IsOpened, can_close, is_empty_state, is_of_elements}
 use Rattle.dk_engine.specs.declared.changes.Change.{Change}
 use Rattle.dk_engine.specs.Sweeps.{freed_slots, touched_slots}
 use Rattle.dk_engine.specs.declared.kept.Kept.{Kept}
@@ -45,17 +45,17 @@ abbrev pub with_state : Slot → State → Slot
 with_state slot s = record { row = slot.row; leaders = slot.leaders; state = s }
 
 -- the slots with the states that are made of them, without those that are Broken
-abbrev pub left_of : (Slot → State) → List Slot → List Slot
-left_of made slots = filter (λ s. not (is_broken s.state)) (map (λ s. with_state s (made s)) slots)
+abbrev pub slots_left : (Slot → State) → List Slot → List Slot
+slots_left made slots = filter (λ s. not (is_broken s.state)) (map (λ s. with_state s (made s)) slots)
 
 -- ---- changes
 -- the state that is made of a slot is the one that it has, which isn't Broken
-abbrev pub Stays : (Slot → State) → Slot → Type 0
-Stays made slot = (made slot ≡ slot.state) × (slot.state ≢ Broken)
+abbrev pub StateStays : (Slot → State) → Slot → Type 0
+StateStays made slot = (made slot ≡ slot.state) × (slot.state ≢ Broken)
 
 -- those from a place up to another do
 abbrev pub StayBetween : ℕ → ℕ → (Slot → State) → List Slot → Type 0
-StayBetween from to made slots = (k : ℕ) → from ≤ k → k < to → Stays made (slot_in slots k)
+StayBetween from to made slots = (k : ℕ) → from ≤ k → k < to → StateStays made (slot_in slots k)
 
 -- a slot of the row that isn't Broken and, where it is asked, can't close
 abbrev pub is_in_run : Bool → RowId → Slot → Bool
@@ -69,7 +69,7 @@ pub record IsChange (made : Slot → State) (slots : List Slot) (change : Change
 -- the changes of the slots below a place: those that don't stay as they are; others do no harm
 pub record AreChangesBelow (n : ℕ) (made : Slot → State) (slots : List Slot) (changes : List Change) : Type 0 where
   pub each : All (IsChange made slots) changes
-  pub all : (k : ℕ) → k < n → Stays made (slot_in slots k) ⊎ ((c : Change) × Contains changes c × (c.place ≡ k))
+  pub all : (k : ℕ) → k < n → StateStays made (slot_in slots k) ⊎ ((c : Change) × Contains changes c × (c.place ≡ k))
 
 -- all changes
 abbrev pub AreChanges : (Slot → State) → List Slot → List Change → Type 0
@@ -89,7 +89,7 @@ loses_by slots change = loses (slot_in slots change.place).row (slot_in slots ch
 
 -- the least or the greatest element may begin to be known
 abbrev pub may_begin : List Slot → Change → Bool
-may_begin slots change = is_empty (slot_in slots change.place).state && is_of_elements (slot_in slots change.place).row
+may_begin slots change = is_empty_state (slot_in slots change.place).state && is_of_elements (slot_in slots change.place).row
 
 -- No rule begins to suppress a slot: the pattern is held, and no change lets the least or the greatest element begin to be known.
 pub record IsShut (sample : List Value) (kept : Kept) (changes : List Change) : Type 0 where
@@ -124,10 +124,10 @@ freed_by_all infos known after leaders slots lost = flat_map (λ k. freed_slots 
 unfoldable pub opened_slots : Grammar → List VarInfo → Answer → List Slot → Now → List ℕ → List Slot
 opened_slots grammar infos after slots now lost =
     let leaders = own_leaders now.leaders in
-    touched_slots grammar infos now.known after (touching now) (others now) leaders ++ freed_by_all infos now.known after leaders slots lost
+    touched_slots grammar infos now.known after (touching_leaders now) (other_leaders now) leaders ++ freed_by_all infos now.known after leaders slots lost
 
 -- the parts with what the sample leaves of the slots and what it opens
 pub record IsMergedStep (grammar : Grammar) (infos : List VarInfo) (kept : Kept) (sample : List Value) (now : Now) (lost : List ℕ) (after : Kept) : Type 0 where
   pub slots : List Slot
-  pub together : AreTogether (left_of (outcome true (read_after kept sample) sample) kept.slots ++ opened_slots grammar infos (read_after kept sample) kept.slots now lost) slots
+  pub together : AreTogether (slots_left (outcome true (read_after kept sample) sample) kept.slots ++ opened_slots grammar infos (read_after kept sample) kept.slots now lost) slots
   pub parts : after ≡ parts_after kept.samples kept.held sample now slots

@@ -11,5 +11,5 @@ precedes (v ∷ vars) [] = false
 precedes (v ∷ vars) (w ∷ others) = nat_lt v.0 w.0 || (v.0 == w.0 && precedes vars others)
 
 -- the slot is of an earlier row, or of the same row with leaders that precede
-abbrev pub is_before : RowId → List VarId → Slot → Bool
-is_before row vars slot = nat_lt slot.row.0 row.0 || (slot.row.0 == row.0 && precedes slot.leaders vars)
+abbrev pub is_slot_before : RowId → List VarId → Slot → Bool
+is_slot_before row vars slot = nat_lt slot.row.0 row.0 || (slot.row.0 == row.0 && precedes slot.leaders vars)

@@ -26,5 +26,5 @@ reached_from row = in_order (with_freed (with_freed (freed row)))
 unfoldable pub reached_by_number : List (List RowId)
 reached_by_number = map (λ n. reached_from (record { 0 = n })) (range_with_len 0 67)
 
-unfoldable pub reached : RowId → List RowId
-reached row = slice_index_or reached_by_number row.0 []
+unfoldable pub rows_reached : RowId → List RowId
+rows_reached row = slice_index_or reached_by_number row.0 []

@@ -45,12 +45,12 @@ read_leaders (suc n) kept row vars = read_turned kept (read_leaders n kept) row 
 
 -- ---- any variables
 -- one more than the greatest rank of a row
-abbrev pub ranks : ℕ
-ranks = 4
+abbrev pub rank_bound : ℕ
+rank_bound = 4
 
 -- the state of a row over variables in any order and with any repeats; before the first sample all are Empty
-unfoldable pub read : Kept → RowId → List VarId → State
-read kept row vars = if kept.samples == 0 then Empty else read_leaders ranks kept row (leaders_of kept.leaders vars)
+unfoldable pub state_read : Kept → RowId → List VarId → State
+state_read kept row vars = if kept.samples == 0 then Empty else read_leaders rank_bound kept row (leaders_of kept.leaders vars)
 
 -- in how many samples none of the variables is missing
 abbrev pub count_read : Kept → List VarId → ℕ

@@ -21,7 +21,7 @@ use Rattle.dk_template.specs.declared.templates.StateForm.TheVariants as form
 use Rattle.dk_engine.specs.Conditions.{IsConstantOf, IsValueOf}
 use Rattle.dk_engine.specs.Exact.{IsOverLeaders, SlotBefore}
 use Rattle.dk_engine.specs.Parts.{all_known}
-use Rattle.dk_engine.specs.Reading.{ranks, read_leaders}
+use Rattle.dk_engine.specs.Reading.{rank_bound, read_leaders}
 use Rattle.dk_engine.specs.Saved.{parts_of}
 use Rattle.dk_engine.specs.declared.kept.Kept.{Kept}
 use Rattle.dk_engine.specs.declared.parts.Parts.{Parts}
@@ -83,4 +83,4 @@ pub record AreOpen (grammar : Grammar) (infos : List VarInfo) (kept : Kept) : Ty
 
 -- no rule suppresses a slot
 abbrev pub AreUnsuppressed : Kept → Type 0
-AreUnsuppressed kept = All (λ slot. is_suppressed (read_leaders ranks kept) slot.row slot.leaders ≡ false) kept.slots
+AreUnsuppressed kept = All (λ slot. is_suppressed (read_leaders rank_bound kept) slot.row slot.leaders ≡ false) kept.slots

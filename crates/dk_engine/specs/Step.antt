@@ -23,7 +23,7 @@ use Rattle.dk_template.specs.declared.grammar.RowId.{RowId}
 use Rattle.dk_engine.specs.Exact.{AreSamples, IsKeptOf, IsOverLeaders, SlotBefore}
 use Rattle.dk_engine.specs.Feeding.{with_sample}
 use Rattle.dk_engine.specs.Parts.{all_known, slot_at}
-use Rattle.dk_engine.specs.Reached.{has_row, reached}
+use Rattle.dk_engine.specs.Reached.{has_row, rows_reached}
 use Rattle.dk_engine.specs.declared.kept.Kept.{Kept}
 use Rattle.dk_engine.specs.declared.now.Now.{Now}
 use Rattle.dk_engine.specs.declared.slot.Slot.{Slot}
@@ -122,13 +122,13 @@ pub record IsFreedBy (sample : List Value) (slots : List Slot) (row : RowId) (va
   pub same : old.row ≡ row_of premise
   pub was : IsTrue (suffices premise old.state)
   pub isnt : suffices premise (with_sample old.row old.leaders sample old.state) ≡ false
-  pub reaches : IsTrue (has_row (reached old.row) row)
+  pub reaches : IsTrue (has_row (rows_reached old.row) row)
   pub among : All (Contains vars) old.leaders
 
 -- ---- slots
-abbrev pub is_empty : State → Bool
-is_empty Empty = true
-is_empty _ = false
+abbrev pub is_empty_state : State → Bool
+is_empty_state Empty = true
+is_empty_state _ = false
 
 -- the rows of the least and the greatest element, which are Empty also of sequences that are there and have no elements
 abbrev pub is_of_elements : RowId → Bool
@@ -140,7 +140,7 @@ asks_elements r = list_any (λ p. is_of_elements (row_of p)) r.1
 -- A rule can begin to suppress the slot: it was Empty, or its row has a rule that asks for the least or the greatest element. That
 -- is row 38 alone.
 abbrev pub can_close : Slot → Bool
-can_close slot = is_empty slot.state || list_any (λ (r : Rule). r.0.0 == slot.row.0 && asks_elements r) rules
+can_close slot = is_empty_state slot.state || list_any (λ (r : Rule). r.0.0 == slot.row.0 && asks_elements r) rules
 
 -- over the variables of a slot another slot, of the least or the greatest element, which was Empty and isn't with the sample
 pub record IsBegunBound (slots : List Slot) (sample : List Value) (slot bound : Slot) : Type 0 where

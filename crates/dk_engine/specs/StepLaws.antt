@@ -26,7 +26,7 @@ use Rattle.dk_engine.specs.Exact.{AreOfPoint, ArePatterns, AreSlots, IsKeptOf, I
 use Rattle.dk_engine.specs.Feeding.{read_after}
 use Rattle.dk_engine.specs.Parts.{slot_at}
 use Rattle.dk_engine.specs.declared.kept.Kept.{Kept}
-use Rattle.dk_engine.specs.Reading.{ranks, read}
+use Rattle.dk_engine.specs.Reading.{rank_bound, state_read}
 use Rattle.dk_engine.specs.Step.{Answer, AreCandidates, ChangesNothing, HaveFreedBelow, IsBegunBound, IsFreed, IsFreedBy, IsPremiseOf, IsStep, IsStepped, Tells, is_touched, slot_vars}
 use Rattle.dk_engine.specs.declared.now.Now.{Now}
 use Rattle.dk_engine.specs.declared.slot.Slot.{Slot}
@@ -46,7 +46,7 @@ SteppedSlotsAreExact = OfStep (λ grammar infos samples sample kept now. (before
 
 -- What is read from the kept parts tells the fits before the sample, and with the sample's tuple the fits after it.
 abbrev pub ReadingTells : Type 0
-ReadingTells = OfStep (λ grammar infos samples sample kept now. AreOfPoint infos → Tells grammar infos samples (read kept) × Tells grammar infos (samples ++ sample ∷ []) (read_after kept sample))
+ReadingTells = OfStep (λ grammar infos samples sample kept now. AreOfPoint infos → Tells grammar infos samples (state_read kept) × Tells grammar infos (samples ++ sample ∷ []) (read_after kept sample))
 
 -- A row with a relation is Broken after a sample in which the variables are present and don't satisfy the relation, whatever it was.
 abbrev pub UnsatisfiedRowsBreak : Type 0
@@ -78,7 +78,7 @@ pub record FreedByRank (grammar : Grammar) (infos : List VarInfo) (before after 
       → All (λ (c : RowId × List VarId). rank_of c.0 ≡ n) added
       → ((row : RowId) (vars : List VarId) → rank_of row ≡ n → IsFreed grammar infos before after slots now candidates row vars → Contains (candidates ++ added) (row, vars))
       → HaveFreedBelow grammar infos before after slots now (candidates ++ added) (suc n)
-  pub all : (candidates : List (RowId × List VarId)) → HaveFreedBelow grammar infos before after slots now candidates ranks
+  pub all : (candidates : List (RowId × List VarId)) → HaveFreedBelow grammar infos before after slots now candidates rank_bound
       → (row : RowId) (vars : List VarId) → IsFreed grammar infos before after slots now candidates row vars → Contains candidates (row, vars)
 
 abbrev pub FreedTuplesComeByRank : Type 0

@@ -10,7 +10,7 @@ use Rattle.dk_template.specs.Templates.{arity_of}
 use Rattle.dk_template.specs.declared.grammar.Grammar.{Grammar}
 use Rattle.dk_template.specs.declared.grammar.RowId.{RowId}
 use Rattle.dk_engine.specs.Feeding.{has_slot}
-use Rattle.dk_engine.specs.Reached.{reached}
+use Rattle.dk_engine.specs.Reached.{rows_reached}
 use Rattle.dk_engine.specs.declared.slot.Slot.{Slot}
 
 module _ (infos : List VarInfo) (known : Entries) (answered : RowId → List VarId → State) (row : RowId) where
@@ -69,4 +69,4 @@ touched_slots grammar infos known answered touching others leaders = flat_map (�
 
 -- those of the rows that a row reaches, with the leaders of a slot
 unfoldable pub freed_slots : List VarInfo → Entries → (RowId → List VarId → State) → List VarId → RowId → List VarId → List Slot
-freed_slots infos known answered leaders row lost = flat_map (λ freed. with_both infos known answered freed lost leaders) (reached row)
+freed_slots infos known answered leaders row lost = flat_map (λ freed. with_both infos known answered freed lost leaders) (rows_reached row)

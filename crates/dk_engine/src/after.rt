@@ -13,7 +13,7 @@ ghost use Rattle.dk_template.specs.Rows.{IsTuple};
 ghost use Rattle.dk_template.specs.Templates.{IsRow, IsRowOf, form_of, role_kinds};
 ghost use Rattle.dk_engine.specs.Feeding.{agree_after, count_after, read_after, with_sample};
 ghost use Rattle.dk_engine.specs.Memory.{wants_memory};
-ghost use Rattle.dk_engine.specs.Reading.{read};
+ghost use Rattle.dk_engine.specs.Reading.{state_read};
 ghost use Rattle.dk_engine.specs.Step.{IsPlaced};
 
 use crate::points::{point, stays};

@@ -4,8 +4,8 @@ ghost use Rattle.std.specs.List.{list_any};
 ghost use Rattle.dk_template.specs.Proper.{IsProper};
 ghost use Rattle.dk_template.specs.Templates.{form_of};
 ghost use Rattle.dk_engine.specs.Feeding.{read_after, with_sample};
-ghost use Rattle.dk_engine.specs.Narrow.{AreChanges, AreChangesBelow, Stays, closes, is_in_run, loses, loses_by, lost_places, may_begin, outcome, slot_in};
-ghost use Rattle.dk_engine.specs.Step.{IsPlaced, can_close, is_empty, is_of_elements};
+ghost use Rattle.dk_engine.specs.Narrow.{AreChanges, AreChangesBelow, StateStays, closes, is_in_run, loses, loses_by, lost_places, may_begin, outcome, slot_in};
+ghost use Rattle.dk_engine.specs.Step.{IsPlaced, can_close, is_empty_state, is_of_elements};
 
 use crate::Slot;
 use crate::after::After;
@@ -24,7 +24,7 @@ pub struct Change {
 
 // Whether the state is Empty.
 fn is_empty(state: &State) -> bool
-    ensures { result ≡ is_empty state.now }
+    ensures { result ≡ is_empty_state state.now }
 {
     matches!(state, State::Empty)
 }
@@ -48,7 +48,7 @@ fn closes(after: &After<'_>, slot: &Slot) -> bool
 fn change_of(after: &After<'_>, asked: bool, slot: &Slot) -> Result<Option<State>, NoMemory>
     requires placed { IsPlaced after.now.whole.grammar after.now.whole.infos after.now.whole.kept.leaders slot.now.row slot.now.leaders }
     requires proper { IsProper (form_of slot.now.row) slot.now.state }
-    ensures stays { IfOk result (λ o. IfNone o (Stays (outcome asked (read_after after.now.whole.kept after.now.sample) after.now.sample) slot.now)) }
+    ensures stays { IfOk result (λ o. IfNone o (StateStays (outcome asked (read_after after.now.whole.kept after.now.sample) after.now.sample) slot.now)) }
     ensures state { IfOk result (λ o. IfSome o (λ s. s ≡ outcome asked (read_after after.now.whole.kept after.now.sample) after.now.sample slot.now)) }
 {
     if asked && closes(after, slot) {

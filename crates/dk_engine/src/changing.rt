@@ -3,7 +3,7 @@ ghost use Rattle.std.specs.Prelude.{◌≡◌, filter, fold, not};
 ghost use Rattle.std.specs.List.{list_any};
 ghost use Rattle.dk_forms.specs.declared.states.State.{State as SlotState};
 ghost use Rattle.dk_engine.specs.Feeding.{is_broken};
-ghost use Rattle.dk_engine.specs.Narrow.{AreChanges, left_of, with_change};
+ghost use Rattle.dk_engine.specs.Narrow.{AreChanges, slots_left, with_change};
 ghost use Rattle.dk_engine.specs.declared.slot.Slot.{Slot as KeptSlot};
 
 use crate::changes::Change;
@@ -64,7 +64,7 @@ fn unbroken(slots: Vec<Slot>) -> Vec<Slot>
 
 /// The slots with all changes, without those that are Broken then.
 pub(crate) fn changed(slots: Slots, changes: List<Change>) -> Slots
-    ensures { (made : KeptSlot → SlotState) → AreChanges made slots changes → result ≡ left_of made slots }
+    ensures { (made : KeptSlot → SlotState) → AreChanges made slots changes → result ≡ slots_left made slots }
 {
     let breaks = break_some(changes.as_slice());
     let all = with_changes(slots.into_vec(), changes.into_vec());

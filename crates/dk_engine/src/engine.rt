@@ -12,7 +12,7 @@ ghost use Rattle.dk_template.specs.declared.grammar.Grammar.{Grammar};
 ghost use Rattle.dk_engine.specs.Exact.{AreOfKinds, AreOfPoint, IsKeptOf};
 ghost use Rattle.dk_engine.specs.Memory.{wants_memory};
 ghost use Rattle.dk_engine.specs.Parts.{leaders_of};
-ghost use Rattle.dk_engine.specs.Reading.{agree_read, count_read, read, read_leaders};
+ghost use Rattle.dk_engine.specs.Reading.{agree_read, count_read, read_leaders, state_read};
 
 use crate::nothing::Nothing;
 use crate::over::Over;
@@ -177,7 +177,7 @@ impl Engine {
     pub(crate) fn state(&self, row: RowId, vars: &[VarId]) -> Result<State, NoMemory>
         requires row { IsRowOf self.now.grammar row }
         requires vars { IsTrue (admits row self.now.infos vars.now) }
-        ensures state { IfOk result (λ s. s ≡ read self.now.kept row vars.now) }
+        ensures state { IfOk result (λ s. s ≡ state_read self.now.kept row vars.now) }
         ensures proper { IfOk result (λ s. IsProper (form_of row) s) }
         ensures err { OnErr result (IsTrue (wants_memory row)) }
     {
@@ -203,7 +203,7 @@ impl Answers for Engine {
 
     ghost infos = { λ e. e.infos };
 
-    ghost answered = { λ e. read e.kept };
+    ghost answered = { λ e. state_read e.kept };
 
     ghost counted = { λ e. count_read e.kept };
 

@@ -10,8 +10,8 @@ ghost use Rattle.dk_presence.specs.Steps.{AreUnheld, Differ, refined, with_sampl
 ghost use Rattle.dk_samples.specs.Leaders.{VarsAscend};
 ghost use Rattle.dk_engine.specs.Conditions.{AreFormed};
 ghost use Rattle.dk_engine.specs.Exact.{AreOfPoint, AreSamples, IsKeptOf};
-ghost use Rattle.dk_engine.specs.Feeding.{IsTurned, parts_after, read_after, slots_of, unturned};
-ghost use Rattle.dk_engine.specs.Narrow.{AreChanges, IsMergedStep, IsShut, left_of, loses_by, lost_places, opened_slots, outcome};
+ghost use Rattle.dk_engine.specs.Feeding.{IsTurned, parts_after, read_after, slots_of, unchanged_now};
+ghost use Rattle.dk_engine.specs.Narrow.{AreChanges, IsMergedStep, IsShut, loses_by, lost_places, opened_slots, outcome, slots_left};
 
 use crate::after::After;
 use crate::changes::{Change, changes, few_changes, lose_some, lost_places, some_may_begin};
@@ -57,7 +57,7 @@ impl Engine {
     fn is_settled(&self, sample: &[View<'_>]) -> bool
         ensures point { AreOfPoint self.now.infos }
         ensures some { IsTrue result → 0 < self.now.kept.samples }
-        ensures turned { IsTrue result → IsTurned self.now.kept (values_of sample.now) (unturned self.now.kept) }
+        ensures turned { IsTrue result → IsTurned self.now.kept (values_of sample.now) (unchanged_now self.now.kept) }
     {
         self.kept.samples != 0
             && self.kept.leaders.stays_with(sample)
@@ -116,11 +116,11 @@ impl Engine {
     // Makes the changes of the slots, where the sample splits no class and ends no constant.
     fn change(&mut self, sample: &[View<'_>], changes: Changes) -> Result<(), NoMemory>
         requires sampled { IsSample self.old.infos (values_of sample.now) }
-        requires turned { IsTurned self.old.kept (values_of sample.now) (unturned self.old.kept) }
+        requires turned { IsTurned self.old.kept (values_of sample.now) (unchanged_now self.old.kept) }
         requires changes { AreChanges (outcome changes.asked (read_after self.old.kept (values_of sample.now)) (values_of sample.now)) self.old.kept.slots changes.all }
         ensures grammar { self.new.grammar ≡ self.old.grammar }
         ensures infos { self.new.infos ≡ self.old.infos }
-        ensures kept { IfOk result (λ _. self.new.kept ≡ parts_after self.old.kept.samples self.old.kept.held (values_of sample.now) (unturned self.old.kept) (left_of (outcome changes.asked (read_after self.old.kept (values_of sample.now)) (values_of sample.now)) self.old.kept.slots)) }
+        ensures kept { IfOk result (λ _. self.new.kept ≡ parts_after self.old.kept.samples self.old.kept.held (values_of sample.now) (unchanged_now self.old.kept) (slots_left (outcome changes.asked (read_after self.old.kept (values_of sample.now)) (values_of sample.now)) self.old.kept.slots)) }
     {
         let Changes { asked: _, all } = changes;
         let none = Presence::new(self.alloc)?;

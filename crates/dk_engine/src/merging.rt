@@ -2,7 +2,7 @@
 ghost use Rattle.std.specs.Prelude.{◌≡◌, ◌++◌, All, IfOk};
 ghost use Rattle.std.specs.List.{AllPairs};
 ghost use Rattle.dk_engine.specs.Exact.{SlotBefore};
-ghost use Rattle.dk_engine.specs.Merged.{AreTogether, HasNumber, number_of, var_in};
+ghost use Rattle.dk_engine.specs.Merged.{AreTogether, HasNumber, slot_number, var_in};
 
 use crate::{Slot, Slots};
 use dk_base::{NoMemory, VarId};
@@ -19,7 +19,7 @@ fn var_in(vars: &[VarId], k: usize) -> u32
 
 // A number by which slots ascend.
 fn number(slot: &Slot) -> u128
-    ensures { result ≡ number_of slot.now }
+    ensures { result ≡ slot_number slot.now }
 {
     let vars = slot.leaders.as_slice();
     let first = (slot.row.0 as u128) * 0x1_0000_0000 + var_in(vars, 0) as u128;

@@ -79,6 +79,8 @@ impl<'a, B: Answers> Over<'a, B> {
         ensures proper { IfOk result (λ s. IsProper (form_of row) s) }
         ensures err { OnErr result (IsTrue (wants_memory row)) }
     {
+        // What holds of the level is known once something of it is read.
+        let _kept = self.kept;
         let ordered = written(row, vars);
         let state = self.state_written(row, ordered.as_slice())?;
         Ok(turn_state(row, vars, state))

@@ -4,7 +4,7 @@ ghost use Rattle.std.specs.List.{AllPairs};
 ghost use Rattle.std.specs.List.Sorted.{IsPartitionPoint};
 ghost use Rattle.dk_presence.specs.Patterns.{same_vars};
 ghost use Rattle.dk_engine.specs.Exact.{SlotBefore};
-ghost use Rattle.dk_engine.specs.Ordering.{is_before, precedes};
+ghost use Rattle.dk_engine.specs.Ordering.{is_slot_before, precedes};
 ghost use Rattle.dk_engine.specs.Parts.{is_slot_of, slot_at};
 
 use crate::Slot;
@@ -43,7 +43,7 @@ fn precedes(vars: &[VarId], others: &[VarId]) -> bool
 
 // Whether the slot is of an earlier row, or of the same row with leaders that precede.
 pub(crate) fn is_before(slot: &Slot, row: RowId, leaders: &[VarId]) -> bool
-    ensures { result ≡ is_before row leaders.now slot.now }
+    ensures { result ≡ is_slot_before row leaders.now slot.now }
 {
     slot.row.0 < row.0 || (slot.row.0 == row.0 && precedes(slot.leaders.as_slice(), leaders))
 }
@@ -59,7 +59,7 @@ fn is_slot_of(slot: &Slot, row: RowId, leaders: &[VarId]) -> bool
 fn place_of(slots: &[Slot], row: RowId, leaders: &[VarId]) -> usize
     requires { AllPairs SlotBefore slots.now }
     ensures within { result ≤ length slots.now }
-    ensures parted { IsPartitionPoint (λ s. is_before row leaders.now s ≡ true) (λ s. is_before row leaders.now s ≡ false) slots.now result }
+    ensures parted { IsPartitionPoint (λ s. is_slot_before row leaders.now s ≡ true) (λ s. is_slot_before row leaders.now s ≡ false) slots.now result }
 {
     slots.partition_point(|slot| is_before(slot, row, leaders))
 }

@@ -1,6 +1,6 @@
 // Which rows a lost premise can free, by itself or through others.
 ghost use Rattle.std.specs.Prelude.{◌≡◌, map};
-ghost use Rattle.dk_engine.specs.Reached.{reached, reached_by_number};
+ghost use Rattle.dk_engine.specs.Reached.{reached_by_number, rows_reached};
 
 use dk_template::RowId;
 
@@ -90,7 +90,7 @@ fn reached_rows() -> &'static [&'static [RowId]]
 
 /// The rows with a rule that has this row among its premises, those with a rule that has one of these, and so on, each once, ascending.
 pub(crate) fn reached(row: RowId) -> &'static [RowId]
-    ensures { result.now ≡ reached row }
+    ensures { result.now ≡ rows_reached row }
 {
     match reached_rows().get(row.0 as usize) {
         Some(rows) => rows,

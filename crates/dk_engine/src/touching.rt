@@ -1,7 +1,7 @@
 // The leaders that are new with a sample or were constant until then, and so touch the tuples in which they stand.
 ghost use Rattle.std.specs.Prelude.{◌≡◌, IfOk, is_some};
 ghost use Rattle.dk_constants.specs.Known.{known_at};
-ghost use Rattle.dk_engine.specs.Choices.{others, touching};
+ghost use Rattle.dk_engine.specs.Choices.{other_leaders, touching_leaders};
 ghost use Rattle.dk_engine.specs.Step.{is_new, touches};
 
 use crate::Now;
@@ -41,7 +41,7 @@ pub(crate) fn touches(now: &Now, v: VarId) -> bool
 
 /// The leaders that touch a tuple.
 pub(crate) fn touching(alloc: Global, now: &Now) -> Result<List<VarId>, NoMemory>
-    ensures { IfOk result (λ vars. vars ≡ touching now.now) }
+    ensures { IfOk result (λ vars. vars ≡ touching_leaders now.now) }
 {
     let mut vars = List::new(alloc);
     for v in now.leaders.leaders() {
@@ -54,7 +54,7 @@ pub(crate) fn touching(alloc: Global, now: &Now) -> Result<List<VarId>, NoMemory
 
 /// The other leaders.
 pub(crate) fn others(alloc: Global, now: &Now) -> Result<List<VarId>, NoMemory>
-    ensures { IfOk result (λ vars. vars ≡ others now.now) }
+    ensures { IfOk result (λ vars. vars ≡ other_leaders now.now) }
 {
     let mut vars = List::new(alloc);
     for v in now.leaders.leaders() {

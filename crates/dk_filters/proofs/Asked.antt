@@ -30,7 +30,7 @@ use Rattle.dk_filters.proofs.Firsts.{constant-same, member-same}
 use Rattle.dk_filters.proofs.Lists.{all-flat_map, all-same, and-same, any-same, find-same, get-at}
 use Rattle.dk_filters.proofs.OneValues.{suits-any}
 use Rattle.dk_filters.proofs.Sharper.{IsAsked, row-of, same-row, same-takes, sharper-asked, sums-usable}
-use Rattle.dk_filters.specs.Facts.{compar_of, each_in_front, facts_of, first_like, has_one_value, has_partner, has_sharper, info_at, is_constant, is_few, is_implied, is_incomparable, is_like, is_member, is_one_value, is_sum_plane, one_of_row, row, sharper_than, stands_there, sum_of, with_partners}
+use Rattle.dk_filters.specs.Facts.{are_alike, compar_of_var, each_in_front, facts_of, first_like, has_few_samples, has_one_value, has_partner, has_sharper, info_at, is_constant_instance, is_further_member, is_implied, is_incomparable, is_one_value, is_sum_plane, one_of_row_for, row_of_number, sharper_than, stands_there, sum_of, with_partners}
 use Rattle.dk_filters.specs.Sameness.{same_state}
 use Rattle.dk_filters.specs.Laws.{FactsAreOfWhatMayBeAsked, PartnersAreLike, ShowTheSame}
 
@@ -91,19 +91,19 @@ module _ (g : Grammar) (infos : List VarInfo) (A B : RowId → List VarId → St
     abbrev b : Answers
     b = record { infos = infos; answered = B; counted = D; agreeing = H }
 
-    few : (least : ℕ) (row : RowId) (vars : List VarId) → admits row infos vars ≡ true → is_few least a vars ≡ is_few least b vars
+    few : (least : ℕ) (row : RowId) (vars : List VarId) → admits row infos vars ≡ true → has_few_samples least a vars ≡ has_few_samples least b vars
     few least row vars h = ap (λ n. nat_lt n least) (counted vars (few-vars infos row vars h) (admitted-there infos row vars h))
 
     first : (v : VarId) → v.0 < length infos → first_like a v ≡ first_like b v
     first v within =
         ap (λ found. unwrap_or found v)
-        (find-same (λ (w : VarId). w.0 < length infos) (is_like a v) (is_like b v)
-        (λ w there. ap (λ t. t && same_compar (compar_of infos w) (compar_of infos v)) (agreeing w v there within)) (all_vars infos) (all-there infos))
+        (find-same (λ (w : VarId). w.0 < length infos) (are_alike a v) (are_alike b v)
+        (λ w there. ap (λ t. t && same_compar (compar_of_var infos w) (compar_of_var infos v)) (agreeing w v there within)) (all_vars infos) (all-there infos))
 
     abbrev Within : VarId → Type 0
     Within v = v.0 < length infos
 
-    member : (row : RowId) (vars : List VarId) → AreThere infos vars → is_member a row vars ≡ is_member b row vars
+    member : (row : RowId) (vars : List VarId) → AreThere infos vars → is_further_member a row vars ≡ is_further_member b row vars
     member row vars there = member-same (first_like a) (first_like b) Within first row vars there
 
     -- ---- implied
@@ -131,25 +131,25 @@ module _ (g : Grammar) (infos : List VarInfo) (A B : RowId → List VarId → St
     sum-plane r vars h =
         and-same (r.0 == 67) (list_any (λ roles. premise_fits A (sum_of roles) vars) each_in_front) (list_any (λ roles. premise_fits B (sum_of roles) vars) each_in_front)
         (λ is. any-same (λ roles. IsUsable g infos (sum_of roles) vars) (λ roles. premise_fits A (sum_of roles) vars) (λ roles. premise_fits B (sum_of roles) vars)
-        (λ roles u. premise (sum_of roles) vars u) each_in_front (sums-usable g infos vars (subst (λ (s : RowId). admits s infos vars ≡ true) (same-row r (row 67) is) h)))
+        (λ roles u. premise (sum_of roles) vars u) each_in_front (sums-usable g infos vars (subst (λ (s : RowId). admits s infos vars ≡ true) (same-row r (row_of_number 67) is) h)))
 
     implied : (r : RowId) (vars : List VarId) → admits r infos vars ≡ true → is_implied a r vars ≡ is_implied b r vars
     implied r vars h = rw (suppressed r vars h, has-sharper r vars h, sum-plane r vars h) refl
 
     -- ---- constant
     one-value : (v : VarId) → v.0 < length infos → (k : Kind) → (info_at infos v).kind ≡ k
-        → option_map_or (λ r. is_one_value (A r (v ∷ []))) (one_of_row k) false ≡ option_map_or (λ r. is_one_value (B r (v ∷ []))) (one_of_row k) false
+        → option_map_or (λ r. is_one_value (A r (v ∷ []))) (one_of_row_for k) false ≡ option_map_or (λ r. is_one_value (B r (v ∷ []))) (one_of_row_for k) false
     unfolding rows
-    one-value v within kind.Int is = ap is_one_value (answered (row 1) (row-of g 1 (omega arith) (omega arith)) (v ∷ []) (ap (λ t. t && true) (suits-any infos v within kind.Int is)))
-    one-value v within kind.Bool is = ap is_one_value (answered (row 6) (row-of g 6 (omega arith) (omega arith)) (v ∷ []) (ap (λ t. t && true) (suits-any infos v within kind.Bool is)))
-    one-value v within kind.Hash is = ap is_one_value (answered (row 7) (row-of g 7 (omega arith) (omega arith)) (v ∷ []) (ap (λ t. t && true) (suits-any infos v within kind.Hash is)))
-    one-value v within kind.Str is = ap is_one_value (answered (row 9) (row-of g 9 (omega arith) (omega arith)) (v ∷ []) (ap (λ t. t && true) (suits-any infos v within kind.Str is)))
+    one-value v within kind.Int is = ap is_one_value (answered (row_of_number 1) (row-of g 1 (omega arith) (omega arith)) (v ∷ []) (ap (λ t. t && true) (suits-any infos v within kind.Int is)))
+    one-value v within kind.Bool is = ap is_one_value (answered (row_of_number 6) (row-of g 6 (omega arith) (omega arith)) (v ∷ []) (ap (λ t. t && true) (suits-any infos v within kind.Bool is)))
+    one-value v within kind.Hash is = ap is_one_value (answered (row_of_number 7) (row-of g 7 (omega arith) (omega arith)) (v ∷ []) (ap (λ t. t && true) (suits-any infos v within kind.Hash is)))
+    one-value v within kind.Str is = ap is_one_value (answered (row_of_number 9) (row-of g 9 (omega arith) (omega arith)) (v ∷ []) (ap (λ t. t && true) (suits-any infos v within kind.Str is)))
     one-value v within kind.BoolSeq is = refl
     one-value v within kind.IntSeq is = refl
     one-value v within kind.HashSeq is = refl
     one-value v within kind.StrSeq is = refl
 
-    constant : (r : RowId) (vars : List VarId) → AreThere infos vars → is_constant a r vars ≡ is_constant b r vars
+    constant : (r : RowId) (vars : List VarId) → AreThere infos vars → is_constant_instance a r vars ≡ is_constant_instance b r vars
     constant r vars there =
         constant-same (first_like a) (first_like b) Within first (has_one_value a) (has_one_value b) (λ v within. one-value v within (info_at infos v).kind refl) r vars there
 

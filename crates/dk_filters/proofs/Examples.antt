@@ -21,8 +21,8 @@ use Rattle.dk_suppress.specs.Rules.{rules}
 use Rattle.dk_template.specs.Templates.{rows}
 use Rattle.dk_template.specs.declared.grammar.RowId.{RowId}
 use Rattle.dk_filters.specs.Answers.{Answers, Parent}
-use Rattle.dk_filters.specs.Facts.{facts_of, has_one_value, is_at_parent, is_constant, is_few, is_implied, is_incomparable, is_member, row}
-use Rattle.dk_filters.specs.OfSamples.{told_by}
+use Rattle.dk_filters.specs.Facts.{facts_of, has_few_samples, has_one_value, is_at_parent, is_constant_instance, is_further_member, is_implied, is_incomparable, row_of_number}
+use Rattle.dk_filters.specs.OfSamples.{answers_of}
 use Rattle.dk_filters.specs.declared.facts.Facts.{Facts}
 
 abbrev of : Kind → Form → ℤ → ℤ → VarInfo
@@ -48,7 +48,7 @@ abbrev at : ℕ → List VarId → ℕ × List VarId
 at r vars = (r, vars)
 
 abbrev all_of : (RowId → List VarId → Bool) → List (ℕ × List VarId) → List Bool
-all_of fact instances = map (λ (e : ℕ × List VarId). fact (row e.0) e.1) instances
+all_of fact instances = map (λ (e : ℕ × List VarId). fact (row_of_number e.0) e.1) instances
 
 -- ---- a point
 -- Three numbers, of which the first two agree; the third one is 7 wherever it is there.
@@ -61,13 +61,13 @@ samples =
     ∷ []
 
 abbrev here : Answers
-here = told_by (int (pos 1) ∷ int (pos 1) ∷ int (pos 1) ∷ []) samples
+here = answers_of (int (pos 1) ∷ int (pos 1) ∷ int (pos 1) ∷ []) samples
 
 -- ---- few: there are four samples, in three of them with z
-few_of_x : map (λ least. is_few least here (x ∷ [])) (3 ∷ 4 ∷ 5 ∷ []) ≡ false ∷ false ∷ true ∷ []
+few_of_x : map (λ least. has_few_samples least here (x ∷ [])) (3 ∷ 4 ∷ 5 ∷ []) ≡ false ∷ false ∷ true ∷ []
 few_of_x = refl
 
-few_of_z : map (λ least. is_few least here (x ∷ z ∷ [])) (3 ∷ 4 ∷ []) ≡ false ∷ true ∷ []
+few_of_z : map (λ least. has_few_samples least here (x ∷ z ∷ [])) (3 ∷ 4 ∷ []) ≡ false ∷ true ∷ []
 few_of_z = refl
 
 -- ---- incomparable
@@ -101,28 +101,28 @@ no_index = refl
 
 -- ---- member
 -- y isn't the first of those like it; the equality that tells so is kept, and a line isn't
-members : all_of (is_member here) (at 2 (x ∷ []) ∷ at 2 (y ∷ []) ∷ at 2 (z ∷ []) ∷ at 11 (x ∷ y ∷ []) ∷ at 15 (x ∷ y ∷ []) ∷ at 14 (y ∷ z ∷ []) ∷ []) ≡ false ∷ true ∷ false ∷ false ∷ true ∷ true ∷ []
+members : all_of (is_further_member here) (at 2 (x ∷ []) ∷ at 2 (y ∷ []) ∷ at 2 (z ∷ []) ∷ at 11 (x ∷ y ∷ []) ∷ at 15 (x ∷ y ∷ []) ∷ at 14 (y ∷ z ∷ []) ∷ []) ≡ false ∷ true ∷ false ∷ false ∷ true ∷ true ∷ []
 members = refl
 
 -- of three that agree the equality of the later two is dropped
 abbrev three : Answers
-three = told_by (int (pos 1) ∷ int (pos 1) ∷ int (pos 1) ∷ []) ((i 1 ∷ i 1 ∷ i 1 ∷ []) ∷ (value.Missing ∷ value.Missing ∷ value.Missing ∷ []) ∷ [])
+three = answers_of (int (pos 1) ∷ int (pos 1) ∷ int (pos 1) ∷ []) ((i 1 ∷ i 1 ∷ i 1 ∷ []) ∷ (value.Missing ∷ value.Missing ∷ value.Missing ∷ []) ∷ [])
 
-equalities_of_three : all_of (is_member three) (at 11 (x ∷ y ∷ []) ∷ at 11 (x ∷ z ∷ []) ∷ at 11 (y ∷ z ∷ []) ∷ []) ≡ false ∷ false ∷ true ∷ []
+equalities_of_three : all_of (is_further_member three) (at 11 (x ∷ y ∷ []) ∷ at 11 (x ∷ z ∷ []) ∷ at 11 (y ∷ z ∷ []) ∷ []) ≡ false ∷ false ∷ true ∷ []
 equalities_of_three = refl
 
 -- variables stand for each other only where both numbers of their comparability are the same, and where they agree
-apart : map (λ infos. is_member (told_by infos samples) (row 2) (y ∷ [])) ((int (pos 1) ∷ int (pos 2) ∷ []) ∷ (int (pos 1) ∷ of kind.Int form.Declared (pos 1) (pos 0) ∷ []) ∷ []) ≡ false ∷ false ∷ []
+apart : map (λ infos. is_further_member (answers_of infos samples) (row_of_number 2) (y ∷ [])) ((int (pos 1) ∷ int (pos 2) ∷ []) ∷ (int (pos 1) ∷ of kind.Int form.Declared (pos 1) (pos 0) ∷ []) ∷ []) ≡ false ∷ false ∷ []
 apart = refl
 
-one_missing : is_member (told_by (int (pos 1) ∷ int (pos 1) ∷ []) ((i 1 ∷ i 1 ∷ []) ∷ (i 2 ∷ value.Missing ∷ []) ∷ [])) (row 2) (y ∷ []) ≡ false
+one_missing : is_further_member (answers_of (int (pos 1) ∷ int (pos 1) ∷ []) ((i 1 ∷ i 1 ∷ []) ∷ (i 2 ∷ value.Missing ∷ []) ∷ [])) (row_of_number 2) (y ∷ []) ≡ false
 one_missing = refl
 
 -- the equality of each kind is kept, and no other row
 abbrev alike : Kind → Answers
 alike k = record { infos = of k form.Declared (pos 1) (pos 1) ∷ of k form.Declared (pos 1) (pos 1) ∷ []; answered = λ r vars. state.Holds; counted = λ vars. 1; agreeing = λ v w. true }
 
-of_each_kind : all_of (is_member (alike kind.Int)) (map (λ r. at r (x ∷ y ∷ [])) (11 ∷ 18 ∷ 20 ∷ 22 ∷ 57 ∷ 58 ∷ 59 ∷ 60 ∷ [])) ++ all_of (is_member (alike kind.Int)) (map (λ r. at r (x ∷ y ∷ [])) (12 ∷ 14 ∷ 16 ∷ 62 ∷ 63 ∷ 66 ∷ 68 ∷ []))
+of_each_kind : all_of (is_further_member (alike kind.Int)) (map (λ r. at r (x ∷ y ∷ [])) (11 ∷ 18 ∷ 20 ∷ 22 ∷ 57 ∷ 58 ∷ 59 ∷ 60 ∷ [])) ++ all_of (is_further_member (alike kind.Int)) (map (λ r. at r (x ∷ y ∷ [])) (12 ∷ 14 ∷ 16 ∷ 62 ∷ 63 ∷ 66 ∷ 68 ∷ []))
     ≡ (false ∷ false ∷ false ∷ false ∷ false ∷ false ∷ false ∷ false ∷ []) ++ (true ∷ true ∷ true ∷ true ∷ true ∷ true ∷ true ∷ [])
 of_each_kind = refl
 
@@ -134,22 +134,22 @@ of_numbers = refl
 
 -- 1 and 3 leave 1 by 2, and are two values; 1, 3, 5 and 7 are too many
 abbrev odd : List ℕ → Answers
-odd values = told_by (int (pos 1) ∷ []) (map (λ n. i n ∷ []) values)
+odd values = answers_of (int (pos 1) ∷ []) (map (λ n. i n ∷ []) values)
 
-of_modulus : map (λ values. is_implied (odd values) (row 5) (x ∷ [])) ((1 ∷ 3 ∷ []) ∷ (1 ∷ 3 ∷ 5 ∷ 7 ∷ []) ∷ []) ≡ true ∷ false ∷ []
+of_modulus : map (λ values. is_implied (odd values) (row_of_number 5) (x ∷ [])) ((1 ∷ 3 ∷ []) ∷ (1 ∷ 3 ∷ 5 ∷ 7 ∷ []) ∷ []) ≡ true ∷ false ∷ []
 unfolding fit state_of meanings rules put
 of_modulus = refl
 
 -- a code or a string that is one value isn't null
 abbrev codes_of : List ℕ → Answers
-codes_of values = told_by (of kind.Hash form.Declared (pos 1) (negsuc 0) ∷ []) (map (λ n. value.Hash n ∷ []) values)
+codes_of values = answers_of (of kind.Hash form.Declared (pos 1) (negsuc 0) ∷ []) (map (λ n. value.Hash n ∷ []) values)
 
-of_codes : map (λ values. is_implied (codes_of values) (row 8) (x ∷ [])) ((5 ∷ 5 ∷ []) ∷ (5 ∷ 6 ∷ []) ∷ []) ≡ true ∷ false ∷ []
+of_codes : map (λ values. is_implied (codes_of values) (row_of_number 8) (x ∷ [])) ((5 ∷ 5 ∷ []) ∷ (5 ∷ 6 ∷ []) ∷ []) ≡ true ∷ false ∷ []
 unfolding fit state_of meanings rules
 of_codes = refl
 
 -- an equality says more than a line
-of_lines : map (λ (h : Answers). is_implied h (row 15) (x ∷ y ∷ [])) (here ∷ told_by (int (pos 1) ∷ int (pos 1) ∷ []) ((i 1 ∷ i 3 ∷ []) ∷ (i 2 ∷ i 5 ∷ []) ∷ []) ∷ []) ≡ true ∷ false ∷ []
+of_lines : map (λ (h : Answers). is_implied h (row_of_number 15) (x ∷ y ∷ [])) (here ∷ answers_of (int (pos 1) ∷ int (pos 1) ∷ []) ((i 1 ∷ i 3 ∷ []) ∷ (i 2 ∷ i 5 ∷ []) ∷ []) ∷ []) ≡ true ∷ false ∷ []
 unfolding fit state_of meanings rules put through divisor gcd
 of_lines = refl
 
@@ -157,27 +157,27 @@ of_lines = refl
 abbrev sum_alone : List VarId → Answers
 sum_alone sum = record { infos = []; answered = λ r vars. if r.0 == 24 && pointwise (λ (v w : VarId). v.0 == w.0) vars sum then state.Holds else state.Broken; counted = λ vars. 0; agreeing = λ v w. false }
 
-of_planes : map (λ sum. is_implied (sum_alone sum) (row 67) (x ∷ y ∷ z ∷ [])) ((x ∷ y ∷ z ∷ []) ∷ (y ∷ x ∷ z ∷ []) ∷ (z ∷ x ∷ y ∷ []) ∷ []) ≡ true ∷ true ∷ true ∷ []
+of_planes : map (λ sum. is_implied (sum_alone sum) (row_of_number 67) (x ∷ y ∷ z ∷ [])) ((x ∷ y ∷ z ∷ []) ∷ (y ∷ x ∷ z ∷ []) ∷ (z ∷ x ∷ y ∷ []) ∷ []) ≡ true ∷ true ∷ true ∷ []
 unfolding rules rows
 of_planes = refl
 
-no_sum : map (λ (e : ℕ × List VarId). is_implied (sum_alone e.1) (row e.0) (x ∷ y ∷ z ∷ [])) (at 67 [] ∷ at 28 (x ∷ y ∷ z ∷ []) ∷ []) ≡ false ∷ false ∷ []
+no_sum : map (λ (e : ℕ × List VarId). is_implied (sum_alone e.1) (row_of_number e.0) (x ∷ y ∷ z ∷ [])) (at 67 [] ∷ at 28 (x ∷ y ∷ z ∷ []) ∷ []) ≡ false ∷ false ∷ []
 unfolding rules rows
 no_sum = refl
 
 -- the same of strings, and of the elements of sequences: one value says more than that it isn't null, few values than their bounds
 abbrev strings_of : List (List ℕ) → Answers
-strings_of values = told_by (of kind.Str form.Declared (pos 1) (negsuc 0) ∷ []) (map (λ t. value.Str t ∷ []) values)
+strings_of values = answers_of (of kind.Str form.Declared (pos 1) (negsuc 0) ∷ []) (map (λ t. value.Str t ∷ []) values)
 
 abbrev a_b_c_d : List (List ℕ)
 a_b_c_d = codes "\"a\"" ∷ codes "\"b\"" ∷ codes "\"c\"" ∷ codes "\"d\"" ∷ []
 
-of_strings : map (λ values. is_implied (strings_of values) (row 10) (x ∷ [])) (take 3 a_b_c_d ∷ a_b_c_d ∷ []) ≡ true ∷ false ∷ []
+of_strings : map (λ values. is_implied (strings_of values) (row_of_number 10) (x ∷ [])) (take 3 a_b_c_d ∷ a_b_c_d ∷ []) ≡ true ∷ false ∷ []
 unfolding fit state_of meanings rules put
 of_strings = refl
 
 abbrev sequence_of : Kind → Value → Answers
-sequence_of k s = told_by (of k form.Declared (pos 1) (pos 1) ∷ []) ((s ∷ []) ∷ [])
+sequence_of k s = answers_of (of k form.Declared (pos 1) (pos 1) ∷ []) ((s ∷ []) ∷ [])
 
 abbrev elements : List ℕ → Answers
 elements values = sequence_of kind.IntSeq (value.IntSeq (map pos values))
@@ -187,28 +187,28 @@ of_elements : map (λ values. all_of (is_implied (elements values)) (at 36 (x �
 unfolding fit state_of meanings rules put
 of_elements = refl
 
-of_element_codes : map (λ values. is_implied (sequence_of kind.HashSeq (value.HashSeq values)) (row 46) (x ∷ [])) ((5 ∷ 5 ∷ []) ∷ (5 ∷ 6 ∷ []) ∷ []) ≡ true ∷ false ∷ []
+of_element_codes : map (λ values. is_implied (sequence_of kind.HashSeq (value.HashSeq values)) (row_of_number 46) (x ∷ [])) ((5 ∷ 5 ∷ []) ∷ (5 ∷ 6 ∷ []) ∷ []) ≡ true ∷ false ∷ []
 unfolding fit state_of meanings rules
 of_element_codes = refl
 
-of_element_strings : map (λ values. is_implied (sequence_of kind.StrSeq (value.StrSeq values)) (row 48) (x ∷ [])) (take 3 a_b_c_d ∷ a_b_c_d ∷ []) ≡ true ∷ false ∷ []
+of_element_strings : map (λ values. is_implied (sequence_of kind.StrSeq (value.StrSeq values)) (row_of_number 48) (x ∷ [])) (take 3 a_b_c_d ∷ a_b_c_d ∷ []) ≡ true ∷ false ∷ []
 unfolding fit state_of meanings rules put
 of_element_strings = refl
 
 -- ---- constant
 -- z has one value: what is said of it and another variable is dropped, what is said of it alone isn't
-constants : all_of (is_constant here) (at 13 (x ∷ z ∷ []) ∷ at 13 (z ∷ x ∷ []) ∷ at 11 (x ∷ y ∷ []) ∷ at 1 (z ∷ []) ∷ []) ≡ true ∷ true ∷ false ∷ false ∷ []
+constants : all_of (is_constant_instance here) (at 13 (x ∷ z ∷ []) ∷ at 13 (z ∷ x ∷ []) ∷ at 11 (x ∷ y ∷ []) ∷ at 1 (z ∷ []) ∷ []) ≡ true ∷ true ∷ false ∷ false ∷ []
 unfolding fit state_of meanings put
 constants = refl
 
 -- the equality that tells of a variable like another one is kept, also of one value; a line isn't
-constant_equality : all_of (is_constant (told_by (int (pos 1) ∷ int (pos 1) ∷ []) ((i 7 ∷ i 7 ∷ []) ∷ []))) (at 11 (x ∷ y ∷ []) ∷ at 14 (x ∷ y ∷ []) ∷ []) ≡ false ∷ true ∷ []
+constant_equality : all_of (is_constant_instance (answers_of (int (pos 1) ∷ int (pos 1) ∷ []) ((i 7 ∷ i 7 ∷ []) ∷ []))) (at 11 (x ∷ y ∷ []) ∷ at 14 (x ∷ y ∷ []) ∷ []) ≡ false ∷ true ∷ []
 unfolding fit state_of meanings put
 constant_equality = refl
 
 -- a truth value, a code or a string that has one value is as constant as a number; it has not where it has two
 abbrev beside_number : Kind → List Value → Answers
-beside_number k values = told_by (of k form.Declared (pos 1) (pos 1) ∷ int (pos 1) ∷ []) (map (λ v. v ∷ i 1 ∷ []) values)
+beside_number k values = answers_of (of k form.Declared (pos 1) (pos 1) ∷ int (pos 1) ∷ []) (map (λ v. v ∷ i 1 ∷ []) values)
 
 abbrev of_kind : Kind → Value → Value → List Bool
 of_kind k v w = map (λ values. has_one_value (beside_number k values) x) ((v ∷ v ∷ []) ∷ (v ∷ w ∷ []) ∷ [])
@@ -219,17 +219,17 @@ unfolding fit state_of meanings put
 one_value_of_each_kind = refl
 
 -- a sequence is no scalar, also where it has one value
-sequence : is_constant (told_by (of kind.IntSeq form.Declared (pos 1) (pos 1) ∷ int (pos 1) ∷ []) ((value.IntSeq (pos 7 ∷ []) ∷ i 1 ∷ []) ∷ (value.IntSeq (pos 7 ∷ []) ∷ i 2 ∷ []) ∷ [])) (row 53) (x ∷ y ∷ []) ≡ false
+sequence : is_constant_instance (answers_of (of kind.IntSeq form.Declared (pos 1) (pos 1) ∷ int (pos 1) ∷ []) ((value.IntSeq (pos 7 ∷ []) ∷ i 1 ∷ []) ∷ (value.IntSeq (pos 7 ∷ []) ∷ i 2 ∷ []) ∷ [])) (row_of_number 53) (x ∷ y ∷ []) ≡ false
 unfolding fit state_of meanings put
 sequence = refl
 
 -- ---- parent
 -- a point and its parent, which has the same two numbers the other way round and the same samples
 abbrev child : Answers
-child = told_by (int (pos 1) ∷ int (pos 1) ∷ []) ((i 1 ∷ i 3 ∷ []) ∷ (i 2 ∷ i 5 ∷ []) ∷ [])
+child = answers_of (int (pos 1) ∷ int (pos 1) ∷ []) ((i 1 ∷ i 3 ∷ []) ∷ (i 2 ∷ i 5 ∷ []) ∷ [])
 
 abbrev parent_of : List VarInfo → List (List Value) → List (Option VarId) → List Parent
-parent_of infos samples partners = record { answers = told_by infos samples; partners = partners } ∷ []
+parent_of infos samples partners = record { answers = answers_of infos samples; partners = partners } ∷ []
 
 abbrev numbers : List VarInfo
 numbers = int (pos 1) ∷ int (pos 1) ∷ []
@@ -243,7 +243,7 @@ unfolding fit state_of meanings put through divisor gcd
 at_parent = refl
 
 -- without a parent, without a partner, with partners for the other role, or with another state it doesn't stand there
-elsewhere : map (λ parents. is_at_parent child parents (row 2) (x ∷ [])) (
+elsewhere : map (λ parents. is_at_parent child parents (row_of_number 2) (x ∷ [])) (
     []
     ∷ parent_of numbers exchanged_samples (Some y ∷ None ∷ [])
     ∷ parent_of numbers exchanged_samples (Some x ∷ Some y ∷ [])
@@ -253,7 +253,7 @@ unfolding fit state_of meanings
 elsewhere = refl
 
 -- neither does one that is incomparable there, though it isn't here; some choice of the parent's variables is enough
-choices : map (λ parents. is_at_parent child parents (row 13) (x ∷ y ∷ [])) (
+choices : map (λ parents. is_at_parent child parents (row_of_number 13) (x ∷ y ∷ [])) (
     parent_of (int (pos 1) ∷ int (pos 2) ∷ []) exchanged_samples (Some y ∷ Some x ∷ [])
     ∷ parent_of (int (pos 1) ∷ int (pos 2) ∷ int (pos 1) ∷ []) ((i 3 ∷ i 1 ∷ i 1 ∷ []) ∷ (i 5 ∷ i 2 ∷ i 2 ∷ []) ∷ []) (Some y ∷ Some x ∷ Some x ∷ [])
     ∷ []) ≡ false ∷ true ∷ []
@@ -271,7 +271,7 @@ all_samples =
     ∷ []
 
 abbrev point : Answers
-point = told_by (int (pos 1) ∷ int (pos 1) ∷ int (pos 1) ∷ int (pos 1) ∷ int (pos 2) ∷ []) all_samples
+point = answers_of (int (pos 1) ∷ int (pos 1) ∷ int (pos 1) ∷ int (pos 1) ∷ int (pos 2) ∷ []) all_samples
 
 abbrev parents : List Parent
 parents = parent_of (int (pos 2) ∷ []) ((i 3 ∷ []) ∷ (i 8 ∷ []) ∷ (i 9 ∷ []) ∷ (i 20 ∷ []) ∷ []) (Some (var 4) ∷ [])
@@ -281,7 +281,7 @@ abbrev six : Bool → Bool → Bool → Bool → Bool → Bool → Facts
 six f i m im c p = record { few = f; incomparable = i; member = m; implied = im; constant = c; parent = p }
 
 abbrev facts_by : List (ℕ × List VarId) → List Facts
-facts_by instances = map (λ (e : ℕ × List VarId). facts_of 4 point parents (row e.0) e.1) instances
+facts_by instances = map (λ (e : ℕ × List VarId). facts_of 4 point parents (row_of_number e.0) e.1) instances
 
 abbrev t : VarId
 t = var 3

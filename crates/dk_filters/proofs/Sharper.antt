@@ -12,8 +12,8 @@ use Rattle.dk_template.specs.Templates.{IsRowOf, roles_of, rows, rows_in, templa
 use Rattle.dk_template.specs.declared.grammar.Grammar.{Grammar}
 use Rattle.dk_template.specs.declared.grammar.Grammar.TheVariants as grammar
 use Rattle.dk_template.specs.declared.grammar.RowId.{RowId}
-use Rattle.dk_filters.specs.Facts.{each_in_front, is_one_of, row, sharper_than, sum_of}
-use Rattle.dk_filters.specs.Memory.{MayWantMemory}
+use Rattle.dk_filters.specs.Facts.{each_in_front, is_one_of, row_of_number, sharper_than, sum_of}
+use Rattle.dk_filters.specs.Memory.{MayWantMemoryWhenJudged}
 
 -- rows that take the same admit the same
 pub same-takes : (infos : List VarInfo) (row other : RowId) (vars : List VarId) → roles_of (template_of other).takes ≡ roles_of (template_of row).takes → admits row infos vars ≡ true → admits other infos vars ≡ true
@@ -31,7 +31,7 @@ is-one Q (n ∷ numbers) all r h = elim (or_cases (r.0 == n) (is_one_of numbers 
 ]
 
 module _ (g : Grammar) where
-  pub row-of : (n : ℕ) → 1 ≤ n → n ≤ 66 → IsRowOf g (row n)
+  pub row-of : (n : ℕ) → 1 ≤ n → n ≤ 66 → IsRowOf g (row_of_number n)
   row-of n low high = (low, within g n high)
     where
       within : (g : Grammar) (n : ℕ) → n ≤ 66 → n ≤ rows_in g
@@ -40,18 +40,18 @@ module _ (g : Grammar) where
 
   -- a row of the grammar that takes what the other one takes, and wants memory only where the other one may
   pub record Stands (n m : ℕ) : Type 0 where
-    pub takes : roles_of (template_of (row n)).takes ≡ roles_of (template_of (row m)).takes
-    pub memory : AnswerMayWantMemory (row n) → MayWantMemory (row m)
+    pub takes : roles_of (template_of (row_of_number n)).takes ≡ roles_of (template_of (row_of_number m)).takes
+    pub memory : AnswerMayWantMemory (row_of_number n) → MayWantMemoryWhenJudged (row_of_number m)
 
   -- the row that says more, if there is one, is one of the grammar and stands for this row
   abbrev pub IsAsked : RowId → Option RowId → Type 0
   IsAsked r None = Unit {0}
   IsAsked r (Some s) = IsRowOf g s × Stands s.0 r.0
 
-  one-step : (numbers : List ℕ) (n : ℕ) → IsRowOf g (row n) → All (Stands n) numbers → (rest : Option RowId) (r : RowId) → IsAsked r rest → IsAsked r (if is_one_of numbers r then Some (row n) else rest)
+  one-step : (numbers : List ℕ) (n : ℕ) → IsRowOf g (row_of_number n) → All (Stands n) numbers → (rest : Option RowId) (r : RowId) → IsAsked r rest → IsAsked r (if is_one_of numbers r then Some (row_of_number n) else rest)
   one-step numbers n is all rest r asked = by_case (is_one_of numbers r) refl
     where
-      by_case : (b : Bool) → is_one_of numbers r ≡ b → IsAsked r (if b then Some (row n) else rest)
+      by_case : (b : Bool) → is_one_of numbers r ≡ b → IsAsked r (if b then Some (row_of_number n) else rest)
       by_case true e = (is, is-one (Stands n) numbers all r e)
       by_case false e = asked
 
@@ -70,12 +70,12 @@ module _ (g : Grammar) where
   asked-sharper r s e = subst (IsAsked r) (sym e) (sharper-asked r)
 
   -- each variable of a plane may be asked about as the sum of the others
-  pub sums-usable : (infos : List VarInfo) (vars : List VarId) → admits (row 67) infos vars ≡ true → All (λ roles. IsUsable g infos (sum_of roles) vars) each_in_front
+  pub sums-usable : (infos : List VarInfo) (vars : List VarId) → admits (row_of_number 67) infos vars ≡ true → All (λ roles. IsUsable g infos (sum_of roles) vars) each_in_front
   unfolding rows
   sums-usable infos vars h =
       All-from_recursion (λ roles. IsUsable g infos (sum_of roles) vars) each_in_front (
-        usable (row 67) infos vars h g [] (sum_of (0 ∷ 1 ∷ 2 ∷ [])) refl,
-        (usable (row 67) infos vars h g [] (sum_of (1 ∷ 0 ∷ 2 ∷ [])) refl, (usable (row 67) infos vars h g [] (sum_of (2 ∷ 0 ∷ 1 ∷ [])) refl, tt)),
+        usable (row_of_number 67) infos vars h g [] (sum_of (0 ∷ 1 ∷ 2 ∷ [])) refl,
+        (usable (row_of_number 67) infos vars h g [] (sum_of (1 ∷ 0 ∷ 2 ∷ [])) refl, (usable (row_of_number 67) infos vars h g [] (sum_of (2 ∷ 0 ∷ 1 ∷ [])) refl, tt)),
       )
 
   pub plane-usable : (infos : List VarInfo) (r : RowId) (vars : List VarId) → r.0 ≡ 67 → admits r infos vars ≡ true → All (λ roles. IsUsable g infos (sum_of roles) vars) each_in_front

@@ -28,5 +28,5 @@ unfoldable pub candidates_of : Grammar → ℕ → Answers → List Parent → L
 candidates_of grammar least here parents = map (candidate_of least here parents) (filter (it_holds here) (instances_of grammar here.infos))
 
 -- those that a filter keeps, in order
-abbrev pub kept_by : (Candidate → Bool) → List Candidate → List Candidate
-kept_by keeps candidates = filter keeps candidates
+abbrev pub candidates_kept : (Candidate → Bool) → List Candidate → List Candidate
+candidates_kept keeps candidates = filter keeps candidates

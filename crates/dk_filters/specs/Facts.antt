@@ -25,8 +25,8 @@ use Rattle.dk_filters.specs.Sameness.{same_state}
 use Rattle.dk_filters.specs.declared.facts.Facts.{Facts}
 
 -- a row by its number
-abbrev pub row : ℕ → RowId
-row n = record { 0 = n }
+abbrev pub row_of_number : ℕ → RowId
+row_of_number n = record { 0 = n }
 
 -- the row is one of these
 abbrev pub is_one_of : List ℕ → RowId → Bool
@@ -40,34 +40,37 @@ abbrev pub info_at : List VarInfo → VarId → VarInfo
 info_at infos v = slice_index_or infos v.0 no_info
 
 -- ---- few: its count is below the least number
-abbrev pub is_few : ℕ → Answers → List VarId → Bool
-is_few least here vars = nat_lt (here.counted vars) least
+abbrev pub has_few_samples : ℕ → Answers → List VarId → Bool
+has_few_samples least here vars = nat_lt (here.counted vars) least
 
 -- ---- incomparable: two of its variables aren't comparable, or one of them is taken by an index that doesn't belong to its sequence
 
 -- the comparability of a variable, and that of a sequence's indices
-abbrev pub compar_of : List VarInfo → VarId → Compar
-compar_of infos v = (info_at infos v).compar
+abbrev pub compar_of_var : List VarInfo → VarId → Compar
+compar_of_var infos v = (info_at infos v).compar
 
-abbrev pub index_compar_of : List VarInfo → VarId → Compar
-index_compar_of infos s = record { elem = (compar_of infos s).index; index = negsuc 0 }
+abbrev pub index_compar_of_var : List VarInfo → VarId → Compar
+index_compar_of_var infos s = record { elem = (compar_of_var infos s).index; index = negsuc 0 }
 
 abbrev pub are_comparable : List VarInfo → List VarId → Bool
 are_comparable infos [] = true
-are_comparable infos (v ∷ vars) = list_all (λ w. comparable (compar_of infos v) (compar_of infos w)) vars && are_comparable infos vars
+are_comparable infos (v ∷ vars) =
+    list_all (λ w. comparable (compar_of_var infos v) (compar_of_var infos w)) vars && are_comparable infos vars
 
 -- the sequence and the index of an element or a slice that is taken by an index
-abbrev pub taken_by : Form → Option (VarId × VarId)
-taken_by (form.At s i) = Some (s, i)
-taken_by (form.Upto s i) = Some (s, i)
-taken_by (form.Before s i) = Some (s, i)
-taken_by (form.Since s i) = Some (s, i)
-taken_by (form.After s i) = Some (s, i)
-taken_by _ = None
+abbrev pub sequence_and_index : Form → Option (VarId × VarId)
+sequence_and_index (form.At s i) = Some (s, i)
+sequence_and_index (form.Upto s i) = Some (s, i)
+sequence_and_index (form.Before s i) = Some (s, i)
+sequence_and_index (form.Since s i) = Some (s, i)
+sequence_and_index (form.After s i) = Some (s, i)
+sequence_and_index _ = None
 
 -- the variable is taken by an index that isn't comparable with the indices of its sequence
 abbrev pub has_foreign_index : List VarInfo → VarId → Bool
-has_foreign_index infos v = option_map_or (λ b. not (comparable (compar_of infos b.1) (index_compar_of infos b.0))) (taken_by (info_at infos v).form) false
+has_foreign_index infos v =
+    option_map_or (λ b. not (comparable (compar_of_var infos b.1) (index_compar_of_var infos b.0)))
+    (sequence_and_index (info_at infos v).form) false
 
 abbrev pub is_incomparable : List VarInfo → List VarId → Bool
 is_incomparable infos vars = not (are_comparable infos vars) || list_any (has_foreign_index infos) vars
@@ -75,12 +78,12 @@ is_incomparable infos vars = not (are_comparable infos vars) || list_any (has_fo
 -- ---- member: some variable isn't the first of those like it; an equality of the first with another of them is kept
 
 -- two variables that agree and have the same comparability
-abbrev pub is_like : Answers → VarId → VarId → Bool
-is_like here v w = here.agreeing w v && same_compar (compar_of here.infos w) (compar_of here.infos v)
+abbrev pub are_alike : Answers → VarId → VarId → Bool
+are_alike here v w = here.agreeing w v && same_compar (compar_of_var here.infos w) (compar_of_var here.infos v)
 
 -- the first variable that is like it
 abbrev pub first_like : Answers → VarId → VarId
-first_like here v = unwrap_or (find (is_like here v) (all_vars here.infos)) v
+first_like here v = unwrap_or (find (are_alike here v) (all_vars here.infos)) v
 
 -- the rows that say x == y or s == t
 abbrev pub equalities : List ℕ
@@ -91,14 +94,14 @@ abbrev pub tells_member_by : (VarId → VarId) → RowId → List VarId → Bool
 tells_member_by first r (v ∷ w ∷ []) = is_one_of equalities r && (first w).0 == v.0
 tells_member_by first r _ = false
 
-abbrev pub is_member_by : (VarId → VarId) → RowId → List VarId → Bool
-is_member_by first r vars = not (tells_member_by first r vars) && list_any (λ v. not ((first v).0 == v.0)) vars
+abbrev pub is_further_member_by : (VarId → VarId) → RowId → List VarId → Bool
+is_further_member_by first r vars = not (tells_member_by first r vars) && list_any (λ v. not ((first v).0 == v.0)) vars
 
 abbrev pub tells_member : Answers → RowId → List VarId → Bool
 tells_member here r vars = tells_member_by (first_like here) r vars
 
-abbrev pub is_member : Answers → RowId → List VarId → Bool
-is_member here r vars = is_member_by (first_like here) r vars
+abbrev pub is_further_member : Answers → RowId → List VarId → Bool
+is_further_member here r vars = is_further_member_by (first_like here) r vars
 
 -- ---- implied: a rule suppresses it, or a row that says more fits over the same variables
 
@@ -106,13 +109,13 @@ is_member here r vars = is_member_by (first_like here) r vars
 -- they aren't 0 or null; x == y says more than a line.
 abbrev pub sharper_than : RowId → Option RowId
 sharper_than r =
-    if is_one_of (2 ∷ 3 ∷ 4 ∷ 5 ∷ []) r then Some (row 1)  -- LowerBound, UpperBound, NonZero, Modulus: OneOfInt
-    else if is_one_of (8 ∷ []) r then Some (row 7)  -- NonNullHash: OneOfHash
-    else if is_one_of (10 ∷ []) r then Some (row 9)  -- NonNullStr: OneOfStr
-    else if is_one_of (15 ∷ []) r then Some (row 11)  -- Linear: EqInt
-    else if is_one_of (36 ∷ 37 ∷ 38 ∷ []) r then Some (row 35)  -- EltLower, EltUpper, EltNonZero: EltOneOfInt
-    else if is_one_of (46 ∷ []) r then Some (row 45)  -- EltNonNullHash: EltOneOfHash
-    else if is_one_of (48 ∷ []) r then Some (row 47)  -- EltNonNullStr: EltOneOfStr
+    if is_one_of (2 ∷ 3 ∷ 4 ∷ 5 ∷ []) r then Some (row_of_number 1)  -- LowerBound, UpperBound, NonZero, Modulus: OneOfInt
+    else if is_one_of (8 ∷ []) r then Some (row_of_number 7)  -- NonNullHash: OneOfHash
+    else if is_one_of (10 ∷ []) r then Some (row_of_number 9)  -- NonNullStr: OneOfStr
+    else if is_one_of (15 ∷ []) r then Some (row_of_number 11)  -- Linear: EqInt
+    else if is_one_of (36 ∷ 37 ∷ 38 ∷ []) r then Some (row_of_number 35)  -- EltLower, EltUpper, EltNonZero: EltOneOfInt
+    else if is_one_of (46 ∷ []) r then Some (row_of_number 45)  -- EltNonNullHash: EltOneOfHash
+    else if is_one_of (48 ∷ []) r then Some (row_of_number 47)  -- EltNonNullStr: EltOneOfStr
     else None
 
 abbrev pub has_sharper : Answers → RowId → List VarId → Bool
@@ -120,7 +123,7 @@ has_sharper here r vars = option_map_or (λ s. fits (here.answered s vars)) (sha
 
 -- that the variable at the first of these roles is the sum of those at the other two
 abbrev pub sum_of : List ℕ → Premise
-sum_of roles = Holds (row 24) roles
+sum_of roles = Holds (row_of_number 24) roles
 
 -- each of three roles in front of the other two
 abbrev pub each_in_front : List (List ℕ)
@@ -136,12 +139,12 @@ is_implied here r vars = is_suppressed here.answered r vars || (has_sharper here
 -- ---- constant: it has several variables, and one of them has one value; an equality that is kept under member is kept
 
 -- the row that says which values a scalar has
-abbrev pub one_of_row : Kind → Option RowId
-one_of_row kind.Int = Some (row 1)
-one_of_row kind.Bool = Some (row 6)
-one_of_row kind.Hash = Some (row 7)
-one_of_row kind.Str = Some (row 9)
-one_of_row _ = None
+abbrev pub one_of_row_for : Kind → Option RowId
+one_of_row_for kind.Int = Some (row_of_number 1)
+one_of_row_for kind.Bool = Some (row_of_number 6)
+one_of_row_for kind.Hash = Some (row_of_number 7)
+one_of_row_for kind.Str = Some (row_of_number 9)
+one_of_row_for _ = None
 
 abbrev pub is_one_value : State → Bool
 is_one_value (state.Ints (v ∷ [])) = true
@@ -151,13 +154,13 @@ is_one_value (state.Code h) = true
 is_one_value _ = false
 
 abbrev pub has_one_value : Answers → VarId → Bool
-has_one_value here v = option_map_or (λ r. is_one_value (here.answered r (v ∷ []))) (one_of_row (info_at here.infos v).kind) false
+has_one_value here v = option_map_or (λ r. is_one_value (here.answered r (v ∷ []))) (one_of_row_for (info_at here.infos v).kind) false
 
-abbrev pub is_constant_by : (VarId → VarId) → (VarId → Bool) → RowId → List VarId → Bool
-is_constant_by first one_value r vars = nat_lt 1 (length vars) && (not (tells_member_by first r vars) && list_any one_value vars)
+abbrev pub is_constant_instance_by : (VarId → VarId) → (VarId → Bool) → RowId → List VarId → Bool
+is_constant_instance_by first one_value r vars = nat_lt 1 (length vars) && (not (tells_member_by first r vars) && list_any one_value vars)
 
-abbrev pub is_constant : Answers → RowId → List VarId → Bool
-is_constant here r vars = is_constant_by (first_like here) (has_one_value here) r vars
+abbrev pub is_constant_instance : Answers → RowId → List VarId → Bool
+is_constant_instance here r vars = is_constant_instance_by (first_like here) (has_one_value here) r vars
 
 -- ---- parent: through an edge, variables of the parent with these partners have the same state there, and are comparable
 
@@ -185,19 +188,19 @@ with_partners parent vars = one_of_each (map (having_partner parent) vars)
 abbrev pub stands_there : Answers → RowId → State → List VarId → Bool
 stands_there there r s vars = are_distinct vars && (same_state s (there.answered r vars) && not (is_incomparable there.infos vars))
 
-abbrev pub is_at : RowId → State → List VarId → Parent → Bool
-is_at r s vars parent = list_any (stands_there parent.answers r s) (with_partners parent vars)
+abbrev pub is_at_one_parent : RowId → State → List VarId → Parent → Bool
+is_at_one_parent r s vars parent = list_any (stands_there parent.answers r s) (with_partners parent vars)
 
 abbrev pub is_at_parent : Answers → List Parent → RowId → List VarId → Bool
-is_at_parent here parents r vars = list_any (is_at r (here.answered r vars) vars) parents
+is_at_parent here parents r vars = list_any (is_at_one_parent r (here.answered r vars) vars) parents
 
 -- ---- all six
 unfoldable pub facts_of : ℕ → Answers → List Parent → RowId → List VarId → Facts
 facts_of least here parents r vars = record {
-  few = is_few least here vars;
+  few = has_few_samples least here vars;
   incomparable = is_incomparable here.infos vars;
-  member = is_member here r vars;
+  member = is_further_member here r vars;
   implied = is_implied here r vars;
-  constant = is_constant here r vars;
+  constant = is_constant_instance here r vars;
   parent = is_at_parent here parents r vars;
 }

@@ -4,5 +4,5 @@ use Rattle.std.specs.List.{list_any}
 use Rattle.dk_template.specs.declared.grammar.RowId.{RowId}
 
 -- the rows over strings whose state, or that of a row that says more, is of texts, or whose strings may have to be laid out anew
-abbrev pub MayWantMemory : RowId → Type 0
-MayWantMemory row = IsTrue (list_any (λ r. row.0 == r) (9 ∷ 10 ∷ 47 ∷ 48 ∷ 51 ∷ 65 ∷ []))
+abbrev pub MayWantMemoryWhenJudged : RowId → Type 0
+MayWantMemoryWhenJudged row = IsTrue (list_any (λ r. row.0 == r) (9 ∷ 10 ∷ 47 ∷ 48 ∷ 51 ∷ 65 ∷ []))

@@ -14,11 +14,12 @@ use Rattle.dk_filters.specs.Facts.{info_at}
 
 -- two variables of one kind have the same value in each sample; the missing value is the same as itself alone
 abbrev pub agrees : List VarInfo → List (List Value) → VarId → VarId → Bool
-agrees infos samples v w = same_kind (info_at infos v).kind (info_at infos w).kind && list_all (λ s. same_value (value_in s v) (value_in s w)) samples
+agrees infos samples v w =
+    same_kind (info_at infos v).kind (info_at infos w).kind && list_all (λ s. same_value (value_in s v) (value_in s w)) samples
 
 -- fits, counts and agreement on the samples
-abbrev pub told_by : List VarInfo → List (List Value) → Answers
-told_by infos samples = record {
+abbrev pub answers_of : List VarInfo → List (List Value) → Answers
+answers_of infos samples = record {
   infos = infos;
   answered = λ row vars. fit row vars samples;
   counted = λ vars. count_of vars samples;

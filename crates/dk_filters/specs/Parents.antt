@@ -9,13 +9,14 @@ use Rattle.dk_filters.specs.Laws.{PartnersAreLike}
 use Rattle.dk_filters.specs.declared.parents.ParentView.{ParentView}
 
 -- what is told of a point with these variables
-abbrev pub told : List VarInfo → (RowId → List VarId → State) → (List VarId → ℕ) → (VarId → VarId → Bool) → Answers
-told infos answered counted agreeing = record { infos = infos; answered = answered; counted = counted; agreeing = agreeing }
+abbrev pub answers_by : List VarInfo → (RowId → List VarId → State) → (List VarId → ℕ) → (VarId → VarId → Bool) → Answers
+answers_by infos answered counted agreeing = record { infos = infos; answered = answered; counted = counted; agreeing = agreeing }
 
 -- what a view shows of a parent, whose answers tell by these functions
-abbrev pub shown : {P : Type 0} → (P → RowId → List VarId → State) → (P → List VarId → ℕ) → (P → VarId → VarId → Bool) → ParentView P → Parent
-shown answered counted agreeing view = record {
-  answers = told view.vars.now (answered view.answers.now) (counted view.answers.now) (agreeing view.answers.now);
+abbrev pub parent_shown : {P : Type 0} → (P → RowId → List VarId → State) → (P → List VarId → ℕ) → (P → VarId → VarId → Bool) → ParentView P
+    → Parent
+parent_shown answered counted agreeing view = record {
+  answers = answers_by view.vars.now (answered view.answers.now) (counted view.answers.now) (agreeing view.answers.now);
   partners = view.partner.now;
 }
 

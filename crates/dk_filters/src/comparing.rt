@@ -3,13 +3,13 @@ ghost use Rattle.std.specs.Prelude.{◌≡◌, ◌==◌, not};
 ghost use Rattle.std.specs.List.{list_all, list_any};
 ghost use Rattle.dk_base.specs.Comparability.{comparable};
 ghost use Rattle.dk_fits.specs.Instances.{are_distinct as all_distinct};
-ghost use Rattle.dk_filters.specs.Facts.{are_comparable, compar_of, has_foreign_index, index_compar_of, is_incomparable, taken_by};
+ghost use Rattle.dk_filters.specs.Facts.{are_comparable, compar_of_var, has_foreign_index, index_compar_of_var, is_incomparable, sequence_and_index};
 
 use dk_base::{Compar, Form, VarId, VarInfo, comparable};
 
 // The comparability of a variable.
 fn compar_of(vars: &[VarInfo], v: VarId) -> Compar
-    ensures { result ≡ compar_of vars.now v }
+    ensures { result ≡ compar_of_var vars.now v }
 {
     match vars.get(v.0 as usize) {
         Some(info) => info.compar,
@@ -19,7 +19,7 @@ fn compar_of(vars: &[VarInfo], v: VarId) -> Compar
 
 // That of a sequence's indices.
 fn index_compar_of(vars: &[VarInfo], s: VarId) -> Compar
-    ensures { result ≡ index_compar_of vars.now s }
+    ensures { result ≡ index_compar_of_var vars.now s }
 {
     Compar {
         elem: compar_of(vars, s).index,
@@ -29,7 +29,7 @@ fn index_compar_of(vars: &[VarInfo], s: VarId) -> Compar
 
 // Whether the variable is comparable with each of the others.
 fn is_comparable_with(vars: &[VarInfo], v: VarId, others: &[VarId]) -> bool
-    ensures { result ≡ list_all (λ w. comparable (compar_of vars.now v) (compar_of vars.now w)) others.now }
+    ensures { result ≡ list_all (λ w. comparable (compar_of_var vars.now v) (compar_of_var vars.now w)) others.now }
 {
     let compar = compar_of(vars, v);
     others
@@ -49,7 +49,7 @@ fn are_comparable(vars: &[VarInfo], tuple: &[VarId]) -> bool
 
 // The sequence and the index of an element or a slice that is taken by an index.
 fn taken_by(form: Form) -> Option<(VarId, VarId)>
-    ensures { result ≡ taken_by form }
+    ensures { result ≡ sequence_and_index form }
 {
     match form {
         Form::At(s, i)

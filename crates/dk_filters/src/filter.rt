@@ -1,7 +1,7 @@
 // Filters: which candidates are kept.
 ghost use Rattle.std.specs.Prelude.{◌≡◌, Bool};
 ghost use Rattle.std.specs.Fn.{FnReturnsAt};
-ghost use Rattle.dk_filters.specs.Candidates.{kept_by};
+ghost use Rattle.dk_filters.specs.Candidates.{candidates_kept};
 ghost use Rattle.dk_filters.specs.Filters.{AnswersBy};
 ghost use Rattle.dk_filters.specs.declared.candidate.Candidate as declared;
 
@@ -42,7 +42,7 @@ impl<F: Fn(&Candidate) -> bool> Filter<F> {
 /// The candidates that the filter keeps, in their order. It takes no memory.
 pub fn kept<F: Fn(&Candidate) -> bool>(list: List<Candidate>, filter: &Filter<F>) -> List<Candidate>
     requires { F.IsAlwaysCallable filter.now }
-    ensures { (test : declared.Candidate → Bool) → AnswersBy (F.post filter.now) test → result ≡ kept_by test list }
+    ensures { (test : declared.Candidate → Bool) → AnswersBy (F.post filter.now) test → result ≡ candidates_kept test list }
 {
     let mut candidates = list.into_vec();
     candidates.retain(|candidate| filter.keeps(candidate));

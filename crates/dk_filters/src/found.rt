@@ -1,9 +1,9 @@
 // What is found once for a point.
 ghost use Rattle.std.specs.Prelude.{◌≡◌, ◌<◌, ◌^◌, All, IfOk, OnErr, filter, length, map};
 ghost use Rattle.dk_fits.specs.Instances.{all_vars};
-ghost use Rattle.dk_filters.specs.Facts.{first_like, has_one_value, info_at, is_like, is_one_value, is_partner, one_of_row};
+ghost use Rattle.dk_filters.specs.Facts.{are_alike, first_like, has_one_value, info_at, is_one_value, is_partner, one_of_row_for};
 ghost use Rattle.dk_filters.specs.Found.{by_partner, firsts_of, found_of, one_values_of, vars_below};
-ghost use Rattle.dk_filters.specs.Parents.{shown, told};
+ghost use Rattle.dk_filters.specs.Parents.{answers_by, parent_shown};
 ghost use Rattle.dk_points.specs.Sameness.{same_compar};
 
 use crate::ParentView;
@@ -33,7 +33,7 @@ fn is_like<A: Answers>(here: &A, vars: &[VarInfo], v: VarId, w: VarId) -> bool
     requires infos { A.infos here.now ≡ vars.now }
     requires v { v.0 < length vars.now }
     requires w { w.0 < length vars.now }
-    ensures { result ≡ is_like (told vars.now (A.answered here.now) (A.counted here.now) (A.agreeing here.now)) v w }
+    ensures { result ≡ are_alike (answers_by vars.now (A.answered here.now) (A.counted here.now) (A.agreeing here.now)) v w }
 {
     same_compar(vars[w.0 as usize].compar, vars[v.0 as usize].compar) && here.agree(w, v)
 }
@@ -43,7 +43,7 @@ fn first_like<A: Answers>(here: &A, vars: &[VarInfo], v: VarId) -> VarId
     requires infos { A.infos here.now ≡ vars.now }
     requires small { length vars.now < 2 ^ 32 }
     requires within { v.0 < length vars.now }
-    ensures { result ≡ first_like (told vars.now (A.answered here.now) (A.counted here.now) (A.agreeing here.now)) v }
+    ensures { result ≡ first_like (answers_by vars.now (A.answered here.now) (A.counted here.now) (A.agreeing here.now)) v }
 {
     for n in 0..vars.len() as u32 {
         if is_like(here, vars, v, VarId(n)) {
@@ -57,7 +57,7 @@ fn first_like<A: Answers>(here: &A, vars: &[VarInfo], v: VarId) -> VarId
 fn firsts<A: Answers>(alloc: Global, here: &A, vars: &[VarInfo]) -> Result<List<VarId>, NoMemory>
     requires infos { A.infos here.now ≡ vars.now }
     requires small { length vars.now < 2 ^ 32 }
-    ensures { IfOk result (λ list. list ≡ firsts_of (told vars.now (A.answered here.now) (A.counted here.now) (A.agreeing here.now))) }
+    ensures { IfOk result (λ list. list ≡ firsts_of (answers_by vars.now (A.answered here.now) (A.counted here.now) (A.agreeing here.now))) }
 {
     let mut list = List::new(alloc);
     for n in 0..vars.len() as u32 {
@@ -68,7 +68,7 @@ fn firsts<A: Answers>(alloc: Global, here: &A, vars: &[VarInfo]) -> Result<List<
 
 // The row that says which values a scalar has.
 fn one_of_row(kind: Kind) -> Option<RowId>
-    ensures { result ≡ one_of_row kind }
+    ensures { result ≡ one_of_row_for kind }
 {
     match kind {
         Kind::Int => Some(RowId(1)),
@@ -94,7 +94,7 @@ fn is_one_value(state: &State) -> bool
 fn has_one_value<A: Answers>(here: &A, vars: &[VarInfo], v: VarId) -> Result<bool, NoMemory>
     requires infos { A.infos here.now ≡ vars.now }
     requires within { v.0 < length vars.now }
-    ensures { IfOk result (λ one. one ≡ has_one_value (told vars.now (A.answered here.now) (A.counted here.now) (A.agreeing here.now)) v) }
+    ensures { IfOk result (λ one. one ≡ has_one_value (answers_by vars.now (A.answered here.now) (A.counted here.now) (A.agreeing here.now)) v) }
 {
     match one_of_row(vars[v.0 as usize].kind) {
         Some(row) => {
@@ -109,7 +109,7 @@ fn has_one_value<A: Answers>(here: &A, vars: &[VarInfo], v: VarId) -> Result<boo
 fn one_values<A: Answers>(alloc: Global, here: &A, vars: &[VarInfo]) -> Result<List<bool>, NoMemory>
     requires infos { A.infos here.now ≡ vars.now }
     requires small { length vars.now < 2 ^ 32 }
-    ensures { IfOk result (λ list. list ≡ one_values_of (told vars.now (A.answered here.now) (A.counted here.now) (A.agreeing here.now))) }
+    ensures { IfOk result (λ list. list ≡ one_values_of (answers_by vars.now (A.answered here.now) (A.counted here.now) (A.agreeing here.now))) }
 {
     let mut list = List::new(alloc);
     for n in 0..vars.len() as u32 {
@@ -171,7 +171,7 @@ fn partners<P: Answers>(
 ) -> Result<List<List<List<VarId>>>, NoMemory>
     requires small { length vars.now < 2 ^ 32 }
     requires parents { All (λ p. length p.vars.now < 2 ^ 32) parents.now }
-    ensures { IfOk result (λ lists. lists ≡ map (λ p. by_partner vars.now (shown P.answered P.counted P.agreeing p)) parents.now) }
+    ensures { IfOk result (λ lists. lists ≡ map (λ p. by_partner vars.now (parent_shown P.answered P.counted P.agreeing p)) parents.now) }
 {
     let mut lists = List::new(alloc);
     for parent in parents {
@@ -196,7 +196,7 @@ impl PointFacts {
         requires infos { A.infos here.now ≡ vars.now }
         requires small { length vars.now < 2 ^ 32 }
         requires parents { All (λ p. length p.vars.now < 2 ^ 32) parents.now }
-        ensures { IfOk result (λ found. found ≡ found_of (told vars.now (A.answered here.now) (A.counted here.now) (A.agreeing here.now)) (map (shown P.answered P.counted P.agreeing) parents.now)) }
+        ensures { IfOk result (λ found. found ≡ found_of (answers_by vars.now (A.answered here.now) (A.counted here.now) (A.agreeing here.now)) (map (parent_shown P.answered P.counted P.agreeing) parents.now)) }
     {
         Ok(PointFacts {
             firsts: firsts(alloc, here, vars)?,

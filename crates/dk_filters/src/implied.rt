@@ -1,11 +1,11 @@
 // Whether an instance follows from others that hold.
 ghost use Rattle.std.specs.Prelude.{◌≡◌, IfOk, IsTrue, OnErr};
 ghost use Rattle.dk_filters.specs.Facts.{has_sharper, is_implied, is_one_of, is_sum_plane, sharper_than, sum_of};
-ghost use Rattle.dk_filters.specs.Parents.{told};
+ghost use Rattle.dk_filters.specs.Parents.{answers_by};
 ghost use Rattle.dk_template.specs.Admitted.{admits};
 ghost use Rattle.dk_template.specs.Premises.{IsUsable, premise_fits};
 ghost use Rattle.dk_template.specs.Templates.{IsRowOf};
-ghost use Rattle.dk_filters.specs.Memory.{MayWantMemory};
+ghost use Rattle.dk_filters.specs.Memory.{MayWantMemoryWhenJudged};
 
 use dk_base::{NoMemory, VarId};
 use dk_suppress::suppressed;
@@ -45,8 +45,8 @@ fn sharper_than(row: RowId) -> Option<RowId>
 fn has_sharper<A: Answers>(here: &A, row: RowId, tuple: &[VarId]) -> Result<bool, NoMemory>
     requires row { IsRowOf (A.grammar here.now) row }
     requires vars { IsTrue (admits row (A.infos here.now) tuple.now) }
-    ensures state { IfOk result (λ sharper. sharper ≡ has_sharper (told (A.infos here.now) (A.answered here.now) (A.counted here.now) (A.agreeing here.now)) row tuple.now) }
-    ensures err { OnErr result (MayWantMemory row) }
+    ensures state { IfOk result (λ sharper. sharper ≡ has_sharper (answers_by (A.infos here.now) (A.answered here.now) (A.counted here.now) (A.agreeing here.now)) row tuple.now) }
+    ensures err { OnErr result (MayWantMemoryWhenJudged row) }
 {
     match sharper_than(row) {
         Some(sharper) => {
@@ -72,7 +72,7 @@ fn is_sum<A: Answers>(here: &A, roles: [u8; 3], tuple: &[VarId]) -> bool
 // Whether it is a plane and one of its variables is the sum of the other two.
 fn is_sum_plane<A: Answers>(here: &A, row: RowId, tuple: &[VarId]) -> bool
     requires { IsTrue (admits row (A.infos here.now) tuple.now) }
-    ensures { result ≡ is_sum_plane (told (A.infos here.now) (A.answered here.now) (A.counted here.now) (A.agreeing here.now)) row tuple.now }
+    ensures { result ≡ is_sum_plane (answers_by (A.infos here.now) (A.answered here.now) (A.counted here.now) (A.agreeing here.now)) row tuple.now }
 {
     row.0 == 67
         && (is_sum(here, [0, 1, 2], tuple)
@@ -89,8 +89,8 @@ pub(crate) fn is_implied<A: Answers>(
 ) -> Result<bool, NoMemory>
     requires row { IsRowOf (A.grammar here.now) row }
     requires vars { IsTrue (admits row (A.infos here.now) tuple.now) }
-    ensures state { IfOk result (λ implied. implied ≡ is_implied (told (A.infos here.now) (A.answered here.now) (A.counted here.now) (A.agreeing here.now)) row tuple.now) }
-    ensures err { OnErr result (MayWantMemory row) }
+    ensures state { IfOk result (λ implied. implied ≡ is_implied (answers_by (A.infos here.now) (A.answered here.now) (A.counted here.now) (A.agreeing here.now)) row tuple.now) }
+    ensures err { OnErr result (MayWantMemoryWhenJudged row) }
 {
     if suppressed(row, tuple, here) || is_sum_plane(here, row, tuple) {
         return Ok(true);

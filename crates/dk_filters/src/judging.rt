@@ -1,10 +1,10 @@
 // The facts of an instance.
 ghost use Rattle.std.specs.Prelude.{◌≡◌, ◌==◌, ◌<◌, ◌^◌, All, IfOk, IsTrue, OnErr, length, map, not};
 ghost use Rattle.std.specs.List.{list_any};
-ghost use Rattle.dk_filters.specs.Facts.{facts_of, is_at, is_constant_by, is_member_by, tells_member_by};
+ghost use Rattle.dk_filters.specs.Facts.{facts_of, is_at_one_parent, is_constant_instance_by, is_further_member_by, tells_member_by};
 ghost use Rattle.dk_filters.specs.Found.{by_partner, first_in, found_of, one_value_in};
-ghost use Rattle.dk_filters.specs.Memory.{MayWantMemory};
-ghost use Rattle.dk_filters.specs.Parents.{IsViewOf, shown, told};
+ghost use Rattle.dk_filters.specs.Memory.{MayWantMemoryWhenJudged};
+ghost use Rattle.dk_filters.specs.Parents.{IsViewOf, answers_by, parent_shown};
 ghost use Rattle.dk_template.specs.Admitted.{admits};
 ghost use Rattle.dk_template.specs.Premises.{MayWantMemory as AnswerMayWantMemory};
 ghost use Rattle.dk_template.specs.Templates.{IsRowOf};
@@ -47,7 +47,7 @@ fn has_later(firsts: &[VarId], tuple: &[VarId]) -> bool
 
 // Whether some variable isn't the first of those like it, and it is no equality that tells so.
 fn is_member(firsts: &[VarId], row: RowId, tuple: &[VarId]) -> bool
-    ensures { result ≡ is_member_by (first_in firsts.now) row tuple.now }
+    ensures { result ≡ is_further_member_by (first_in firsts.now) row tuple.now }
 {
     !tells_member(firsts, row, tuple) && has_later(firsts, tuple)
 }
@@ -70,7 +70,7 @@ fn has_constant(one_values: &[bool], tuple: &[VarId]) -> bool
 
 // Whether it has several variables of which one has one value, and it is no equality that tells of a variable like another.
 fn is_constant(firsts: &[VarId], one_values: &[bool], row: RowId, tuple: &[VarId]) -> bool
-    ensures { result ≡ is_constant_by (first_in firsts.now) (one_value_in one_values.now) row tuple.now }
+    ensures { result ≡ is_constant_instance_by (first_in firsts.now) (one_value_in one_values.now) row tuple.now }
 {
     1 < tuple.len() && !tells_member(firsts, row, tuple) && has_constant(one_values, tuple)
 }
@@ -85,9 +85,9 @@ fn is_at_parent<P: Answers>(
     state: &State,
 ) -> Result<bool, NoMemory>
     requires vars { IsTrue (admits row vars.now tuple.now) }
-    requires parents { All (λ p. IsRowOf (P.grammar p.answers.now) row × IsViewOf (P.infos p.answers.now) vars.now (shown P.answered P.counted P.agreeing p)) parents.now }
-    requires partners { partners.now ≡ map (by_partner vars.now) (map (shown P.answered P.counted P.agreeing) parents.now) }
-    ensures state { IfOk result (λ stands. stands ≡ list_any (is_at row state.now tuple.now) (map (shown P.answered P.counted P.agreeing) parents.now)) }
+    requires parents { All (λ p. IsRowOf (P.grammar p.answers.now) row × IsViewOf (P.infos p.answers.now) vars.now (parent_shown P.answered P.counted P.agreeing p)) parents.now }
+    requires partners { partners.now ≡ map (by_partner vars.now) (map (parent_shown P.answered P.counted P.agreeing) parents.now) }
+    ensures state { IfOk result (λ stands. stands ≡ list_any (is_at_one_parent row state.now tuple.now) (map (parent_shown P.answered P.counted P.agreeing) parents.now)) }
     ensures err { OnErr result (AnswerMayWantMemory row) }
 {
     for (place, parent) in parents.iter().enumerate() {
@@ -118,13 +118,13 @@ pub fn judge_with<A: Answers, P: Answers>(
     state: &State,
 ) -> Result<Facts, NoMemory>
     requires infos { A.infos here.now ≡ vars.now }
-    requires parents { All (λ p. IsRowOf (P.grammar p.answers.now) row × IsViewOf (P.infos p.answers.now) vars.now (shown P.answered P.counted P.agreeing p)) parents.now }
-    requires found { found.now ≡ found_of (told vars.now (A.answered here.now) (A.counted here.now) (A.agreeing here.now)) (map (shown P.answered P.counted P.agreeing) parents.now) }
+    requires parents { All (λ p. IsRowOf (P.grammar p.answers.now) row × IsViewOf (P.infos p.answers.now) vars.now (parent_shown P.answered P.counted P.agreeing p)) parents.now }
+    requires found { found.now ≡ found_of (answers_by vars.now (A.answered here.now) (A.counted here.now) (A.agreeing here.now)) (map (parent_shown P.answered P.counted P.agreeing) parents.now) }
     requires row { IsRowOf (A.grammar here.now) row }
     requires instance { IsTrue (admits row vars.now tuple.now) }
     requires state { state.now ≡ A.answered here.now row tuple.now }
-    ensures facts { IfOk result (λ facts. facts ≡ facts_of least (told vars.now (A.answered here.now) (A.counted here.now) (A.agreeing here.now)) (map (shown P.answered P.counted P.agreeing) parents.now) row tuple.now) }
-    ensures err { OnErr result (MayWantMemory row) }
+    ensures facts { IfOk result (λ facts. facts ≡ facts_of least (answers_by vars.now (A.answered here.now) (A.counted here.now) (A.agreeing here.now)) (map (parent_shown P.answered P.counted P.agreeing) parents.now) row tuple.now) }
+    ensures err { OnErr result (MayWantMemoryWhenJudged row) }
 {
     let firsts = found.firsts.as_slice();
     let one_values = found.one_values.as_slice();
@@ -158,10 +158,10 @@ pub fn judge<A: Answers, P: Answers>(
 ) -> Result<Facts, NoMemory>
     requires infos { A.infos here.now ≡ vars.now }
     requires small { length vars.now < 2 ^ 32 }
-    requires parents { All (λ p. IsRowOf (P.grammar p.answers.now) row × IsViewOf (P.infos p.answers.now) vars.now (shown P.answered P.counted P.agreeing p)) parents.now }
+    requires parents { All (λ p. IsRowOf (P.grammar p.answers.now) row × IsViewOf (P.infos p.answers.now) vars.now (parent_shown P.answered P.counted P.agreeing p)) parents.now }
     requires row { IsRowOf (A.grammar here.now) row }
     requires instance { IsTrue (admits row vars.now tuple.now) }
-    ensures { IfOk result (λ facts. facts ≡ facts_of least (told vars.now (A.answered here.now) (A.counted here.now) (A.agreeing here.now)) (map (shown P.answered P.counted P.agreeing) parents.now) row tuple.now) }
+    ensures { IfOk result (λ facts. facts ≡ facts_of least (answers_by vars.now (A.answered here.now) (A.counted here.now) (A.agreeing here.now)) (map (parent_shown P.answered P.counted P.agreeing) parents.now) row tuple.now) }
 {
     let found = PointFacts::of(alloc, vars, here, parents)?;
     let state = here.answer(row, tuple)?;

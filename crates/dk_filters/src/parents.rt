@@ -6,7 +6,7 @@ ghost use Rattle.dk_template.specs.Templates.{IsRowOf};
 ghost use Rattle.dk_filters.specs.Choices.{all_from, some_from};
 ghost use Rattle.dk_filters.specs.Facts.{stands_there};
 ghost use Rattle.dk_filters.specs.Found.{listed_at};
-ghost use Rattle.dk_filters.specs.Parents.{told};
+ghost use Rattle.dk_filters.specs.Parents.{answers_by};
 
 use crate::comparing::{are_distinct, is_incomparable};
 use dk_base::{List, NoMemory, VarId, VarInfo};
@@ -48,7 +48,7 @@ impl<'a, P: Answers> Sought<'a, P> {
     // Whether the row has the state over these variables of the parent, which are distinct and not incomparable.
     fn stands(&self, choice: &[VarId]) -> Result<bool, NoMemory>
         requires { IsTrue (admits self.now.row self.now.vars.now choice.now) }
-        ensures state { IfOk result (λ stands. stands ≡ stands_there (told self.now.vars.now (P.answered self.now.there.now) (P.counted self.now.there.now) (P.agreeing self.now.there.now)) self.now.row self.now.state.now choice.now) }
+        ensures state { IfOk result (λ stands. stands ≡ stands_there (answers_by self.now.vars.now (P.answered self.now.there.now) (P.counted self.now.there.now) (P.agreeing self.now.there.now)) self.now.row self.now.state.now choice.now) }
         ensures err { OnErr result (MayWantMemory self.now.row) }
     {
         if !are_distinct(choice) || is_incomparable(self.vars, choice) {
@@ -70,7 +70,7 @@ impl<'a, P: Answers> Sought<'a, P> {
         requires few { length tuple.now ≤ 3 }
         requires within { role ≤ length tuple.now }
         requires admitted { IsTrue (all_from (admits self.now.row self.now.vars.now) (take role chosen) (map (listed_at listed.now) (drop role tuple.now))) }
-        ensures state { IfOk result (λ stands. stands ≡ some_from (stands_there (told self.now.vars.now (P.answered self.now.there.now) (P.counted self.now.there.now) (P.agreeing self.now.there.now)) self.now.row self.now.state.now) (take role chosen) (map (listed_at listed.now) (drop role tuple.now))) }
+        ensures state { IfOk result (λ stands. stands ≡ some_from (stands_there (answers_by self.now.vars.now (P.answered self.now.there.now) (P.counted self.now.there.now) (P.agreeing self.now.there.now)) self.now.row self.now.state.now) (take role chosen) (map (listed_at listed.now) (drop role tuple.now))) }
         ensures err { OnErr result (MayWantMemory self.now.row) }
     {
         if role == tuple.len() {

@@ -21,7 +21,7 @@ use Rattle.dk_points.specs.Names.{method_len, role_of}
 use Rattle.dk_points.specs.Table.{Point, declared_point}
 use Rattle.dk_points.specs.Vars.{entry_before, orig_vars, vars_of}
 use Rattle.dk_graph.specs.Names.{place_of}
-use Rattle.dk_print.specs.Texts.{row_text, texts}
+use Rattle.dk_print.specs.Texts.{row_text, row_texts}
 use Rattle.dk_rows.specs.Meanings.{meanings, state_of}
 use Rattle.dk_suppress.specs.Rules.{rules}
 use Rattle.dk_template.specs.Templates.{rows}
@@ -71,7 +71,7 @@ b_x = point (codes "P") (bool (codes "b") ∷ int (codes "x") ∷ [])
 
 either_value : report b_x ((t ∷ i 1 ∷ []) ∷ (t ∷ i 1 ∷ []) ∷ (f ∷ i 5 ∷ []) ∷ (f ∷ i 7 ∷ []) ∷ [])
     ≡ bar ++ codes "P  [4]\nb == true ==> x == 1  [2]\nb == false ==> x one of { 5, 7 }  [2]\n"
-unfolding implications_report implications_at implications_text implications_of candidates_of facts_of row_text texts digits with_derived_vars vars_of orig_vars entry_before role_of method_len place_of rows instances_of rules fit state_of meanings put class remainder gcd divisor through plane_from plane_through
+unfolding implications_report implications_at implications_text implications_of candidates_of facts_of row_text row_texts digits with_derived_vars vars_of orig_vars entry_before role_of method_len place_of rows instances_of rules fit state_of meanings put class remainder gcd divisor through plane_from plane_through
 either_value = refl
 
 -- a point without samples has no section, and one without implications its heading
@@ -80,11 +80,11 @@ unfolding implications_report implications_at
 no_samples = refl
 
 always_true : report b_x ((t ∷ i 1 ∷ []) ∷ (t ∷ i 2 ∷ []) ∷ []) ≡ bar ++ codes "P  [2]\n"
-unfolding implications_report implications_at implications_text implications_of candidates_of facts_of row_text texts digits with_derived_vars vars_of orig_vars entry_before role_of method_len place_of rows instances_of rules fit state_of meanings put class remainder gcd divisor through plane_from plane_through
+unfolding implications_report implications_at implications_text implications_of candidates_of facts_of row_text row_texts digits with_derived_vars vars_of orig_vars entry_before role_of method_len place_of rows instances_of rules fit state_of meanings put class remainder gcd divisor through plane_from plane_through
 always_true = refl
 
 without_bools : report (point (codes "P") (int (codes "x") ∷ [])) ((i 1 ∷ []) ∷ (i 2 ∷ []) ∷ []) ≡ bar ++ codes "P  [2]\n"
-unfolding implications_report implications_at implications_text implications_of candidates_of facts_of row_text texts digits with_derived_vars vars_of orig_vars entry_before role_of method_len place_of rows instances_of rules fit state_of meanings put class remainder gcd divisor through plane_from plane_through
+unfolding implications_report implications_at implications_text implications_of candidates_of facts_of row_text row_texts digits with_derived_vars vars_of orig_vars entry_before role_of method_len place_of rows instances_of rules fit state_of meanings put class remainder gcd divisor through plane_from plane_through
 without_bools = refl
 
 -- ---- two numbers, and a sample in which the Bool is missing
@@ -96,7 +96,7 @@ in_neither_half : report b_x_y
     ≡ bar ++ codes "P  [7]\n"
     ++ codes "b == true ==> x one of { 1, 4, 6 }  [3]\nb == true ==> y one of { 2, 7, 9 }  [3]\nb == true ==> x < y  [3]\n"
     ++ codes "b == false ==> x one of { 3, 5, 8 }  [3]\nb == false ==> x == y  [3]\n"
-unfolding implications_report implications_at implications_text implications_of candidates_of facts_of row_text texts digits with_derived_vars vars_of orig_vars entry_before role_of method_len place_of rows instances_of rules fit state_of meanings put class remainder gcd divisor through plane_from plane_through
+unfolding implications_report implications_at implications_text implications_of candidates_of facts_of row_text row_texts digits with_derived_vars vars_of orig_vars entry_before role_of method_len place_of rows instances_of rules fit state_of meanings put class remainder gcd divisor through plane_from plane_through
 in_neither_half = refl
 
 -- ---- several Bools
@@ -106,7 +106,7 @@ a_b_x = point (codes "P") (bool (codes "a") ∷ bool (codes "b") ∷ int (codes 
 -- of two that agree the first stands for both
 one_of_a_class : report a_b_x ((t ∷ t ∷ i 1 ∷ []) ∷ (f ∷ f ∷ i 5 ∷ []) ∷ [])
     ≡ bar ++ codes "P  [2]\na == true ==> x == 1  [1]\na == false ==> x == 5  [1]\n"
-unfolding implications_report implications_at implications_text implications_of candidates_of facts_of row_text texts digits with_derived_vars vars_of orig_vars entry_before role_of method_len place_of rows instances_of rules fit state_of meanings put class remainder gcd divisor through plane_from plane_through
+unfolding implications_report implications_at implications_text implications_of candidates_of facts_of row_text row_texts digits with_derived_vars vars_of orig_vars entry_before role_of method_len place_of rows instances_of rules fit state_of meanings put class remainder gcd divisor through plane_from plane_through
 one_of_a_class = refl
 
 -- each of two opposite ones splits
@@ -114,11 +114,11 @@ opposites : report a_b_x ((t ∷ f ∷ i 1 ∷ []) ∷ (f ∷ t ∷ i 5 ∷ []) 
     ≡ bar ++ codes "P  [2]\n"
     ++ codes "a == true ==> x == 1  [1]\na == true ==> b == false  [1]\na == false ==> x == 5  [1]\na == false ==> b == true  [1]\n"
     ++ codes "b == true ==> x == 5  [1]\nb == true ==> a == false  [1]\nb == false ==> x == 1  [1]\nb == false ==> a == true  [1]\n"
-unfolding implications_report implications_at implications_text implications_of candidates_of facts_of row_text texts digits with_derived_vars vars_of orig_vars entry_before role_of method_len place_of rows instances_of rules fit state_of meanings put class remainder gcd divisor through plane_from plane_through
+unfolding implications_report implications_at implications_text implications_of candidates_of facts_of row_text row_texts digits with_derived_vars vars_of orig_vars entry_before role_of method_len place_of rows instances_of rules fit state_of meanings put class remainder gcd divisor through plane_from plane_through
 opposites = refl
 
 -- Where the first is true the second is so too; where the second is false, so is the first. In each half the first stands for both.
 alike_in_a_half : report a_b_x ((t ∷ t ∷ i 1 ∷ []) ∷ (f ∷ t ∷ i 5 ∷ []) ∷ (f ∷ f ∷ i 5 ∷ []) ∷ [])
     ≡ bar ++ codes "P  [3]\na == true ==> x == 1  [1]\na == false ==> x == 5  [2]\nb == false ==> x == 5  [1]\nb == false ==> a == false  [1]\n"
-unfolding implications_report implications_at implications_text implications_of candidates_of facts_of row_text texts digits with_derived_vars vars_of orig_vars entry_before role_of method_len place_of rows instances_of rules fit state_of meanings put class remainder gcd divisor through plane_from plane_through
+unfolding implications_report implications_at implications_text implications_of candidates_of facts_of row_text row_texts digits with_derived_vars vars_of orig_vars entry_before role_of method_len place_of rows instances_of rules fit state_of meanings put class remainder gcd divisor through plane_from plane_through
 alike_in_a_half = refl

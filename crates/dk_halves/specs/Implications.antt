@@ -4,8 +4,8 @@ use Rattle.std.specs.List.{list_any}
 use Rattle.dk_base.specs.declared.kinds.VarId.{VarId}
 use Rattle.dk_base.specs.declared.kinds.VarInfo.{VarInfo}
 use Rattle.dk_base.specs.declared.values.Value.{Value}
-use Rattle.dk_filters.specs.Candidates.{candidates_of, kept_by}
-use Rattle.dk_filters.specs.OfSamples.{agrees, told_by}
+use Rattle.dk_filters.specs.Candidates.{candidates_kept, candidates_of}
+use Rattle.dk_filters.specs.OfSamples.{agrees, answers_of}
 use Rattle.dk_filters.specs.Sameness.{same_state}
 use Rattle.dk_filters.specs.declared.candidate.Candidate.{Candidate}
 use Rattle.dk_filters.specs.declared.facts.Facts.{Facts}
@@ -24,12 +24,13 @@ abbrev pub implication : VarId → Bool → Candidate → Implication
 implication b truth c = record { condition = b; truth = truth; instance = c }
 
 -- there is something to say against it; parents aren't asked
-abbrev pub is_dropped : Facts → Bool
-is_dropped facts = facts.few || facts.incomparable || facts.member || facts.implied || facts.constant
+abbrev pub is_left_out : Facts → Bool
+is_left_out facts = facts.few || facts.incomparable || facts.member || facts.implied || facts.constant
 
 -- the instances that hold in samples and that aren't dropped there
 abbrev pub kept_in : Grammar → ℕ → List VarInfo → List (List Value) → List Candidate
-kept_in grammar least infos samples = kept_by (λ c. not (is_dropped c.facts)) (candidates_of grammar least (told_by infos samples) [])
+kept_in grammar least infos samples =
+    candidates_kept (λ c. not (is_left_out c.facts)) (candidates_of grammar least (answers_of infos samples) [])
 
 -- None of its variables agrees with the Bool in all samples, and its state isn't the one that it has in all of them.
 abbrev pub is_told_by : List VarInfo → List (List Value) → VarId → Candidate → Bool

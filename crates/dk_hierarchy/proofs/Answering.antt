@@ -7,7 +7,7 @@ use Rattle.std.proofs.lemmas.List.Elements.{All-cons, All-nil}
 use Rattle.dk_base.specs.declared.kinds.VarId.{VarId}
 use Rattle.dk_engine.proofs.Memories.{texts_want}
 use Rattle.dk_engine.specs.Levels.{Whole}
-use Rattle.dk_engine.specs.Reading.{count_read, read}
+use Rattle.dk_engine.specs.Reading.{count_read, state_read}
 use Rattle.dk_forms.specs.declared.states.State.{State}
 use Rattle.dk_forms.specs.declared.states.State.TheVariants.{Empty}
 use Rattle.dk_template.proofs.ProperStates.{proper_laws}
@@ -53,8 +53,8 @@ module _ (joint : Joint) (way : Way) (is : IsWay joint way) (engine : Whole) (at
     pub few_there : length vars ≤ 3 → length there ≤ 3
     few_there few = let long = partners_long joint.here.infos (engine_at joint way).infos way.partners is.partners vars there partners in omega (arith, few, long)
 
-    pub state_is : (row : RowId) → read engine.kept row there ≡ state_through joint row vars way
-    state_is row = ap (λ (e : Whole). read e.kept row there) at ∙ ap (λ o. option_map_or (read (engine_at joint way).kept row) o Empty) (sym partners)
+    pub state_is : (row : RowId) → state_read engine.kept row there ≡ state_through joint row vars way
+    state_is row = ap (λ (e : Whole). state_read e.kept row there) at ∙ ap (λ o. option_map_or (state_read (engine_at joint way).kept row) o Empty) (sym partners)
 
     pub count_is : count_read engine.kept there * way.paths ≡ count_through joint vars way
     count_is = ap (λ (e : Whole). count_read e.kept there * way.paths) at ∙ ap (λ o. option_map_or (count_read (engine_at joint way).kept) o 0 * way.paths) (sym partners)
@@ -72,7 +72,7 @@ module _ (joint : Joint) (way : Way) (is : IsWay joint way) (engine : Whole) (at
 
 -- where a variable has no partner
 pub no_state : (joint : Joint) (way : Way) (vars : List VarId) → partners_at way.partners vars ≡ None → (row : RowId) → Empty ≡ state_through joint row vars way
-no_state joint way vars none row = ap (λ o. option_map_or (read (engine_at joint way).kept row) o Empty) (sym none)
+no_state joint way vars none row = ap (λ o. option_map_or (state_read (engine_at joint way).kept row) o Empty) (sym none)
 
 pub no_count : (joint : Joint) (way : Way) (vars : List VarId) → partners_at way.partners vars ≡ None → 0 ≡ count_through joint vars way
 no_count joint way vars none = nothing way.paths ∙ ap (λ o. option_map_or (count_read (engine_at joint way).kept) o 0 * way.paths) (sym none)

@@ -14,8 +14,8 @@ use Rattle.dk_hierarchy.proofs.Samples.{all_variables}
 use Rattle.dk_hierarchy.proofs.Telling.{Samples, same_append, same_as, same_behind, same_refl, same_swap, same_sym, same_trans}
 use Rattle.dk_hierarchy.specs.Edges.{ArePartners}
 use Rattle.dk_hierarchy.specs.Descent.{IsDescent, IsWayDown, first_levels, first_way, own_partners, with_way_at, with_ways_below}
-use Rattle.dk_hierarchy.specs.Samples.{OwnSamples, all_vars_of, mapped, own_samples_of, partners_of, samples_of}
-use Rattle.dk_hierarchy.specs.Ways.{TellTheSame, all_brought, brought, repeated, way_below, with_paths, with_way}
+use Rattle.dk_hierarchy.specs.Samples.{OwnSamples, all_vars_of, mapped_sample, own_samples_of, partners_of, samples_of}
+use Rattle.dk_hierarchy.specs.Ways.{SamplesTellTheSame, repeated_samples, samples_through, samples_through_all, way_below, with_paths, with_way}
 use Rattle.dk_hierarchy.specs.declared.way.Way.{Way}
 
 flat_push : {A B : Type 0} (f : A → List B) (xs : List A) (x : A) → flat_map f (xs ++ x ∷ []) ≡ flat_map f xs ++ f x
@@ -102,36 +102,36 @@ module _ (ps : List Point) (deep : ParentsAreDeeper (nodes ps)) (p : ℕ) where
         owns = own_samples_of ps own
 
         abbrev done : Samples
-        done = all_brought owns ways
+        done = samples_through_all owns ways
 
         abbrev lower : Samples
-        lower = flat_map (all_brought all) levels
+        lower = flat_map (samples_through_all all) levels
 
         abbrev next : Samples
-        next = flat_map (λ e. brought all (way_below ps way e)) es
+        next = flat_map (λ e. samples_through all (way_below ps way e)) es
 
         abbrev level_all : Samples
-        level_all = all_brought all level
+        level_all = samples_through_all all level
 
         abbrev of_way : Samples
-        of_way = brought owns way
+        of_way = samples_through owns way
 
         abbrev lower_now : Samples
-        lower_now = flat_map (all_brought all) (with_ways_below ps levels way)
+        lower_now = flat_map (samples_through_all all) (with_ways_below ps levels way)
 
         -- what the levels brought before
-        before : flat_map (all_brought all) (levels ++ (level ++ way ∷ []) ∷ []) ≡ lower ++ (level_all ++ brought all way)
-        before = flat_push (all_brought all) levels (level ++ way ∷ []) ∙ ap (λ xs. lower ++ xs) (flat_push (brought all) level way)
+        before : flat_map (samples_through_all all) (levels ++ (level ++ way ∷ []) ∷ []) ≡ lower ++ (level_all ++ samples_through all way)
+        before = flat_push (samples_through_all all) levels (level ++ way ∷ []) ∙ ap (λ xs. lower ++ xs) (flat_push (samples_through all) level way)
 
-        after : flat_map (all_brought all) (with_ways_below ps levels way ++ level ∷ []) ≡ lower_now ++ level_all
-        after = flat_push (all_brought all) (with_ways_below ps levels way) level
+        after : flat_map (samples_through_all all) (with_ways_below ps levels way ++ level ∷ []) ≡ lower_now ++ level_all
+        after = flat_push (samples_through_all all) (with_ways_below ps levels way) level
 
         -- the way's own samples, and the levels with what goes on from it
-        moved : TellTheSame (lower ++ (level_all ++ brought all way)) (of_way ++ (lower_now ++ level_all))
+        moved : SamplesTellTheSame (lower ++ (level_all ++ samples_through all way)) (of_way ++ (lower_now ++ level_all))
         moved =
-            same_trans (lower ++ (level_all ++ brought all way)) ((lower ++ level_all) ++ (of_way ++ next)) (of_way ++ (lower_now ++ level_all))
-            (same_trans (lower ++ (level_all ++ brought all way)) (lower ++ (level_all ++ (of_way ++ next))) ((lower ++ level_all) ++ (of_way ++ next))
-            (same_behind lower (level_all ++ brought all way) (level_all ++ (of_way ++ next)) (same_behind level_all (brought all way) (of_way ++ next) (brought_below ps deep own way)))
+            same_trans (lower ++ (level_all ++ samples_through all way)) ((lower ++ level_all) ++ (of_way ++ next)) (of_way ++ (lower_now ++ level_all))
+            (same_trans (lower ++ (level_all ++ samples_through all way)) (lower ++ (level_all ++ (of_way ++ next))) ((lower ++ level_all) ++ (of_way ++ next))
+            (same_behind lower (level_all ++ samples_through all way) (level_all ++ (of_way ++ next)) (same_behind level_all (samples_through all way) (of_way ++ next) (brought_below ps deep own way)))
             (same_as (lower ++ (level_all ++ (of_way ++ next))) ((lower ++ level_all) ++ (of_way ++ next)) (sym (append_assoc lower level_all (of_way ++ next)))))
             (same_trans ((lower ++ level_all) ++ (of_way ++ next)) ((of_way ++ next) ++ (lower ++ level_all)) (of_way ++ (lower_now ++ level_all)) (same_swap (lower ++ level_all) (of_way ++ next))
             (same_trans ((of_way ++ next) ++ (lower ++ level_all)) (of_way ++ (next ++ (lower ++ level_all))) (of_way ++ (lower_now ++ level_all))
@@ -143,15 +143,15 @@ module _ (ps : List Point) (deep : ParentsAreDeeper (nodes ps)) (p : ℕ) where
             (same_trans (next ++ lower) (lower ++ next) lower_now (same_swap next lower) (same_sym lower_now (lower ++ next) (ways_below_added all ps way levels es below_deep)))
             (same_refl level_all))))))
 
-        brings : TellTheSame (samples_of ps own p) (all_brought owns (ways ++ way ∷ []) ++ flat_map (all_brought all) (with_ways_below ps levels way ++ level ∷ []))
+        brings : SamplesTellTheSame (samples_of ps own p) (samples_through_all owns (ways ++ way ∷ []) ++ flat_map (samples_through_all all) (with_ways_below ps levels way ++ level ∷ []))
         brings =
-            same_trans (samples_of ps own p) (done ++ (lower ++ (level_all ++ brought all way))) (all_brought owns (ways ++ way ∷ []) ++ flat_map (all_brought all) (with_ways_below ps levels way ++ level ∷ []))
-            (subst (λ xs. TellTheSame (samples_of ps own p) (done ++ xs)) before (is.brings own))
-            (same_trans (done ++ (lower ++ (level_all ++ brought all way))) (done ++ (of_way ++ (lower_now ++ level_all))) (all_brought owns (ways ++ way ∷ []) ++ flat_map (all_brought all) (with_ways_below ps levels way ++ level ∷ []))
-            (same_behind done (lower ++ (level_all ++ brought all way)) (of_way ++ (lower_now ++ level_all)) moved)
-            (same_as (done ++ (of_way ++ (lower_now ++ level_all))) (all_brought owns (ways ++ way ∷ []) ++ flat_map (all_brought all) (with_ways_below ps levels way ++ level ∷ []))
+            same_trans (samples_of ps own p) (done ++ (lower ++ (level_all ++ samples_through all way))) (samples_through_all owns (ways ++ way ∷ []) ++ flat_map (samples_through_all all) (with_ways_below ps levels way ++ level ∷ []))
+            (subst (λ xs. SamplesTellTheSame (samples_of ps own p) (done ++ xs)) before (is.brings own))
+            (same_trans (done ++ (lower ++ (level_all ++ samples_through all way))) (done ++ (of_way ++ (lower_now ++ level_all))) (samples_through_all owns (ways ++ way ∷ []) ++ flat_map (samples_through_all all) (with_ways_below ps levels way ++ level ∷ []))
+            (same_behind done (lower ++ (level_all ++ samples_through all way)) (of_way ++ (lower_now ++ level_all)) moved)
+            (same_as (done ++ (of_way ++ (lower_now ++ level_all))) (samples_through_all owns (ways ++ way ∷ []) ++ flat_map (samples_through_all all) (with_ways_below ps levels way ++ level ∷ []))
             (sym (append_assoc done of_way (lower_now ++ level_all))
-            ∙ (ap (λ xs. xs ++ (lower_now ++ level_all)) (sym (flat_push (brought owns) ways way)) ∙ ap (λ xs. all_brought owns (ways ++ way ∷ []) ++ xs) (sym after)))))
+            ∙ (ap (λ xs. xs ++ (lower_now ++ level_all)) (sym (flat_push (samples_through owns) ways way)) ∙ ap (λ xs. samples_through_all owns (ways ++ way ∷ []) ++ xs) (sym after)))))
 
       pub way_done : IsDescent ps p (ways ++ way ∷ []) (with_ways_below ps levels way ++ level ∷ [])
       way_done = record {
@@ -167,8 +167,8 @@ module _ (ps : List Point) (deep : ParentsAreDeeper (nodes ps)) (p : ℕ) where
     done = is.done;
     pending = (before_push Pending [] nothing_pending levels [] is.pending).0;
     brings = λ own.
-        subst (λ xs. TellTheSame (samples_of ps own p) (all_brought (own_samples_of ps own) ways ++ xs))
-        (flat_push (all_brought (samples_of ps own)) levels [] ∙ append-nil (flat_map (all_brought (samples_of ps own)) levels)) (is.brings own);
+        subst (λ xs. SamplesTellTheSame (samples_of ps own p) (samples_through_all (own_samples_of ps own) ways ++ xs))
+        (flat_push (samples_through_all (samples_of ps own)) levels [] ∙ append-nil (flat_map (samples_through_all (samples_of ps own)) levels)) (is.brings own);
   }
 
   -- ---- the first way
@@ -190,12 +190,12 @@ module _ (ps : List Point) (deep : ParentsAreDeeper (nodes ps)) (p : ℕ) where
   empty_long zero = refl
   empty_long (suc n) = ap suc (empty_long n)
 
-  empty_brings : (samples : ℕ → Samples) (n : ℕ) → flat_map (all_brought samples) (replicate n no_ways) ≡ []
+  empty_brings : (samples : ℕ → Samples) (n : ℕ) → flat_map (samples_through_all samples) (replicate n no_ways) ≡ []
   empty_brings samples zero = refl
   empty_brings samples (suc n) = empty_brings samples n
 
   pub begun : p < length ps → IsDescent ps p [] (first_levels p (length (all_vars_of ps p)) (depth_of (nodes ps) p))
-  unfolding repeated
+  unfolding repeated_samples
   begun within = record {
     done = All-nil (IsWayDown ps p);
     pending = at_push Pending [] nothing_pending (replicate (depth_of (nodes ps) p) no_ways) (first ∷ []) (empty_at (depth_of (nodes ps) p))
@@ -203,10 +203,10 @@ module _ (ps : List Point) (deep : ParentsAreDeeper (nodes ps)) (p : ℕ) where
         (record { within = within; partners = own_are_partners (all_vars_of ps p); some = omega arith }, sym (empty_long (depth_of (nodes ps) p)))
         (All-nil (IsAt (length (replicate (depth_of (nodes ps) p) no_ways)))));
     brings = λ own.
-        same_as (samples_of ps own p) (flat_map (all_brought (samples_of ps own)) (replicate (depth_of (nodes ps) p) [] ++ (first ∷ []) ∷ []))
-        (sym (flat_push (all_brought (samples_of ps own)) (replicate (depth_of (nodes ps) p) no_ways) (first ∷ [])
-        ∙ (ap (λ xs. xs ++ all_brought (samples_of ps own) (first ∷ [])) (empty_brings (samples_of ps own) (depth_of (nodes ps) p))
-        ∙ (append-nil (brought (samples_of ps own) first)
-        ∙ (append-nil (map (mapped (own_partners (length (all_vars_of ps p)))) (samples_of ps own p))
+        same_as (samples_of ps own p) (flat_map (samples_through_all (samples_of ps own)) (replicate (depth_of (nodes ps) p) [] ++ (first ∷ []) ∷ []))
+        (sym (flat_push (samples_through_all (samples_of ps own)) (replicate (depth_of (nodes ps) p) no_ways) (first ∷ [])
+        ∙ (ap (λ xs. xs ++ samples_through_all (samples_of ps own) (first ∷ [])) (empty_brings (samples_of ps own) (depth_of (nodes ps) p))
+        ∙ (append-nil (samples_through (samples_of ps own) first)
+        ∙ (append-nil (map (mapped_sample (own_partners (length (all_vars_of ps p)))) (samples_of ps own p))
         ∙ all_mapped_own (length (all_vars_of ps p)) (samples_of ps own p) (all_variables ps own p))))));
   }

@@ -14,7 +14,7 @@ use Rattle.dk_presence.specs.Patterns.{capped, count_of}
 use Rattle.dk_rows.specs.Meanings.{state_of}
 use Rattle.dk_samples.specs.Samples.{is_present, value_in}
 use Rattle.dk_hierarchy.specs.Edges.{AgreementThroughEdges, CountsThroughEdges, FitsThroughEdges, partner_at, partners_at, same_through}
-use Rattle.dk_hierarchy.specs.Samples.{mapped}
+use Rattle.dk_hierarchy.specs.Samples.{mapped_sample}
 
 -- the value of a partner; without one it is missing
 abbrev pub of_partner : List Value → Option VarId → Value
@@ -25,7 +25,7 @@ index-map f [] i d = refl
 index-map f (x ∷ xs) zero d = refl
 index-map f (x ∷ xs) (suc i) d = index-map f xs i d
 
-pub value-through : (partners : List (Option VarId)) (s : List Value) (v : VarId) → value_in (mapped partners s) v ≡ of_partner s (partner_at partners v)
+pub value-through : (partners : List (Option VarId)) (s : List Value) (v : VarId) → value_in (mapped_sample partners s) v ≡ of_partner s (partner_at partners v)
 value-through partners s v = index-map (of_partner s) partners v.0 None
 
 -- ---- tuples
@@ -48,22 +48,22 @@ same-tuple : (s : List Value) (there : Option (List VarId)) (t u : List Value) �
 same-tuple s None t u same through = ap is_whole same ∙ through
 same-tuple s (Some there) t u same through = same ∙ through
 
-tuple-through : (partners : List (Option VarId)) (s : List Value) (vars : List VarId) → IsThrough s (partners_at partners vars) (tuple_in vars (mapped partners s))
+tuple-through : (partners : List (Option VarId)) (s : List Value) (vars : List VarId) → IsThrough s (partners_at partners vars) (tuple_in vars (mapped_sample partners s))
 tuple-through partners s [] = refl
 tuple-through partners s (v ∷ vars) =
-    same-tuple s (partners_at partners (v ∷ vars)) (tuple_in (v ∷ vars) (mapped partners s)) (of_partner s (partner_at partners v) ∷ tuple_in vars (mapped partners s))
-    (ap (λ x. x ∷ tuple_in vars (mapped partners s)) (value-through partners s v))
-    (one-more s (partner_at partners v) (partners_at partners vars) (tuple_in vars (mapped partners s)) (tuple-through partners s vars))
+    same-tuple s (partners_at partners (v ∷ vars)) (tuple_in (v ∷ vars) (mapped_sample partners s)) (of_partner s (partner_at partners v) ∷ tuple_in vars (mapped_sample partners s))
+    (ap (λ x. x ∷ tuple_in vars (mapped_sample partners s)) (value-through partners s v))
+    (one-more s (partner_at partners v) (partners_at partners vars) (tuple_in vars (mapped_sample partners s)) (tuple-through partners s vars))
 
-by-partners : (partners : List (Option VarId)) (vars : List VarId) (there : Option (List VarId)) → ((s : List Value) → IsThrough s there (tuple_in vars (mapped partners s)))
-    → (samples : List (List Value)) → tuples_of vars (map (mapped partners) samples) ≡ option_map_or (λ ws. tuples_of ws samples) there []
+by-partners : (partners : List (Option VarId)) (vars : List VarId) (there : Option (List VarId)) → ((s : List Value) → IsThrough s there (tuple_in vars (mapped_sample partners s)))
+    → (samples : List (List Value)) → tuples_of vars (map (mapped_sample partners) samples) ≡ option_map_or (λ ws. tuples_of ws samples) there []
 by-partners partners vars None through [] = refl
 by-partners partners vars None through (s ∷ samples) = rw (through s) (by-partners partners vars None through samples)
 by-partners partners vars (Some there) through [] = refl
 by-partners partners vars (Some there) through (s ∷ samples) = rw (through s, by-partners partners vars (Some there) through samples) refl
 
 tuples-through : (partners : List (Option VarId)) (vars : List VarId) (samples : List (List Value))
-    → tuples_of vars (map (mapped partners) samples) ≡ option_map_or (λ there. tuples_of there samples) (partners_at partners vars) []
+    → tuples_of vars (map (mapped_sample partners) samples) ≡ option_map_or (λ there. tuples_of there samples) (partners_at partners vars) []
 tuples-through partners vars samples = by-partners partners vars (partners_at partners vars) (λ s. tuple-through partners s vars) samples
 
 -- ---- fits and counts
@@ -84,7 +84,7 @@ same-counts (Some there) samples = sym (count_of_tuples there samples)
 
 pub counts : CountsThroughEdges
 counts partners vars samples =
-    count_of_tuples vars (map (mapped partners) samples)
+    count_of_tuples vars (map (mapped_sample partners) samples)
     ∙ ap (λ ts. capped (length ts)) (tuples-through partners vars samples)
     ∙ of-either (λ ts. capped (length ts)) (λ there. tuples_of there samples) (partners_at partners vars) [] 0 refl
     ∙ same-counts (partners_at partners vars) samples
@@ -124,14 +124,14 @@ each-same (Some v) (Some w) samples = refl
 pub agreement : AgreementThroughEdges
 agreement partners v w [] = each-same (partner_at partners v) (partner_at partners w) []
 agreement partners v w (s ∷ samples) =
-    ap (λ b. b && list_all (λ s. same_value (value_in s v) (value_in s w)) (map (mapped partners) samples)) (alike s)
+    ap (λ b. b && list_all (λ s. same_value (value_in s v) (value_in s w)) (map (mapped_sample partners) samples)) (alike s)
     ∙ ap (λ b. same_value (of_partner s (partner_at partners v)) (of_partner s (partner_at partners w)) && b) (all samples)
     ∙ each-same (partner_at partners v) (partner_at partners w) (s ∷ samples)
   where
-    alike : (s : List Value) → same_value (value_in (mapped partners s) v) (value_in (mapped partners s) w) ≡ same_value (of_partner s (partner_at partners v)) (of_partner s (partner_at partners w))
+    alike : (s : List Value) → same_value (value_in (mapped_sample partners s) v) (value_in (mapped_sample partners s) w) ≡ same_value (of_partner s (partner_at partners v)) (of_partner s (partner_at partners w))
     alike s = rw (value-through partners s v, value-through partners s w) refl
 
-    all : (samples : List (List Value)) → list_all (λ s. same_value (value_in s v) (value_in s w)) (map (mapped partners) samples)
+    all : (samples : List (List Value)) → list_all (λ s. same_value (value_in s v) (value_in s w)) (map (mapped_sample partners) samples)
         ≡ list_all (λ s. same_value (of_partner s (partner_at partners v)) (of_partner s (partner_at partners w))) samples
     all [] = refl
     all (s ∷ samples) = rw (alike s, all samples) refl

@@ -9,7 +9,7 @@ use Rattle.dk_hierarchy.proofs.Levels.{way_added}
 use Rattle.dk_hierarchy.proofs.Onward.{brought_below}
 use Rattle.dk_hierarchy.specs.Samples.{own_samples_of, samples_of}
 use Rattle.dk_hierarchy.specs.WayLaws.{DescentsBegin, DescentsEnd, DescentsGoOn, EqualWaysAreOne, SameSamplesSayTheSame, WaysGoOn}
-use Rattle.dk_hierarchy.specs.Ways.{TellTheSame, all_brought}
+use Rattle.dk_hierarchy.specs.Ways.{SamplesTellTheSame, samples_through_all}
 
 pub same_samples : SameSamplesSayTheSame
 same_samples first second same row is vars = fit_of_set row is vars first second same.samples
@@ -27,4 +27,4 @@ pub descents_go_on : DescentsGoOn
 descents_go_on ps free p ways levels level way into is = way_done ps (deeper (nodes ps) free) p ways levels level way is into
 
 pub descents_end : DescentsEnd
-descents_end ps p ways is own = subst (TellTheSame (samples_of ps own p)) (append-nil (all_brought (own_samples_of ps own) ways)) (is.brings own)
+descents_end ps p ways is own = subst (SamplesTellTheSame (samples_of ps own p)) (append-nil (samples_through_all (own_samples_of ps own) ways)) (is.brings own)

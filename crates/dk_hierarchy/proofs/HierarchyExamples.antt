@@ -19,7 +19,7 @@ use Rattle.dk_points.specs.Table.{Point, declared_point}
 use Rattle.dk_points.specs.Vars.{entry_before, orig_vars, vars_of}
 use Rattle.dk_hierarchy.specs.Descent.{first_levels, with_ways_below}
 use Rattle.dk_hierarchy.specs.Samples.{OwnSamples, all_vars_of, own_samples_of, partners_of, samples_of}
-use Rattle.dk_hierarchy.specs.Ways.{all_brought, repeated}
+use Rattle.dk_hierarchy.specs.Ways.{repeated_samples, samples_through_all}
 use Rattle.dk_hierarchy.specs.declared.way.Way.{Way}
 
 -- ---- tables
@@ -116,7 +116,7 @@ abbrev is_brought : List (List To) → ℕ → Bool
 is_brought points p =
     let ps = table points in
     let g = ways_of ps 30 p in
-    length g.1 == 0 && same_bag (samples_of ps (own_of points) p) (all_brought (own_samples_of ps (own_of points)) g.0)
+    length g.1 == 0 && same_bag (samples_of ps (own_of points) p) (samples_through_all (own_samples_of ps (own_of points)) g.0)
 
 -- ---- hierarchies, and a point of each
 abbrev hierarchies : List (List (List To) × ℕ)
@@ -154,5 +154,5 @@ hierarchies =
     ∷ []
 
 all_are_brought : list_all (λ h. is_brought h.0 h.1) hierarchies ≡ true
-unfolding samples_of partners_of partner_with_derived with_derived_vars partner_of vars_of orig_vars entry_before role_of method_len place_of nodes kept_edges edges links edges_into depth_of repeated
+unfolding samples_of partners_of partner_with_derived with_derived_vars partner_of vars_of orig_vars entry_before role_of method_len place_of nodes kept_edges edges links edges_into depth_of repeated_samples
 all_are_brought = refl

@@ -26,7 +26,7 @@ use Rattle.dk_hierarchy.proofs.Edges.{of_partner, value-through}
 use Rattle.dk_hierarchy.proofs.Samples.{into-parent, mapped-long, over}
 use Rattle.dk_hierarchy.specs.Edges.{partner_at}
 use Rattle.dk_hierarchy.specs.Laws.{SamplesAreOfVariables}
-use Rattle.dk_hierarchy.specs.Samples.{OwnSamples, all_vars_of, mapped, own_samples_of, partners_of, samples_of, samples_within}
+use Rattle.dk_hierarchy.specs.Samples.{OwnSamples, all_vars_of, mapped_sample, own_samples_of, partners_of, samples_of, samples_within}
 
 -- ---- lists
 zip-from : {A B : Type 0} (R : A → B → Type 0) (xs : List A) (ys : List B) (e : B) → length ys ≡ length xs → ((i : ℕ) (x : A) → slice_get xs i ≡ Some x → R x (slice_index_or ys i e)) → AllZip R xs ys
@@ -82,9 +82,9 @@ module _ (ps : List Point) (e : Edge) where
   written-through s all None = tt
   written-through s all (Some v) = value_written s v.0 all
 
-  sample-through : (s : List Value) → IsSample child_vars s → IsSample parent_vars (mapped (partners_of ps e) s)
+  sample-through : (s : List Value) → IsSample child_vars s → IsSample parent_vars (mapped_sample (partners_of ps e) s)
   sample-through s is = record {
-    kinds = zip-from Kinded parent_vars (mapped (partners_of ps e) s) value.Missing (mapped-long ps e s)
+    kinds = zip-from Kinded parent_vars (mapped_sample (partners_of ps e) s) value.Missing (mapped-long ps e s)
         (λ w info at. subst (Kinded info) (sym (value-through (partners_of ps e) s (var w) ∙ ap (of_partner s) (partner-at w info at))) (kind-through s is.kinds w info at (partner w) refl));
     written = All-map IsWritten (of_partner s) (partners_of ps e) (λ k d lt. written-through s is.written (slice_index_or (partners_of ps e) k d));
   }
@@ -95,8 +95,8 @@ within-samples ps own are zero p = are p
 within-samples ps own are (suc n) p =
     All-append (IsSample (all_vars_of ps p)) (own_samples_of ps own p) (flat_map (over ps (samples_within n ps own)) (edges_into (nodes ps) p)) (are p)
     (all_flat_map (λ (e : Edge). e.parent.0 ≡ p) (IsSample (all_vars_of ps p)) (over ps (samples_within n ps own))
-    (λ e is. All-map (IsSample (all_vars_of ps p)) (mapped (partners_of ps e)) (samples_within n ps own e.child.0)
-    (λ k d lt. subst (λ q. IsSample (all_vars_of ps q) (mapped (partners_of ps e) (slice_index_or (samples_within n ps own e.child.0) k d))) is
+    (λ e is. All-map (IsSample (all_vars_of ps p)) (mapped_sample (partners_of ps e)) (samples_within n ps own e.child.0)
+    (λ k d lt. subst (λ q. IsSample (all_vars_of ps q) (mapped_sample (partners_of ps e) (slice_index_or (samples_within n ps own e.child.0) k d))) is
     (sample-through ps e (slice_index_or (samples_within n ps own e.child.0) k d) (within-samples ps own are n e.child.0 k d lt)))) (edges_into (nodes ps) p) (into-parent ps p))
 
 pub samples_are_of_variables : SamplesAreOfVariables

@@ -16,7 +16,7 @@ use Rattle.dk_base.specs.declared.values.Value.TheVariants as value
 use Rattle.dk_classes.specs.Classes.{kind_at, var_kinds}
 use Rattle.dk_engine.proofs.Readings.{agreement_read, counts_read, read_fits, row_is}
 use Rattle.dk_engine.specs.Levels.{Whole}
-use Rattle.dk_engine.specs.Reading.{count_read, read}
+use Rattle.dk_engine.specs.Reading.{count_read, state_read}
 use Rattle.dk_fits.proofs.Fitting.{count_of_both, fit_of_both, fit_of_none, fit_of_set}
 use Rattle.dk_fits.proofs.Whole.{kind_alike}
 use Rattle.dk_fits.specs.Fits.{fit}
@@ -32,9 +32,9 @@ use Rattle.dk_hierarchy.proofs.Partners.{partner_kind, partner_there, partners_a
 use Rattle.dk_hierarchy.proofs.Telling.{Samples, count_repeated, from_repeated, in_repeated}
 use Rattle.dk_hierarchy.specs.Edges.{partner_at, partners_at}
 use Rattle.dk_hierarchy.specs.Merging.{AreWays, IsWay, Joint, agree_through, count_through, engine_at, merged_agree, merged_count, merged_state, partners_agree, same_kinds, state_through, states_joined}
-use Rattle.dk_hierarchy.specs.Samples.{mapped}
+use Rattle.dk_hierarchy.specs.Samples.{mapped_sample}
 use Rattle.dk_hierarchy.specs.Standing.{EngineStandsFor, EnginesStandFor, JointStandsFor, MergedStandForWhatIsBrought}
-use Rattle.dk_hierarchy.specs.Ways.{all_brought, brought, repeated}
+use Rattle.dk_hierarchy.specs.Ways.{repeated_samples, samples_through, samples_through_all}
 use Rattle.dk_hierarchy.specs.declared.way.Way.{Way}
 
 -- ---- through an option
@@ -59,13 +59,13 @@ all_both P (s ∷ a) b =
       λ h. All-append P (s ∷ a) b h.0 h.1,
     )
 
-all_repeated : (n : ℕ) → 0 < n → (P : List Value → Type 0) (a : Samples) → All P (repeated n a) ↔ All P a
-unfolding repeated
+all_repeated : (n : ℕ) → 0 < n → (P : List Value → Type 0) (a : Samples) → All P (repeated_samples n a) ↔ All P a
+unfolding repeated_samples
 all_repeated zero some P a = absurd (omega (arith, some))
 all_repeated (suc zero) some P a = (λ h. ((all_both P a []).0 h).0, λ h. (all_both P a []).1 (h, All-nil P))
 all_repeated (suc (suc n)) some P a =
     let rest = all_repeated (suc n) (omega arith) P a in
-    (λ h. ((all_both P a (repeated (suc n) a)).0 h).0, λ h. (all_both P a (repeated (suc n) a)).1 (h, rest.1 h))
+    (λ h. ((all_both P a (repeated_samples (suc n) a)).0 h).0, λ h. (all_both P a (repeated_samples (suc n) a)).1 (h, rest.1 h))
 
 -- ---- never present
 missing : (x : Value) → is_present x ≡ false → x ≡ value.Missing
@@ -108,25 +108,25 @@ module _ (joint : Joint) (are : AreWays joint) (samples : ℕ → Samples) (stan
     engine = engine_at joint way
 
     abbrev once : Samples
-    once = map (mapped way.partners) there
+    once = map (mapped_sample way.partners) there
 
     stands : EngineStandsFor engine there
     stands = stand way.point.0 engine (slice_get-get_or joint.engines way.point.0 joint.here is.within)
 
-    fits_once : (row : RowId) → IsRowOf joint.here.grammar row → (vars : List VarId) → fit row vars (brought samples way) ≡ fit row vars once
-    fits_once row of vars = fit_of_set row (row_is joint.here.grammar row of) vars (repeated way.paths once) once (record {
+    fits_once : (row : RowId) → IsRowOf joint.here.grammar row → (vars : List VarId) → fit row vars (samples_through samples way) ≡ fit row vars once
+    fits_once row of vars = fit_of_set row (row_is joint.here.grammar row of) vars (repeated_samples way.paths once) once (record {
       to = λ x i. from_repeated way.paths once x i;
       from = λ x i. in_repeated way.paths once x some i;
     })
 
-    state_brought : (row : RowId) → IsRowOf joint.here.grammar row → (vars : List VarId) → IsTrue (admits row joint.here.infos vars) → state_through joint row vars way ≡ fit row vars (brought samples way)
+    state_brought : (row : RowId) → IsRowOf joint.here.grammar row → (vars : List VarId) → IsTrue (admits row joint.here.infos vars) → state_through joint row vars way ≡ fit row vars (samples_through samples way)
     state_brought row of vars admitted =
-        through_same (read engine.kept row) (λ ws. fit row ws there) (partners_at way.partners vars) Empty
+        through_same (state_read engine.kept row) (λ ws. fit row ws there) (partners_at way.partners vars) Empty
         (λ ws e. read_fits engine.grammar engine.infos stands.variables there stands.samples_are engine.kept stands.kept_is row (subst (λ g. IsRowOf g row) (sym is.grammar) of) ws
         (partners_admitted joint.here.infos engine.infos way.partners is.partners row vars ws e admitted))
         ∙ (sym (fits_through row (row_is joint.here.grammar row of) way.partners vars there) ∙ sym (fits_once row of vars))
 
-    count_brought : (vars : List VarId) → capped (count_through joint vars way) ≡ count_of vars (brought samples way)
+    count_brought : (vars : List VarId) → capped (count_through joint vars way) ≡ count_of vars (samples_through samples way)
     count_brought vars =
         ap (λ n. capped (n * way.paths))
         (through_same (count_read engine.kept) (λ ws. count_of ws there) (partners_at way.partners vars) 0
@@ -163,12 +163,12 @@ module _ (joint : Joint) (are : AreWays joint) (samples : ℕ → Samples) (stan
 
       agree_once : Agree once v w ↔ AgreeBy (partner_at way.partners v) (partner_at way.partners w)
       agree_once =
-          let here = all_mapped (mapped way.partners) (λ s. value_in s v ≡ value_in s w) there in (
+          let here = all_mapped (mapped_sample way.partners) (λ s. value_in s v ≡ value_in s w) there in (
             λ h k d l. sym (value-through way.partners (get_or there k d) v) ∙ (here.0 h k d l ∙ value-through way.partners (get_or there k d) w),
             λ h. here.1 (λ k d l. value-through way.partners (get_or there k d) v ∙ (h k d l ∙ sym (value-through way.partners (get_or there k d) w))),
           )
 
-      agree_brought : IsTrue (agree_through joint v w way) ↔ Agree (brought samples way) v w
+      agree_brought : IsTrue (agree_through joint v w way) ↔ Agree (samples_through samples way) v w
       agree_brought =
           let by = by_partners (partner_at way.partners v) (partner_at way.partners w) refl refl in
           let times = all_repeated way.paths some (λ s. value_in s v ≡ value_in s w) once in
@@ -179,34 +179,34 @@ module _ (joint : Joint) (are : AreWays joint) (samples : ℕ → Samples) (stan
   IsSome way = 0 < way.paths
 
   states_brought : (row : RowId) → IsRowOf joint.here.grammar row → (vars : List VarId) → IsTrue (admits row joint.here.infos vars) → (done : Samples) (ways : List Way) → All (IsWay joint) ways → All IsSome ways
-      → states_joined joint row vars (fit row vars done) ways ≡ fit row vars (done ++ all_brought samples ways)
+      → states_joined joint row vars (fit row vars done) ways ≡ fit row vars (done ++ samples_through_all samples ways)
   states_brought row of vars admitted done [] all some = ap (fit row vars) (sym (append-nil done))
   states_brought row of vars admitted done (way ∷ ways) all some =
       let one = state_brought way (All-head (IsWay joint) way ways all) (All-head IsSome way ways some) row of vars admitted in
       ap (λ s. states_joined joint row vars s ways)
-      (ap (joined (form_of row) (fit row vars done)) one ∙ sym (fit_of_both row (row_is joint.here.grammar row of) vars done (brought samples way)))
-      ∙ (states_brought row of vars admitted (done ++ brought samples way) ways (All-tail (IsWay joint) way ways all) (All-tail IsSome way ways some)
-      ∙ ap (fit row vars) (append_assoc done (brought samples way) (all_brought samples ways)))
+      (ap (joined (form_of row) (fit row vars done)) one ∙ sym (fit_of_both row (row_is joint.here.grammar row of) vars done (samples_through samples way)))
+      ∙ (states_brought row of vars admitted (done ++ samples_through samples way) ways (All-tail (IsWay joint) way ways all) (All-tail IsSome way ways some)
+      ∙ ap (fit row vars) (append_assoc done (samples_through samples way) (samples_through_all samples ways)))
 
-  counts_brought : (vars : List VarId) (ways : List Way) → All (IsWay joint) ways → All IsSome ways → capped (sum_by (count_through joint vars) ways) ≡ count_of vars (all_brought samples ways)
+  counts_brought : (vars : List VarId) (ways : List Way) → All (IsWay joint) ways → All IsSome ways → capped (sum_by (count_through joint vars) ways) ≡ count_of vars (samples_through_all samples ways)
   counts_brought vars [] all some = refl
   counts_brought vars (way ∷ ways) all some =
       ap capped (sum_by-cons (count_through joint vars) way ways)
       ∙ (ends (count_through joint vars way) (sum_by (count_through joint vars) ways)
       ∙ (ap (λ n. capped (n + capped (sum_by (count_through joint vars) ways))) (count_brought way (All-head (IsWay joint) way ways all) (All-head IsSome way ways some) vars)
-      ∙ (ap (λ n. capped (count_of vars (brought samples way) + n)) (counts_brought vars ways (All-tail (IsWay joint) way ways all) (All-tail IsSome way ways some))
-      ∙ sym (count_of_both vars (brought samples way) (all_brought samples ways)))))
+      ∙ (ap (λ n. capped (count_of vars (samples_through samples way) + n)) (counts_brought vars ways (All-tail (IsWay joint) way ways all) (All-tail IsSome way ways some))
+      ∙ sym (count_of_both vars (samples_through samples way) (samples_through_all samples ways)))))
     where
       ends : (a b : ℕ) → capped (a + b) ≡ capped (capped a + capped b)
       ends a b = omega arith
 
   agree_all_brought : (v w : VarId) → kind_at (var_kinds joint.here.infos) v.0 ≡ kind_at (var_kinds joint.here.infos) w.0 → (ways : List Way) → All (IsWay joint) ways → All IsSome ways
-      → IsTrue (list_all (agree_through joint v w) ways) ↔ Agree (all_brought samples ways) v w
+      → IsTrue (list_all (agree_through joint v w) ways) ↔ Agree (samples_through_all samples ways) v w
   agree_all_brought v w kinds [] all some = (λ h. All-nil (λ s. value_in s v ≡ value_in s w), λ h. refl)
   agree_all_brought v w kinds (way ∷ ways) all some =
       let one = agree_brought way (All-head (IsWay joint) way ways all) (All-head IsSome way ways some) v w kinds in
       let rest = agree_all_brought v w kinds ways (All-tail (IsWay joint) way ways all) (All-tail IsSome way ways some) in
-      let parts = all_both (λ s. value_in s v ≡ value_in s w) (brought samples way) (all_brought samples ways) in (
+      let parts = all_both (λ s. value_in s v ≡ value_in s w) (samples_through samples way) (samples_through_all samples ways) in (
         λ h. let hs = and_parts (agree_through joint v w way) (list_all (agree_through joint v w) ways) h in parts.1 (one.0 hs.0, rest.0 hs.1),
         λ h. let hs = parts.0 h in and_from (agree_through joint v w way) (list_all (agree_through joint v w) ways) (one.1 hs.0) (rest.1 hs.1),
       )
@@ -224,7 +224,7 @@ module _ (joint : Joint) (are : AreWays joint) (samples : ℕ → Samples) (stan
       itself kind.HashSeq = refl
       itself kind.StrSeq = refl
 
-  pub merged_stands : All IsSome joint.ways → JointStandsFor joint (all_brought samples joint.ways)
+  pub merged_stands : All IsSome joint.ways → JointStandsFor joint (samples_through_all samples joint.ways)
   unfolding merged_state merged_count merged_agree
   merged_stands some = record {
     state = λ row of vars admitted. ap (λ s. states_joined joint row vars s joint.ways) (sym (fit_of_none row (row_is joint.here.grammar row of) vars)) ∙ states_brought row of vars admitted [] joint.ways are some;

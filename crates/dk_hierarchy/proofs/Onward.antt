@@ -28,8 +28,8 @@ use Rattle.dk_hierarchy.proofs.Samples.{over, own-and-childrens}
 use Rattle.dk_hierarchy.proofs.Telling.{Samples, repeated_both, repeated_each, same_as, same_behind, same_trans}
 use Rattle.dk_hierarchy.specs.Descent.{own_partners}
 use Rattle.dk_hierarchy.specs.Edges.{ArePartners, partner_at}
-use Rattle.dk_hierarchy.specs.Samples.{OwnSamples, all_vars_of, mapped, own_samples_of, partners_of, samples_of}
-use Rattle.dk_hierarchy.specs.Ways.{TellTheSame, brought, onward, repeated, way_below}
+use Rattle.dk_hierarchy.specs.Samples.{OwnSamples, all_vars_of, mapped_sample, own_samples_of, partners_of, samples_of}
+use Rattle.dk_hierarchy.specs.Ways.{SamplesTellTheSame, partners_below, repeated_samples, samples_through, way_below}
 use Rattle.dk_hierarchy.specs.declared.way.Way.{Way}
 
 -- ---- lists
@@ -51,16 +51,16 @@ none_some x None none some = cc
 none_some x (Some y) none some = cc
 
 -- ---- samples
-mapped_onward : (below partners : List (Option VarId)) (s : List Value) → mapped (onward below partners) s ≡ mapped partners (mapped below s)
+mapped_onward : (below partners : List (Option VarId)) (s : List Value) → mapped_sample (partners_below below partners) s ≡ mapped_sample partners (mapped_sample below s)
 mapped_onward below [] s = refl
 mapped_onward below (None ∷ partners) s = ap (λ xs. value.Missing ∷ xs) (mapped_onward below partners s)
 mapped_onward below (Some w ∷ partners) s =
-    ap (λ x. x ∷ mapped (onward below partners) s) (sym (value-through below s w)) ∙ ap (λ xs. value_in (mapped below s) w ∷ xs) (mapped_onward below partners s)
+    ap (λ x. x ∷ mapped_sample (partners_below below partners) s) (sym (value-through below s w)) ∙ ap (λ xs. value_in (mapped_sample below s) w ∷ xs) (mapped_onward below partners s)
 
-all_mapped_onward : (below partners : List (Option VarId)) (samples : Samples) → map (mapped (onward below partners)) samples ≡ map (mapped partners) (map (mapped below) samples)
+all_mapped_onward : (below partners : List (Option VarId)) (samples : Samples) → map (mapped_sample (partners_below below partners)) samples ≡ map (mapped_sample partners) (map (mapped_sample below) samples)
 all_mapped_onward below partners [] = refl
 all_mapped_onward below partners (s ∷ samples) =
-    ap (λ t. t ∷ map (mapped (onward below partners)) samples) (mapped_onward below partners s) ∙ ap (λ ts. mapped partners (mapped below s) ∷ ts) (all_mapped_onward below partners samples)
+    ap (λ t. t ∷ map (mapped_sample (partners_below below partners)) samples) (mapped_onward below partners s) ∙ ap (λ ts. mapped_sample partners (mapped_sample below s) ∷ ts) (all_mapped_onward below partners samples)
 
 -- all samples of a way's lower point: its own, and what comes by the ways that go on from it
 module _ (ps : List Point) (deep : ParentsAreDeeper (nodes ps)) (own : OwnSamples) (way : Way) where
@@ -68,29 +68,29 @@ module _ (ps : List Point) (deep : ParentsAreDeeper (nodes ps)) (own : OwnSample
   es = edges_into (nodes ps) way.point.0
 
   abbrev here : Samples
-  here = map (mapped way.partners) (own_samples_of ps own way.point.0)
+  here = map (mapped_sample way.partners) (own_samples_of ps own way.point.0)
 
   abbrev come : Edge → Samples
-  come e = map (mapped way.partners) (over ps (samples_of ps own) e)
+  come e = map (mapped_sample way.partners) (over ps (samples_of ps own) e)
 
-  parts : map (mapped way.partners) (samples_of ps own way.point.0) ≡ here ++ flat_map come es
+  parts : map (mapped_sample way.partners) (samples_of ps own way.point.0) ≡ here ++ flat_map come es
   parts =
-      ap (map (mapped way.partners)) (own-and-childrens ps deep own way.point.0)
-      ∙ (map-append (mapped way.partners) (own_samples_of ps own way.point.0) (flat_map (over ps (samples_of ps own)) es)
-      ∙ ap (λ xs. here ++ xs) (map_flat (mapped way.partners) (over ps (samples_of ps own)) es))
+      ap (map (mapped_sample way.partners)) (own-and-childrens ps deep own way.point.0)
+      ∙ (map-append (mapped_sample way.partners) (own_samples_of ps own way.point.0) (flat_map (over ps (samples_of ps own)) es)
+      ∙ ap (λ xs. here ++ xs) (map_flat (mapped_sample way.partners) (over ps (samples_of ps own)) es))
 
-  pub brought_below : TellTheSame (brought (samples_of ps own) way) (brought (own_samples_of ps own) way ++ flat_map (λ e. brought (samples_of ps own) (way_below ps way e)) es)
+  pub brought_below : SamplesTellTheSame (samples_through (samples_of ps own) way) (samples_through (own_samples_of ps own) way ++ flat_map (λ e. samples_through (samples_of ps own) (way_below ps way e)) es)
   brought_below =
-      same_trans (brought (samples_of ps own) way) (repeated way.paths (here ++ flat_map come es)) (repeated way.paths here ++ flat_map (λ e. brought (samples_of ps own) (way_below ps way e)) es)
-      (same_as (brought (samples_of ps own) way) (repeated way.paths (here ++ flat_map come es)) (ap (repeated way.paths) parts))
-      (same_trans (repeated way.paths (here ++ flat_map come es)) (repeated way.paths here ++ repeated way.paths (flat_map come es)) (repeated way.paths here ++ flat_map (λ e. brought (samples_of ps own) (way_below ps way e)) es)
+      same_trans (samples_through (samples_of ps own) way) (repeated_samples way.paths (here ++ flat_map come es)) (repeated_samples way.paths here ++ flat_map (λ e. samples_through (samples_of ps own) (way_below ps way e)) es)
+      (same_as (samples_through (samples_of ps own) way) (repeated_samples way.paths (here ++ flat_map come es)) (ap (repeated_samples way.paths) parts))
+      (same_trans (repeated_samples way.paths (here ++ flat_map come es)) (repeated_samples way.paths here ++ repeated_samples way.paths (flat_map come es)) (repeated_samples way.paths here ++ flat_map (λ e. samples_through (samples_of ps own) (way_below ps way e)) es)
       (repeated_both way.paths here (flat_map come es))
-      (same_behind (repeated way.paths here) (repeated way.paths (flat_map come es)) (flat_map (λ e. brought (samples_of ps own) (way_below ps way e)) es)
-      (same_trans (repeated way.paths (flat_map come es)) (flat_map (λ e. repeated way.paths (come e)) es) (flat_map (λ e. brought (samples_of ps own) (way_below ps way e)) es)
+      (same_behind (repeated_samples way.paths here) (repeated_samples way.paths (flat_map come es)) (flat_map (λ e. samples_through (samples_of ps own) (way_below ps way e)) es)
+      (same_trans (repeated_samples way.paths (flat_map come es)) (flat_map (λ e. repeated_samples way.paths (come e)) es) (flat_map (λ e. samples_through (samples_of ps own) (way_below ps way e)) es)
       (repeated_each way.paths come es)
-      (same_as (flat_map (λ e. repeated way.paths (come e)) es) (flat_map (λ e. brought (samples_of ps own) (way_below ps way e)) es)
-      (flat_same (λ e. repeated way.paths (come e)) (λ e. brought (samples_of ps own) (way_below ps way e))
-      (λ e. ap (repeated way.paths) (sym (all_mapped_onward (partners_of ps e) way.partners (samples_of ps own e.child.0)))) es)))))
+      (same_as (flat_map (λ e. repeated_samples way.paths (come e)) es) (flat_map (λ e. samples_through (samples_of ps own) (way_below ps way e)) es)
+      (flat_same (λ e. repeated_samples way.paths (come e)) (λ e. samples_through (samples_of ps own) (way_below ps way e))
+      (λ e. ap (repeated_samples way.paths) (sym (all_mapped_onward (partners_of ps e) way.partners (samples_of ps own e.child.0)))) es)))))
 
 -- ---- partners
 -- through an edge
@@ -123,7 +123,7 @@ then_found f (Some x) y h = (x, refl, h)
 some_and : {A : Type 0} (Q : A → Type 0) (o : Option A) (x : A) → o ≡ Some x → Q x → IsSomeAnd o Q
 some_and Q o x is q = subst (λ p. IsSomeAnd p Q) (sym is) q
 
-pub partners_onward : (infos middle there : List VarInfo) (partners below : List (Option VarId)) → ArePartners infos middle partners → ArePartners middle there below → ArePartners infos there (onward below partners)
+pub partners_onward : (infos middle there : List VarInfo) (partners below : List (Option VarId)) → ArePartners infos middle partners → ArePartners middle there below → ArePartners infos there (partners_below below partners)
 partners_onward infos middle there partners below are further = record {
   long = length-map partners (option_and_then (partner_at below)) ∙ are.long;
   alike = λ v w is.
@@ -156,15 +156,15 @@ own_are_partners infos = record {
       ];
 }
 
-mapped_own : (s : List Value) (n : ℕ) → length s ≡ n → mapped (own_partners n) s ≡ s
+mapped_own : (s : List Value) (n : ℕ) → length s ≡ n → mapped_sample (own_partners n) s ≡ s
 mapped_own s n long = again (range_with_len 0 n) ∙ sym (fill_by_all (λ v. value_in s (var v)) s n value.Missing long (λ k l. refl))
   where
     again : (vs : List ℕ) → map (of_partner s) (map (λ v. Some (var v)) vs) ≡ map (λ v. value_in s (var v)) vs
     again [] = refl
     again (v ∷ vs) = ap (λ xs. value_in s (var v) ∷ xs) (again vs)
 
-pub all_mapped_own : (n : ℕ) (samples : Samples) → All (λ s. length s ≡ n) samples → map (mapped (own_partners n)) samples ≡ samples
+pub all_mapped_own : (n : ℕ) (samples : Samples) → All (λ s. length s ≡ n) samples → map (mapped_sample (own_partners n)) samples ≡ samples
 all_mapped_own n [] all = refl
 all_mapped_own n (s ∷ samples) all =
-    ap (λ t. t ∷ map (mapped (own_partners n)) samples) (mapped_own s n (All-head (λ s. length s ≡ n) s samples all))
+    ap (λ t. t ∷ map (mapped_sample (own_partners n)) samples) (mapped_own s n (All-head (λ s. length s ≡ n) s samples all))
     ∙ ap (λ ts. s ∷ ts) (all_mapped_own n samples (All-tail (λ s. length s ≡ n) s samples all))

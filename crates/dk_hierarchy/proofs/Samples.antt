@@ -20,7 +20,7 @@ use Rattle.dk_points.specs.Table.{Point}
 use Rattle.dk_samples.specs.Samples.{value_in}
 use Rattle.dk_hierarchy.proofs.Deeper.{IsFromBelow, deeper, into-from-below}
 use Rattle.dk_hierarchy.specs.Laws.{DepthsSuffice, SamplesAreOwnAndChildrens, SamplesHaveAllVariables}
-use Rattle.dk_hierarchy.specs.Samples.{OwnSamples, all_vars_of, mapped, own_samples_of, partners_of, samples_of, samples_within}
+use Rattle.dk_hierarchy.specs.Samples.{OwnSamples, all_vars_of, mapped_sample, own_samples_of, partners_of, samples_of, samples_within}
 
 same-each : {A B : Type 0} (Q : A → Type 0) (f g : A → List B) → ((x : A) → Q x → f x ≡ g x) → (xs : List A) → All Q xs → flat_map f xs ≡ flat_map g xs
 same-each Q f g same [] all = refl
@@ -32,7 +32,7 @@ none-each f (x ∷ xs) all = absurd (All-head (λ x. ⊥) x xs all)
 
 -- what comes over an edge, from samples of the points
 abbrev pub over : List Point → (ℕ → List (List Value)) → Edge → List (List Value)
-over ps below e = map (mapped (partners_of ps e)) (below e.child.0)
+over ps below e = map (mapped_sample (partners_of ps e)) (below e.child.0)
 
 module _ (ps : List Point) (deep : ParentsAreDeeper (nodes ps)) (own : OwnSamples) where
   -- one edge more brings nothing new to a point of no more depth
@@ -45,7 +45,7 @@ module _ (ps : List Point) (deep : ParentsAreDeeper (nodes ps)) (own : OwnSample
   one-more (suc n) p le =
       ap (λ xs. own_samples_of ps own p ++ xs)
       (same-each (IsFromBelow (nodes ps) p) (over ps (samples_within (suc n) ps own)) (over ps (samples_within n ps own))
-      (λ e from. ap (map (mapped (partners_of ps e))) (one-more n e.child.0 (omega (arith, le, from.1)))) (edges_into (nodes ps) p) (into-from-below (nodes ps) deep p))
+      (λ e from. ap (map (mapped_sample (partners_of ps e))) (one-more n e.child.0 (omega (arith, le, from.1)))) (edges_into (nodes ps) p) (into-from-below (nodes ps) deep p))
 
   many-more : (k p : ℕ) → samples_within (k + depth_of (nodes ps) p) ps own p ≡ samples_within (depth_of (nodes ps) p) ps own p
   many-more zero p = ap (λ n. samples_within n ps own p) (omega arith)
@@ -60,12 +60,12 @@ module _ (ps : List Point) (deep : ParentsAreDeeper (nodes ps)) (own : OwnSample
       ap (λ m. samples_within m ps own p) split ∙ many-more (n - depth_of (nodes ps) p) p
 
   pub own-and-childrens : (p : ℕ) → samples_of ps own p
-      ≡ own_samples_of ps own p ++ flat_map (λ e. map (mapped (partners_of ps e)) (samples_of ps own e.child.0)) (edges_into (nodes ps) p)
+      ≡ own_samples_of ps own p ++ flat_map (λ e. map (mapped_sample (partners_of ps e)) (samples_of ps own e.child.0)) (edges_into (nodes ps) p)
   own-and-childrens p =
       sym (depths-suffice p (suc (depth_of (nodes ps) p)) (omega arith))
       ∙ ap (λ xs. own_samples_of ps own p ++ xs)
       (same-each (IsFromBelow (nodes ps) p) (over ps (samples_within (depth_of (nodes ps) p) ps own)) (over ps (samples_of ps own))
-      (λ e from. ap (map (mapped (partners_of ps e))) (depths-suffice e.child.0 (depth_of (nodes ps) p) (omega (arith, from.1)))) (edges_into (nodes ps) p) (into-from-below (nodes ps) deep p))
+      (λ e from. ap (map (mapped_sample (partners_of ps e))) (depths-suffice e.child.0 (depth_of (nodes ps) p) (omega (arith, from.1)))) (edges_into (nodes ps) p) (into-from-below (nodes ps) deep p))
 
 pub suffice : DepthsSuffice
 suffice ps free own p n le = depths-suffice ps (deeper (nodes ps) free) own p n le
@@ -82,7 +82,7 @@ own-long ps own p =
     All-map (IsLong ps p) (values_by_form (all_vars_of ps p)) (slice_index_or own p [])
     (λ k d lt. length-map (enumerate_from 0 (all_vars_of ps p)) (λ v. value_by_form (slice_index_or (slice_index_or own p []) k d) v.0 v.1.form) ∙ length-enumerate_from 0 (all_vars_of ps p))
 
-pub mapped-long : (ps : List Point) (e : Edge) (s : List Value) → length (mapped (partners_of ps e) s) ≡ length (all_vars_of ps e.parent.0)
+pub mapped-long : (ps : List Point) (e : Edge) (s : List Value) → length (mapped_sample (partners_of ps e) s) ≡ length (all_vars_of ps e.parent.0)
 unfolding partners_of
 mapped-long ps e s =
     length-map (partners_of ps e) (λ partner. option_map_or (value_in s) partner value.Missing)
@@ -98,7 +98,7 @@ within-long ps own zero p = own-long ps own p
 within-long ps own (suc n) p =
     All-append (IsLong ps p) (own_samples_of ps own p) (flat_map (over ps (samples_within n ps own)) (edges_into (nodes ps) p)) (own-long ps own p)
     (all_flat_map (λ (e : Edge). e.parent.0 ≡ p) (IsLong ps p) (over ps (samples_within n ps own))
-    (λ e is. All-map (IsLong ps p) (mapped (partners_of ps e)) (samples_within n ps own e.child.0)
+    (λ e is. All-map (IsLong ps p) (mapped_sample (partners_of ps e)) (samples_within n ps own e.child.0)
     (λ k d lt. mapped-long ps e (slice_index_or (samples_within n ps own e.child.0) k d) ∙ ap (λ q. length (all_vars_of ps q)) is)) (edges_into (nodes ps) p) (into-parent ps p))
 
 pub all_variables : SamplesHaveAllVariables

@@ -19,7 +19,7 @@ use Rattle.dk_hierarchy.specs.Edges.{ArePartners}
 use Rattle.dk_hierarchy.specs.Merging.{AreWays, IsWay, Joint, engine_at}
 use Rattle.dk_hierarchy.specs.Samples.{all_vars_of, own_samples_of, samples_of}
 use Rattle.dk_hierarchy.specs.Standing.{AreEnginesOf, IsMergedAt, JointStandsFor}
-use Rattle.dk_hierarchy.specs.Ways.{TellTheSame, all_brought}
+use Rattle.dk_hierarchy.specs.Ways.{SamplesTellTheSame, samples_through_all}
 use Rattle.dk_hierarchy.specs.declared.way.Way.{Way}
 
 -- ---- samples that tell the same
@@ -28,7 +28,7 @@ all_in P a b to all k d l =
     let c = All-contains_itself a k d l in
     All-contains P b (get_or a k d) all (contained (get_or a k d) b (to (get_or a k d) (is_in (get_or a k d) a c.0 c.1 c.2)))
 
-pub stands_alike : (joint : Joint) (a b : Samples) → TellTheSame a b → JointStandsFor joint b → JointStandsFor joint a
+pub stands_alike : (joint : Joint) (a b : Samples) → SamplesTellTheSame a b → JointStandsFor joint b → JointStandsFor joint a
 stands_alike joint a b same stands = record {
   state = λ row of vars admitted. stands.state row of vars admitted ∙ sym (fit_of_set row (row_is joint.here.grammar row of) vars a b same.samples);
   count = λ vars there. stands.count vars there ∙ sym (same.counts vars);
@@ -61,6 +61,6 @@ module _ (ps : List Point) (p : ℕ) (engines : List Whole) (are : AreEnginesOf 
 
   pub merged_at : IsMergedAt ps engines p joint
   merged_at own stand =
-      stands_alike joint (samples_of ps own p) (all_brought (own_samples_of ps own) ways)
-      (subst (TellTheSame (samples_of ps own p)) (append-nil (all_brought (own_samples_of ps own) ways)) (descent.brings own))
+      stands_alike joint (samples_of ps own p) (samples_through_all (own_samples_of ps own) ways)
+      (subst (SamplesTellTheSame (samples_of ps own p)) (append-nil (samples_through_all (own_samples_of ps own) ways)) (descent.brings own))
       (merged_stand joint are_ways (All-weaker (IsWayDown ps p) (λ way. 0 < way.paths) (λ way is. is.some) ways descent.done) (own_samples_of ps own) stand)

@@ -8,7 +8,7 @@ use Rattle.dk_points.specs.Links.{nodes}
 use Rattle.dk_points.specs.Table.{Point}
 use Rattle.dk_hierarchy.specs.Edges.{ArePartners}
 use Rattle.dk_hierarchy.specs.Samples.{OwnSamples, all_vars_of, own_samples_of, samples_of}
-use Rattle.dk_hierarchy.specs.Ways.{TellTheSame, all_brought, way_below, with_way}
+use Rattle.dk_hierarchy.specs.Ways.{SamplesTellTheSame, samples_through_all, way_below, with_way}
 use Rattle.dk_hierarchy.specs.declared.way.Way.{Way}
 
 -- a variable is its own partner on the path without an edge
@@ -46,4 +46,5 @@ pub record IsDescent (ps : List Point) (p : ℕ) (ways : List Way) (levels : Lis
   pub done : All (IsWayDown ps p) ways
   pub pending : (depth : ℕ) → All (λ way. IsWayDown ps p way × (depth_of (nodes ps) way.point.0 ≡ depth)) (slice_index_or levels depth [])
   pub brings : (own : OwnSamples)
-      → TellTheSame (samples_of ps own p) (all_brought (own_samples_of ps own) ways ++ flat_map (all_brought (samples_of ps own)) levels)
+      → SamplesTellTheSame (samples_of ps own p)
+      (samples_through_all (own_samples_of ps own) ways ++ flat_map (samples_through_all (samples_of ps own)) levels)

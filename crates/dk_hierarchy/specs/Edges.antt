@@ -13,7 +13,7 @@ use Rattle.dk_presence.specs.Patterns.{count_of}
 use Rattle.dk_samples.specs.Samples.{is_present, value_in}
 use Rattle.dk_template.specs.Templates.{IsRow}
 use Rattle.dk_template.specs.declared.grammar.RowId.{RowId}
-use Rattle.dk_hierarchy.specs.Samples.{mapped}
+use Rattle.dk_hierarchy.specs.Samples.{mapped_sample}
 
 -- the partner of a variable, if it has one
 abbrev pub partner_at : List (Option VarId) → VarId → Option VarId
@@ -28,13 +28,13 @@ partners_at partners (v ∷ vars) = option_and_then (λ w. option_map (λ rest. 
 abbrev pub FitsThroughEdges : Type 0
 FitsThroughEdges =
     (row : RowId) → IsRow row → (partners : List (Option VarId)) (vars : List VarId) (samples : List (List Value))
-    → fit row vars (map (mapped partners) samples) ≡ option_map_or (λ there. fit row there samples) (partners_at partners vars) Empty
+    → fit row vars (map (mapped_sample partners) samples) ≡ option_map_or (λ there. fit row there samples) (partners_at partners vars) Empty
 
 -- They are present together as often as their partners. Where one has no partner they never are.
 abbrev pub CountsThroughEdges : Type 0
 CountsThroughEdges =
     (partners : List (Option VarId)) (vars : List VarId) (samples : List (List Value))
-    → count_of vars (map (mapped partners) samples) ≡ option_map_or (λ there. count_of there samples) (partners_at partners vars) 0
+    → count_of vars (map (mapped_sample partners) samples) ≡ option_map_or (λ there. count_of there samples) (partners_at partners vars) 0
 
 -- Two variables have the same values where their partners have, where neither has a partner, or where one has none and the other's
 -- partner is never present.
@@ -47,10 +47,12 @@ same_through samples (Some v) (Some w) = list_all (λ s. same_value (value_in s 
 abbrev pub AgreementThroughEdges : Type 0
 AgreementThroughEdges =
     (partners : List (Option VarId)) (v w : VarId) (samples : List (List Value))
-    → list_all (λ s. same_value (value_in s v) (value_in s w)) (map (mapped partners) samples) ≡ same_through samples (partner_at partners v) (partner_at partners w)
+    → list_all (λ s. same_value (value_in s v) (value_in s w)) (map (mapped_sample partners) samples)
+    ≡ same_through samples (partner_at partners v) (partner_at partners w)
 
 -- ---- partners that can stand for variables
 -- A variable and its partner are of one kind, and both base variables or both derived ones.
 pub record ArePartners (infos there : List VarInfo) (partners : List (Option VarId)) : Type 0 where
   pub long : length partners ≡ length infos
-  pub alike : (v w : VarId) → partner_at partners v ≡ Some w → IsSomeAnd (slice_get infos v.0) (λ a. IsSomeAnd (slice_get there w.0) (IsAlike a))
+  pub alike : (v w : VarId) → partner_at partners v ≡ Some w
+      → IsSomeAnd (slice_get infos v.0) (λ a. IsSomeAnd (slice_get there w.0) (IsAlike a))

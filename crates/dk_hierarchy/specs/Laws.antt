@@ -8,13 +8,15 @@ use Rattle.dk_graph.specs.Graphs.{depth_of, edges_into, has_cycle}
 use Rattle.dk_points.specs.Laws.{IsBaseVar}
 use Rattle.dk_points.specs.Links.{nodes}
 use Rattle.dk_points.specs.Table.{Point}
-use Rattle.dk_hierarchy.specs.Samples.{OwnSamples, all_vars_of, mapped, own_samples_of, partners_of, samples_of, samples_within}
+use Rattle.dk_hierarchy.specs.Samples.{OwnSamples, all_vars_of, mapped_sample, own_samples_of, partners_of, samples_of, samples_within}
 
 -- In a table without a cycle the samples of a point are its own, and then for each edge into it the child's samples, mapped.
 abbrev pub SamplesAreOwnAndChildrens : Type 0
 SamplesAreOwnAndChildrens =
     (ps : List Point) → has_cycle (nodes ps) ≡ false → (own : OwnSamples) (p : ℕ)
-    → samples_of ps own p ≡ own_samples_of ps own p ++ flat_map (λ e. map (mapped (partners_of ps e)) (samples_of ps own e.child.0)) (edges_into (nodes ps) p)
+    → samples_of ps own p
+    ≡ own_samples_of ps own p
+    ++ flat_map (λ e. map (mapped_sample (partners_of ps e)) (samples_of ps own e.child.0)) (edges_into (nodes ps) p)
 
 -- so none comes over more edges than its depth
 abbrev pub DepthsSuffice : Type 0
@@ -24,7 +26,8 @@ DepthsSuffice =
 
 -- each has a value for each variable of the point
 abbrev pub SamplesHaveAllVariables : Type 0
-SamplesHaveAllVariables = (ps : List Point) (own : OwnSamples) (p : ℕ) → All (λ s. length s ≡ length (all_vars_of ps p)) (samples_of ps own p)
+SamplesHaveAllVariables =
+    (ps : List Point) (own : OwnSamples) (p : ℕ) → All (λ s. length s ≡ length (all_vars_of ps p)) (samples_of ps own p)
 
 -- Where all points' own samples are samples of their variables, all samples are.
 abbrev pub SamplesAreOfVariables : Type 0
@@ -34,4 +37,5 @@ SamplesAreOfVariables =
 
 -- Base variables with what is derived of them can be an engine's, if they are few.
 abbrev pub VariablesAreOfPoints : Type 0
-VariablesAreOfPoints = (base : List VarInfo) → All IsBaseVar base → length (with_derived_vars base) < 2 ^ 32 → AreOfPoint (with_derived_vars base)
+VariablesAreOfPoints =
+    (base : List VarInfo) → All IsBaseVar base → length (with_derived_vars base) < 2 ^ 32 → AreOfPoint (with_derived_vars base)

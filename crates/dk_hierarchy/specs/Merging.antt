@@ -6,7 +6,7 @@ use Rattle.dk_base.specs.declared.kinds.VarId.{VarId}
 use Rattle.dk_base.specs.declared.kinds.VarInfo.{VarInfo}
 use Rattle.dk_classes.specs.Classes.{kind_at, var_kinds}
 use Rattle.dk_engine.specs.Levels.{Whole}
-use Rattle.dk_engine.specs.Reading.{agree_read, count_read, read}
+use Rattle.dk_engine.specs.Reading.{agree_read, count_read, state_read}
 use Rattle.dk_engine.specs.declared.kept.Kept.{Kept}
 use Rattle.dk_forms.specs.declared.states.State.{State}
 use Rattle.dk_forms.specs.declared.states.State.TheVariants.{Empty}
@@ -31,7 +31,7 @@ engine_at joint way = slice_index_or joint.engines way.point.0 joint.here
 -- ---- through one way
 -- A row says of variables what it says of their partners. Where one has no partner they have no tuple.
 abbrev pub state_through : Joint → RowId → List VarId → Way → State
-state_through joint row vars way = option_map_or (read (engine_at joint way).kept row) (partners_at way.partners vars) Empty
+state_through joint row vars way = option_map_or (state_read (engine_at joint way).kept row) (partners_at way.partners vars) Empty
 
 -- They are present together as often as their partners, on each path.
 abbrev pub count_through : Joint → List VarId → Way → ℕ

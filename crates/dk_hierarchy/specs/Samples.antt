@@ -20,11 +20,12 @@ use Rattle.dk_samples.specs.Samples.{value_in}
 -- the partner of each variable of the edge's parent, in their order
 unfoldable pub partners_of : List Point → Edge → List (Option VarId)
 partners_of ps e =
-    map (λ w. option_map var (partner_with_derived ps e (all_vars_of ps e.parent.0) (all_vars_of ps e.child.0) w.0)) (enumerate_from 0 (all_vars_of ps e.parent.0))
+    map (λ w. option_map var (partner_with_derived ps e (all_vars_of ps e.parent.0) (all_vars_of ps e.child.0) w.0))
+    (enumerate_from 0 (all_vars_of ps e.parent.0))
 
 -- A child's sample as one of the parent: each variable has the value of its partner, and is missing without one.
-abbrev pub mapped : List (Option VarId) → List Value → List Value
-mapped partners sample = map (λ partner. option_map_or (value_in sample) partner value.Missing) partners
+abbrev pub mapped_sample : List (Option VarId) → List Value → List Value
+mapped_sample partners sample = map (λ partner. option_map_or (value_in sample) partner value.Missing) partners
 
 -- ---- of a point
 
@@ -40,7 +41,8 @@ own_samples_of ps own p = map (values_by_form (all_vars_of ps p)) (slice_index_o
 abbrev pub samples_within : ℕ → List Point → OwnSamples → ℕ → List (List Value)
 samples_within zero ps own p = own_samples_of ps own p
 samples_within (suc n) ps own p =
-    own_samples_of ps own p ++ flat_map (λ e. map (mapped (partners_of ps e)) (samples_within n ps own e.child.0)) (edges_into (nodes ps) p)
+    own_samples_of ps own p
+    ++ flat_map (λ e. map (mapped_sample (partners_of ps e)) (samples_within n ps own e.child.0)) (edges_into (nodes ps) p)
 
 -- The samples of a point. None comes over more edges than its depth, the number of edges on the longest path that ends in it.
 unfoldable pub samples_of : List Point → OwnSamples → ℕ → List (List Value)

@@ -11,27 +11,28 @@ use Rattle.dk_template.specs.Templates.{IsRow}
 use Rattle.dk_template.specs.declared.grammar.RowId.{RowId}
 use Rattle.dk_hierarchy.specs.Descent.{IsDescent, first_levels, with_ways_below}
 use Rattle.dk_hierarchy.specs.Samples.{OwnSamples, all_vars_of, own_samples_of, samples_of}
-use Rattle.dk_hierarchy.specs.Ways.{TellTheSame, all_brought, brought, way_below, with_way}
+use Rattle.dk_hierarchy.specs.Ways.{SamplesTellTheSame, samples_through, samples_through_all, way_below, with_way}
 use Rattle.dk_hierarchy.specs.declared.way.Way.{Way}
 
 -- a row says the same of lists of samples that tell the same
 abbrev pub SameSamplesSayTheSame : Type 0
 SameSamplesSayTheSame =
-    (first second : List (List Value)) → TellTheSame first second
+    (first second : List (List Value)) → SamplesTellTheSame first second
     → (row : RowId) → IsRow row → (vars : List VarId) → fit row vars first ≡ fit row vars second
 
 -- of all samples: the own ones of the lower point, and those that come on by the edges into it
 abbrev pub WaysGoOn : Type 0
 WaysGoOn =
     (ps : List Point) → has_cycle (nodes ps) ≡ false → (own : OwnSamples) (way : Way)
-    → TellTheSame (brought (samples_of ps own) way)
-    (brought (own_samples_of ps own) way ++ flat_map (λ e. brought (samples_of ps own) (way_below ps way e)) (edges_into (nodes ps) way.point.0))
+    → SamplesTellTheSame (samples_through (samples_of ps own) way)
+    (samples_through (own_samples_of ps own) way
+    ++ flat_map (λ e. samples_through (samples_of ps own) (way_below ps way e)) (edges_into (nodes ps) way.point.0))
 
 -- a way more
 abbrev pub EqualWaysAreOne : Type 0
 EqualWaysAreOne =
     (samples : ℕ → List (List Value)) (ways : List Way) (way : Way)
-    → TellTheSame (all_brought samples (with_way ways way)) (all_brought samples ways ++ brought samples way)
+    → SamplesTellTheSame (samples_through_all samples (with_way ways way)) (samples_through_all samples ways ++ samples_through samples way)
 
 -- ---- going down
 -- it begins with the point itself at its depth
@@ -52,4 +53,4 @@ DescentsGoOn =
 abbrev pub DescentsEnd : Type 0
 DescentsEnd =
     (ps : List Point) (p : ℕ) (ways : List Way) → IsDescent ps p ways [] → (own : OwnSamples)
-    → TellTheSame (samples_of ps own p) (all_brought (own_samples_of ps own) ways)
+    → SamplesTellTheSame (samples_of ps own p) (samples_through_all (own_samples_of ps own) ways)

@@ -8,36 +8,36 @@ use Rattle.dk_graph.specs.declared.nodes.Edge.{Edge}
 use Rattle.dk_points.specs.Table.{Point}
 use Rattle.dk_presence.specs.Patterns.{capped, count_of}
 use Rattle.dk_hierarchy.specs.Edges.{partner_at}
-use Rattle.dk_hierarchy.specs.Samples.{mapped, partners_of}
+use Rattle.dk_hierarchy.specs.Samples.{mapped_sample, partners_of}
 use Rattle.dk_hierarchy.specs.declared.way.Way.{Way}
 
 -- samples, so many times over
-unfoldable pub repeated : ℕ → List (List Value) → List (List Value)
-repeated zero samples = []
-repeated (suc n) samples = samples ++ repeated n samples
+unfoldable pub repeated_samples : ℕ → List (List Value) → List (List Value)
+repeated_samples zero samples = []
+repeated_samples (suc n) samples = samples ++ repeated_samples n samples
 
 -- The samples that a way brings, where each point has these: those of its lower point, mapped, once for each path.
-abbrev pub brought : (ℕ → List (List Value)) → Way → List (List Value)
-brought samples way = repeated way.paths (map (mapped way.partners) (samples way.point.0))
+abbrev pub samples_through : (ℕ → List (List Value)) → Way → List (List Value)
+samples_through samples way = repeated_samples way.paths (map (mapped_sample way.partners) (samples way.point.0))
 
 -- the samples that ways bring, one way after another
-abbrev pub all_brought : (ℕ → List (List Value)) → List Way → List (List Value)
-all_brought samples ways = flat_map (brought samples) ways
+abbrev pub samples_through_all : (ℕ → List (List Value)) → List Way → List (List Value)
+samples_through_all samples ways = flat_map (samples_through samples) ways
 
 -- The same samples stand in both lists, and variables are present together in as many, up to 2^64 - 1. So rows, counts and agreement
 -- can't tell the two apart.
-pub record TellTheSame (first second : List (List Value)) : Type 0 where
+pub record SamplesTellTheSame (first second : List (List Value)) : Type 0 where
   pub samples : SameSet first second
   pub counts : (vars : List VarId) → count_of vars first ≡ count_of vars second
 
 -- ---- down an edge
 -- of partners at an edge's parent, the partners at its child
-abbrev pub onward : List (Option VarId) → List (Option VarId) → List (Option VarId)
-onward below partners = map (option_and_then (partner_at below)) partners
+abbrev pub partners_below : List (Option VarId) → List (Option VarId) → List (Option VarId)
+partners_below below partners = map (option_and_then (partner_at below)) partners
 
 -- the way, and then down an edge into its lower point
 abbrev pub way_below : List Point → Way → Edge → Way
-way_below ps way e = record { point = e.child; partners = onward (partners_of ps e) way.partners; paths = way.paths }
+way_below ps way e = record { point = e.child; partners = partners_below (partners_of ps e) way.partners; paths = way.paths }
 
 -- ---- ways that are one
 abbrev pub same_partner : Option VarId → Option VarId → Bool

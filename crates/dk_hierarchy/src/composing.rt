@@ -2,7 +2,7 @@
 ghost use Rattle.std.specs.Prelude.{◌≡◌, ◌<◌, ◌≤◌, ◌^◌, IfOk, length};
 ghost use Rattle.dk_hierarchy.specs.Descent.{own_partners};
 ghost use Rattle.dk_hierarchy.specs.Samples.{all_vars_of, partners_of};
-ghost use Rattle.dk_hierarchy.specs.Ways.{onward};
+ghost use Rattle.dk_hierarchy.specs.Ways.{partners_below};
 
 use crate::way::partner_at;
 use dk_base::{List, NoMemory, VarId, VarInfo};
@@ -22,8 +22,9 @@ pub(crate) fn own_partners(alloc: Global, number: u32) -> Result<List<Option<Var
     Ok(partners)
 }
 
-// The partner of each variable of the edge's parent, in their order.
-pub(crate) fn partners_of(
+/// The partner of each variable of the edge's parent, in their order; none where a variable has none. It asks for the variables of the two
+/// points, fewer than 2^32 each. Want of memory is the only error.
+pub fn partners_of(
     alloc: Global,
     points: &Points,
     edge: Edge,
@@ -51,7 +52,7 @@ pub(crate) fn onward(
     below: &[Option<VarId>],
     partners: &[Option<VarId>],
 ) -> Result<List<Option<VarId>>, NoMemory>
-    ensures { IfOk result (λ next. next ≡ onward below.now partners.now) }
+    ensures { IfOk result (λ next. next ≡ partners_below below.now partners.now) }
 {
     let mut next = List::new(alloc);
     for partner in partners {

@@ -9,6 +9,7 @@ pub mod laws;
 mod merged;
 mod way;
 
+pub use composing::partners_of;
 pub use engines::engine_of;
 pub use merged::{Merged, merge};
 pub use way::Way;

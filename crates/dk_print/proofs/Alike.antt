@@ -14,7 +14,7 @@ use Rattle.dk_template.specs.Templates.{role_kinds, rows}
 use Rattle.dk_template.specs.declared.grammar.RowId.{RowId}
 use Rattle.dk_print.specs.Laws.{RowsAlikeTakeOtherKinds}
 use Rattle.dk_print.specs.Parts.{Part, text_by}
-use Rattle.dk_print.specs.Texts.{parts_of, texts}
+use Rattle.dk_print.specs.Texts.{parts_of_row, row_texts}
 
 abbrev pub row : ℕ → RowId
 row n = record { 0 = n }
@@ -41,7 +41,7 @@ abbrev Entry : Type 0
 Entry = ℕ × List ℕ × List ℕ
 
 entry : ℕ → Entry
-entry n = (n, shown (parts_of (row n)), map kind_number (role_kinds (row n)))
+entry n = (n, shown (parts_of_row (row n)), map kind_number (role_kinds (row n)))
 
 -- two rows are one, or differ in what their parts say or in their kinds
 differ : Entry → Entry → Bool
@@ -51,7 +51,7 @@ all_pairs : List Entry → Bool
 all_pairs es = list_all (λ e. list_all (differ e) es) es
 
 all_differ : all_pairs (map entry numbers) ≡ true
-unfolding all_pairs differ entry numbers shown kind_number texts rows digits
+unfolding all_pairs differ entry numbers shown kind_number row_texts rows digits
 all_differ = refl
 
 -- ---- from the whole table to two rows
@@ -101,8 +101,8 @@ two_differ n m n_low n_high m_low m_high =
 pub rows_alike : RowsAlikeTakeOtherKinds
 unfolding differ entry
 rows_alike r q is_r is_q parts kinds =
-    let said : bytes_eq (shown (parts_of r)) (shown (parts_of q)) ≡ true =
-    ap (λ ps. bytes_eq (shown (parts_of r)) (shown ps)) (sym parts) ∙ same_bytes (shown (parts_of r)) in
+    let said : bytes_eq (shown (parts_of_row r)) (shown (parts_of_row q)) ≡ true =
+    ap (λ ps. bytes_eq (shown (parts_of_row r)) (shown ps)) (sym parts) ∙ same_bytes (shown (parts_of_row r)) in
     let taken : bytes_eq (map kind_number (role_kinds r)) (map kind_number (role_kinds q)) ≡ true =
     ap (λ ks. bytes_eq (map kind_number (role_kinds r)) (map kind_number ks)) (sym kinds) ∙ same_bytes (map kind_number (role_kinds r)) in
     ap row (one_number r.0 q.0 _ _ said taken (two_differ r.0 q.0 is_r.0 is_r.1 is_q.0 is_q.1))

@@ -6,7 +6,7 @@ use Rattle.std.proofs.Common.{inl, inr, sym, ◌∙◌, ap, subst}
 use Rattle.std.proofs.lemmas.Bool.{and_parts, eq-eqb, eqb-true, false≢true, not-true, or_cases}
 use Rattle.std.proofs.lemmas.Slice.Eq.{bytes_eq-Decides}
 use Rattle.std.proofs.lemmas.List.{append_cancel_right, append-nil}
-use Rattle.dk_print.specs.Names.{begins_number, is_plain_name}
+use Rattle.dk_print.specs.Names.{is_number_start, is_plain_name}
 use Rattle.dk_print.specs.Parts.{name_at}
 use Rattle.dk_print.proofs.Tokens.{Token, letter, called, numeral, plus_or_minus, anything, Spells, is_sign}
 use Rattle.dk_print.proofs.TokenWords.{AllShared, LineSpells, Shared, heads, one-cut, tails}
@@ -14,8 +14,8 @@ use Rattle.dk_print.proofs.TokenWords.{AllShared, LineSpells, Shared, heads, one
 -- ---- by the first byte
 abbrev pub may_begin : Token → ℕ → Bool
 may_begin (letter b) c = b == c
-may_begin (called role) c = not (begins_number c) && not (c == 34)
-may_begin numeral c = begins_number c
+may_begin (called role) c = not (is_number_start c) && not (c == 34)
+may_begin numeral c = is_number_start c
 may_begin plus_or_minus c = is_sign c
 may_begin anything c = true
 
@@ -62,11 +62,11 @@ none-first : (p q : Token) (c : ℕ) → clash p q ≡ true → may_begin p c �
 none-first (letter b) q c e h k = refuted (may_begin q b) e (ap (may_begin q) (eqb-true b c h) ∙ k)
 none-first (called role) (letter b) c e h k = refuted (may_begin (called role) b) e (ap (may_begin (called role)) (eqb-true b c k) ∙ h)
 none-first (called role) (called other) c e h k = false≢true e
-none-first (called role) numeral c e h k = refuted (begins_number c) (and_parts _ _ h).0 k
+none-first (called role) numeral c e h k = refuted (is_number_start c) (and_parts _ _ h).0 k
 none-first (called role) plus_or_minus c e h k = false≢true e
 none-first (called role) anything c e h k = false≢true e
-none-first numeral (letter b) c e h k = refuted (begins_number b) e (ap begins_number (eqb-true b c k) ∙ h)
-none-first numeral (called role) c e h k = refuted (begins_number c) (and_parts _ _ k).0 h
+none-first numeral (letter b) c e h k = refuted (is_number_start b) e (ap is_number_start (eqb-true b c k) ∙ h)
+none-first numeral (called role) c e h k = refuted (is_number_start c) (and_parts _ _ k).0 h
 none-first numeral numeral c e h k = false≢true e
 none-first numeral plus_or_minus c e h k = false≢true e
 none-first numeral anything c e h k = false≢true e

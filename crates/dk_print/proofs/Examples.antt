@@ -12,7 +12,7 @@ use Rattle.dk_forms.specs.declared.states.State.TheVariants.{Holds, Least, Great
 use Rattle.dk_template.specs.Templates.{rows}
 use Rattle.dk_print.specs.Names.{is_plain_name}
 use Rattle.dk_print.specs.Sections.{fault_line, heading, stats_line}
-use Rattle.dk_print.specs.Texts.{instance_text, row_text, texts}
+use Rattle.dk_print.specs.Texts.{instance_text, row_text, row_texts}
 
 -- over the names x, y and z
 abbrev text : ℕ → State → List ℕ
@@ -117,16 +117,16 @@ cases =
     ∷ []
 
 each_row : map (λ (c : List ℕ × List ℕ). c.0) cases ≡ map (λ (c : List ℕ × List ℕ). c.1) cases
-unfolding cases row_text texts digits
+unfolding cases row_text row_texts digits
 each_row = refl
 
 -- each row has a text, and nothing else has
-all_rows : length texts ≡ length rows
-unfolding texts rows
+all_rows : length row_texts ≡ length rows
+unfolding row_texts rows
 all_rows = refl
 
 no_row : text 0 Holds ++ text 69 Holds ≡ []
-unfolding row_text texts
+unfolding row_text row_texts
 no_row = refl
 
 -- a name is printed as it is, blanks and backslashes too; a variable that isn't there has none
@@ -137,7 +137,7 @@ abbrev v : ℕ → VarId
 v n = record { 0 = n }
 
 names : instance_text (named "a b" ∷ named "c\\d" ∷ []) (record { 0 = 13 }) (v 1 ∷ v 0 ∷ []) Holds ++ instance_text [] (record { 0 = 4 }) (v 7 ∷ []) Holds ≡ codes "c\\d < a b != 0"
-unfolding row_text texts
+unfolding row_text row_texts
 names = refl
 
 head : heading (codes "P.m():::ENTER") 4 ≡ codes "===========================================================================\nP.m():::ENTER  [4]\n"
@@ -165,25 +165,25 @@ row_over : ℕ → List String → State → List ℕ
 row_over n names s = row_text (record { 0 = n }) (map (λ literal. codes literal) names) s
 
 digit_needed : row_over 12 ("x" ∷ "0" ∷ []) Holds ≡ text 4 Holds
-unfolding row_over row_text texts
+unfolding row_over row_text row_texts
 digit_needed = refl
 
 minus_needed : row_over 11 ("x" ∷ "-1" ∷ []) Holds ≡ text 1 (Ints (negsuc 0 ∷ []))
-unfolding row_over row_text texts digits
+unfolding row_over row_text row_texts digits
 minus_needed = refl
 
 null_needed : row_over 21 ("x" ∷ "null" ∷ []) Holds ≡ text 8 Holds
-unfolding row_over row_text texts
+unfolding row_over row_text row_texts
 null_needed = refl
 
 word_needed : row_over 18 ("x" ∷ "true" ∷ []) Holds ≡ text 6 (Truth true)
-unfolding row_over row_text texts
+unfolding row_over row_text row_texts
 word_needed = refl
 
 quote_needed : row_over 22 ("x" ∷ "\"a\"" ∷ []) Holds ≡ text 9 (Texts (codes "\"a\"" ∷ []))
-unfolding row_over row_text texts
+unfolding row_over row_text row_texts
 quote_needed = refl
 
 blank_needed : row_over 11 ("x" ∷ "y + z" ∷ []) Holds ≡ text 24 Holds
-unfolding row_over row_text texts
+unfolding row_over row_text row_texts
 blank_needed = refl

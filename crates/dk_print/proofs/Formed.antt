@@ -11,7 +11,7 @@ use Rattle.std.proofs.lemmas.Slice.Eq.{bytes_eq-Decides}
 use Rattle.dk_base.specs.Items.{closes_quote, is_quoted, is_text}
 use Rattle.dk_print.specs.Laws.{TellsStrings}
 use Rattle.dk_print.specs.Names.{is_plain_name}
-use Rattle.dk_print.specs.Parts.{Part, word, named, bound, values, null_or, remainder, modulus, lead, term, constant, step, bound_in, code_in, constant_in, factor_at, known_text, modulus_in, name_at, offset_in, part_text, remainder_in, sign_text, step_text, text_by, times_text}
+use Rattle.dk_print.specs.Parts.{Part, word, named, bound, values, null_or, remainder, modulus, lead, term, constant, step, bound_in, code_in, constant_term_in, factor_at, known_text, modulus_in, name_at, offset_in, part_text, remainder_in, sign_text, step_text, text_by, times_text}
 use Rattle.dk_forms.specs.declared.states.State.{State}
 use Rattle.dk_forms.specs.declared.states.State.TheVariants as state
 use Rattle.dk_print.proofs.Decimals.{number-decimal, number-signed}
@@ -157,11 +157,11 @@ module _ (names : List (List ℕ)) where
         among = in-map (λ ts. signed ++ ts) (factored role) f.tokens f.among;
         spells = Spells-append names signed f.tokens (sign_text (factor_at s role)) _ (by-sign (factor_at s role)) f.spells;
       }
-  part-formed s constant strings plain = by (int_eq (constant_in s) (pos 0))
+  part-formed s constant strings plain = by (int_eq (constant_term_in s) (pos 0))
     where
-      by : (b : Bool) → Formed (forms_of constant) (if b then [] else step_text (constant_in s))
+      by : (b : Bool) → Formed (forms_of constant) (if b then [] else step_text (constant_term_in s))
       by true = first-form [] _ _ refl
-      by false = later-form [] _ _ (first-form (signed ++ numeral ∷ []) [] _ (by-step (constant_in s)))
+      by false = later-form [] _ _ (first-form (signed ++ numeral ∷ []) [] _ (by-step (constant_term_in s)))
   part-formed s step strings plain = first-form (signed ++ numeral ∷ []) [] _ (by-step (offset_in s))
 
   abbrev pub AllNamesPlain : List Part → Type 0

@@ -22,7 +22,7 @@ use Rattle.dk_template.specs.declared.templates.Role.{Role}
 use Rattle.dk_print.specs.Laws.{NamesTell, TellsStrings, TextsTellInstances}
 use Rattle.dk_print.specs.Names.{is_plain_name}
 use Rattle.dk_print.specs.Parts.{Part, word, named, bound, values, null_or, remainder, modulus, lead, term, constant, step, name_at, text_by}
-use Rattle.dk_print.specs.Texts.{names_of, parts_of, row_text, texts}
+use Rattle.dk_print.specs.Texts.{parts_of_row, row_text, row_texts, var_names}
 use Rattle.dk_print.proofs.Alike.{kind_number, length-numbers, number_at, numbers, passes, row}
 use Rattle.dk_print.proofs.Formed.{AllNamesPlain, Formed, In, NamesPlain, in-flat_map, in-map, text-formed}
 use Rattle.dk_print.proofs.Forms.{lines_of}
@@ -38,13 +38,13 @@ abbrev entry_at : ℕ → List Token → Entry
 entry_at n ts = record { row = n; kinds = kind_numbers (row n); line = words ts }
 
 entries_of : ℕ → List Entry
-entries_of n = map (entry_at n) (lines_of (parts_of (row n)))
+entries_of n = map (entry_at n) (lines_of (parts_of_row (row n)))
 
 entries : List Entry
 entries = flat_map entries_of numbers
 
 all_settled : list_all (λ e. list_all (is_settled e) entries) entries ≡ true
-unfolding entries entries_of numbers kind_number texts rows
+unfolding entries entries_of numbers kind_number row_texts rows
 all_settled = refl
 
 -- no part names a role behind the last one
@@ -54,8 +54,8 @@ within n (lead role) = nat_lt role n
 within n (term role) = nat_lt role n
 within n p = true
 
-all_within : list_all (λ n. list_all (within (arity_of (row n))) (parts_of (row n))) numbers ≡ true
-unfolding numbers within texts rows
+all_within : list_all (λ n. list_all (within (arity_of (row n))) (parts_of_row (row n))) numbers ≡ true
+unfolding numbers within row_texts rows
 all_within = refl
 
 all-in : {A : Type 0} (p : A → Bool) (xs : List A) → list_all p xs ≡ true → (x : A) → In xs x → p x ≡ true
@@ -71,9 +71,9 @@ in-at (x ∷ xs) (suc k) d h = inr (in-at xs k d (omega arith))
 in-numbers : (n : ℕ) → 1 ≤ n → n ≤ 68 → In numbers n
 in-numbers n low high = let long = length-numbers in subst (In numbers) (number_at n low high) (in-at numbers (n - 1) 0 (omega arith))
 
-entry-in : (n : ℕ) → 1 ≤ n → n ≤ 68 → (ts : List Token) → In (lines_of (parts_of (row n))) ts → In entries (entry_at n ts)
+entry-in : (n : ℕ) → 1 ≤ n → n ≤ 68 → (ts : List Token) → In (lines_of (parts_of_row (row n))) ts → In entries (entry_at n ts)
 unfolding entries entries_of
-entry-in n low high ts i = in-flat_map entries_of numbers n (entry_at n ts) (in-numbers n low high) (in-map (entry_at n) (lines_of (parts_of (row n))) ts i)
+entry-in n low high ts i = in-flat_map entries_of numbers n (entry_at n ts) (in-numbers n low high) (in-map (entry_at n) (lines_of (parts_of_row (row n))) ts i)
 
 -- ---- instances
 no_var : VarId
@@ -118,14 +118,14 @@ module _ (infos : List VarInfo) where
       let both = and_parts (length vars == length roles) (list_all (λ (p : Role × VarId). suits p.0 (slice_get infos p.1.0)) (zip roles vars)) h in
       suited-kinds roles vars (eqb-true (length vars) (length roles) both.0) both.1
 
-  name-is : (vars : List VarId) (i : ℕ) → i < length vars → name_at (names_of infos vars) i ≡ (info_at infos (var_at vars i)).name
+  name-is : (vars : List VarId) (i : ℕ) → i < length vars → name_at (var_names infos vars) i ≡ (info_at infos (var_at vars i)).name
   name-is vars i h = get_or-map (λ v. (info_at infos v).name) vars i no_var [] h
 
   -- a plain name is that of a variable
-  is-there : (vars : List VarId) (i : ℕ) → is_plain_name (name_at (names_of infos vars) i) ≡ true → i < length vars
+  is-there : (vars : List VarId) (i : ℕ) → is_plain_name (name_at (var_names infos vars) i) ≡ true → i < length vars
   is-there vars i plain = elim (cases_lt i (length vars)) as (λ _. i < length vars) [
     | inl lt ↦ lt
-    | inr past ↦ absurd (false≢true (sym (ap is_plain_name (get_or_past (names_of infos vars) i [] (subst (λ n. n ≤ i) (sym (length-map vars (λ v. (info_at infos v).name))) past))) ∙ plain))
+    | inr past ↦ absurd (false≢true (sym (ap is_plain_name (get_or_past (var_names infos vars) i [] (subst (λ n. n ≤ i) (sym (length-map vars (λ v. (info_at infos v).name))) past))) ∙ plain))
   ]
 
   -- what is known of an instance
@@ -145,14 +145,14 @@ module _ (infos : List VarInfo) where
       few grammar.Two h = omega arith
 
   module _ (tell : NamesTell infos) where
-    plain-at : (r : RowId) (vars : List VarId) → Given r vars → (i : ℕ) → i < length vars → is_plain_name (name_at (names_of infos vars) i) ≡ true
+    plain-at : (r : RowId) (vars : List VarId) → Given r vars → (i : ℕ) → i < length vars → is_plain_name (name_at (var_names infos vars) i) ≡ true
     plain-at r vars is i h =
         let there : (var_at vars i).0 < length infos = admitted-there infos r vars is.admitted i no_var h in
         ap is_plain_name (name-is vars i h) ∙ tell.plain (var_at vars i).0 no_info there
 
     -- variables of one name are one
     one-var : (r q : RowId) (vars others : List VarId) → Given r vars → Given q others → (i j : ℕ) → i < length vars → j < length others
-        → name_at (names_of infos vars) i ≡ name_at (names_of infos others) j → var_at vars i ≡ var_at others j
+        → name_at (var_names infos vars) i ≡ name_at (var_names infos others) j → var_at vars i ≡ var_at others j
     one-var r q vars others is too i j h k e =
         tell.differ (var_at vars i) (var_at others j) (admitted-there infos r vars is.admitted i no_var h) (admitted-there infos q others too.admitted j no_var k)
         (sym (name-is vars i h) ∙ e ∙ name-is others j k)
@@ -160,7 +160,7 @@ module _ (infos : List VarInfo) where
     kind-is : (r : RowId) (vars : List VarId) → Given r vars → (i : ℕ) → i < length vars → kind_at (kind_numbers r) i ≡ kind_of_var (var_at vars i)
     kind-is r vars is i h = ap (λ ks. kind_at ks i) (admitted-kinds r vars is.admitted) ∙ get_or-map kind_of_var vars i no_var 0 h
 
-    known : (r q : RowId) (vars others : List VarId) → Given r vars → Given q others → (ts us : List Token) → Known (names_of infos vars) (names_of infos others) (entry_at r.0 ts) (entry_at q.0 us)
+    known : (r q : RowId) (vars others : List VarId) → Given r vars → Given q others → (ts us : List Token) → Known (var_names infos vars) (var_names infos others) (entry_at r.0 ts) (entry_at q.0 us)
     known r q vars others is too ts us = record {
       distinct = λ i j plain e. let h = is-there vars i plain in let k = is-there vars j (sym (ap is_plain_name e) ∙ plain) in distinct-at vars is.distinct i j h k (one-var r r vars vars is is i j h k e);
       distinct_others = λ i j plain e. let h = is-there others i plain in let k = is-there others j (sym (ap is_plain_name e) ∙ plain) in distinct-at others too.distinct i j h k (one-var q q others others too too i j h k e);
@@ -192,27 +192,27 @@ module _ (infos : List VarInfo) where
         (part-plain names n plain p both.0, parts-plain names n plain ps both.1)
 
     -- a line of the row spells the text
-    formed : (r : RowId) (vars : List VarId) → Given r vars → (s : State) → TellsStrings s → Formed (names_of infos vars) (lines_of (parts_of r)) (text_by (parts_of r) (names_of infos vars) s)
+    formed : (r : RowId) (vars : List VarId) → Given r vars → (s : State) → TellsStrings s → Formed (var_names infos vars) (lines_of (parts_of_row r)) (text_by (parts_of_row r) (var_names infos vars) s)
     formed r vars is s strings =
         let arity = admitted_arity r infos vars is.admitted in
-        text-formed (names_of infos vars) s (parts_of r) strings (
-        parts-plain (names_of infos vars) (arity_of r) (λ i h. plain-at r vars is i (omega (arith, arity))) (parts_of r)
-        (passes (λ n. list_all (within (arity_of (row n))) (parts_of (row n))) all_within r.0 is.low is.high))
+        text-formed (var_names infos vars) s (parts_of_row r) strings (
+        parts-plain (var_names infos vars) (arity_of r) (λ i h. plain-at r vars is i (omega (arith, arity))) (parts_of_row r)
+        (passes (λ n. list_all (within (arity_of (row n))) (parts_of_row (row n))) all_within r.0 is.low is.high))
 
     same-instance : (r q : RowId) (vars others : List VarId) → Given r vars → Given q others → (s t : State) → TellsStrings s → TellsStrings t
-        → text_by (parts_of r) (names_of infos vars) s ≡ text_by (parts_of q) (names_of infos others) t → (r ≡ q) × (vars ≡ others)
+        → text_by (parts_of_row r) (var_names infos vars) s ≡ text_by (parts_of_row q) (var_names infos others) t → (r ≡ q) × (vars ≡ others)
     same-instance r q vars others is too s t strings texts e =
         let f = formed r vars is s strings in
         let g = formed q others too t texts in
-        let names = names_of infos vars in
-        let names2 = names_of infos others in
+        let names = var_names infos vars in
+        let names2 = var_names infos others in
         let e1 = entry_at r.0 f.tokens in
         let e2 = entry_at q.0 g.tokens in
         let pair : is_settled e1 e2 ≡ true =
         all-in (is_settled e1) entries (all-in (λ d. list_all (is_settled d) entries) entries all_settled e1 (entry-in r.0 is.low is.high f.tokens f.among)) e2 (entry-in q.0 too.low too.high g.tokens g.among) in
         let same : Same names names2 e1 e2 =
-        settled names names2 e1 e2 pair (known r q vars others is too f.tokens g.tokens) (text_by (parts_of r) names s) (line-of names f.tokens (text_by (parts_of r) names s) f.spells)
-        (line-of names2 g.tokens (text_by (parts_of r) names s) (subst (λ x. Spells names2 g.tokens x) (sym e) g.spells)) in
+        settled names names2 e1 e2 pair (known r q vars others is too f.tokens g.tokens) (text_by (parts_of_row r) names s) (line-of names f.tokens (text_by (parts_of_row r) names s) f.spells)
+        (line-of names2 g.tokens (text_by (parts_of_row r) names s) (subst (λ x. Spells names2 g.tokens x) (sym e) g.spells)) in
         let one_row : r ≡ q = ap row same.row in
         let long = admitted_arity r infos vars is.admitted in
         let long2 = admitted_arity q infos others too.admitted in

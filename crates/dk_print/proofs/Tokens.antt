@@ -2,7 +2,7 @@
 use Rattle.std.specs.Prelude.{◌≡◌, ◌==◌, ◌||◌, ◌++◌, ℕ, Bool, true, List, [], ◌∷◌}
 use Rattle.std.proofs.Common.{sym, ◌∙◌, ap, subst, append_assoc}
 use Rattle.dk_print.specs.Parts.{name_at}
-use Rattle.dk_print.specs.Names.{begins_number, is_plain_name, is_solid}
+use Rattle.dk_print.specs.Names.{is_number_start, is_plain_name, is_solid}
 
 -- a byte, the name at a role, a number, a `+` or a `-`, or anything up to the end of the text
 pub data Token : Type 0 where
@@ -20,7 +20,7 @@ pub record IsNumber (text : List ℕ) : Type 0 where
   pub first : ℕ
   pub rest : List ℕ
   pub is : text ≡ first ∷ rest
-  pub begins : begins_number first ≡ true
+  pub begins : is_number_start first ≡ true
   pub solid : is_solid text ≡ true
 
 module _ (names : List (List ℕ)) where

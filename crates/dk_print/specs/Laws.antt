@@ -11,11 +11,11 @@ use Rattle.dk_template.specs.Templates.{IsRow, role_kinds}
 use Rattle.dk_template.specs.declared.grammar.Grammar.{Grammar}
 use Rattle.dk_template.specs.declared.grammar.RowId.{RowId}
 use Rattle.dk_print.specs.Names.{is_plain_name}
-use Rattle.dk_print.specs.Texts.{instance_text, parts_of}
+use Rattle.dk_print.specs.Texts.{instance_text, parts_of_row}
 
 -- Two rows with the same parts take variables of other kinds: the kinds and the parts tell the row.
 abbrev pub RowsAlikeTakeOtherKinds : Type 0
-RowsAlikeTakeOtherKinds = (r q : RowId) → IsRow r → IsRow q → parts_of r ≡ parts_of q → role_kinds r ≡ role_kinds q → r ≡ q
+RowsAlikeTakeOtherKinds = (r q : RowId) → IsRow r → IsRow q → parts_of_row r ≡ parts_of_row q → role_kinds r ≡ role_kinds q → r ≡ q
 
 -- the variables have plain names, and no two have one name
 pub record NamesTell (infos : List VarInfo) : Type 0 where
@@ -31,5 +31,7 @@ TellsStrings _ = Unit {0}
 -- known of it: two different instances print differently.
 abbrev pub TextsTellInstances : Type 0
 TextsTellInstances =
-    (grammar : Grammar) (infos : List VarInfo) → NamesTell infos → (r q : RowId) (vars others : List VarId) → IsInstance grammar infos r vars → IsInstance grammar infos q others
-    → (s t : State) → TellsStrings s → TellsStrings t → instance_text infos r vars s ≡ instance_text infos q others t → (r ≡ q) × (vars ≡ others)
+    (grammar : Grammar) (infos : List VarInfo) → NamesTell infos → (r q : RowId) (vars others : List VarId)
+    → IsInstance grammar infos r vars → IsInstance grammar infos q others
+    → (s t : State) → TellsStrings s → TellsStrings t → instance_text infos r vars s ≡ instance_text infos q others t
+    → (r ≡ q) × (vars ≡ others)

@@ -75,10 +75,10 @@ factors_in _ = []
 abbrev pub factor_at : State → ℕ → ℤ
 factor_at s role = slice_index_or (factors_in s) role (pos 0)
 
-abbrev pub constant_in : State → ℤ
-constant_in (state.Straight a b c) = c
-constant_in (state.Plane a b c d) = d
-constant_in _ = pos 0
+abbrev pub constant_term_in : State → ℤ
+constant_term_in (state.Straight a b c) = c
+constant_term_in (state.Plane a b c d) = d
+constant_term_in _ = pos 0
 
 -- ` + ` or ` - `, by a number's sign
 abbrev pub sign_text : ℤ → List ℕ
@@ -89,8 +89,8 @@ abbrev pub step_text : ℤ → List ℕ
 step_text k = sign_text k ++ decimal (unsigned_abs k)
 
 -- a constant that is 0 is left out
-abbrev pub constant_text : ℤ → List ℕ
-constant_text k = if int_eq k (pos 0) then [] else step_text k
+abbrev pub constant_term_text : ℤ → List ℕ
+constant_term_text k = if int_eq k (pos 0) then [] else step_text k
 
 -- a variable's name, times a number, which is left out where it is 1
 abbrev pub times_text : ℕ → List ℕ → List ℕ
@@ -115,7 +115,7 @@ part_text names s remainder = decimal (remainder_in s)
 part_text names s modulus = decimal (modulus_in s)
 part_text names s (lead role) = times_text (unsigned_abs (factor_at s role)) (name_at names role)
 part_text names s (term role) = term_text (factor_at s role) (name_at names role)
-part_text names s constant = constant_text (constant_in s)
+part_text names s constant = constant_term_text (constant_term_in s)
 part_text names s step = step_text (offset_in s)
 
 abbrev pub text_by : List Part → List (List ℕ) → State → List ℕ

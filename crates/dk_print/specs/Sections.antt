@@ -41,7 +41,8 @@ kept_text leaders constants patterns slots = variables_text leaders constants ++
 
 unfoldable pub stats_line : List ℕ → Counts → List ℕ
 stats_line name counts =
-    codes "stats " ++ name ++ codes ": samples " ++ decimal counts.samples ++ kept_text counts.leaders counts.constants counts.patterns counts.slots
+    codes "stats " ++ name ++ codes ": samples " ++ decimal counts.samples
+    ++ kept_text counts.leaders counts.constants counts.patterns counts.slots
 
 -- ---- faults
 -- a line of this file is refused

@@ -2,8 +2,8 @@
 ghost use Rattle.std.specs.Prelude.{◌≡◌, ◌++◌, ◌==◌, IfOk, OnOk, codes, flat_map, if◌then◌else◌};
 ghost use Rattle.dk_filters.specs.Facts.{info_at};
 ghost use Rattle.dk_print.specs.Parts.{name_at, part_text};
-ghost use Rattle.dk_print.specs.Shown.{shown};
-ghost use Rattle.dk_print.specs.Texts.{instance_text, names_of};
+ghost use Rattle.dk_print.specs.Shown.{part_shown};
+ghost use Rattle.dk_print.specs.Texts.{instance_text, var_names};
 
 use crate::numbers::push_number;
 use crate::parts::{Part, parts_of};
@@ -28,7 +28,7 @@ fn name_of(vars: &[VarInfo], var: VarId) -> &[u8]
 
 // The name of the variable at a role; no bytes where there is none.
 fn name_at<'a>(vars: &'a [VarInfo], tuple: &[VarId], role: usize) -> &'a [u8]
-    ensures { result.now ≡ name_at (names_of vars.now tuple.now) role }
+    ensures { result.now ≡ name_at (var_names vars.now tuple.now) role }
 {
     match tuple.get(role) {
         Some(var) => name_of(vars, *var),
@@ -55,7 +55,7 @@ fn push_part(
     tuple: &[VarId],
     state: &State,
 ) -> Result<(), NoMemory>
-    ensures { OnOk result (text.new ≡ text.old ++ part_text (names_of vars.now tuple.now) state.now (shown part)) }
+    ensures { OnOk result (text.new ≡ text.old ++ part_text (var_names vars.now tuple.now) state.now (part_shown part)) }
 {
     match part {
         Part::Word(bytes) => text.append(bytes),
@@ -83,7 +83,7 @@ fn push_parts(
     tuple: &[VarId],
     state: &State,
 ) -> Result<(), NoMemory>
-    ensures { OnOk result (text.new ≡ text.old ++ flat_map (λ p. part_text (names_of vars.now tuple.now) state.now (shown p)) parts.now) }
+    ensures { OnOk result (text.new ≡ text.old ++ flat_map (λ p. part_text (var_names vars.now tuple.now) state.now (part_shown p)) parts.now) }
 {
     for part in parts {
         push_part(text, *part, vars, tuple, state)?;

@@ -1,7 +1,7 @@
 // The table of the texts of all rows.
 ghost use Rattle.std.specs.Prelude.{◌≡◌, ◌∷◌, [], map};
-ghost use Rattle.dk_print.specs.Shown.{shown};
-ghost use Rattle.dk_print.specs.Texts.{parts_of, texts};
+ghost use Rattle.dk_print.specs.Shown.{part_shown};
+ghost use Rattle.dk_print.specs.Texts.{parts_of_row, row_texts};
 
 use Part::{Bound, Constant, Lead, Modulus, Named, NullOr, Remainder, Step, Term, Values, Word};
 use dk_template::RowId;
@@ -147,14 +147,14 @@ const TEXTS: &[&[Part]] = &[
 
 // The texts of the rows 0 to 68.
 fn texts() -> &'static [&'static [Part]]
-    ensures { map (λ r. map shown r.now) result.now ≡ [] ∷ texts }
+    ensures { map (λ r. map part_shown r.now) result.now ≡ [] ∷ row_texts }
 {
     TEXTS
 }
 
 /// The parts of a row's text. There are none for what isn't a row of the table.
 pub(crate) fn parts_of(row: RowId) -> &'static [Part]
-    ensures { map shown result.now ≡ parts_of row }
+    ensures { map part_shown result.now ≡ parts_of_row row }
 {
     match texts().get(row.0 as usize) {
         Some(parts) => parts,

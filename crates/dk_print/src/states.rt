@@ -1,6 +1,6 @@
 // What a state has to tell. Where it is of another form, each number is 0.
 ghost use Rattle.std.specs.Prelude.{◌≡◌, pos, slice_index_or};
-ghost use Rattle.dk_print.specs.Parts.{bound_in, code_in, constant_in, factor_at, modulus_in, offset_in, remainder_in};
+ghost use Rattle.dk_print.specs.Parts.{bound_in, code_in, constant_term_in, factor_at, modulus_in, offset_in, remainder_in};
 
 use dk_template::State;
 
@@ -56,7 +56,7 @@ pub(crate) fn offset_in(state: &State) -> i128
 
 /// The constant of a line or a plane.
 pub(crate) fn constant_in(state: &State) -> i128
-    ensures { result ≡ constant_in state.now }
+    ensures { result ≡ constant_term_in state.now }
 {
     match state {
         State::Straight { c, .. } => *c,

@@ -1,6 +1,6 @@
 // Terms of lines and planes.
 ghost use Rattle.std.specs.Prelude.{◌≡◌, ◌++◌, OnOk};
-ghost use Rattle.dk_print.specs.Parts.{constant_text, sign_text, step_text, term_text, times_text};
+ghost use Rattle.dk_print.specs.Parts.{constant_term_text, sign_text, step_text, term_text, times_text};
 
 use crate::numbers::push_number;
 use dk_base::{NoMemory, Text};
@@ -26,7 +26,7 @@ pub(crate) fn push_step(text: &mut Text, number: i128) -> Result<(), NoMemory>
 
 /// The constant with its sign, behind the text; nothing where it is 0.
 pub(crate) fn push_constant(text: &mut Text, constant: i128) -> Result<(), NoMemory>
-    ensures { OnOk result (text.new ≡ text.old ++ constant_text constant) }
+    ensures { OnOk result (text.new ≡ text.old ++ constant_term_text constant) }
 {
     if constant == 0 {
         return Ok(());

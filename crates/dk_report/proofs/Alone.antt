@@ -6,7 +6,7 @@ use Rattle.dk_base.specs.declared.kinds.VarId.{VarId}
 use Rattle.dk_base.specs.declared.values.Value.{Value}
 use Rattle.dk_engine.specs.Levels.{Whole}
 use Rattle.dk_filters.specs.Answers.{Parent}
-use Rattle.dk_filters.specs.Candidates.{candidates_of, kept_by}
+use Rattle.dk_filters.specs.Candidates.{candidates_kept, candidates_of}
 use Rattle.dk_filters.specs.Laws.{ShowTheSame}
 use Rattle.dk_filters.specs.declared.found.PointFacts.{PointFacts}
 use Rattle.dk_fits.proofs.Listing.{row_of_grammar}
@@ -20,10 +20,10 @@ use Rattle.dk_report.proofs.Instances.{row_by_row}
 use Rattle.dk_report.proofs.Narrowed.{narrowed_row}
 use Rattle.dk_report.proofs.Sole.{admitted_too, kept_is, stands_for}
 use Rattle.dk_report.proofs.Telling.{tells_of}
-use Rattle.dk_report.specs.Asked.{AreStanding, CanBeAsked, here_of, over, views_of}
+use Rattle.dk_report.specs.Asked.{AreStanding, CanBeAsked, candidates_over, here_of, views_of}
 use Rattle.dk_report.specs.Keeping.{keeps}
-use Rattle.dk_report.specs.Listing.{is_equality, listed_of_row, may_stand}
-use Rattle.dk_report.specs.Narrowing.{CanNarrow, is_left, is_narrow, narrowed}
+use Rattle.dk_report.specs.Listing.{is_equality, listed_candidates_of_row, may_stand}
+use Rattle.dk_report.specs.Narrowing.{CanNarrow, candidates_left, is_left, is_narrow}
 use Rattle.dk_report.specs.declared.asking.Asking.{Asking}
 use Rattle.dk_report.specs.declared.sweeping.Standing.{Standing}
 
@@ -45,10 +45,10 @@ module _ (asking : Asking) (can : CanBeAsked asking) (of : Standing) (standing :
     abbrev point : ℕ
     point = narrow.sole.way.point.0
 
-    row_narrowed : (row : RowId) → IsIn row (rows_of here.grammar) → narrowed engine.kept asking of row ≡ listed_of_row asking.options.now (here_of asking) (views_of asking) row
+    row_narrowed : (row : RowId) → IsIn row (rows_of here.grammar) → candidates_left engine.kept asking of row ≡ listed_candidates_of_row asking.options.now (here_of asking) (views_of asking) row
     row_narrowed row i =
         let q = λ (vs : List VarId). if is_equality row then vs else if arity_of row == 1 then of.single else of.several in
-        ap (λ (vs : List VarId). over asking row (if is_narrow row then filter (is_left engine.kept row) (q vs) else q vs)) standing.all
+        ap (λ (vs : List VarId). candidates_over asking row (if is_narrow row then filter (is_left engine.kept row) (q vs) else q vs)) standing.all
         ∙ narrowed_row asking.options.now narrow.implied here.grammar (here_of asking) (samples point) here.infos
         (tells_of asking.here.now (samples point) (stands_for asking.here.now some samples stand engine narrow.sole)) (views_of asking) qs show engine.kept engine.infos
         (kept_is asking.here.now some samples stand engine narrow.sole) (admitted_too asking.here.now some samples stand engine narrow.sole) of.single of.several
@@ -56,7 +56,7 @@ module _ (asking : Asking) (can : CanBeAsked asking) (of : Standing) (standing :
         (standing.several ∙ ap (λ (f : PointFacts). filter (may_stand asking.options.now f true) all) can.found)
         narrow.lead row (row_of_grammar here.grammar row i)
 
-    pub narrowed_is : flat_map (narrowed engine.kept asking of) (rows_of here.grammar) ≡ kept_by (keeps asking.options.now) (candidates_of here.grammar asking.options.now.least (here_of asking) (views_of asking))
+    pub narrowed_is : flat_map (candidates_left engine.kept asking of) (rows_of here.grammar) ≡ candidates_kept (keeps asking.options.now) (candidates_of here.grammar asking.options.now.least (here_of asking) (views_of asking))
     narrowed_is =
-        flat_map-rows (narrowed engine.kept asking of) (listed_of_row asking.options.now (here_of asking) (views_of asking)) (rows_of here.grammar) row_narrowed
+        flat_map-rows (candidates_left engine.kept asking of) (listed_candidates_of_row asking.options.now (here_of asking) (views_of asking)) (rows_of here.grammar) row_narrowed
         ∙ sym (row_by_row asking.options.now (here_of asking) (views_of asking) here.grammar)

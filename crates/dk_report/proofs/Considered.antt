@@ -8,7 +8,7 @@ use Rattle.dk_filters.proofs.Asked.{admitted-there}
 use Rattle.dk_filters.specs.Answers.{Answers}
 use Rattle.dk_filters.specs.Candidates.{candidate_of, it_holds}
 use Rattle.dk_filters.specs.Facts.{facts_of}
-use Rattle.dk_filters.specs.Parents.{told}
+use Rattle.dk_filters.specs.Parents.{answers_by}
 use Rattle.dk_filters.specs.declared.candidate.Candidate.{Candidate}
 use Rattle.dk_filters.specs.declared.facts.Facts.{Facts}
 use Rattle.dk_fits.specs.Instances.{are_distinct, is_asked}
@@ -19,9 +19,9 @@ use Rattle.dk_template.specs.Fitting.{fits}
 use Rattle.dk_template.specs.Premises.{AreThere}
 use Rattle.dk_template.specs.declared.grammar.RowId.{RowId}
 use Rattle.dk_report.proofs.Passing.{unlisted}
-use Rattle.dk_report.specs.Asked.{here_of, listed_by, views_of}
+use Rattle.dk_report.specs.Asked.{here_of, listed_candidates_by, views_of}
 use Rattle.dk_report.specs.Keeping.{drops, keeps}
-use Rattle.dk_report.specs.Listing.{is_listed, listed}
+use Rattle.dk_report.specs.Listing.{is_listed, listed_candidates}
 use Rattle.dk_report.specs.declared.asking.Asking.{Asking}
 use Rattle.dk_report.specs.declared.options.Options.{Options}
 
@@ -41,32 +41,32 @@ module _ (asking : Asking) (row : RowId) (vars : List VarId) (infos : List VarIn
   asked_here : (b : Bool) → is_asked infos row vars ≡ b → is_asked here.infos row vars ≡ b
   asked_here b h = ap (λ vs. is_asked vs row vars) (sym is) ∙ h
 
-  nothing : (list : List Candidate) → is_listed options here (views_of asking) row vars ≡ false → list ≡ list ++ listed_by asking row vars
+  nothing : (list : List Candidate) → is_listed options here (views_of asking) row vars ≡ false → list ≡ list ++ listed_candidates_by asking row vars
   nothing list h = sym (append-nil list) ∙ ap (λ cs. list ++ cs) (sym (unlisted options here (views_of asking) row vars h))
 
-  pub unasked : (list : List Candidate) → is_asked infos row vars ≡ false → list ≡ list ++ listed_by asking row vars
+  pub unasked : (list : List Candidate) → is_asked infos row vars ≡ false → list ≡ list ++ listed_candidates_by asking row vars
   unasked list h = nothing list (and_left (is_asked here.infos row vars) (holds && keeps options candidate) (asked_here false h))
 
-  pub unfitting : (list : List Candidate) (s : State) → s ≡ merged_state asking.here.now row vars → fits s ≡ false → list ≡ list ++ listed_by asking row vars
+  pub unfitting : (list : List Candidate) (s : State) → s ≡ merged_state asking.here.now row vars → fits s ≡ false → list ≡ list ++ listed_candidates_by asking row vars
   unfitting list s e h = nothing list (and_right (is_asked here.infos row vars) (holds && keeps options candidate) (and_left holds (keeps options candidate) (ap fits (sym e) ∙ h)))
 
   -- facts are told of the variables that are there
   abbrev IsJudged : Facts → Type 0
-  IsJudged facts = facts ≡ facts_of options.least (told infos (merged_state asking.here.now) (merged_count asking.here.now) (merged_agree asking.here.now)) (views_of asking) row vars
+  IsJudged facts = facts ≡ facts_of options.least (answers_by infos (merged_state asking.here.now) (merged_count asking.here.now) (merged_agree asking.here.now)) (views_of asking) row vars
 
   facts_are : (facts : Facts) → IsJudged facts → facts ≡ facts_of options.least here (views_of asking) row vars
-  facts_are facts e = e ∙ ap (λ vs. facts_of options.least (told vs (merged_state asking.here.now) (merged_count asking.here.now) (merged_agree asking.here.now)) (views_of asking) row vars) is
+  facts_are facts e = e ∙ ap (λ vs. facts_of options.least (answers_by vs (merged_state asking.here.now) (merged_count asking.here.now) (merged_agree asking.here.now)) (views_of asking) row vars) is
 
   keeps_is : (facts : Facts) (b : Bool) → IsJudged facts → not (drops options facts) ≡ b → keeps options candidate ≡ b
   keeps_is facts b e h = ap (λ (f : Facts). not (drops options f)) (sym (facts_are facts e)) ∙ h
 
-  pub dropped : (list : List Candidate) (facts : Facts) → IsJudged facts → not (drops options facts) ≡ false → list ≡ list ++ listed_by asking row vars
+  pub dropped : (list : List Candidate) (facts : Facts) → IsJudged facts → not (drops options facts) ≡ false → list ≡ list ++ listed_candidates_by asking row vars
   dropped list facts e h = nothing list (and_right (is_asked here.infos row vars) (holds && keeps options candidate) (and_right holds (keeps options candidate) (keeps_is facts false e h)))
 
   pub considered : (list : List Candidate) (s : State) (facts : Facts) (tuple : List VarId) (count : ℕ) → is_asked infos row vars ≡ true → s ≡ merged_state asking.here.now row vars → fits s ≡ true
       → IsJudged facts → not (drops options facts) ≡ true → tuple ≡ vars → count ≡ merged_count asking.here.now vars
-      → list ++ record { row = row; vars = tuple; state = s; count = count; facts = facts } ∷ [] ≡ list ++ listed_by asking row vars
-  unfolding listed
+      → list ++ record { row = row; vars = tuple; state = s; count = count; facts = facts } ∷ [] ≡ list ++ listed_candidates_by asking row vars
+  unfolding listed_candidates
   considered list s facts tuple count a e f j k t n =
       let same = facts_are facts j in
       let given : Candidate = record { row = row; vars = tuple; state = s; count = count; facts = facts } in

@@ -28,7 +28,7 @@ use Rattle.dk_points.specs.Partners.{partner_of}
 use Rattle.dk_points.specs.Table.{Point, declared_point}
 use Rattle.dk_points.specs.Vars.{entry_before, orig_vars, vars_of}
 use Rattle.dk_print.specs.Sections.{section_text}
-use Rattle.dk_print.specs.Texts.{row_text, texts}
+use Rattle.dk_print.specs.Texts.{row_text, row_texts}
 use Rattle.dk_rows.specs.Meanings.{meanings, state_of}
 use Rattle.dk_suppress.specs.Rules.{rules}
 use Rattle.dk_template.specs.Templates.{rows}
@@ -84,11 +84,11 @@ abbrev fives : Sampled
 fives = sampled (point (codes "P") [] (int (codes "x") 1 [] ∷ []) ∷ []) (((i 5 ∷ []) ∷ (i 5 ∷ []) ∷ (i 5 ∷ []) ∷ []) ∷ [])
 
 one_value : section (least 1) fives 0 ≡ bar ++ codes "P  [3]\nx == 5  [3]\n"
-unfolding section_of kept_instances candidates_of facts_of section_text row_text texts digits samples_of with_derived_vars vars_of orig_vars entry_before role_of method_len place_of nodes kept_edges edges links edges_into edges_from depth_of partners_of partner_with_derived partner_of rows instances_of rules fit state_of meanings put class remainder gcd divisor through plane_from plane_through
+unfolding section_of kept_instances candidates_of facts_of section_text row_text row_texts digits samples_of with_derived_vars vars_of orig_vars entry_before role_of method_len place_of nodes kept_edges edges links edges_into edges_from depth_of partners_of partner_with_derived partner_of rows instances_of rules fit state_of meanings put class remainder gcd divisor through plane_from plane_through
 one_value = refl
 
 few_fives : section (least 5) fives 0 ≡ bar ++ codes "P  [3]\n"
-unfolding section_of kept_instances candidates_of facts_of section_text row_text texts digits samples_of with_derived_vars vars_of orig_vars entry_before role_of method_len place_of nodes kept_edges edges links edges_into edges_from depth_of partners_of partner_with_derived partner_of rows instances_of rules fit state_of meanings put class remainder gcd divisor through plane_from plane_through
+unfolding section_of kept_instances candidates_of facts_of section_text row_text row_texts digits samples_of with_derived_vars vars_of orig_vars entry_before role_of method_len place_of nodes kept_edges edges links edges_into edges_from depth_of partners_of partner_with_derived partner_of rows instances_of rules fit state_of meanings put class remainder gcd divisor through plane_from plane_through
 few_fives = refl
 
 -- ---- two values with different comparabilities
@@ -96,12 +96,12 @@ abbrev apart : Sampled
 apart = sampled (point (codes "P") [] (int (codes "x") 1 [] ∷ int (codes "y") 2 [] ∷ []) ∷ []) (((i 1 ∷ i 3 ∷ []) ∷ (i 2 ∷ i 4 ∷ []) ∷ []) ∷ [])
 
 apart_incomparable : section (least 1) apart 0 ≡ bar ++ codes "P  [2]\nx one of { 1, 2 }  [2]\ny one of { 3, 4 }  [2]\n"
-unfolding section_of kept_instances candidates_of facts_of section_text row_text texts digits samples_of with_derived_vars vars_of orig_vars entry_before role_of method_len place_of nodes kept_edges edges links edges_into edges_from depth_of partners_of partner_with_derived partner_of rows instances_of rules fit state_of meanings put class remainder gcd divisor through plane_from plane_through
+unfolding section_of kept_instances candidates_of facts_of section_text row_text row_texts digits samples_of with_derived_vars vars_of orig_vars entry_before role_of method_len place_of nodes kept_edges edges links edges_into edges_from depth_of partners_of partner_with_derived partner_of rows instances_of rules fit state_of meanings put class remainder gcd divisor through plane_from plane_through
 apart_incomparable = refl
 
 apart_kept : section (record (least 1) { keep_incomparable = true }) apart 0
     ≡ bar ++ codes "P  [2]\nx one of { 1, 2 }  [2]\ny one of { 3, 4 }  [2]\nx < y  [2]\nx - y + 2 == 0  [2]\ny % x == 0  [2]\n"
-unfolding section_of kept_instances candidates_of facts_of section_text row_text texts digits samples_of with_derived_vars vars_of orig_vars entry_before role_of method_len place_of nodes kept_edges edges links edges_into edges_from depth_of partners_of partner_with_derived partner_of rows instances_of rules fit state_of meanings put class remainder gcd divisor through plane_from plane_through
+unfolding section_of kept_instances candidates_of facts_of section_text row_text row_texts digits samples_of with_derived_vars vars_of orig_vars entry_before role_of method_len place_of nodes kept_edges edges links edges_into edges_from depth_of partners_of partner_with_derived partner_of rows instances_of rules fit state_of meanings put class remainder gcd divisor through plane_from plane_through
 apart_kept = refl
 
 -- ---- two variables that agree but in one sample
@@ -114,7 +114,7 @@ ten = sampled (point (codes "P") [] (int (codes "x") 1 [] ∷ int (codes "y") 1 
 
 ten_and_one : section (least 5) ten 0
     ≡ bar ++ codes "P  [11]\nx >= 1  [11]\ny >= 1  [10]\nx <= 11  [11]\ny <= 10  [10]\nx == y  [10]\n"
-unfolding section_of kept_instances candidates_of facts_of section_text row_text texts digits samples_of with_derived_vars vars_of orig_vars entry_before role_of method_len place_of nodes kept_edges edges links edges_into edges_from depth_of partners_of partner_with_derived partner_of rows instances_of rules fit state_of meanings put class remainder gcd divisor through plane_from plane_through
+unfolding section_of kept_instances candidates_of facts_of section_text row_text row_texts digits samples_of with_derived_vars vars_of orig_vars entry_before role_of method_len place_of nodes kept_edges edges links edges_into edges_from depth_of partners_of partner_with_derived partner_of rows instances_of rules fit state_of meanings put class remainder gcd divisor through plane_from plane_through
 ten_and_one = refl
 
 -- ---- a child with two edges to its parent: its samples come to the parent twice
@@ -132,13 +132,13 @@ twice = sampled
     (((i 1 ∷ i 4 ∷ []) ∷ (i 2 ∷ i 8 ∷ []) ∷ (i 3 ∷ i 9 ∷ []) ∷ []) ∷ [] ∷ [])
 
 of_parent : samples_of twice.table twice.own 1 ≡ (i 1 ∷ []) ∷ (i 2 ∷ []) ∷ (i 3 ∷ []) ∷ (i 4 ∷ []) ∷ (i 8 ∷ []) ∷ (i 9 ∷ []) ∷ []
-unfolding section_of kept_instances candidates_of facts_of section_text row_text texts digits samples_of with_derived_vars vars_of orig_vars entry_before role_of method_len place_of nodes kept_edges edges links edges_into edges_from depth_of partners_of partner_with_derived partner_of rows instances_of rules fit state_of meanings put class remainder gcd divisor through plane_from plane_through
+unfolding section_of kept_instances candidates_of facts_of section_text row_text row_texts digits samples_of with_derived_vars vars_of orig_vars entry_before role_of method_len place_of nodes kept_edges edges links edges_into edges_from depth_of partners_of partner_with_derived partner_of rows instances_of rules fit state_of meanings put class remainder gcd divisor through plane_from plane_through
 of_parent = refl
 
 counted_twice : section (least 1) twice 0 ++ section (least 1) twice 1
     ≡ bar ++ codes "C  [3]\na one of { 1, 2, 3 }  [3]\nb one of { 4, 8, 9 }  [3]\na < b  [3]\nb % a == 0  [3]\n"
     ++ bar ++ codes "Q  [6]\nn >= 1  [6]\nn <= 9  [6]\n"
-unfolding section_of kept_instances candidates_of facts_of section_text row_text texts digits samples_of with_derived_vars vars_of orig_vars entry_before role_of method_len place_of nodes kept_edges edges links edges_into edges_from depth_of partners_of partner_with_derived partner_of rows instances_of rules fit state_of meanings put class remainder gcd divisor through plane_from plane_through
+unfolding section_of kept_instances candidates_of facts_of section_text row_text row_texts digits samples_of with_derived_vars vars_of orig_vars entry_before role_of method_len place_of nodes kept_edges edges links edges_into edges_from depth_of partners_of partner_with_derived partner_of rows instances_of rules fit state_of meanings put class remainder gcd divisor through plane_from plane_through
 counted_twice = refl
 
 -- ---- two children of one parent, of which one lacks a variable
@@ -157,5 +157,5 @@ stands_at_parent : section (least 1) siblings 0 ++ section (least 1) siblings 1 
     ≡ bar ++ codes "O  [5]\ng one of { 2, 4, 6 }  [3]\nf >= 1  [5]\nf <= 11  [5]\nf < g  [3]\n2 * f - g == 0  [3]\ng % f == 0  [3]\n"
     ++ bar ++ codes "E1  [3]\nf one of { 1, 2, 3 }  [3]\n"
     ++ bar ++ codes "E2  [2]\nf one of { 10, 11 }  [2]\n"
-unfolding section_of kept_instances candidates_of facts_of section_text row_text texts digits samples_of with_derived_vars vars_of orig_vars entry_before role_of method_len place_of nodes kept_edges edges links edges_into edges_from depth_of partners_of partner_with_derived partner_of rows instances_of rules fit state_of meanings put class remainder gcd divisor through plane_from plane_through
+unfolding section_of kept_instances candidates_of facts_of section_text row_text row_texts digits samples_of with_derived_vars vars_of orig_vars entry_before role_of method_len place_of nodes kept_edges edges links edges_into edges_from depth_of partners_of partner_with_derived partner_of rows instances_of rules fit state_of meanings put class remainder gcd divisor through plane_from plane_through
 stands_at_parent = refl

@@ -19,7 +19,7 @@ use Rattle.dk_fits.proofs.Members.{contained, in_filter, in_map, in_range, is_in
 use Rattle.dk_fits.specs.Instances.{all_vars}
 use Rattle.dk_forms.specs.Laws.{IsIn}
 use Rattle.dk_samples.proofs.Members.{same_members}
-use Rattle.dk_report.specs.Sizes.{leaders_of, leads}
+use Rattle.dk_report.specs.Sizes.{leads, own_leaders_in}
 
 abbrev pub Before : VarId → VarId → Type 0
 Before v w = v.0 < w.0
@@ -110,16 +110,16 @@ module _ (infos : List VarInfo) (samples : List (List Value)) (leaders : List Va
         | inr above ↦ omega (arith, le, above)
       ]
 
-  pub leaders_are : own_leaders leaders ≡ leaders_of infos samples
+  pub leaders_are : own_leaders leaders ≡ own_leaders_in infos samples
   leaders_are =
-      same_members Before one_way (own_leaders leaders) (leaders_of infos samples) (own_ascend leaders)
-      (pairs Before (leaders_of infos samples) (kept Before (leads infos samples) (all_vars infos) (along Before (λ n. record { 0 = n }) (range_with_len 0 (length infos)) (numbers 0 (length infos)))))
+      same_members Before one_way (own_leaders leaders) (own_leaders_in infos samples) (own_ascend leaders)
+      (pairs Before (own_leaders_in infos samples) (kept Before (leads infos samples) (all_vars infos) (along Before (λ n. record { 0 = n }) (range_with_len 0 (length infos)) (numbers 0 (length infos)))))
       (λ v c.
       let own = leads_from_own leaders v c in
       let within = own.0 in
       let l : v.0 < length infos = (let g = long in omega (arith, within, g)) in
-      contained v (leaders_of infos samples) (in_filter (leads infos samples) v (all_vars infos) (all-in infos v l) (leads-from v l own.1)))
+      contained v (own_leaders_in infos samples) (in_filter (leads infos samples) v (all_vars infos) (all-in infos v l) (leads-from v l own.1)))
       (λ v c.
-      let i = of_filter (leads infos samples) v (all_vars infos) (is_in v (leaders_of infos samples) c.0 c.1 c.2) in
+      let i = of_filter (leads infos samples) v (all_vars infos) (is_in v (own_leaders_in infos samples) c.0 c.1 c.2) in
       let l = in-all infos v i.0 in
       own_from_leads leaders v (let g = long in omega (arith, l, g)) (own-from v l i.1))

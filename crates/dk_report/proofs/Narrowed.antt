@@ -17,7 +17,7 @@ use Rattle.dk_filters.specs.Candidates.{candidate_of, it_holds}
 use Rattle.dk_filters.specs.Facts.{facts_of, has_sharper, is_sum_plane}
 use Rattle.dk_filters.specs.Found.{first_in, found_of}
 use Rattle.dk_filters.specs.Laws.{ShowTheSame, TellTheSame}
-use Rattle.dk_filters.specs.OfSamples.{told_by}
+use Rattle.dk_filters.specs.OfSamples.{answers_of}
 use Rattle.dk_filters.specs.declared.candidate.Candidate.{Candidate}
 use Rattle.dk_filters.specs.declared.facts.Facts.{Facts}
 use Rattle.dk_fits.proofs.Members.{contained, in_filter, is_in}
@@ -39,7 +39,7 @@ use Rattle.dk_report.proofs.Left.{AllLead, left}
 use Rattle.dk_report.proofs.Passing.{no-equality, passed, unlisted}
 use Rattle.dk_report.proofs.Rows.{of_takes, over_all, over_standing, some-role}
 use Rattle.dk_report.specs.Keeping.{drops, keeps}
-use Rattle.dk_report.specs.Listing.{is_equality, is_listed, listed, listed_of_row, may_stand}
+use Rattle.dk_report.specs.Listing.{is_equality, is_listed, listed_candidates, listed_candidates_of_row, may_stand}
 use Rattle.dk_report.specs.Narrowing.{all_lead, is_left, is_narrow}
 use Rattle.dk_report.specs.declared.options.Options.{Options}
 
@@ -67,7 +67,7 @@ not-implied options f o h =
     ]
 
 module _ (options : Options) (drops_implied : options.keep_implied ≡ false) (g : Grammar) (here : Answers) (samples : List (List Value)) (infos : List VarInfo)
-    (tell : TellTheSame g here (told_by infos samples)) (parents qs : List Parent) (show : AllZip (ShowTheSame g here.infos) parents qs)
+    (tell : TellTheSame g here (answers_of infos samples)) (parents qs : List Parent) (show : AllZip (ShowTheSame g here.infos) parents qs)
     (kept : Kept) (there_infos : List VarInfo) (is : IsKeptOf g there_infos samples kept) (admit : (r : RowId) (vs : List VarId) → admits r here.infos vs ≡ true → admits r there_infos vs ≡ true)
     (lead : all_lead kept.leaders (filter (may_stand options (found_of here parents) true) (all_vars here.infos)) ≡ true)
     (row : RowId) (of : IsRowOf g row) (differs : is_equality row ≡ false) (more : 1 < arity_of row)
@@ -78,8 +78,8 @@ module _ (options : Options) (drops_implied : options.keep_implied ≡ false) (g
     abbrev keep : VarId → Bool
     keep v = may v && is_left kept row v
 
-    listed-there : (vars : List VarId) → is_listed options here parents row vars ≡ true → listed options here parents row vars ≡ candidate_of options.least here parents (row, vars) ∷ []
-    unfolding listed
+    listed-there : (vars : List VarId) → is_listed options here parents row vars ≡ true → listed_candidates options here parents row vars ≡ candidate_of options.least here parents (row, vars) ∷ []
+    unfolding listed_candidates
     listed-there vars h = ap (λ b. if b then candidate_of options.least here parents (row, vars) ∷ [] else []) h
 
     module _ (vars : List VarId) (long : length vars ≡ arity_of row) (stays : is_listed options here parents row vars ≡ true) where
@@ -98,10 +98,10 @@ module _ (options : Options) (drops_implied : options.keep_implied ≡ false) (g
       free : is_suppressed (fit_of samples) row vars ≡ false
       unfolding facts_of
       free =
-          let facts = facts_are_of_what_may_be_asked g here (told_by infos samples) tell parents qs show options.least row of vars admitted in
+          let facts = facts_are_of_what_may_be_asked g here (answers_of infos samples) tell parents qs show options.least row of vars admitted in
           let dropped = (and_parts (it_holds here (row, vars)) (keeps options (candidate_of options.least here parents (row, vars))) fitting).1 in
           let implied = not-implied options (facts_of options.least here parents row vars) drops_implied dropped in
-          (or_parts (is_suppressed (fit_of samples) row vars) (has_sharper (told_by infos samples) row vars || is_sum_plane (told_by infos samples) row vars)
+          (or_parts (is_suppressed (fit_of samples) row vars) (has_sharper (answers_of infos samples) row vars || is_sum_plane (answers_of infos samples) row vars)
           (sym (ap (λ (f : Facts). f.implied) facts) ∙ implied)).0
 
       several : nat_lt 1 (length vars) ≡ true
@@ -136,8 +136,8 @@ module _ (options : Options) (drops_implied : options.keep_implied ≡ false) (g
       kept-at : (v : VarId) → IsIn v vars → keep v ≡ true
       kept-at v i = and_from (may v) (is_left kept row v) (stands v i) (left g there_infos samples kept is row of vars asked-there all-leading holds free v i)
 
-    fails : (vars : List VarId) → length vars ≡ arity_of row → (v : VarId) → IsIn v vars → keep v ≡ false → listed options here parents row vars ≡ []
-    fails vars long v i h = elim (cases_Bool (is_listed options here parents row vars)) as (λ _. listed options here parents row vars ≡ []) [
+    fails : (vars : List VarId) → length vars ≡ arity_of row → (v : VarId) → IsIn v vars → keep v ≡ false → listed_candidates options here parents row vars ≡ []
+    fails vars long v i h = elim (cases_Bool (is_listed options here parents row vars)) as (λ _. listed_candidates options here parents row vars ≡ []) [
       | inl is_there ↦ absurd (false≢true (sym h ∙ kept-at vars long is_there v i))
       | inr gone ↦ unlisted options here parents row vars gone
     ]
@@ -147,11 +147,11 @@ module _ (options : Options) (drops_implied : options.keep_implied ≡ false) (g
         flat_map-filter f (is_left kept row) (λ v h. none v (and_right (may v) (is_left kept row v) h)) (filter may (all_vars here.infos))
         ∙ flat_map-filter f may (λ v h. none v (and_left (may v) (is_left kept row v) h)) (all_vars here.infos)
 
-    pub narrow_row : over_all options here parents row (filter (is_left kept row) (filter may (all_vars here.infos))) ≡ listed_of_row options here parents row
+    pub narrow_row : over_all options here parents row (filter (is_left kept row) (filter may (all_vars here.infos))) ≡ listed_candidates_of_row options here parents row
     narrow_row = of_takes options here parents row (template_of row).takes refl keep (filter (is_left kept row) (filter may (all_vars here.infos))) suffices fails
 
 module _ (options : Options) (drops_implied : options.keep_implied ≡ false) (g : Grammar) (here : Answers) (samples : List (List Value)) (infos : List VarInfo)
-    (tell : TellTheSame g here (told_by infos samples)) (parents qs : List Parent) (show : AllZip (ShowTheSame g here.infos) parents qs)
+    (tell : TellTheSame g here (answers_of infos samples)) (parents qs : List Parent) (show : AllZip (ShowTheSame g here.infos) parents qs)
     (kept : Kept) (there_infos : List VarInfo) (is : IsKeptOf g there_infos samples kept) (admit : (r : RowId) (vs : List VarId) → admits r here.infos vs ≡ true → admits r there_infos vs ≡ true)
     (single several : List VarId)
     (single_is : single ≡ filter (may_stand options (found_of here parents) false) (all_vars here.infos))
@@ -167,8 +167,8 @@ module _ (options : Options) (drops_implied : options.keep_implied ≡ false) (g
         ∙ (ap (λ b. if b then single else several) f ∙ several_is)
 
     pub narrowed_row : (row : RowId) → IsRowOf g row
-        → over_all options here parents row (if is_narrow row then filter (is_left kept row) (standing_at row) else standing_at row) ≡ listed_of_row options here parents row
-    narrowed_row row of = elim (cases_Bool (is_narrow row)) as (λ _. over_all options here parents row (if is_narrow row then filter (is_left kept row) (standing_at row) else standing_at row) ≡ listed_of_row options here parents row) [
+        → over_all options here parents row (if is_narrow row then filter (is_left kept row) (standing_at row) else standing_at row) ≡ listed_candidates_of_row options here parents row
+    narrowed_row row of = elim (cases_Bool (is_narrow row)) as (λ _. over_all options here parents row (if is_narrow row then filter (is_left kept row) (standing_at row) else standing_at row) ≡ listed_candidates_of_row options here parents row) [
       | inl narrow ↦
           (let parts = and_parts (not (is_equality row)) (not (arity_of row == 1)) narrow in
           let differs = not-true (is_equality row) parts.0 in

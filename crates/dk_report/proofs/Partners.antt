@@ -21,7 +21,7 @@ use Rattle.dk_hierarchy.specs.Samples.{all_vars_of, partners_of}
 use Rattle.dk_points.specs.Links.{nodes}
 use Rattle.dk_points.specs.Table.{Point}
 use Rattle.dk_report.specs.Laws.{ParentsAreLike}
-use Rattle.dk_report.specs.Reports.{told_of}
+use Rattle.dk_report.specs.Reports.{answers_of_point}
 
 get-at : {A : Type 0} (xs : List A) (i : ℕ) (d : A) → i < length xs → slice_get xs i ≡ Some (slice_index_or xs i d)
 get-at [] i d lt = absurd (omega (arith, lt))
@@ -75,7 +75,7 @@ from-child ps p k d lt = eqb_true (slice_index_or (edges_from (nodes ps) p) k d)
 
 pub parents_are_like : ParentsAreLike
 parents_are_like ps own p =
-    All-map (PartnersAreLike (all_vars_of ps p)) (λ e. record { answers = told_of ps own e.parent.0; partners = partners_of ps e }) (edges_from (nodes ps) p)
+    All-map (PartnersAreLike (all_vars_of ps p)) (λ e. record { answers = answers_of_point ps own e.parent.0; partners = partners_of ps e }) (edges_from (nodes ps) p)
     (λ k d lt.
     let e : Edge = slice_index_or (edges_from (nodes ps) p) k d in
-    subst (λ q. PartnersAreLike (all_vars_of ps q) (record { answers = told_of ps own e.parent.0; partners = partners_of ps e })) (from-child ps p k d lt) (like ps e))
+    subst (λ q. PartnersAreLike (all_vars_of ps q) (record { answers = answers_of_point ps own e.parent.0; partners = partners_of ps e })) (from-child ps p k d lt) (like ps e))

@@ -16,7 +16,7 @@ use Rattle.dk_forms.specs.Laws.{IsIn}
 use Rattle.dk_template.specs.Admitted.{admits, is_written}
 use Rattle.dk_template.specs.declared.grammar.RowId.{RowId}
 use Rattle.dk_report.specs.Keeping.{drops, keeps}
-use Rattle.dk_report.specs.Listing.{is_equality, is_listed, listed, may_stand}
+use Rattle.dk_report.specs.Listing.{is_equality, is_listed, listed_candidates, may_stand}
 use Rattle.dk_report.specs.declared.options.Options.{Options}
 
 -- ---- facts that drop
@@ -57,16 +57,16 @@ no-equality first row (v ∷ w ∷ x ∷ vars) h = refl
 
 module _ (options : Options) (here : Answers) (parents : List Parent) where
   -- what isn't listed gives nothing
-  pub unlisted : (row : RowId) (vars : List VarId) → is_listed options here parents row vars ≡ false → listed options here parents row vars ≡ []
-  unfolding listed
+  pub unlisted : (row : RowId) (vars : List VarId) → is_listed options here parents row vars ≡ false → listed_candidates options here parents row vars ≡ []
+  unfolding listed_candidates
   unlisted row vars h = ap (λ b. if b then candidate_of options.least here parents (row, vars) ∷ [] else []) h
 
-  pub unadmitted : (row : RowId) (vars : List VarId) → admits row here.infos vars ≡ false → listed options here parents row vars ≡ []
+  pub unadmitted : (row : RowId) (vars : List VarId) → admits row here.infos vars ≡ false → listed_candidates options here parents row vars ≡ []
   unadmitted row vars h =
       unlisted row vars (and_left (is_asked here.infos row vars) (it_holds here (row, vars) && keeps options (candidate_of options.least here parents (row, vars)))
       (and_left (admits row here.infos vars) (is_written row vars && are_distinct vars) h))
 
-  dropped : (row : RowId) (vars : List VarId) → drops options (facts_of options.least here parents row vars) ≡ true → listed options here parents row vars ≡ []
+  dropped : (row : RowId) (vars : List VarId) → drops options (facts_of options.least here parents row vars) ≡ true → listed_candidates options here parents row vars ≡ []
   dropped row vars h =
       unlisted row vars (and_right (is_asked here.infos row vars) (it_holds here (row, vars) && keeps options (candidate_of options.least here parents (row, vars)))
       (and_right (it_holds here (row, vars)) (keeps options (candidate_of options.least here parents (row, vars))) (ap not h)))
@@ -93,11 +93,11 @@ module _ (options : Options) (here : Answers) (parents : List Parent) where
         ∙ and_from (nat_lt 1 (length vars)) (not (tells_member_by first row vars) && list_any one_value vars) several
         (and_from (not (tells_member_by first row vars)) (list_any one_value vars) (ap not tells) (any_in one_value v vars i h))) o
 
-    passed-at : may_stand options (found_of here parents) (nat_lt 1 (length vars)) v ≡ false → listed options here parents row vars ≡ []
+    passed-at : may_stand options (found_of here parents) (nat_lt 1 (length vars)) v ≡ false → listed_candidates options here parents row vars ≡ []
     passed-at h =
         let member = options.keep_members || (first v).0 == v.0 in
         let constant = options.keep_constant || not (nat_lt 1 (length vars) && one_value v) in
-        elim (and_cases member constant h) as (λ _. listed options here parents row vars ≡ []) [
+        elim (and_cases member constant h) as (λ _. listed_candidates options here parents row vars ≡ []) [
           | inl a ↦ (let p = or_parts options.keep_members ((first v).0 == v.0) a in dropped row vars (passed-member p.0 p.1))
           | inr b ↦
               (let p = or_parts options.keep_constant (not (nat_lt 1 (length vars) && one_value v)) b in
@@ -107,8 +107,8 @@ module _ (options : Options) (here : Answers) (parents : List Parent) where
 
   -- an instance over a variable that is passed over isn't kept
   pub passed : (row : RowId) (vars : List VarId) (v : VarId) → IsIn v vars → tells_member_by first row vars ≡ false
-      → may_stand options (found_of here parents) (nat_lt 1 (length vars)) v ≡ false → listed options here parents row vars ≡ []
-  passed row vars v i tells h = elim (cases_Bool (admits row here.infos vars)) as (λ _. listed options here parents row vars ≡ []) [
+      → may_stand options (found_of here parents) (nat_lt 1 (length vars)) v ≡ false → listed_candidates options here parents row vars ≡ []
+  passed row vars v i tells h = elim (cases_Bool (admits row here.infos vars)) as (λ _. listed_candidates options here parents row vars ≡ []) [
     | inl admitted ↦ passed-at row vars v i tells admitted h
     | inr not_admitted ↦ unadmitted row vars not_admitted
   ]

@@ -7,7 +7,7 @@ use Rattle.dk_base.specs.Pieces.{is_empty}
 use Rattle.dk_base.specs.declared.kinds.VarInfo.{VarInfo}
 use Rattle.dk_base.specs.declared.values.Value.{Value}
 use Rattle.dk_engine.specs.Levels.{Whole}
-use Rattle.dk_filters.specs.Candidates.{candidates_of, kept_by}
+use Rattle.dk_filters.specs.Candidates.{candidates_kept, candidates_of}
 use Rattle.dk_filters.specs.Laws.{ShowTheSame}
 use Rattle.dk_filters.specs.Parents.{IsViewOf}
 use Rattle.dk_filters.specs.declared.candidate.Candidate.{Candidate}
@@ -26,11 +26,11 @@ use Rattle.dk_print.specs.Sections.{section_text}
 use Rattle.dk_report.proofs.Partners.{from-child}
 use Rattle.dk_report.proofs.Telling.{same-candidates, tells}
 use Rattle.dk_report.proofs.Views.{IsViewThrough, all-can-show, all-show, all-small, all-through}
-use Rattle.dk_report.specs.Asked.{shown_by, told_by_joint}
+use Rattle.dk_report.specs.Asked.{answers_of_joint, parent_of_view}
 use Rattle.dk_report.specs.Engines.{grammar_at}
 use Rattle.dk_report.specs.Keeping.{keeps}
 use Rattle.dk_report.specs.Parents.{IsParentBy, IsViewBy}
-use Rattle.dk_report.specs.Reports.{kept_instances, name_of, parents_of, section_of, told_of}
+use Rattle.dk_report.specs.Reports.{answers_of_point, kept_instances, name_in_table, parents_of, section_of}
 use Rattle.dk_report.specs.declared.parents.MergedParent.{MergedParent}
 use Rattle.dk_report.specs.declared.options.Options.{Options}
 
@@ -58,33 +58,33 @@ module _ (ps : List Point) (engines : List Whole) (are : AreEnginesOf ps engines
     pub small_views : All (λ (view : ParentView Joint). length view.vars.now < 2 ^ 32) views
     small_views = all-small ps engines are joint.here p at views (edges_from (nodes ps) p) through
 
-    pub views_can_show : All (λ (view : ParentView Joint). (view.answers.now.here.grammar ≡ joint.here.grammar) × IsViewOf view.answers.now.here.infos joint.here.infos (shown_by view)) views
+    pub views_can_show : All (λ (view : ParentView Joint). (view.answers.now.here.grammar ≡ joint.here.grammar) × IsViewOf view.answers.now.here.infos joint.here.infos (parent_of_view view)) views
     views_can_show = all-can-show ps engines are joint.here p at views (edges_from (nodes ps) p) through
 
-    pub views_show : (own : OwnSamples) → EnginesStandFor engines (own_samples_of ps own) → AllZip (ShowTheSame joint.here.grammar joint.here.infos) (map shown_by views) (parents_of ps own p)
+    pub views_show : (own : OwnSamples) → EnginesStandFor engines (own_samples_of ps own) → AllZip (ShowTheSame joint.here.grammar joint.here.infos) (map parent_of_view views) (parents_of ps own p)
     views_show own stand = all-show ps engines are joint.here p at own stand views (edges_from (nodes ps) p) through
 
-    pub reported : (options : Options) (list : List Candidate) → list ≡ kept_by (keeps options) (candidates_of joint.here.grammar options.least (told_by_joint joint) (map shown_by views))
+    pub reported : (options : Options) (list : List Candidate) → list ≡ candidates_kept (keeps options) (candidates_of joint.here.grammar options.least (answers_of_joint joint) (map parent_of_view views))
         → (own : OwnSamples) → EnginesStandFor engines (own_samples_of ps own) → list ≡ kept_instances (grammar_at engines p) options ps own p
     unfolding kept_instances
     reported options list is own stand =
         is
-        ∙ (ap (λ (cs : List Candidate). kept_by (keeps options) cs)
-        (same-candidates joint.here.grammar (told_by_joint joint) (told_of ps own p) (tells ps engines are own stand p joint at merged)
-        (map shown_by views) (parents_of ps own p) (views_show own stand) options.least)
-        ∙ ap (λ (g : Grammar). kept_by (keeps options) (candidates_of g options.least (told_of ps own p) (parents_of ps own p))) grammar_is)
+        ∙ (ap (λ (cs : List Candidate). candidates_kept (keeps options) cs)
+        (same-candidates joint.here.grammar (answers_of_joint joint) (answers_of_point ps own p) (tells ps engines are own stand p joint at merged)
+        (map parent_of_view views) (parents_of ps own p) (views_show own stand) options.least)
+        ∙ ap (λ (g : Grammar). candidates_kept (keeps options) (candidates_of g options.least (answers_of_point ps own p) (parents_of ps own p))) grammar_is)
 
 -- ---- the text
 pub section_none : (grammar : Grammar) (options : Options) (ps : List Point) (own : OwnSamples) (p : ℕ) → samples_of ps own p ≡ [] → section_of grammar options ps own p ≡ []
 unfolding section_of
 section_none grammar options ps own p none =
-    ap (λ (ss : List (List Value)). if is_empty ss then [] else section_text (name_of ps p) ((told_of ps own p).counted []) (all_vars_of ps p) (kept_instances grammar options ps own p)) none
+    ap (λ (ss : List (List Value)). if is_empty ss then [] else section_text (name_in_table ps p) ((answers_of_point ps own p).counted []) (all_vars_of ps p) (kept_instances grammar options ps own p)) none
 
 pub section_some : (grammar : Grammar) (options : Options) (ps : List Point) (own : OwnSamples) (p : ℕ) → is_empty (samples_of ps own p) ≡ false
-    → section_of grammar options ps own p ≡ section_text (name_of ps p) (count_of [] (samples_of ps own p)) (all_vars_of ps p) (kept_instances grammar options ps own p)
+    → section_of grammar options ps own p ≡ section_text (name_in_table ps p) (count_of [] (samples_of ps own p)) (all_vars_of ps p) (kept_instances grammar options ps own p)
 unfolding section_of
 section_some grammar options ps own p some =
-    ap (λ b. if b then [] else section_text (name_of ps p) ((told_of ps own p).counted []) (all_vars_of ps p) (kept_instances grammar options ps own p)) some
+    ap (λ b. if b then [] else section_text (name_in_table ps p) ((answers_of_point ps own p).counted []) (all_vars_of ps p) (kept_instances grammar options ps own p)) some
 
 pub same_section : (name other : List ℕ) (count number : ℕ) (infos vars : List VarInfo) (list candidates : List Candidate) → name ≡ other → count ≡ number → infos ≡ vars → list ≡ candidates
     → section_text name count infos list ≡ section_text other number vars candidates

@@ -16,8 +16,8 @@ use Rattle.dk_template.specs.declared.templates.Takes.{Takes}
 use Rattle.dk_template.specs.declared.templates.Takes.TheVariants.{One, Two, Three}
 use Rattle.dk_report.proofs.FlatMaps.{flat_map-filter, flat_map-same, over_one, over_three, over_two}
 use Rattle.dk_report.proofs.Passing.{no-equality, passed, unadmitted}
-use Rattle.dk_report.specs.Listing.{is_equality, listed, listed_of_row, may_stand}
-use Rattle.dk_report.specs.Sweeps.{behind, firsts, over_takes, pairs, seconds, suited, thirds, triples}
+use Rattle.dk_report.specs.Listing.{is_equality, listed_candidates, listed_candidates_of_row, may_stand}
+use Rattle.dk_report.specs.Sweeps.{behind, firsts, over_takes, pairs, seconds, suited_vars, thirds, triples}
 use Rattle.dk_report.specs.declared.options.Options.{Options}
 
 flat_map-none : {A B : Type 0} (f : A → List B) → ((x : A) → f x ≡ []) → (xs : List A) → flat_map f xs ≡ []
@@ -29,7 +29,7 @@ module _ (options : Options) (here : Answers) (parents : List Parent) (row : Row
   all = all_vars here.infos
 
   abbrev given : List VarId → List Candidate
-  given vars = listed options here parents row vars
+  given vars = listed_candidates options here parents row vars
 
   abbrev suits_at : Role → VarId → Bool
   suits_at role v = suits role (slice_get here.infos v.0)
@@ -47,11 +47,11 @@ module _ (options : Options) (here : Answers) (parents : List Parent) (row : Row
 
   -- those of a list that suit a role
   of_suited : (q : VarId → Bool) (of : List VarId) → Suffices q of → (role : Role) (f : VarId → List Candidate) → ((v : VarId) → q v ≡ false → f v ≡ []) → ((v : VarId) → suits_at role v ≡ false → f v ≡ [])
-      → flat_map f (suited role here.infos of) ≡ flat_map f all
+      → flat_map f (suited_vars role here.infos of) ≡ flat_map f all
   of_suited q of suffices role f fails misfits = flat_map-filter f (suits_at role) misfits of ∙ suffices f fails
 
   pub of_one : (a : Role) → (template_of row).takes ≡ One a → (q : VarId → Bool) (of : List VarId) → Suffices q of → Fails q 1
-      → firsts given (suited a here.infos of) ≡ listed_of_row options here parents row
+      → firsts given (suited_vars a here.infos of) ≡ listed_candidates_of_row options here parents row
   of_one a e q of suffices fails =
       let roles : roles_of (template_of row).takes ≡ a ∷ [] = ap roles_of e in
       of_suited q of suffices a (λ v. given (v ∷ [])) (λ v h. fails (v ∷ []) refl v (inl refl) h)
@@ -59,10 +59,10 @@ module _ (options : Options) (here : Answers) (parents : List Parent) (row : Row
       ∙ (sym (over_one given all) ∙ ap (λ (rs : List Role). flat_map given (tuples_over (length rs) all)) (sym roles))
 
   pub of_two : (a b : Role) → (template_of row).takes ≡ Two a b → (q : VarId → Bool) (of : List VarId) → Suffices q of → Fails q 2
-      → pairs given (suited a here.infos of) (suited b here.infos of) ≡ listed_of_row options here parents row
+      → pairs given (suited_vars a here.infos of) (suited_vars b here.infos of) ≡ listed_candidates_of_row options here parents row
   of_two a b e q of suffices fails =
       let roles : roles_of (template_of row).takes ≡ a ∷ b ∷ [] = ap roles_of e in
-      let second = suited b here.infos of in
+      let second = suited_vars b here.infos of in
       let inner : (v : VarId) → seconds given v second ≡ flat_map (λ w. given (v ∷ w ∷ [])) all = λ v.
       of_suited q of suffices b (λ w. given (v ∷ w ∷ [])) (λ w h. fails (v ∷ w ∷ []) refl w (inr (inl refl)) h)
       (λ w h. unsuited (a ∷ b ∷ []) roles (v ∷ w ∷ []) (and_right (suits_at a v) (suits_at b w && true) (and_left (suits_at b w) true h))) in
@@ -73,11 +73,11 @@ module _ (options : Options) (here : Answers) (parents : List Parent) (row : Row
       ∙ (sym (over_two given all) ∙ ap (λ (rs : List Role). flat_map given (tuples_over (length rs) all)) (sym roles)))
 
   pub of_three : (a b c : Role) → (template_of row).takes ≡ Three a b c → (q : VarId → Bool) (of : List VarId) → Suffices q of → Fails q 3
-      → triples given (suited a here.infos of) (suited b here.infos of) (suited c here.infos of) ≡ listed_of_row options here parents row
+      → triples given (suited_vars a here.infos of) (suited_vars b here.infos of) (suited_vars c here.infos of) ≡ listed_candidates_of_row options here parents row
   of_three a b c e q of suffices fails =
       let roles : roles_of (template_of row).takes ≡ a ∷ b ∷ c ∷ [] = ap roles_of e in
-      let second = suited b here.infos of in
-      let third = suited c here.infos of in
+      let second = suited_vars b here.infos of in
+      let third = suited_vars c here.infos of in
       let misfit : (v w x : VarId) → suits_at a v && (suits_at b w && (suits_at c x && true)) ≡ false → given (v ∷ w ∷ x ∷ []) ≡ [] = λ v w x h. unsuited (a ∷ b ∷ c ∷ []) roles (v ∷ w ∷ x ∷ []) h in
       let inmost : (v w : VarId) → thirds given v w third ≡ flat_map (λ x. given (v ∷ w ∷ x ∷ [])) all = λ v w.
       of_suited q of suffices c (λ x. given (v ∷ w ∷ x ∷ [])) (λ x h. fails (v ∷ w ∷ x ∷ []) refl x (inr (inr (inl refl))) h)
@@ -115,7 +115,7 @@ module _ (options : Options) (here : Answers) (parents : List Parent) (row : Row
 
   -- ---- a row as it takes its variables
   pub of_takes : (takes : Takes) → (template_of row).takes ≡ takes → (q : VarId → Bool) (of : List VarId) → Suffices q of → Fails q (arity_of row)
-      → over_takes given here.infos takes of ≡ listed_of_row options here parents row
+      → over_takes given here.infos takes of ≡ listed_candidates_of_row options here parents row
   of_takes (One a) e q of suffices fails = of_one a e q of suffices (subst (Fails q) (ap (λ (t : Takes). length (roles_of t)) e) fails)
   of_takes (Two a b) e q of suffices fails = of_two a b e q of suffices (subst (Fails q) (ap (λ (t : Takes). length (roles_of t)) e) fails)
   of_takes (Three a b c) e q of suffices fails = of_three a b c e q of suffices (subst (Fails q) (ap (λ (t : Takes). length (roles_of t)) e) fails)
@@ -129,13 +129,13 @@ module _ (options : Options) (here : Answers) (parents : List Parent) (row : Row
   over_all of = over_takes given here.infos (template_of row).takes of
 
   -- over the variables that may stand in what is kept a row lists what it lists over all
-  over-equality : (b c : Bool) (single several : List VarId) → b ≡ true → over_all (if b then all else if c then single else several) ≡ listed_of_row options here parents row
+  over-equality : (b c : Bool) (single several : List VarId) → b ≡ true → over_all (if b then all else if c then single else several) ≡ listed_candidates_of_row options here parents row
   over-equality b c single several e =
       ap (λ t. over_all (if t then all else if c then single else several)) e
       ∙ of_takes (template_of row).takes refl (λ v. true) all all_suffice (none_fails (arity_of row))
 
   over-single : (b c : Bool) (several : List VarId) → b ≡ false → c ≡ true → arity_of row ≡ 1
-      → over_all (if b then all else if c then filter (may_stand options (found_of here parents) false) all else several) ≡ listed_of_row options here parents row
+      → over_all (if b then all else if c then filter (may_stand options (found_of here parents) false) all else several) ≡ listed_candidates_of_row options here parents row
   over-single b c several e f one =
       let q = may_stand options (found_of here parents) false in
       ap (λ t. over_all (if t then all else if c then filter q all else several)) e
@@ -143,7 +143,7 @@ module _ (options : Options) (here : Answers) (parents : List Parent) (row : Row
       ∙ of_takes (template_of row).takes refl q (filter q all) (filtered_suffices q) (subst (Fails q) (sym one) passed_single))
 
   over-several : (b c : Bool) (single : List VarId) → b ≡ false → is_equality row ≡ false → c ≡ false → 1 < arity_of row
-      → over_all (if b then all else if c then single else filter (may_stand options (found_of here parents) true) all) ≡ listed_of_row options here parents row
+      → over_all (if b then all else if c then single else filter (may_stand options (found_of here parents) true) all) ≡ listed_candidates_of_row options here parents row
   over-several b c single e differs f more =
       let q = may_stand options (found_of here parents) true in
       ap (λ t. over_all (if t then all else if c then single else filter q all)) e
@@ -151,13 +151,13 @@ module _ (options : Options) (here : Answers) (parents : List Parent) (row : Row
       ∙ of_takes (template_of row).takes refl q (filter q all) (filtered_suffices q) (passed_several (arity_of row) more differs))
 
   pub over_standing : (single several : List VarId) → single ≡ filter (may_stand options (found_of here parents) false) all → several ≡ filter (may_stand options (found_of here parents) true) all
-      → over_all (if is_equality row then all else if arity_of row == 1 then single else several) ≡ listed_of_row options here parents row
+      → over_all (if is_equality row then all else if arity_of row == 1 then single else several) ≡ listed_candidates_of_row options here parents row
   over_standing single several s t =
       ap (λ xs. over_all (if is_equality row then all else if arity_of row == 1 then xs else several)) s
       ∙ (ap (λ xs. over_all (if is_equality row then all else if arity_of row == 1 then filter (may_stand options (found_of here parents) false) all else xs)) t
-      ∙ elim (cases_Bool (is_equality row)) as (λ _. over_all (if is_equality row then all else if arity_of row == 1 then filter (may_stand options (found_of here parents) false) all else filter (may_stand options (found_of here parents) true) all) ≡ listed_of_row options here parents row) [
+      ∙ elim (cases_Bool (is_equality row)) as (λ _. over_all (if is_equality row then all else if arity_of row == 1 then filter (may_stand options (found_of here parents) false) all else filter (may_stand options (found_of here parents) true) all) ≡ listed_candidates_of_row options here parents row) [
         | inl e ↦ over-equality (is_equality row) (arity_of row == 1) (filter (may_stand options (found_of here parents) false) all) (filter (may_stand options (found_of here parents) true) all) e
-        | inr differs ↦ elim (cases_Bool (arity_of row == 1)) as (λ _. over_all (if is_equality row then all else if arity_of row == 1 then filter (may_stand options (found_of here parents) false) all else filter (may_stand options (found_of here parents) true) all) ≡ listed_of_row options here parents row) [
+        | inr differs ↦ elim (cases_Bool (arity_of row == 1)) as (λ _. over_all (if is_equality row then all else if arity_of row == 1 then filter (may_stand options (found_of here parents) false) all else filter (may_stand options (found_of here parents) true) all) ≡ listed_candidates_of_row options here parents row) [
           | inl one ↦ over-single (is_equality row) (arity_of row == 1) (filter (may_stand options (found_of here parents) true) all) differs one (eqb-true (arity_of row) 1 one)
           | inr more ↦
               (let role = some-role (template_of row).takes in

@@ -18,19 +18,19 @@ use Rattle.dk_report.proofs.Distinct.{patterns_count}
 use Rattle.dk_report.proofs.Leaders.{leaders_are}
 use Rattle.dk_report.proofs.SlotsCount.{no_slots, of_row, place_of, slots_are}
 use Rattle.dk_report.specs.Laws.{KeptPartsHaveSizes}
-use Rattle.dk_report.specs.Sizes.{counts_of, each_once, is_constant_in, leaders_of, sizes_of, slots_of}
+use Rattle.dk_report.specs.Sizes.{counts_of, each_once, is_constant_in, own_leaders_in, sizes_of, slot_tuples}
 
 module _ (g : Grammar) (infos : List VarInfo) (samples : List (List Value)) (kept : Kept) (is : IsKeptOf g infos samples kept) where
   abbrev own : List VarId
   own = own_leaders kept.leaders
 
-  same : own ≡ leaders_of infos samples
+  same : own ≡ own_leaders_in infos samples
   same = leaders_are infos samples kept.leaders is.leaders
 
-  slots-count : length kept.slots ≡ length (slots_of g infos samples)
+  slots-count : length kept.slots ≡ length (slot_tuples g infos samples)
   slots-count = by samples is same
     where
-      by : (xs : List (List Value)) → IsKeptOf g infos xs kept → own_leaders kept.leaders ≡ leaders_of infos xs → length kept.slots ≡ length (slots_of g infos xs)
+      by : (xs : List (List Value)) → IsKeptOf g infos xs kept → own_leaders kept.leaders ≡ own_leaders_in infos xs → length kept.slots ≡ length (slot_tuples g infos xs)
       by [] k e = no_slots g infos kept k
       by (x ∷ xs) k e =
           sym (length-map kept.slots place_of)

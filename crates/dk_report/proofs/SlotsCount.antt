@@ -11,6 +11,7 @@ use Rattle.dk_classes.proofs.OwnLeaders.{own_ascend}
 use Rattle.dk_classes.specs.Leaders.{own_leaders}
 use Rattle.dk_constants.specs.Known.{Entries, known_at}
 use Rattle.dk_engine.specs.Exact.{IsKeptOf, IsSlot, SlotBefore}
+use Rattle.dk_engine.specs.Feeding.{is_broken}
 use Rattle.dk_engine.specs.Parts.{all_known}
 use Rattle.dk_engine.specs.declared.kept.Kept.{Kept}
 use Rattle.dk_engine.specs.declared.slot.Slot.{Slot}
@@ -31,7 +32,7 @@ use Rattle.dk_template.specs.declared.grammar.Grammar.{Grammar}
 use Rattle.dk_template.specs.declared.grammar.RowId.{RowId}
 use Rattle.dk_report.proofs.Constants.{known_is}
 use Rattle.dk_report.proofs.Leaders.{Before}
-use Rattle.dk_report.specs.Sizes.{is_broken, is_constant_in, is_slot, slots_over}
+use Rattle.dk_report.specs.Sizes.{is_constant_in, is_slot, slots_over}
 
 abbrev pub Place : Type 0
 Place = RowId × List VarId

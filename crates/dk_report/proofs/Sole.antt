@@ -22,9 +22,9 @@ use Rattle.dk_hierarchy.proofs.Merging.{merged_stand}
 use Rattle.dk_hierarchy.proofs.Partners.{partners_admitted}
 use Rattle.dk_hierarchy.specs.Edges.{partners_at}
 use Rattle.dk_hierarchy.specs.Merging.{IsWay, Joint, engine_at}
-use Rattle.dk_hierarchy.specs.Samples.{mapped}
+use Rattle.dk_hierarchy.specs.Samples.{mapped_sample}
 use Rattle.dk_hierarchy.specs.Standing.{EnginesStandFor, JointStandsFor}
-use Rattle.dk_hierarchy.specs.Ways.{all_brought, brought, repeated}
+use Rattle.dk_hierarchy.specs.Ways.{repeated_samples, samples_through, samples_through_all}
 use Rattle.dk_hierarchy.specs.declared.way.Way.{Way}
 use Rattle.dk_presence.specs.Patterns.{capped}
 use Rattle.dk_samples.specs.Samples.{value_in}
@@ -52,34 +52,34 @@ none-in : (xs : Samples) (n : ℕ) → n ≡ capped (length xs) → n ≡ 0 → 
 none-in [] n is nil = refl
 none-in (x ∷ xs) n is nil = absurd (omega (arith, is, nil))
 
-repeated-none : (n : ℕ) → repeated n [] ≡ []
-unfolding repeated
+repeated-none : (n : ℕ) → repeated_samples n [] ≡ []
+unfolding repeated_samples
 repeated-none zero = refl
 repeated-none (suc n) = repeated-none n
 
-repeated-once : (n : ℕ) (xs : Samples) → n ≡ 1 → repeated n xs ≡ xs
-unfolding repeated
+repeated-once : (n : ℕ) (xs : Samples) → n ≡ 1 → repeated_samples n xs ≡ xs
+unfolding repeated_samples
 repeated-once zero xs e = absurd (omega (arith, e))
 repeated-once (suc zero) xs e = append-nil xs
 repeated-once (suc (suc n)) xs e = absurd (omega (arith, e))
 
 -- ---- variables that are their own partners
 module _ (partners : List (Option VarId)) (own : (v : ℕ) → v < length partners → slice_index_or partners v None ≡ Some (var v)) where
-  mapped-own : (s : List Value) → length s ≡ length partners → mapped partners s ≡ s
+  mapped-own : (s : List Value) → length s ≡ length partners → mapped_sample partners s ≡ s
   mapped-own s long =
       let f : Option VarId → Value = λ partner. option_map_or (value_in s) partner value.Missing in
       let n = length-map partners f in
-      same_lists (mapped partners s) s (omega (arith, n, long))
+      same_lists (mapped_sample partners s) s (omega (arith, n, long))
       (λ k d l.
       let m : k < length partners = omega (arith, l, n) in
       let h : k < length s = omega (arith, m, long) in
       get_or-map f partners k None d m ∙ (ap f (own k m) ∙ get_or_default s k value.Missing d h))
 
-  all-own : (xs : Samples) → All (λ s. length s ≡ length partners) xs → map (mapped partners) xs ≡ xs
+  all-own : (xs : Samples) → All (λ s. length s ≡ length partners) xs → map (mapped_sample partners) xs ≡ xs
   all-own [] all = refl
   all-own (s ∷ xs) all =
       let Long : List Value → Type 0 = λ t. length t ≡ length partners in
-      ap (λ rest. mapped partners s ∷ rest) (all-own xs (All-tail Long s xs all)) ∙ ap (λ t. t ∷ xs) (mapped-own s (All-head Long s xs all))
+      ap (λ rest. mapped_sample partners s ∷ rest) (all-own xs (All-tail Long s xs all)) ∙ ap (λ t. t ∷ xs) (mapped-own s (All-head Long s xs all))
 
   own-partners : (vars : List VarId) → All (λ (v : VarId). v.0 < length partners) vars → partners_at partners vars ≡ Some vars
   own-partners [] all = refl
@@ -96,15 +96,15 @@ module _ (joint : Joint) (some : All (λ (way : Way). 0 < way.paths) joint.ways)
   point = way.point.0
 
   -- a way whose engine has no samples brings none
-  brings-none : (w : Way) → brings_samples joint.engines w ≡ false → brought samples w ≡ []
+  brings-none : (w : Way) → brings_samples joint.engines w ≡ false → samples_through samples w ≡ []
   brings-none w h = by (slice_get joint.engines w.point.0) refl h
     where
-      by : (o : Option Whole) → slice_get joint.engines w.point.0 ≡ o → option_map_or (λ (e : Whole). not (e.kept.samples == 0)) o true ≡ false → brought samples w ≡ []
+      by : (o : Option Whole) → slice_get joint.engines w.point.0 ≡ o → option_map_or (λ (e : Whole). not (e.kept.samples == 0)) o true ≡ false → samples_through samples w ≡ []
       by None at none = absurd (true≢false none)
       by (Some e) at none =
           let nil = eqb-true e.kept.samples 0 (not-false (e.kept.samples == 0) none) in
           let empty = none-in (samples w.point.0) e.kept.samples (stand w.point.0 e at).kept_is.number nil in
-          ap (λ (xs : Samples). repeated w.paths (map (mapped w.partners) xs)) empty ∙ repeated-none w.paths
+          ap (λ (xs : Samples). repeated_samples w.paths (map (mapped_sample w.partners) xs)) empty ∙ repeated-none w.paths
 
   is-way : IsWay joint way
   is-way =
@@ -125,12 +125,12 @@ module _ (joint : Joint) (some : All (λ (way : Way). 0 < way.paths) joint.ways)
       let b = sole.long in
       omega (arith, zipped, a, b)
 
-  brought-is : all_brought samples joint.ways ≡ samples point
+  brought-is : samples_through_all samples joint.ways ≡ samples point
   brought-is =
-      sym (flat_map-filter (brought samples) (brings_samples joint.engines) brings-none joint.ways)
-      ∙ (ap (flat_map (brought samples)) sole.only
-      ∙ (append-nil (brought samples way)
-      ∙ (repeated-once way.paths (map (mapped way.partners) (samples point)) sole.one_path
+      sym (flat_map-filter (samples_through samples) (brings_samples joint.engines) brings-none joint.ways)
+      ∙ (ap (flat_map (samples_through samples)) sole.only
+      ∙ (append-nil (samples_through samples way)
+      ∙ (repeated-once way.paths (map (mapped_sample way.partners) (samples point)) sole.one_path
       ∙ all-own way.partners sole.own (samples point) samples-long)))
 
   pub stands_for : JointStandsFor joint (samples point)

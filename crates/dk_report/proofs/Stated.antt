@@ -18,7 +18,7 @@ use Rattle.dk_template.specs.declared.grammar.Grammar.{Grammar}
 use Rattle.dk_template.specs.declared.grammar.Grammar.TheVariants as grammar
 use Rattle.dk_report.proofs.Sized.{sizes_are}
 use Rattle.dk_report.specs.Engines.{grammar_at}
-use Rattle.dk_report.specs.Reports.{name_of}
+use Rattle.dk_report.specs.Reports.{name_in_table}
 use Rattle.dk_report.specs.Sizes.{counts_of, has_own_samples, sizes_at, sizes_of, stats_of}
 
 -- the name at a place
@@ -56,7 +56,7 @@ module _ (ps : List Point) (engines : List Whole) (are : AreEnginesOf ps engines
 
   pub none_stats : engine.kept.samples ≡ 0 → stats_of (grammar_at engines p) ps own p ≡ []
   unfolding stats_of
-  none_stats nil = ap (λ b. if b then [] else stats_line (name_of ps p) (sizes_at (grammar_at engines p) ps own p)) (none-of base engine.kept.samples number nil)
+  none_stats nil = ap (λ b. if b then [] else stats_line (name_in_table ps p) (sizes_at (grammar_at engines p) ps own p)) (none-of base engine.kept.samples number nil)
 
   grammar_is : engine.grammar ≡ grammar_at engines p
   grammar_is = sym (ap (λ (o : Option Whole). option_map_or (λ (e : Whole). e.grammar) o grammar.Two) got)
@@ -73,5 +73,5 @@ module _ (ps : List Point) (engines : List Whole) (are : AreEnginesOf ps engines
   unfolding stats_of
   some_stats some counts is name at =
       ap (λ (n : List ℕ). stats_line n counts) (sym (name_at (names ps) p name at))
-      ∙ (ap (stats_line (name_of ps p)) (is ∙ sizes)
-      ∙ sym (ap (λ b. if b then [] else stats_line (name_of ps p) (sizes_at (grammar_at engines p) ps own p)) (some-of base engine.kept.samples number some)))
+      ∙ (ap (stats_line (name_in_table ps p)) (is ∙ sizes)
+      ∙ sym (ap (λ b. if b then [] else stats_line (name_in_table ps p) (sizes_at (grammar_at engines p) ps own p)) (some-of base engine.kept.samples number some)))

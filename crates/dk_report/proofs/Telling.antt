@@ -15,7 +15,7 @@ use Rattle.dk_filters.specs.Answers.{Answers, Parent}
 use Rattle.dk_filters.specs.Candidates.{candidate_of, candidates_of, it_holds}
 use Rattle.dk_filters.specs.Facts.{info_at, no_info}
 use Rattle.dk_filters.specs.Laws.{ShowTheSame, TellTheSame}
-use Rattle.dk_filters.specs.OfSamples.{agrees, told_by}
+use Rattle.dk_filters.specs.OfSamples.{agrees, answers_of}
 use Rattle.dk_fits.proofs.Listing.{instances_listed}
 use Rattle.dk_fits.specs.Instances.{IsInstance, are_distinct, instances_of}
 use Rattle.dk_hierarchy.specs.Merging.{Joint, merged_agree}
@@ -27,8 +27,8 @@ use Rattle.dk_template.specs.Fitting.{fits}
 use Rattle.dk_template.specs.declared.grammar.Grammar.{Grammar}
 use Rattle.dk_template.specs.declared.grammar.RowId.{RowId}
 use Rattle.std.proofs.lemmas.Bool.{and_parts}
-use Rattle.dk_report.specs.Asked.{told_by_joint}
-use Rattle.dk_report.specs.Reports.{told_of}
+use Rattle.dk_report.specs.Asked.{answers_of_joint}
+use Rattle.dk_report.specs.Reports.{answers_of_point}
 
 -- two tests that hold at the same times are one
 same-tests : (b c : Bool) → (b ≡ true → c ≡ true) → (c ≡ true → b ≡ true) → b ≡ c
@@ -51,7 +51,7 @@ module _ (joint : Joint) (samples : List (List Value)) (stands : JointStandsFor 
       (λ h. told.1 (sym at-v ∙ ((says.0 h).0 ∙ at-w), (says.0 h).1))
       (λ h. says.1 (at-v ∙ ((told.0 h).0 ∙ sym at-w), (told.0 h).1))
 
-  pub tells_of : TellTheSame joint.here.grammar (told_by_joint joint) (told_by joint.here.infos samples)
+  pub tells_of : TellTheSame joint.here.grammar (answers_of_joint joint) (answers_of joint.here.infos samples)
   tells_of = record {
     infos = refl;
     answered = λ row of vars admitted. stands.state row of vars admitted;
@@ -63,9 +63,9 @@ module _ (joint : Joint) (samples : List (List Value)) (stands : JointStandsFor 
 module _ (ps : List Point) (engines : List Whole) (are : AreEnginesOf ps engines) (own : OwnSamples) (stand : EnginesStandFor engines (own_samples_of ps own))
     (p : ℕ) (joint : Joint) (here : slice_get engines p ≡ Some joint.here) (merged : IsMergedAt ps engines p joint)
   where
-    pub tells : TellTheSame joint.here.grammar (told_by_joint joint) (told_of ps own p)
+    pub tells : TellTheSame joint.here.grammar (answers_of_joint joint) (answers_of_point ps own p)
     tells =
-        subst (λ infos. TellTheSame joint.here.grammar (told_by_joint joint) (told_by infos (samples_of ps own p))) (are.variables p joint.here here).0
+        subst (λ infos. TellTheSame joint.here.grammar (answers_of_joint joint) (answers_of infos (samples_of ps own p))) (are.variables p joint.here here).0
         (tells_of joint (samples_of ps own p) (merged own stand))
 
 -- ---- the same candidates

@@ -19,9 +19,9 @@ use Rattle.dk_hierarchy.specs.Standing.{AreEnginesOf, EnginesStandFor, IsMergedA
 use Rattle.dk_points.specs.Table.{Point}
 use Rattle.dk_report.proofs.Partners.{like}
 use Rattle.dk_report.proofs.Telling.{tells}
-use Rattle.dk_report.specs.Asked.{shown_by, told_by_joint}
+use Rattle.dk_report.specs.Asked.{answers_of_joint, parent_of_view}
 use Rattle.dk_report.specs.Parents.{IsParentBy, IsViewBy}
-use Rattle.dk_report.specs.Reports.{told_of}
+use Rattle.dk_report.specs.Reports.{answers_of_point}
 use Rattle.dk_report.specs.declared.parents.MergedParent.{MergedParent}
 
 -- each variable with a partner is like it
@@ -34,7 +34,7 @@ module _ (ps : List Point) (engines : List Whole) (are : AreEnginesOf ps engines
   -- what a view is to the edge of its parent
   pub record IsViewThrough (view : ParentView Joint) (edge : Edge) : Type 0 where
     pub grammar : view.answers.now.here.grammar ≡ here.grammar
-    pub view_is : IsViewOf view.answers.now.here.infos here.infos (shown_by view)
+    pub view_is : IsViewOf view.answers.now.here.infos here.infos (parent_of_view view)
     pub here_is : slice_get engines edge.parent.0 ≡ Some view.answers.now.here
     pub stands : IsMergedAt ps engines edge.parent.0 view.answers.now
     pub vars : view.vars.now ≡ view.answers.now.here.infos
@@ -89,7 +89,7 @@ module _ (ps : List Point) (engines : List Whole) (are : AreEnginesOf ps engines
 
   -- ---- what may be asked
   abbrev CanShow : ParentView Joint → Type 0
-  CanShow view = (view.answers.now.here.grammar ≡ here.grammar) × IsViewOf view.answers.now.here.infos here.infos (shown_by view)
+  CanShow view = (view.answers.now.here.grammar ≡ here.grammar) × IsViewOf view.answers.now.here.infos here.infos (parent_of_view view)
 
   pub all-can-show : (views : List (ParentView Joint)) (edges : List Edge) → AllZip IsViewThrough views edges → All CanShow views
   all-can-show [] [] z = All-nil CanShow
@@ -109,21 +109,21 @@ module _ (ps : List Point) (engines : List Whole) (are : AreEnginesOf ps engines
   -- ---- what is shown
   module _ (own : OwnSamples) (stand : EnginesStandFor engines (own_samples_of ps own)) where
     abbrev parent_of : Edge → Parent
-    parent_of e = record { answers = told_of ps own e.parent.0; partners = partners_of ps e }
+    parent_of e = record { answers = answers_of_point ps own e.parent.0; partners = partners_of ps e }
 
-    shows : (view : ParentView Joint) (edge : Edge) → IsViewThrough view edge → ShowTheSame here.grammar here.infos (shown_by view) (parent_of edge)
+    shows : (view : ParentView Joint) (edge : Edge) → IsViewThrough view edge → ShowTheSame here.grammar here.infos (parent_of_view view) (parent_of edge)
     shows view edge is = record {
       partners = is.partner;
       alike = is.view_is.alike;
       answers =
           let told = tells ps engines are own stand edge.parent.0 view.answers.now is.here_is is.stands in
-          let by-infos : List VarInfo → Answers = λ vs. record (told_by_joint view.answers.now) { infos = vs } in
-          subst (λ vs. TellTheSame here.grammar (by-infos vs) (told_of ps own edge.parent.0)) (sym is.vars)
-          (subst (λ g. TellTheSame g (told_by_joint view.answers.now) (told_of ps own edge.parent.0)) is.grammar told);
+          let by-infos : List VarInfo → Answers = λ vs. record (answers_of_joint view.answers.now) { infos = vs } in
+          subst (λ vs. TellTheSame here.grammar (by-infos vs) (answers_of_point ps own edge.parent.0)) (sym is.vars)
+          (subst (λ g. TellTheSame g (answers_of_joint view.answers.now) (answers_of_point ps own edge.parent.0)) is.grammar told);
     }
 
     pub all-show : (views : List (ParentView Joint)) (edges : List Edge) → AllZip IsViewThrough views edges
-        → AllZip (ShowTheSame here.grammar here.infos) (map shown_by views) (map parent_of edges)
+        → AllZip (ShowTheSame here.grammar here.infos) (map parent_of_view views) (map parent_of edges)
     all-show [] [] z = tt
     all-show [] (e ∷ edges) z = absurd z
     all-show (w ∷ views) [] z = absurd z

@@ -19,4 +19,5 @@ ParentsAreLike = (ps : List Point) (own : OwnSamples) (p : ℕ) → All (Partner
 -- What is kept of samples is as much as their sizes say.
 abbrev pub KeptPartsHaveSizes : Type 0
 KeptPartsHaveSizes =
-    (grammar : Grammar) (infos : List VarInfo) (samples : List (List Value)) (kept : Kept) → IsKeptOf grammar infos samples kept → counts_of kept ≡ sizes_of grammar infos samples
+    (grammar : Grammar) (infos : List VarInfo) (samples : List (List Value)) (kept : Kept) → IsKeptOf grammar infos samples kept
+    → counts_of kept ≡ sizes_of grammar infos samples

@@ -20,12 +20,14 @@ is_listed options here parents row vars =
     is_asked here.infos row vars && (it_holds here (row, vars) && keeps options (candidate_of options.least here parents (row, vars)))
 
 -- its candidate, if so
-unfoldable pub listed : Options → Answers → List Parent → RowId → List VarId → List Candidate
-listed options here parents row vars = if is_listed options here parents row vars then candidate_of options.least here parents (row, vars) ∷ [] else []
+unfoldable pub listed_candidates : Options → Answers → List Parent → RowId → List VarId → List Candidate
+listed_candidates options here parents row vars =
+    if is_listed options here parents row vars then candidate_of options.least here parents (row, vars) ∷ [] else []
 
 -- those of a row
-abbrev pub listed_of_row : Options → Answers → List Parent → RowId → List Candidate
-listed_of_row options here parents row = flat_map (listed options here parents row) (tuples_over (arity_of row) (all_vars here.infos))
+abbrev pub listed_candidates_of_row : Options → Answers → List Parent → RowId → List Candidate
+listed_candidates_of_row options here parents row =
+    flat_map (listed_candidates options here parents row) (tuples_over (arity_of row) (all_vars here.infos))
 
 -- ---- variables that are passed over
 -- the row says that two variables are the same
@@ -36,4 +38,5 @@ is_equality row = is_one_of equalities row
 -- it isn't one of one value, or such are kept.
 abbrev pub may_stand : Options → PointFacts → Bool → VarId → Bool
 may_stand options found several v =
-    (options.keep_members || (first_in found.firsts v).0 == v.0) && (options.keep_constant || not (several && one_value_in found.one_values v))
+    (options.keep_members || (first_in found.firsts v).0 == v.0)
+    && (options.keep_constant || not (several && one_value_in found.one_values v))

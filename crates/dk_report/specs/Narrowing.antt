@@ -18,7 +18,7 @@ use Rattle.dk_samples.specs.Samples.{is_present}
 use Rattle.dk_template.specs.Fitting.{fits}
 use Rattle.dk_template.specs.Templates.{arity_of}
 use Rattle.dk_template.specs.declared.grammar.RowId.{RowId}
-use Rattle.dk_report.specs.Asked.{over, standing_of}
+use Rattle.dk_report.specs.Asked.{candidates_over, vars_for_row}
 use Rattle.dk_report.specs.Listing.{is_equality}
 use Rattle.dk_report.specs.declared.asking.Asking.{Asking}
 use Rattle.dk_report.specs.declared.options.Options.{Options}
@@ -45,12 +45,12 @@ abbrev pub is_narrow : RowId → Bool
 is_narrow row = not (is_equality row) && not (arity_of row == 1)
 
 -- those over which a row is asked about
-abbrev pub left_of : Kept → Standing → RowId → List VarId
-left_of kept standing row = if is_narrow row then filter (is_left kept row) (standing_of standing row) else standing_of standing row
+abbrev pub vars_left : Kept → Standing → RowId → List VarId
+vars_left kept standing row = if is_narrow row then filter (is_left kept row) (vars_for_row standing row) else vars_for_row standing row
 
 -- the candidates of a row over them
-abbrev pub narrowed : Kept → Asking → Standing → RowId → List Candidate
-narrowed kept asking standing row = over asking row (left_of kept standing row)
+abbrev pub candidates_left : Kept → Asking → Standing → RowId → List Candidate
+candidates_left kept asking standing row = candidates_over asking row (vars_left kept standing row)
 
 -- each of the variables leads its class
 abbrev pub all_lead : List VarId → List VarId → Bool

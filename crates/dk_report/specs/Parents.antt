@@ -8,12 +8,12 @@ use Rattle.dk_hierarchy.specs.Merging.{Joint}
 use Rattle.dk_hierarchy.specs.Samples.{partners_of}
 use Rattle.dk_hierarchy.specs.Standing.{IsMergedAt}
 use Rattle.dk_points.specs.Table.{Point}
-use Rattle.dk_report.specs.Asked.{told_by_joint}
+use Rattle.dk_report.specs.Asked.{answers_of_joint}
 use Rattle.dk_report.specs.declared.parents.MergedParent.{MergedParent}
 
 -- what a merged parent shows
-abbrev pub shown_of : MergedParent → Parent
-shown_of parent = record { answers = told_by_joint parent.answers; partners = parent.partners }
+abbrev pub merged_parent : MergedParent → Parent
+merged_parent parent = record { answers = answers_of_joint parent.answers; partners = parent.partners }
 
 -- It answers for the parent of an edge, with the edge's partners.
 pub record IsParentBy (ps : List Point) (engines : List Whole) (parent : MergedParent) (edge : Edge) : Type 0 where

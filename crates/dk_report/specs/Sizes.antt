@@ -6,6 +6,7 @@ use Rattle.dk_base.specs.declared.kinds.VarId.{VarId}
 use Rattle.dk_base.specs.declared.kinds.VarInfo.{VarInfo}
 use Rattle.dk_base.specs.declared.values.Value.{Value}
 use Rattle.dk_classes.specs.Leaders.{own_leaders}
+use Rattle.dk_engine.specs.Feeding.{is_broken}
 use Rattle.dk_engine.specs.declared.counts.Counts.{Counts}
 use Rattle.dk_engine.specs.declared.kept.Kept.{Kept}
 use Rattle.dk_filters.specs.OfSamples.{agrees}
@@ -24,14 +25,14 @@ use Rattle.dk_template.specs.Admitted.{admits, is_written}
 use Rattle.dk_template.specs.Templates.{arity_of}
 use Rattle.dk_template.specs.declared.grammar.Grammar.{Grammar}
 use Rattle.dk_template.specs.declared.grammar.RowId.{RowId}
-use Rattle.dk_report.specs.Reports.{name_of}
+use Rattle.dk_report.specs.Reports.{name_in_table}
 
 -- a leader is a variable with which no earlier one agrees
 abbrev pub leads : List VarInfo → List (List Value) → VarId → Bool
 leads infos samples v = not (list_any (λ w. agrees infos samples w v) (take v.0 (all_vars infos)))
 
-abbrev pub leaders_of : List VarInfo → List (List Value) → List VarId
-leaders_of infos samples = filter (leads infos samples) (all_vars infos)
+abbrev pub own_leaders_in : List VarInfo → List (List Value) → List VarId
+own_leaders_in infos samples = filter (leads infos samples) (all_vars infos)
 
 -- a variable is constant in samples if it has one value in all of them, the missing one counted
 abbrev pub is_constant_in : List (List Value) → VarId → Bool
@@ -42,10 +43,6 @@ is_constant_in (s ∷ samples) v = list_all (λ t. same_value (value_in t v) (va
 abbrev pub each_once : List (List VarId) → List (List VarId)
 each_once [] = []
 each_once (pattern ∷ patterns) = pattern ∷ filter (λ p. not (same_vars pattern p)) (each_once patterns)
-
-abbrev pub is_broken : State → Bool
-is_broken state.Broken = true
-is_broken _ = false
 
 -- A slot is a row with leaders that it admits in its written order, repeats allowed, not all of them constant; its fit isn't broken, and
 -- no rule suppresses it.
@@ -61,18 +58,18 @@ abbrev pub slots_over : List VarInfo → List (List Value) → List VarId → Ro
 slots_over infos samples leaders row = filter (is_slot infos samples row) (tuples_over (arity_of row) leaders)
 
 -- all slots; of no samples there is none
-abbrev pub slots_of : Grammar → List VarInfo → List (List Value) → List (RowId × List VarId)
-slots_of grammar infos [] = []
-slots_of grammar infos (s ∷ samples) =
-    flat_map (λ row. map (λ vars. (row, vars)) (slots_over infos (s ∷ samples) (leaders_of infos (s ∷ samples)) row)) (rows_of grammar)
+abbrev pub slot_tuples : Grammar → List VarInfo → List (List Value) → List (RowId × List VarId)
+slot_tuples grammar infos [] = []
+slot_tuples grammar infos (s ∷ samples) =
+    flat_map (λ row. map (λ vars. (row, vars)) (slots_over infos (s ∷ samples) (own_leaders_in infos (s ∷ samples)) row)) (rows_of grammar)
 
 abbrev pub sizes_of : Grammar → List VarInfo → List (List Value) → Counts
 sizes_of grammar infos samples = record {
   samples = capped (length samples);
-  leaders = length (leaders_of infos samples);
-  constants = length (filter (is_constant_in samples) (leaders_of infos samples));
-  patterns = length (each_once (patterns_of (leaders_of infos samples) samples));
-  slots = length (slots_of grammar infos samples);
+  leaders = length (own_leaders_in infos samples);
+  constants = length (filter (is_constant_in samples) (own_leaders_in infos samples));
+  patterns = length (each_once (patterns_of (own_leaders_in infos samples) samples));
+  slots = length (slot_tuples grammar infos samples);
 }
 
 -- how much the kept parts are
@@ -94,4 +91,4 @@ has_own_samples own p = not (is_empty (slice_index_or own p []))
 
 -- the line of these sizes; a point without own samples has none
 unfoldable pub stats_of : Grammar → List Point → OwnSamples → ℕ → List ℕ
-stats_of grammar ps own p = if is_empty (slice_index_or own p []) then [] else stats_line (name_of ps p) (sizes_at grammar ps own p)
+stats_of grammar ps own p = if is_empty (slice_index_or own p []) then [] else stats_line (name_in_table ps p) (sizes_at grammar ps own p)

@@ -9,8 +9,8 @@ use Rattle.dk_template.specs.declared.templates.Takes.{Takes}
 use Rattle.dk_template.specs.declared.templates.Takes.TheVariants.{One, Two, Three}
 
 -- those of the variables that suit a role
-abbrev pub suited : Role → List VarInfo → List VarId → List VarId
-suited role infos of = filter (λ v. suits role (slice_get infos v.0)) of
+abbrev pub suited_vars : Role → List VarInfo → List VarId → List VarId
+suited_vars role infos of = filter (λ v. suits role (slice_get infos v.0)) of
 
 module _ (listed : List VarId → List Candidate) where
   -- of one variable of the list; of a variable and one of the list; of two and one of the list
@@ -35,6 +35,6 @@ module _ (listed : List VarId → List Candidate) where
 
   -- of a row that takes these, over variables that suit its roles
   abbrev pub over_takes : List VarInfo → Takes → List VarId → List Candidate
-  over_takes infos (One a) of = firsts (suited a infos of)
-  over_takes infos (Two a b) of = pairs (suited a infos of) (suited b infos of)
-  over_takes infos (Three a b c) of = triples (suited a infos of) (suited b infos of) (suited c infos of)
+  over_takes infos (One a) of = firsts (suited_vars a infos of)
+  over_takes infos (Two a b) of = pairs (suited_vars a infos of) (suited_vars b infos of)
+  over_takes infos (Three a b c) of = triples (suited_vars a infos of) (suited_vars b infos of) (suited_vars c infos of)

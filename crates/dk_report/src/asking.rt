@@ -2,7 +2,7 @@
 ghost use Rattle.std.specs.Prelude.{◌≡◌, ◌≤◌, ◌==◌, ◌++◌, IfOk, length, not};
 ghost use Rattle.std.specs.List.{list_all};
 ghost use Rattle.dk_fits.specs.Instances.{are_distinct, is_asked};
-ghost use Rattle.dk_report.specs.Asked.{CanBeAsked, listed_by};
+ghost use Rattle.dk_report.specs.Asked.{CanBeAsked, listed_candidates_by};
 ghost use Rattle.dk_template.specs.Templates.{IsRow, IsRowOf};
 
 use crate::Options;
@@ -61,7 +61,7 @@ impl<'a, 'e> Asking<'a, 'e> {
         requires asked { CanBeAsked self.now }
         requires row { IsRowOf self.now.here.now.here.grammar row }
         requires few { length vars.now ≤ 3 }
-        ensures { IfOk result (λ more. more ≡ list ++ listed_by self.now row vars.now) }
+        ensures { IfOk result (λ more. more ≡ list ++ listed_candidates_by self.now row vars.now) }
     {
         let infos = self.here.vars();
         if !is_asked(row, infos, vars) {

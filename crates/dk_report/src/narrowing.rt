@@ -6,13 +6,13 @@ ghost use Rattle.dk_base.specs.Shapes.{var};
 ghost use Rattle.dk_base.specs.declared.values.Value.{Value as SampleValue};
 ghost use Rattle.dk_fits.specs.Instances.{rows_of};
 ghost use Rattle.dk_filters.specs.Answers.{Parent};
-ghost use Rattle.dk_filters.specs.Candidates.{candidates_of, kept_by};
+ghost use Rattle.dk_filters.specs.Candidates.{candidates_kept, candidates_of};
 ghost use Rattle.dk_filters.specs.Laws.{ShowTheSame};
 ghost use Rattle.dk_hierarchy.specs.Standing.{EnginesStandFor};
 ghost use Rattle.dk_presence.specs.Patterns.{has};
 ghost use Rattle.dk_report.specs.Asked.{CanBeAsked, here_of, views_of};
 ghost use Rattle.dk_report.specs.Keeping.{keeps};
-ghost use Rattle.dk_report.specs.Narrowing.{CanNarrow, IsSole, all_lead, brings_samples, is_fixed, is_left, is_narrow, is_of_row, narrowed};
+ghost use Rattle.dk_report.specs.Narrowing.{CanNarrow, IsSole, all_lead, brings_samples, candidates_left, is_fixed, is_left, is_narrow, is_of_row};
 ghost use Rattle.dk_template.specs.Templates.{IsRow, IsRowOf};
 
 use crate::asking::{Asking, are_distinct};
@@ -179,7 +179,7 @@ impl<'a, 'e> Asking<'a, 'e> {
     ) -> Result<List<Candidate>, NoMemory>
         requires asked { CanBeAsked self.now }
         requires row { IsRowOf self.now.here.now.here.grammar row }
-        ensures { IfOk result (λ more. more ≡ list ++ narrowed engine.now.kept self.now standing.now row) }
+        ensures { IfOk result (λ more. more ≡ list ++ candidates_left engine.now.kept self.now standing.now row) }
     {
         let of = standing.of(row);
         if !is_narrow(row) {
@@ -192,7 +192,7 @@ impl<'a, 'e> Asking<'a, 'e> {
     // The candidates of a point whose samples the engine alone has.
     fn narrowed(&self, engine: &Engine, standing: &Standing) -> Result<List<Candidate>, NoMemory>
         requires { CanBeAsked self.now }
-        ensures { IfOk result (λ list. list ≡ flat_map (narrowed engine.now.kept self.now standing.now) (rows_of self.now.here.now.here.grammar)) }
+        ensures { IfOk result (λ list. list ≡ flat_map (candidates_left engine.now.kept self.now standing.now) (rows_of self.now.here.now.here.grammar)) }
     {
         let mut list = List::new(self.alloc);
         for n in 0..self.grammar.rows() {
@@ -239,7 +239,7 @@ impl<'a, 'e> Asking<'a, 'e> {
         requires few { length self.now.here.now.here.infos < 2 ^ 32 }
         requires paths { All (λ way. 0 < way.paths) self.now.here.now.ways }
         requires asked { CanBeAsked self.now }
-        ensures { IfOk result (λ list. (samples : ℕ → List (List SampleValue)) (parents : List Parent) → EnginesStandFor engines.now samples → AllZip (ShowTheSame self.now.here.now.here.grammar self.now.here.now.here.infos) (views_of self.now) parents → list ≡ kept_by (keeps self.now.options.now) (candidates_of self.now.here.now.here.grammar self.now.options.now.least (here_of self.now) (views_of self.now))) }
+        ensures { IfOk result (λ list. (samples : ℕ → List (List SampleValue)) (parents : List Parent) → EnginesStandFor engines.now samples → AllZip (ShowTheSame self.now.here.now.here.grammar self.now.here.now.here.infos) (views_of self.now) parents → list ≡ candidates_kept (keeps self.now.options.now) (candidates_of self.now.here.now.here.grammar self.now.options.now.least (here_of self.now) (views_of self.now))) }
     {
         let standing = self.all_standing()?;
         match self.narrowing(engines, &standing) {

@@ -1,42 +1,17 @@
 // The parents of a point.
-ghost use Rattle.std.specs.Prelude.{◌≡◌, ◌<◌, ◌≤◌, ◌^◌, IfOk, length};
+ghost use Rattle.std.specs.Prelude.{◌≡◌, ◌<◌, ◌≤◌, IfOk, length};
 ghost use Rattle.std.specs.List.{AllZip};
 ghost use Rattle.dk_graph.specs.Graphs.{edges_from};
-ghost use Rattle.dk_hierarchy.specs.Samples.{all_vars_of, partners_of};
 ghost use Rattle.dk_hierarchy.specs.Standing.{AreEnginesOf};
 ghost use Rattle.dk_points.specs.Links.{nodes};
 ghost use Rattle.dk_report.specs.Parents.{IsParentBy, IsViewBy};
 
-use dk_base::{List, NoMemory, PointId, VarId, VarInfo};
-use dk_derive::partner;
+use dk_base::{List, NoMemory, PointId, VarId};
 use dk_engine::Engine;
 use dk_filters::ParentView;
-use dk_hierarchy::{Merged, merge};
+use dk_hierarchy::{Merged, merge, partners_of};
 use dk_points::{Edge, Points};
 use std::alloc::Global;
-
-// The partner of each variable of the edge's parent, in their order.
-fn partners_of(
-    alloc: Global,
-    points: &Points,
-    edge: Edge,
-    parent: &[VarInfo],
-    child: &[VarInfo],
-) -> Result<List<Option<VarId>>, NoMemory>
-    requires child_point { edge.child.0 < length points.now }
-    requires parent_point { edge.parent.0 < length points.now }
-    requires parent { parent.now ≡ all_vars_of points.now edge.parent.0 }
-    requires child { child.now ≡ all_vars_of points.now edge.child.0 }
-    requires few_above { length parent.now < 2 ^ 32 }
-    requires few_below { length child.now < 2 ^ 32 }
-    ensures { IfOk result (λ partners. partners ≡ partners_of points.now edge) }
-{
-    let mut partners = List::new(alloc);
-    for w in 0..parent.len() as u32 {
-        partners.push(partner(points, edge, parent, child, VarId(w)))?;
-    }
-    Ok(partners)
-}
 
 /// A parent of a point by an edge: what answers for all its samples, and for each of its variables the partner at the point.
 #[derive(Drop)]

@@ -1,12 +1,12 @@
 // The candidates of a point, row by row over all tuples of variables that may stand in what is kept.
 ghost use Rattle.std.specs.Prelude.{◌≡◌, ◌≤◌, ◌^◌, ◌<◌, ◌++◌, IfOk, length, slice_get};
 ghost use Rattle.dk_fits.specs.Instances.{all_vars};
-ghost use Rattle.dk_filters.specs.Candidates.{candidates_of, kept_by};
+ghost use Rattle.dk_filters.specs.Candidates.{candidates_kept, candidates_of};
 ghost use Rattle.dk_filters.specs.Found.{first_in, one_value_in};
 ghost use Rattle.dk_report.specs.Keeping.{keeps};
-ghost use Rattle.dk_report.specs.Asked.{AreStanding, CanBeAsked, here_of, listed_by, over, standing, standing_of, views_of};
+ghost use Rattle.dk_report.specs.Asked.{AreStanding, CanBeAsked, candidates_over, here_of, listed_candidates_by, standing_vars, vars_for_row, views_of};
 ghost use Rattle.dk_report.specs.Listing.{is_equality, may_stand};
-ghost use Rattle.dk_report.specs.Sweeps.{behind, firsts, over_takes, pairs, seconds, suited, thirds, triples};
+ghost use Rattle.dk_report.specs.Sweeps.{behind, firsts, over_takes, pairs, seconds, suited_vars, thirds, triples};
 ghost use Rattle.dk_template.specs.Admitted.{suits};
 ghost use Rattle.dk_template.specs.Templates.{IsRow, IsRowOf};
 
@@ -37,7 +37,7 @@ fn suited(
     infos: &[VarInfo],
     of: &[VarId],
 ) -> Result<List<VarId>, NoMemory>
-    ensures { IfOk result (λ list. list ≡ suited role infos.now of.now) }
+    ensures { IfOk result (λ list. list ≡ suited_vars role infos.now of.now) }
 {
     let mut list = List::new(alloc);
     for v in of {
@@ -108,7 +108,7 @@ impl Standing {
     /// Those over which a row is asked about. An equality may tell of a variable that isn't the first of those like it.
     pub(crate) fn of(&self, row: RowId) -> &[VarId]
         requires { IsRow row }
-        ensures { result.now ≡ standing_of self.now row }
+        ensures { result.now ≡ vars_for_row self.now row }
     {
         if is_equality(row) {
             self.all.as_slice()
@@ -124,7 +124,7 @@ impl<'a, 'e> Asking<'a, 'e> {
     // The variables that may stand in an instance of several, or of one.
     fn standing(&self, several: bool) -> Result<List<VarId>, NoMemory>
         requires { length self.now.here.now.here.infos < 2 ^ 32 }
-        ensures { IfOk result (λ list. list ≡ standing self.now several) }
+        ensures { IfOk result (λ list. list ≡ standing_vars self.now several) }
     {
         let mut list = List::new(self.alloc);
         for n in 0..self.here.vars().len() as u32 {
@@ -156,7 +156,7 @@ impl<'a, 'e> Asking<'a, 'e> {
     ) -> Result<List<Candidate>, NoMemory>
         requires asked { CanBeAsked self.now }
         requires row { IsRowOf self.now.here.now.here.grammar row }
-        ensures { IfOk result (λ more. more ≡ list ++ firsts (listed_by self.now row) first.now) }
+        ensures { IfOk result (λ more. more ≡ list ++ firsts (listed_candidates_by self.now row) first.now) }
     {
         let mut list = list;
         for v in first {
@@ -175,7 +175,7 @@ impl<'a, 'e> Asking<'a, 'e> {
     ) -> Result<List<Candidate>, NoMemory>
         requires asked { CanBeAsked self.now }
         requires row { IsRowOf self.now.here.now.here.grammar row }
-        ensures { IfOk result (λ more. more ≡ list ++ seconds (listed_by self.now row) v second.now) }
+        ensures { IfOk result (λ more. more ≡ list ++ seconds (listed_candidates_by self.now row) v second.now) }
     {
         let mut list = list;
         for w in second {
@@ -195,7 +195,7 @@ impl<'a, 'e> Asking<'a, 'e> {
     ) -> Result<List<Candidate>, NoMemory>
         requires asked { CanBeAsked self.now }
         requires row { IsRowOf self.now.here.now.here.grammar row }
-        ensures { IfOk result (λ more. more ≡ list ++ thirds (listed_by self.now row) v w third.now) }
+        ensures { IfOk result (λ more. more ≡ list ++ thirds (listed_candidates_by self.now row) v w third.now) }
     {
         let mut list = list;
         for x in third {
@@ -214,7 +214,7 @@ impl<'a, 'e> Asking<'a, 'e> {
     ) -> Result<List<Candidate>, NoMemory>
         requires asked { CanBeAsked self.now }
         requires row { IsRowOf self.now.here.now.here.grammar row }
-        ensures { IfOk result (λ more. more ≡ list ++ pairs (listed_by self.now row) first.now second.now) }
+        ensures { IfOk result (λ more. more ≡ list ++ pairs (listed_candidates_by self.now row) first.now second.now) }
     {
         let mut list = list;
         for v in first {
@@ -234,7 +234,7 @@ impl<'a, 'e> Asking<'a, 'e> {
     ) -> Result<List<Candidate>, NoMemory>
         requires asked { CanBeAsked self.now }
         requires row { IsRowOf self.now.here.now.here.grammar row }
-        ensures { IfOk result (λ more. more ≡ list ++ behind (listed_by self.now row) v second.now third.now) }
+        ensures { IfOk result (λ more. more ≡ list ++ behind (listed_candidates_by self.now row) v second.now third.now) }
     {
         let mut list = list;
         for w in second {
@@ -254,7 +254,7 @@ impl<'a, 'e> Asking<'a, 'e> {
     ) -> Result<List<Candidate>, NoMemory>
         requires asked { CanBeAsked self.now }
         requires row { IsRowOf self.now.here.now.here.grammar row }
-        ensures { IfOk result (λ more. more ≡ list ++ triples (listed_by self.now row) first.now second.now third.now) }
+        ensures { IfOk result (λ more. more ≡ list ++ triples (listed_candidates_by self.now row) first.now second.now third.now) }
     {
         let mut list = list;
         for v in first {
@@ -265,7 +265,7 @@ impl<'a, 'e> Asking<'a, 'e> {
 
     // Those of the variables that suit a role.
     fn suiting(&self, role: Role, of: &[VarId]) -> Result<List<VarId>, NoMemory>
-        ensures { IfOk result (λ list. list ≡ suited role self.now.here.now.here.infos of.now) }
+        ensures { IfOk result (λ list. list ≡ suited_vars role self.now.here.now.here.infos of.now) }
     {
         suited(self.alloc, role, self.here.vars(), of)
     }
@@ -280,7 +280,7 @@ impl<'a, 'e> Asking<'a, 'e> {
     ) -> Result<List<Candidate>, NoMemory>
         requires asked { CanBeAsked self.now }
         requires row { IsRowOf self.now.here.now.here.grammar row }
-        ensures { IfOk result (λ more. more ≡ list ++ over_takes (listed_by self.now row) self.now.here.now.here.infos (Takes.One a) of.now) }
+        ensures { IfOk result (λ more. more ≡ list ++ over_takes (listed_candidates_by self.now row) self.now.here.now.here.infos (Takes.One a) of.now) }
     {
         let first = self.suiting(a, of)?;
         self.firsts(row, first.as_slice(), list)
@@ -297,7 +297,7 @@ impl<'a, 'e> Asking<'a, 'e> {
     ) -> Result<List<Candidate>, NoMemory>
         requires asked { CanBeAsked self.now }
         requires row { IsRowOf self.now.here.now.here.grammar row }
-        ensures { IfOk result (λ more. more ≡ list ++ over_takes (listed_by self.now row) self.now.here.now.here.infos (Takes.Two a b) of.now) }
+        ensures { IfOk result (λ more. more ≡ list ++ over_takes (listed_candidates_by self.now row) self.now.here.now.here.infos (Takes.Two a b) of.now) }
     {
         let first = self.suiting(a, of)?;
         let second = self.suiting(b, of)?;
@@ -314,7 +314,7 @@ impl<'a, 'e> Asking<'a, 'e> {
     ) -> Result<List<Candidate>, NoMemory>
         requires asked { CanBeAsked self.now }
         requires row { IsRowOf self.now.here.now.here.grammar row }
-        ensures { IfOk result (λ more. more ≡ list ++ over_takes (listed_by self.now row) self.now.here.now.here.infos (Takes.Three roles.0 roles.1 roles.2) of.now) }
+        ensures { IfOk result (λ more. more ≡ list ++ over_takes (listed_candidates_by self.now row) self.now.here.now.here.infos (Takes.Three roles.0 roles.1 roles.2) of.now) }
     {
         let first = self.suiting(roles.0, of)?;
         let second = self.suiting(roles.1, of)?;
@@ -337,7 +337,7 @@ impl<'a, 'e> Asking<'a, 'e> {
     ) -> Result<List<Candidate>, NoMemory>
         requires asked { CanBeAsked self.now }
         requires row { IsRowOf self.now.here.now.here.grammar row }
-        ensures { IfOk result (λ more. more ≡ list ++ over self.now row of.now) }
+        ensures { IfOk result (λ more. more ≡ list ++ candidates_over self.now row of.now) }
     {
         match template_at(row).takes {
             Takes::One(a) => self.of_one(row, a, of, list),
@@ -351,7 +351,7 @@ impl<'a, 'e> Asking<'a, 'e> {
     pub(crate) fn swept(&self, standing: &Standing) -> Result<List<Candidate>, NoMemory>
         requires asked { CanBeAsked self.now }
         requires standing { AreStanding self.now standing.now }
-        ensures { IfOk result (λ list. list ≡ kept_by (keeps self.now.options.now) (candidates_of self.now.here.now.here.grammar self.now.options.now.least (here_of self.now) (views_of self.now))) }
+        ensures { IfOk result (λ list. list ≡ candidates_kept (keeps self.now.options.now) (candidates_of self.now.here.now.here.grammar self.now.options.now.least (here_of self.now) (views_of self.now))) }
     {
         let mut list = List::new(self.alloc);
         for n in 0..self.grammar.rows() {

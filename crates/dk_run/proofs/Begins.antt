@@ -6,10 +6,10 @@ use Rattle.dk_io.specs.declared.whole.AllFault.{AllFault}
 use Rattle.dk_io.specs.declared.whole.AllFault.TheVariants as all
 use Rattle.dk_state.specs.Spelling.{IsSpelling}
 use Rattle.dk_core.specs.History.{History, no_history}
-use Rattle.dk_core.specs.Resuming.{IsStart, state_of}
+use Rattle.dk_core.specs.Resuming.{IsStart, state_file}
 use Rattle.dk_core.specs.Standing.{SessionStandsFor, blocks_of, over_of}
 use Rattle.dk_words.specs.declared.command.Command.{Command}
-use Rattle.dk_run.specs.Beginning.{IsBegun, IsLeft, IsResumed, IsUnloaded, IsWhole, StartTroubleGives, StateTroubleGives, unread}
+use Rattle.dk_run.specs.Beginning.{IsBegun, IsLeft, IsResumed, IsUnloaded, IsWhole, StartTroubleGives, StateTroubleGives, trouble_of_read}
 use Rattle.dk_run.specs.Courses.{Outset, first_start, total_limit}
 use Rattle.dk_run.specs.Starts.{Begins, HasBegun, IsRefusedAs}
 use Rattle.dk_run.specs.Statuses.{AtStart, HasBroken, StateUnreadGives, Within}
@@ -44,7 +44,7 @@ whole_read held text mid rest starts short is delivered = record {
 
 pub unread_trouble : {A : Type 0} (held : HeldFile) (mid rest before : Option (List ℕ)) (a b c : ℕ) (result : Result A AllFault) (fault : AllFault) → result ≡ Err fault → Starts held mid → a ≤ b
     → (IsErrOf result all.TooLong → IfSome mid (λ bytes. total_limit < length bytes)) → (IsErrOf result all.Read → DeliversUpTo total_limit mid rest) → (IsErrOf result all.Read → Rose b c)
-    → StateTroubleGives held (Rose a c) before rest (unread fault)
+    → StateTroubleGives held (Rose a c) before rest (trouble_of_read fault)
 unread_trouble held mid rest before a b c result all.Read is starts later long delivers rose =
     ((there_started held mid starts, rose_since a b c later (rose is)), λ xs holds. subst (λ (o : Option (List ℕ)). DeliversUpTo total_limit o rest) (told_started held mid xs starts holds) (delivers is))
 unread_trouble held mid rest before a b c result all.TooLong is starts later long delivers rose = (
@@ -85,8 +85,8 @@ new_trouble None file rose before rest trouble none is = is
 new_trouble (Some name) file rose before rest trouble none is = absurd (cc (none))
 
 -- the state of the start is the file's bytes
-same_state : (name : List ℕ) (file : List ℕ → HeldFile) (state : List ℕ) (rest : Option (List ℕ)) (h : History) → IsWhole (file name) state rest → file name ≡ Holds (state_of h) → state_of h ≡ state
-same_state name file state rest h whole holds = sym (whole.all (state_of h) holds).0
+same_state : (name : List ℕ) (file : List ℕ → HeldFile) (state : List ℕ) (rest : Option (List ℕ)) (h : History) → IsWhole (file name) state rest → file name ≡ Holds (state_file h) → state_file h ≡ state
+same_state name file state rest h whole holds = sym (whole.all (state_file h) holds).0
 
 resumed_stands : {F : Type 0} (command : Command) (name : List ℕ) (file : List ℕ → HeldFile) (state : List ℕ) (rest : Option (List ℕ)) (b : Beginning F) (start : Outset) → IsWhole (file name) state rest
     → IsResumed command state b → Begins (Some name) file start → SessionStandsFor b.session start.history × (b.room ≡ start.room)
@@ -130,7 +130,7 @@ pub resumed_left : (resume : Option (List ℕ)) (name : List ℕ) (file : List �
 resumed_left None name file state before rest is whole start begins = absurd (cc (is))
 resumed_left (Some other) name file state before rest is whole start (h, begin, holds, short, same) =
     let here : other ≡ name = cc (is) in
-    (whole.all (state_of h) (ap file (sym here) ∙ holds)).1
+    (whole.all (state_file h) (ap file (sym here) ∙ holds)).1
 
 unloaded_gives : (held : HeldFile) (rose : Type 0) (state : List ℕ) (before rest : Option (List ℕ)) (trouble : StartTrouble) → IsWhole held state rest → IsUnloaded state trouble
     → StateTroubleGives held rose before rest trouble

@@ -6,15 +6,15 @@ use Rattle.dk_lines.specs.Left.{End, Over, Broken, LongLine, TooLong, lined}
 use Rattle.dk_core.proofs.Going.{IsGoing, block_going, ended_going, going_start, start_going}
 use Rattle.dk_core.proofs.GivenVars.{IsLineSpelled}
 use Rattle.dk_core.proofs.SpelledLines.{AreSpelled, IsEnded, file_ends, file_spelled}
-use Rattle.dk_core.specs.Blocks.{Group, Groups, Last, grouped}
+use Rattle.dk_core.specs.Blocks.{Group, Groups, Last, groups_of}
 use Rattle.dk_core.specs.History.{History, Taken, effect_of, file_ended}
 use Rattle.dk_core.specs.Reading.{after_last}
 use Rattle.dk_core.specs.Resuming.{AreFew, IsStart}
-use Rattle.dk_run.specs.Courses.{Course, Outset, course_of, course_of_file, course_of_files, course_of_groups, ends, goes_on, line_limit, onto, then_files, total_limit}
-use Rattle.dk_run.specs.Files.{File, FileFault, whole}
+use Rattle.dk_run.specs.Courses.{Course, Outset, behind_histories, course_end, course_of, course_of_file, course_of_files, course_of_groups, goes_on, line_limit, then_files, total_limit}
+use Rattle.dk_run.specs.Files.{File, FileFault, ended_file}
 use Rattle.dk_run.specs.Laws.{RunsEndAtStarts}
 
-over_many : (r : Result Taken LineFault) (fault : LineFault) (n : History) → (goes_on (r >>= λ _. Err fault) (λ h. ends (Ok h))).end ≡ Ok n → ⊥
+over_many : (r : Result Taken LineFault) (fault : LineFault) (n : History) → (goes_on (r >>= λ _. Err fault) (λ h. course_end (Ok h))).end ≡ Ok n → ⊥
 over_many (Ok t) fault n e = cc e
 over_many (Err f) fault n e = cc e
 
@@ -37,13 +37,13 @@ groups_going ignores h n room (Last ls (Over line)) few own ended going e =
     by (effect_of ignores h ls (Some line)) (λ t is. block_going ignores h ls line t going own.0 (omega (arith, own.1, few)) is) refl e
   where
     by : (r : Result Taken LineFault) → ((t : Taken) → effect_of ignores h ls (Some line) ≡ Ok t → IsGoing t.history) → effect_of ignores h ls (Some line) ≡ r
-        → (goes_on r (λ k. ends (Ok k))).end ≡ Ok n → IsGoing n
+        → (goes_on r (λ k. course_end (Ok k))).end ≡ Ok n → IsGoing n
     by (Ok t) gives is e = let same : t.history ≡ n = cc e in subst IsGoing same (gives t is)
     by (Err fault) gives is e = absurd (cc e)
 
-file_going : (ignores : Bool) (room : ℕ) (h n : History) (content : List ℕ) → room ≤ total_limit → IsGoing h → (course_of_file ignores room h (whole content)).end ≡ Ok n → IsGoing n
+file_going : (ignores : Bool) (room : ℕ) (h n : History) (content : List ℕ) → room ≤ total_limit → IsGoing h → (course_of_file ignores room h (ended_file content)).end ≡ Ok n → IsGoing n
 file_going ignores room h n content few going e =
-    groups_going ignores h n room (grouped (lined line_limit room 0 true content)) (omega (arith, few)) (file_spelled line_limit room 0 true content) (file_ends line_limit room 0 content) going e
+    groups_going ignores h n room (groups_of (lined line_limit room 0 true content)) (omega (arith, few)) (file_spelled line_limit room 0 true content) (file_ends line_limit room 0 content) going e
 
 -- between two files
 record IsBetween (h : History) : Type 0 where
@@ -55,14 +55,14 @@ unfolding file_ended
 between h going = record { going = ended_going h going; calls = refl }
 
 files_going : (ignores : Bool) (room : ℕ) (h n : History) (place : ℕ) (contents : List (List ℕ)) → room ≤ total_limit → IsBetween h
-    → (course_of_files ignores room h place (map whole contents)).end ≡ Ok n → IsBetween n
+    → (course_of_files ignores room h place (map ended_file contents)).end ≡ Ok n → IsBetween n
 files_going ignores room h n place [] few is e = let same : h ≡ n = cc e in subst IsBetween same is
 files_going ignores room h n place (content ∷ contents) few is e =
-    by (course_of_file ignores room h (whole content)).end refl e (λ next now later. files_going ignores (room - length content) next n (place + 1) contents (omega (arith, few)) now later)
+    by (course_of_file ignores room h (ended_file content)).end refl e (λ next now later. files_going ignores (room - length content) next n (place + 1) contents (omega (arith, few)) now later)
   where
-    by : (r : Result History LineFault) → (course_of_file ignores room h (whole content)).end ≡ r
-        → (then_files place r (λ next. course_of_files ignores (room - length content) (file_ended next) (place + 1) (map whole contents))).end ≡ Ok n
-        → ((next : History) → IsBetween next → (course_of_files ignores (room - length content) next (place + 1) (map whole contents)).end ≡ Ok n → IsBetween n) → IsBetween n
+    by : (r : Result History LineFault) → (course_of_file ignores room h (ended_file content)).end ≡ r
+        → (then_files place r (λ next. course_of_files ignores (room - length content) (file_ended next) (place + 1) (map ended_file contents))).end ≡ Ok n
+        → ((next : History) → IsBetween next → (course_of_files ignores (room - length content) next (place + 1) (map ended_file contents)).end ≡ Ok n → IsBetween n) → IsBetween n
     by (Ok next) got e more = more (file_ended next) (between next (file_going ignores room h next content few is.going got)) e
     by (Err fault) got e more = absurd (cc e)
 

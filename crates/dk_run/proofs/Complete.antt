@@ -7,17 +7,17 @@ use Rattle.dk_base.specs.declared.why.Why.{Why}
 use Rattle.dk_io.specs.Outside.{HeldFile, Absent, Holds, Rose}
 use Rattle.dk_io.specs.declared.outside.Stream.TheVariants.{Messages}
 use Rattle.dk_core.specs.History.{History, file_ended}
-use Rattle.dk_core.specs.Resuming.{IsStart, state_of}
+use Rattle.dk_core.specs.Resuming.{IsStart, state_file}
 use Rattle.dk_core.proofs.Resuming.{spelled_start}
 use Rattle.dk_words.specs.declared.command.Command.{Command}
 use Rattle.dk_words.specs.declared.request.Request.{Request}
 use Rattle.dk_words.specs.declared.request.Request.TheVariants.{Run, Help, Version}
-use Rattle.dk_run.specs.Commands.{helds_of, names_of}
-use Rattle.dk_run.specs.Courses.{Course, Outset, course_of, course_of_file, course_of_files, ends, fault_in, first_fault, onto, then_files}
+use Rattle.dk_run.specs.Commands.{file_names, helds_of}
+use Rattle.dk_run.specs.Courses.{Course, Outset, behind_histories, course_end, course_of, course_of_file, course_of_files, fault_in, first_fault, then_files}
 use Rattle.dk_run.specs.Starts.{Begins, HasBegun, IsRefusedAs, IsState}
-use Rattle.dk_run.specs.Files.{AreHeldFiles, File, FileFault, whole}
+use Rattle.dk_run.specs.Files.{AreHeldFiles, File, FileFault, ended_file}
 use Rattle.dk_print.specs.Sections.{fault_line}
-use Rattle.dk_run.specs.Outputs.{Output, followed, only_on, output_along, output_of}
+use Rattle.dk_run.specs.Outputs.{Output, only_on, output_along, output_of, texts_followed_by}
 use Rattle.dk_run.specs.Statuses.{AreCleanBehind, AtStart, Break, CompletesCalmly, HasBroken, IsCalm, IsComplete, IsDone, IsRefused, IsStateRefused, IsStateUnread, IsUnread, OutputIsWritten, Outside, Says, Within, held_file_at}
 use Rattle.dk_run.specs.declared.status.Status.{Status}
 use Rattle.dk_run.specs.declared.status.Status.TheVariants.{Done, Refused, Usage, Read, Write, NoMemory}
@@ -34,7 +34,7 @@ course_front : (ignores : Bool) (room : ℕ) (h : History) (place : ℕ) (k : �
 course_front ignores room h place zero fs f e = absurd (cc (e))
 course_front ignores room h place (suc k) [] f e = refl
 course_front ignores room h place (suc k) (x ∷ xs) f e =
-    ap (onto (course_of_file ignores room h x).after) (then_same place (course_of_file ignores room h x).end
+    ap (behind_histories (course_of_file ignores room h x).after) (then_same place (course_of_file ignores room h x).end
     (λ next. course_of_files ignores (room - length x.bytes) (file_ended next) (place + 1) (take k xs)) (λ next. course_of_files ignores (room - length x.bytes) (file_ended next) (place + 1) xs) f
     (λ next. course_front ignores (room - length x.bytes) (file_ended next) (place + 1) k xs f) e)
 
@@ -61,7 +61,7 @@ held_there (n ∷ ns) (c ∷ cs) zero held h = (c, cc (held))
 held_there (n ∷ ns) (c ∷ cs) (suc k) held h = held_there ns cs k (cc (held)) (omega arith)
 
 -- no file that is held was left unread
-not_unread : (command : Command) (before after : Outside) (by : Break) (place n : ℕ) (contents : List (List ℕ)) → IsCalm before after → AreHeldFiles (take n (helds_of command before.file)) contents → place < n → place < length (names_of command)
+not_unread : (command : Command) (before after : Outside) (by : Break) (place n : ℕ) (contents : List (List ℕ)) → IsCalm before after → AreHeldFiles (take n (helds_of command before.file)) contents → place < n → place < length (file_names command)
     → HasBroken by (held_file_at (helds_of command before.file) place) (Rose before.read_faults after.read_faults) → ⊥
 not_unread command before after Within place n contents calm held below named cause = calm.read cause.1
 not_unread command before after AtStart place n contents calm held below named (inr rose) = calm.read rose
@@ -72,22 +72,22 @@ not_unread command before after AtStart place n contents calm held below named (
 
 -- of the first n files the contents are held, and they have a first fault: so the faulty one stands behind the clean ones
 not_clean : (start : Outset) (ignores : Bool) (helds : List HeldFile) (k n : ℕ) (contents : List (List ℕ)) (fault : FileFault) → AreCleanBehind start ignores helds k
-    → AreHeldFiles (take n helds) contents → first_fault start ignores (map whole contents) ≡ Some fault → n ≤ k → ⊥
+    → AreHeldFiles (take n helds) contents → first_fault start ignores (map ended_file contents) ≡ Some fault → n ≤ k → ⊥
 not_clean start ignores helds k n contents fault clean held first h = let none = clean n contents h held in cc (none, first)
 
 -- what was told of a refused file holds of all files that are held
 told_refused : (command : Command) (before after : Outside) (output : Output) (comes : IsRefused command before after output) (start : Outset) → Begins command.resume before.file start
     → (n : ℕ) (contents : List (List ℕ)) → comes.fault.file < n → AreHeldFiles (take n (helds_of command before.file)) contents
-    → (first_fault start command.ignore_missing_entry (map whole contents) ≡ Some comes.fault) × (output ≡ output_of start command (map whole contents))
+    → (first_fault start command.ignore_missing_entry (map ended_file contents) ≡ Some comes.fault) × (output ≡ output_of start command (map ended_file contents))
 unfolding output_of
 told_refused command before after output comes start begins n contents h held =
     let k = comes.fault.file in
     let front : AreHeldFiles (take (k + 1) (helds_of command before.file)) (take (k + 1) contents) =
     subst (λ (l : List HeldFile). AreHeldFiles l (take (k + 1) contents)) (take-take (k + 1) n (helds_of command before.file) (omega arith)) (held_take (k + 1) (take n (helds_of command before.file)) contents held) in
     let first = comes.first start begins (take (k + 1) contents) front in
-    let same : course_of start command.ignore_missing_entry (map whole (take (k + 1) contents)) ≡ course_of start command.ignore_missing_entry (map whole contents) =
-    ap (course_of start command.ignore_missing_entry) (sym (take-map whole (k + 1) contents))
-    ∙ first_front start command.ignore_missing_entry (k + 1) (map whole contents) comes.fault (ap (first_fault start command.ignore_missing_entry) (take-map whole (k + 1) contents) ∙ first) in
+    let same : course_of start command.ignore_missing_entry (map ended_file (take (k + 1) contents)) ≡ course_of start command.ignore_missing_entry (map ended_file contents) =
+    ap (course_of start command.ignore_missing_entry) (sym (take-map ended_file (k + 1) contents))
+    ∙ first_front start command.ignore_missing_entry (k + 1) (map ended_file contents) comes.fault (ap (first_fault start command.ignore_missing_entry) (take-map ended_file (k + 1) contents) ∙ first) in
     (ap (λ (c : Course FileFault). fault_in c.end) (sym same) ∙ first, comes.defined start begins (take (k + 1) contents) front ∙ ap (output_along command) same)
 
 -- ---- the state file
@@ -101,7 +101,7 @@ start_state : (resume : Option (List ℕ)) (file : List ℕ → HeldFile) (start
 start_state None file start begins name is = absurd (cc (is))
 start_state (Some other) file start (h, begin, holds, short, same) name is =
     let here : other ≡ name = cc (is) in
-    (state_of h, ap file (sym here) ∙ holds, (short, spelled_start h begin))
+    (state_file h, ap file (sym here) ∙ holds, (short, spelled_start h begin))
 
 not_state_refused : (command : Command) (before : Outside) (output : Output) (start : Outset) → Begins command.resume before.file start → IsStateRefused command before output → ⊥
 not_state_refused command before output start begins refused =
@@ -134,7 +134,7 @@ same_why a b xs (inr (is, short, bad)) (inr (same, more, worse)) = is ∙ sym sa
 -- ---- what each status says
 done_of : (command : Command) (before after : Outside) (output : Output) → IsDone command before after output → OutputIsWritten before after output → IsComplete command before after Done
 done_of command before after output comes written = record {
-  done = λ start begins contents held none. inl (refl, written.0 ∙ ap (followed before.written) (comes.defined start begins contents held));
+  done = λ start begins contents held none. inl (refl, written.0 ∙ ap (texts_followed_by before.written) (comes.defined start begins contents held));
   refused = λ start begins n contents fault held first. elim (cases_lt n (length (helds_of command before.file))) [
     | inl below ↦ absurd (not_clean start command.ignore_missing_entry (helds_of command before.file) (length (helds_of command before.file)) n contents fault (comes.read.clean start begins) held first (omega arith))
     | inr above ↦
@@ -152,7 +152,7 @@ refused_of command before after output comes written = record {
       let told = told_refused command before after output comes start begins (length (helds_of command before.file)) contents (omega (arith, comes.named, same_length command before.file)) (held_whole (helds_of command before.file) contents held) in
       absurd (cc (none, told.0));
   refused = λ start begins n contents fault held first. elim (cases_lt comes.fault.file n) [
-    | inl below ↦ inl (refl, written.0 ∙ ap (followed before.written) (told_refused command before after output comes start begins n contents below held).1)
+    | inl below ↦ inl (refl, written.0 ∙ ap (texts_followed_by before.written) (told_refused command before after output comes start begins n contents below held).1)
     | inr above ↦ absurd (not_clean start command.ignore_missing_entry (helds_of command before.file) comes.fault.file n contents fault (comes.clean_before start begins) held first above)
   ];
   state_refused = λ name xs why named holds bad. absurd (begun_state command.resume before.file name xs why comes.begun named holds bad);
@@ -167,7 +167,7 @@ state_refused_of command before after output comes written = record {
       let same = same_why comes.why why xs (comes.fault xs (ap before.file here ∙ holds)) bad in
       inl (
         refl,
-        written.0 ∙ ap (followed before.written) (comes.message ∙ ap (λ (n : List ℕ). only_on Messages (fault_line n 0 comes.why)) here ∙ ap (λ (w : Why). only_on Messages (fault_line name 0 w)) same),
+        written.0 ∙ ap (texts_followed_by before.written) (comes.message ∙ ap (λ (n : List ℕ). only_on Messages (fault_line n 0 comes.why)) here ∙ ap (λ (w : Why). only_on Messages (fault_line name 0 w)) same),
       );
 }
 

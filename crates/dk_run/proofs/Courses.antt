@@ -8,10 +8,10 @@ use Rattle.dk_core.specs.History.{History, Taken, effect_of, no_block}
 use Rattle.dk_core.specs.Reading.{Stepped, after_last, after_next, stop_or}
 use Rattle.dk_core.specs.Steps.{IsNoBlock}
 use Rattle.dk_lines.specs.Left.{End, Over, Broken, LongLine, TooLong}
-use Rattle.dk_run.specs.Courses.{Course, after_block, course_of_groups, ends, goes_on, onto}
+use Rattle.dk_run.specs.Courses.{Course, after_block, behind_histories, course_end, course_of_groups, goes_on}
 use Rattle.dk_run.specs.WholeFile.{course_behind}
 
-pub onto_more : {F : Type 0} (a b : List History) (c : Course F) → onto a (onto b c) ≡ onto (a ++ b) c
+pub onto_more : {F : Type 0} (a b : List History) (c : Course F) → behind_histories a (behind_histories b c) ≡ behind_histories (a ++ b) c
 onto_more a b c = ap (λ (l : List History). record { after = l; end = c.end }) (sym (append_assoc a b c.after))
 
 -- no lines are no block
@@ -26,15 +26,15 @@ found_in step = if step.found then step.history ∷ [] else []
 -- What a step through the groups says of the course: it has the block that was found, and what is left then; where none was found nothing is left.
 abbrev pub Follows : Bool → Reads Taken → Groups → Result Stepped LineFault → Type 0
 Follows ignores read gs (Ok step) =
-    (course_of_groups ignores read gs ≡ onto (found_in step) (course_behind ignores step.history step.left))
-    × (step.found ≡ false → course_of_groups ignores read gs ≡ ends (Ok step.history))
-Follows ignores read gs (Err e) = course_of_groups ignores read gs ≡ ends (Err e)
+    (course_of_groups ignores read gs ≡ behind_histories (found_in step) (course_behind ignores step.history step.left))
+    × (step.found ≡ false → course_of_groups ignores read gs ≡ course_end (Ok step.history))
+Follows ignores read gs (Err e) = course_of_groups ignores read gs ≡ course_end (Err e)
 
 abbrev then_course : Bool → Groups → Result Taken LineFault → Course LineFault
 then_course ignores rest r = goes_on r (λ h. course_behind ignores h rest)
 
 abbrev then_end : Result Taken LineFault → Course LineFault
-then_end r = goes_on r (λ h. ends (Ok h))
+then_end r = goes_on r (λ h. course_end (Ok h))
 
 abbrev then_fault : ℕ → Why → Result Taken LineFault → Result Taken LineFault
 then_fault n why r = r >>= λ _. Err (record { line = n; why = why })
@@ -48,12 +48,12 @@ follows ignores read (Group ls close rest) = go (read ls (Some close)) (λ h. fo
   counted : (t : Taken) (c : Bool) → t.counts ≡ c → read ls (Some close) ≡ Ok t → Follows ignores (effect_of ignores t.history) rest (after_next ignores (effect_of ignores t.history) rest)
       → Follows ignores read (Group ls close rest) (if c then Ok (record { found = true; history = t.history; left = rest }) else after_next ignores (effect_of ignores t.history) rest)
   counted t true e is more = (
-    ap (then_course ignores rest) is ∙ ap (λ (b : Bool). onto (if b then t.history ∷ [] else []) (course_behind ignores t.history rest)) e,
+    ap (then_course ignores rest) is ∙ ap (λ (b : Bool). behind_histories (if b then t.history ∷ [] else []) (course_behind ignores t.history rest)) e,
     λ f. absurd (cc (f)),
   )
   counted t false e is more = on (after_next ignores (effect_of ignores t.history) rest) more where
     here : course_of_groups ignores read (Group ls close rest) ≡ course_behind ignores t.history rest
-    here = ap (then_course ignores rest) is ∙ ap (λ (b : Bool). onto (if b then t.history ∷ [] else []) (course_behind ignores t.history rest)) e
+    here = ap (then_course ignores rest) is ∙ ap (λ (b : Bool). behind_histories (if b then t.history ∷ [] else []) (course_behind ignores t.history rest)) e
 
     on : (r : Result Stepped LineFault) → Follows ignores (effect_of ignores t.history) rest r → Follows ignores read (Group ls close rest) r
     on (Ok step) f = (here ∙ f.0, λ n. here ∙ f.1 n)
@@ -64,7 +64,7 @@ follows ignores read (Group ls close rest) = go (read ls (Some close)) (λ h. fo
   go (Err e) more is = ap (then_course ignores rest) is
   go (Ok t) more is = counted t t.counts refl is (more t.history)
 follows ignores read (Last ls end) = go (after_last read ls end) refl where
-  empty : (h : History) (end : End) → (t : Taken) → after_last read ls end ≡ Ok t → course_behind ignores h (Last [] end) ≡ ends (Ok h)
+  empty : (h : History) (end : End) → (t : Taken) → after_last read ls end ≡ Ok t → course_behind ignores h (Last [] end) ≡ course_end (Ok h)
   empty h (Over n) t e = ap then_end (no_lines ignores h (Some n))
   empty h Broken t e = ap then_end (no_lines ignores h None)
   empty h (LongLine n) t e = absurd (never n WhyLong (read ls None) t e)
@@ -73,13 +73,13 @@ follows ignores read (Last ls end) = go (after_last read ls end) refl where
   go : (r : Result Taken LineFault) → after_last read ls end ≡ r → Follows ignores read (Last ls end) (r >>= λ t. Ok (record { found = t.counts; history = t.history; left = Last [] end }))
   go (Err e) is = ap then_end is
   go (Ok t) is = (
-    ap then_end is ∙ ap (λ (c : Course LineFault). onto (after_block t) c) (sym (empty t.history end t is)),
-    λ none. ap then_end is ∙ ap (λ (b : Bool). onto (if b then t.history ∷ [] else []) (ends (Ok t.history))) none,
+    ap then_end is ∙ ap (λ (c : Course LineFault). behind_histories (after_block t) c) (sym (empty t.history end t is)),
+    λ none. ap then_end is ∙ ap (λ (b : Bool). behind_histories (if b then t.history ∷ [] else []) (course_end (Ok t.history))) none,
   )
 
 -- where no block is found the course has none
-pub no_block_ends : (ignores : Bool) (read : Reads Taken) (gs : Groups) → IsNoBlock (after_next ignores read gs) → (h : History) × (course_of_groups ignores read gs ≡ ends (Ok h))
+pub no_block_ends : (ignores : Bool) (read : Reads Taken) (gs : Groups) → IsNoBlock (after_next ignores read gs) → (h : History) × (course_of_groups ignores read gs ≡ course_end (Ok h))
 no_block_ends ignores read gs none = go (after_next ignores read gs) none (follows ignores read gs) where
-  go : (r : Result Stepped LineFault) → IsNoBlock r → Follows ignores read gs r → (h : History) × (course_of_groups ignores read gs ≡ ends (Ok h))
+  go : (r : Result Stepped LineFault) → IsNoBlock r → Follows ignores read gs r → (h : History) × (course_of_groups ignores read gs ≡ course_end (Ok h))
   go (Ok step) none f = (step.history, f.1 none)
   go (Err e) none f = absurd none

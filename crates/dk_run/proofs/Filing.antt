@@ -16,7 +16,7 @@ use Rattle.dk_io.specs.declared.outside.Stream.TheVariants.{Report}
 use Rattle.dk_lines.proofs.Lined.{at_end}
 use Rattle.dk_lines.specs.Left.{Left, Over}
 use Rattle.dk_lines.specs.Reading.{Reading, room_of, left_of}
-use Rattle.dk_core.specs.Blocks.{Groups, Last, grouped}
+use Rattle.dk_core.specs.Blocks.{Groups, Last, groups_of}
 use Rattle.dk_core.specs.History.{History, Taken, effect_of, file_ended, no_block}
 use Rattle.dk_core.specs.Reading.{Stepped, after_next}
 use Rattle.dk_core.specs.Standing.{ReportsAlike, SessionStandsFor, blocks_of, ignores_of, left_with_answer, over_of}
@@ -24,10 +24,11 @@ use Rattle.dk_core.specs.Steps.{FaultAnswers, NextBlock, SessionCounts, Steps, g
 use Rattle.dk_core.specs.declared.session.Session.{Session}
 use Rattle.dk_report.specs.declared.options.Options.{Options}
 use Rattle.dk_words.specs.declared.command.Command.{Command}
-use Rattle.dk_run.specs.Courses.{Course, ends, goes_on, onto}
+use Rattle.dk_run.specs.Courses.{Course, behind_histories, course_end, goes_on}
 use Rattle.dk_print.specs.Sections.{after_blocks_line}
-use Rattle.dk_run.specs.Reports.{capped, due_from, due_report, is_due, whole_report}
-use Rattle.dk_run.specs.WholeFile.{ComesToEnd, FileGoesOn, HasFault, FileGives, IsBroken, IsCalmUnless, IsShort, StartedGives, TroubleGives, Within, course_behind, faulted, fresh, halted}
+use Rattle.dk_presence.specs.Patterns.{capped}
+use Rattle.dk_run.specs.Reports.{due_from, due_report, is_due, whole_report}
+use Rattle.dk_run.specs.WholeFile.{ComesToEnd, FileGoesOn, HasFault, FileGives, IsBroken, IsCalmUnless, IsShort, StartedGives, TroubleGives, Within, course_behind, trouble_of_fault, fresh_reading, trouble_of_halt}
 use Rattle.dk_run.specs.Telling.{HaltHasCause, ReportsBy}
 use Rattle.dk_run.specs.declared.reading.Trouble.{Trouble}
 use Rattle.dk_run.specs.declared.reading.Trouble.TheVariants as t
@@ -96,25 +97,25 @@ nothing_behind (b ∷ bs) zs e = absurd (cc (e))
 -- ---- one block
 -- what the next block says of the course
 course_on : (ignores : Bool) (h next : History) (gs left : Groups) → after_next ignores (effect_of ignores h) gs ≡ Ok (record { found = true; history = next; left = left })
-    → course_behind ignores h gs ≡ onto (next ∷ []) (course_behind ignores next left)
+    → course_behind ignores h gs ≡ behind_histories (next ∷ []) (course_behind ignores next left)
 course_on ignores h next gs left takes = (subst (Follows ignores (effect_of ignores h) gs) takes (follows ignores (effect_of ignores h) gs)).0
 
 course_over : (ignores : Bool) (h next : History) (gs left : Groups) → after_next ignores (effect_of ignores h) gs ≡ Ok (record { found = false; history = next; left = left })
-    → course_behind ignores h gs ≡ ends (Ok next)
+    → course_behind ignores h gs ≡ course_end (Ok next)
 course_over ignores h next gs left takes = (subst (Follows ignores (effect_of ignores h) gs) takes (follows ignores (effect_of ignores h) gs)).1 refl
 
-course_fault : (ignores : Bool) (h : History) (gs : Groups) (fault : LineFault) → after_next ignores (effect_of ignores h) gs ≡ Err fault → course_behind ignores h gs ≡ ends (Err fault)
+course_fault : (ignores : Bool) (h : History) (gs : Groups) (fault : LineFault) → after_next ignores (effect_of ignores h) gs ≡ Err fault → course_behind ignores h gs ≡ course_end (Err fault)
 course_fault ignores h gs fault takes = subst (Follows ignores (effect_of ignores h) gs) takes (follows ignores (effect_of ignores h) gs)
 
 -- nothing is left of an ended file
-nothing_more : (ignores : Bool) (h : History) (line : ℕ) → course_behind ignores h (Last [] (Over line)) ≡ ends (Ok h)
-nothing_more ignores h line = ap (λ e. goes_on e (λ h. ends (Ok h))) (no_lines ignores h (Some line))
+nothing_more : (ignores : Bool) (h : History) (line : ℕ) → course_behind ignores h (Last [] (Over line)) ≡ course_end (Ok h)
+nothing_more ignores h line = ap (λ e. goes_on e (λ h. course_end (Ok h))) (no_lines ignores h (Some line))
 
-course_done : (ignores : Bool) (h : History) (over : Bool) (r : Reading) → course_behind ignores h (groups_left over r true []) ≡ ends (Ok h)
+course_done : (ignores : Bool) (h : History) (over : Bool) (r : Reading) → course_behind ignores h (groups_left over r true []) ≡ course_end (Ok h)
 course_done ignores h true r = nothing_more ignores h (r.number + 1)
-course_done ignores h false r = ap (λ (l : Left). course_behind ignores h (grouped l)) (at_end r) ∙ nothing_more ignores h (r.number + 1)
+course_done ignores h false r = ap (λ (l : Left). course_behind ignores h (groups_of l)) (at_end r) ∙ nothing_more ignores h (r.number + 1)
 
-onto_end : (a : List History) (e : Result History LineFault) → onto a (ends e) ≡ record { after = a; end = e }
+onto_end : (a : List History) (e : Result History LineFault) → behind_histories a (course_end e) ≡ record { after = a; end = e }
 onto_end a e = ap (λ (l : List History). record { after = l; end = e }) (append-nil a)
 
 within_on : (ignores : Bool) (h h1 h2 : History) (r new last : Reading) (xs ys zs : List ℕ) (after : List History) (over over2 : Bool)
@@ -124,12 +125,12 @@ within_on ignores h h1 h2 r new last xs ys zs after over over2 a b = record {
   split = split_on xs a.front ys b.front zs a.split b.split;
   room = room_on (room_of r) (room_of new) (room_of last) a.front b.front a.room b.room;
   nothing = b.nothing a.nothing;
-  same = a.same ∙ ap (onto after) (course_on ignores h1 h2 (groups_left over new true ys) (groups_left over2 last true zs) b.takes) ∙ onto_more after (h2 ∷ []) (course_behind ignores h2 (groups_left over2 last true zs));
+  same = a.same ∙ ap (behind_histories after) (course_on ignores h1 h2 (groups_left over new true ys) (groups_left over2 last true zs) b.takes) ∙ onto_more after (h2 ∷ []) (course_behind ignores h2 (groups_left over2 last true zs));
   cut = λ d rest e. elim (a.cut (b.front ++ d) rest (split_on ys b.front zs d rest b.split e)) [
     | inl same ↦ elim (b.cut d rest e) [
       | inl more ↦ inl (
           ap (λ (l : List ℕ). course_behind ignores h (groups_left false r false l)) (append_assoc a.front b.front d)
-          ∙ same ∙ ap (onto after) (course_on ignores h1 h2 (groups_left over new false (b.front ++ d)) (groups_left over2 last false d) more)
+          ∙ same ∙ ap (behind_histories after) (course_on ignores h1 h2 (groups_left over new false (b.front ++ d)) (groups_left over2 last false d) more)
           ∙ onto_more after (h2 ∷ []) (course_behind ignores h2 (groups_left over2 last false d)))
       | inr none ↦ inr none.0
     ]
@@ -233,7 +234,7 @@ file_end command n h r new last (Some xs) mid left text s next done same a answe
       told = a.told;
       nothing_left = is ∙ ap (λ (l : List ℕ). Some l) nothing;
       room = room_on (room_of r) (room_of new) (room_of last) a.within.front steps.front a.within.room steps.room ∙ ap (λ (l : List ℕ). room_of r - length l) (sym all);
-      all = a.within.same ∙ ap (onto a.after) (course_over command.ignore_missing_entry a.next h2 (groups_left (over_of s) new true a.ys) (groups_left (over_of next) last true zs) steps.takes) ∙ onto_end a.after (Ok h2);
+      all = a.within.same ∙ ap (behind_histories a.after) (course_over command.ignore_missing_entry a.next h2 (groups_left (over_of s) new true a.ys) (groups_left (over_of next) last true zs) steps.takes) ∙ onto_end a.after (Ok h2);
     }
 
 -- a fault of the next block is the file's
@@ -241,17 +242,17 @@ pub file_fault : {F : Type 0} (command : Command) (n : ℕ) (h : History) (r new
     → ignores_of s ≡ command.ignore_missing_entry
     → IfSome o (λ xs. FileGoesOn command n h r xs text (SessionStandsFor s) (blocks_of s) (over_of s) new mid)
     → ((h : History) → SessionStandsFor s h → IfSome mid (λ ys. FaultAnswers (ignores_of s) (effect_of (ignores_of s) h) (over_of s) new ys fault left))
-    → IfSome o (λ xs. TroubleGives command n h r xs text (faulted fault) left)
+    → IfSome o (λ xs. TroubleGives command n h r xs text (trouble_of_fault fault) left)
 file_fault command n h r new last None mid left text s fault same goes answers = tt
 file_fault command n h r new last (Some xs) mid left text s fault same a answers =
     go fault (subst (λ (b : Bool). FaultAnswers b (effect_of b a.next) (over_of s) new a.ys fault left) same
     (subst (λ (o : Option (List ℕ)). IfSome o (λ ys. FaultAnswers (ignores_of s) (effect_of (ignores_of s) a.next) (over_of s) new ys fault left)) a.left_is (answers a.next a.stands))) where
       go : (fault : Fault) → FaultAnswers command.ignore_missing_entry (effect_of command.ignore_missing_entry a.next) (over_of s) new a.ys fault left
-          → TroubleGives command n h r xs text (faulted fault) left
+          → TroubleGives command n h r xs text (trouble_of_fault fault) left
       go (f.Refused file line why) takes = record {
         after = a.after;
         told = a.told;
-        all = a.within.same ∙ ap (onto a.after) (course_fault command.ignore_missing_entry a.next (groups_left (over_of s) new true a.ys) (record { line = line; why = why }) takes)
+        all = a.within.same ∙ ap (behind_histories a.after) (course_fault command.ignore_missing_entry a.next (groups_left (over_of s) new true a.ys) (record { line = line; why = why }) takes)
             ∙ onto_end a.after (Err (record { line = line; why = why }));
       }
       go (f.Read file) stops = elim (a.within.cut stops.front stops.rest stops.split) [
@@ -267,7 +268,7 @@ file_fault command n h r new last (Some xs) mid left text s fault same a answers
               after = a.after;
               told = a.told;
               next = last_h;
-              all = same ∙ ap (onto a.after) none ∙ onto_end a.after (Ok last_h);
+              all = same ∙ ap (behind_histories a.after) none ∙ onto_end a.after (Ok last_h);
             }
         | inr nothing ↦
             record {
@@ -280,8 +281,8 @@ file_fault command n h r new last (Some xs) mid left text s fault same a answers
               after = a.after;
               told = a.told;
               next = a.next;
-              all = a.within.same ∙ ap (λ (l : List ℕ). onto a.after (course_behind command.ignore_missing_entry a.next (groups_left (over_of s) new true l))) nothing
-                  ∙ ap (onto a.after) (course_done command.ignore_missing_entry a.next (over_of s) new) ∙ onto_end a.after (Ok a.next);
+              all = a.within.same ∙ ap (λ (l : List ℕ). behind_histories a.after (course_behind command.ignore_missing_entry a.next (groups_left (over_of s) new true l))) nothing
+                  ∙ ap (behind_histories a.after) (course_done command.ignore_missing_entry a.next (over_of s) new) ∙ onto_end a.after (Ok a.next);
             }
       ]
       go f.NoMemory gives = record {
@@ -294,10 +295,10 @@ file_fault command n h r new last (Some xs) mid left text s fault same a answers
 -- ---- a started file
 -- what holds of a started file holds of its bytes, where they are told
 pub told : (P : Reading → List ℕ → Type 0) (r mid : Reading) (held : HeldFile) (xs : List ℕ) (rest : Option (List ℕ))
-    → mid ≡ fresh r → Starts held rest → held ≡ Holds xs → IfSome (left_of mid rest) (λ xs. P mid xs) → P (fresh r) xs
+    → mid ≡ fresh_reading r → Starts held rest → held ≡ Holds xs → IfSome (left_of mid rest) (λ xs. P mid xs) → P (fresh_reading r) xs
 told P r mid held xs rest is starts holds gives =
     let bytes : rest ≡ Some xs = subst (λ (h : HeldFile). Starts h rest) holds starts in
-    subst (λ (o : Option (List ℕ)). IfSome (left_of (fresh r) o) (λ xs. P (fresh r) xs)) bytes
+    subst (λ (o : Option (List ℕ)). IfSome (left_of (fresh_reading r) o) (λ xs. P (fresh_reading r) xs)) bytes
     (subst (λ (m : Reading). IfSome (left_of m rest) (λ xs. P m xs)) is gives)
 
 pub nothing_left : (ahead : List ℕ) (after : Option (List ℕ)) → prepend_known ahead after ≡ Some [] → after ≡ Some []
@@ -330,18 +331,18 @@ counted_end s next r last result is counts = let c = subst (λ (a : Result Bool 
 
 -- a report by the way that isn't written whole is the file's trouble
 pub short_gives : (command : Command) (n : ℕ) (h : History) (r : Reading) (o left : Option (List ℕ)) (text : List ℕ) (halt : Halt) → IfSome o (λ xs. IsShort command n h r xs text)
-    → IfSome o (λ xs. TroubleGives command n h r xs text (halted halt) left)
+    → IfSome o (λ xs. TroubleGives command n h r xs text (trouble_of_halt halt) left)
 short_gives command n h r None left text halt short = tt
 short_gives command n h r (Some xs) left text w.Write short = short
 short_gives command n h r (Some xs) left text w.NoMemory short = short
 
-pub calm_but : (before between after : ℕ) (halt : Halt) → between ≡ before → HaltHasCause between after halt → IsCalmUnless before after (halted halt)
+pub calm_but : (before between after : ℕ) (halt : Halt) → between ≡ before → HaltHasCause between after halt → IsCalmUnless before after (trouble_of_halt halt)
 calm_but before between after w.Write same rose = subst (λ (n : ℕ). Rose n after) same rose
 calm_but before between after w.NoMemory same calm = calm ∙ same
 
 -- ---- a whole file
 pub told_started : {F : Type 0} (command : Command) (n : ℕ) (h : History) (r mid last : Reading) (held : HeldFile) (xs text : List ℕ) (before rest after : Option (List ℕ)) (result : Result (Session F) Trouble)
-    → (result ≡ Err t.Start → ⊥) → mid ≡ fresh r → Starts held rest → held ≡ Holds xs → (IsErrOf result t.Read → last.ahead ≡ [])
+    → (result ≡ Err t.Start → ⊥) → mid ≡ fresh_reading r → Starts held rest → held ≡ Holds xs → (IsErrOf result t.Read → last.ahead ≡ [])
     → IfSome (left_of mid rest) (λ xs. StartedGives command n h mid xs text result last (left_of last after))
     → FileGives command n h r xs text before result last after
 told_started command n h r mid last held xs text before rest after (Ok session) started is starts holds emptied gives =
@@ -370,45 +371,45 @@ told_started command n h r mid last held xs text before rest after (Err t.NoMemo
     told (λ m ys. IsShort command n h m ys text) r mid held xs rest is starts holds gives
 
 -- ---- which troubles come
-halted_not_start : (halt : Halt) → halted halt ≡ t.Start → ⊥
+halted_not_start : (halt : Halt) → trouble_of_halt halt ≡ t.Start → ⊥
 halted_not_start w.Write e = cc (e)
 halted_not_start w.NoMemory e = cc (e)
 
-halted_not_read : (halt : Halt) → halted halt ≡ t.Read → ⊥
+halted_not_read : (halt : Halt) → trouble_of_halt halt ≡ t.Read → ⊥
 halted_not_read w.Write e = cc (e)
 halted_not_read w.NoMemory e = cc (e)
 
-pub halted_started : (halt : Halt) (trouble : Trouble) → trouble ≡ halted halt → trouble ≡ t.Start → ⊥
+pub halted_started : (halt : Halt) (trouble : Trouble) → trouble ≡ trouble_of_halt halt → trouble ≡ t.Start → ⊥
 halted_started halt trouble is e = halted_not_start halt (sym is ∙ e)
 
-pub halted_read : (halt : Halt) (trouble : Trouble) → trouble ≡ halted halt → trouble ≡ t.Read → ⊥
+pub halted_read : (halt : Halt) (trouble : Trouble) → trouble ≡ trouble_of_halt halt → trouble ≡ t.Read → ⊥
 halted_read halt trouble is e = halted_not_read halt (sym is ∙ e)
 
-faulted_not_start : (fault : Fault) → faulted fault ≡ t.Start → ⊥
+faulted_not_start : (fault : Fault) → trouble_of_fault fault ≡ t.Start → ⊥
 faulted_not_start (f.Refused file line why) e = cc (e)
 faulted_not_start (f.Read file) e = cc (e)
 faulted_not_start f.NoMemory e = cc (e)
 
-pub faulted_started : (fault : Fault) (trouble : Trouble) → trouble ≡ faulted fault → trouble ≡ t.Start → ⊥
+pub faulted_started : (fault : Fault) (trouble : Trouble) → trouble ≡ trouble_of_fault fault → trouble ≡ t.Start → ⊥
 faulted_started fault trouble is e = faulted_not_start fault (sym is ∙ e)
 
-read_of : (fault : Fault) → faulted fault ≡ t.Read → (file : ℕ) × (fault ≡ f.Read file)
+read_of : (fault : Fault) → trouble_of_fault fault ≡ t.Read → (file : ℕ) × (fault ≡ f.Read file)
 read_of (f.Refused file line why) e = absurd (cc (e))
 read_of (f.Read file) e = (file, refl)
 read_of f.NoMemory e = absurd (cc (e))
 
-pub faulted_read : (fault : Fault) (trouble : Trouble) → trouble ≡ faulted fault → trouble ≡ t.Read → (file : ℕ) × (fault ≡ f.Read file)
+pub faulted_read : (fault : Fault) (trouble : Trouble) → trouble ≡ trouble_of_fault fault → trouble ≡ t.Read → (file : ℕ) × (fault ≡ f.Read file)
 faulted_read fault trouble is e = read_of fault (sym is ∙ e)
 
-calm_of : (fault : Fault) (before after : ℕ) → after ≡ before → IsCalmUnless before after (faulted fault)
+calm_of : (fault : Fault) (before after : ℕ) → after ≡ before → IsCalmUnless before after (trouble_of_fault fault)
 calm_of (f.Refused file line why) before after calm = calm
 calm_of (f.Read file) before after calm = calm
 calm_of f.NoMemory before after calm = calm
 
-pub faulted_calm : (fault : Fault) (trouble : Trouble) (before after : ℕ) → trouble ≡ faulted fault → after ≡ before → IsCalmUnless before after trouble
+pub faulted_calm : (fault : Fault) (trouble : Trouble) (before after : ℕ) → trouble ≡ trouble_of_fault fault → after ≡ before → IsCalmUnless before after trouble
 faulted_calm fault trouble before after is calm = subst (λ (t : Trouble). IsCalmUnless before after t) (sym is) (calm_of fault before after calm)
 
-pub halted_calm : (halt : Halt) (trouble : Trouble) (before between after : ℕ) → trouble ≡ halted halt → between ≡ before → HaltHasCause between after halt → IsCalmUnless before after trouble
+pub halted_calm : (halt : Halt) (trouble : Trouble) (before between after : ℕ) → trouble ≡ trouble_of_halt halt → between ≡ before → HaltHasCause between after halt → IsCalmUnless before after trouble
 halted_calm halt trouble before between after is same cause = subst (λ (t : Trouble). IsCalmUnless before after t) (sym is) (calm_but before between after halt same cause)
 
 pub same_trouble : {A : Type 0} (a b : Trouble) (r : Result A Trouble) → r ≡ Err a → r ≡ Err b → a ≡ b

@@ -13,37 +13,37 @@ use Rattle.dk_core.specs.History.{History}
 use Rattle.dk_core.specs.Standing.{SessionStandsFor, blocks_of}
 use Rattle.dk_core.specs.declared.session.Session.{Session}
 use Rattle.dk_words.specs.declared.command.Command.{Command}
-use Rattle.dk_run.specs.AllFiles.{AreReadTo, FilesTroubleGives, HasBrokenAt, placed}
-use Rattle.dk_run.specs.Commands.{generated_count, helds_of, names_of}
+use Rattle.dk_run.specs.AllFiles.{AreReadTo, FilesTroubleGives, HasBrokenAt, files_trouble}
+use Rattle.dk_run.specs.Commands.{file_names, generated_count, helds_of}
 use Rattle.dk_run.specs.Courses.{Outset, line_limit}
 use Rattle.dk_run.specs.Starts.{Begins}
-use Rattle.dk_run.specs.Files.{name_at}
-use Rattle.dk_run.specs.Reports.{capped}
+use Rattle.dk_run.specs.Files.{file_name_at}
+use Rattle.dk_presence.specs.Patterns.{capped}
 use Rattle.dk_run.specs.Statuses.{held_file_at, rest_behind}
-use Rattle.dk_run.specs.WholeFile.{ComesToEnd, FileGives, FileTroubleGives, HasFault, IsNoBreak, IsShort, TextGives, fresh}
+use Rattle.dk_run.specs.WholeFile.{ComesToEnd, FileGives, FileTroubleGives, HasFault, IsNoBreak, IsShort, TextGives, fresh_reading}
 use Rattle.dk_run.specs.declared.reading.Trouble.{Trouble}
 use Rattle.dk_run.specs.declared.reading.Trouble.TheVariants as t
 use Rattle.dk_run.proofs.Running.{read_none, read_on, refused_on, short_on, unread_on, unstarted_on}
 
 -- ---- places
-held_map : (file : List ℕ → HeldFile) (files : List (List ℕ)) (index : ℕ) → index < length files → held_file_at (map file files) index ≡ file (name_at files index)
+held_map : (file : List ℕ → HeldFile) (files : List (List ℕ)) (index : ℕ) → index < length files → held_file_at (map file files) index ≡ file (file_name_at files index)
 held_map file [] index h = absurd (omega arith)
 held_map file (f ∷ fs) zero h = refl
 held_map file (f ∷ fs) (suc index) h = held_map file fs index (omega arith)
 
 held_behind : (g : Option ℕ) (file : List ℕ → HeldFile) (files : List (List ℕ)) (index : ℕ) → index < length files
-    → held_file_at (option_map_or (λ n. Holds (generated_text n) ∷ map file files) g (map file files)) (option_map_or (λ n. 1) g 0 + index) ≡ file (name_at files index)
+    → held_file_at (option_map_or (λ n. Holds (generated_text n) ∷ map file files) g (map file files)) (option_map_or (λ n. 1) g 0 + index) ≡ file (file_name_at files index)
 held_behind None file files index h = let same : 0 + index ≡ index = omega arith in ap (held_file_at (map file files)) same ∙ held_map file files index h
 held_behind (Some n) file files index h = let same : 1 + index ≡ suc index = omega arith in ap (held_file_at (Holds (generated_text n) ∷ map file files)) same ∙ held_map file files index h
 
-pub held_named : (command : Command) (file : List ℕ → HeldFile) (index : ℕ) → index < length command.files → held_file_at (helds_of command file) (generated_count command + index) ≡ file (name_at command.files index)
+pub held_named : (command : Command) (file : List ℕ → HeldFile) (index : ℕ) → index < length command.files → held_file_at (helds_of command file) (generated_count command + index) ≡ file (file_name_at command.files index)
 held_named command file index h = held_behind command.generate file command.files index h
 
-name_behind : (g : Option ℕ) (files : List (List ℕ)) (index : ℕ) → name_at (option_map_or (λ n. generated_name ∷ files) g files) (option_map_or (λ n. 1) g 0 + index) ≡ name_at files index
-name_behind None files index = let same : 0 + index ≡ index = omega arith in ap (name_at files) same
-name_behind (Some n) files index = let same : 1 + index ≡ suc index = omega arith in ap (name_at (generated_name ∷ files)) same
+name_behind : (g : Option ℕ) (files : List (List ℕ)) (index : ℕ) → file_name_at (option_map_or (λ n. generated_name ∷ files) g files) (option_map_or (λ n. 1) g 0 + index) ≡ file_name_at files index
+name_behind None files index = let same : 0 + index ≡ index = omega arith in ap (file_name_at files) same
+name_behind (Some n) files index = let same : 1 + index ≡ suc index = omega arith in ap (file_name_at (generated_name ∷ files)) same
 
-pub name_named : (command : Command) (index : ℕ) → name_at (names_of command) (generated_count command + index) ≡ name_at command.files index
+pub name_named : (command : Command) (index : ℕ) → file_name_at (file_names command) (generated_count command + index) ≡ file_name_at command.files index
 name_named command index = name_behind command.generate command.files index
 
 helds_length_of : (g : Option ℕ) (file : List ℕ → HeldFile) (files : List (List ℕ)) → length (option_map_or (λ n. Holds (generated_text n) ∷ map file files) g (map file files)) ≡ option_map_or (λ n. 1) g 0 + length files
@@ -57,7 +57,7 @@ names_length_of : (g : Option ℕ) (files : List (List ℕ)) → length (option_
 names_length_of None files = omega arith
 names_length_of (Some n) files = omega arith
 
-pub names_length : (command : Command) → length (names_of command) ≡ generated_count command + length command.files
+pub names_length : (command : Command) → length (file_names command) ≡ generated_count command + length command.files
 names_length command = names_length_of command.generate command.files
 
 -- ---- named files
@@ -65,7 +65,7 @@ rest_next : (count index : ℕ) (before after : Option (List ℕ)) → after ≡
 rest_next count index before after e = let next : suc index ≡ count + index + 1 - count = omega arith in subst (λ (n : ℕ). after ≡ rest_behind n before) next e
 
 pub named_on : {F : Type 0} (command : Command) (file : List ℕ → HeldFile) (before mid after : Option (List ℕ)) (s next : Session F) (index : ℕ) (r last : Reading) (told text name : List ℕ)
-    → name ≡ name_at command.files index → index < length command.files → r.limits.line ≡ line_limit → file name ≢ Absent
+    → name ≡ file_name_at command.files index → index < length command.files → r.limits.line ≡ line_limit → file name ≢ Absent
     → AreReadTo command file before mid (SessionStandsFor s) (blocks_of s) (room_of r) (generated_count command + index) told
     → ((h : History) (n : ℕ) → SessionStandsFor s h → blocks_of s ≡ capped n → (xs : List ℕ) → file name ≡ Holds xs → FileGives command n h r xs text mid (Ok next) last after)
     → AreReadTo command file before after (SessionStandsFor next) (blocks_of next) (room_of last) (generated_count command + (index + 1)) (told ++ text)
@@ -78,11 +78,11 @@ named_on command file before mid after s next index r last told text name is wit
     (λ h n stands counts xs holds. gives h n stands counts xs (sym here ∙ holds)))
 
 pub named_trouble : {F : Type 0} (command : Command) (file : List ℕ → HeldFile) (before mid rest : Option (List ℕ)) (s : Session F) (index : ℕ) (r : Reading) (told text name : List ℕ) (trouble : Trouble)
-    → name ≡ name_at command.files index → index < length command.files → r.limits.line ≡ line_limit → ((trouble ≡ t.Start → ⊥) → file name ≢ Absent)
+    → name ≡ file_name_at command.files index → index < length command.files → r.limits.line ≡ line_limit → ((trouble ≡ t.Start → ⊥) → file name ≢ Absent)
     → (trouble ≡ t.Start → (text ≡ []) × (rest ≡ mid))
     → AreReadTo command file before mid (SessionStandsFor s) (blocks_of s) (room_of r) (generated_count command + index) told
     → ((h : History) (n : ℕ) → SessionStandsFor s h → blocks_of s ≡ capped n → (xs : List ℕ) → file name ≡ Holds xs → FileTroubleGives command n h r xs text mid trouble rest)
-    → FilesTroubleGives command file before (told ++ text) (placed (generated_count command + index) trouble) rest
+    → FilesTroubleGives command file before (told ++ text) (files_trouble (generated_count command + index) trouble) rest
 named_trouble command file before mid rest s index r told text name trouble is within limits there unstarted read gives =
     let here : held_file_at (helds_of command file) (generated_count command + index) ≡ file name = held_named command file index within ∙ ap file (sym is) in
     let below : generated_count command + index < length (helds_of command file) = omega (arith, helds_length command file) in
@@ -90,7 +90,7 @@ named_trouble command file before mid rest s index r told text name trouble is w
       go : (trouble : Trouble) → generated_count command + index < length (helds_of command file) → held_file_at (helds_of command file) (generated_count command + index) ≡ file name
           → ((trouble ≡ t.Start → ⊥) → file name ≢ Absent) → (trouble ≡ t.Start → (text ≡ []) × (rest ≡ mid))
           → ((h : History) (n : ℕ) → SessionStandsFor s h → blocks_of s ≡ capped n → (xs : List ℕ) → file name ≡ Holds xs → FileTroubleGives command n h r xs text mid trouble rest)
-          → FilesTroubleGives command file before (told ++ text) (placed (generated_count command + index) trouble) rest
+          → FilesTroubleGives command file before (told ++ text) (files_trouble (generated_count command + index) trouble) rest
       go (t.Refused line why) below here there unstarted gives = refused_on command file before mid (SessionStandsFor s) (blocks_of s) (generated_count command + index) line why r told text limits below
           (λ absent. there (λ e. cc (e)) (sym here ∙ absent)) read (λ h n stands counts xs holds. gives h n stands counts xs (sym here ∙ holds))
       go t.Start below here there unstarted gives = let e = unstarted refl in
@@ -112,9 +112,9 @@ pub rose_since : (a b c : ℕ) → a ≤ b → Rose b c → Rose a c
 rose_since a b c h r = rose_within a b c (2 ^ 64 - 1) h r
 
 pub named_cause : {A : Type 0} (command : Command) (file : List ℕ → HeldFile) (index : ℕ) (name : List ℕ) (r : Result A Trouble) (trouble : Trouble) (a b c : ℕ) → r ≡ Err trouble
-    → name ≡ name_at command.files index → index < length command.files → a ≤ b
+    → name ≡ file_name_at command.files index → index < length command.files → a ≤ b
     → (r ≢ Err t.Start → file name ≢ Absent) → (r ≡ Err t.Start → (file name ≡ Absent) ⊎ Rose b c) → (r ≡ Err t.Read → Rose b c)
-    → HasBrokenAt (helds_of command file) (Rose a c) (placed (generated_count command + index) trouble)
+    → HasBrokenAt (helds_of command file) (Rose a c) (files_trouble (generated_count command + index) trouble)
 named_cause command file index name r (t.Refused line why) a b c e is within h there start read = tt
 named_cause command file index name r t.Start a b c e is within h there start read = elim (start e) [
   | inl absent ↦ inl (held_named command file index within ∙ ap file (sym is) ∙ absent)
@@ -174,25 +174,25 @@ generated_on command file before s next r last n bytes text e is limits stands n
     subst (λ (k : ℕ). AreReadTo command file before before (SessionStandsFor next) (blocks_of next) (room_of last) k text) count
     (read_on command file before before before (Some []) (SessionStandsFor s) (SessionStandsFor next) (blocks_of s) (blocks_of next) 0 r last [] text limits (first_below command file n e) (first_there command file n e)
     (λ first end. ap (λ (k : ℕ). rest_behind k before) (sym rest)) (read_none command file before (SessionStandsFor s) (blocks_of s) (room_of r) stands none)
-    (λ h k stands counts xs holds. subst (λ (l : List ℕ). ComesToEnd command k h (fresh r) l text (SessionStandsFor next) (blocks_of next) last (Some [])) (first_text command file n bytes xs e is holds) (gives h k stands counts)))
+    (λ h k stands counts xs holds. subst (λ (l : List ℕ). ComesToEnd command k h (fresh_reading r) l text (SessionStandsFor next) (blocks_of next) last (Some [])) (first_text command file n bytes xs e is holds) (gives h k stands counts)))
 
 pub generated_trouble : {F : Type 0} (command : Command) (file : List ℕ → HeldFile) (before : Option (List ℕ)) (s : Session F) (r last : Reading) (n : ℕ) (bytes text : List ℕ) (trouble : Trouble)
     → command.generate ≡ Some n → bytes ≡ generated_text n → r.limits.line ≡ line_limit
     → ((start : Outset) → Begins command.resume file start → SessionStandsFor s start.history × (room_of r ≡ start.room)) → blocks_of s ≡ 0
     → IsNoBreak {A = Session F} (Err trouble)
     → ((h : History) (k : ℕ) → SessionStandsFor s h → blocks_of s ≡ capped k → TextGives {F = F} command k h r bytes text (Err trouble) last)
-    → FilesTroubleGives command file before text (placed 0 trouble) before
+    → FilesTroubleGives command file before text (files_trouble 0 trouble) before
 generated_trouble command file before s r last n bytes text (t.Refused line why) e is limits stands none steady gives =
     refused_on command file before before (SessionStandsFor s) (blocks_of s) 0 line why r [] text limits (first_below command file n e) (first_there command file n e) (read_none command file before (SessionStandsFor s) (blocks_of s) (room_of r) stands none)
-    (λ h k stands counts xs holds. subst (λ (l : List ℕ). HasFault command k h (fresh r) l text (record { line = line; why = why })) (first_text command file n bytes xs e is holds) (gives h k stands counts))
+    (λ h k stands counts xs holds. subst (λ (l : List ℕ). HasFault command k h (fresh_reading r) l text (record { line = line; why = why })) (first_text command file n bytes xs e is holds) (gives h k stands counts))
 generated_trouble command file before s r last n bytes text t.Start e is limits stands none steady gives = absurd steady
 generated_trouble command file before s r last n bytes text t.Read e is limits stands none steady gives = absurd steady
 generated_trouble command file before s r last n bytes text t.Write e is limits stands none steady gives =
     short_on command file before before (SessionStandsFor s) (blocks_of s) 0 r [] text limits (first_below command file n e) (first_there command file n e) (read_none command file before (SessionStandsFor s) (blocks_of s) (room_of r) stands none)
-    (λ h k stands counts xs holds. subst (λ (l : List ℕ). IsShort command k h (fresh r) l text) (first_text command file n bytes xs e is holds) (gives h k stands counts))
+    (λ h k stands counts xs holds. subst (λ (l : List ℕ). IsShort command k h (fresh_reading r) l text) (first_text command file n bytes xs e is holds) (gives h k stands counts))
 generated_trouble command file before s r last n bytes text t.NoMemory e is limits stands none steady gives =
     short_on command file before before (SessionStandsFor s) (blocks_of s) 0 r [] text limits (first_below command file n e) (first_there command file n e) (read_none command file before (SessionStandsFor s) (blocks_of s) (room_of r) stands none)
-    (λ h k stands counts xs holds. subst (λ (l : List ℕ). IsShort command k h (fresh r) l text) (first_text command file n bytes xs e is holds) (gives h k stands counts))
+    (λ h k stands counts xs holds. subst (λ (l : List ℕ). IsShort command k h (fresh_reading r) l text) (first_text command file n bytes xs e is holds) (gives h k stands counts))
 
 pub nothing_told : (command : Command) (file : List ℕ → HeldFile) (before rest : Option (List ℕ)) (Stands : History → Type 0) (blocks room count : ℕ) (told : List ℕ)
     → AreReadTo command file before rest Stands blocks room count told → AreReadTo command file before rest Stands blocks room (count + 0) (told ++ [])

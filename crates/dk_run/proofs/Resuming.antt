@@ -3,10 +3,10 @@ use Rattle.std.proofs.Common.{◌≡◌, ◌⊎◌, inl, inr, ◌+◌, ◌-◌, 
 use Rattle.dk_base.specs.Reading.{Line, LineFault, Reads, ◌>>=◌}
 use Rattle.dk_base.specs.declared.why.Why.{Why}
 use Rattle.dk_lines.specs.Left.{End, Over, Broken, LongLine, TooLong, Ends, Left, Next, Piece, is_long, is_over, lined, lined_by, pieces, size_of, without_cr}
-use Rattle.dk_core.specs.Blocks.{Group, Groups, Last, grouped, is_blank_line, onto_group, trimmed_line}
+use Rattle.dk_core.specs.Blocks.{Group, Groups, Last, groups_of, is_blank_line, onto_group, trimmed_line}
 use Rattle.dk_core.specs.History.{History, Taken, effect_of, file_ended}
 use Rattle.dk_core.specs.Reading.{after_last}
-use Rattle.dk_run.specs.Courses.{Course, Outset, course_of, course_of_file, course_of_files, course_of_groups, ends, goes_on, line_limit, onto, then_files}
+use Rattle.dk_run.specs.Courses.{Course, Outset, behind_histories, course_end, course_of, course_of_file, course_of_files, course_of_groups, goes_on, line_limit, then_files}
 use Rattle.dk_run.specs.Files.{File, FileFault}
 use Rattle.dk_run.specs.Laws.{ResumedRunsGoOn}
 
@@ -65,9 +65,9 @@ over_if : (blank : Bool) (l : Line) (gs : Groups) → GroupsOver gs → GroupsOv
 over_if true l gs over = over
 over_if false l gs over = over_onto (trimmed_line l) gs over
 
-groups_over : (left : Left) → AreOver left → GroupsOver (grouped left)
+groups_over : (left : Left) → AreOver left → GroupsOver (groups_of left)
 groups_over (Ends end) over = over
-groups_over (Next l rest) over = over_if (is_blank_line l) l (grouped rest) (groups_over rest over)
+groups_over (Next l rest) over = over_if (is_blank_line l) l (groups_of rest) (groups_over rest over)
 
 never : (n : ℕ) (why : Why) (r : Result Taken LineFault) (more : History → Course LineFault) (h : History) → (goes_on (r >>= λ _. Err (record { line = n; why = why })) more).end ≡ Ok h → ⊥
 never n why (Ok t) more h e = cc (e)
@@ -82,16 +82,16 @@ over_fails ignores read (Group ls close rest) h over e = go (read ls (Some close
   go (Err f) later e = cc (e)
 over_fails ignores read (Last ls (Over n)) h over e = absurd over
 over_fails ignores read (Last ls Broken) h over e = absurd over
-over_fails ignores read (Last ls (LongLine n)) h over e = never n _ (read ls None) (λ n. ends (Ok n)) h e
-over_fails ignores read (Last ls (TooLong n)) h over e = never n _ (read ls None) (λ n. ends (Ok n)) h e
+over_fails ignores read (Last ls (LongLine n)) h over e = never n _ (read ls None) (λ n. course_end (Ok n)) h e
+over_fails ignores read (Last ls (TooLong n)) h over e = never n _ (read ls None) (λ n. course_end (Ok n)) h e
 
 -- ---- files
-near_course : (ignores : Bool) (h a b : History) (left other : Left) → Near left other → (course_of_groups ignores (effect_of ignores h) (grouped left)).end ≡ Ok a
-    → (course_of_groups ignores (effect_of ignores h) (grouped other)).end ≡ Ok b → a ≡ b
+near_course : (ignores : Bool) (h a b : History) (left other : Left) → Near left other → (course_of_groups ignores (effect_of ignores h) (groups_of left)).end ≡ Ok a
+    → (course_of_groups ignores (effect_of ignores h) (groups_of other)).end ≡ Ok b → a ≡ b
 near_course ignores h a b left other (inl same) e f =
-    let both = sym e ∙ ap (λ (l : Left). (course_of_groups ignores (effect_of ignores h) (grouped l)).end) same ∙ f in cc (both)
-near_course ignores h a b left other (inr (inl over)) e f = absurd (over_fails ignores (effect_of ignores h) (grouped left) a (groups_over left over) e)
-near_course ignores h a b left other (inr (inr over)) e f = absurd (over_fails ignores (effect_of ignores h) (grouped other) b (groups_over other over) f)
+    let both = sym e ∙ ap (λ (l : Left). (course_of_groups ignores (effect_of ignores h) (groups_of l)).end) same ∙ f in cc (both)
+near_course ignores h a b left other (inr (inl over)) e f = absurd (over_fails ignores (effect_of ignores h) (groups_of left) a (groups_over left over) e)
+near_course ignores h a b left other (inr (inr over)) e f = absurd (over_fails ignores (effect_of ignores h) (groups_of other) b (groups_over other over) f)
 
 -- a file comes to one history, however many bytes may come
 same_file : (ignores : Bool) (room other : ℕ) (h a b : History) (file : File) → (course_of_file ignores room h file).end ≡ Ok a → (course_of_file ignores other h file).end ≡ Ok b → a ≡ b

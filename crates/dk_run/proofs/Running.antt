@@ -12,20 +12,21 @@ use Rattle.dk_io.specs.Outside.{HeldFile, Absent, Holds, Rose}
 use Rattle.dk_lines.proofs.Lined.{at_break}
 use Rattle.dk_lines.specs.Left.{Broken, Left, lined}
 use Rattle.dk_lines.specs.Reading.{Reading, room_of}
-use Rattle.dk_core.specs.Blocks.{Last, grouped}
+use Rattle.dk_core.specs.Blocks.{Last, groups_of}
 use Rattle.dk_core.specs.History.{History, effect_of, file_ended}
 use Rattle.dk_core.specs.Standing.{SessionStandsFor, blocks_of}
 use Rattle.dk_core.specs.Steps.{groups_left}
 use Rattle.dk_core.specs.declared.session.Session.{Session}
 use Rattle.dk_words.specs.declared.command.Command.{Command}
-use Rattle.dk_run.specs.AllFiles.{AreReadTo, FilesTroubleGives, HasBrokenAt, IsRefusedAt, IsShortTo, IsUnreadAt, RunsOn, placed}
-use Rattle.dk_run.specs.Commands.{generated_count, helds_of, names_of}
-use Rattle.dk_run.specs.Courses.{Course, Outset, course_of, course_of_file, course_of_files, ends, fault_in, first_fault, goes_on, line_limit, onto, then_files}
+use Rattle.dk_run.specs.AllFiles.{AreReadTo, FilesTroubleGives, HasBrokenAt, IsRefusedAt, IsShortTo, IsUnreadAt, RunsOn, files_trouble}
+use Rattle.dk_run.specs.Commands.{file_names, generated_count, helds_of}
+use Rattle.dk_run.specs.Courses.{Course, Outset, behind_histories, course_end, course_of, course_of_file, course_of_files, fault_in, first_fault, goes_on, line_limit, then_files}
 use Rattle.dk_run.specs.Starts.{Begins}
-use Rattle.dk_run.specs.Files.{AreHeldFiles, File, FileFault, cut_off, name_at, whole}
-use Rattle.dk_run.specs.Reports.{capped, due_from, due_reports}
+use Rattle.dk_run.specs.Files.{AreHeldFiles, File, FileFault, cut_file, ended_file, file_name_at}
+use Rattle.dk_presence.specs.Patterns.{capped}
+use Rattle.dk_run.specs.Reports.{due_from, due_reports}
 use Rattle.dk_run.specs.Statuses.{AreCleanBehind, AtStart, Break, HasBroken, IsDelivered, Within, held_file_at, rest_behind}
-use Rattle.dk_run.specs.WholeFile.{ComesToEnd, FileTroubleGives, HasFault, IsBroken, IsCalmUnless, IsShort, course_behind, fresh}
+use Rattle.dk_run.specs.WholeFile.{ComesToEnd, FileTroubleGives, HasFault, IsBroken, IsCalmUnless, IsShort, course_behind, fresh_reading}
 use Rattle.dk_run.specs.declared.reading.Trouble.{Trouble}
 use Rattle.dk_run.specs.declared.reading.Trouble.TheVariants as t
 use Rattle.dk_run.proofs.Courses.{no_lines, onto_more}
@@ -56,41 +57,41 @@ one_more helds contents k h held =
     let next : k + 1 ≡ suc k = omega arith in
     one_more_suc helds contents k h (subst (λ (n : ℕ). AreHeldFiles (take n helds) contents) next held)
 
-files_of : (front : List (List ℕ)) (x : List ℕ) (fs : List File) → map whole (front ++ x ∷ []) ++ fs ≡ map whole front ++ (whole x ∷ fs)
+files_of : (front : List (List ℕ)) (x : List ℕ) (fs : List File) → map ended_file (front ++ x ∷ []) ++ fs ≡ map ended_file front ++ (ended_file x ∷ fs)
 files_of [] x fs = refl
-files_of (c ∷ cs) x fs = ap (λ (l : List File). whole c ∷ l) (files_of cs x fs)
+files_of (c ∷ cs) x fs = ap (λ (l : List File). ended_file c ∷ l) (files_of cs x fs)
 
 -- ---- the course over one file more
 -- the groups of a started file are those of its bytes
 started_file : (ignores : Bool) (r : Reading) (h : History) (is_ended : Bool) (xs : List ℕ) → r.limits.line ≡ line_limit
-    → course_of_file ignores (room_of r) h (record { bytes = xs; is_ended = is_ended }) ≡ course_behind ignores h (groups_left false (fresh r) is_ended xs)
-started_file ignores r h is_ended xs limits = ap (λ (l : ℕ). course_behind ignores h (grouped (lined l (room_of r) 0 is_ended xs))) (sym limits)
+    → course_of_file ignores (room_of r) h (record { bytes = xs; is_ended = is_ended }) ≡ course_behind ignores h (groups_left false (fresh_reading r) is_ended xs)
+started_file ignores r h is_ended xs limits = ap (λ (l : ℕ). course_behind ignores h (groups_of (lined l (room_of r) 0 is_ended xs))) (sym limits)
 
 abbrev then_course : ℕ → Course LineFault → (History → Course FileFault) → Course FileFault
-then_course place c more = onto c.after (then_files place c.end more)
+then_course place c more = behind_histories c.after (then_files place c.end more)
 
 -- the run goes on behind a file
-course_more : (ignores : Bool) (r last : Reading) (h next : History) (after : List History) (place : ℕ) (xs : List ℕ) (fs : List File) → r.limits.line ≡ line_limit → room_of last ≡ room_of (fresh r) - length xs
-    → course_behind ignores h (groups_left false (fresh r) true xs) ≡ record { after = after; end = Ok next }
-    → course_of_files ignores (room_of r) h place (whole xs ∷ fs) ≡ onto after (course_of_files ignores (room_of last) (file_ended next) (place + 1) fs)
+course_more : (ignores : Bool) (r last : Reading) (h next : History) (after : List History) (place : ℕ) (xs : List ℕ) (fs : List File) → r.limits.line ≡ line_limit → room_of last ≡ room_of (fresh_reading r) - length xs
+    → course_behind ignores h (groups_left false (fresh_reading r) true xs) ≡ record { after = after; end = Ok next }
+    → course_of_files ignores (room_of r) h place (ended_file xs ∷ fs) ≡ behind_histories after (course_of_files ignores (room_of last) (file_ended next) (place + 1) fs)
 course_more ignores r last h next after place xs fs limits room all =
     ap (λ (c : Course LineFault). then_course place c (λ n. course_of_files ignores (room_of r - length xs) (file_ended n) (place + 1) fs)) (started_file ignores r h true xs limits ∙ all)
-    ∙ ap (λ (m : ℕ). onto after (course_of_files ignores m (file_ended next) (place + 1) fs)) (sym room)
+    ∙ ap (λ (m : ℕ). behind_histories after (course_of_files ignores m (file_ended next) (place + 1) fs)) (sym room)
 
 -- the run ends with a file's fault
 course_refused : (ignores : Bool) (r : Reading) (h : History) (after : List History) (place : ℕ) (xs : List ℕ) (fs : List File) (fault : LineFault) → r.limits.line ≡ line_limit
-    → course_behind ignores h (groups_left false (fresh r) true xs) ≡ record { after = after; end = Err fault }
-    → course_of_files ignores (room_of r) h place (whole xs ∷ fs) ≡ record { after = after; end = Err (record { file = place; line = fault.line; why = fault.why }) }
+    → course_behind ignores h (groups_left false (fresh_reading r) true xs) ≡ record { after = after; end = Err fault }
+    → course_of_files ignores (room_of r) h place (ended_file xs ∷ fs) ≡ record { after = after; end = Err (record { file = place; line = fault.line; why = fault.why }) }
 course_refused ignores r h after place xs fs fault limits all =
     ap (λ (c : Course LineFault). then_course place c (λ n. course_of_files ignores (room_of r - length xs) (file_ended n) (place + 1) fs)) (started_file ignores r h true xs limits ∙ all)
     ∙ ap (λ (l : List History). record { after = l; end = Err (record { file = place; line = fault.line; why = fault.why }) }) (append-nil after)
 
 -- the run up to a part of a file
 course_part : (ignores : Bool) (r : Reading) (h next : History) (after : List History) (place : ℕ) (is_ended : Bool) (xs : List ℕ) → r.limits.line ≡ line_limit
-    → course_behind ignores h (groups_left false (fresh r) is_ended xs) ≡ record { after = after; end = Ok next }
+    → course_behind ignores h (groups_left false (fresh_reading r) is_ended xs) ≡ record { after = after; end = Ok next }
     → course_of_files ignores (room_of r) h place (record { bytes = xs; is_ended = is_ended } ∷ []) ≡ record { after = after; end = Ok (file_ended next) }
 course_part ignores r h next after place is_ended xs limits all =
-    ap (λ (c : Course LineFault). then_course place c (λ n. ends (Ok (file_ended n)))) (started_file ignores r h is_ended xs limits ∙ all)
+    ap (λ (c : Course LineFault). then_course place c (λ n. course_end (Ok (file_ended n)))) (started_file ignores r h is_ended xs limits ∙ all)
     ∙ ap (λ (l : List History). record { after = l; end = Ok (file_ended next) }) (append-nil after)
 
 -- ---- reading on
@@ -102,17 +103,17 @@ there_more helds place below here k h = elim (cases_lt k place) [
 
 -- what the run over the files so far comes to
 pub alone : (start : Outset) (command : Command) (before rest : Option (List ℕ)) (Stands : History → Type 0) (blocks room place : ℕ) (text : List ℕ) (contents : List (List ℕ))
-    → (on : RunsOn start command before rest Stands blocks room place text contents) → course_of start command.ignore_missing_entry (map whole contents) ≡ record { after = on.after; end = Ok on.history }
+    → (on : RunsOn start command before rest Stands blocks room place text contents) → course_of start command.ignore_missing_entry (map ended_file contents) ≡ record { after = on.after; end = Ok on.history }
 alone start command before rest Stands blocks room place text contents on =
-    ap (course_of start command.ignore_missing_entry) (sym (append-nil (map whole contents))) ∙ on.goes [] ∙ ap (λ (l : List History). record { after = l; end = Ok on.history }) (append-nil on.after)
+    ap (course_of start command.ignore_missing_entry) (sym (append-nil (map ended_file contents))) ∙ on.goes [] ∙ ap (λ (l : List History). record { after = l; end = Ok on.history }) (append-nil on.after)
 
 pub alone_clean : (start : Outset) (command : Command) (before rest : Option (List ℕ)) (Stands : History → Type 0) (blocks room place : ℕ) (text : List ℕ) (contents : List (List ℕ))
-    → RunsOn start command before rest Stands blocks room place text contents → first_fault start command.ignore_missing_entry (map whole contents) ≡ None
+    → RunsOn start command before rest Stands blocks room place text contents → first_fault start command.ignore_missing_entry (map ended_file contents) ≡ None
 alone_clean start command before rest Stands blocks room place text contents on =
     ap (λ (c : Course FileFault). fault_in c.end) (alone start command before rest Stands blocks room place text contents on)
 
 clean_more : (start : Outset) (ignores : Bool) (helds : List HeldFile) (place : ℕ) → AreCleanBehind start ignores helds place
-    → ((contents : List (List ℕ)) → AreHeldFiles (take (place + 1) helds) contents → first_fault start ignores (map whole contents) ≡ None) → AreCleanBehind start ignores helds (place + 1)
+    → ((contents : List (List ℕ)) → AreHeldFiles (take (place + 1) helds) contents → first_fault start ignores (map ended_file contents) ≡ None) → AreCleanBehind start ignores helds (place + 1)
 clean_more start ignores helds place clean here k contents h held = elim (cases_lt place k) [
   | inl more ↦ let same : k ≡ place + 1 = omega (arith, more, h) in here contents (subst (λ (n : ℕ). AreHeldFiles (take n helds) contents) same held)
   | inr less ↦ clean k contents less held
@@ -123,7 +124,7 @@ runs_on : (start : Outset) (command : Command) (helds : List HeldFile) (before m
     → r.limits.line ≡ line_limit → place < length helds
     → ((mid ≡ rest_behind (place - generated_count command) before) → left ≡ Some [] → after ≡ rest_behind (place + 1 - generated_count command) before)
     → ((contents : List (List ℕ)) → AreHeldFiles (take place helds) contents → RunsOn start command before mid Stands blocks (room_of r) place told contents)
-    → ((h : History) (n : ℕ) → Stands h → blocks ≡ capped n → (xs : List ℕ) → held_file_at helds place ≡ Holds xs → ComesToEnd command n h (fresh r) xs text Next more last left)
+    → ((h : History) (n : ℕ) → Stands h → blocks ≡ capped n → (xs : List ℕ) → held_file_at helds place ≡ Holds xs → ComesToEnd command n h (fresh_reading r) xs text Next more last left)
     → AreHeldFiles (take (place + 1) helds) contents → RunsOn start command before after Next more (room_of last) (place + 1) (told ++ text) contents
 runs_on start command helds before mid after left Stands Next blocks more place r last told text contents limits within rest runs gives held =
     let m = one_more helds contents place within held in
@@ -138,10 +139,10 @@ runs_on start command helds before mid after left Stands Next blocks more place 
       told = ap (λ (l : List ℕ). l ++ text) on.told ∙ ap (λ (l : List ℕ). due_reports command on.after ++ l) (e.told ∙ ap (λ (n : ℕ). due_from command n e.after) number) ∙ sym (due_append command 1 on.after e.after);
       rest_is = rest on.rest_is e.nothing_left;
       goes = λ fs.
-          ap (λ (cs : List (List ℕ)). course_of start command.ignore_missing_entry (map whole cs ++ fs)) m.split
+          ap (λ (cs : List (List ℕ)). course_of start command.ignore_missing_entry (map ended_file cs ++ fs)) m.split
           ∙ ap (course_of start command.ignore_missing_entry) (files_of m.front m.bytes fs)
-          ∙ on.goes (whole m.bytes ∷ fs)
-          ∙ ap (onto on.after) (course_more command.ignore_missing_entry r last on.history e.next e.after place m.bytes fs limits e.room e.all)
+          ∙ on.goes (ended_file m.bytes ∷ fs)
+          ∙ ap (behind_histories on.after) (course_more command.ignore_missing_entry r last on.history e.next e.after place m.bytes fs limits e.room e.all)
           ∙ onto_more on.after e.after (course_of_files command.ignore_missing_entry (room_of last) (file_ended e.next) (place + 1) fs);
     }
 
@@ -149,7 +150,7 @@ pub read_on : (command : Command) (file : List ℕ → HeldFile) (before mid aft
     → r.limits.line ≡ line_limit → place < length (helds_of command file) → held_file_at (helds_of command file) place ≢ Absent
     → ((mid ≡ rest_behind (place - generated_count command) before) → left ≡ Some [] → after ≡ rest_behind (place + 1 - generated_count command) before)
     → AreReadTo command file before mid Stands blocks (room_of r) place told
-    → ((h : History) (n : ℕ) → Stands h → blocks ≡ capped n → (xs : List ℕ) → held_file_at (helds_of command file) place ≡ Holds xs → ComesToEnd command n h (fresh r) xs text Next more last left)
+    → ((h : History) (n : ℕ) → Stands h → blocks ≡ capped n → (xs : List ℕ) → held_file_at (helds_of command file) place ≡ Holds xs → ComesToEnd command n h (fresh_reading r) xs text Next more last left)
     → AreReadTo command file before after Next more (room_of last) (place + 1) (told ++ text)
 read_on command file before mid after left Stands Next blocks more place r last told text limits within there rest read gives =
     let runs = λ (start : Outset) (begins : Begins command.resume file start) (contents : List (List ℕ)) (held : AreHeldFiles (take (place + 1) (helds_of command file)) contents).
@@ -165,7 +166,7 @@ read_on command file before mid after left Stands Next blocks more place r last 
 pub refused_on : (command : Command) (file : List ℕ → HeldFile) (before mid : Option (List ℕ)) (Stands : History → Type 0) (blocks place line : ℕ) (why : Why) (r : Reading) (told text : List ℕ)
     → r.limits.line ≡ line_limit → place < length (helds_of command file) → held_file_at (helds_of command file) place ≢ Absent
     → AreReadTo command file before mid Stands blocks (room_of r) place told
-    → ((h : History) (n : ℕ) → Stands h → blocks ≡ capped n → (xs : List ℕ) → held_file_at (helds_of command file) place ≡ Holds xs → HasFault command n h (fresh r) xs text (record { line = line; why = why }))
+    → ((h : History) (n : ℕ) → Stands h → blocks ≡ capped n → (xs : List ℕ) → held_file_at (helds_of command file) place ≡ Holds xs → HasFault command n h (fresh_reading r) xs text (record { line = line; why = why }))
     → IsRefusedAt command file (told ++ text) place line why
 refused_on command file before mid Stands blocks place line why r told text limits within there read gives = record {
   named = within;
@@ -178,10 +179,10 @@ refused_on command file before mid Stands blocks place line why r told text limi
       let number : length on.after + 1 ≡ 1 + length on.after = omega arith in (
         on.after ++ e.after,
         ap (λ (l : List ℕ). l ++ text) on.told ∙ ap (λ (l : List ℕ). due_reports command on.after ++ l) (e.told ∙ ap (λ (n : ℕ). due_from command n e.after) number) ∙ sym (due_append command 1 on.after e.after),
-        ap (λ (cs : List (List ℕ)). course_of start command.ignore_missing_entry (map whole cs)) m.split
-            ∙ ap (course_of start command.ignore_missing_entry) (sym (append-nil (map whole (m.front ++ m.bytes ∷ []))) ∙ files_of m.front m.bytes [])
-            ∙ on.goes (whole m.bytes ∷ [])
-            ∙ ap (onto on.after) (course_refused command.ignore_missing_entry r on.history e.after place m.bytes [] (record { line = line; why = why }) limits e.all),
+        ap (λ (cs : List (List ℕ)). course_of start command.ignore_missing_entry (map ended_file cs)) m.split
+            ∙ ap (course_of start command.ignore_missing_entry) (sym (append-nil (map ended_file (m.front ++ m.bytes ∷ []))) ∙ files_of m.front m.bytes [])
+            ∙ on.goes (ended_file m.bytes ∷ [])
+            ∙ ap (behind_histories on.after) (course_refused command.ignore_missing_entry r on.history e.after place m.bytes [] (record { line = line; why = why }) limits e.all),
       );
 }
 
@@ -189,11 +190,11 @@ refused_on command file before mid Stands blocks place line why r told text limi
 part_fine : (start : Outset) (command : Command) (before mid : Option (List ℕ)) (Stands : History → Type 0) (blocks place : ℕ) (r : Reading) (told text : List ℕ) (contents : List (List ℕ)) (is_ended : Bool) (xs : List ℕ) (after : List History) (next : History)
     → r.limits.line ≡ line_limit → (on : RunsOn start command before mid Stands blocks (room_of r) place told contents)
     → text ≡ due_from command (length on.after + 1) after
-    → course_behind command.ignore_missing_entry on.history (groups_left false (fresh r) is_ended xs) ≡ record { after = after; end = Ok next }
-    → (first_fault start command.ignore_missing_entry (map whole contents ++ record { bytes = xs; is_ended = is_ended } ∷ []) ≡ None)
-    × (told ++ text ≡ due_reports command (course_of start command.ignore_missing_entry (map whole contents ++ record { bytes = xs; is_ended = is_ended } ∷ [])).after)
+    → course_behind command.ignore_missing_entry on.history (groups_left false (fresh_reading r) is_ended xs) ≡ record { after = after; end = Ok next }
+    → (first_fault start command.ignore_missing_entry (map ended_file contents ++ record { bytes = xs; is_ended = is_ended } ∷ []) ≡ None)
+    × (told ++ text ≡ due_reports command (course_of start command.ignore_missing_entry (map ended_file contents ++ record { bytes = xs; is_ended = is_ended } ∷ [])).after)
 part_fine start command before mid Stands blocks place r told text contents is_ended xs after next limits on due all =
-    let course = on.goes (record { bytes = xs; is_ended = is_ended } ∷ []) ∙ ap (onto on.after) (course_part command.ignore_missing_entry r on.history next after place is_ended xs limits all) in
+    let course = on.goes (record { bytes = xs; is_ended = is_ended } ∷ []) ∙ ap (behind_histories on.after) (course_part command.ignore_missing_entry r on.history next after place is_ended xs limits all) in
     let number : length on.after + 1 ≡ 1 + length on.after = omega arith in (
       ap (λ (c : Course FileFault). fault_in c.end) course,
       ap (λ (l : List ℕ). l ++ text) on.told ∙ ap (λ (l : List ℕ). due_reports command on.after ++ l) (due ∙ ap (λ (n : ℕ). due_from command n after) number) ∙ sym (due_append command 1 on.after after)
@@ -223,7 +224,7 @@ unstarted_on command file before mid rest Stands blocks place r told text behind
 pub unread_on : (command : Command) (file : List ℕ → HeldFile) (before mid rest : Option (List ℕ)) (Stands : History → Type 0) (blocks place : ℕ) (r : Reading) (told text : List ℕ)
     → r.limits.line ≡ line_limit → generated_count command ≤ place → place < length (helds_of command file)
     → AreReadTo command file before mid Stands blocks (room_of r) place told
-    → ((h : History) (n : ℕ) → Stands h → blocks ≡ capped n → (xs : List ℕ) → held_file_at (helds_of command file) place ≡ Holds xs → IsBroken command n h (fresh r) xs text rest)
+    → ((h : History) (n : ℕ) → Stands h → blocks ≡ capped n → (xs : List ℕ) → held_file_at (helds_of command file) place ≡ Holds xs → IsBroken command n h (fresh_reading r) xs text rest)
     → IsUnreadAt Within command file before rest (told ++ text) place
 unread_on command file before mid rest Stands blocks place r told text limits behind within read gives = record {
   behind = behind;
@@ -241,7 +242,7 @@ unread_on command file before mid rest Stands blocks place r told text limits be
 pub short_on : (command : Command) (file : List ℕ → HeldFile) (before mid : Option (List ℕ)) (Stands : History → Type 0) (blocks place : ℕ) (r : Reading) (told text : List ℕ)
     → r.limits.line ≡ line_limit → place < length (helds_of command file) → held_file_at (helds_of command file) place ≢ Absent
     → AreReadTo command file before mid Stands blocks (room_of r) place told
-    → ((h : History) (n : ℕ) → Stands h → blocks ≡ capped n → (xs : List ℕ) → held_file_at (helds_of command file) place ≡ Holds xs → IsShort command n h (fresh r) xs text)
+    → ((h : History) (n : ℕ) → Stands h → blocks ≡ capped n → (xs : List ℕ) → held_file_at (helds_of command file) place ≡ Holds xs → IsShort command n h (fresh_reading r) xs text)
     → IsShortTo command file (told ++ text)
 short_on command file before mid Stands blocks place r told text limits within there read gives = record {
   place = place + 1;
@@ -252,15 +253,15 @@ short_on command file before mid Stands blocks place r told text limits within t
       let e = gives on.history (length on.after) on.stands on.counts m.bytes m.there in
       let ignores = command.ignore_missing_entry in
       let number : length on.after + 1 ≡ 1 + length on.after = omega arith in
-      let behind = (then_files place (course_of_file ignores (room_of r) on.history (whole m.bytes)).end (λ n. course_of_files ignores (room_of r - length m.bytes) (file_ended n) (place + 1) fs)).after in
-      let here : (course_of_file ignores (room_of r) on.history (whole m.bytes)).after ≡ e.after ++ e.more = ap (λ (c : Course LineFault). c.after) (started_file ignores r on.history true m.bytes limits) ∙ e.all in
-      let course : (course_of start ignores (map whole contents ++ fs)).after ≡ on.after ++ (e.after ++ (e.more ++ behind)) =
-      ap (λ (cs : List (List ℕ)). (course_of start ignores (map whole cs ++ fs)).after) m.split
+      let behind = (then_files place (course_of_file ignores (room_of r) on.history (ended_file m.bytes)).end (λ n. course_of_files ignores (room_of r - length m.bytes) (file_ended n) (place + 1) fs)).after in
+      let here : (course_of_file ignores (room_of r) on.history (ended_file m.bytes)).after ≡ e.after ++ e.more = ap (λ (c : Course LineFault). c.after) (started_file ignores r on.history true m.bytes limits) ∙ e.all in
+      let course : (course_of start ignores (map ended_file contents ++ fs)).after ≡ on.after ++ (e.after ++ (e.more ++ behind)) =
+      ap (λ (cs : List (List ℕ)). (course_of start ignores (map ended_file cs ++ fs)).after) m.split
       ∙ ap (λ (l : List File). (course_of start ignores l).after) (files_of m.front m.bytes fs)
-      ∙ ap (λ (c : Course FileFault). c.after) (on.goes (whole m.bytes ∷ fs))
+      ∙ ap (λ (c : Course FileFault). c.after) (on.goes (ended_file m.bytes ∷ fs))
       ∙ ap (λ (l : List History). on.after ++ (l ++ behind)) here
       ∙ ap (λ (l : List History). on.after ++ l) (append_assoc e.after e.more behind) in
-      let due : due_reports command (course_of start ignores (map whole contents ++ fs)).after
+      let due : due_reports command (course_of start ignores (map ended_file contents ++ fs)).after
       ≡ due_reports command on.after ++ (due_from command (1 + length on.after) e.after ++ due_from command (1 + length on.after + length e.after) (e.more ++ behind)) =
       ap (due_reports command) course ∙ due_append command 1 on.after (e.after ++ (e.more ++ behind))
       ∙ ap (λ (l : List ℕ). due_reports command on.after ++ l) (due_append command (1 + length on.after) e.after (e.more ++ behind)) in
@@ -285,7 +286,7 @@ read_none command file before Stands blocks room stands none = record {
   clean = λ start begins k contents h held. nothing_clean start k contents h held;
   runs = λ start begins contents held. nothing_read start (stands start begins) contents held;
 } where
-  nothing_clean : (start : Outset) (k : ℕ) (contents : List (List ℕ)) → k ≤ 0 → AreHeldFiles (take k (helds_of command file)) contents → first_fault start command.ignore_missing_entry (map whole contents) ≡ None
+  nothing_clean : (start : Outset) (k : ℕ) (contents : List (List ℕ)) → k ≤ 0 → AreHeldFiles (take k (helds_of command file)) contents → first_fault start command.ignore_missing_entry (map ended_file contents) ≡ None
   nothing_clean start zero [] h held = refl
   nothing_clean start zero (c ∷ cs) h held = absurd (cc (held))
   nothing_clean start (suc k) contents h held = absurd (omega arith)

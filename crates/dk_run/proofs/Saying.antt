@@ -19,16 +19,16 @@ use Rattle.dk_words.specs.declared.command.Command.{Command}
 use Rattle.dk_words.specs.declared.request.Request.{Request}
 use Rattle.dk_words.specs.declared.request.Request.TheVariants.{Run, Help, Version}
 use Rattle.dk_run.specs.AllFiles.{AreCalmUnless, AreReadTo, FilesGive, FilesTroubleGives, HasBrokenAt, IsRefusedAt, IsShortTo, IsTroubleOf, IsUnreadAt, RunGives}
-use Rattle.dk_run.specs.Commands.{generated_count, helds_of, names_of}
+use Rattle.dk_run.specs.Commands.{file_names, generated_count, helds_of}
 use Rattle.dk_run.specs.declared.starting.Beginning.{Beginning}
 use Rattle.dk_run.specs.Beginning.{HasCome, IsLeft, StartTroubleGives, StateTroubleGives, state_name}
 use Rattle.dk_run.specs.Courses.{Course, Outset, course_of, fault_in}
 use Rattle.dk_run.specs.Starts.{Begins, HasBegun}
 use Rattle.dk_run.specs.Ending.{EndsBy, EndsUnbegun, EndsWith, status_of}
-use Rattle.dk_run.specs.Files.{AreHeldFiles, File, FileFault, name_at, whole}
+use Rattle.dk_run.specs.Files.{AreHeldFiles, File, FileFault, ended_file, file_name_at}
 use Rattle.dk_print.specs.Sections.{end_line, fault_line}
 use Rattle.dk_run.specs.Messages.{unread_line}
-use Rattle.dk_run.specs.Outputs.{IsFront, Output, first_line, followed, only_on, output_along, output_of, saved, unread_output, usage_output}
+use Rattle.dk_run.specs.Outputs.{IsFront, Output, first_line, only_on, output_along, output_of, saved_state, texts_followed_by, unread_output, usage_output}
 use Rattle.dk_run.specs.Reports.{due_reports, whole_report}
 use Rattle.dk_run.specs.Statuses.{AreRead, AtStart, Break, ComesTo, FollowedByFront, HasBroken, IsCutShort, IsDone, IsRefused, IsStateRefused, IsStateUnread, IsUnread, OutputIsWritten, Outside, Says, StateUnreadGives, Within, held_file_at, rest_behind}
 use Rattle.dk_run.specs.Telling.{Added, CutOff, CutsText, HaltHasCause, StateCut, StateTold, ToldWhole}
@@ -53,17 +53,17 @@ so_far line report = record { report = report; messages = line; state = [] }
 abbrev with_state : List ℕ → List ℕ → List ℕ → Output
 with_state line report state = record { report = report; messages = line; state = state }
 
-followed_state : (old : Texts) (line report state : List ℕ) → with_bytes (with_bytes (with_bytes old Messages line) Report report) State state ≡ followed old (with_state line report state)
+followed_state : (old : Texts) (line report state : List ℕ) → with_bytes (with_bytes (with_bytes old Messages line) Report report) State state ≡ texts_followed_by old (with_state line report state)
 followed_state old line report state = refl
 
-followed_first : (old : Texts) (line report : List ℕ) → with_bytes (with_bytes old Messages line) Report report ≡ followed old (so_far line report)
+followed_first : (old : Texts) (line report : List ℕ) → with_bytes (with_bytes old Messages line) Report report ≡ texts_followed_by old (so_far line report)
 followed_first old line report = ap (λ (k : Option (List ℕ)). record { report = append_known old.report report; messages = append_known old.messages line; state = k }) (sym (known_nothing old.state))
 
-messages_behind : (old : Texts) (line report text : List ℕ) → with_bytes (with_bytes (with_bytes old Messages line) Report report) Messages text ≡ followed old (so_far (line ++ text) report)
+messages_behind : (old : Texts) (line report text : List ℕ) → with_bytes (with_bytes (with_bytes old Messages line) Report report) Messages text ≡ texts_followed_by old (so_far (line ++ text) report)
 messages_behind old line report text =
     ap (λ (t : Texts). record t { report = append_known old.report report }) (added_more old Messages line text) ∙ followed_first old (line ++ text) report
 
-followed_only : (old : Texts) (stream : Stream) (text : List ℕ) → with_bytes old stream text ≡ followed old (only_on stream text)
+followed_only : (old : Texts) (stream : Stream) (text : List ℕ) → with_bytes old stream text ≡ texts_followed_by old (only_on stream text)
 followed_only old Report text = let m = known_nothing old.messages in let s = known_nothing old.state in cc
 followed_only old Messages text = let r = known_nothing old.report in let s = known_nothing old.state in cc
 followed_only old State text = let r = known_nothing old.report in let m = known_nothing old.messages in cc
@@ -156,12 +156,12 @@ front_there helds n there = all_there (take n helds) (λ k below. here k (omega 
   here : (k : ℕ) → k < n → held_file_at (take n helds) k ≢ Absent
   here k below = subst (λ (held : HeldFile). held ≢ Absent) (sym (held-take helds n k below)) (there k below)
 
-pub same_length : (command : Command) (file : List ℕ → HeldFile) → length (names_of command) ≡ length (helds_of command file)
+pub same_length : (command : Command) (file : List ℕ → HeldFile) → length (file_names command) ≡ length (helds_of command file)
 same_length command file = names_length command ∙ sym (helds_length command file)
 
-held_all : (command : Command) (file : List ℕ → HeldFile) (contents : List (List ℕ)) → AreHeldFiles (helds_of command file) contents → AreHeldFiles (take (length (names_of command)) (helds_of command file)) contents
+held_all : (command : Command) (file : List ℕ → HeldFile) (contents : List (List ℕ)) → AreHeldFiles (helds_of command file) contents → AreHeldFiles (take (length (file_names command)) (helds_of command file)) contents
 held_all command file contents held =
-    subst (λ (l : List HeldFile). AreHeldFiles l contents) (sym (take_all (length (names_of command)) (helds_of command file) (omega (arith, same_length command file)))) held
+    subst (λ (l : List HeldFile). AreHeldFiles l contents) (sym (take_all (length (file_names command)) (helds_of command file) (omega (arith, same_length command file)))) held
 
 -- The run has begun, and this is left of the inputs then.
 pub record Begun (command : Command) (before : Outside) (rest : Option (List ℕ)) : Type 0 where
@@ -170,13 +170,13 @@ pub record Begun (command : Command) (before : Outside) (rest : Option (List ℕ
 
 -- all files were read
 are_read : (command : Command) (before after : Outside) (rest : Option (List ℕ)) (Stands : History → Type 0) (blocks room : ℕ) (text : List ℕ) → Begun command before rest
-    → AreReadTo command before.file rest after.rest Stands blocks room (length (names_of command)) text → AreRead command before after
+    → AreReadTo command before.file rest after.rest Stands blocks room (length (file_names command)) text → AreRead command before after
 are_read command before after rest Stands blocks room text behind read = record {
   begun = behind.begun;
   none_absent = all_there (helds_of command before.file) (λ k h. read.there k (omega (arith, h, same_length command before.file)));
   clean = λ start begins k contents h held. read.clean start begins k contents (omega (arith, h, same_length command before.file)) held;
   all_read = λ start begins contents held.
-      let number : length (names_of command) - generated_count command ≡ length command.files = omega (arith, names_length command) in
+      let number : length (file_names command) - generated_count command ≡ length command.files = omega (arith, names_length command) in
       (read.runs start begins contents (held_all command before.file contents held)).rest_is ∙ ap (λ (n : ℕ). rest_behind n rest) number
       ∙ ap (rest_behind (length command.files)) (behind.left start begins);
 }
@@ -187,22 +187,22 @@ last_due command blocks h = option_map_or (λ every. end_line blocks) command.ev
 
 -- the output of a run that was read to its end
 ended_output : (command : Command) (before after : Outside) (rest : Option (List ℕ)) (Stands : History → Type 0) (blocks room : ℕ) (text : List ℕ)
-    → (read : AreReadTo command before.file rest after.rest Stands blocks room (length (names_of command)) text)
+    → (read : AreReadTo command before.file rest after.rest Stands blocks room (length (file_names command)) text)
     → (start : Outset) → Begins command.resume before.file start → (contents : List (List ℕ)) → AreHeldFiles (helds_of command before.file) contents
-    → (h : History) × Stands h × (output_of start command (map whole contents) ≡ with_state (first_line command) (text ++ last_due command blocks h) (saved command h))
+    → (h : History) × Stands h × (output_of start command (map ended_file contents) ≡ with_state (first_line command) (text ++ last_due command blocks h) (saved_state command h))
 unfolding output_of
 ended_output command before after rest Stands blocks room text read start begins contents held =
     let on = read.runs start begins contents (held_all command before.file contents held) in (
       on.history,
       on.stands,
-      ap (output_along command) (alone start command rest after.rest Stands blocks room (length (names_of command)) text contents on)
-          ∙ ap (λ (n : ℕ). with_state (first_line command) (due_reports command on.after ++ last_due command n on.history) (saved command on.history)) (sym on.counts)
-          ∙ ap (λ (l : List ℕ). with_state (first_line command) (l ++ last_due command blocks on.history) (saved command on.history)) (sym on.told),
+      ap (output_along command) (alone start command rest after.rest Stands blocks room (length (file_names command)) text contents on)
+          ∙ ap (λ (n : ℕ). with_state (first_line command) (due_reports command on.after ++ last_due command n on.history) (saved_state command on.history)) (sym on.counts)
+          ∙ ap (λ (l : List ℕ). with_state (first_line command) (l ++ last_due command blocks on.history) (saved_state command on.history)) (sym on.told),
     )
 
 -- the texts behind the first line, one behind another
 all_written : (before mid mid2 mid3 last : Texts) (line text report state : List ℕ) → mid ≡ with_bytes before Messages line → mid2 ≡ with_bytes mid Report text → mid3 ≡ with_bytes mid2 Report report
-    → last ≡ with_bytes mid3 State state → last ≡ followed before (with_state line (text ++ report) state)
+    → last ≡ with_bytes mid3 State state → last ≡ texts_followed_by before (with_state line (text ++ report) state)
 all_written before mid mid2 mid3 last line text report state first reported more saved =
     saved
     ∙ ap (λ (t : Texts). with_bytes t State state) (more ∙ ap (λ (t : Texts). with_bytes t Report report) (reported ∙ ap (λ (t : Texts). with_bytes t Report text) first) ∙ added_more (with_bytes before Messages line) Report text report)
@@ -210,7 +210,7 @@ all_written before mid mid2 mid3 last line text report state first reported more
 
 pub done_says : (command : Command) (before after : Outside) (rest : Option (List ℕ)) (Stands : History → Type 0) (blocks room : ℕ) (mid mid2 mid3 : Texts) (between between2 : ℕ) (text : List ℕ)
     → Begun command before rest → mid ≡ with_bytes before.written Messages (first_line command) → mid2 ≡ with_bytes mid Report text → between ≡ before.write_faults
-    → AreReadTo command before.file rest after.rest Stands blocks room (length (names_of command)) text
+    → AreReadTo command before.file rest after.rest Stands blocks room (length (file_names command)) text
     → ToldWhole Stands (λ h. last_due command blocks h) mid2 mid3 between between2
     → StateTold command Stands mid3 after.written between2 after.write_faults
     → Says Done (Some (Run command)) before after
@@ -234,7 +234,7 @@ halt_says command before after between w.NoMemory calm short cause = (cause ∙ 
 
 pub cut_says : (command : Command) (before after : Outside) (rest : Option (List ℕ)) (Stands : History → Type 0) (blocks room : ℕ) (mid mid2 : Texts) (between : ℕ) (text : List ℕ) (halt : Halt)
     → Begun command before rest → mid ≡ with_bytes before.written Messages (first_line command) → mid2 ≡ with_bytes mid Report text → between ≡ before.write_faults
-    → AreReadTo command before.file rest after.rest Stands blocks room (length (names_of command)) text
+    → AreReadTo command before.file rest after.rest Stands blocks room (length (file_names command)) text
     → CutOff Stands (λ h. last_due command blocks h) mid2 after.written between after.write_faults halt
     → Says (status_of halt) (Some (Run command)) before after
 cut_says command before after rest Stands blocks room mid mid2 between text halt behind first reported calm read last = halt_says command before after between halt calm (inr (inl (inr (record {
@@ -252,7 +252,7 @@ cut_says command before after rest Stands blocks room mid mid2 between text halt
 -- the state was not written whole
 pub state_says : (command : Command) (before after : Outside) (rest : Option (List ℕ)) (Stands : History → Type 0) (blocks room : ℕ) (mid mid2 mid3 : Texts) (between between2 : ℕ) (text : List ℕ) (halt : Halt)
     → Begun command before rest → mid ≡ with_bytes before.written Messages (first_line command) → mid2 ≡ with_bytes mid Report text → between ≡ before.write_faults
-    → AreReadTo command before.file rest after.rest Stands blocks room (length (names_of command)) text
+    → AreReadTo command before.file rest after.rest Stands blocks room (length (file_names command)) text
     → ToldWhole Stands (λ h. last_due command blocks h) mid2 mid3 between between2
     → StateCut command Stands mid3 after.written between2 after.write_faults halt
     → Says (status_of halt) (Some (Run command)) before after
@@ -289,7 +289,7 @@ short_within command before after text begun e short = inr (inl (inl (record {
 })))
 
 refused_comes : (command : Command) (before after : Outside) (text : List ℕ) (place line : ℕ) (why : Why) → HasBegun command.resume before.file → IsRefusedAt command before.file text place line why
-    → IsRefused command before after (so_far (first_line command ++ fault_line (name_at (names_of command) place) line why) text)
+    → IsRefused command before after (so_far (first_line command ++ fault_line (file_name_at (file_names command) place) line why) text)
 unfolding output_of
 refused_comes command before after text place line why begun at = record {
   begun = begun;
@@ -301,12 +301,12 @@ refused_comes command before after text place line why begun at = record {
   clean_before = at.clean;
   first = λ start begins contents held. let (after, told, e) = at.gives start begins contents held in ap (λ (c : Course FileFault). fault_in c.end) e;
   defined = λ start begins contents held. let (after, told, e) = at.gives start begins contents held in
-      ap (λ (l : List ℕ). so_far (first_line command ++ fault_line (name_at (names_of command) place) line why) l) told ∙ ap (output_along command) (sym e);
+      ap (λ (l : List ℕ). so_far (first_line command ++ fault_line (file_name_at (file_names command) place) line why) l) told ∙ ap (output_along command) (sym e);
 }
 
 unstarted_comes : (command : Command) (before after : Outside) (rest : Option (List ℕ)) (text : List ℕ) (place : ℕ) → Begun command before rest → IsUnreadAt AtStart command before.file rest after.rest text place
     → HasBroken AtStart (held_file_at (helds_of command before.file) place) (Rose before.read_faults after.read_faults)
-    → IsUnread command before after (so_far (first_line command ++ unread_line (name_at (names_of command) place)) text)
+    → IsUnread command before after (so_far (first_line command ++ unread_line (file_name_at (file_names command) place)) text)
 unfolding unread_output
 unstarted_comes command before after rest text place behind at cause = record {
   begun = behind.begun;
@@ -319,12 +319,12 @@ unstarted_comes command before after rest text place behind at cause = record {
   messages = refl;
   no_state = refl;
   clean_before = at.clean;
-  defined = λ start begins contents held. let e = at.gives start begins contents held in (e.0 ∙ ap (rest_behind (place - generated_count command)) (behind.left start begins), ap (λ (l : List ℕ). so_far (first_line command ++ unread_line (name_at (names_of command) place)) l) e.1);
+  defined = λ start begins contents held. let e = at.gives start begins contents held in (e.0 ∙ ap (rest_behind (place - generated_count command)) (behind.left start begins), ap (λ (l : List ℕ). so_far (first_line command ++ unread_line (file_name_at (file_names command) place)) l) e.1);
 }
 
 unread_comes : (command : Command) (before after : Outside) (rest : Option (List ℕ)) (text : List ℕ) (place : ℕ) → Begun command before rest → IsUnreadAt Within command before.file rest after.rest text place
     → HasBroken Within (held_file_at (helds_of command before.file) place) (Rose before.read_faults after.read_faults)
-    → IsUnread command before after (so_far (first_line command ++ unread_line (name_at (names_of command) place)) text)
+    → IsUnread command before after (so_far (first_line command ++ unread_line (file_name_at (file_names command) place)) text)
 unfolding unread_output
 unread_comes command before after rest text place behind at cause = record {
   begun = behind.begun;
@@ -338,7 +338,7 @@ unread_comes command before after rest text place behind at cause = record {
   no_state = refl;
   clean_before = at.clean;
   defined = λ start begins contents held xs holds. let (delivered, is, fine, told) = at.gives start begins contents held xs holds in
-      (delivered, is, fine, ap (λ (l : List ℕ). so_far (first_line command ++ unread_line (name_at (names_of command) place)) l) told);
+      (delivered, is, fine, ap (λ (l : List ℕ). so_far (first_line command ++ unread_line (file_name_at (file_names command) place)) l) told);
 }
 
 -- faults that rose in the files rose in the run
@@ -357,13 +357,13 @@ says_of_trouble : (command : Command) (before after : Outside) (rest : Option (L
     → EndsBy command trouble mid2 after.written between after.write_faults result
     → Says result (Some (Run command)) before after
 says_of_trouble command before after rest mid mid2 between text (t.Refused place line why) result behind first reported gives calm cause ended =
-    message_says Refused (Some (Run command)) before after (first_line command) text (fault_line (name_at (names_of command) place) line why) mid2 between result
+    message_says Refused (Some (Run command)) before after (first_line command) text (fault_line (file_name_at (file_names command) place) line why) mid2 between result
     (inr (refused_comes command before after text place line why behind.begun gives)) (reported ∙ ap (λ (t : Texts). with_bytes t Report text) first) calm ended
 says_of_trouble command before after rest mid mid2 between text (t.Start place) result behind first reported gives calm cause ended =
-    message_says Read (Some (Run command)) before after (first_line command) text (unread_line (name_at (names_of command) place)) mid2 between result
+    message_says Read (Some (Run command)) before after (first_line command) text (unread_line (file_name_at (file_names command) place)) mid2 between result
     (inr (unstarted_comes command before after rest text place behind gives cause)) (reported ∙ ap (λ (t : Texts). with_bytes t Report text) first) calm ended
 says_of_trouble command before after rest mid mid2 between text (t.Read place) result behind first reported gives calm cause ended =
-    message_says Read (Some (Run command)) before after (first_line command) text (unread_line (name_at (names_of command) place)) mid2 between result
+    message_says Read (Some (Run command)) before after (first_line command) text (unread_line (file_name_at (file_names command) place)) mid2 between result
     (inr (unread_comes command before after rest text place behind gives cause)) (reported ∙ ap (λ (t : Texts). with_bytes t Report text) first) calm ended
 says_of_trouble command before after rest mid mid2 between text t.Write result behind first reported gives rose cause (is, e, same) =
     subst (λ (s : Status). Says s (Some (Run command)) before after) (sym is)
@@ -384,7 +384,7 @@ trouble_says command before after rest mid mid2 began unread between text troubl
     says_of_trouble command before after rest mid mid2 between text trouble result behind first reported gives (calm_before before.write_faults began between trouble same calm)
     (broken_since (helds_of command before.file) before.read_faults unread after.read_faults trouble later cause) ended
 
-pub trouble_placed : (command : Command) (file : List ℕ → HeldFile) (before rest : Option (List ℕ)) (text : List ℕ) (trouble : FilesTrouble) → FilesTroubleGives command file before text trouble rest → IsTroubleOf (length (names_of command)) trouble
+pub trouble_placed : (command : Command) (file : List ℕ → HeldFile) (before rest : Option (List ℕ)) (text : List ℕ) (trouble : FilesTrouble) → FilesTroubleGives command file before text trouble rest → IsTroubleOf (length (file_names command)) trouble
 trouble_placed command file before rest text (t.Refused place line why) at = omega (arith, at.named, same_length command file)
 trouble_placed command file before rest text (t.Start place) at = omega (arith, at.named, same_length command file)
 trouble_placed command file before rest text (t.Read place) at = omega (arith, at.named, same_length command file)
@@ -412,7 +412,7 @@ first_says command before after w.NoMemory begun (e, calm) = (calm, inl e)
 
 -- ---- all files
 pub run_gives : {F : Type 0} (command : Command) (file : List ℕ → HeldFile) (before rest : Option (List ℕ)) (text : List ℕ) (result : Result (Session F) FilesTrouble) (new : Reading)
-    → FilesGive command file before (length (names_of command)) text result new rest → RunGives command file before text result rest
+    → FilesGive command file before (length (file_names command)) text result new rest → RunGives command file before text result rest
 run_gives command file before rest text (Ok session) new gives = (room_of new, gives)
 run_gives command file before rest text (Err trouble) new gives = gives
 
@@ -436,15 +436,15 @@ usage_says asked before after result is ended =
 pub unread_ends : (text other : List ℕ) (old new : Texts) (before after : ℕ) (result : Status) → text ≡ other → EndsWith Read Messages text old new before after result → EndsWith Read Messages other old new before after result
 unread_ends text other old new before after result same ended = subst (λ (l : List ℕ). EndsWith Read Messages l old new before after result) same ended
 
-pub start_ends : (command : Command) (trouble : FilesTrouble) (place : ℕ) (name : List ℕ) (old new : Texts) (before after : ℕ) (result : Status) → trouble ≡ t.Start place → name ≡ name_at (names_of command) place
+pub start_ends : (command : Command) (trouble : FilesTrouble) (place : ℕ) (name : List ℕ) (old new : Texts) (before after : ℕ) (result : Status) → trouble ≡ t.Start place → name ≡ file_name_at (file_names command) place
     → EndsWith Read Messages (unread_line name) old new before after result → EndsBy command trouble old new before after result
 start_ends command trouble place name old new before after result is same ended =
-    subst (λ (t : FilesTrouble). EndsBy command t old new before after result) (sym is) (unread_ends (unread_line name) (unread_line (name_at (names_of command) place)) old new before after result (ap unread_line same) ended)
+    subst (λ (t : FilesTrouble). EndsBy command t old new before after result) (sym is) (unread_ends (unread_line name) (unread_line (file_name_at (file_names command) place)) old new before after result (ap unread_line same) ended)
 
-pub read_ends : (command : Command) (trouble : FilesTrouble) (place : ℕ) (name : List ℕ) (old new : Texts) (before after : ℕ) (result : Status) → trouble ≡ t.Read place → name ≡ name_at (names_of command) place
+pub read_ends : (command : Command) (trouble : FilesTrouble) (place : ℕ) (name : List ℕ) (old new : Texts) (before after : ℕ) (result : Status) → trouble ≡ t.Read place → name ≡ file_name_at (file_names command) place
     → EndsWith Read Messages (unread_line name) old new before after result → EndsBy command trouble old new before after result
 read_ends command trouble place name old new before after result is same ended =
-    subst (λ (t : FilesTrouble). EndsBy command t old new before after result) (sym is) (unread_ends (unread_line name) (unread_line (name_at (names_of command) place)) old new before after result (ap unread_line same) ended)
+    subst (λ (t : FilesTrouble). EndsBy command t old new before after result) (sym is) (unread_ends (unread_line name) (unread_line (file_name_at (file_names command) place)) old new before after result (ap unread_line same) ended)
 
 -- ---- behind the beginning
 pub behind_of : {F : Type 0} (command : Command) (before now : Outside) (beginning : Beginning F) → HasCome command before now beginning → Begun command before now.rest

@@ -8,10 +8,11 @@ use Rattle.dk_core.specs.History.{History}
 use Rattle.dk_core.specs.Standing.{SessionStandsFor, blocks_of}
 use Rattle.dk_core.specs.declared.session.Session.{Session}
 use Rattle.dk_words.specs.declared.command.Command.{Command}
-use Rattle.dk_run.specs.Commands.{generated_count, helds_of, names_of}
-use Rattle.dk_run.specs.Courses.{Outset, course_of, course_of_files, first_fault, onto}
-use Rattle.dk_run.specs.Files.{AreHeldFiles, File, whole}
-use Rattle.dk_run.specs.Reports.{capped, due_reports}
+use Rattle.dk_run.specs.Commands.{file_names, generated_count, helds_of}
+use Rattle.dk_run.specs.Courses.{Outset, behind_histories, course_of, course_of_files, first_fault}
+use Rattle.dk_run.specs.Files.{AreHeldFiles, File, ended_file}
+use Rattle.dk_presence.specs.Patterns.{capped}
+use Rattle.dk_run.specs.Reports.{due_reports}
 use Rattle.dk_run.specs.Starts.{Begins}
 use Rattle.dk_run.specs.Statuses.{Break, AtStart, Within, AreClean, HasBroken, IsDelivered, held_file_at, rest_behind}
 use Rattle.dk_run.specs.declared.reading.Trouble.{Trouble}
@@ -21,20 +22,25 @@ use Rattle.dk_run.specs.declared.reading.FilesTrouble.TheVariants.{Refused, Star
 
 -- The files in front of this place were read, which hold these contents, and the reports that were due are told: the run over them and any
 -- others, behind this start, goes on from here.
-pub record RunsOn (start : Outset) (command : Command) (before rest : Option (List ℕ)) (Stands : History → Type 0) (blocks room place : ℕ) (text : List ℕ) (contents : List (List ℕ)) : Type 0 where
+pub record RunsOn (start : Outset) (command : Command) (before rest : Option (List ℕ)) (Stands : History → Type 0) (blocks room place : ℕ)
+    (text : List ℕ) (contents : List (List ℕ)) : Type 0 where
   pub after : List History
   pub history : History
   pub stands : Stands history
   pub counts : blocks ≡ capped (length after)
   pub told : text ≡ due_reports command after
   pub rest_is : rest ≡ rest_behind (place - generated_count command) before
-  pub goes : (files : List File) → course_of start command.ignore_missing_entry (map whole contents ++ files) ≡ onto after (course_of_files command.ignore_missing_entry room history place files)
+  pub goes : (files : List File)
+      → course_of start command.ignore_missing_entry (map ended_file contents ++ files)
+      ≡ behind_histories after (course_of_files command.ignore_missing_entry room history place files)
 
 -- The files in front of this place were read, whatever they hold.
-pub record AreReadTo (command : Command) (file : List ℕ → HeldFile) (before rest : Option (List ℕ)) (Stands : History → Type 0) (blocks room place : ℕ) (text : List ℕ) : Type 0 where
+pub record AreReadTo (command : Command) (file : List ℕ → HeldFile) (before rest : Option (List ℕ)) (Stands : History → Type 0)
+    (blocks room place : ℕ) (text : List ℕ) : Type 0 where
   pub there : (k : ℕ) → k < place → held_file_at (helds_of command file) k ≢ Absent
   pub clean : AreClean command file place
-  pub runs : (start : Outset) → Begins command.resume file start → (contents : List (List ℕ)) → AreHeldFiles (take place (helds_of command file)) contents
+  pub runs : (start : Outset) → Begins command.resume file start → (contents : List (List ℕ))
+      → AreHeldFiles (take place (helds_of command file)) contents
       → RunsOn start command before rest Stands blocks room place text contents
 
 -- The files up to this place hold this fault as their first, and the reports that were due are told.
@@ -42,34 +48,41 @@ pub record IsRefusedAt (command : Command) (file : List ℕ → HeldFile) (text 
   pub named : place < length (helds_of command file)
   pub there : (k : ℕ) → k < place + 1 → held_file_at (helds_of command file) k ≢ Absent
   pub clean : AreClean command file place
-  pub gives : (start : Outset) → Begins command.resume file start → (contents : List (List ℕ)) → AreHeldFiles (take (place + 1) (helds_of command file)) contents →
+  pub gives : (start : Outset) → Begins command.resume file start → (contents : List (List ℕ))
+      → AreHeldFiles (take (place + 1) (helds_of command file)) contents →
       (after : List History) × (text ≡ due_reports command after)
-      × (course_of start command.ignore_missing_entry (map whole contents) ≡ record { after = after; end = Err (record { file = place; line = line; why = why }) })
+      × (course_of start command.ignore_missing_entry (map ended_file contents)
+      ≡ record { after = after; end = Err (record { file = place; line = line; why = why }) })
 
 -- What is told where a file can't be read, behind files of these contents.
 abbrev pub BreakGives : Break → Outset → Command → ℕ → HeldFile → Option (List ℕ) → Option (List ℕ) → List ℕ → List (List ℕ) → Type 0
 BreakGives AtStart start command place held before rest text contents =
-    (rest ≡ rest_behind (place - generated_count command) before) × (text ≡ due_reports command (course_of start command.ignore_missing_entry (map whole contents)).after)
+    (rest ≡ rest_behind (place - generated_count command) before)
+    × (text ≡ due_reports command (course_of start command.ignore_missing_entry (map ended_file contents)).after)
 BreakGives Within start command place held before rest text contents = (xs : List ℕ) → held ≡ Holds xs →
     (delivered : File) × IsDelivered xs rest delivered
-    × (first_fault start command.ignore_missing_entry (map whole contents ++ delivered ∷ []) ≡ None)
-    × (text ≡ due_reports command (course_of start command.ignore_missing_entry (map whole contents ++ delivered ∷ [])).after)
+    × (first_fault start command.ignore_missing_entry (map ended_file contents ++ delivered ∷ []) ≡ None)
+    × (text ≡ due_reports command (course_of start command.ignore_missing_entry (map ended_file contents ++ delivered ∷ [])).after)
 
--- The file at this place, a named one, could not be read. What was delivered holds no fault, and the reports that are due within it are told.
-pub record IsUnreadAt (by : Break) (command : Command) (file : List ℕ → HeldFile) (before rest : Option (List ℕ)) (text : List ℕ) (place : ℕ) : Type 0 where
+-- The file at this place, a named one, could not be read. What was delivered holds no fault, and the reports that are due within it are
+-- told.
+pub record IsUnreadAt (by : Break) (command : Command) (file : List ℕ → HeldFile) (before rest : Option (List ℕ)) (text : List ℕ)
+    (place : ℕ) : Type 0 where
   pub behind : generated_count command ≤ place
   pub named : place < length (helds_of command file)
   pub there : (k : ℕ) → k < place → held_file_at (helds_of command file) k ≢ Absent
   pub clean : AreClean command file place
-  pub gives : (start : Outset) → Begins command.resume file start → (contents : List (List ℕ)) → AreHeldFiles (take place (helds_of command file)) contents
+  pub gives : (start : Outset) → Begins command.resume file start → (contents : List (List ℕ))
+      → AreHeldFiles (take place (helds_of command file)) contents
       → BreakGives by start command place (held_file_at (helds_of command file) place) before rest text contents
 
 -- a front of the reports that are due is told, whatever files follow those in front of a place
 pub record IsShortTo (command : Command) (file : List ℕ → HeldFile) (text : List ℕ) : Type 0 where
   pub place : ℕ
   pub there : (k : ℕ) → k < place → held_file_at (helds_of command file) k ≢ Absent
-  pub due : (start : Outset) → Begins command.resume file start → (contents : List (List ℕ)) → AreHeldFiles (take place (helds_of command file)) contents → (files : List File) →
-      StartsWith (due_reports command (course_of start command.ignore_missing_entry (map whole contents ++ files)).after) text
+  pub due : (start : Outset) → Begins command.resume file start → (contents : List (List ℕ))
+      → AreHeldFiles (take place (helds_of command file)) contents → (files : List File) →
+      StartsWith (due_reports command (course_of start command.ignore_missing_entry (map ended_file contents ++ files)).after) text
 
 -- what a trouble with the files says
 abbrev pub FilesTroubleGives : Command → (List ℕ → HeldFile) → Option (List ℕ) → List ℕ → FilesTrouble → Option (List ℕ) → Type 0
@@ -80,8 +93,10 @@ FilesTroubleGives command file before text Write rest = IsShortTo command file t
 FilesTroubleGives command file before text NoMemory rest = IsShortTo command file text
 
 -- what reading the files in front of a place comes to
-abbrev pub FilesGive : {F : Type 0} → Command → (List ℕ → HeldFile) → Option (List ℕ) → ℕ → List ℕ → Result (Session F) FilesTrouble → Reading → Option (List ℕ) → Type 0
-FilesGive command file before place text (Ok session) new rest = AreReadTo command file before rest (SessionStandsFor session) (blocks_of session) (room_of new) place text
+abbrev pub FilesGive : {F : Type 0} → Command → (List ℕ → HeldFile) → Option (List ℕ) → ℕ → List ℕ → Result (Session F) FilesTrouble
+    → Reading → Option (List ℕ) → Type 0
+FilesGive command file before place text (Ok session) new rest =
+    AreReadTo command file before rest (SessionStandsFor session) (blocks_of session) (room_of new) place text
 FilesGive command file before place text (Err trouble) new rest = FilesTroubleGives command file before text trouble rest
 
 -- why a file was not read to its end, whatever is told
@@ -110,16 +125,18 @@ AreCalmBut before after (Ok x) = after ≡ before
 AreCalmBut before after (Err trouble) = AreCalmUnless before after trouble
 
 -- a trouble with the file at this place
-abbrev pub placed : ℕ → Trouble → FilesTrouble
-placed place (t.Refused line why) = Refused place line why
-placed place t.Start = Start place
-placed place t.Read = Read place
-placed place t.Write = Write
-placed place t.NoMemory = NoMemory
+abbrev pub files_trouble : ℕ → Trouble → FilesTrouble
+files_trouble place (t.Refused line why) = Refused place line why
+files_trouble place t.Start = Start place
+files_trouble place t.Read = Read place
+files_trouble place t.Write = Write
+files_trouble place t.NoMemory = NoMemory
 
 -- what reading all files of a run comes to
-abbrev pub RunGives : {F : Type 0} → Command → (List ℕ → HeldFile) → Option (List ℕ) → List ℕ → Result (Session F) FilesTrouble → Option (List ℕ) → Type 0
-RunGives command file before text (Ok session) rest = (room : ℕ) × AreReadTo command file before rest (SessionStandsFor session) (blocks_of session) room (length (names_of command)) text
+abbrev pub RunGives : {F : Type 0} → Command → (List ℕ → HeldFile) → Option (List ℕ) → List ℕ → Result (Session F) FilesTrouble
+    → Option (List ℕ) → Type 0
+RunGives command file before text (Ok session) rest =
+    (room : ℕ) × AreReadTo command file before rest (SessionStandsFor session) (blocks_of session) room (length (file_names command)) text
 RunGives command file before text (Err trouble) rest = FilesTroubleGives command file before text trouble rest
 
 -- the place of a trouble is that of one of n files

@@ -9,7 +9,7 @@ use Rattle.dk_state.specs.declared.loading.LoadFault.{LoadFault}
 use Rattle.dk_state.specs.declared.loading.LoadFault.TheVariants as load
 use Rattle.dk_state.specs.Spelling.{IsSpelling}
 use Rattle.dk_core.specs.History.{History}
-use Rattle.dk_core.specs.Resuming.{IsStart, state_of}
+use Rattle.dk_core.specs.Resuming.{IsStart, state_file}
 use Rattle.dk_core.specs.Standing.{SessionStandsFor, blocks_of, over_of}
 use Rattle.dk_words.specs.declared.command.Command.{Command}
 use Rattle.dk_run.specs.Courses.{Outset, total_limit}
@@ -27,7 +27,8 @@ state_name command = unwrap_or command.resume []
 -- The session stands for what the run begins with, and no block was read.
 pub record IsBegun {F : Type 0} (command : Command) (file : List ℕ → HeldFile) (beginning : Beginning F) : Type 0 where
   pub begun : HasBegun command.resume file
-  pub stands : (start : Outset) → Begins command.resume file start → SessionStandsFor beginning.session start.history × (beginning.room ≡ start.room)
+  pub stands : (start : Outset) → Begins command.resume file start
+      → SessionStandsFor beginning.session start.history × (beginning.room ≡ start.room)
   pub room : beginning.room ≤ total_limit
   pub counts : blocks_of beginning.session ≡ 0
   pub over : over_of beginning.session ≡ false
@@ -35,7 +36,8 @@ pub record IsBegun {F : Type 0} (command : Command) (file : List ℕ → HeldFil
 
 -- What a trouble with a state file says, of which this is told.
 abbrev pub StateTroubleGives : HeldFile → Type 0 → Option (List ℕ) → Option (List ℕ) → StartTrouble → Type 0
-StateTroubleGives held rose before rest (Refused why) = (held ≢ Absent) × ((why ≡ TooLong) ⊎ (why ≡ BadState)) × ((xs : List ℕ) → held ≡ Holds xs → IsRefusedAs why xs)
+StateTroubleGives held rose before rest (Refused why) =
+    (held ≢ Absent) × ((why ≡ TooLong) ⊎ (why ≡ BadState)) × ((xs : List ℕ) → held ≡ Holds xs → IsRefusedAs why xs)
 StateTroubleGives held rose before rest Unstarted = HasBroken AtStart held rose × StateUnreadGives AtStart held before rest
 StateTroubleGives held rose before rest Read = HasBroken Within held rose × StateUnreadGives Within held before rest
 StateTroubleGives held rose before rest NoMemory = Unit {0}
@@ -67,7 +69,7 @@ pub record IsWhole (held : HeldFile) (text : List ℕ) (rest : Option (List ℕ)
 -- The session is that of this state file.
 pub record IsResumed {F : Type 0} (command : Command) (state : List ℕ) (beginning : Beginning F) : Type 0 where
   pub spelling : IsSpelling state
-  pub stands : (h : History) → IsStart h → state_of h ≡ state → SessionStandsFor beginning.session h
+  pub stands : (h : History) → IsStart h → state_file h ≡ state → SessionStandsFor beginning.session h
   pub room : beginning.room ≡ total_limit - length state
   pub counts : blocks_of beginning.session ≡ 0
   pub over : over_of beginning.session ≡ false
@@ -80,11 +82,11 @@ IsUnloaded state Unstarted = ⊥
 IsUnloaded state Read = ⊥
 IsUnloaded state NoMemory = Unit {0}
 
-abbrev pub unread : AllFault → StartTrouble
-unread all.Read = Read
-unread all.TooLong = Refused TooLong
-unread all.NoMemory = NoMemory
+abbrev pub trouble_of_read : AllFault → StartTrouble
+trouble_of_read all.Read = Read
+trouble_of_read all.TooLong = Refused TooLong
+trouble_of_read all.NoMemory = NoMemory
 
-abbrev pub unloaded : LoadFault → StartTrouble
-unloaded load.BadState = Refused BadState
-unloaded load.NoMemory = NoMemory
+abbrev pub trouble_of_load : LoadFault → StartTrouble
+trouble_of_load load.BadState = Refused BadState
+trouble_of_load load.NoMemory = NoMemory

@@ -9,8 +9,8 @@ use Rattle.dk_report.specs.declared.options.Options.{Options}
 use Rattle.dk_words.specs.declared.command.Command.{Command}
 
 -- what reports leave out
-abbrev pub options_of : Command → Options
-options_of command = record {
+abbrev pub report_options : Command → Options
+report_options command = record {
   least = command.least;
   keep_implied = command.keep_implied;
   keep_incomparable = command.keep_incomparable;
@@ -25,8 +25,8 @@ abbrev pub is_selected : Command → List ℕ → Bool
 is_selected command name = option_map_or (λ prefix. starts_with nat_eq name prefix) command.select true
 
 -- ---- the files of a run, in order: the generated one stands first
-abbrev pub names_of : Command → List (List ℕ)
-names_of command = option_map_or (λ n. generated_name ∷ command.files) command.generate command.files
+abbrev pub file_names : Command → List (List ℕ)
+file_names command = option_map_or (λ n. generated_name ∷ command.files) command.generate command.files
 
 -- how many of them are generated
 abbrev pub generated_count : Command → ℕ

@@ -3,17 +3,18 @@ use Rattle.std.specs.Prelude.{◌≡◌, ◌≤◌, ◌++◌, ℕ, Bool, List, O
 use Rattle.dk_core.specs.History.{History}
 use Rattle.dk_core.specs.Resuming.{AreFew, IsStart}
 use Rattle.dk_run.specs.Courses.{Outset, course_of, total_limit}
-use Rattle.dk_run.specs.Files.{File, whole}
+use Rattle.dk_run.specs.Files.{File, ended_file}
 use Rattle.dk_run.specs.Starts.{resumed_start}
 
 -- A run that is cut behind any of its files, saved, and resumed with the other files, comes to what the whole run comes to.
 abbrev pub ResumedRunsGoOn : Type 0
 ResumedRunsGoOn =
     (start : Outset) (ignores : Bool) (front files : List File) (mid resumed whole : History) → (course_of start ignores front).end ≡ Ok mid
-    → (course_of (resumed_start mid) ignores files).end ≡ Ok resumed → (course_of start ignores (front ++ files)).end ≡ Ok whole → resumed ≡ whole
+    → (course_of (resumed_start mid) ignores files).end ≡ Ok resumed → (course_of start ignores (front ++ files)).end ≡ Ok whole
+    → resumed ≡ whole
 
 -- A run that begins with what a state file can tell ends with what one can tell.
 abbrev pub RunsEndAtStarts : Type 0
 RunsEndAtStarts =
     (start : Outset) (ignores : Bool) (contents : List (List ℕ)) (mid : History) → IsStart start.history → start.room ≤ total_limit
-    → (course_of start ignores (map whole contents)).end ≡ Ok mid → AreFew mid.samples → IsStart mid
+    → (course_of start ignores (map ended_file contents)).end ≡ Ok mid → AreFew mid.samples → IsStart mid

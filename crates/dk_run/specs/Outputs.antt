@@ -4,16 +4,16 @@ use Rattle.std.specs.Io.{StartsWith}
 use Rattle.std.specs.Io.KnownBytes.{append_known}
 use Rattle.std.specs.Option.{option_map_or}
 use Rattle.dk_core.specs.History.{History}
-use Rattle.dk_core.specs.Resuming.{state_of}
+use Rattle.dk_core.specs.Resuming.{state_file}
 use Rattle.dk_generate.specs.Texts.{generated_line}
 use Rattle.dk_io.specs.Streams.{Texts}
 use Rattle.dk_io.specs.declared.outside.Stream.{Stream}
 use Rattle.dk_io.specs.declared.outside.Stream.TheVariants.{Report, Messages, State}
 use Rattle.dk_words.specs.Texts.{usage_line}
 use Rattle.dk_words.specs.declared.command.Command.{Command}
-use Rattle.dk_run.specs.Commands.{names_of}
+use Rattle.dk_run.specs.Commands.{file_names}
 use Rattle.dk_run.specs.Courses.{Course, Outset, course_of}
-use Rattle.dk_run.specs.Files.{File, FileFault, name_at}
+use Rattle.dk_run.specs.Files.{File, FileFault, file_name_at}
 use Rattle.dk_print.specs.Sections.{fault_line}
 use Rattle.dk_run.specs.Messages.{unread_line}
 use Rattle.dk_run.specs.Reports.{due_reports, last_report}
@@ -35,19 +35,19 @@ abbrev pub first_line : Command → List ℕ
 first_line command = option_map_or (λ n. generated_line) command.generate []
 
 -- the state, where it is to be saved
-abbrev pub saved : Command → History → List ℕ
-saved command h = if command.save then state_of h else []
+abbrev pub saved_state : Command → History → List ℕ
+saved_state command h = if command.save then state_file h else []
 
 -- With a fault there is no last report and no state, and the messages end with the fault's line.
 abbrev pub output_at : Command → List History → Result History FileFault → Output
 output_at command after (Ok h) = record {
   report = due_reports command after ++ last_report command (length after) h;
   messages = first_line command;
-  state = saved command h;
+  state = saved_state command h;
 }
 output_at command after (Err fault) = record {
   report = due_reports command after;
-  messages = first_line command ++ fault_line (name_at (names_of command) fault.file) fault.line fault.why;
+  messages = first_line command ++ fault_line (file_name_at (file_names command) fault.file) fault.line fault.why;
   state = [];
 }
 
@@ -58,8 +58,8 @@ output_along command course = output_at command course.after course.end
 unfoldable pub output_of : Outset → Command → List File → Output
 output_of start command files = output_along command (course_of start command.ignore_missing_entry files)
 
--- The output of a run that ends since a file of this name can't be read: the reports due within the files that were delivered, of the last of
--- which it may be a part.
+-- The output of a run that ends since a file of this name can't be read: the reports due within the files that were delivered, of the last
+-- of which it may be a part.
 unfoldable pub unread_output : Outset → Command → List File → List ℕ → Output
 unread_output start command delivered name = record {
   report = due_reports command (course_of start command.ignore_missing_entry delivered).after;
@@ -72,8 +72,8 @@ abbrev pub usage_output : Output
 usage_output = only_on Messages usage_line
 
 -- each stream with its text at its end
-abbrev pub followed : Texts → Output → Texts
-followed old output = record {
+abbrev pub texts_followed_by : Texts → Output → Texts
+texts_followed_by old output = record {
   report = append_known old.report output.report;
   messages = append_known old.messages output.messages;
   state = append_known old.state output.state;

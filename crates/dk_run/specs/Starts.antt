@@ -6,17 +6,19 @@ use Rattle.dk_base.specs.declared.why.Why.TheVariants.{BadState, TooLong}
 use Rattle.dk_io.specs.Outside.{HeldFile, Absent, Holds}
 use Rattle.dk_state.specs.Spelling.{IsSpelling}
 use Rattle.dk_core.specs.History.{History}
-use Rattle.dk_core.specs.Resuming.{IsStart, state_of}
+use Rattle.dk_core.specs.Resuming.{IsStart, state_file}
 use Rattle.dk_run.specs.Courses.{Outset, first_start, total_limit}
 
 -- a history that is resumed; the bytes of its state file count
 abbrev pub resumed_start : History → Outset
-resumed_start h = record { history = h; room = total_limit - length (state_of h) }
+resumed_start h = record { history = h; room = total_limit - length (state_file h) }
 
--- A run that names no state file begins with no samples. One that names a state file begins with each history of which the file holds the state.
+-- A run that names no state file begins with no samples. One that names a state file begins with each history of which the file holds the
+-- state.
 abbrev pub Begins : Option (List ℕ) → (List ℕ → HeldFile) → Outset → Type 0
 Begins None file start = start ≡ first_start
-Begins (Some name) file start = (h : History) × IsStart h × (file name ≡ Holds (state_of h)) × (length (state_of h) ≤ total_limit) × (start ≡ resumed_start h)
+Begins (Some name) file start =
+    (h : History) × IsStart h × (file name ≡ Holds (state_file h)) × (length (state_file h) ≤ total_limit) × (start ≡ resumed_start h)
 
 -- what is left of the inputs when the run has begun: a state file was read to its end
 abbrev pub rest_begun : Option (List ℕ) → Option (List ℕ) → Option (List ℕ)

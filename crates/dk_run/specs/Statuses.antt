@@ -10,13 +10,13 @@ use Rattle.dk_words.specs.Texts.{help_text, version_text}
 use Rattle.dk_words.specs.declared.command.Command.{Command}
 use Rattle.dk_words.specs.declared.request.Request.{Request}
 use Rattle.dk_words.specs.declared.request.Request.TheVariants.{Run, Help, Version}
-use Rattle.dk_run.specs.Commands.{generated_count, helds_of, names_of}
+use Rattle.dk_run.specs.Commands.{file_names, generated_count, helds_of}
 use Rattle.dk_run.specs.Courses.{Outset, course_of, first_fault, total_limit}
 use Rattle.dk_run.specs.Starts.{Begins, HasBegun, IsRefusedAs, rest_begun}
-use Rattle.dk_run.specs.Files.{File, FileFault, AreHeldFiles, cut_off, name_at, whole}
+use Rattle.dk_run.specs.Files.{File, FileFault, AreHeldFiles, cut_file, file_name_at, ended_file}
 use Rattle.dk_print.specs.Sections.{fault_line}
 use Rattle.dk_run.specs.Messages.{unread_line}
-use Rattle.dk_run.specs.Outputs.{IsFront, Output, first_line, followed, only_on, output_of, unread_output, usage_output}
+use Rattle.dk_run.specs.Outputs.{IsFront, Output, first_line, only_on, output_of, texts_followed_by, unread_output, usage_output}
 use Rattle.dk_run.specs.Reports.{due_reports}
 use Rattle.dk_run.specs.declared.status.Status.{Status}
 use Rattle.dk_run.specs.declared.status.Status.TheVariants.{Done, Refused, Usage, Read, Write, NoMemory}
@@ -38,6 +38,16 @@ pub record Outside : Type 0 where
   pub written : Texts
   pub write_faults : ℕ
 
+-- the moment at which they tell these
+abbrev pub outside : (List ℕ → HeldFile) → Option (List ℕ) → ℕ → Texts → ℕ → Outside
+outside file rest read_faults written write_faults = record {
+  file = file;
+  rest = rest;
+  read_faults = read_faults;
+  written = written;
+  write_faults = write_faults;
+}
+
 -- ---- what was read
 -- what is left of the inputs when this many named files were read to their ends
 abbrev pub rest_behind : ℕ → Option (List ℕ) → Option (List ℕ)
@@ -53,24 +63,27 @@ pub data Break : Type 0 where
   AtStart : Break
   Within : Break
 
--- This was delivered of a file that holds the bytes xs, of which a read failed: all in front of what is left. Where nothing is left, the failed
--- read was that of the file's end: then the file may count as ended.
+-- This was delivered of a file that holds the bytes xs, of which a read failed: all in front of what is left. Where nothing is left, the
+-- failed read was that of the file's end: then the file may count as ended.
 abbrev pub IsDelivered : List ℕ → Option (List ℕ) → File → Type 0
 IsDelivered xs after file = (rest : List ℕ) × (after ≡ Some rest) × (xs ≡ file.bytes ++ rest) × (file.is_ended ≡ true → rest ≡ [])
 
--- The cause of a break, where this is told of the file: a start fails where the file is absent or a fault of the inputs rose, and a read only
--- where one rose, of a file that is not absent.
+-- The cause of a break, where this is told of the file: a start fails where the file is absent or a fault of the inputs rose, and a read
+-- only where one rose, of a file that is not absent.
 abbrev pub HasBroken : Break → HeldFile → Type 0 → Type 0
 HasBroken AtStart held rose = (held ≡ Absent) ⊎ rose
 HasBroken Within held rose = (held ≢ Absent) × rose
 
 -- Behind this start, as far as the first n files are held, from the first on, they hold no fault.
 abbrev pub AreCleanBehind : Outset → Bool → List HeldFile → ℕ → Type 0
-AreCleanBehind start ignores helds n = (k : ℕ) (contents : List (List ℕ)) → k ≤ n → AreHeldFiles (take k helds) contents → first_fault start ignores (map whole contents) ≡ None
+AreCleanBehind start ignores helds n =
+    (k : ℕ) (contents : List (List ℕ)) → k ≤ n → AreHeldFiles (take k helds) contents
+    → first_fault start ignores (map ended_file contents) ≡ None
 
 -- So it is behind each start of the run.
 abbrev pub AreClean : Command → (List ℕ → HeldFile) → ℕ → Type 0
-AreClean command file n = (start : Outset) → Begins command.resume file start → AreCleanBehind start command.ignore_missing_entry (helds_of command file) n
+AreClean command file n =
+    (start : Outset) → Begins command.resume file start → AreCleanBehind start command.ignore_missing_entry (helds_of command file) n
 
 -- ---- how a run ends
 -- A state file that is named was read whole, and is one. All files were started and read to their ends, and they hold no fault.
@@ -78,7 +91,8 @@ pub record AreRead (command : Command) (before after : Outside) : Type 0 where
   pub begun : HasBegun command.resume before.file
   pub none_absent : All (λ held. held ≢ Absent) (helds_of command before.file)
   pub clean : AreClean command before.file (length (helds_of command before.file))
-  pub all_read : (start : Outset) → Begins command.resume before.file start → (contents : List (List ℕ)) → AreHeldFiles (helds_of command before.file) contents
+  pub all_read : (start : Outset) → Begins command.resume before.file start → (contents : List (List ℕ))
+      → AreHeldFiles (helds_of command before.file) contents
       → after.rest ≡ rest_behind (length command.files) (rest_begun command.resume before.rest)
 
 -- This is the output then.
@@ -86,8 +100,9 @@ pub record IsDone (command : Command) (before after : Outside) (output : Output)
   pub read : AreRead command before after
   pub messages : output.messages ≡ first_line command
   pub unsaved : command.save ≡ false → output.state ≡ []
-  pub defined : (start : Outset) → Begins command.resume before.file start → (contents : List (List ℕ)) → AreHeldFiles (helds_of command before.file) contents
-      → output ≡ output_of start command (map whole contents)
+  pub defined : (start : Outset) → Begins command.resume before.file start → (contents : List (List ℕ))
+      → AreHeldFiles (helds_of command before.file) contents
+      → output ≡ output_of start command (map ended_file contents)
 
 -- The state file is refused, at its line 0. That is all that the run says.
 pub record IsStateRefused (command : Command) (before : Outside) (output : Output) : Type 0 where
@@ -103,15 +118,17 @@ pub record IsStateRefused (command : Command) (before : Outside) (output : Outpu
 pub record IsRefused (command : Command) (before after : Outside) (output : Output) : Type 0 where
   pub begun : HasBegun command.resume before.file
   pub fault : FileFault
-  pub named : fault.file < length (names_of command)
+  pub named : fault.file < length (file_names command)
   pub none_absent : All (λ held. held ≢ Absent) (take (fault.file + 1) (helds_of command before.file))
-  pub messages : output.messages ≡ first_line command ++ fault_line (name_at (names_of command) fault.file) fault.line fault.why
+  pub messages : output.messages ≡ first_line command ++ fault_line (file_name_at (file_names command) fault.file) fault.line fault.why
   pub no_state : output.state ≡ []
   pub clean_before : AreClean command before.file fault.file
-  pub first : (start : Outset) → Begins command.resume before.file start → (contents : List (List ℕ)) → AreHeldFiles (take (fault.file + 1) (helds_of command before.file)) contents
-      → first_fault start command.ignore_missing_entry (map whole contents) ≡ Some fault
-  pub defined : (start : Outset) → Begins command.resume before.file start → (contents : List (List ℕ)) → AreHeldFiles (take (fault.file + 1) (helds_of command before.file)) contents
-      → output ≡ output_of start command (map whole contents)
+  pub first : (start : Outset) → Begins command.resume before.file start → (contents : List (List ℕ))
+      → AreHeldFiles (take (fault.file + 1) (helds_of command before.file)) contents
+      → first_fault start command.ignore_missing_entry (map ended_file contents) ≡ Some fault
+  pub defined : (start : Outset) → Begins command.resume before.file start → (contents : List (List ℕ))
+      → AreHeldFiles (take (fault.file + 1) (helds_of command before.file)) contents
+      → output ≡ output_of start command (map ended_file contents)
 
 -- What was read of a state file that could not be read to its end: nothing, or as many bytes as all files of a run may have, at most.
 abbrev pub StateUnreadGives : Break → HeldFile → Option (List ℕ) → Option (List ℕ) → Type 0
@@ -127,31 +144,32 @@ pub record IsStateUnread (command : Command) (before after : Outside) (output : 
   pub left : StateUnreadGives by (before.file name) before.rest after.rest
   pub message : output ≡ only_on stream.Messages (unread_line name)
 
--- What the output of a run is that ends since a file can't be read, behind files of these contents. A start that fails leaves what is left of
--- the inputs as it was, and delivers nothing of the file. What was delivered holds no fault.
+-- What the output of a run is that ends since a file can't be read, behind files of these contents. A start that fails leaves what is left
+-- of the inputs as it was, and delivers nothing of the file. What was delivered holds no fault.
 abbrev pub UnreadGives : Break → Outset → Command → ℕ → HeldFile → Outside → Outside → Output → List (List ℕ) → Type 0
 UnreadGives AtStart start command place held before after output contents =
     (after.rest ≡ rest_behind (place - generated_count command) (rest_begun command.resume before.rest))
-    × (output ≡ unread_output start command (map whole contents) (name_at (names_of command) place))
+    × (output ≡ unread_output start command (map ended_file contents) (file_name_at (file_names command) place))
 UnreadGives Within start command place held before after output contents = (xs : List ℕ) → held ≡ Holds xs →
     (delivered : File) × IsDelivered xs after.rest delivered
-    × (first_fault start command.ignore_missing_entry (map whole contents ++ delivered ∷ []) ≡ None)
-    × (output ≡ unread_output start command (map whole contents ++ delivered ∷ []) (name_at (names_of command) place))
+    × (first_fault start command.ignore_missing_entry (map ended_file contents ++ delivered ∷ []) ≡ None)
+    × (output ≡ unread_output start command (map ended_file contents ++ delivered ∷ []) (file_name_at (file_names command) place))
 
 -- The file at this place, one that the words name, could not be read: its start failed, or a read. None in front of it is absent, and the
 -- report has what is due within what was delivered.
 pub record IsUnread (command : Command) (before after : Outside) (output : Output) : Type 0 where
   pub begun : HasBegun command.resume before.file
   pub place : ℕ
-  pub named : place < length (names_of command)
+  pub named : place < length (file_names command)
   pub by_the_words : generated_count command ≤ place
   pub by : Break
   pub cause : HasBroken by (held_file_at (helds_of command before.file) place) (Rose before.read_faults after.read_faults)
   pub none_absent : All (λ held. held ≢ Absent) (take place (helds_of command before.file))
-  pub messages : output.messages ≡ first_line command ++ unread_line (name_at (names_of command) place)
+  pub messages : output.messages ≡ first_line command ++ unread_line (file_name_at (file_names command) place)
   pub no_state : output.state ≡ []
   pub clean_before : AreClean command before.file place
-  pub defined : (start : Outset) → Begins command.resume before.file start → (contents : List (List ℕ)) → AreHeldFiles (take place (helds_of command before.file)) contents →
+  pub defined : (start : Outset) → Begins command.resume before.file start → (contents : List (List ℕ))
+      → AreHeldFiles (take place (helds_of command before.file)) contents →
       UnreadGives by start command place (held_file_at (helds_of command before.file) place) before after output contents
 
 -- A run that is asked for so comes to this status, and has this output, unless a write fails or memory runs out before.
@@ -169,30 +187,32 @@ ComesTo status request before after output = ⊥
 pub record FollowedByFront (old new : Texts) (output : Output) : Type 0 where
   pub front : Output
   pub is_front : IsFront front output
-  pub written : new ≡ followed old front
+  pub written : new ≡ texts_followed_by old front
 
 -- While the files up to a place are read, behind the state file: the report got a front of the reports that are due, whatever files follow,
 -- and the messages a front of the first line.
 pub record IsCutWithin (command : Command) (before after : Outside) : Type 0 where
   pub begun : HasBegun command.resume before.file
   pub front : Output
-  pub written : after.written ≡ followed before.written front
+  pub written : after.written ≡ texts_followed_by before.written front
   pub messages : StartsWith (first_line command) front.messages
   pub no_state : front.state ≡ []
   pub place : ℕ
   pub none_absent : All (λ held. held ≢ Absent) (take place (helds_of command before.file))
-  pub due : (start : Outset) → Begins command.resume before.file start → (contents : List (List ℕ)) → AreHeldFiles (take place (helds_of command before.file)) contents → (files : List File) →
-      StartsWith (due_reports command (course_of start command.ignore_missing_entry (map whole contents ++ files)).after) front.report
+  pub due : (start : Outset) → Begins command.resume before.file start → (contents : List (List ℕ))
+      → AreHeldFiles (take place (helds_of command before.file)) contents → (files : List File) →
+      StartsWith (due_reports command (course_of start command.ignore_missing_entry (map ended_file contents ++ files)).after) front.report
 
 -- While the last report or the state is written: each stream got a front of its text.
 pub record IsCutAtEnd (command : Command) (before after : Outside) : Type 0 where
   pub front : Output
-  pub written : after.written ≡ followed before.written front
+  pub written : after.written ≡ texts_followed_by before.written front
   pub read : AreRead command before after
   pub messages : front.messages ≡ first_line command
   pub unsaved : command.save ≡ false → front.state ≡ []
-  pub due : (start : Outset) → Begins command.resume before.file start → (contents : List (List ℕ)) → AreHeldFiles (helds_of command before.file) contents
-      → IsFront front (output_of start command (map whole contents))
+  pub due : (start : Outset) → Begins command.resume before.file start → (contents : List (List ℕ))
+      → AreHeldFiles (helds_of command before.file) contents
+      → IsFront front (output_of start command (map ended_file contents))
 
 abbrev pub IsCutInRun : Option Request → Outside → Outside → Type 0
 IsCutInRun (Some (Run command)) before after = IsCutWithin command before after ⊎ IsCutAtEnd command before after
@@ -203,12 +223,13 @@ abbrev pub IsCutShort : Option Request → Outside → Outside → Type 0
 IsCutShort request before after =
     (after.written ≡ before.written)
     ⊎ IsCutInRun request before after
-    ⊎ ((status : Status) × (output : Output) × ComesTo status request before after output × FollowedByFront before.written after.written output)
+    ⊎ ((status : Status) × (output : Output) × ComesTo status request before after output
+    × FollowedByFront before.written after.written output)
 
 -- ---- what each status says
 -- All of the output was written, and no write failed.
 abbrev pub OutputIsWritten : Outside → Outside → Output → Type 0
-OutputIsWritten before after output = (after.written ≡ followed before.written output) × (after.write_faults ≡ before.write_faults)
+OutputIsWritten before after output = (after.written ≡ texts_followed_by before.written output) × (after.write_faults ≡ before.write_faults)
 
 abbrev pub Says : Status → Option Request → Outside → Outside → Type 0
 Says Write request before after = Rose before.write_faults after.write_faults × IsCutShort request before after
@@ -223,16 +244,20 @@ pub record IsCalm (before after : Outside) : Type 0 where
 
 -- the run has this status and this output, or memory ran out
 abbrev pub GivesOutput : Status → Output → Status → Outside → Outside → Type 0
-GivesOutput status output result before after = ((result ≡ status) × (after.written ≡ followed before.written output)) ⊎ (result ≡ NoMemory)
+GivesOutput status output result before after =
+    ((result ≡ status) × (after.written ≡ texts_followed_by before.written output)) ⊎ (result ≡ NoMemory)
 
--- Where no fault of the outside rises, a run over files that are held comes to its end. Files behind a faulty one need not be there, behind a state file that is refused, too.
+-- Where no fault of the outside rises, a run over files that are held comes to its end. Files behind a faulty one need not be there,
+-- behind a state file that is refused, too.
 pub record IsComplete (command : Command) (before after : Outside) (result : Status) : Type 0 where
-  pub done : (start : Outset) → Begins command.resume before.file start → (contents : List (List ℕ)) → AreHeldFiles (helds_of command before.file) contents
-      → first_fault start command.ignore_missing_entry (map whole contents) ≡ None
-      → GivesOutput Done (output_of start command (map whole contents)) result before after
-  pub refused : (start : Outset) → Begins command.resume before.file start → (n : ℕ) (contents : List (List ℕ)) (fault : FileFault) → AreHeldFiles (take n (helds_of command before.file)) contents
-      → first_fault start command.ignore_missing_entry (map whole contents) ≡ Some fault
-      → GivesOutput Refused (output_of start command (map whole contents)) result before after
+  pub done : (start : Outset) → Begins command.resume before.file start → (contents : List (List ℕ))
+      → AreHeldFiles (helds_of command before.file) contents
+      → first_fault start command.ignore_missing_entry (map ended_file contents) ≡ None
+      → GivesOutput Done (output_of start command (map ended_file contents)) result before after
+  pub refused : (start : Outset) → Begins command.resume before.file start → (n : ℕ) (contents : List (List ℕ)) (fault : FileFault)
+      → AreHeldFiles (take n (helds_of command before.file)) contents
+      → first_fault start command.ignore_missing_entry (map ended_file contents) ≡ Some fault
+      → GivesOutput Refused (output_of start command (map ended_file contents)) result before after
   pub state_refused : (name xs : List ℕ) (why : Why) → command.resume ≡ Some name → before.file name ≡ Holds xs → IsRefusedAs why xs
       → GivesOutput Refused (only_on stream.Messages (fault_line name 0 why)) result before after
 

@@ -9,8 +9,8 @@ use Rattle.dk_core.specs.History.{History}
 use Rattle.dk_core.specs.Standing.{options_of as options_in}
 use Rattle.dk_core.specs.declared.session.Session.{Session}
 use Rattle.dk_words.specs.declared.command.Command.{Command}
-use Rattle.dk_run.specs.Commands.{options_of}
-use Rattle.dk_run.specs.Outputs.{saved}
+use Rattle.dk_run.specs.Commands.{report_options}
+use Rattle.dk_run.specs.Outputs.{saved_state}
 use Rattle.dk_run.specs.declared.reporting.Halt.{Halt}
 use Rattle.dk_run.specs.declared.reporting.Halt.TheVariants.{Write, NoMemory}
 
@@ -59,7 +59,7 @@ TellsOutcome Stands due old new before after (Err halt) = CutOff Stands due old 
 pub record StateTold (command : Command) (Stands : History → Type 0) (old new : Texts) (before after : ℕ) : Type 0 where
   pub text : List ℕ
   pub written : new ≡ with_bytes old State text
-  pub holds : (h : History) → Stands h → text ≡ saved command h
+  pub holds : (h : History) → Stands h → text ≡ saved_state command h
   pub unsaved : command.save ≡ false → text ≡ []
   pub calm : after ≡ before
 
@@ -67,7 +67,7 @@ pub record StateTold (command : Command) (Stands : History → Type 0) (old new 
 pub record StateCut (command : Command) (Stands : History → Type 0) (old new : Texts) (before after : ℕ) (halt : Halt) : Type 0 where
   pub text : List ℕ
   pub written : new ≡ with_bytes old State text
-  pub holds : (h : History) → Stands h → StartsWith (saved command h) text
+  pub holds : (h : History) → Stands h → StartsWith (saved_state command h) text
   pub unsaved : command.save ≡ false → text ≡ []
   pub cause : HaltHasCause before after halt
 
@@ -78,4 +78,4 @@ StateTells command Stands old new before after (Err halt) = StateCut command Sta
 
 -- the session reports by what the command says
 abbrev pub ReportsBy : {F : Type 0} → Command → Session F → Type 0
-ReportsBy command session = options_in session ≡ options_of command
+ReportsBy command session = options_in session ≡ report_options command

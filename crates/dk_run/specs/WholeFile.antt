@@ -10,8 +10,9 @@ use Rattle.dk_core.specs.Standing.{SessionStandsFor, blocks_of}
 use Rattle.dk_core.specs.Steps.{groups_left}
 use Rattle.dk_core.specs.declared.session.Session.{Session}
 use Rattle.dk_words.specs.declared.command.Command.{Command}
-use Rattle.dk_run.specs.Courses.{Course, course_of_groups, onto}
-use Rattle.dk_run.specs.Reports.{capped, due_from}
+use Rattle.dk_run.specs.Courses.{Course, behind_histories, course_of_groups}
+use Rattle.dk_presence.specs.Patterns.{capped}
+use Rattle.dk_run.specs.Reports.{due_from}
 use Rattle.dk_base.specs.declared.faults.Fault.{Fault}
 use Rattle.dk_base.specs.declared.faults.Fault.TheVariants as fault
 use Rattle.dk_run.specs.declared.reporting.Halt.{Halt}
@@ -23,19 +24,23 @@ use Rattle.dk_run.specs.declared.reading.Trouble.TheVariants.{Refused, Start, Re
 abbrev pub course_behind : Bool → History → Groups → Course LineFault
 course_behind ignores history groups = course_of_groups ignores (effect_of ignores history) groups
 
--- Within a file: behind these histories, what the first history says of what was left is what the next one says of what is left now. So it is of
--- a file that is cut off, unless it is cut off behind its last line and no LF ends that.
-pub record Within (ignores : Bool) (history : History) (old : Reading) (xs : List ℕ) (after : List History) (next : History) (is_over : Bool) (new : Reading) (ys : List ℕ) : Type 0 where
+-- Within a file: behind these histories, what the first history says of what was left is what the next one says of what is left now. So it
+-- is of a file that is cut off, unless it is cut off behind its last line and no LF ends that.
+pub record Within (ignores : Bool) (history : History) (old : Reading) (xs : List ℕ) (after : List History) (next : History)
+    (is_over : Bool) (new : Reading) (ys : List ℕ) : Type 0 where
   pub front : List ℕ
   pub split : xs ≡ front ++ ys
   pub room : room_of new ≡ room_of old - length front
   pub nothing : is_over ≡ true → ys ≡ []
-  pub same : course_behind ignores history (groups_left false old true xs) ≡ onto after (course_behind ignores next (groups_left is_over new true ys))
+  pub same : course_behind ignores history (groups_left false old true xs)
+      ≡ behind_histories after (course_behind ignores next (groups_left is_over new true ys))
   pub cut : (d rest : List ℕ) → ys ≡ d ++ rest →
-      (course_behind ignores history (groups_left false old false (front ++ d)) ≡ onto after (course_behind ignores next (groups_left is_over new false d))) ⊎ (ys ≡ [])
+      (course_behind ignores history (groups_left false old false (front ++ d))
+      ≡ behind_histories after (course_behind ignores next (groups_left is_over new false d))) ⊎ (ys ≡ [])
 
 -- The session stands for a history within the file, in front of which n blocks were read, and the reports that were due are told.
-pub record FileGoesOn (command : Command) (n : ℕ) (history : History) (old : Reading) (xs text : List ℕ) (Stands : History → Type 0) (blocks : ℕ) (is_over : Bool) (new : Reading) (left : Option (List ℕ)) : Type 0 where
+pub record FileGoesOn (command : Command) (n : ℕ) (history : History) (old : Reading) (xs text : List ℕ) (Stands : History → Type 0)
+    (blocks : ℕ) (is_over : Bool) (new : Reading) (left : Option (List ℕ)) : Type 0 where
   pub after : List History
   pub next : History
   pub stands : Stands next
@@ -46,7 +51,8 @@ pub record FileGoesOn (command : Command) (n : ℕ) (history : History) (old : R
   pub within : Within command.ignore_missing_entry history old xs after next is_over new ys
 
 -- the file's bytes xs up to its end come to a history, and the reports that were due are told
-pub record ComesToEnd (command : Command) (n : ℕ) (history : History) (old : Reading) (xs text : List ℕ) (Stands : History → Type 0) (blocks : ℕ) (new : Reading) (left : Option (List ℕ)) : Type 0 where
+pub record ComesToEnd (command : Command) (n : ℕ) (history : History) (old : Reading) (xs text : List ℕ) (Stands : History → Type 0)
+    (blocks : ℕ) (new : Reading) (left : Option (List ℕ)) : Type 0 where
   pub after : List History
   pub next : History
   pub stands : Stands (file_ended next)
@@ -62,9 +68,10 @@ pub record HasFault (command : Command) (n : ℕ) (history : History) (old : Rea
   pub told : text ≡ due_from command (n + 1) after
   pub all : course_behind command.ignore_missing_entry history (groups_left false old true xs) ≡ record { after = after; end = Err fault }
 
--- Of the file's bytes xs a front without a fault was delivered, and the reports that are due within it are told. Where it is all, it may count as
--- ended.
-pub record IsBroken (command : Command) (n : ℕ) (history : History) (old : Reading) (xs text : List ℕ) (left : Option (List ℕ)) : Type 0 where
+-- Of the file's bytes xs a front without a fault was delivered, and the reports that are due within it are told. Where it is all, it may
+-- count as ended.
+pub record IsBroken (command : Command) (n : ℕ) (history : History) (old : Reading) (xs text : List ℕ)
+    (left : Option (List ℕ)) : Type 0 where
   pub front : List ℕ
   pub rest : List ℕ
   pub left_is : left ≡ Some rest
@@ -74,7 +81,8 @@ pub record IsBroken (command : Command) (n : ℕ) (history : History) (old : Rea
   pub after : List History
   pub told : text ≡ due_from command (n + 1) after
   pub next : History
-  pub all : course_behind command.ignore_missing_entry history (groups_left false old is_ended front) ≡ record { after = after; end = Ok next }
+  pub all : course_behind command.ignore_missing_entry history (groups_left false old is_ended front)
+      ≡ record { after = after; end = Ok next }
 
 -- a front of the reports that are due within the file's bytes xs is told
 pub record IsShort (command : Command) (n : ℕ) (history : History) (old : Reading) (xs text : List ℕ) : Type 0 where
@@ -84,47 +92,56 @@ pub record IsShort (command : Command) (n : ℕ) (history : History) (old : Read
   pub told : StartsWith (due_from command (n + 1) after) text
 
 -- a reader in front of the first line of a file
-abbrev pub fresh : Reading → Reading
-fresh r = record r { is_started = true; number = 0; ahead = []; line = [] }
+abbrev pub fresh_reading : Reading → Reading
+fresh_reading r = record r { is_started = true; number = 0; ahead = []; line = [] }
 
 -- a reader that could not start a file
-abbrev pub unstarted : Reading → Reading
-unstarted r = record r { is_started = false; number = 0; ahead = []; line = [] }
+abbrev pub unstarted_reading : Reading → Reading
+unstarted_reading r = record r { is_started = false; number = 0; ahead = []; line = [] }
 
 -- what a trouble with the started file says, where n blocks were read before it and the bytes xs are left
 abbrev pub TroubleGives : Command → ℕ → History → Reading → List ℕ → List ℕ → Trouble → Option (List ℕ) → Type 0
-TroubleGives command n history old xs text (Refused line why) left = HasFault command n history old xs text (record { line = line; why = why })
+TroubleGives command n history old xs text (Refused line why) left =
+    HasFault command n history old xs text (record { line = line; why = why })
 TroubleGives command n history old xs text Start left = ⊥
 TroubleGives command n history old xs text Read left = IsBroken command n history old xs text left
 TroubleGives command n history old xs text Write left = IsShort command n history old xs text
 TroubleGives command n history old xs text NoMemory left = IsShort command n history old xs text
 
 -- what reading the started file to its end comes to
-abbrev pub StartedGives : {F : Type 0} → Command → ℕ → History → Reading → List ℕ → List ℕ → Result (Session F) Trouble → Reading → Option (List ℕ) → Type 0
-StartedGives command n history old xs text (Ok session) new left = ComesToEnd command n history old xs text (SessionStandsFor session) (blocks_of session) new left
+abbrev pub StartedGives : {F : Type 0} → Command → ℕ → History → Reading → List ℕ → List ℕ → Result (Session F) Trouble → Reading
+    → Option (List ℕ) → Type 0
+StartedGives command n history old xs text (Ok session) new left =
+    ComesToEnd command n history old xs text (SessionStandsFor session) (blocks_of session) new left
 StartedGives command n history old xs text (Err trouble) new left = TroubleGives command n history old xs text trouble left
 
 -- What a trouble with a file of the bytes xs says, where it was started.
 abbrev pub FileTroubleGives : Command → ℕ → History → Reading → List ℕ → List ℕ → Option (List ℕ) → Trouble → Option (List ℕ) → Type 0
 FileTroubleGives command n history old xs text before Start rest = Unit {0}
-FileTroubleGives command n history old xs text before (Refused line why) rest = TroubleGives command n history (fresh old) xs text (Refused line why) rest
-FileTroubleGives command n history old xs text before Read rest = TroubleGives command n history (fresh old) xs text Read rest
-FileTroubleGives command n history old xs text before Write rest = TroubleGives command n history (fresh old) xs text Write rest
-FileTroubleGives command n history old xs text before NoMemory rest = TroubleGives command n history (fresh old) xs text NoMemory rest
+FileTroubleGives command n history old xs text before (Refused line why) rest =
+    TroubleGives command n history (fresh_reading old) xs text (Refused line why) rest
+FileTroubleGives command n history old xs text before Read rest = TroubleGives command n history (fresh_reading old) xs text Read rest
+FileTroubleGives command n history old xs text before Write rest = TroubleGives command n history (fresh_reading old) xs text Write rest
+FileTroubleGives command n history old xs text before NoMemory rest =
+    TroubleGives command n history (fresh_reading old) xs text NoMemory rest
 
 -- what reading a file of the bytes xs comes to
-abbrev pub FileGives : {F : Type 0} → Command → ℕ → History → Reading → List ℕ → List ℕ → Option (List ℕ) → Result (Session F) Trouble → Reading → Option (List ℕ) → Type 0
-FileGives command n history old xs text before (Ok session) new rest = ComesToEnd command n history (fresh old) xs text (SessionStandsFor session) (blocks_of session) new rest
+abbrev pub FileGives : {F : Type 0} → Command → ℕ → History → Reading → List ℕ → List ℕ → Option (List ℕ) → Result (Session F) Trouble
+    → Reading → Option (List ℕ) → Type 0
+FileGives command n history old xs text before (Ok session) new rest =
+    ComesToEnd command n history (fresh_reading old) xs text (SessionStandsFor session) (blocks_of session) new rest
 FileGives command n history old xs text before (Err trouble) new rest = FileTroubleGives command n history old xs text before trouble rest
 
 -- what reading the generated file comes to; each start and each read of it succeeds
 abbrev pub TextGives : {F : Type 0} → Command → ℕ → History → Reading → List ℕ → List ℕ → Result (Session F) Trouble → Reading → Type 0
-TextGives command n history old xs text (Ok session) new = ComesToEnd command n history (fresh old) xs text (SessionStandsFor session) (blocks_of session) new (Some [])
-TextGives command n history old xs text (Err (Refused line why)) new = HasFault command n history (fresh old) xs text (record { line = line; why = why })
+TextGives command n history old xs text (Ok session) new =
+    ComesToEnd command n history (fresh_reading old) xs text (SessionStandsFor session) (blocks_of session) new (Some [])
+TextGives command n history old xs text (Err (Refused line why)) new =
+    HasFault command n history (fresh_reading old) xs text (record { line = line; why = why })
 TextGives command n history old xs text (Err Start) new = Unit {0}
 TextGives command n history old xs text (Err Read) new = Unit {0}
-TextGives command n history old xs text (Err Write) new = IsShort command n history (fresh old) xs text
-TextGives command n history old xs text (Err NoMemory) new = IsShort command n history (fresh old) xs text
+TextGives command n history old xs text (Err Write) new = IsShort command n history (fresh_reading old) xs text
+TextGives command n history old xs text (Err NoMemory) new = IsShort command n history (fresh_reading old) xs text
 
 -- it is no failed start and no failed read
 abbrev pub IsNoBreak : {A : Type 0} → Result A Trouble → Type 0
@@ -142,12 +159,12 @@ IsCalmBut before after (Ok x) = after ≡ before
 IsCalmBut before after (Err trouble) = IsCalmUnless before after trouble
 
 -- a report by the way is not written whole
-abbrev pub halted : Halt → Trouble
-halted halt.Write = Write
-halted halt.NoMemory = NoMemory
+abbrev pub trouble_of_halt : Halt → Trouble
+trouble_of_halt halt.Write = Write
+trouble_of_halt halt.NoMemory = NoMemory
 
 -- a block is not read
-abbrev pub faulted : Fault → Trouble
-faulted (fault.Refused file line why) = Refused line why
-faulted (fault.Read file) = Read
-faulted fault.NoMemory = NoMemory
+abbrev pub trouble_of_fault : Fault → Trouble
+trouble_of_fault (fault.Refused file line why) = Refused line why
+trouble_of_fault (fault.Read file) = Read
+trouble_of_fault fault.NoMemory = NoMemory

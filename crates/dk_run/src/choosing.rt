@@ -1,8 +1,8 @@
 // What a command chooses.
 ghost use Rattle.std.specs.Prelude.{◌≡◌, ◌<◌, length};
 ghost use Rattle.dk_run.specs.Beginning.{state_name};
-ghost use Rattle.dk_run.specs.Commands.{generated_count, is_selected, names_of, options_of};
-ghost use Rattle.dk_run.specs.Files.{name_at};
+ghost use Rattle.dk_run.specs.Commands.{file_names, generated_count, is_selected, report_options};
+ghost use Rattle.dk_run.specs.Files.{file_name_at};
 
 use dk_generate::generated_name;
 use dk_report::Options;
@@ -10,7 +10,7 @@ use dk_words::Command;
 
 /// What reports leave out.
 pub(crate) fn options_of(command: &Command) -> Options
-    ensures { result ≡ options_of command.now }
+    ensures { result ≡ report_options command.now }
 {
     Options {
         least: command.least,
@@ -55,8 +55,8 @@ pub(crate) fn state_name(command: &Command) -> &str
 
 /// The name of the file at a place.
 pub(crate) fn name_at(command: &Command, place: usize) -> &str
-    requires { place < length (names_of command.now) }
-    ensures { result.now ≡ name_at (names_of command.now) place }
+    requires { place < length (file_names command.now) }
+    ensures { result.now ≡ file_name_at (file_names command.now) place }
 {
     match command.generate {
         Some(_) if place == 0 => generated_name(),

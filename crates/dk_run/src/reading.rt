@@ -7,14 +7,14 @@ ghost use Rattle.dk_lines.specs.Reading.{left_of, room_of};
 ghost use Rattle.dk_core.specs.History.{History};
 ghost use Rattle.dk_core.specs.Selecting.{SelectsBy};
 ghost use Rattle.dk_core.specs.Standing.{ReportsAlike, SessionStandsFor, blocks_of, over_of, select_of};
-ghost use Rattle.dk_run.specs.AllFiles.{AreCalmBut, AreNoBreak, AreReadTo, FilesGive, IsCaused, placed};
-ghost use Rattle.dk_run.specs.Commands.{generated_count, helds_of, is_selected, names_of};
+ghost use Rattle.dk_run.specs.AllFiles.{AreCalmBut, AreNoBreak, AreReadTo, FilesGive, IsCaused, files_trouble};
+ghost use Rattle.dk_run.specs.Commands.{file_names, generated_count, helds_of, is_selected};
 ghost use Rattle.dk_run.specs.Courses.{Outset, line_limit};
 ghost use Rattle.dk_run.specs.Starts.{Begins};
-ghost use Rattle.dk_run.specs.Files.{name_at};
-ghost use Rattle.dk_run.specs.Reports.{capped};
+ghost use Rattle.dk_run.specs.Files.{file_name_at};
+ghost use Rattle.dk_presence.specs.Patterns.{capped};
 ghost use Rattle.dk_run.specs.Telling.{Added, ReportsBy};
-ghost use Rattle.dk_run.specs.WholeFile.{FileGives, IsCalmBut, IsNoBreak, StartedGives, TextGives, faulted as faulted_by, halted as halted_by, unstarted};
+ghost use Rattle.dk_run.specs.WholeFile.{FileGives, IsCalmBut, IsNoBreak, StartedGives, TextGives, trouble_of_fault as faulted_by, trouble_of_halt as halted_by, unstarted_reading};
 
 use crate::choosing::generated_count;
 use crate::reporting::{Halt, tell_by_the_way};
@@ -135,7 +135,7 @@ fn read_file<F: Fn(&[u8]) -> bool + Drop, I: Inputs, S: Sinks>(
     ensures alike { IfOk result (λ next. ReportsAlike session next) }
     // Only a file that could not be started may be absent, and of that one nothing was read.
     ensures there { result ≢ Err Trouble.Start → I.file inputs.old name.now ≢ Absent }
-    ensures unstarted { result ≡ Err Trouble.Start → (lines.new ≡ unstarted lines.old) × (I.rest inputs.new ≡ I.rest inputs.old) }
+    ensures unstarted { result ≡ Err Trouble.Start → (lines.new ≡ unstarted_reading lines.old) × (I.rest inputs.new ≡ I.rest inputs.old) }
     ensures limits { lines.new.limits ≡ lines.old.limits }
     ensures files { I.file inputs.new ≡ I.file inputs.old }
     ensures later { I.faults inputs.old ≤ I.faults inputs.new }
@@ -149,7 +149,7 @@ fn read_file<F: Fn(&[u8]) -> bool + Drop, I: Inputs, S: Sinks>(
 }
 
 fn at_place(place: usize, trouble: Trouble) -> FilesTrouble
-    ensures { result ≡ placed place trouble }
+    ensures { result ≡ files_trouble place trouble }
 {
     match trouble {
         Trouble::Refused { line, why } => FilesTrouble::Refused { place, line, why },
@@ -163,7 +163,7 @@ fn at_place(place: usize, trouble: Trouble) -> FilesTrouble
 // A word at an index.
 fn word_at(words: &[Word], index: usize) -> &str
     requires { index < length words.now }
-    ensures { result.now ≡ name_at words.now index }
+    ensures { result.now ≡ file_name_at words.now index }
 {
     words[index].as_str()
 }
@@ -184,7 +184,7 @@ pub(crate) fn read_files<F: Fn(&[u8]) -> bool + Drop, I: Inputs, S: Sinks>(
     requires selects { SelectsBy (F.post (select_of session)) (is_selected command.now) }
     ensures gives { Added (S.written sinks.old) (S.written sinks.new) stream.Report (λ text. (told : List ℕ) →
         AreReadTo command.now (I.file inputs.old) (I.rest inputs.old) (I.rest inputs.old) (SessionStandsFor session) (blocks_of session) (room_of lines.old) (generated_count command.now) told
-        → FilesGive command.now (I.file inputs.old) (I.rest inputs.old) (length (names_of command.now)) (told ++ text) result lines.new (I.rest inputs.new)) }
+        → FilesGive command.now (I.file inputs.old) (I.rest inputs.old) (length (file_names command.now)) (told ++ text) result lines.new (I.rest inputs.new)) }
     ensures calm { AreCalmBut (S.faults sinks.old) (S.faults sinks.new) result }
     ensures cause { IsCaused (helds_of command.now (I.file inputs.old)) (Rose (I.faults inputs.old) (I.faults inputs.new)) result }
     ensures alike { IfOk result (λ next. ReportsAlike session next) }

@@ -6,7 +6,7 @@ ghost use Rattle.dk_core.specs.History.{History};
 ghost use Rattle.dk_core.specs.Sections.{all_stats_of, report_of, section_of, stats_of};
 ghost use Rattle.dk_core.specs.Selecting.{SelectsBy};
 ghost use Rattle.dk_core.specs.Standing.{SessionStandsFor, blocks_of, points_of, select_of};
-ghost use Rattle.dk_run.specs.Commands.{is_selected, options_of};
+ghost use Rattle.dk_run.specs.Commands.{is_selected, report_options};
 ghost use Rattle.dk_print.specs.Sections.{after_blocks_line as blocks_text, end_line as end_text};
 ghost use Rattle.dk_run.specs.Reports.{is_due, whole_report};
 ghost use Rattle.dk_run.specs.Telling.{ReportsBy, StateTells, TellsOutcome, WritesText};
@@ -47,7 +47,7 @@ fn tell_section<F: Fn(&[u8]) -> bool + Drop, S: Sinks>(
     requires reports { ReportsBy command.now session.now }
     requires callable { F.IsAlwaysCallable (select_of session.now) }
     requires selects { SelectsBy (F.post (select_of session.now)) (is_selected command.now) }
-    ensures { TellsOutcome (SessionStandsFor session.now) (λ h. section_of (options_of command.now) (is_selected command.now) h p) (S.written sinks.old) (S.written sinks.new) (S.faults sinks.old) (S.faults sinks.new) result }
+    ensures { TellsOutcome (SessionStandsFor session.now) (λ h. section_of (report_options command.now) (is_selected command.now) h p) (S.written sinks.old) (S.written sinks.new) (S.faults sinks.old) (S.faults sinks.new) result }
 {
     let _command = command;
     let mut text = Text::new(alloc);
@@ -67,7 +67,7 @@ fn tell_sections<F: Fn(&[u8]) -> bool + Drop, S: Sinks>(
     requires reports { ReportsBy command.now session.now }
     requires callable { F.IsAlwaysCallable (select_of session.now) }
     requires selects { SelectsBy (F.post (select_of session.now)) (is_selected command.now) }
-    ensures { TellsOutcome (SessionStandsFor session.now) (λ h. report_of (options_of command.now) (is_selected command.now) h) (S.written sinks.old) (S.written sinks.new) (S.faults sinks.old) (S.faults sinks.new) result }
+    ensures { TellsOutcome (SessionStandsFor session.now) (λ h. report_of (report_options command.now) (is_selected command.now) h) (S.written sinks.old) (S.written sinks.new) (S.faults sinks.old) (S.faults sinks.new) result }
 {
     let points = session.points();
     for p in 0..points.len() {

@@ -3,7 +3,7 @@ ghost use Rattle.std.specs.Prelude.{◌≡◌, ◌≤◌, List, ℕ, IfErr, IfOk
 ghost use Rattle.dk_io.specs.Outside.{HeldFile, Rose};
 ghost use Rattle.dk_core.specs.Selecting.{SelectsBy};
 ghost use Rattle.dk_core.specs.Standing.{select_of};
-ghost use Rattle.dk_run.specs.Beginning.{IsBegun, IsLeft, IsWhole, IsResumed, IsUnloaded, StartTroubleGives, StateTroubleGives, unloaded as unloaded_by, unread as unread_by};
+ghost use Rattle.dk_run.specs.Beginning.{IsBegun, IsLeft, IsWhole, IsResumed, IsUnloaded, StartTroubleGives, StateTroubleGives, trouble_of_load as unloaded_by, trouble_of_read as unread_by};
 ghost use Rattle.dk_run.specs.Commands.{is_selected};
 ghost use Rattle.dk_run.specs.Courses.{total_limit};
 

@@ -9,13 +9,13 @@ ghost use Rattle.dk_words.specs.Requests.{request_of};
 ghost use Rattle.dk_words.specs.Texts.{usage_line as usage_text};
 ghost use Rattle.dk_words.specs.declared.request.Request.TheVariants as request;
 ghost use Rattle.dk_run.specs.AllFiles.{AreCalmBut, IsCaused, IsTroubleOf, RunGives};
-ghost use Rattle.dk_run.specs.Commands.{helds_of, is_selected as selects_name, names_of};
+ghost use Rattle.dk_run.specs.Commands.{file_names, helds_of, is_selected as selects_name};
 ghost use Rattle.dk_run.specs.Beginning.{HasCome, IsBegun};
 ghost use Rattle.dk_run.specs.Ending.{EndsBy, EndsUnbegun, EndsWith, status_of as status_by};
 ghost use Rattle.dk_print.specs.Sections.{fault_line as fault_text};
 ghost use Rattle.dk_run.specs.Messages.{unread_line as unread_text};
 ghost use Rattle.dk_run.specs.Outputs.{first_line};
-ghost use Rattle.dk_run.specs.Statuses.{CompletesCalmly, IsARun, Outside, Says};
+ghost use Rattle.dk_run.specs.Statuses.{CompletesCalmly, IsARun, Outside, Says, outside};
 ghost use Rattle.dk_run.specs.Telling.{Added, ReportsBy, WritesText};
 
 use crate::choosing::{is_selected, name_at, state_name};
@@ -82,7 +82,7 @@ fn tell_trouble<S: Sinks>(
     trouble: FilesTrouble,
     sinks: &mut S,
 ) -> Status
-    requires { IsTroubleOf (length (names_of command.now)) trouble }
+    requires { IsTroubleOf (length (file_names command.now)) trouble }
     ensures { EndsBy command.now trouble (S.written sinks.old) (S.written sinks.new) (S.faults sinks.old) (S.faults sinks.new) result }
 {
     match trouble {
@@ -182,20 +182,8 @@ fn run_files<F: Fn(&[u8]) -> bool + Drop, I: Inputs, S: Sinks>(
     requires selects { SelectsBy (F.post (select_of beginning.session)) (selects_name command.now) }
     requires begun { IsBegun command.now (I.file inputs.old) beginning }
     ensures says { (before : Outside) →
-        let now : Outside = record {
-          file = I.file inputs.old;
-          rest = I.rest inputs.old;
-          read_faults = I.faults inputs.old;
-          written = S.written sinks.old;
-          write_faults = S.faults sinks.old;
-        } in
-        let after : Outside = record {
-          file = I.file inputs.new;
-          rest = I.rest inputs.new;
-          read_faults = I.faults inputs.new;
-          written = S.written sinks.new;
-          write_faults = S.faults sinks.new;
-        } in
+        let now : Outside = outside (I.file inputs.old) (I.rest inputs.old) (I.faults inputs.old) (S.written sinks.old) (S.faults sinks.old) in
+        let after : Outside = outside (I.file inputs.new) (I.rest inputs.new) (I.faults inputs.new) (S.written sinks.new) (S.faults sinks.new) in
         HasCome command.now before now beginning → S.written sinks.old ≡ with_bytes before.written stream.Messages (first_line command.now)
         → Says result (Some (request.Run command.now)) before after }
     ensures files { I.file inputs.new ≡ I.file inputs.old }
@@ -224,20 +212,8 @@ fn run_begun<F: Fn(&[u8]) -> bool + Drop, I: Inputs, S: Sinks>(
     requires selects { SelectsBy (F.post (select_of beginning.session)) (selects_name command.now) }
     requires begun { IsBegun command.now (I.file inputs.old) beginning }
     ensures says { (before : Outside) →
-        let now : Outside = record {
-          file = I.file inputs.old;
-          rest = I.rest inputs.old;
-          read_faults = I.faults inputs.old;
-          written = S.written sinks.old;
-          write_faults = S.faults sinks.old;
-        } in
-        let after : Outside = record {
-          file = I.file inputs.new;
-          rest = I.rest inputs.new;
-          read_faults = I.faults inputs.new;
-          written = S.written sinks.new;
-          write_faults = S.faults sinks.new;
-        } in
+        let now : Outside = outside (I.file inputs.old) (I.rest inputs.old) (I.faults inputs.old) (S.written sinks.old) (S.faults sinks.old) in
+        let after : Outside = outside (I.file inputs.new) (I.rest inputs.new) (I.faults inputs.new) (S.written sinks.new) (S.faults sinks.new) in
         HasCome command.now before now beginning → S.written sinks.old ≡ before.written → Says result (Some (request.Run command.now)) before after }
     ensures files { I.file inputs.new ≡ I.file inputs.old }
 {
@@ -254,20 +230,8 @@ fn run_command<I: Inputs, S: Sinks>(
     inputs: &mut I,
     sinks: &mut S,
 ) -> Status
-    ensures says { let before : Outside = record {
-      file = I.file inputs.old;
-      rest = I.rest inputs.old;
-      read_faults = I.faults inputs.old;
-      written = S.written sinks.old;
-      write_faults = S.faults sinks.old;
-    } in
-        let after : Outside = record {
-          file = I.file inputs.new;
-          rest = I.rest inputs.new;
-          read_faults = I.faults inputs.new;
-          written = S.written sinks.new;
-          write_faults = S.faults sinks.new;
-        } in
+    ensures says { let before : Outside = outside (I.file inputs.old) (I.rest inputs.old) (I.faults inputs.old) (S.written sinks.old) (S.faults sinks.old) in
+        let after : Outside = outside (I.file inputs.new) (I.rest inputs.new) (I.faults inputs.new) (S.written sinks.new) (S.faults sinks.new) in
         Says result (Some (request.Run command.now)) before after }
     ensures files { I.file inputs.new ≡ I.file inputs.old }
 {
@@ -291,38 +255,14 @@ pub fn run<I: Inputs, S: Sinks>(
     sinks: &mut S,
 ) -> Status
     // What the status says.
-    ensures says { let before : Outside = record {
-      file = I.file inputs.old;
-      rest = I.rest inputs.old;
-      read_faults = I.faults inputs.old;
-      written = S.written sinks.old;
-      write_faults = S.faults sinks.old;
-    } in
-        let after : Outside = record {
-          file = I.file inputs.new;
-          rest = I.rest inputs.new;
-          read_faults = I.faults inputs.new;
-          written = S.written sinks.new;
-          write_faults = S.faults sinks.new;
-        } in
+    ensures says { let before : Outside = outside (I.file inputs.old) (I.rest inputs.old) (I.faults inputs.old) (S.written sinks.old) (S.faults sinks.old) in
+        let after : Outside = outside (I.file inputs.new) (I.rest inputs.new) (I.faults inputs.new) (S.written sinks.new) (S.faults sinks.new) in
         Says result (request_of (map string_bytes words.now)) before after }
     // Where the words ask for no run nothing is read.
     ensures unread { (IsARun (request_of (map string_bytes words.now)) → ⊥) → inputs.new ≡ inputs.old }
     // Where the files are held and no fault of the outside rises, the run comes to its end.
-    ensures complete { let before : Outside = record {
-      file = I.file inputs.old;
-      rest = I.rest inputs.old;
-      read_faults = I.faults inputs.old;
-      written = S.written sinks.old;
-      write_faults = S.faults sinks.old;
-    } in
-        let after : Outside = record {
-          file = I.file inputs.new;
-          rest = I.rest inputs.new;
-          read_faults = I.faults inputs.new;
-          written = S.written sinks.new;
-          write_faults = S.faults sinks.new;
-        } in
+    ensures complete { let before : Outside = outside (I.file inputs.old) (I.rest inputs.old) (I.faults inputs.old) (S.written sinks.old) (S.faults sinks.old) in
+        let after : Outside = outside (I.file inputs.new) (I.rest inputs.new) (I.faults inputs.new) (S.written sinks.new) (S.faults sinks.new) in
         CompletesCalmly (request_of (map string_bytes words.now)) before after result }
     ensures files { I.file inputs.new ≡ I.file inputs.old }
 {

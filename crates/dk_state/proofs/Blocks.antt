@@ -11,8 +11,8 @@ use Rattle.dk_engine.specs.declared.parts.Parts.{Parts}
 use Rattle.dk_graph.proofs.Places.{some-injective}
 use Rattle.dk_points.specs.Table.{Point, decl_if_declared}
 use Rattle.dk_state.specs.Kept.{behind_samples, parts_lines}
-use Rattle.dk_state.specs.Lines.{behind_blank, line}
-use Rattle.dk_state.specs.Loading.{IsLoadedAs, Loads, blocks}
+use Rattle.dk_state.specs.Lines.{behind_blank, state_line}
+use Rattle.dk_state.specs.Loading.{IsLoadedAs, Loads, saved_blocks}
 use Rattle.dk_state.specs.Reading.{BeginsWith, ends_field}
 use Rattle.dk_state.specs.Saved.{kept_lines}
 use Rattle.dk_state.specs.Spelling.{IsSavedAt, saved_lines}
@@ -28,26 +28,26 @@ loads_err P Q NoMemory h = h
 
 -- a point with samples comes first
 pub block_first : (p : ℕ) (parts : Parts) (more : List (Option Parts))
-    → blocks p (Some parts ∷ more) ≡ codes "samples" ++ (behind_blank (decimal p) ++ (behind_blank (decimal parts.samples) ++ 10 ∷ (behind_samples parts ++ blocks (p + 1) more)))
+    → saved_blocks p (Some parts ∷ more) ≡ codes "samples" ++ (behind_blank (decimal p) ++ (behind_blank (decimal parts.samples) ++ 10 ∷ (behind_samples parts ++ saved_blocks (p + 1) more)))
 block_first p parts more =
     let later = flat_map saved_lines (enumerate_from (p + 1) more) in
-    let head = line "samples" (decimal p ∷ decimal parts.samples ∷ []) in
+    let head = state_line "samples" (decimal p ∷ decimal parts.samples ∷ []) in
     append_assoc (head ++ behind_samples parts) later (codes "end-state\n")
-    ∙ append_assoc head (behind_samples parts) (blocks (p + 1) more)
-    ∙ line_onto (codes "samples") (decimal p ∷ decimal parts.samples ∷ []) (behind_samples parts ++ blocks (p + 1) more)
+    ∙ append_assoc head (behind_samples parts) (saved_blocks (p + 1) more)
+    ∙ line_onto (codes "samples") (decimal p ∷ decimal parts.samples ∷ []) (behind_samples parts ++ saved_blocks (p + 1) more)
 
 -- an earlier point doesn't come
 pub other_comes : (comes : Bool) (p q : ℕ) (more : List (Option Parts)) → p < q → q + length more < 2 ^ 32
-    → ((r : ℕ) (rest : List ℕ) → r < 2 ^ 32 → BeginsWith ends_field rest → blocks q more ≡ codes "samples" ++ (behind_blank (decimal r) ++ rest) → comes ≡ (r == p))
-    → (starts_with nat_eq (blocks q more) (codes "samples ") ≡ false → comes ≡ false) → comes ≡ false
+    → ((r : ℕ) (rest : List ℕ) → r < 2 ^ 32 → BeginsWith ends_field rest → saved_blocks q more ≡ codes "samples" ++ (behind_blank (decimal r) ++ rest) → comes ≡ (r == p))
+    → (starts_with nat_eq (saved_blocks q more) (codes "samples ") ≡ false → comes ≡ false) → comes ≡ false
 other_comes comes p q [] less small at none = none refl
 other_comes comes p q (None ∷ more) less small at none = other_comes comes p (q + 1) more (omega (arith, less)) (omega (arith, small)) at none
 other_comes comes p q (Some parts ∷ more) less small at none =
-    at q (behind_blank (decimal parts.samples) ++ 10 ∷ (behind_samples parts ++ blocks (q + 1) more)) (omega (arith, small)) refl (block_first q parts more)
+    at q (behind_blank (decimal parts.samples) ++ 10 ∷ (behind_samples parts ++ saved_blocks (q + 1) more)) (omega (arith, small)) refl (block_first q parts more)
     ∙ ne_eqb q p (λ e. absurd (omega (arith, e, less)))
 
 -- declarations stand in front of them
-pub no_point : (p : ℕ) (saved : List (Option Parts)) → starts_with nat_eq (blocks p saved) (codes "point ") ≡ false
+pub no_point : (p : ℕ) (saved : List (Option Parts)) → starts_with nat_eq (saved_blocks p saved) (codes "point ") ≡ false
 no_point p [] = refl
 no_point p (None ∷ saved) = no_point (p + 1) saved
 no_point p (Some parts ∷ saved) = refl

@@ -25,7 +25,7 @@ use Rattle.dk_presence.specs.declared.held.Held.{Held}
 use Rattle.dk_samples.specs.Leaders.{VarsAscend as LeadersAscend}
 use Rattle.dk_samples.specs.Samples.{is_present, value_in}
 use Rattle.dk_template.specs.declared.grammar.Grammar.{Grammar}
-use Rattle.dk_state.specs.Compact.{constants_in, held_in, kept_of, leaders_in, one_value, slots_in}
+use Rattle.dk_state.specs.Compact.{compact_form_of, constants_in, held_in, leaders_in, one_value, slots_in}
 use Rattle.dk_state.proofs.CompactLeaders.{leaders_exact}
 
 -- ---- constants
@@ -196,8 +196,8 @@ slots_exact g infos [] leaders known = record {
 slots_exact g infos (s ∷ ss) leaders known = slots_of_fits_exact g infos (s ∷ ss) (omega arith) leaders (own_ascend leaders) known
 
 -- ---- all parts
-pub kept_exact : (g : Grammar) (infos : List VarInfo) (samples : List (List Value)) → IsKeptOf g infos samples (kept_of g infos samples)
-unfolding kept_of
+pub kept_exact : (g : Grammar) (infos : List VarInfo) (samples : List (List Value)) → IsKeptOf g infos samples (compact_form_of g infos samples)
+unfolding compact_form_of
 kept_exact g infos samples =
     let leaders = leaders_in infos samples in
     let own = own_leaders leaders in

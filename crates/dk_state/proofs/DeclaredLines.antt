@@ -10,7 +10,7 @@ use Rattle.dk_base.specs.declared.values.Value.{Value}
 use Rattle.dk_base.specs.declared.values.Value.TheVariants as value
 use Rattle.dk_decl.specs.declared.decls.ParentVar.{ParentVar}
 use Rattle.dk_decl.specs.declared.decls.VarDecl.{VarDecl}
-use Rattle.dk_state.specs.Declarations.{constant_text, mapped_line, rep_text, var_lines}
+use Rattle.dk_state.specs.Declarations.{constant_decl_text, mapped_line, rep_text, var_lines}
 use Rattle.dk_state.specs.Fitting.{FitsConstant}
 use Rattle.dk_state.specs.Lines.{behind_blank}
 use Rattle.dk_state.specs.Reading.{HasNone, ends_field}
@@ -40,7 +40,7 @@ no_edge (v ∷ vs) rest = refl
 
 -- without a `constant` line there is none
 pub without_constant : (there : Bool) (k : Option Kind) (x : Option Value) (rest front : List ℕ) → FitsConstant there k x
-    → false ≡ starts_with nat_eq front (codes "constant ") → front ≡ constant_text there x ++ rest
+    → false ≡ starts_with nat_eq front (codes "constant ") → front ≡ constant_decl_text there x ++ rest
     → ◌≡◌ {A = Bool × Option Value} (false, None) (there, x) × (front ≡ rest)
 without_constant false k None rest front fits ended is = (refl, is)
 without_constant false k (Some x) rest front fits ended is = absurd (no_fit k x fits)
@@ -52,7 +52,7 @@ without_constant true k x rest front fits ended is = absurd (false≢true (ended
 
 -- with one its value comes
 pub with_constant : (there : Bool) (k : Option Kind) (x : Option Value) (rest front : List ℕ)
-    → starts_with nat_eq rest (codes "constant ") ≡ false → true ≡ starts_with nat_eq front (codes "constant ") → front ≡ constant_text there x ++ rest
+    → starts_with nat_eq rest (codes "constant ") ≡ false → true ≡ starts_with nat_eq front (codes "constant ") → front ≡ constant_decl_text there x ++ rest
     → (there ≡ true) × (front ≡ codes "constant" ++ (behind_blank (spelling (unwrap_or x value.Missing)) ++ 10 ∷ rest))
 with_constant false k x rest front none comes is = absurd (false≢true (sym none ∙ sym (ap (λ f. starts_with nat_eq f (codes "constant ")) is) ∙ sym comes))
 with_constant true k x rest front none comes is = (refl, is ∙ line_onto (codes "constant") (spelling (unwrap_or x value.Missing) ∷ []) rest)

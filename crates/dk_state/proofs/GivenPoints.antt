@@ -9,7 +9,7 @@ use Rattle.dk_decl.specs.declared.decls.ParentVar.{ParentVar}
 use Rattle.dk_decl.specs.declared.decls.PointDecl.{PointDecl}
 use Rattle.dk_decl.specs.declared.decls.VarDecl.{VarDecl}
 use Rattle.dk_state.specs.Fitting.{FitsEdge, FitsMapped, FitsPoint, FitsVar}
-use Rattle.dk_state.specs.Given.{CanBeGiven, all_new, edge_key, has_none, is_constant, is_edge, is_given, is_mapped, is_name, is_var}
+use Rattle.dk_state.specs.Given.{CanBeGiven, all_new, edge_key, has_none, is_given_constant, is_given_counterpart, is_given_edge, is_given_point, is_given_var, is_name}
 use Rattle.dk_state.specs.Reading.{HasNone, ends_line}
 use Rattle.dk_state.specs.Within.{IsEdgeWithin, IsMappedWithin, IsPointWithin, IsVarWithin}
 
@@ -26,40 +26,40 @@ name_in_line name h =
     let second = and_parts (not (slice_index_or name 0 0 == 9)) (not (slice_index_or name (length name - 1) 0 == 9) && has_none name 10) first.1 in
     (and_parts (not (slice_index_or name (length name - 1) 0 == 9)) (has_none name 10) second.1).1
 
-edge_fits : (e : EdgeDecl) → is_edge e ≡ true → IsEdgeWithin e → FitsEdge e
+edge_fits : (e : EdgeDecl) → is_given_edge e ≡ true → IsEdgeWithin e → FitsEdge e
 edge_fits e h within = record { id = within; parent = name_in_line e.parent (and_parts (is_name e.parent) (has_none e.parent 9) h).0 }
 
-mapped_fits : (own : List ℕ) (edges : ℕ) (p : ParentVar) → is_mapped own edges p ≡ true → IsMappedWithin p → FitsMapped p
+mapped_fits : (own : List ℕ) (edges : ℕ) (p : ParentVar) → is_given_counterpart own edges p ≡ true → IsMappedWithin p → FitsMapped p
 mapped_fits own edges p h within =
     let named = and_parts (nat_lt p.edge edges) (is_name p.name && (has_none p.name 9 || bytes_eq p.name own)) h in
     record { edge = within; name = name_in_line p.name (and_parts (is_name p.name) (has_none p.name 9 || bytes_eq p.name own) named.1).0 }
 
-var_fits : (edges : ℕ) (v : VarDecl) → is_var edges v ≡ true → IsVarWithin v → FitsVar v
+var_fits : (edges : ℕ) (v : VarDecl) → is_given_var edges v ≡ true → IsVarWithin v → FitsVar v
 var_fits edges v h within =
-    let mapped = list_all (is_mapped v.name edges) v.parents in
-    let named = and_parts (is_name v.name) (is_constant v.constant_line v.kind v.constant && mapped) h in
-    let parents = (and_parts (is_constant v.constant_line v.kind v.constant) mapped named.1).1 in
+    let mapped = list_all (is_given_counterpart v.name edges) v.parents in
+    let named = and_parts (is_name v.name) (is_given_constant v.constant_line v.kind v.constant && mapped) h in
+    let parents = (and_parts (is_given_constant v.constant_line v.kind v.constant) mapped named.1).1 in
     record {
       name = name_in_line v.name named.0;
       elem = within.elem;
       index = within.index;
       constant = within.constant;
-      parents = each_passed (is_mapped v.name edges) IsMappedWithin FitsMapped (mapped_fits v.name edges) v.parents parents within.parents;
+      parents = each_passed (is_given_counterpart v.name edges) IsMappedWithin FitsMapped (mapped_fits v.name edges) v.parents parents within.parents;
     }
 
-point_fits : (d : PointDecl) → is_given d ≡ true → IsPointWithin d → FitsPoint d
+point_fits : (d : PointDecl) → is_given_point d ≡ true → IsPointWithin d → FitsPoint d
 point_fits d h within =
-    let edges = all_new [] (map edge_key d.edges) && list_all is_edge d.edges in
-    let vars = all_new [] (map (λ (v : VarDecl). v.name) d.vars) && list_all (is_var (length d.edges)) d.vars in
+    let edges = all_new [] (map edge_key d.edges) && list_all is_given_edge d.edges in
+    let vars = all_new [] (map (λ (v : VarDecl). v.name) d.vars) && list_all (is_given_var (length d.edges)) d.vars in
     let named = and_parts (is_name d.name) (edges && vars) h in
     let both = and_parts edges vars named.1 in
-    let are_edges = (and_parts (all_new [] (map edge_key d.edges)) (list_all is_edge d.edges) both.0).1 in
-    let are_vars = (and_parts (all_new [] (map (λ (v : VarDecl). v.name) d.vars)) (list_all (is_var (length d.edges)) d.vars) both.1).1 in
+    let are_edges = (and_parts (all_new [] (map edge_key d.edges)) (list_all is_given_edge d.edges) both.0).1 in
+    let are_vars = (and_parts (all_new [] (map (λ (v : VarDecl). v.name) d.vars)) (list_all (is_given_var (length d.edges)) d.vars) both.1).1 in
     record {
       name = name_in_line d.name named.0;
-      edges = each_passed is_edge IsEdgeWithin FitsEdge edge_fits d.edges are_edges within.edges;
-      vars = each_passed (is_var (length d.edges)) IsVarWithin FitsVar (var_fits (length d.edges)) d.vars are_vars within.vars;
+      edges = each_passed is_given_edge IsEdgeWithin FitsEdge edge_fits d.edges are_edges within.edges;
+      vars = each_passed (is_given_var (length d.edges)) IsVarWithin FitsVar (var_fits (length d.edges)) d.vars are_vars within.vars;
     }
 
-pub all_given : (ds : List PointDecl) → All (λ d. IsTrue (is_given d)) ds → All IsPointWithin ds → All CanBeGiven ds
+pub all_given : (ds : List PointDecl) → All (λ d. IsTrue (is_given_point d)) ds → All IsPointWithin ds → All CanBeGiven ds
 all_given ds given within = λ k e l. record { given = given k e l; fits = point_fits _ (given k e l) (within k e l) }

@@ -21,7 +21,7 @@ use Rattle.dk_presence.specs.Patterns.{capped}
 use Rattle.dk_state.specs.Declarations.{decls_of}
 use Rattle.dk_state.specs.Loading.{AreLoadedAs, IsLoaded, IsLoadedAs}
 use Rattle.dk_state.specs.Saved.{kept_lines, saved_text, state_text}
-use Rattle.dk_state.specs.Spelling.{CanBeSaved, Content, IsContent, IsSavedAt, content_of, form_of, saved_lines, saved_of, text_of}
+use Rattle.dk_state.specs.Spelling.{CanBeSaved, Content, IsContent, IsSavedAt, compact_form_at, content_of, saved_lines, saved_parts, text_of_content}
 use Rattle.dk_state.specs.StateFile.{StandForHistory, state_file_of}
 use Rattle.dk_state.specs.declared.loading.Loaded.{Loaded}
 use Rattle.dk_state.proofs.Blocks.{all_alike, one_alike}
@@ -35,7 +35,7 @@ some_within (y ∷ xs) zero x e = omega arith
 some_within (y ∷ xs) (suc i) x e = omega (arith, some_within xs i x e)
 
 -- ---- what was loaded saves to the file
-pub saves_again : (c : Content) (l : Loaded) → IsContent c → IsLoaded c l → saved_text l.grammar l.points l.implicit (map (λ (e : Whole). e.kept) l.engines) ≡ text_of c
+pub saves_again : (c : Content) (l : Loaded) → IsContent c → IsLoaded c l → saved_text l.grammar l.points l.implicit (map (λ (e : Whole). e.kept) l.engines) ≡ text_of_content c
 unfolding saved_text
 saves_again c l meets loaded =
     let are = loaded.3 in
@@ -48,32 +48,32 @@ saves_again c l meets loaded =
     from_zero p = omega arith
 
 -- ---- the content of a history
-pub content_text : (g : Grammar) (ps : List Point) (implicit : Bool) (own : OwnSamples) → text_of (content_of g ps implicit own) ≡ state_file_of g ps implicit own
+pub content_text : (g : Grammar) (ps : List Point) (implicit : Bool) (own : OwnSamples) → text_of_content (content_of g ps implicit own) ≡ state_file_of g ps implicit own
 unfolding saved_text state_file_of
 content_text g ps implicit own =
-    let forms = map (form_of g ps own) (range_with_len 0 (length ps)) in
+    let forms = map (compact_form_at g ps own) (range_with_len 0 (length ps)) in
     ap (state_text g (decls_of ps) implicit)
-    (ap (λ s. flat_map saved_lines (enumerate_from 0 s)) (sym (map-map (form_of g ps own) saved_of (range_with_len 0 (length ps)))) ∙ saved_alike 0 forms)
+    (ap (λ s. flat_map saved_lines (enumerate_from 0 s)) (sym (map-map (compact_form_at g ps own) saved_parts (range_with_len 0 (length ps)))) ∙ saved_alike 0 forms)
 
 -- what is saved at a place
 saved_at : (g : Grammar) (ps : List Point) (implicit : Bool) (own : OwnSamples) (p : ℕ) (saved : Option Parts) → slice_get (content_of g ps implicit own).saved p ≡ Some saved
-    → (p < length ps) × (saved_of (form_of g ps own p) ≡ saved)
+    → (p < length ps) × (saved_parts (compact_form_at g ps own p) ≡ saved)
 saved_at g ps implicit own p saved there =
-    let f : ℕ → Option Parts = λ q. saved_of (form_of g ps own q) in
+    let f : ℕ → Option Parts = λ q. saved_parts (compact_form_at g ps own q) in
     let all = map f (range_with_len 0 (length ps)) in
     let long : length all ≡ length ps = length-map (range_with_len 0 (length ps)) f ∙ length-range_with_len 0 (length ps) in
     let within : p < length ps = omega (arith, some_within all p saved there, long) in
     (within, sym (get_or-map-range_with_len f 0 (length ps) p p None within (omega arith)) ∙ get_or_from_slice_get all p saved None there)
 
 -- samples without number
-counted : (g : Grammar) (ps : List Point) (own : OwnSamples) (p : ℕ) → (form_of g ps own p).samples ≡ min (length (slice_index_or own p [])) (2 ^ 64 - 1)
+counted : (g : Grammar) (ps : List Point) (own : OwnSamples) (p : ℕ) → (compact_form_at g ps own p).samples ≡ min (length (slice_index_or own p [])) (2 ^ 64 - 1)
 counted g ps own p =
     (kept_exact g (all_vars_of ps p) (own_samples_of ps own p)).number
     ∙ ap capped (length-map (slice_index_or own p []) (values_by_form (all_vars_of ps p)))
 
-one_saved : (g : Grammar) (ps : List Point) (own : OwnSamples) → CanBeSaved g ps own → (p : ℕ) → p < length ps → IsSavedAt g ps p (saved_of (form_of g ps own p))
+one_saved : (g : Grammar) (ps : List Point) (own : OwnSamples) → CanBeSaved g ps own → (p : ℕ) → p < length ps → IsSavedAt g ps p (saved_parts (compact_form_at g ps own p))
 one_saved g ps own can p within =
-    let kept = form_of g ps own p in
+    let kept = compact_form_at g ps own p in
     let samples = own_samples_of ps own p in
     let number = counted g ps own p in
     let as_many = length-map (slice_index_or own p []) (values_by_form (all_vars_of ps p)) in
@@ -95,17 +95,17 @@ one_saved g ps own can p within =
 pub history_meets : (g : Grammar) (ps : List Point) (implicit : Bool) (own : OwnSamples) → CanBeSaved g ps own → IsContent (content_of g ps implicit own)
 history_meets g ps implicit own can = record {
   table = can.table;
-  long = length-map (range_with_len 0 (length ps)) (λ p. saved_of (form_of g ps own p)) ∙ length-range_with_len 0 (length ps);
+  long = length-map (range_with_len 0 (length ps)) (λ p. saved_parts (compact_form_at g ps own p)) ∙ length-range_with_len 0 (length ps);
   saved = λ p saved there.
       let at = saved_at g ps implicit own p saved there in
       subst (IsSavedAt g ps p) at.1 (one_saved g ps own can p at.0);
 }
 
 -- ---- what was loaded stands for the history
-one_stands : (g : Grammar) (ps : List Point) (own : OwnSamples) (engine : Whole) (p : ℕ) → CanBeSaved g ps own → IsLoadedAs g ps p (saved_of (form_of g ps own p)) engine
+one_stands : (g : Grammar) (ps : List Point) (own : OwnSamples) (engine : Whole) (p : ℕ) → CanBeSaved g ps own → IsLoadedAs g ps p (saved_parts (compact_form_at g ps own p)) engine
     → IsKeptOf g (all_vars_of ps p) (own_samples_of ps own p) engine.kept
 one_stands g ps own engine p can =
-    let kept = form_of g ps own p in
+    let kept = compact_form_at g ps own p in
     let samples = own_samples_of ps own p in
     cond_both (kept.samples == 0) None (Some (parts_of kept)) (λ o. IsLoadedAs g ps p o engine → IsKeptOf g (all_vars_of ps p) samples engine.kept)
     (λ e is. subst (λ s. IsKeptOf g (all_vars_of ps p) s engine.kept) (sym (none samples (omega (arith, eqb-true kept.samples 0 e, (kept_exact g (all_vars_of ps p) samples).number)))) is)
@@ -124,7 +124,7 @@ loaded_stands g ps implicit own engines can are grammar loaded = record {
       let saved = (content_of g ps implicit own).saved in
       let inside = some_within engines p engine got in
       let within : p < length ps = omega (arith, inside, are.long) in
-      let f : ℕ → Option Parts = λ q. saved_of (form_of g ps own q) in
+      let f : ℕ → Option Parts = λ q. saved_parts (compact_form_at g ps own q) in
       let long : length saved ≡ length ps = length-map (range_with_len 0 (length ps)) f ∙ length-range_with_len 0 (length ps) in
       let there : slice_get saved p ≡ Some (f p) = slice_get-get_or saved p None (omega (arith, within, long)) ∙ ap (λ (o : Option Parts). Some o) (get_or-map-range_with_len f 0 (length ps) p p None within (omega arith)) in
       let kept = one_stands g ps own engine p can (loaded.each p (f p) engine there got) in

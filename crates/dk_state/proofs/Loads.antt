@@ -16,7 +16,7 @@ use Rattle.dk_state.specs.Declarations.{decls_of}
 use Rattle.dk_state.specs.Fitting.{FitsSlot}
 use Rattle.dk_state.specs.Loading.{AreSaved}
 use Rattle.dk_state.specs.Saved.{kept_lines, saved_text, state_text}
-use Rattle.dk_state.specs.Spelling.{Content, IsContent, IsOwnTable, IsSavedAt, saved_lines, saved_of, text_of}
+use Rattle.dk_state.specs.Spelling.{Content, IsContent, IsOwnTable, IsSavedAt, saved_lines, saved_parts, text_of_content}
 use Rattle.dk_state.specs.declared.loading.Loaded.{Loaded}
 use Rattle.dk_state.proofs.Blocks.{got_push}
 use Rattle.dk_template.specs.declared.grammar.Grammar.{Grammar}
@@ -31,27 +31,27 @@ declared_there ps p is e other = go (slice_get ps p) (e ∙ ap (λ (b : Bool). S
     go (Some q) e = rw (some-injective e) refl
 
 module _ (g : Grammar) (ps : List Point) (p : ℕ) (kept : Kept) where
-  pub new_saved : kept.samples ≡ 0 → IsSavedAt g ps p (saved_of kept)
+  pub new_saved : kept.samples ≡ 0 → IsSavedAt g ps p (saved_parts kept)
   new_saved none = rw none tt
 
-  pub parts_saved : IsTrue (is_some (decl_at ps p)) → AreSavedParts g (all_vars_of ps p) (parts_of kept) → All FitsSlot kept.slots → IsSavedAt g ps p (saved_of kept)
+  pub parts_saved : IsTrue (is_some (decl_at ps p)) → AreSavedParts g (all_vars_of ps p) (parts_of kept) → All FitsSlot kept.slots → IsSavedAt g ps p (saved_parts kept)
   parts_saved there meet within =
       cond_both (kept.samples == 0) None (Some (parts_of kept)) (IsSavedAt g ps p) (λ _. tt) (λ _. record { declared = there; meet = meet; within = within })
 
 -- one engine more
-pub more_saved : (g : Grammar) (ps : List Point) (engines : List Whole) (engine : Whole) → AreSaved g ps engines → IsSavedAt g ps (length engines) (saved_of engine.kept)
-    → (p : ℕ) (other : Whole) → slice_get (engines ++ engine ∷ []) p ≡ Some other → IsSavedAt g ps p (saved_of other.kept)
-more_saved g ps engines engine all own p other got = elim (got_push engines engine p other got) as (λ _. IsSavedAt g ps p (saved_of other.kept)) [
+pub more_saved : (g : Grammar) (ps : List Point) (engines : List Whole) (engine : Whole) → AreSaved g ps engines → IsSavedAt g ps (length engines) (saved_parts engine.kept)
+    → (p : ℕ) (other : Whole) → slice_get (engines ++ engine ∷ []) p ≡ Some other → IsSavedAt g ps p (saved_parts other.kept)
+more_saved g ps engines engine all own p other got = elim (got_push engines engine p other got) as (λ _. IsSavedAt g ps p (saved_parts other.kept)) [
   | inl before ↦ all p other before
-  | inr last ↦ subst (λ n. IsSavedAt g ps n (saved_of other.kept)) (sym last.0) (subst (λ (e : Whole). IsSavedAt g ps (length engines) (saved_of e.kept)) last.1 own)
+  | inr last ↦ subst (λ n. IsSavedAt g ps n (saved_parts other.kept)) (sym last.0) (subst (λ (e : Whole). IsSavedAt g ps (length engines) (saved_parts e.kept)) last.1 own)
 ]
 
 -- ---- the content
 -- what is saved of kept parts has their lines
-pub saved_alike : (n : ℕ) (ks : List Kept) → flat_map saved_lines (enumerate_from n (map saved_of ks)) ≡ flat_map kept_lines (enumerate_from n ks)
+pub saved_alike : (n : ℕ) (ks : List Kept) → flat_map saved_lines (enumerate_from n (map saved_parts ks)) ≡ flat_map kept_lines (enumerate_from n ks)
 saved_alike n [] = refl
 saved_alike n (k ∷ ks) =
-    let here : saved_lines (n, saved_of k) ≡ kept_lines (n, k) =
+    let here : saved_lines (n, saved_parts k) ≡ kept_lines (n, k) =
     cond_both (k.samples == 0) None (Some (parts_of k)) (λ o. saved_lines (n, o) ≡ kept_lines (n, k)) (λ e. rw e refl) (λ e. rw e refl) in
     let later = saved_alike (n + 1) ks in
     λ i. here i ++ later i
@@ -65,25 +65,25 @@ content_loaded l = record {
   grammar = l.grammar;
   points = l.points;
   implicit = l.implicit;
-  saved = map (λ (engine : Whole). saved_of engine.kept) l.engines;
+  saved = map (λ (engine : Whole). saved_parts engine.kept) l.engines;
 }
 
 -- it has the text that is saved
-pub loaded_text : (l : Loaded) → text_of (content_loaded l) ≡ saved_text l.grammar l.points l.implicit (map (λ (engine : Whole). engine.kept) l.engines)
+pub loaded_text : (l : Loaded) → text_of_content (content_loaded l) ≡ saved_text l.grammar l.points l.implicit (map (λ (engine : Whole). engine.kept) l.engines)
 unfolding saved_text
 loaded_text l =
     let kept = map (λ (engine : Whole). engine.kept) l.engines in
     ap (state_text l.grammar (decls_of l.points) l.implicit)
-    (ap (λ saved. flat_map saved_lines (enumerate_from 0 saved)) (sym (map-map (λ (engine : Whole). engine.kept) saved_of l.engines)) ∙ saved_alike 0 kept)
+    (ap (λ saved. flat_map saved_lines (enumerate_from 0 saved)) (sym (map-map (λ (engine : Whole). engine.kept) saved_parts l.engines)) ∙ saved_alike 0 kept)
 
 -- and meets the conditions
 pub loaded_meets : (l : Loaded) → IsOwnTable l.points → length l.engines ≡ length l.points → AreSaved l.grammar l.points l.engines → IsContent (content_loaded l)
 loaded_meets l table long saved = record {
   table = table;
-  long = length-map l.engines (λ (engine : Whole). saved_of engine.kept) ∙ long;
-  saved = λ p own there. at p own (slice_get l.engines p) refl (sym (slice_get-map (λ (engine : Whole). saved_of engine.kept) l.engines p) ∙ there);
+  long = length-map l.engines (λ (engine : Whole). saved_parts engine.kept) ∙ long;
+  saved = λ p own there. at p own (slice_get l.engines p) refl (sym (slice_get-map (λ (engine : Whole). saved_parts engine.kept) l.engines p) ∙ there);
 }
   where
-    at : (p : ℕ) (own : Option Parts) (o : Option Whole) → slice_get l.engines p ≡ o → option_map (λ (engine : Whole). saved_of engine.kept) o ≡ Some own → IsSavedAt l.grammar l.points p own
+    at : (p : ℕ) (own : Option Parts) (o : Option Whole) → slice_get l.engines p ≡ o → option_map (λ (engine : Whole). saved_parts engine.kept) o ≡ Some own → IsSavedAt l.grammar l.points p own
     at p own None here e = absurd (cc)
     at p own (Some engine) here e = subst (IsSavedAt l.grammar l.points p) (some-injective e) (saved p engine here)

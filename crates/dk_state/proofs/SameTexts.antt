@@ -32,12 +32,12 @@ use Rattle.dk_presence.proofs.Sameness.{same_vars-refl}
 use Rattle.dk_presence.specs.Patterns.{AreHeld, held_patterns, same_vars}
 use Rattle.dk_presence.specs.declared.held.Held.{Held}
 use Rattle.dk_template.specs.declared.grammar.Grammar.{Grammar}
-use Rattle.dk_state.specs.Compact.{kept_of}
+use Rattle.dk_state.specs.Compact.{compact_form_of}
 use Rattle.dk_state.specs.Kept.{parts_lines}
-use Rattle.dk_state.specs.Laws.{OrderDoesNotMatter}
+use Rattle.dk_state.specs.Laws.{OrderOfSamplesDoesNotMatter}
 use Rattle.dk_state.specs.Declarations.{decls_of, point_lines}
-use Rattle.dk_state.specs.Lines.{line}
-use Rattle.dk_state.specs.Saved.{kept_lines, saved_text, version_of, word_of}
+use Rattle.dk_state.specs.Lines.{state_line}
+use Rattle.dk_state.specs.Saved.{comparability_text, kept_lines, saved_text, version_of}
 use Rattle.dk_state.specs.StateFile.{StandForHistory, state_file_of}
 use Rattle.dk_state.proofs.CompactParts.{kept_exact}
 
@@ -92,7 +92,7 @@ lines_alike n (k ∷ kept) (o ∷ others) long each =
 
 -- the compact forms of all points
 abbrev forms : Grammar → List Point → OwnSamples → ℕ → Kept
-forms g ps own p = kept_of g (all_vars_of ps p) (own_samples_of ps own p)
+forms g ps own p = compact_form_of g (all_vars_of ps p) (own_samples_of ps own p)
 
 forms_long : (g : Grammar) (ps : List Point) (own : OwnSamples) → length (map (forms g ps own) (range_with_len 0 (length ps))) ≡ length ps
 forms_long g ps own = length-map (range_with_len 0 (length ps)) (forms g ps own) ∙ length-range_with_len 0 (length ps)
@@ -104,7 +104,7 @@ texts_alike : (g : Grammar) (ps : List Point) (implicit : Bool) (kept others : L
     → saved_text g ps implicit kept ≡ saved_text g ps implicit others
 unfolding saved_text
 texts_alike g ps implicit kept others e =
-    ap (λ t. line "daikon-state" (decimal (version_of g) ∷ []) ++ (line "comparability" (word_of implicit ∷ []) ++ (line "points" (decimal (length (decls_of ps)) ∷ []) ++ (flat_map point_lines (decls_of ps) ++ (t ++ line "end-state" []))))) e
+    ap (λ t. state_line "daikon-state" (decimal (version_of g) ∷ []) ++ (state_line "comparability" (comparability_text implicit ∷ []) ++ (state_line "points" (decimal (length (decls_of ps)) ∷ []) ++ (flat_map point_lines (decls_of ps) ++ (t ++ state_line "end-state" []))))) e
 
 -- ---- engines that stand for a history
 pub saved_is_state_file : (g : Grammar) (ps : List Point) (implicit : Bool) (engines : List Whole) (own : OwnSamples) → StandForHistory g ps engines own
@@ -140,7 +140,7 @@ saved_is_state_file g ps implicit engines own stand =
     first (e ∷ es) i l = e
 
 -- ---- the order of samples
-pub order_of_samples : OrderDoesNotMatter
+pub order_of_samples : OrderOfSamplesDoesNotMatter
 unfolding state_file_of
 order_of_samples g ps implicit own others moved =
     let these = map (forms g ps own) (range_with_len 0 (length ps)) in

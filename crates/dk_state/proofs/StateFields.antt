@@ -4,7 +4,7 @@ use Rattle.std.specs.List.{join_with_byte}
 use Rattle.std.proofs.Common.{ap, append-nil, subst}
 use Rattle.dk_state.specs.Lines.{behind_blank, fields_text}
 use Rattle.dk_state.specs.Reading.{BeginsWith, HasNone, begins_number, ends_field}
-use Rattle.dk_state.specs.StateWords.{told_fields, word_in, word_of}
+use Rattle.dk_state.specs.StateWords.{state_word, state_word_in, told_fields}
 use Rattle.dk_state.specs.States.{state_fields}
 use Rattle.dk_state.specs.declared.reading_states.Word.{Word}
 use Rattle.dk_state.specs.declared.reading_states.Word.TheVariants as word
@@ -15,7 +15,7 @@ use Rattle.dk_forms.specs.declared.states.State.TheVariants as state
 pub record HasWord (s : State) : Type 0 where
   pub text : List ℕ
   pub fields : state_fields s ≡ text ∷ told_fields s
-  pub word : word_in text ≡ word_of s
+  pub word : state_word_in text ≡ state_word s
   pub plain : HasNone ends_field text
 
 pub word_first : (s : State) → HasWord s
@@ -102,10 +102,10 @@ Cases word.Plane P = (a : ℤ) (b : ℤ) (c : ℤ) (d : ℤ) → P (state.Plane 
 Cases word.Offset P = (k : ℤ) → P (state.Offset k)
 Cases word.Other P = P state.Broken
 
-pub by_word : (P : State → Type 0) (w : Word) (s : State) → Cases w P → w ≡ word_of s → P s
+pub by_word : (P : State → Type 0) (w : Word) (s : State) → Cases w P → w ≡ state_word s → P s
 by_word P w s cases e = go s (subst (λ v. Cases v P) e cases)
   where
-    go : (s : State) → Cases (word_of s) P → P s
+    go : (s : State) → Cases (state_word s) P → P s
     go state.Empty given = given
     go state.Broken given = given
     go state.Holds given = given

@@ -59,5 +59,5 @@ kept_with grammar infos samples leaders = record {
 
 -- The compact form: the number of samples, the leader of each variable, the constant leaders with their values, the patterns of present
 -- leaders with their counts, and the slots.
-unfoldable pub kept_of : Grammar → List VarInfo → List (List Value) → Kept
-kept_of grammar infos samples = kept_with grammar infos samples (leaders_in infos samples)
+unfoldable pub compact_form_of : Grammar → List VarInfo → List (List Value) → Kept
+compact_form_of grammar infos samples = kept_with grammar infos samples (leaders_in infos samples)

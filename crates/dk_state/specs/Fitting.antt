@@ -75,7 +75,8 @@ FitsState (state.Spot x y) = IsTrue (fits_i64 x) × IsTrue (fits_i64 y)
 FitsState (state.Straight a b c) = (unsigned_abs a < 2 ^ 127) × (unsigned_abs b < 2 ^ 127) × (unsigned_abs c < 2 ^ 127)
 FitsState (state.Span x1 y1 z1 x2 y2 z2) =
     IsTrue (fits_i64 x1) × IsTrue (fits_i64 y1) × IsTrue (fits_i64 z1) × IsTrue (fits_i64 x2) × IsTrue (fits_i64 y2) × IsTrue (fits_i64 z2)
-FitsState (state.Plane a b c d) = (unsigned_abs a < 2 ^ 127) × (unsigned_abs b < 2 ^ 127) × (unsigned_abs c < 2 ^ 127) × (unsigned_abs d < 2 ^ 127)
+FitsState (state.Plane a b c d) =
+    (unsigned_abs a < 2 ^ 127) × (unsigned_abs b < 2 ^ 127) × (unsigned_abs c < 2 ^ 127) × (unsigned_abs d < 2 ^ 127)
 FitsState (state.Offset k) = unsigned_abs k < 2 ^ 127
 
 abbrev pub FitsClass : List VarId → Type 0

@@ -8,12 +8,12 @@ use Rattle.dk_engine.specs.declared.parts.Parts.{Parts}
 use Rattle.dk_engine.specs.declared.slot.Slot.{Slot}
 use Rattle.dk_parts.specs.declared.known.Known.{Known}
 use Rattle.dk_parts.specs.declared.pattern.Pattern.{Pattern}
-use Rattle.dk_state.specs.Lines.{line, var_fields}
+use Rattle.dk_state.specs.Lines.{state_line, var_fields}
 use Rattle.dk_state.specs.States.{state_fields}
 
 -- `class V W X`: the members of a class, ascending
 abbrev pub class_line : List VarId → List ℕ
-class_line members = line "class" (var_fields members)
+class_line members = state_line "class" (var_fields members)
 
 -- a `1` (49) for each leader that is present, and a `0` (48) for each other one
 abbrev pub bits_of : List Bool → List ℕ
@@ -25,15 +25,15 @@ if_any field = if is_empty field then [] else field ∷ []
 
 -- `pattern COUNT BITS`; at a point without variables there are no bits
 abbrev pub pattern_line : Pattern → List ℕ
-pattern_line p = line "pattern" (decimal p.count ∷ if_any (bits_of p.present))
+pattern_line p = state_line "pattern" (decimal p.count ∷ if_any (bits_of p.present))
 
 -- `known LEADER VALUE`
 abbrev pub known_line : Known → List ℕ
-known_line k = line "known" (decimal k.leader.0 ∷ spelling k.value ∷ [])
+known_line k = state_line "known" (decimal k.leader.0 ∷ spelling k.value ∷ [])
 
 -- `slot ROW V W STATE`, with as many variables as the row takes
 abbrev pub slot_line : Slot → List ℕ
-slot_line s = line "slot" (decimal s.row.0 ∷ (var_fields s.leaders ++ state_fields s.state))
+slot_line s = state_line "slot" (decimal s.row.0 ∷ (var_fields s.leaders ++ state_fields s.state))
 
 -- what is kept behind the number of samples: each class by its leader, each pattern, ascending, each constant leader, ascending, each slot
 -- by row and then by variables, and `end`
@@ -43,8 +43,8 @@ behind_samples parts =
     ++ (flat_map pattern_line parts.patterns
     ++ (flat_map known_line parts.known
     ++ (flat_map slot_line parts.slots
-    ++ line "end" [])))
+    ++ state_line "end" [])))
 
 -- What is kept of samples of the point at this place: `samples POINT N`, and what is kept.
 abbrev pub parts_lines : ℕ → Parts → List ℕ
-parts_lines point parts = line "samples" (decimal point ∷ decimal parts.samples ∷ []) ++ behind_samples parts
+parts_lines point parts = state_line "samples" (decimal point ∷ decimal parts.samples ∷ []) ++ behind_samples parts

@@ -12,8 +12,8 @@ abbrev pub fields_text : List (List ℕ) → List ℕ
 fields_text fields = flat_map behind_blank fields
 
 -- a line: a word, fields with single blanks in front of them, and an LF at its end
-abbrev pub line : String → List (List ℕ) → List ℕ
-line word fields = codes word ++ (fields_text fields ++ codes "\n")
+abbrev pub state_line : String → List (List ℕ) → List ℕ
+state_line word fields = codes word ++ (fields_text fields ++ codes "\n")
 
 -- variables, by their places
 abbrev pub var_fields : List VarId → List (List ℕ)

@@ -10,7 +10,7 @@ use Rattle.dk_template.specs.declared.grammar.Grammar.{Grammar}
 use Rattle.dk_template.specs.declared.grammar.Grammar.TheVariants as grammar
 use Rattle.dk_state.specs.Declarations.{decls_of, point_lines}
 use Rattle.dk_state.specs.Kept.{parts_lines}
-use Rattle.dk_state.specs.Lines.{line}
+use Rattle.dk_state.specs.Lines.{state_line}
 
 -- the version of states of a grammar
 abbrev pub version_of : Grammar → ℕ
@@ -18,8 +18,8 @@ version_of grammar.One = 1
 version_of grammar.Two = 2
 
 -- the comparability word in force
-abbrev pub word_of : Bool → List ℕ
-word_of implicit = if implicit then codes "implicit" else codes "none"
+abbrev pub comparability_text : Bool → List ℕ
+comparability_text implicit = if implicit then codes "implicit" else codes "none"
 
 -- what is kept of a point's own samples, if there are any; the point goes by its place, implicit exits counted
 abbrev pub kept_lines : ℕ × Kept → List ℕ
@@ -29,12 +29,12 @@ kept_lines e = if e.1.samples == 0 then [] else parts_lines e.0 (parts_of e.1)
 -- their declarations; what is kept of the points' own samples; and the last line.
 abbrev pub state_text : Grammar → List PointDecl → Bool → List ℕ → List ℕ
 state_text g decls implicit kept =
-    line "daikon-state" (decimal (version_of g) ∷ [])
-    ++ (line "comparability" (word_of implicit ∷ [])
-    ++ (line "points" (decimal (length decls) ∷ [])
+    state_line "daikon-state" (decimal (version_of g) ∷ [])
+    ++ (state_line "comparability" (comparability_text implicit ∷ [])
+    ++ (state_line "points" (decimal (length decls) ∷ [])
     ++ (flat_map point_lines decls
     ++ (kept
-    ++ line "end-state" []))))
+    ++ state_line "end-state" []))))
 
 -- the text of a table of points, a comparability word, and what is kept for each point
 unfoldable pub saved_text : Grammar → List Point → Bool → List Kept → List ℕ

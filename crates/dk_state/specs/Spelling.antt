@@ -12,7 +12,7 @@ use Rattle.dk_points.specs.Table.{Point, decl_at}
 use Rattle.dk_points.specs.declared.declared.Declared.{Declared}
 use Rattle.dk_points.specs.declared.declared.Declared.TheVariants.{New, Same}
 use Rattle.dk_template.specs.declared.grammar.Grammar.{Grammar}
-use Rattle.dk_state.specs.Compact.{kept_of}
+use Rattle.dk_state.specs.Compact.{compact_form_of}
 use Rattle.dk_state.specs.Declarations.{decls_of}
 use Rattle.dk_state.specs.Fitting.{FitsSlot}
 use Rattle.dk_state.specs.Given.{CanBeGiven}
@@ -39,7 +39,8 @@ pub record IsOwnTable (ps : List Point) : Type 0 where
   pub given : All CanBeGiven (decls_of ps)
 
 -- ---- what a state file says
--- the grammar, the table of points, the comparability word, and for each point of the table what is kept of its own samples, if there are any
+-- the grammar, the table of points, the comparability word, and for each point of the table what is kept of its own samples, if there are
+-- any
 pub record Content : Type 0 where
   pub grammar : Grammar
   pub points : List Point
@@ -50,8 +51,8 @@ pub record Content : Type 0 where
 abbrev pub saved_lines : ℕ × Option Parts → List ℕ
 saved_lines e = option_map_or (parts_lines e.0) e.1 []
 
-abbrev pub text_of : Content → List ℕ
-text_of c = state_text c.grammar (decls_of c.points) c.implicit (flat_map saved_lines (enumerate_from 0 c.saved))
+abbrev pub text_of_content : Content → List ℕ
+text_of_content c = state_text c.grammar (decls_of c.points) c.implicit (flat_map saved_lines (enumerate_from 0 c.saved))
 
 -- Parts at a declared point that meet the conditions, with numbers within their types.
 pub record AreSavedAt (g : Grammar) (ps : List Point) (p : ℕ) (parts : Parts) : Type 0 where
@@ -72,16 +73,16 @@ pub record IsContent (c : Content) : Type 0 where
 pub record IsSpelling (bytes : List ℕ) : Type 0 where
   pub content : Content
   pub meets : IsContent content
-  pub text : text_of content ≡ bytes
+  pub text : text_of_content content ≡ bytes
 
 -- ---- histories
 -- what is saved of kept parts, which is nothing where there are no samples
-abbrev pub saved_of : Kept → Option Parts
-saved_of kept = if kept.samples == 0 then None else Some (parts_of kept)
+abbrev pub saved_parts : Kept → Option Parts
+saved_parts kept = if kept.samples == 0 then None else Some (parts_of kept)
 
 -- what is kept of a point's own samples
-abbrev pub form_of : Grammar → List Point → OwnSamples → ℕ → Kept
-form_of g ps own p = kept_of g (all_vars_of ps p) (own_samples_of ps own p)
+abbrev pub compact_form_at : Grammar → List Point → OwnSamples → ℕ → Kept
+compact_form_at g ps own p = compact_form_of g (all_vars_of ps p) (own_samples_of ps own p)
 
 -- what the state file of a history says
 abbrev pub content_of : Grammar → List Point → Bool → OwnSamples → Content
@@ -89,7 +90,7 @@ content_of g ps implicit own = record {
   grammar = g;
   points = ps;
   implicit = implicit;
-  saved = map (λ p. saved_of (form_of g ps own p)) (range_with_len 0 (length ps));
+  saved = map (λ p. saved_parts (compact_form_at g ps own p)) (range_with_len 0 (length ps));
 }
 
 -- The table of a history is made by its own declarations. Own samples stand at declared points alone, at most 2^40 at each, and with
@@ -100,4 +101,4 @@ pub record CanBeSaved (g : Grammar) (ps : List Point) (own : OwnSamples) : Type 
   pub samples : (p : ℕ) → AreSamples (all_vars_of ps p) (own_samples_of ps own p)
   pub declared : (p : ℕ) → IsTrue (is_none (decl_at ps p)) → slice_index_or own p [] ≡ []
   pub few : (p : ℕ) → length (slice_index_or own p []) ≤ 2 ^ 40
-  pub within : (p : ℕ) → All FitsSlot (form_of g ps own p).slots
+  pub within : (p : ℕ) → All FitsSlot (compact_form_at g ps own p).slots

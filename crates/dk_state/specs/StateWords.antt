@@ -9,8 +9,8 @@ use Rattle.dk_state.specs.declared.reading_states.Word.{Word}
 use Rattle.dk_state.specs.declared.reading_states.Word.TheVariants as word
 
 -- the word that a text is
-abbrev pub word_in : List ℕ → Word
-word_in text =
+abbrev pub state_word_in : List ℕ → Word
+state_word_in text =
     if bytes_eq text (codes "empty") then word.Empty
     else if bytes_eq text (codes "holds") then word.Holds
     else if bytes_eq text (codes "least") then word.Least
@@ -28,23 +28,23 @@ word_in text =
     else if bytes_eq text (codes "offset") then word.Offset
     else word.Other
 
-abbrev pub word_of : State → Word
-word_of state.Empty = word.Empty
-word_of state.Broken = word.Other
-word_of state.Holds = word.Holds
-word_of (state.Least k) = word.Least
-word_of (state.Greatest k) = word.Greatest
-word_of (state.Ints ks) = word.Ints
-word_of (state.Truth b) = word.Truth
-word_of (state.Code h) = word.Code
-word_of (state.Texts ts) = word.Texts
-word_of (state.One k) = word.One
-word_of (state.Modulus m r) = word.Modulus
-word_of (state.Spot x y) = word.Spot
-word_of (state.Straight a b c) = word.Straight
-word_of (state.Span x1 y1 z1 x2 y2 z2) = word.Span
-word_of (state.Plane a b c d) = word.Plane
-word_of (state.Offset k) = word.Offset
+abbrev pub state_word : State → Word
+state_word state.Empty = word.Empty
+state_word state.Broken = word.Other
+state_word state.Holds = word.Holds
+state_word (state.Least k) = word.Least
+state_word (state.Greatest k) = word.Greatest
+state_word (state.Ints ks) = word.Ints
+state_word (state.Truth b) = word.Truth
+state_word (state.Code h) = word.Code
+state_word (state.Texts ts) = word.Texts
+state_word (state.One k) = word.One
+state_word (state.Modulus m r) = word.Modulus
+state_word (state.Spot x y) = word.Spot
+state_word (state.Straight a b c) = word.Straight
+state_word (state.Span x1 y1 z1 x2 y2 z2) = word.Span
+state_word (state.Plane a b c d) = word.Plane
+state_word (state.Offset k) = word.Offset
 
 -- the fields behind the word
 abbrev pub told_fields : State → List (List ℕ)
@@ -61,6 +61,7 @@ told_fields (state.One k) = signed_decimal k ∷ []
 told_fields (state.Modulus m r) = decimal m ∷ decimal r ∷ []
 told_fields (state.Spot x y) = signed_decimal x ∷ signed_decimal y ∷ []
 told_fields (state.Straight a b c) = signed_decimal a ∷ signed_decimal b ∷ signed_decimal c ∷ []
-told_fields (state.Span x1 y1 z1 x2 y2 z2) = signed_decimal x1 ∷ signed_decimal y1 ∷ signed_decimal z1 ∷ signed_decimal x2 ∷ signed_decimal y2 ∷ signed_decimal z2 ∷ []
+told_fields (state.Span x1 y1 z1 x2 y2 z2) =
+    signed_decimal x1 ∷ signed_decimal y1 ∷ signed_decimal z1 ∷ signed_decimal x2 ∷ signed_decimal y2 ∷ signed_decimal z2 ∷ []
 told_fields (state.Plane a b c d) = signed_decimal a ∷ signed_decimal b ∷ signed_decimal c ∷ signed_decimal d ∷ []
 told_fields (state.Offset k) = signed_decimal k ∷ []

@@ -21,6 +21,7 @@ state_fields (state.Modulus m r) = codes "modulus" ∷ decimal m ∷ decimal r �
 state_fields (state.Spot x y) = codes "spot" ∷ signed_decimal x ∷ signed_decimal y ∷ []
 state_fields (state.Straight a b c) = codes "straight" ∷ signed_decimal a ∷ signed_decimal b ∷ signed_decimal c ∷ []
 state_fields (state.Span x1 y1 z1 x2 y2 z2) =
-    codes "span" ∷ signed_decimal x1 ∷ signed_decimal y1 ∷ signed_decimal z1 ∷ signed_decimal x2 ∷ signed_decimal y2 ∷ signed_decimal z2 ∷ []
+    codes "span" ∷ signed_decimal x1 ∷ signed_decimal y1 ∷ signed_decimal z1 ∷ signed_decimal x2 ∷ signed_decimal y2 ∷ signed_decimal z2
+    ∷ []
 state_fields (state.Plane a b c d) = codes "plane" ∷ signed_decimal a ∷ signed_decimal b ∷ signed_decimal c ∷ signed_decimal d ∷ []
 state_fields (state.Offset k) = codes "offset" ∷ signed_decimal k ∷ []

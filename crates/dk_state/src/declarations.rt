@@ -1,7 +1,7 @@
 // Declarations, as they are saved.
 ghost use Rattle.std.specs.Prelude.{◌≡◌, ◌++◌, OnOk, codes, flat_map, length, unwrap_or};
 ghost use Rattle.dk_base.specs.Spelling.{spelling};
-ghost use Rattle.dk_state.specs.Declarations.{constant_line, decls_of, edge_line, mapped_line, point_lines, rep_text, var_line, var_lines};
+ghost use Rattle.dk_state.specs.Declarations.{constant_line, decls_of, edge_line, mapped_line, point_lines, rep_text, var_decl_line, var_lines};
 ghost use Rattle.dk_state.specs.Lines.{behind_blank};
 
 use crate::fields::{end_line, push_field, push_name, push_number, push_value};
@@ -47,7 +47,7 @@ fn push_edges(text: &mut Text, edges: &[EdgeDecl]) -> Result<(), NoMemory>
 
 // The line of the variable alone.
 fn push_var(text: &mut Text, var: &VarDecl) -> Result<(), NoMemory>
-    ensures { OnOk result (text.new ≡ text.old ++ var_line var.now) }
+    ensures { OnOk result (text.new ≡ text.old ++ var_decl_line var.now) }
 {
     text.append(b"var")?;
     push_field(text, rep_text(var.kind))?;

@@ -2,7 +2,7 @@
 ghost use Rattle.std.specs.Prelude.{◌≡◌, ◌++◌, ◌&&◌, [], IfOk, length, map};
 ghost use Rattle.std.specs.List.{list_all};
 ghost use Rattle.dk_decl.specs.Types.{is_missing};
-ghost use Rattle.dk_state.specs.Given.{all_new, edge_key, has_none, is_constant, is_edge, is_given, is_mapped, is_name, is_var};
+ghost use Rattle.dk_state.specs.Given.{all_new, edge_key, has_none, is_given_constant, is_given_counterpart, is_given_edge, is_given_point, is_given_var, is_name};
 
 use crate::fields::{push_field, push_number};
 use crate::front::is_word;
@@ -28,20 +28,20 @@ fn is_name(name: &[u8]) -> bool
 }
 
 fn is_edge(edge: &EdgeDecl) -> bool
-    ensures { result ≡ is_edge edge.now }
+    ensures { result ≡ is_given_edge edge.now }
 {
     is_name(edge.parent.as_slice()) && has_none(edge.parent.as_slice(), TAB)
 }
 
 fn is_mapped(mapped: &ParentVar, own: &[u8], edges: usize) -> bool
-    ensures { result ≡ is_mapped own.now edges mapped.now }
+    ensures { result ≡ is_given_counterpart own.now edges mapped.now }
 {
     let name = mapped.name.as_slice();
     mapped.edge < edges as u64 && is_name(name) && (has_none(name, TAB) || is_word(name, own))
 }
 
 fn are_mapped(parents: &[ParentVar], own: &[u8], edges: usize) -> bool
-    ensures { result ≡ list_all (is_mapped own.now edges) parents.now }
+    ensures { result ≡ list_all (is_given_counterpart own.now edges) parents.now }
 {
     for mapped in parents {
         if !is_mapped(mapped, own, edges) {
@@ -59,7 +59,7 @@ fn is_missing(value: &Value) -> bool
 
 // Whether the variable, which is opaque or has a kind, can have its constant.
 fn is_constant(var: &VarDecl) -> bool
-    ensures { result ≡ is_constant var.now.constant_line var.now.kind var.now.constant }
+    ensures { result ≡ is_given_constant var.now.constant_line var.now.kind var.now.constant }
 {
     match &var.constant {
         None => !var.constant_line || var.kind.is_none(),
@@ -68,7 +68,7 @@ fn is_constant(var: &VarDecl) -> bool
 }
 
 fn is_var(var: &VarDecl, edges: usize) -> bool
-    ensures { result ≡ is_var edges var.now }
+    ensures { result ≡ is_given_var edges var.now }
 {
     is_name(var.name.as_slice())
         && is_constant(var)
@@ -76,7 +76,7 @@ fn is_var(var: &VarDecl, edges: usize) -> bool
 }
 
 fn are_vars(vars: &[VarDecl], edges: usize) -> bool
-    ensures { result ≡ list_all (is_var edges) vars.now }
+    ensures { result ≡ list_all (is_given_var edges) vars.now }
 {
     for var in vars {
         if !is_var(var, edges) {
@@ -87,7 +87,7 @@ fn are_vars(vars: &[VarDecl], edges: usize) -> bool
 }
 
 fn are_edges(edges: &[EdgeDecl]) -> bool
-    ensures { result ≡ list_all is_edge edges.now }
+    ensures { result ≡ list_all is_given_edge edges.now }
 {
     for edge in edges {
         if !is_edge(edge) {
@@ -138,7 +138,7 @@ fn edges_differ(alloc: Global, edges: &[EdgeDecl]) -> Result<bool, NoMemory>
 
 /// Whether a block can give this declaration, whose numbers and constants fit.
 pub(crate) fn is_given(alloc: Global, decl: &PointDecl) -> Result<bool, NoMemory>
-    ensures { IfOk result (λ given. given ≡ is_given decl.now) }
+    ensures { IfOk result (λ given. given ≡ is_given_point decl.now) }
 {
     let edges = decl.edges.as_slice();
     let vars = decl.vars.as_slice();

@@ -2,7 +2,7 @@
 ghost use Rattle.std.specs.Prelude.{◌≡◌, ◌++◌, ◌∷◌, [], OnOk, flat_map};
 ghost use Rattle.std.specs.Fmt.{decimal};
 ghost use Rattle.dk_state.specs.Kept.{bits_of, class_line, if_any, known_line, parts_lines, pattern_line, slot_line};
-ghost use Rattle.dk_state.specs.Lines.{fields_text, line};
+ghost use Rattle.dk_state.specs.Lines.{fields_text, state_line};
 
 use crate::fields::{end_line, push_number, push_value, push_vars};
 use crate::states::push_state;
@@ -104,7 +104,7 @@ fn push_slots(alloc: Global, text: &mut Text, slots: &[Slot]) -> Result<(), NoMe
 }
 
 fn push_samples(text: &mut Text, point: usize, samples: u64) -> Result<(), NoMemory>
-    ensures { OnOk result (text.new ≡ text.old ++ line "samples" (decimal point ∷ decimal samples ∷ [])) }
+    ensures { OnOk result (text.new ≡ text.old ++ state_line "samples" (decimal point ∷ decimal samples ∷ [])) }
 {
     text.append(b"samples")?;
     push_number(text, point)?;
@@ -114,7 +114,7 @@ fn push_samples(text: &mut Text, point: usize, samples: u64) -> Result<(), NoMem
 
 // The lines behind the classes.
 fn push_tuples(alloc: Global, text: &mut Text, parts: &Parts) -> Result<(), NoMemory>
-    ensures { OnOk result (text.new ≡ text.old ++ (flat_map pattern_line parts.now.patterns ++ (flat_map known_line parts.now.known ++ (flat_map slot_line parts.now.slots ++ line "end" [])))) }
+    ensures { OnOk result (text.new ≡ text.old ++ (flat_map pattern_line parts.now.patterns ++ (flat_map known_line parts.now.known ++ (flat_map slot_line parts.now.slots ++ state_line "end" [])))) }
 {
     push_patterns(text, parts.patterns.as_slice())?;
     push_all_known(alloc, text, parts.known.as_slice())?;

@@ -10,13 +10,13 @@ ghost use Rattle.dk_hierarchy.specs.Standing.{AreEnginesOf};
 ghost use Rattle.dk_points.specs.Declaring.{declared};
 ghost use Rattle.dk_points.specs.Table.{Point};
 ghost use Rattle.dk_state.specs.Fitting.{FitsSlot};
-ghost use Rattle.dk_state.specs.Given.{is_given};
-ghost use Rattle.dk_state.specs.Lines.{behind_blank, line};
-ghost use Rattle.dk_state.specs.Loading.{AreLoadedAs, AreSaved, IsEngineAt, IsLoaded, IsLoadedAs, Loads, blocks};
+ghost use Rattle.dk_state.specs.Given.{is_given_point};
+ghost use Rattle.dk_state.specs.Lines.{behind_blank, state_line};
+ghost use Rattle.dk_state.specs.Loading.{AreLoadedAs, AreSaved, IsEngineAt, IsLoaded, IsLoadedAs, Loads, saved_blocks};
 ghost use Rattle.dk_state.specs.Reading.{BeginsWith, ends_field};
 ghost use Rattle.dk_state.specs.StateFile.{StandForHistory, state_file_of};
-ghost use Rattle.dk_state.specs.Saved.{saved_text, version_of, word_of};
-ghost use Rattle.dk_state.specs.Spelling.{AreSavedAt, CanBeSaved, Content, IsContent, IsOwnTable, IsSavedAt, IsSpelling, if_new, saved_of, table_behind, text_of};
+ghost use Rattle.dk_state.specs.Saved.{comparability_text, saved_text, version_of};
+ghost use Rattle.dk_state.specs.Spelling.{AreSavedAt, CanBeSaved, Content, IsContent, IsOwnTable, IsSavedAt, IsSpelling, if_new, saved_parts, table_behind, text_of_content};
 ghost use Rattle.dk_template.specs.declared.grammar.Grammar.{Grammar as Grammars};
 
 use crate::entries::read_all;
@@ -81,7 +81,7 @@ fn grammar_of(version: u64) -> Grammar
 
 // The grammar, by its version. Another version is told when the state is saved again.
 fn grammar(front: &mut Front<'_>) -> Grammar
-    ensures { (g : Grammars) (rest : List ℕ) → front.old ≡ line "daikon-state" (decimal (version_of g) ∷ []) ++ rest → (result ≡ g) × (front.new ≡ rest) }
+    ensures { (g : Grammars) (rest : List ℕ) → front.old ≡ state_line "daikon-state" (decimal (version_of g) ∷ []) ++ rest → (result ≡ g) × (front.new ≡ rest) }
 {
     front.pass(b"daikon-state");
     let version = front.natural();
@@ -91,7 +91,7 @@ fn grammar(front: &mut Front<'_>) -> Grammar
 
 // Whether the comparability word is `implicit`.
 fn implicit(front: &mut Front<'_>) -> bool
-    ensures { (implicit : Bool) (rest : List ℕ) → front.old ≡ line "comparability" (word_of implicit ∷ []) ++ rest → (result ≡ implicit) × (front.new ≡ rest) }
+    ensures { (implicit : Bool) (rest : List ℕ) → front.old ≡ state_line "comparability" (comparability_text implicit ∷ []) ++ rest → (result ≡ implicit) × (front.new ≡ rest) }
 {
     front.pass(b"comparability");
     let word = front.field();
@@ -101,7 +101,7 @@ fn implicit(front: &mut Front<'_>) -> bool
 
 // The number of points, which is told again by the declarations.
 fn pass_count(front: &mut Front<'_>)
-    ensures { (n : ℕ) (rest : List ℕ) → n < 2 ^ 64 → front.old ≡ line "points" (decimal n ∷ []) ++ rest → front.new ≡ rest }
+    ensures { (n : ℕ) (rest : List ℕ) → n < 2 ^ 64 → front.old ≡ state_line "points" (decimal n ∷ []) ++ rest → front.new ≡ rest }
 {
     front.pass(b"points");
     front.natural();
@@ -123,9 +123,9 @@ fn with_new(points: Points, decl: PointDecl) -> Result<Points, LoadFault>
 
 // The table with one declaration more, which is one that a block can give, and of a new point.
 fn with_given(alloc: Global, points: Points, decl: PointDecl) -> Result<Points, LoadFault>
-    ensures given { IfOk result (λ next. IsTrue (is_given decl)) }
+    ensures given { IfOk result (λ next. IsTrue (is_given_point decl)) }
     ensures new { IfOk result (λ next. if_new (declared points decl) ≡ Some next) }
-    ensures read { (next : List Point) → IsTrue (is_given decl) → if_new (declared points decl) ≡ Some next → Loads result (λ own. own ≡ next) }
+    ensures read { (next : List Point) → IsTrue (is_given_point decl) → if_new (declared points decl) ≡ Some next → Loads result (λ own. own ≡ next) }
 {
     if !is_given(alloc, &decl)? {
         return Err(LoadFault::BadState);
@@ -135,9 +135,9 @@ fn with_given(alloc: Global, points: Points, decl: PointDecl) -> Result<Points, 
 
 // The table of these declarations, each of which makes a new point.
 fn table_of(alloc: Global, decls: List<PointDecl>) -> Result<Points, LoadFault>
-    ensures given { IfOk result (λ _. All (λ d. IsTrue (is_given d)) decls) }
+    ensures given { IfOk result (λ _. All (λ d. IsTrue (is_given_point d)) decls) }
     ensures made { IfOk result (λ points. table_behind [] decls ≡ Some points) }
-    ensures read { (ps : List Point) → All (λ d. IsTrue (is_given d)) decls → table_behind [] decls ≡ Some ps → Loads result (λ own. own ≡ ps) }
+    ensures read { (ps : List Point) → All (λ d. IsTrue (is_given_point d)) decls → table_behind [] decls ≡ Some ps → Loads result (λ own. own ≡ ps) }
 {
     let mut points = Points::new(alloc)?;
     for decl in decls.into_vec() {
@@ -157,7 +157,7 @@ fn engine_with(
     requires { p.0 < length points.now }
     ensures engine { IfOk result (IsEngineAt points.now grammar p.0) }
     ensures saved { IfOk result (λ e. AreSavedParts grammar (all_vars_of points.now p.0) (parts_of e.kept) × All FitsSlot e.kept.slots) }
-    ensures read { (saved : AllParts) (more : List (Option AllParts)) → p.0 < 2 ^ 32 → AreSavedAt grammar points.now p.0 saved → front.old ≡ blocks p.0 (Some saved ∷ more) → Loads result (λ e. IsLoadedAs grammar points.now p.0 (Some saved) e × (front.new ≡ blocks (p.0 + 1) more)) }
+    ensures read { (saved : AllParts) (more : List (Option AllParts)) → p.0 < 2 ^ 32 → AreSavedAt grammar points.now p.0 saved → front.old ≡ saved_blocks p.0 (Some saved ∷ more) → Loads result (λ e. IsLoadedAs grammar points.now p.0 (Some saved) e × (front.new ≡ saved_blocks (p.0 + 1) more)) }
 {
     front.pass(b"samples");
     front.place();
@@ -191,8 +191,8 @@ fn next_engine(
 ) -> Result<Engine, LoadFault>
     requires { p.0 < length points.now }
     ensures engine { IfOk result (IsEngineAt points.now grammar p.0) }
-    ensures saved { IfOk result (λ e. IsSavedAt grammar points.now p.0 (saved_of e.kept)) }
-    ensures read { (saved : Option AllParts) (more : List (Option AllParts)) → IsSavedAt grammar points.now p.0 saved → p.0 + 1 + length more < 2 ^ 32 → front.old ≡ blocks p.0 (saved ∷ more) → Loads result (λ e. IsLoadedAs grammar points.now p.0 saved e × (front.new ≡ blocks (p.0 + 1) more)) }
+    ensures saved { IfOk result (λ e. IsSavedAt grammar points.now p.0 (saved_parts e.kept)) }
+    ensures read { (saved : Option AllParts) (more : List (Option AllParts)) → IsSavedAt grammar points.now p.0 saved → p.0 + 1 + length more < 2 ^ 32 → front.old ≡ saved_blocks p.0 (saved ∷ more) → Loads result (λ e. IsLoadedAs grammar points.now p.0 saved e × (front.new ≡ saved_blocks (p.0 + 1) more)) }
 {
     if !comes_next(front, p) {
         return Ok(engine_of(alloc, points, p, grammar)?);
@@ -213,7 +213,7 @@ fn engines(
     ensures engines { IfOk result (AreEnginesOf points.now) }
     ensures grammar { IfOk result (All (λ e. e.grammar ≡ grammar)) }
     ensures saved { IfOk result (AreSaved grammar points.now) }
-    ensures read { (saved : List (Option AllParts)) → length saved ≡ length points.now → ((p : ℕ) (own : Option AllParts) → slice_get saved p ≡ Some own → IsSavedAt grammar points.now p own) → front.old ≡ blocks 0 saved → Loads result (AreLoadedAs grammar points.now saved) }
+    ensures read { (saved : List (Option AllParts)) → length saved ≡ length points.now → ((p : ℕ) (own : Option AllParts) → slice_get saved p ≡ Some own → IsSavedAt grammar points.now p own) → front.old ≡ saved_blocks 0 saved → Loads result (AreLoadedAs grammar points.now saved) }
 {
     let mut engines = List::new(alloc);
     for p in 0..points.len() {
@@ -228,7 +228,7 @@ fn read(alloc: Global, bytes: &[u8]) -> Result<Loaded, LoadFault>
     ensures engines { IfOk result (λ l. AreEnginesOf l.points l.engines × All (λ e. e.grammar ≡ l.grammar) l.engines) }
     ensures table { IfOk result (λ l. IsOwnTable l.points) }
     ensures saved { IfOk result (λ l. AreSaved l.grammar l.points l.engines) }
-    ensures read { (c : Content) → IsContent c → text_of c ≡ bytes.now → Loads result (IsLoaded c) }
+    ensures read { (c : Content) → IsContent c → text_of_content c ≡ bytes.now → Loads result (IsLoaded c) }
 {
     let mut front = Front::of(bytes);
     let grammar = grammar(&mut front);

@@ -4,7 +4,7 @@ ghost use Rattle.std.specs.List.{starts_with};
 ghost use Rattle.dk_base.specs.declared.kinds.Kind.{Kind as Kinds};
 ghost use Rattle.dk_base.specs.Spelling.{spelling};
 ghost use Rattle.dk_base.specs.declared.values.Value.{Value as Values};
-ghost use Rattle.dk_state.specs.Declarations.{constant_text, edge_line, mapped_line, point_lines, rep_text, var_lines};
+ghost use Rattle.dk_state.specs.Declarations.{constant_decl_text, edge_line, mapped_line, point_lines, rep_text, var_lines};
 ghost use Rattle.dk_state.specs.Lines.{behind_blank};
 ghost use Rattle.dk_state.specs.Fitting.{FitsConstant, FitsEdge, FitsMapped, FitsPoint, FitsVar, IsBehindVars};
 ghost use Rattle.dk_state.specs.Within.{IsEdgeWithin, IsMappedWithin, IsPointWithin, IsVarWithin};
@@ -125,7 +125,7 @@ fn constant(
     kind: Option<Kind>,
     front: &mut Front<'_>,
 ) -> Result<(bool, Option<Value>), NoMemory>
-    ensures read { (line : Bool) (value : Option Values) (rest : List ℕ) → FitsConstant line kind value → starts_with nat_eq rest (codes "constant ") ≡ false → front.old ≡ constant_text line value ++ rest → IfOk result (λ own. (own ≡ (line, value)) × (front.new ≡ rest)) }
+    ensures read { (line : Bool) (value : Option Values) (rest : List ℕ) → FitsConstant line kind value → starts_with nat_eq rest (codes "constant ") ≡ false → front.old ≡ constant_decl_text line value ++ rest → IfOk result (λ own. (own ≡ (line, value)) × (front.new ≡ rest)) }
     ensures within { IfOk result (λ own. FitsConstant own.0 kind own.1) }
     ensures shorter { length front.new ≤ length front.old }
 {

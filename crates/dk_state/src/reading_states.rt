@@ -8,7 +8,7 @@ ghost use Rattle.dk_forms.specs.declared.states.State.{State as States};
 ghost use Rattle.dk_state.specs.Fitting.{FitsState};
 ghost use Rattle.dk_state.specs.Lines.{behind_blank, fields_text};
 ghost use Rattle.dk_state.specs.Reading.{HasNone, ends_line};
-ghost use Rattle.dk_state.specs.StateWords.{told_fields, word_in, word_of};
+ghost use Rattle.dk_state.specs.StateWords.{state_word, state_word_in, told_fields};
 ghost use Rattle.dk_state.specs.States.{state_fields};
 
 use crate::front::{Front, is_word};
@@ -38,7 +38,7 @@ enum Word {
 }
 
 fn word_in(field: &[u8]) -> Word
-    ensures { result ≡ word_in field.now }
+    ensures { result ≡ state_word_in field.now }
 {
     if is_word(field, b"empty") {
         Word::Empty
@@ -248,7 +248,7 @@ fn spot(front: &mut Front<'_>) -> State
 
 // What the state tells behind its word.
 fn told(alloc: Global, word: Word, front: &mut Front<'_>) -> Result<State, NoMemory>
-    ensures read { (s : States) (rest : List ℕ) → word ≡ word_of s → FitsState s → front.old ≡ fields_text (told_fields s) ++ 10 ∷ rest → IfOk result (λ own. (own ≡ s) × (front.new ≡ 10 ∷ rest)) }
+    ensures read { (s : States) (rest : List ℕ) → word ≡ state_word s → FitsState s → front.old ≡ fields_text (told_fields s) ++ 10 ∷ rest → IfOk result (λ own. (own ≡ s) × (front.new ≡ 10 ∷ rest)) }
     ensures within { IfOk result FitsState }
     ensures shorter { length front.new ≤ length front.old }
 {

@@ -4,9 +4,9 @@ ghost use Rattle.std.specs.Fmt.{decimal};
 ghost use Rattle.std.specs.List.{enumerate_from};
 ghost use Rattle.dk_engine.specs.declared.kept.Kept.{Kept};
 ghost use Rattle.dk_state.specs.Declarations.{decls_of, point_lines};
-ghost use Rattle.dk_state.specs.Lines.{line};
+ghost use Rattle.dk_state.specs.Lines.{state_line};
 ghost use Rattle.dk_hierarchy.specs.Samples.{OwnSamples};
-ghost use Rattle.dk_state.specs.Saved.{kept_lines, saved_text, version_of, word_of};
+ghost use Rattle.dk_state.specs.Saved.{comparability_text, kept_lines, saved_text, version_of};
 ghost use Rattle.dk_state.specs.StateFile.{StandForHistory, state_file_of};
 
 use crate::declarations::{declared_count, push_points};
@@ -28,7 +28,7 @@ fn version_of(grammar: Grammar) -> u32
 }
 
 fn push_version(text: &mut Text, grammar: Grammar) -> Result<(), NoMemory>
-    ensures { OnOk result (text.new ≡ text.old ++ line "daikon-state" (decimal (version_of grammar) ∷ [])) }
+    ensures { OnOk result (text.new ≡ text.old ++ state_line "daikon-state" (decimal (version_of grammar) ∷ [])) }
 {
     text.append(b"daikon-state")?;
     push_number(text, version_of(grammar))?;
@@ -36,7 +36,7 @@ fn push_version(text: &mut Text, grammar: Grammar) -> Result<(), NoMemory>
 }
 
 fn push_word(text: &mut Text, implicit: bool) -> Result<(), NoMemory>
-    ensures { OnOk result (text.new ≡ text.old ++ line "comparability" (word_of implicit ∷ [])) }
+    ensures { OnOk result (text.new ≡ text.old ++ state_line "comparability" (comparability_text implicit ∷ [])) }
 {
     text.append(b"comparability")?;
     if implicit {
@@ -48,7 +48,7 @@ fn push_word(text: &mut Text, implicit: bool) -> Result<(), NoMemory>
 }
 
 fn push_count(text: &mut Text, count: u32) -> Result<(), NoMemory>
-    ensures { OnOk result (text.new ≡ text.old ++ line "points" (decimal count ∷ [])) }
+    ensures { OnOk result (text.new ≡ text.old ++ state_line "points" (decimal count ∷ [])) }
 {
     text.append(b"points")?;
     push_number(text, count)?;
@@ -86,7 +86,7 @@ fn push_head(
     implicit: bool,
     grammar: Grammar,
 ) -> Result<(), NoMemory>
-    ensures { OnOk result (text.new ≡ text.old ++ (line "daikon-state" (decimal (version_of grammar) ∷ []) ++ (line "comparability" (word_of implicit ∷ []) ++ line "points" (decimal (length (decls_of points.now)) ∷ [])))) }
+    ensures { OnOk result (text.new ≡ text.old ++ (state_line "daikon-state" (decimal (version_of grammar) ∷ []) ++ (state_line "comparability" (comparability_text implicit ∷ []) ++ state_line "points" (decimal (length (decls_of points.now)) ∷ [])))) }
 {
     push_version(text, grammar)?;
     push_word(text, implicit)?;
@@ -100,7 +100,7 @@ fn push_body(
     points: &Points,
     engines: &[Engine],
 ) -> Result<(), NoMemory>
-    ensures { OnOk result (text.new ≡ text.old ++ (flat_map point_lines (decls_of points.now) ++ (flat_map kept_lines (enumerate_from 0 (map (λ engine. engine.kept) engines.now)) ++ line "end-state" []))) }
+    ensures { OnOk result (text.new ≡ text.old ++ (flat_map point_lines (decls_of points.now) ++ (flat_map kept_lines (enumerate_from 0 (map (λ engine. engine.kept) engines.now)) ++ state_line "end-state" []))) }
 {
     push_points(alloc, text, points)?;
     push_engines(alloc, text, engines)?;

@@ -6,7 +6,7 @@ ghost use Rattle.dk_engine.specs.Numbers.{IsNumber, IsNumberValue};
 
 use dk_base::{Compar, Form, Kind, List, NoMemory, Text, VarId, VarInfo, View};
 use dk_engine::{Engine, Parts, PartsFault};
-use dk_template::{Answers, Grammar, RowId, admits, fits};
+use dk_template::{Answers, Grammar, Premise, RowId, admits, fits};
 use std::alloc::Global;
 use std::test::Fail;
 
@@ -262,6 +262,25 @@ fn worked_examples(rt: HostRuntime) -> Result<(), Fail> {
         }
     }
     Ok(())
+}
+
+// Two numbers that agree until one is missing.
+#[test]
+fn answers_beside_states(rt: HostRuntime) -> Result<(), Fail> {
+    let alloc = rt.alloc();
+    let samples: [Sample; 3] = [&[Some(1), Some(1)], &[Some(2), Some(2)], &[Some(3), None]];
+    let engine = engine_of(alloc, 2, &samples)?;
+    let (x, y) = (VarId(0), VarId(1));
+    if engine.vars().len() == 2 && admits(RowId(2), engine.vars(), &[x]) {
+        assert!(rt; matches!(engine.grammar(), Grammar::One));
+        assert!(rt; engine.count(&[]) == 3 && engine.count(&[x, y]) == 2);
+        assert!(rt; engine.agree(x, x) && !engine.agree(x, y));
+        let row = RowId(2);
+        assert!(rt; engine.premise(&Premise::LeastAtLeast { row, role: 0, k: 1 }, &[x]));
+        assert!(rt; !engine.premise(&Premise::LeastAtLeast { row, role: 0, k: 2 }, &[x]));
+        return Ok(());
+    }
+    Err("no numbers".into())
 }
 
 // The engine that is made of parts, in the first grammar.

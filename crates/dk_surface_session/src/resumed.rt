@@ -16,7 +16,7 @@ const SECTION: &str =
 
 const STATS: &str = "stats P: samples 4, leaders 1, constants 0, patterns 1, slots 5\n";
 
-fn options() -> Options {
+pub(crate) fn options() -> Options {
     Options {
         least: 1,
         keep_implied: false,

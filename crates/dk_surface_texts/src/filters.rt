@@ -1,6 +1,6 @@
 // Facts of instances at a point of which least numbers alone are known, and which candidates a filter keeps.
 ghost use Rattle.std.specs.Prelude.{◌≡◌, ◌==◌, if◌then◌else◌, nat_lt};
-ghost use Rattle.dk_filters.specs.Candidates.{kept_by};
+ghost use Rattle.dk_filters.specs.Candidates.{candidates_kept};
 ghost use Rattle.dk_forms.specs.declared.states.State.TheVariants as state;
 ghost use Rattle.dk_template.specs.declared.grammar.Grammar.TheVariants as grammar;
 
@@ -95,10 +95,15 @@ fn judges_each_instance_once(rt: HostRuntime) -> Result<(), Fail> {
 
 // Those of several samples.
 fn of_several(list: List<Candidate>) -> List<Candidate>
-    ensures { result ≡ kept_by (λ c. nat_lt 1 c.count) list }
+    ensures { result ≡ candidates_kept (λ c. nat_lt 1 c.count) list }
 {
     let filter = Filter::new(|c: &Candidate| 1 < c.count);
     kept(list, &filter)
+}
+
+fn is_of_several(candidate: &Candidate) -> bool {
+    let filter = Filter::new(|c: &Candidate| 1 < c.count);
+    filter.keeps(candidate)
 }
 
 #[test]
@@ -122,7 +127,9 @@ fn keeps_in_order(rt: HostRuntime) -> Result<(), Fail> {
     }
     let list = of_several(list);
     match list.as_slice() {
-        [first, second] => assert!(rt; first.count == 3 && second.count == 2),
+        [first, second] => {
+            assert!(rt; first.count == 3 && second.count == 2 && is_of_several(first))
+        }
         _ => assert!(rt; false),
     }
     Ok(())

@@ -2,9 +2,9 @@ use Rattle.std.specs.Prelude.{List, length, map}
 use Rattle.std.proofs.Common.{◌∙◌, ap, arith}
 use Rattle.dk_base.specs.declared.kinds.VarInfo.{VarInfo}
 use Rattle.dk_bench.proofs.Judging.{are_small}
-use Rattle.dk_bench.specs.Judged.{shown_by}
+use Rattle.dk_bench.specs.Judged.{parent_of_view}
 use Rattle.dk_filters.specs.Found.{found_of}
-use Rattle.dk_filters.specs.Parents.{told}
+use Rattle.dk_filters.specs.Parents.{answers_by}
 use Rattle.dk_hierarchy.specs.Merging.{merged_agree, merged_count, merged_state}
 use Rattle.dk_bench.proofs.judge.print_parents.Goals as goal
 
@@ -23,5 +23,5 @@ print_found-requires g c =
     record {
       rows = c.requires.grammar;
       parents = c.requires.parents;
-      found = c.in_ok-found.ensures ∙ ap (λ (vs : List VarInfo). found_of (told vs (merged_state here) (merged_count here) (merged_agree here)) (map shown_by c.args.parents.now)) c.vars.ensures;
+      found = c.in_ok-found.ensures ∙ ap (λ (vs : List VarInfo). found_of (answers_by vs (merged_state here) (merged_count here) (merged_agree here)) (map parent_of_view c.args.parents.now)) c.vars.ensures;
     }

@@ -7,7 +7,7 @@ use Rattle.dk_core.specs.declared.session.Step.TheVariants.{More, Ended}
 use Rattle.dk_core.specs.declared.session.Stop.{Stop}
 use Rattle.dk_core.specs.Steps.{ClosesAt, ShapeAt, StepGives, StepShape, StepCounts, TurnCounts}
 use Rattle.dk_core.proofs.Stepping.{begun, block_counts, closed_on, fits_at, told_on, told_stop}
-use Rattle.dk_core.specs.Turns.{Goes, Ends, ended, turn_of}
+use Rattle.dk_core.specs.Turns.{Goes, Ends, ending_at, turn_of}
 use Rattle.dk_core.specs.declared.session.After.{After}
 use Rattle.dk_core.specs.declared.session.After.TheVariants as after
 use Rattle.dk_core.proofs.session.read_block.Goals as goal
@@ -71,8 +71,8 @@ returns-in-Ok-Ends-clause-gives g c h stands =
     let is : c.take_line.result ≡ Ok (Ended c.in-Ok-Ended.number c.in-Ok-Ended.is_over) = search rules in
     let turns : c.close_block.result ≡ Ok (after.Ends c.in-Ok-Ends.end) = search rules in
     let same = subst (λ (t : Result Step Stop). StepShape c.reading.kept c.reading.block c.take_line.new.block t) is c.take_line.ensures.shape in
-    told_on c.args.ignores (effect_of c.args.ignores h) c.args.lines.now c.reading.lines c.take_line.new.lines _ _ _ c.reading.kept c.reading.block (Ok (Ends (ended c.close_block.new.kept c.in-Ok-Ends.end))) (c.reading.invariant.goes h stands)
-    (λ now holds. closed_on c.args.ignores now c.reading.kept c.reading.block c.take_line.new.block c.reading.lines c.take_line.new.lines c.in-Ok-Ended.number c.in-Ok-Ended.is_over _ _ (Ok (Ends (ended c.close_block.new.kept c.in-Ok-Ends.end))) same
+    told_on c.args.ignores (effect_of c.args.ignores h) c.args.lines.now c.reading.lines c.take_line.new.lines _ _ _ c.reading.kept c.reading.block (Ok (Ends (ending_at c.close_block.new.kept c.in-Ok-Ends.end))) (c.reading.invariant.goes h stands)
+    (λ now holds. closed_on c.args.ignores now c.reading.kept c.reading.block c.take_line.new.block c.reading.lines c.take_line.new.lines c.in-Ok-Ended.number c.in-Ok-Ended.is_over _ _ (Ok (Ends (ending_at c.close_block.new.kept c.in-Ok-Ends.end))) same
     (subst (λ (t : Result Step Stop). IfSome (left_of c.reading.lines (g.I.Inputs.rest c.reading.inputs)) (λ ys. StepGives c.args.ignores c.reading.kept c.take_line.new.block (block_resumed c.args.ignores now c.reading.block) c.reading.lines ys t c.take_line.new.lines (left_of c.take_line.new.lines (g.I.Inputs.rest c.take_line.new.inputs)))) is
     (c.take_line.ensures.gives c.args.ignores now holds))
     (subst (λ (t : Result After Stop). ClosesAt c.args.ignores c.in-Ok-Ended.is_over (block_resumed c.args.ignores now c.take_line.new.block) c.in-Ok-Ended.number (turn_of c.close_block.new.kept c.close_block.new.block t)) turns (c.close_block.ensures.gives now holds)))
@@ -81,9 +81,9 @@ pub returns-in-Ok-Ends-clause-counts : goal.returns-in-Ok-Ends-clause-counts
 returns-in-Ok-Ends-clause-counts g c =
     let is : c.take_line.result ≡ Ok (Ended c.in-Ok-Ended.number c.in-Ok-Ended.is_over) = search rules in
     let turns : c.close_block.result ≡ Ok (after.Ends c.in-Ok-Ends.end) = search rules in
-    let shape : ShapeAt c.in-Ok-Ended.is_over (Ok (Ends (ended c.close_block.new.kept c.in-Ok-Ends.end))) = subst (λ (t : Result After Stop). ShapeAt c.in-Ok-Ended.is_over (turn_of c.close_block.new.kept c.close_block.new.block t)) turns c.close_block.ensures.shape in
-    block_counts c.args.lines.now c.reading.lines c.take_line.new.lines (ended c.close_block.new.kept c.in-Ok-Ends.end) c.reading.invariant.limits c.reading.invariant.grown
-    (subst (λ (t : Result Step Stop). StepCounts c.reading.lines t c.take_line.new.lines) is c.take_line.ensures.counts (Ok (Ends (ended c.close_block.new.kept c.in-Ok-Ends.end))) shape)
+    let shape : ShapeAt c.in-Ok-Ended.is_over (Ok (Ends (ending_at c.close_block.new.kept c.in-Ok-Ends.end))) = subst (λ (t : Result After Stop). ShapeAt c.in-Ok-Ended.is_over (turn_of c.close_block.new.kept c.close_block.new.block t)) turns c.close_block.ensures.shape in
+    block_counts c.args.lines.now c.reading.lines c.take_line.new.lines (ending_at c.close_block.new.kept c.in-Ok-Ends.end) c.reading.invariant.limits c.reading.invariant.grown
+    (subst (λ (t : Result Step Stop). StepCounts c.reading.lines t c.take_line.new.lines) is c.take_line.ensures.counts (Ok (Ends (ending_at c.close_block.new.kept c.in-Ok-Ends.end))) shape)
 
 pub returns-in-Err-close_block-clause-gives : goal.returns-in-Err-close_block-clause-gives
 returns-in-Err-close_block-clause-gives g c h stands =

@@ -6,7 +6,7 @@ use Rattle.dk_forms.specs.declared.states.State.{State}
 use Rattle.dk_engine.proofs.Narrowing.{change_more, stays_more}
 use Rattle.dk_engine.specs.Feeding.{read_after}
 use Rattle.dk_engine.specs.Levels.{OneMore}
-use Rattle.dk_engine.specs.Narrow.{AreChangesBelow, Stays, no_slot, outcome, slot_in}
+use Rattle.dk_engine.specs.Narrow.{AreChangesBelow, StateStays, no_slot, outcome, slot_in}
 use Rattle.dk_engine.specs.declared.slot.Slot.{Slot}
 use Rattle.dk_engine.proofs.changes.add_change.Goals as goal
 
@@ -21,9 +21,9 @@ returns c =
     let old = c.args.changes.now in
     let new = c.push_change.new.changes in
     let r = c.push_change.result in
-    elim c.in_ok-state.state as (λ (s : Option State). IfNone s (Stays made item) → IfSome s (λ t. t ≡ made item) → IfNone s (OnOk r (new ≡ old)) → IfSome s (λ t. OnOk r (new ≡ old ++ record { place = place; state = t } ∷ [])) → OnOk r (AreChangesBelow (place + 1) made slots new)) [
+    elim c.in_ok-state.state as (λ (s : Option State). IfNone s (StateStays made item) → IfSome s (λ t. t ≡ made item) → IfNone s (OnOk r (new ≡ old)) → IfSome s (λ t. OnOk r (new ≡ old ++ record { place = place; state = t } ∷ [])) → OnOk r (AreChangesBelow (place + 1) made slots new)) [
       | None ↦ λ stays t same u.
-          let still : Stays made (slot_in slots place) = subst (Stays made) at stays in
+          let still : StateStays made (slot_in slots place) = subst (StateStays made) at stays in
           on_ok_weaker r (λ (e : new ≡ old). subst (AreChangesBelow (place + 1) made slots) (sym e) (stays_more made slots place old c.requires.below still)) same
       | Some s ↦ λ t state u pushed.
           let is : s ≡ made (slot_in slots place) = subst (λ (i : Slot). s ≡ made i) at state in

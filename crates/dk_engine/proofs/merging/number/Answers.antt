@@ -1,10 +1,10 @@
 use Rattle.std.specs.Prelude.{◌≡◌}
 use Rattle.std.proofs.Common.{rules}
-use Rattle.dk_engine.specs.Merged.{number_of, var_in}
+use Rattle.dk_engine.specs.Merged.{slot_number, var_in}
 use Rattle.dk_engine.proofs.merging.number.Goals as goal
 
 pub returns : goal.returns
-unfolding number_of
+unfolding slot_number
 returns c =
     let vars = c.args.slot.now.leaders in
     let a : c.var_in.result ≡ var_in vars 0 = search rules in

@@ -1,8 +1,8 @@
 use Rattle.std.specs.Prelude.{◌≡◌, map}
 use Rattle.dk_filters.specs.Facts.{first_like}
 use Rattle.dk_filters.specs.Found.{vars_below}
-use Rattle.dk_filters.specs.Parents.{told}
+use Rattle.dk_filters.specs.Parents.{answers_by}
 use Rattle.dk_filters.proofs.found.firsts.Given as goal
 
 abbrev pub invariant-loop-n : goal.invariant-loop-n
-invariant-loop-n g l = l.list ≡ map (first_like (told l.vars (g.A.Answers.answered l.here) (g.A.Answers.counted l.here) (g.A.Answers.agreeing l.here))) (vars_below l.n)
+invariant-loop-n g l = l.list ≡ map (first_like (answers_by l.vars (g.A.Answers.answered l.here) (g.A.Answers.counted l.here) (g.A.Answers.agreeing l.here))) (vars_below l.n)

@@ -2,13 +2,13 @@ use Rattle.std.specs.Prelude.{◌≡◌, ◌++◌, ◌∷◌, [], ◌+◌, map, 
 use Rattle.std.proofs.Common.{ap, sym, ◌∙◌}
 use Rattle.std.proofs.lemmas.List.{map-append, take_more}
 use Rattle.dk_filters.specs.Found.{by_partner}
-use Rattle.dk_filters.specs.Parents.{shown}
+use Rattle.dk_filters.specs.Parents.{parent_shown}
 use Rattle.dk_filters.specs.declared.parents.ParentView.{ParentView}
 use Rattle.dk_filters.proofs.found.partners.Goals as goal
 
 pub loop-parent-preserved : goal.loop-parent-preserved
 loop-parent-preserved g c =
-    let listed = λ (p : ParentView _). by_partner c.args.vars.now (shown g.P.Answers.answered g.P.Answers.counted g.P.Answers.agreeing p) in
+    let listed = λ (p : ParentView _). by_partner c.args.vars.now (parent_shown g.P.Answers.answered g.P.Answers.counted g.P.Answers.agreeing p) in
     let place = c.loop-parent.parent-index in
     let parents = c.args.parents.now in
     let item = c.parent-item.result in

@@ -5,7 +5,7 @@ use Rattle.dk_filters.proofs.AtParents.{at_views, here_admitted, here_told, is_a
 use Rattle.dk_filters.proofs.Somewhere.{any_fails, any_none, any_passes}
 use Rattle.dk_filters.specs.Found.{by_partner}
 use Rattle.dk_filters.specs.Laws.{PartnersAreLike}
-use Rattle.dk_filters.specs.Parents.{shown}
+use Rattle.dk_filters.specs.Parents.{parent_shown}
 use Rattle.dk_filters.proofs.judging.is_at_parent.Goals as goal
 
 pub stands_somewhere-requires-clause-admitted : goal.stands_somewhere-requires-clause-admitted
@@ -18,10 +18,10 @@ stands_somewhere-requires-clause-admitted g c =
     let listed = c.as_slice.result.now in
     let within : place < length c.args.parents.now = c.loop-place-test.true in
     let long : length c.args.partners.now ≡ length c.args.parents.now =
-    ap length c.requires.partners ∙ (length-map (map (shown A C G) c.args.parents.now) (by_partner c.args.vars.now) ∙ length-map c.args.parents.now (shown A C G)) in
+    ap length c.requires.partners ∙ (length-map (map (parent_shown A C G) c.args.parents.now) (by_partner c.args.vars.now) ∙ length-map c.args.parents.now (parent_shown A C G)) in
     let at : listed ≡ slice_index_or c.args.partners.now place listed = c.as_slice.ensures ∙ get_or_read c.args.partners.now place c.index-partners-place.result (omega (arith, long, within)) c.index-partners-place.is listed in
     here_admitted A C G c.args.vars.now c.args.parents.now c.args.partners.now c.requires.partners place view within c.index-parents-place.is c.args.row c.args.tuple.now c.requires.vars listed at
-    (subst (λ v. PartnersAreLike c.args.vars.now (shown A C G v)) (sym c.index-parents-place.is) (c.requires.parents place view within).1.alike)
+    (subst (λ v. PartnersAreLike c.args.vars.now (parent_shown A C G v)) (sym c.index-parents-place.is) (c.requires.parents place view within).1.alike)
 
 pub returns-then-branch-clause-state : goal.returns-then-branch-clause-state
 returns-then-branch-clause-state g c =
@@ -33,7 +33,7 @@ returns-then-branch-clause-state g c =
     let listed = c.as_slice.result.now in
     let within : place < length c.args.parents.now = c.loop-place-test.true in
     let long : length c.args.partners.now ≡ length c.args.parents.now =
-    ap length c.requires.partners ∙ (length-map (map (shown A C G) c.args.parents.now) (by_partner c.args.vars.now) ∙ length-map c.args.parents.now (shown A C G)) in
+    ap length c.requires.partners ∙ (length-map (map (parent_shown A C G) c.args.parents.now) (by_partner c.args.vars.now) ∙ length-map c.args.parents.now (parent_shown A C G)) in
     let at : listed ≡ slice_index_or c.args.partners.now place listed = c.as_slice.ensures ∙ get_or_read c.args.partners.now place c.index-partners-place.result (omega (arith, long, within)) c.index-partners-place.is listed in
     let told = here_told A C G c.args.vars.now c.args.parents.now c.args.partners.now c.requires.partners place view within c.index-parents-place.is c.args.row c.args.tuple.now c.requires.vars listed at c.args.state.now in
     let stands = is_at_view A C G c.args.row c.args.state.now c.args.tuple.now in
@@ -50,7 +50,7 @@ loop-place-preserved g c =
     let listed = c.as_slice.result.now in
     let within : place < length c.args.parents.now = c.loop-place-test.true in
     let long : length c.args.partners.now ≡ length c.args.parents.now =
-    ap length c.requires.partners ∙ (length-map (map (shown A C G) c.args.parents.now) (by_partner c.args.vars.now) ∙ length-map c.args.parents.now (shown A C G)) in
+    ap length c.requires.partners ∙ (length-map (map (parent_shown A C G) c.args.parents.now) (by_partner c.args.vars.now) ∙ length-map c.args.parents.now (parent_shown A C G)) in
     let at : listed ≡ slice_index_or c.args.partners.now place listed = c.as_slice.ensures ∙ get_or_read c.args.partners.now place c.index-partners-place.result (omega (arith, long, within)) c.index-partners-place.is listed in
     let told = here_told A C G c.args.vars.now c.args.parents.now c.args.partners.now c.requires.partners place view within c.index-parents-place.is c.args.row c.args.tuple.now c.requires.vars listed at c.args.state.now in
     let stands = is_at_view A C G c.args.row c.args.state.now c.args.tuple.now in

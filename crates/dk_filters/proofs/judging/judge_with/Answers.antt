@@ -5,9 +5,9 @@ use Rattle.dk_forms.specs.declared.states.State.{State}
 use Rattle.dk_template.specs.Premises.{AreThere}
 use Rattle.dk_filters.proofs.Asked.{admitted-there}
 use Rattle.dk_filters.proofs.Judged.{all_facts}
-use Rattle.dk_filters.specs.Facts.{is_at, is_constant_by, is_member_by}
+use Rattle.dk_filters.specs.Facts.{is_at_one_parent, is_constant_instance_by, is_further_member_by}
 use Rattle.dk_filters.specs.Found.{first_in, one_value_in}
-use Rattle.dk_filters.specs.Parents.{shown, told}
+use Rattle.dk_filters.specs.Parents.{answers_by, parent_shown}
 use Rattle.dk_filters.proofs.judging.judge_with.Goals as goal
 
 pub count-requires-clause-there : goal.count-requires-clause-there
@@ -16,16 +16,16 @@ count-requires-clause-there g c =
 
 pub returns-clause-facts : goal.returns-clause-facts
 returns-clause-facts g c =
-    let here = told c.args.vars.now (g.A.Answers.answered c.args.here.now) (g.A.Answers.counted c.args.here.now) (g.A.Answers.agreeing c.args.here.now) in
-    let parents = map (shown g.P.Answers.answered g.P.Answers.counted g.P.Answers.agreeing) c.args.parents.now in
+    let here = answers_by c.args.vars.now (g.A.Answers.answered c.args.here.now) (g.A.Answers.counted c.args.here.now) (g.A.Answers.agreeing c.args.here.now) in
+    let parents = map (parent_shown g.P.Answers.answered g.P.Answers.counted g.P.Answers.agreeing) c.args.parents.now in
     let r = c.args.row in
     let vars = c.args.tuple.now in
     all_facts c.args.least here parents r vars c.args.found.now c.requires.found c.requires.instance
     (nat_lt c.count.result c.args.least) c.is_incomparable-incomparable.result c.is_member-member.result c.in_ok-implied.implied c.is_constant-constant.result c.in_ok-parent.parent
     (ap (λ n. nat_lt n c.args.least) c.count.ensures)
     c.is_incomparable-incomparable.ensures
-    (c.is_member-member.ensures ∙ ap (λ firsts. is_member_by (first_in firsts) r vars) c.as_slice-firsts.ensures)
+    (c.is_member-member.ensures ∙ ap (λ firsts. is_further_member_by (first_in firsts) r vars) c.as_slice-firsts.ensures)
     c.in_ok-implied.ensures.state
-    (c.is_constant-constant.ensures ∙ (ap (λ firsts. is_constant_by (first_in firsts) (one_value_in c.as_slice-one_values.result.now) r vars) c.as_slice-firsts.ensures
-    ∙ ap (λ ones. is_constant_by (first_in c.args.found.now.firsts) (one_value_in ones) r vars) c.as_slice-one_values.ensures))
-    (c.in_ok-parent.ensures.state ∙ ap (λ (s : State). list_any (is_at r s vars) parents) c.requires.state)
+    (c.is_constant-constant.ensures ∙ (ap (λ firsts. is_constant_instance_by (first_in firsts) (one_value_in c.as_slice-one_values.result.now) r vars) c.as_slice-firsts.ensures
+    ∙ ap (λ ones. is_constant_instance_by (first_in c.args.found.now.firsts) (one_value_in ones) r vars) c.as_slice-one_values.ensures))
+    (c.in_ok-parent.ensures.state ∙ ap (λ (s : State). list_any (is_at_one_parent r s vars) parents) c.requires.state)

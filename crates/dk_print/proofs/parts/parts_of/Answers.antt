@@ -1,13 +1,13 @@
 use Rattle.std.proofs.Common.{◌∙◌, ap, sym, map, Bor, List, [], get_or}
 use Rattle.std.proofs.lemmas.Bool.{ltb-false, ltb-true}
 use Rattle.dk_print.specs.Parts.{Part}
-use Rattle.dk_print.specs.Shown.{shown}
+use Rattle.dk_print.specs.Shown.{part_shown}
 use Rattle.dk_print.specs.declared.parts.Part as coded
 use Rattle.dk_print.proofs.Reading.{shown_past, shown_there}
 use Rattle.dk_print.proofs.parts.parts_of.Goals as goal
 
 abbrev shown_row : Bor (List coded.Part) → List Part
-shown_row r = map shown r.now
+shown_row r = map part_shown r.now
 
 pub returns-in-Some : goal.returns-in-Some
 returns-in-Some c =

@@ -6,10 +6,10 @@ use Rattle.dk_base.specs.declared.kinds.VarInfo.{VarInfo}
 use Rattle.dk_base.specs.declared.values.Value.{Value}
 use Rattle.dk_engine.specs.Levels.{Whole}
 use Rattle.dk_filters.specs.Answers.{Parent}
-use Rattle.dk_filters.specs.Candidates.{candidates_of, kept_by}
+use Rattle.dk_filters.specs.Candidates.{candidates_kept, candidates_of}
 use Rattle.dk_filters.specs.Found.{found_of}
 use Rattle.dk_filters.specs.Laws.{ShowTheSame}
-use Rattle.dk_filters.specs.Parents.{IsViewOf, told}
+use Rattle.dk_filters.specs.Parents.{IsViewOf, answers_by}
 use Rattle.dk_filters.specs.declared.parents.ParentView.{ParentView}
 use Rattle.dk_graph.proofs.Places.{some-injective}
 use Rattle.dk_graph.specs.Graphs.{edges_from}
@@ -21,7 +21,7 @@ use Rattle.dk_hierarchy.specs.Standing.{EnginesStandFor}
 use Rattle.dk_hierarchy.specs.declared.way.Way.{Way}
 use Rattle.dk_points.specs.Links.{nodes}
 use Rattle.dk_report.proofs.Reported.{if_ok, reported, small_views, views_can_show, views_show}
-use Rattle.dk_report.specs.Asked.{shown_by, told_by_joint}
+use Rattle.dk_report.specs.Asked.{answers_of_joint, parent_of_view}
 use Rattle.dk_report.specs.Keeping.{keeps}
 use Rattle.dk_report.specs.Parents.{IsParentBy}
 use Rattle.dk_report.specs.Reports.{parents_of}
@@ -54,17 +54,17 @@ listed-requires-clause-asked c =
     let got = engine_got ps es c.requires.engines p c.index-engines-p.result c.requires.point c.index-engines-p.is in
     let same : c.index-engines-p.result ≡ joint.here = some-injective (sym got ∙ c.in_ok-here.ensures.here) in
     let slices : c.as_slice-2.result.now ≡ c.as_slice-3.result.now = c.as_slice-2.ensures.value ∙ sym c.as_slice-3.ensures.value in
-    let told_is = λ (vs : List VarInfo). told vs (merged_state joint) (merged_count joint) (merged_agree joint) in
+    let told_is = λ (vs : List VarInfo). answers_by vs (merged_state joint) (merged_count joint) (merged_agree joint) in
     record {
       grammar = c.grammar.ensures ∙ ap (λ (e : Whole). e.grammar) same;
       parents =
-          All-same (λ (view : ParentView Joint). (view.answers.now.here.grammar ≡ joint.here.grammar) × IsViewOf view.answers.now.here.infos joint.here.infos (shown_by view))
+          All-same (λ (view : ParentView Joint). (view.answers.now.here.grammar ≡ joint.here.grammar) × IsViewOf view.answers.now.here.infos joint.here.infos (parent_of_view view))
           c.as_slice-3.result.now c.in_ok-views.views.items c.as_slice-3.ensures.value
           (views_can_show ps es c.requires.engines p joint c.in_ok-here.ensures.here c.in_ok-here.ensures.stands c.in_ok-views.views.items c.as_slice.result.now c.in_ok-views.ensures by);
       found =
           c.in_ok-found.ensures
-          ∙ (ap (λ (vs : List VarInfo). found_of (told_is vs) (map shown_by c.as_slice-2.result.now)) c.vars.ensures
-          ∙ ap (λ (views : List (ParentView Joint)). found_of (told_by_joint joint) (map shown_by views)) slices);
+          ∙ (ap (λ (vs : List VarInfo). found_of (told_is vs) (map parent_of_view c.as_slice-2.result.now)) c.vars.ensures
+          ∙ ap (λ (views : List (ParentView Joint)). found_of (answers_of_joint joint) (map parent_of_view views)) slices);
     }
 
 pub listed-requires-clause-few : goal.listed-requires-clause-few
@@ -85,12 +85,12 @@ returns c =
     let options = c.args.options.now in
     let joint : Joint = c.in_ok-here.here in
     let by = subst (λ (qs : List MergedParent). AllZip (IsParentBy ps es) qs (edges_from (nodes ps) p)) (sym c.as_slice.ensures.value) c.in_ok-parents.ensures in
-    let lists = λ (views : List (ParentView Joint)). kept_by (keeps options) (candidates_of joint.here.grammar options.least (told_by_joint joint) (map shown_by views)) in
+    let lists = λ (views : List (ParentView Joint)). candidates_kept (keeps options) (candidates_of joint.here.grammar options.least (answers_of_joint joint) (map parent_of_view views)) in
     if_ok c.listed.result
-    (λ list. (samples : ℕ → List (List Value)) (parents : List Parent) → EnginesStandFor es samples → AllZip (ShowTheSame joint.here.grammar joint.here.infos) (map shown_by c.as_slice-3.result.now) parents → list ≡ lists c.as_slice-3.result.now) _
+    (λ list. (samples : ℕ → List (List Value)) (parents : List Parent) → EnginesStandFor es samples → AllZip (ShowTheSame joint.here.grammar joint.here.infos) (map parent_of_view c.as_slice-3.result.now) parents → list ≡ lists c.as_slice-3.result.now) _
     (λ list is own stand.
     let shows = views_show ps es c.requires.engines p joint c.in_ok-here.ensures.here c.in_ok-here.ensures.stands c.in_ok-views.views.items c.as_slice.result.now c.in_ok-views.ensures by own stand in
-    let show = subst (λ (views : List (ParentView Joint)). AllZip (ShowTheSame joint.here.grammar joint.here.infos) (map shown_by views) (parents_of ps own p)) (sym c.as_slice-3.ensures.value) shows in
+    let show = subst (λ (views : List (ParentView Joint)). AllZip (ShowTheSame joint.here.grammar joint.here.infos) (map parent_of_view views) (parents_of ps own p)) (sym c.as_slice-3.ensures.value) shows in
     reported ps es c.requires.engines p joint c.in_ok-here.ensures.here c.in_ok-here.ensures.stands c.in_ok-views.views.items c.as_slice.result.now c.in_ok-views.ensures by options list
     (is (own_samples_of ps own) (parents_of ps own p) stand show ∙ ap lists c.as_slice-3.ensures.value) own stand)
     c.listed.ensures

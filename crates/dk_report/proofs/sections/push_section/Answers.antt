@@ -7,7 +7,7 @@ use Rattle.dk_presence.specs.Patterns.{count_of}
 use Rattle.dk_report.proofs.Reported.{none_counted, same_section, section_none, section_some, some_counted}
 use Rattle.dk_report.proofs.Stated.{name_at}
 use Rattle.dk_report.specs.Engines.{grammar_at}
-use Rattle.dk_report.specs.Reports.{kept_instances, name_of}
+use Rattle.dk_report.specs.Reports.{kept_instances, name_in_table}
 use Rattle.dk_report.proofs.sections.push_section.Goals as goal
 
 pub returns-then-samples-eq0-clause-text : goal.returns-then-samples-eq0-clause-text
@@ -29,6 +29,6 @@ returns-clause-text c = λ own stand.
     let list = c.as_slice.ensures ∙ c.in_ok-list.ensures own stand in
     c.in_ok-push_section.ensures
     ∙ ap (λ (t : List ℕ). c.args.text.now ++ t)
-    (same_section c.name.result.now (name_of ps p) c.in_ok-samples.samples (count_of [] (samples_of ps own p)) c.vars-vars.result.now (all_vars_of ps p) c.as_slice.result.now (kept_instances (grammar_at es p) options ps own p)
+    (same_section c.name.result.now (name_in_table ps p) c.in_ok-samples.samples (count_of [] (samples_of ps own p)) c.vars-vars.result.now (all_vars_of ps p) c.as_slice.result.now (kept_instances (grammar_at es p) options ps own p)
     (sym (name_at (names ps) p c.name.result.now c.name.ensures)) counted vars list
     ∙ sym (section_some (grammar_at es p) options ps own p some))

@@ -1,13 +1,13 @@
 use Rattle.std.proofs.Common.{rules, sym, ◌≡◌, refl, []}
 use Rattle.dk_io.specs.declared.outside.Stream.TheVariants.{Report}
-use Rattle.dk_run.specs.WholeFile.{fresh}
+use Rattle.dk_run.specs.WholeFile.{fresh_reading}
 use Rattle.dk_run.proofs.Filing.{told_started}
 use Rattle.dk_run.proofs.Writing.{added_nothing}
 use Rattle.dk_run.proofs.reading.read_file.Goals as goal
 
 pub returns-in-Ok-clause-gives : goal.returns-in-Ok-clause-gives
 returns-in-Ok-clause-gives g c =
-    let started : c.start.new.self ≡ fresh c.args.lines.now = search rules in
+    let started : c.start.new.self ≡ fresh_reading c.args.lines.now = search rules in
     let told = c.read_started.ensures.gives in
     record {
       text = told.text;

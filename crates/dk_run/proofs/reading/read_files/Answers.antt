@@ -4,9 +4,9 @@ use Rattle.dk_io.specs.declared.outside.Stream.TheVariants.{Report}
 use Rattle.dk_lines.specs.Reading.{room_of}
 use Rattle.dk_core.specs.Selecting.{SelectsBy}
 use Rattle.dk_core.specs.Standing.{SessionStandsFor, blocks_of}
-use Rattle.dk_run.specs.AllFiles.{AreReadTo, FilesTroubleGives, HasBrokenAt, placed}
-use Rattle.dk_run.specs.Commands.{generated_count, helds_of, is_selected, names_of}
-use Rattle.dk_run.specs.Files.{name_at}
+use Rattle.dk_run.specs.AllFiles.{AreReadTo, FilesTroubleGives, HasBrokenAt, files_trouble}
+use Rattle.dk_run.specs.Commands.{file_names, generated_count, helds_of, is_selected}
+use Rattle.dk_run.specs.Files.{file_name_at}
 use Rattle.dk_run.specs.declared.reading.FilesTrouble.{FilesTrouble}
 use Rattle.dk_run.proofs.Filing.{alike_on, alike_same, reports_on}
 use Rattle.dk_run.proofs.Placing.{named_cause, named_on, named_trouble, names_length, nothing_told}
@@ -53,7 +53,7 @@ loop-index-preserved g c =
         holds = λ told read. subst (λ (l : List ℕ). AreReadTo c.args.command.now (g.I.Inputs.file c.args.inputs.now) (g.I.Inputs.rest c.args.inputs.now) (g.I.Inputs.rest c.read_file.new.inputs) (SessionStandsFor c.in-Ok.next) (blocks_of c.in-Ok.next) (room_of c.read_file.new.lines) (generated_count c.args.command.now + (c.loop-index.index + 1)) l)
             (append_assoc told old.text new.text)
             (named_on c.args.command.now (g.I.Inputs.file c.args.inputs.now) _ _ _ c.loop-index.session c.in-Ok.next c.loop-index.index c.loop-index.lines c.read_file.new.lines (told ++ old.text) new.text c.word_at.result.now
-            (c.word_at.ensures ∙ ap (λ (l : List (List ℕ)). name_at l c.loop-index.index) c.as_slice-words.ensures) (omega (arith, ap length c.as_slice-words.ensures)) c.loop-index.invariant.limits there (old.holds told read)
+            (c.word_at.ensures ∙ ap (λ (l : List (List ℕ)). file_name_at l c.loop-index.index) c.as_slice-words.ensures) (omega (arith, ap length c.as_slice-words.ensures)) c.loop-index.invariant.limits there (old.holds told read)
             (λ h n stands counts xs holds. new.holds.1 h n stands counts xs (ap (λ (f : List ℕ → HeldFile). f c.word_at.result.now) files ∙ holds)));
       };
     }
@@ -63,15 +63,15 @@ returns-in-Err-clause-gives g c =
     let files = c.loop-index.invariant.files in
     let old = c.loop-index.invariant.goes in
     let new = c.in-Err.ensures.gives in
-    let place : placed (c.generated_count-first.result + c.loop-index.index) c.in-Err.trouble ≡ placed (generated_count c.args.command.now + c.loop-index.index) c.in-Err.trouble =
-    ap (λ (n : ℕ). placed (n + c.loop-index.index) c.in-Err.trouble) c.generated_count-first.ensures in
+    let place : files_trouble (c.generated_count-first.result + c.loop-index.index) c.in-Err.trouble ≡ files_trouble (generated_count c.args.command.now + c.loop-index.index) c.in-Err.trouble =
+    ap (λ (n : ℕ). files_trouble (n + c.loop-index.index) c.in-Err.trouble) c.generated_count-first.ensures in
     record {
       text = old.text ++ new.text;
       written = written_behind _ _ _ old.text new.text old.written new.written;
       holds = λ told read. subst (λ (t : FilesTrouble). FilesTroubleGives c.args.command.now (g.I.Inputs.file c.args.inputs.now) (g.I.Inputs.rest c.args.inputs.now) (told ++ (old.text ++ new.text)) t (g.I.Inputs.rest c.read_file.new.inputs)) (sym (c.at_place.ensures ∙ place))
-          (subst (λ (l : List ℕ). FilesTroubleGives c.args.command.now (g.I.Inputs.file c.args.inputs.now) (g.I.Inputs.rest c.args.inputs.now) l (placed (generated_count c.args.command.now + c.loop-index.index) c.in-Err.trouble) (g.I.Inputs.rest c.read_file.new.inputs)) (append_assoc told old.text new.text)
+          (subst (λ (l : List ℕ). FilesTroubleGives c.args.command.now (g.I.Inputs.file c.args.inputs.now) (g.I.Inputs.rest c.args.inputs.now) l (files_trouble (generated_count c.args.command.now + c.loop-index.index) c.in-Err.trouble) (g.I.Inputs.rest c.read_file.new.inputs)) (append_assoc told old.text new.text)
           (named_trouble c.args.command.now (g.I.Inputs.file c.args.inputs.now) (g.I.Inputs.rest c.args.inputs.now) _ _ c.loop-index.session c.loop-index.index c.loop-index.lines (told ++ old.text) new.text c.word_at.result.now c.in-Err.trouble
-          (c.word_at.ensures ∙ ap (λ (l : List (List ℕ)). name_at l c.loop-index.index) c.as_slice-words.ensures) (omega (arith, ap length c.as_slice-words.ensures)) c.loop-index.invariant.limits
+          (c.word_at.ensures ∙ ap (λ (l : List (List ℕ)). file_name_at l c.loop-index.index) c.as_slice-words.ensures) (omega (arith, ap length c.as_slice-words.ensures)) c.loop-index.invariant.limits
           (λ started. rw files at (c.in-Err.ensures.there (λ e. started (cc (e)))))
           (λ start. (new.holds.0 (ap Err start), (c.in-Err.ensures.unstarted (ap Err start)).1)) (old.holds told read)
           (λ h n stands counts xs holds. new.holds.1 h n stands counts xs (ap (λ (f : List ℕ → HeldFile). f c.word_at.result.now) files ∙ holds))));
@@ -81,17 +81,17 @@ pub returns-in-Err-clause-cause : goal.returns-in-Err-clause-cause
 returns-in-Err-clause-cause g c =
     let files = c.loop-index.invariant.files in
     let e = c.in-Err.ensures in
-    let place : placed (c.generated_count-first.result + c.loop-index.index) c.in-Err.trouble ≡ placed (generated_count c.args.command.now + c.loop-index.index) c.in-Err.trouble =
-    ap (λ (n : ℕ). placed (n + c.loop-index.index) c.in-Err.trouble) c.generated_count-first.ensures in
+    let place : files_trouble (c.generated_count-first.result + c.loop-index.index) c.in-Err.trouble ≡ files_trouble (generated_count c.args.command.now + c.loop-index.index) c.in-Err.trouble =
+    ap (λ (n : ℕ). files_trouble (n + c.loop-index.index) c.in-Err.trouble) c.generated_count-first.ensures in
     subst (λ (t : FilesTrouble). HasBrokenAt (helds_of c.args.command.now (g.I.Inputs.file c.args.inputs.now)) (Rose (g.I.Inputs.faults c.args.inputs.now) (g.I.Inputs.faults c.read_file.new.inputs)) t) (sym (c.at_place.ensures ∙ place))
     (named_cause c.args.command.now (g.I.Inputs.file c.args.inputs.now) c.loop-index.index c.word_at.result.now (Err c.in-Err.trouble) c.in-Err.trouble (g.I.Inputs.faults c.args.inputs.now) (g.I.Inputs.faults c.loop-index.inputs) (g.I.Inputs.faults c.read_file.new.inputs) refl
-    (c.word_at.ensures ∙ ap (λ (l : List (List ℕ)). name_at l c.loop-index.index) c.as_slice-words.ensures) (omega (arith, ap length c.as_slice-words.ensures)) c.loop-index.invariant.later
+    (c.word_at.ensures ∙ ap (λ (l : List (List ℕ)). file_name_at l c.loop-index.index) c.as_slice-words.ensures) (omega (arith, ap length c.as_slice-words.ensures)) c.loop-index.invariant.later
     (rw files at e.there) (rw files at e.start) e.read)
 
 pub returns-clause-gives : goal.returns-clause-gives
 returns-clause-gives g c =
     let old = c.loop-index.invariant.goes in
-    let place : generated_count c.args.command.now + c.loop-index.index ≡ length (names_of c.args.command.now) = omega (arith, names_length c.args.command.now, ap length c.as_slice-words.ensures) in
+    let place : generated_count c.args.command.now + c.loop-index.index ≡ length (file_names c.args.command.now) = omega (arith, names_length c.args.command.now, ap length c.as_slice-words.ensures) in
     record {
       text = old.text;
       written = old.written;

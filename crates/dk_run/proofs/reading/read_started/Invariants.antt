@@ -5,7 +5,7 @@ use Rattle.dk_core.specs.Selecting.{SelectsBy}
 use Rattle.dk_core.specs.Standing.{ReportsAlike, SessionStandsFor, blocks_of, over_of, select_of}
 use Rattle.dk_io.specs.declared.outside.Stream.TheVariants.{Report}
 use Rattle.dk_run.specs.Commands.{is_selected}
-use Rattle.dk_run.specs.Reports.{capped}
+use Rattle.dk_presence.specs.Patterns.{capped}
 use Rattle.dk_run.specs.Telling.{Added, ReportsBy}
 use Rattle.dk_run.specs.WholeFile.{FileGoesOn}
 use Rattle.dk_run.proofs.reading.read_started.Given as goal

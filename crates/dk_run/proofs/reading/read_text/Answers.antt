@@ -2,7 +2,7 @@ use Rattle.std.proofs.Common.{[], Some, ap, sym, ◌∙◌}
 use Rattle.dk_generate.specs.Texts.{generated_name}
 use Rattle.dk_io.specs.NamedFiles.{Files}
 use Rattle.dk_io.specs.declared.outside.Stream.TheVariants.{Report}
-use Rattle.dk_run.specs.WholeFile.{fresh}
+use Rattle.dk_run.specs.WholeFile.{fresh_reading}
 use Rattle.dk_run.proofs.Filing.{none_short}
 use Rattle.dk_run.proofs.Placing.{own_held, text_gives}
 use Rattle.dk_run.proofs.Writing.{added_nothing}
@@ -18,4 +18,4 @@ returns-in-Ok-clause-gives g c =
     }
 
 pub returns-in-Err-clause-gives : goal.returns-in-Err-clause-gives
-returns-in-Err-clause-gives g c = record { text = []; written = sym (added_nothing _ Report); holds = λ h n stands counts. none_short c.args.command.now n h (fresh c.args.lines.now) c.args.text }
+returns-in-Err-clause-gives g c = record { text = []; written = sym (added_nothing _ Report); holds = λ h n stands counts. none_short c.args.command.now n h (fresh_reading c.args.lines.now) c.args.text }

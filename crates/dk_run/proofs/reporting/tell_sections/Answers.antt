@@ -2,7 +2,7 @@ use Rattle.std.proofs.Common.{◌≤◌, ◌<◌, ◌++◌, List, length, refl, 
 use Rattle.dk_core.specs.Sections.{section_of, report_of}
 use Rattle.dk_core.specs.Standing.{SessionStandsFor}
 use Rattle.dk_points.specs.Table.{Point}
-use Rattle.dk_run.specs.Commands.{is_selected, options_of}
+use Rattle.dk_run.specs.Commands.{is_selected, report_options}
 use Rattle.dk_run.proofs.Writing.{cut_short, cut_then, told_then, texts_all, texts_behind, texts_more, texts_to, told_nothing, told_same}
 use Rattle.dk_run.proofs.reporting.tell_sections.Goals as goal
 
@@ -12,22 +12,22 @@ loop-p-init g c = told_nothing (SessionStandsFor c.args.session.now) _ _ _ (λ h
 pub loop-p-preserved : goal.loop-p-preserved
 loop-p-preserved g c =
     let within : c.loop-p.p < length c.points-points.result.now = omega arith in
-    told_same (SessionStandsFor c.args.session.now) (λ h. texts_to (section_of (options_of c.args.command.now) (is_selected c.args.command.now) h) c.loop-p.p 0 h.table ++ section_of (options_of c.args.command.now) (is_selected c.args.command.now) h c.loop-p.p) _ _ _ _ _
-    (λ h stands. texts_more (section_of (options_of c.args.command.now) (is_selected c.args.command.now) h) c.loop-p.p h.table (subst (λ (ps : List Point). c.loop-p.p < length ps) (c.points-points.ensures.table h stands) within))
-    (told_then (SessionStandsFor c.args.session.now) (λ h. texts_to (section_of (options_of c.args.command.now) (is_selected c.args.command.now) h) c.loop-p.p 0 h.table) (λ h. section_of (options_of c.args.command.now) (is_selected c.args.command.now) h c.loop-p.p) _ _ _ _ _ _ c.loop-p.invariant c.in-Ok.ensures)
+    told_same (SessionStandsFor c.args.session.now) (λ h. texts_to (section_of (report_options c.args.command.now) (is_selected c.args.command.now) h) c.loop-p.p 0 h.table ++ section_of (report_options c.args.command.now) (is_selected c.args.command.now) h c.loop-p.p) _ _ _ _ _
+    (λ h stands. texts_more (section_of (report_options c.args.command.now) (is_selected c.args.command.now) h) c.loop-p.p h.table (subst (λ (ps : List Point). c.loop-p.p < length ps) (c.points-points.ensures.table h stands) within))
+    (told_then (SessionStandsFor c.args.session.now) (λ h. texts_to (section_of (report_options c.args.command.now) (is_selected c.args.command.now) h) c.loop-p.p 0 h.table) (λ h. section_of (report_options c.args.command.now) (is_selected c.args.command.now) h c.loop-p.p) _ _ _ _ _ _ c.loop-p.invariant c.in-Ok.ensures)
 
 pub returns-in-Err : goal.returns-in-Err
 unfolding report_of
 returns-in-Err g c =
     let within : c.loop-p.p < length c.points-points.result.now = omega arith in
-    cut_short (SessionStandsFor c.args.session.now) (λ h. texts_to (section_of (options_of c.args.command.now) (is_selected c.args.command.now) h) c.loop-p.p 0 h.table ++ section_of (options_of c.args.command.now) (is_selected c.args.command.now) h c.loop-p.p) (λ h. report_of (options_of c.args.command.now) (is_selected c.args.command.now) h) _ _ _ _ c.in-Err.halt
-    (λ h stands. texts_behind (section_of (options_of c.args.command.now) (is_selected c.args.command.now) h) c.loop-p.p h.table (subst (λ (ps : List Point). c.loop-p.p < length ps) (c.points-points.ensures.table h stands) within))
-    (cut_then (SessionStandsFor c.args.session.now) (λ h. texts_to (section_of (options_of c.args.command.now) (is_selected c.args.command.now) h) c.loop-p.p 0 h.table) (λ h. section_of (options_of c.args.command.now) (is_selected c.args.command.now) h c.loop-p.p) _ _ _ _ _ _ _ c.loop-p.invariant c.in-Err.ensures)
+    cut_short (SessionStandsFor c.args.session.now) (λ h. texts_to (section_of (report_options c.args.command.now) (is_selected c.args.command.now) h) c.loop-p.p 0 h.table ++ section_of (report_options c.args.command.now) (is_selected c.args.command.now) h c.loop-p.p) (λ h. report_of (report_options c.args.command.now) (is_selected c.args.command.now) h) _ _ _ _ c.in-Err.halt
+    (λ h stands. texts_behind (section_of (report_options c.args.command.now) (is_selected c.args.command.now) h) c.loop-p.p h.table (subst (λ (ps : List Point). c.loop-p.p < length ps) (c.points-points.ensures.table h stands) within))
+    (cut_then (SessionStandsFor c.args.session.now) (λ h. texts_to (section_of (report_options c.args.command.now) (is_selected c.args.command.now) h) c.loop-p.p 0 h.table) (λ h. section_of (report_options c.args.command.now) (is_selected c.args.command.now) h c.loop-p.p) _ _ _ _ _ _ _ c.loop-p.invariant c.in-Err.ensures)
 
 pub returns : goal.returns
 unfolding report_of
 returns g c =
     let above : length c.points-points.result.now ≤ c.loop-p.p = omega arith in
-    told_same (SessionStandsFor c.args.session.now) (λ h. texts_to (section_of (options_of c.args.command.now) (is_selected c.args.command.now) h) c.loop-p.p 0 h.table) (λ h. report_of (options_of c.args.command.now) (is_selected c.args.command.now) h) _ _ _ _
-    (λ h stands. texts_all (section_of (options_of c.args.command.now) (is_selected c.args.command.now) h) c.loop-p.p h.table (subst (λ (ps : List Point). length ps ≤ c.loop-p.p) (c.points-points.ensures.table h stands) above))
+    told_same (SessionStandsFor c.args.session.now) (λ h. texts_to (section_of (report_options c.args.command.now) (is_selected c.args.command.now) h) c.loop-p.p 0 h.table) (λ h. report_of (report_options c.args.command.now) (is_selected c.args.command.now) h) _ _ _ _
+    (λ h stands. texts_all (section_of (report_options c.args.command.now) (is_selected c.args.command.now) h) c.loop-p.p h.table (subst (λ (ps : List Point). length ps ≤ c.loop-p.p) (c.points-points.ensures.table h stands) above))
     c.loop-p.invariant

@@ -15,7 +15,7 @@ use Rattle.dk_hierarchy.specs.Samples.{all_vars_of}
 use Rattle.dk_state.specs.Fitting.{FitsParts, FitsSlot}
 use Rattle.dk_state.specs.Kept.{behind_samples}
 use Rattle.dk_state.specs.Lines.{behind_blank}
-use Rattle.dk_state.specs.Loading.{blocks}
+use Rattle.dk_state.specs.Loading.{saved_blocks}
 use Rattle.dk_state.proofs.Blocks.{block_first}
 use Rattle.dk_state.proofs.PartsFit.{parts_fit}
 use Rattle.dk_state.proofs.loading.engine_with.Goals as goal
@@ -36,7 +36,7 @@ returns-in-Ok-clause-read c saved more few at is =
     let own : c.in_ok-vars.vars ≡ all_vars_of ps p = c.in_ok-vars.ensures.vars ∙ ap with_derived_vars c.vars.ensures.vars in
     let seen = c.as_slice.ensures ∙ own in
     let small : length (all_vars_of ps p) < 2 ^ 32 = subst (λ vars. length vars < 2 ^ 32) (ap with_derived_vars c.vars.ensures.vars) long in
-    let rest = blocks (p + 1) more in
+    let rest = saved_blocks (p + 1) more in
     let behind = behind_blank (decimal saved.samples) ++ 10 ∷ (behind_samples saved ++ rest) in
     let passed = c.pass.ensures.read (behind_blank (decimal p) ++ behind) (is ∙ block_first p saved more) in
     let place = c.place.ensures.read p behind few refl passed in
@@ -58,7 +58,7 @@ returns-in-Err-Bad-clause-read c saved more few at is =
     let own : c.in_ok-vars.vars ≡ all_vars_of ps p = c.in_ok-vars.ensures.vars ∙ ap with_derived_vars c.vars.ensures.vars in
     let seen = c.as_slice.ensures ∙ own in
     let small : length (all_vars_of ps p) < 2 ^ 32 = subst (λ vars. length vars < 2 ^ 32) (ap with_derived_vars c.vars.ensures.vars) long in
-    let rest = blocks (p + 1) more in
+    let rest = saved_blocks (p + 1) more in
     let behind = behind_blank (decimal saved.samples) ++ 10 ∷ (behind_samples saved ++ rest) in
     let passed = c.pass.ensures.read (behind_blank (decimal p) ++ behind) (is ∙ block_first p saved more) in
     let place = c.place.ensures.read p behind few refl passed in

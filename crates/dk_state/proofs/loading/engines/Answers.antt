@@ -6,8 +6,8 @@ use Rattle.std.proofs.lemmas.Result.{err_from_is_err_and}
 use Rattle.dk_engine.specs.Levels.{Whole}
 use Rattle.dk_graph.proofs.Places.{some-injective}
 use Rattle.dk_hierarchy.proofs.TableEngines.{AreFirst, all_engines, one_more}
-use Rattle.dk_state.specs.Loading.{AreLoadedAs, AreSaved, IsEngineAt, IsLoadedAs, blocks}
-use Rattle.dk_state.specs.Spelling.{IsSavedAt, saved_of}
+use Rattle.dk_state.specs.Loading.{AreLoadedAs, AreSaved, IsEngineAt, IsLoadedAs, saved_blocks}
+use Rattle.dk_state.specs.Spelling.{IsSavedAt, saved_parts}
 use Rattle.dk_state.proofs.Blocks.{got_push, loads_err}
 use Rattle.dk_state.proofs.Loads.{more_saved}
 use Rattle.dk_state.proofs.loading.engines.Goals as goal
@@ -26,7 +26,7 @@ loop-p-preserved c =
     record {
       first = subst (AreFirst ps g) (sym pushed) (one_more ps g before engine inv.first at);
       long = omega (arith, ap length pushed, length_push before engine, inv.long);
-      saved = subst (AreSaved g ps) (sym pushed) (more_saved g ps before engine inv.saved (subst (λ n. IsSavedAt g ps n (saved_of engine.kept)) (sym inv.long) c.in_ok-engine.ensures.saved));
+      saved = subst (AreSaved g ps) (sym pushed) (more_saved g ps before engine inv.saved (subst (λ n. IsSavedAt g ps n (saved_parts engine.kept)) (sym inv.long) c.in_ok-engine.ensures.saved));
       read = λ saved as_many each is.
           let so_far = inv.read saved as_many each is in
           let inside : p < length saved = omega (arith, within, as_many) in
@@ -34,7 +34,7 @@ loop-p-preserved c =
           let here : slice_get saved p ≡ Some own = slice_get-get_or saved p None inside in
           let left = drop (p + 1) saved in
           let parted : drop p saved ≡ own ∷ left = drop_more saved p None inside in
-          let step = c.in_ok-engine.ensures.read own left (each p own here) (omega (arith, length-drop (p + 1) saved, as_many, c.len-p-end.ensures.few)) (so_far.0 ∙ ap (blocks p) parted) in (
+          let step = c.in_ok-engine.ensures.read own left (each p own here) (omega (arith, length-drop (p + 1) saved, as_many, c.len-p-end.ensures.few)) (so_far.0 ∙ ap (saved_blocks p) parted) in (
             step.1,
             λ q other e there got. elim (got_push before engine q e (ap (λ es. slice_get es q) (sym pushed) ∙ got)) as (λ _. IsLoadedAs g ps q other e) [
               | inl old ↦ so_far.1 q other e there old
@@ -59,9 +59,9 @@ returns-in_err-engine-clause-read c saved as_many each is =
     let here : slice_get saved p ≡ Some own = slice_get-get_or saved p None inside in
     let left = drop (p + 1) saved in
     let parted : drop p saved ≡ own ∷ left = drop_more saved p None inside in
-    let step = c.in_err-engine.ensures.read own left (each p own here) (omega (arith, length-drop (p + 1) saved, as_many, c.len-p-end.ensures.few)) (so_far.0 ∙ ap (blocks p) parted) in
+    let step = c.in_err-engine.ensures.read own left (each p own here) (omega (arith, length-drop (p + 1) saved, as_many, c.len-p-end.ensures.few)) (so_far.0 ∙ ap (saved_blocks p) parted) in
     let fault = err_from_is_err_and c.from_residual.result c.from_residual.ensures.1 in
-    rw (fault.1, fault.2) (loads_err (λ (e : Whole). IsLoadedAs g ps p own e × (c.next_engine.new.front ≡ blocks (p + 1) left)) (AreLoadedAs g ps saved) c.in_err-engine.field-0.0 step)
+    rw (fault.1, fault.2) (loads_err (λ (e : Whole). IsLoadedAs g ps p own e × (c.next_engine.new.front ≡ saved_blocks (p + 1) left)) (AreLoadedAs g ps saved) c.in_err-engine.field-0.0 step)
 
 pub returns-clause-engines : goal.returns-clause-engines
 returns-clause-engines c =

@@ -3,7 +3,7 @@ use Rattle.std.specs.Prelude.{slice_get}
 use Rattle.dk_engine.specs.Levels.{Whole}
 use Rattle.dk_engine.specs.declared.parts.Parts.{Parts}
 use Rattle.dk_hierarchy.proofs.TableEngines.{AreFirst}
-use Rattle.dk_state.specs.Loading.{AreSaved, IsLoadedAs, blocks}
+use Rattle.dk_state.specs.Loading.{AreSaved, IsLoadedAs, saved_blocks}
 use Rattle.dk_state.specs.Spelling.{IsSavedAt}
 use Rattle.dk_state.proofs.loading.engines.Given as goal
 
@@ -13,6 +13,6 @@ invariant-loop-p l = record {
   long : length l.engines ≡ l.p;
   saved : AreSaved l.grammar l.points l.engines;
   read : (saved : List (Option Parts)) → length saved ≡ length l.points → ((p : ℕ) (own : Option Parts) → slice_get saved p ≡ Some own → IsSavedAt l.grammar l.points p own)
-      → l.fn.front ≡ blocks 0 saved
-      → (l.front ≡ blocks l.p (drop l.p saved)) × ((p : ℕ) (own : Option Parts) (engine : Whole) → slice_get saved p ≡ Some own → slice_get l.engines p ≡ Some engine → IsLoadedAs l.grammar l.points p own engine);
+      → l.fn.front ≡ saved_blocks 0 saved
+      → (l.front ≡ saved_blocks l.p (drop l.p saved)) × ((p : ℕ) (own : Option Parts) (engine : Whole) → slice_get saved p ≡ Some own → slice_get l.engines p ≡ Some engine → IsLoadedAs l.grammar l.points p own engine);
 }

@@ -7,7 +7,7 @@ use Rattle.dk_engine.specs.Exact.{IsKeptOf}
 use Rattle.dk_engine.specs.Levels.{Whole}
 use Rattle.dk_state.specs.Kept.{behind_samples}
 use Rattle.dk_state.specs.Lines.{behind_blank}
-use Rattle.dk_state.specs.Loading.{blocks}
+use Rattle.dk_state.specs.Loading.{saved_blocks}
 use Rattle.dk_state.proofs.Fronts.{eqb-self}
 use Rattle.dk_state.proofs.Blocks.{block_first, implicit_undeclared, other_comes}
 use Rattle.dk_state.proofs.Loads.{declared_there, new_saved, parts_saved}
@@ -21,7 +21,7 @@ returns-then-not-comes_next-clause-read c None more at small is =
     (kept, is)
 returns-then-not-comes_next-clause-read c (Some parts) more at small is =
     let p = c.args.p.0 in
-    let comes = c.comes_next.ensures.at p (behind_blank (decimal parts.samples) ++ 10 ∷ (behind_samples parts ++ blocks (p + 1) more)) (omega (arith, small)) refl (is ∙ block_first p parts more) in
+    let comes = c.comes_next.ensures.at p (behind_blank (decimal parts.samples) ++ 10 ∷ (behind_samples parts ++ saved_blocks (p + 1) more)) (omega (arith, small)) refl (is ∙ block_first p parts more) in
     absurd (false≢true (sym c.if-not-comes_next.true ∙ comes ∙ eqb-self p))
 
 pub returns-then-is_implicit-clause-read : goal.returns-then-is_implicit-clause-read

@@ -7,10 +7,10 @@ use Rattle.dk_engine.specs.declared.parts.Parts.{Parts}
 use Rattle.dk_points.specs.Table.{Point}
 use Rattle.dk_state.specs.Declarations.{decls_of, point_lines}
 use Rattle.dk_state.specs.Fitting.{FitsPoint}
-use Rattle.dk_state.specs.Given.{is_given}
-use Rattle.dk_state.specs.Lines.{line}
-use Rattle.dk_state.specs.Loading.{AreLoadedAs, IsLoaded, blocks}
-use Rattle.dk_state.specs.Saved.{word_of}
+use Rattle.dk_state.specs.Given.{is_given_point}
+use Rattle.dk_state.specs.Lines.{state_line}
+use Rattle.dk_state.specs.Loading.{AreLoadedAs, IsLoaded, saved_blocks}
+use Rattle.dk_state.specs.Saved.{comparability_text}
 use Rattle.dk_state.specs.Spelling.{IsSavedAt, table_behind}
 use Rattle.dk_state.proofs.Blocks.{loads_err, no_point}
 use Rattle.dk_state.proofs.GivenPoints.{all_given}
@@ -18,21 +18,21 @@ use Rattle.dk_state.proofs.Tables.{few_made, own_table}
 use Rattle.dk_state.proofs.loading.read.Goals as goal
 
 abbrev Given : PointDecl → Type 0
-Given d = IsTrue (is_given d)
+Given d = IsTrue (is_given_point d)
 
 pub returns-clause-read : goal.returns-clause-read
 returns-clause-read c ct meets text =
     let ds = decls_of ct.points in
     let saved = ct.saved in
     let lines = flat_map point_lines ds in
-    let first = line "comparability" (word_of ct.implicit ∷ []) in
-    let second = line "points" (decimal (length ds) ∷ []) in
-    let version = c.grammar-grammar.ensures ct.grammar (first ++ (second ++ (lines ++ blocks 0 saved))) (c.of-front.ensures ∙ sym text) in
-    let word = c.implicit-implicit.ensures ct.implicit (second ++ (lines ++ blocks 0 saved)) version.1 in
+    let first = state_line "comparability" (comparability_text ct.implicit ∷ []) in
+    let second = state_line "points" (decimal (length ds) ∷ []) in
+    let version = c.grammar-grammar.ensures ct.grammar (first ++ (second ++ (lines ++ saved_blocks 0 saved))) (c.of-front.ensures ∙ sym text) in
+    let word = c.implicit-implicit.ensures ct.implicit (second ++ (lines ++ saved_blocks 0 saved)) version.1 in
     let few : length ds < 2 ^ 64 = omega (arith, few_made ds [] ct.points (omega arith) meets.table.made) in
-    let count = c.pass_count.ensures (length ds) (lines ++ blocks 0 saved) few word.1 in
+    let count = c.pass_count.ensures (length ds) (lines ++ saved_blocks 0 saved) few word.1 in
     let fit : All FitsPoint ds = λ k e l. (meets.table.given k e l).fits in
-    let decls = c.in_ok-decls.ensures.read ds (blocks 0 saved) fit (no_point 0 saved) tt count in
+    let decls = c.in_ok-decls.ensures.read ds (saved_blocks 0 saved) fit (no_point 0 saved) tt count in
     let given : All Given c.in_ok-decls.decls = subst (All Given) (sym decls.0) (λ k e l. (meets.table.given k e l).given) in
     let made = ap (table_behind []) decls.0 ∙ meets.table.made in
     let table = c.in_ok-points.ensures.read ct.points given made in
@@ -48,14 +48,14 @@ returns-in_err-points-clause-read c ct meets text =
     let ds = decls_of ct.points in
     let saved = ct.saved in
     let lines = flat_map point_lines ds in
-    let first = line "comparability" (word_of ct.implicit ∷ []) in
-    let second = line "points" (decimal (length ds) ∷ []) in
-    let version = c.grammar-grammar.ensures ct.grammar (first ++ (second ++ (lines ++ blocks 0 saved))) (c.of-front.ensures ∙ sym text) in
-    let word = c.implicit-implicit.ensures ct.implicit (second ++ (lines ++ blocks 0 saved)) version.1 in
+    let first = state_line "comparability" (comparability_text ct.implicit ∷ []) in
+    let second = state_line "points" (decimal (length ds) ∷ []) in
+    let version = c.grammar-grammar.ensures ct.grammar (first ++ (second ++ (lines ++ saved_blocks 0 saved))) (c.of-front.ensures ∙ sym text) in
+    let word = c.implicit-implicit.ensures ct.implicit (second ++ (lines ++ saved_blocks 0 saved)) version.1 in
     let few : length ds < 2 ^ 64 = omega (arith, few_made ds [] ct.points (omega arith) meets.table.made) in
-    let count = c.pass_count.ensures (length ds) (lines ++ blocks 0 saved) few word.1 in
+    let count = c.pass_count.ensures (length ds) (lines ++ saved_blocks 0 saved) few word.1 in
     let fit : All FitsPoint ds = λ k e l. (meets.table.given k e l).fits in
-    let decls = c.in_ok-decls.ensures.read ds (blocks 0 saved) fit (no_point 0 saved) tt count in
+    let decls = c.in_ok-decls.ensures.read ds (saved_blocks 0 saved) fit (no_point 0 saved) tt count in
     let given : All Given c.in_ok-decls.decls = subst (All Given) (sym decls.0) (λ k e l. (meets.table.given k e l).given) in
     let made = ap (table_behind []) decls.0 ∙ meets.table.made in
     let fault = err_from_is_err_and c.from_residual-in_err-points.result c.from_residual-in_err-points.ensures.1 in
@@ -66,14 +66,14 @@ returns-in_err-engines-clause-read c ct meets text =
     let ds = decls_of ct.points in
     let saved = ct.saved in
     let lines = flat_map point_lines ds in
-    let first = line "comparability" (word_of ct.implicit ∷ []) in
-    let second = line "points" (decimal (length ds) ∷ []) in
-    let version = c.grammar-grammar.ensures ct.grammar (first ++ (second ++ (lines ++ blocks 0 saved))) (c.of-front.ensures ∙ sym text) in
-    let word = c.implicit-implicit.ensures ct.implicit (second ++ (lines ++ blocks 0 saved)) version.1 in
+    let first = state_line "comparability" (comparability_text ct.implicit ∷ []) in
+    let second = state_line "points" (decimal (length ds) ∷ []) in
+    let version = c.grammar-grammar.ensures ct.grammar (first ++ (second ++ (lines ++ saved_blocks 0 saved))) (c.of-front.ensures ∙ sym text) in
+    let word = c.implicit-implicit.ensures ct.implicit (second ++ (lines ++ saved_blocks 0 saved)) version.1 in
     let few : length ds < 2 ^ 64 = omega (arith, few_made ds [] ct.points (omega arith) meets.table.made) in
-    let count = c.pass_count.ensures (length ds) (lines ++ blocks 0 saved) few word.1 in
+    let count = c.pass_count.ensures (length ds) (lines ++ saved_blocks 0 saved) few word.1 in
     let fit : All FitsPoint ds = λ k e l. (meets.table.given k e l).fits in
-    let decls = c.in_ok-decls.ensures.read ds (blocks 0 saved) fit (no_point 0 saved) tt count in
+    let decls = c.in_ok-decls.ensures.read ds (saved_blocks 0 saved) fit (no_point 0 saved) tt count in
     let given : All Given c.in_ok-decls.decls = subst (All Given) (sym decls.0) (λ k e l. (meets.table.given k e l).given) in
     let made = ap (table_behind []) decls.0 ∙ meets.table.made in
     let table = c.in_ok-points.ensures.read ct.points given made in

@@ -5,7 +5,7 @@ use Rattle.std.proofs.lemmas.Result.{err_from_is_err_and}
 use Rattle.dk_decl.specs.declared.decls.PointDecl.{PointDecl}
 use Rattle.dk_points.specs.Declaring.{declared}
 use Rattle.dk_points.specs.Table.{Point}
-use Rattle.dk_state.specs.Given.{is_given}
+use Rattle.dk_state.specs.Given.{is_given_point}
 use Rattle.dk_state.specs.Spelling.{if_new, table_behind}
 use Rattle.dk_state.proofs.Blocks.{loads_err}
 use Rattle.dk_state.proofs.Going.{all_behind}
@@ -13,7 +13,7 @@ use Rattle.dk_state.proofs.Tables.{next_made, table_next, table_push}
 use Rattle.dk_state.proofs.loading.table_of.Goals as goal
 
 abbrev Given : PointDecl → Type 0
-Given d = IsTrue (is_given d)
+Given d = IsTrue (is_given_point d)
 
 pub returns-in_err-points-2-clause-read : goal.returns-in_err-points-2-clause-read
 returns-in_err-points-2-clause-read c ps given made =
@@ -23,7 +23,7 @@ returns-in_err-points-2-clause-read c ps given made =
     let whole : before ++ d ∷ after ≡ c.args.decls = ap (λ ds. before ++ ds) (sym c.in-Some.ensures.steps.0) ∙ c.loop-decl.invariant.rest in
     let next = next_made after (if_new (declared c.loop-decl.points d)) ps
     (table_next before after d [] c.loop-decl.points ps c.loop-decl.invariant.made (ap (table_behind []) whole ∙ made)) in
-    let own : IsTrue (is_given d) = All-head Given d after (all_behind Given before (d ∷ after) (subst (All Given) (sym whole) given)) in
+    let own : IsTrue (is_given_point d) = All-head Given d after (all_behind Given before (d ∷ after) (subst (All Given) (sym whole) given)) in
     let p = err_from_is_err_and c.from_residual-in_err-points-2.result c.from_residual-in_err-points-2.ensures.1 in
     rw (p.1, p.2) (loads_err (λ (own : List Point). own ≡ next.0) (λ (own : List Point). own ≡ ps) c.in_err-points-2.field-0.0 (c.in_err-points-2.ensures.read next.0 own next.1))
 

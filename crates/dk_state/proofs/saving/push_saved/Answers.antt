@@ -4,8 +4,8 @@ use Rattle.std.specs.List.{enumerate_from}
 use Rattle.std.proofs.Common.{◌∙◌, ap, subst}
 use Rattle.dk_engine.specs.Levels.{Whole}
 use Rattle.dk_state.specs.Declarations.{decls_of, point_lines}
-use Rattle.dk_state.specs.Lines.{line}
-use Rattle.dk_state.specs.Saved.{kept_lines, saved_text, version_of, word_of}
+use Rattle.dk_state.specs.Lines.{state_line}
+use Rattle.dk_state.specs.Saved.{comparability_text, kept_lines, saved_text, version_of}
 use Rattle.dk_state.proofs.Pieces.{head_and_body, on_ok_weaker}
 use Rattle.dk_state.proofs.SameTexts.{saved_is_state_file}
 use Rattle.dk_state.proofs.saving.push_saved.Goals as goal
@@ -15,11 +15,11 @@ unfolding saved_text
 returns-clause-text c =
     let ps = c.args.points.now in
     let body : List ℕ =
-    flat_map point_lines (decls_of ps) ++ (flat_map kept_lines (enumerate_from 0 (map (λ (engine : Whole). engine.kept) c.args.engines.now)) ++ line "end-state" [])
+    flat_map point_lines (decls_of ps) ++ (flat_map kept_lines (enumerate_from 0 (map (λ (engine : Whole). engine.kept) c.args.engines.now)) ++ state_line "end-state" [])
     in
     subst (λ (t : List ℕ). OnOk c.push_body.result (c.push_body.new.text ≡ t))
     (ap (λ (t : List ℕ). t ++ body) c.in_ok-push_head.ensures
-    ∙ head_and_body c.args.text.now (line "daikon-state" (decimal (version_of c.args.grammar) ∷ [])) (line "comparability" (word_of c.args.implicit ∷ [])) (line "points" (decimal (length (decls_of ps)) ∷ [])) body)
+    ∙ head_and_body c.args.text.now (state_line "daikon-state" (decimal (version_of c.args.grammar) ∷ [])) (state_line "comparability" (comparability_text c.args.implicit ∷ [])) (state_line "points" (decimal (length (decls_of ps)) ∷ [])) body)
     c.push_body.ensures
 
 pub returns-clause-stands : goal.returns-clause-stands

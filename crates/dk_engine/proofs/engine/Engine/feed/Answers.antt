@@ -10,8 +10,8 @@ use Rattle.dk_engine.proofs.Fed.{fed_parts_exact, first_parts_exact}
 use Rattle.dk_engine.proofs.Opened.{merged_parts_exact}
 use Rattle.dk_engine.proofs.Settling.{settled_parts_exact}
 use Rattle.dk_engine.specs.Exact.{AreSamples, IsKeptOf}
-use Rattle.dk_engine.specs.Feeding.{IsTurned, parts_after, read_after, unturned}
-use Rattle.dk_engine.specs.Narrow.{IsChange, IsMergedStep, left_of, loses_by, lost_places, outcome}
+use Rattle.dk_engine.specs.Feeding.{IsTurned, parts_after, read_after, unchanged_now}
+use Rattle.dk_engine.specs.Narrow.{IsChange, IsMergedStep, loses_by, lost_places, outcome, slots_left}
 use Rattle.dk_engine.specs.Levels.{Whole}
 use Rattle.dk_engine.specs.declared.changes.Change.{Change}
 use Rattle.dk_engine.specs.declared.kept.Kept.{Kept}
@@ -105,10 +105,10 @@ returns-in-Some-clause-stands c =
     let sample = values_of c.args.sample.now in
     let changes = c.in-Some.changes in
     let some : 0 < w.kept.samples = c.is_settled.ensures.some c.if-is_settled.true in
-    let turned : IsTurned w.kept sample (unturned w.kept) = c.is_settled.ensures.turned c.if-is_settled.true in
-    let left = left_of (outcome changes.asked (read_after w.kept sample) sample) w.kept.slots in
+    let turned : IsTurned w.kept sample (unchanged_now w.kept) = c.is_settled.ensures.turned c.if-is_settled.true in
+    let left = slots_left (outcome changes.asked (read_after w.kept sample) sample) w.kept.slots in
     let after = c.change.new.self.kept in
-    IfOk-weaker c.change.result (λ (u : Unit {0}). after ≡ parts_after w.kept.samples w.kept.held sample (unturned w.kept) left) (λ (u : Unit {0}). With w sample after)
+    IfOk-weaker c.change.result (λ (u : Unit {0}). after ≡ parts_after w.kept.samples w.kept.held sample (unchanged_now w.kept) left) (λ (u : Unit {0}). With w sample after)
     (λ u h samples all is.
     subst (IsKeptOf w.grammar w.infos (samples ++ sample ∷ [])) (sym h)
     (settled_parts_exact w.grammar w.infos c.is_settled.ensures.point samples all w.kept is sample c.requires some turned changes.asked changes.all c.in-Some.ensures.changes c.in-Some.ensures.unasked c.in-Some.ensures.premises)) c.change.ensures.kept

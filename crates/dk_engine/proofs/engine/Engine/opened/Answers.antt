@@ -3,7 +3,7 @@ use Rattle.std.proofs.Common.{ap, ◌∙◌, rules}
 use Rattle.std.proofs.lemmas.Result.{IfOk-weaker}
 use Rattle.dk_base.specs.Values.{values_of}
 use Rattle.dk_classes.specs.Leaders.{own_leaders}
-use Rattle.dk_engine.specs.Choices.{others, touching}
+use Rattle.dk_engine.specs.Choices.{other_leaders, touching_leaders}
 use Rattle.dk_engine.specs.Feeding.{read_after}
 use Rattle.dk_engine.specs.Levels.{Whole}
 use Rattle.dk_engine.specs.Narrow.{freed_by_all, opened_slots}
@@ -17,7 +17,7 @@ returns c =
     let after = read_after w.kept (values_of c.args.sample.now) in
     let now = c.args.now.now in
     let leaders = own_leaders now.leaders in
-    let t = touched_slots w.grammar w.infos now.known after (touching now) (others now) leaders in
+    let t = touched_slots w.grammar w.infos now.known after (touching_leaders now) (other_leaders now) leaders in
     let f = freed_by_all w.infos now.known after leaders w.kept.slots c.args.lost.now in
     let touched : c.in_ok-touched.touched ≡ t = search rules in
     let freed : IfOk c.freed_by_all.result (λ more. more ≡ c.in_ok-touched.touched ++ f) = search rules in

@@ -8,7 +8,7 @@ use Rattle.dk_engine.specs.Conditions.{CanBeFed}
 use Rattle.dk_engine.specs.Exact.{AreOfPoint}
 use Rattle.dk_engine.specs.Levels.{Level, Whole}
 use Rattle.dk_engine.specs.Parts.{leaders_of}
-use Rattle.dk_engine.specs.Reading.{read, read_leaders}
+use Rattle.dk_engine.specs.Reading.{read_leaders, state_read}
 use Rattle.dk_engine.proofs.engine.Engine.state.Goals as goal
 
 pub returns-then-self-eq0-clause-state : goal.returns-then-self-eq0-clause-state
@@ -32,8 +32,8 @@ pub returns-clause-state : goal.returns-clause-state
 returns-clause-state c =
     let w : Whole = c.args.self.now in
     let leaders : c.as_slice-2.result.now ≡ leaders_of w.kept.leaders c.args.vars.now = search rules in
-    let told : read_leaders c.over-levels.result.ranks c.over-levels.result.kept c.args.row c.as_slice-2.result.now ≡ read w.kept c.args.row c.args.vars.now =
+    let told : read_leaders c.over-levels.result.ranks c.over-levels.result.kept c.args.row c.as_slice-2.result.now ≡ state_read w.kept c.args.row c.args.vars.now =
     ap (λ (l : Level). read_leaders l.ranks l.kept c.args.row c.as_slice-2.result.now) c.over-levels.ensures
     ∙ (ap (read_leaders 4 w.kept c.args.row) leaders
     ∙ read_some w.kept c.args.row c.args.vars.now (subst (λ (v : Whole). v.kept.samples ≡ 0 → ⊥) c.self.view_is c.if-self-eq0.false)) in
-    IfOk-weaker c.state.result (λ s. s ≡ read_leaders c.over-levels.result.ranks c.over-levels.result.kept c.args.row c.as_slice-2.result.now) (λ s. s ≡ read w.kept c.args.row c.args.vars.now) (λ s e. e ∙ told) c.state.ensures.state
+    IfOk-weaker c.state.result (λ s. s ≡ read_leaders c.over-levels.result.ranks c.over-levels.result.kept c.args.row c.as_slice-2.result.now) (λ s. s ≡ state_read w.kept c.args.row c.args.vars.now) (λ s e. e ∙ told) c.state.ensures.state

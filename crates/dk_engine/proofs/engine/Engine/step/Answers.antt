@@ -12,7 +12,7 @@ use Rattle.dk_engine.specs.Exact.{SlotBefore}
 use Rattle.dk_engine.specs.Feeding.{IsTurned, parts_after, read_after}
 use Rattle.dk_engine.specs.Levels.{Whole}
 use Rattle.dk_engine.specs.Merged.{AreTogether, HasNumber}
-use Rattle.dk_engine.specs.Narrow.{AreChanges, IsMergedStep, left_of, opened_slots, outcome}
+use Rattle.dk_engine.specs.Narrow.{AreChanges, IsMergedStep, opened_slots, outcome, slots_left}
 use Rattle.dk_engine.specs.declared.slot.Slot.{Slot}
 use Rattle.dk_engine.proofs.engine.Engine.step.Goals as goal
 
@@ -24,7 +24,7 @@ merged-requires-clause-ascend c =
     let sampled : IsSample e.infos sample = subst (λ (w : Whole). IsSample w.infos sample) (sym c.self.view_is) c.requires.sampled in
     let changes : AreChanges made e.kept.slots c.args.changes = subst (λ (w : Whole). AreChanges (outcome true (read_after w.kept sample) sample) w.kept.slots c.args.changes) (sym c.self.view_is) c.requires.changes in
     let was : c.replace-slots.result ≡ e.kept.slots = c.replace-slots.ensures.value in
-    let left : c.changed.result ≡ left_of made e.kept.slots = c.changed.ensures made (subst (λ (ss : List Slot). AreChanges made ss c.args.changes) (sym was) changes) ∙ ap (left_of made) was in
+    let left : c.changed.result ≡ slots_left made e.kept.slots = c.changed.ensures made (subst (λ (ss : List Slot). AreChanges made ss c.args.changes) (sym was) changes) ∙ ap (slots_left made) was in
     let formed = left_formed e.grammar e.infos e.kept c.self.invariant.1 sample sampled true (read_after e.kept sample) in
     subst (AllPairs SlotBefore) (sym left) formed.in_order
 
@@ -38,9 +38,9 @@ merged-requires-clause-left c =
     let sampled : IsSample e.infos sample = subst (λ (w : Whole). IsSample w.infos sample) (sym c.self.view_is) c.requires.sampled in
     let changes : AreChanges made e.kept.slots c.args.changes = subst (λ (w : Whole). AreChanges (outcome true (read_after w.kept sample) sample) w.kept.slots c.args.changes) (sym c.self.view_is) c.requires.changes in
     let was : c.replace-slots.result ≡ e.kept.slots = c.replace-slots.ensures.value in
-    let left : c.changed.result ≡ left_of made e.kept.slots = c.changed.ensures made (subst (λ (ss : List Slot). AreChanges made ss c.args.changes) (sym was) changes) ∙ ap (left_of made) was in
+    let left : c.changed.result ≡ slots_left made e.kept.slots = c.changed.ensures made (subst (λ (ss : List Slot). AreChanges made ss c.args.changes) (sym was) changes) ∙ ap (slots_left made) was in
     let formed = left_formed e.grammar e.infos e.kept c.self.invariant.1 sample sampled true (read_after e.kept sample) in
-    subst (All HasNumber) (sym left) (left_numbered e.grammar e.infos c.self.invariant.0 e.kept c.self.invariant.1 sample sampled now turned (left_of made e.kept.slots) formed)
+    subst (All HasNumber) (sym left) (left_numbered e.grammar e.infos c.self.invariant.0 e.kept c.self.invariant.1 sample sampled now turned (slots_left made e.kept.slots) formed)
 
 pub merged-requires-clause-opened : goal.merged-requires-clause-opened
 merged-requires-clause-opened c =
@@ -84,8 +84,8 @@ set_parts-requires-clause-formed c =
     subst (λ (w : Whole). c.args.opened ≡ opened_slots w.grammar w.infos (read_after w.kept sample) w.kept.slots now lost) (sym c.self.view_is) c.requires.opened in
     let changes : AreChanges made e.kept.slots c.args.changes = subst (λ (w : Whole). AreChanges (outcome true (read_after w.kept sample) sample) w.kept.slots c.args.changes) (sym c.self.view_is) c.requires.changes in
     let was : c.replace-slots.result ≡ e.kept.slots = c.replace-slots.ensures.value in
-    let left = left_of made e.kept.slots in
-    let left_is : c.changed.result ≡ left = c.changed.ensures made (subst (λ (ss : List Slot). AreChanges made ss c.args.changes) (sym was) changes) ∙ ap (left_of made) was in
+    let left = slots_left made e.kept.slots in
+    let left_is : c.changed.result ≡ left = c.changed.ensures made (subst (λ (ss : List Slot). AreChanges made ss c.args.changes) (sym was) changes) ∙ ap (slots_left made) was in
     let formed = left_formed e.grammar e.infos e.kept c.self.invariant.1 sample sampled true (read_after e.kept sample) in
     let merged = c.in_ok-slots.slots in
     let are : AreTogether (left ++ opened_slots e.grammar e.infos (read_after e.kept sample) e.kept.slots now lost) merged =
@@ -109,8 +109,8 @@ returns-clause-kept c =
     subst (λ (w : Whole). c.args.opened ≡ opened_slots w.grammar w.infos (read_after w.kept sample) w.kept.slots now lost) (sym c.self.view_is) c.requires.opened in
     let changes : AreChanges made e.kept.slots c.args.changes = subst (λ (w : Whole). AreChanges (outcome true (read_after w.kept sample) sample) w.kept.slots c.args.changes) (sym c.self.view_is) c.requires.changes in
     let was : c.replace-slots.result ≡ e.kept.slots = c.replace-slots.ensures.value in
-    let left = left_of made e.kept.slots in
-    let left_is : c.changed.result ≡ left = c.changed.ensures made (subst (λ (ss : List Slot). AreChanges made ss c.args.changes) (sym was) changes) ∙ ap (left_of made) was in
+    let left = slots_left made e.kept.slots in
+    let left_is : c.changed.result ≡ left = c.changed.ensures made (subst (λ (ss : List Slot). AreChanges made ss c.args.changes) (sym was) changes) ∙ ap (slots_left made) was in
     let merged = c.in_ok-slots.slots in
     let after = c.set_parts.new.self.kept in
     let are : AreTogether (left ++ opened_slots e.grammar e.infos (read_after e.kept sample) e.kept.slots now lost) merged =

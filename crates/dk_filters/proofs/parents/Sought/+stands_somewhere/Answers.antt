@@ -7,7 +7,7 @@ use Rattle.dk_filters.proofs.Somewhere.{admitted_all, admitted_items, any_fails,
 use Rattle.dk_filters.specs.Choices.{all_from}
 use Rattle.dk_filters.specs.Facts.{stands_there}
 use Rattle.dk_filters.specs.Found.{listed_at}
-use Rattle.dk_filters.specs.Parents.{told}
+use Rattle.dk_filters.specs.Parents.{answers_by}
 use Rattle.dk_filters.proofs.parents.Sought.+stands_somewhere.Goals as goal
 
 pub stands-requires : goal.stands-requires
@@ -29,7 +29,7 @@ stands_somewhere-requires g t c =
 pub returns-then-branch-clause-state : goal.returns-then-branch-clause-state
 returns-then-branch-clause-state g t c =
     let s = c.args.self.now in
-    let stands = stands_there (told s.vars.now (g.P.Answers.answered s.there.now) (g.P.Answers.counted s.there.now) (g.P.Answers.agreeing s.there.now)) s.row s.state.now in
+    let stands = stands_there (answers_by s.vars.now (g.P.Answers.answered s.there.now) (g.P.Answers.counted s.there.now) (g.P.Answers.agreeing s.there.now)) s.row s.state.now in
     let within : c.args.role < length c.args.tuple.now = omega (arith, c.if-role-tuple.false, c.requires.within) in
     let items = c.listed_for-w-items.result.now in
     let long : c.args.role < length c.args.chosen = omega (arith, within, c.requires.few) in
@@ -43,7 +43,7 @@ returns-then-branch-clause-state g t c =
 pub loop-w-preserved : goal.loop-w-preserved
 loop-w-preserved g t c =
     let s = c.args.self.now in
-    let stands = stands_there (told s.vars.now (g.P.Answers.answered s.there.now) (g.P.Answers.counted s.there.now) (g.P.Answers.agreeing s.there.now)) s.row s.state.now in
+    let stands = stands_there (answers_by s.vars.now (g.P.Answers.answered s.there.now) (g.P.Answers.counted s.there.now) (g.P.Answers.agreeing s.there.now)) s.row s.state.now in
     let within : c.args.role < length c.args.tuple.now = omega (arith, c.if-role-tuple.false, c.requires.within) in
     let items = c.listed_for-w-items.result.now in
     let long : c.args.role < length c.args.chosen = omega (arith, within, c.requires.few) in
@@ -56,7 +56,7 @@ loop-w-preserved g t c =
 pub returns-clause-state : goal.returns-clause-state
 returns-clause-state g t c =
     let s = c.args.self.now in
-    let stands = stands_there (told s.vars.now (g.P.Answers.answered s.there.now) (g.P.Answers.counted s.there.now) (g.P.Answers.agreeing s.there.now)) s.row s.state.now in
+    let stands = stands_there (answers_by s.vars.now (g.P.Answers.answered s.there.now) (g.P.Answers.counted s.there.now) (g.P.Answers.agreeing s.there.now)) s.row s.state.now in
     let within : c.args.role < length c.args.tuple.now = omega (arith, c.if-role-tuple.false, c.requires.within) in
     let items = c.listed_for-w-items.result.now in
     sym (somewhere_items stands c.args.listed.now c.args.tuple.now c.args.chosen c.args.role items within c.listed_for-w-items.ensures

@@ -1,7 +1,7 @@
 use Rattle.std.specs.Prelude.{◌≡◌, ◌++◌, take}
-use Rattle.dk_report.specs.Asked.{listed_by}
+use Rattle.dk_report.specs.Asked.{listed_candidates_by}
 use Rattle.dk_report.specs.Sweeps.{triples}
 use Rattle.dk_report.proofs.asking.Asking.triples.Given as goal
 
 abbrev pub invariant-loop-v : goal.invariant-loop-v
-invariant-loop-v l = l.list ≡ l.initial.list ++ triples (listed_by l.self l.row) (take l.v-index l.first) l.second l.third
+invariant-loop-v l = l.list ≡ l.initial.list ++ triples (listed_candidates_by l.self l.row) (take l.v-index l.first) l.second l.third

@@ -2,7 +2,7 @@ use Rattle.std.specs.Prelude.{◌++◌, ◌∷◌, [], codes, flat_map, refl}
 use Rattle.std.proofs.Common.{◌∙◌, ap, append_assoc}
 use Rattle.dk_base.specs.Names.{escaped}
 use Rattle.dk_state.specs.Declarations.{edge_line, var_lines}
-use Rattle.dk_state.specs.Lines.{line}
+use Rattle.dk_state.specs.Lines.{state_line}
 use Rattle.dk_state.proofs.DeclaredLines.{no_edge}
 use Rattle.dk_state.proofs.Onto.{fields_onto, line_onto}
 use Rattle.dk_state.proofs.reading.PointDeclEntry.read.Goals as goal
@@ -12,7 +12,7 @@ returns-clause-read c d rest fits last is =
     let edges = flat_map edge_line d.edges in
     let vars = flat_map var_lines d.vars in
     let behind_vars = 101 ∷ 110 ∷ 100 ∷ 10 ∷ rest in
-    let name_line = line "point" (escaped d.name ∷ []) in
+    let name_line = state_line "point" (escaped d.name ∷ []) in
     let first =
     is ∙ append_assoc name_line (edges ++ (vars ++ codes "end\n")) rest
     ∙ ap (λ r. name_line ++ r) (append_assoc edges (vars ++ codes "end\n") rest ∙ ap (λ r. edges ++ r) (append_assoc vars (codes "end\n") rest))

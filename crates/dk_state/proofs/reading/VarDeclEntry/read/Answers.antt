@@ -4,7 +4,7 @@ use Rattle.std.proofs.Common.{◌∙◌, ap, append_assoc, subst, sym, w64}
 use Rattle.std.proofs.lemmas.Int.{to_z-of_z}
 use Rattle.dk_base.specs.Names.{escaped}
 use Rattle.dk_base.specs.Numbers.{fits_i64}
-use Rattle.dk_state.specs.Declarations.{constant_line, constant_text, mapped_line, rep_text, var_line}
+use Rattle.dk_state.specs.Declarations.{constant_decl_text, constant_line, mapped_line, rep_text, var_decl_line}
 use Rattle.dk_state.specs.Fitting.{FitsConstant}
 use Rattle.dk_state.proofs.DeclaredLines.{no_constant, rep_plain}
 use Rattle.dk_state.proofs.Onto.{fields_onto, line_onto}
@@ -13,12 +13,12 @@ use Rattle.dk_state.proofs.reading.VarDeclEntry.read.Goals as goal
 pub returns-clause-read : goal.returns-clause-read
 returns-clause-read c v rest fits last is =
     let mapped = flat_map mapped_line v.parents in
-    let behind = constant_text v.constant_line v.constant ++ (mapped ++ rest) in
+    let behind = constant_decl_text v.constant_line v.constant ++ (mapped ++ rest) in
     let rep = rep_text v.kind in
     let elem = signed_decimal v.compar.elem in
     let index = signed_decimal v.compar.index in
     let line =
-    is ∙ append_assoc (var_line v) (constant_line v ++ mapped) rest ∙ ap (λ r. var_line v ++ r) (append_assoc (constant_line v) mapped rest)
+    is ∙ append_assoc (var_decl_line v) (constant_line v ++ mapped) rest ∙ ap (λ r. var_decl_line v ++ r) (append_assoc (constant_line v) mapped rest)
     ∙ line_onto (codes "var") (rep ∷ elem ∷ index ∷ escaped v.name ∷ []) behind in
     let passed = c.pass.ensures.read (fields_onto (rep ∷ elem ∷ index ∷ escaped v.name ∷ []) (10 ∷ behind)) line in
     let field = c.field.ensures.read rep (fields_onto (elem ∷ index ∷ escaped v.name ∷ []) (10 ∷ behind)) (rep_plain v.kind) refl passed in
