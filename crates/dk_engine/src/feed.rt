@@ -250,7 +250,8 @@ impl Engine {
         ensures stands { IfOk result (λ _. (samples : List (List SampleValue)) → AreSamples self.old.infos samples → IsKeptOf self.old.grammar self.old.infos samples self.old.kept → IsKeptOf self.old.grammar self.old.infos (samples ++ values_of sample.now ∷ []) self.new.kept) }
     {
         if self.is_settled(sample) {
-            if let Some(changes) = self.few_changes(sample)? {
+            let few = self.few_changes(sample)?;
+            if let Some(changes) = few {
                 return self.change(sample, changes);
             }
         }

@@ -1,4 +1,4 @@
-use Rattle.std.specs.Prelude.{◌≡◌, ◌<◌, ◌++◌, ◌∷◌, ℕ, [], All, List, true, filter, length}
+use Rattle.std.specs.Prelude.{◌≡◌, ◌<◌, ◌++◌, ◌∷◌, ℕ, [], All, IfSome, List, Option, Some, true, filter, length}
 use Rattle.std.proofs.Common.{get_or, subst, sym, ◌∙◌, ap, arith}
 use Rattle.std.proofs.lemmas.List.Elements.{All-contains, All-weaker, Contains-get_or}
 use Rattle.std.proofs.lemmas.Result.{IfOk-weaker}
@@ -99,6 +99,10 @@ returns-clause-stands c =
     IfOk-weaker c.step.result (λ (u : Unit {0}). IsMergedStep w.grammar w.infos w.kept sample now asked after) (λ (u : Unit {0}). With w sample after)
     (λ u h samples all is. merged_parts_exact w.grammar w.infos c.is_settled.ensures.point samples all w.kept is sample c.requires some now c.in_ok-now.ensures changes c.in_ok-changes.ensures after (subst (λ ls. IsMergedStep w.grammar w.infos w.kept sample now ls after) is_lost h)) c.step.ensures.kept
 
+-- what holds of a value if there is one holds of the one that is there
+from_some : (A : Type 0) (P : A → Type 0) (o : Option A) (x : A) → o ≡ Some x → IfSome o P → P x
+from_some A P o x is h = subst (λ (p : Option A). IfSome p P) is h
+
 pub returns-in-Some-clause-stands : goal.returns-in-Some-clause-stands
 returns-in-Some-clause-stands c =
     let w : Whole = c.args.self.now in
@@ -111,7 +115,7 @@ returns-in-Some-clause-stands c =
     IfOk-weaker c.change.result (λ (u : Unit {0}). after ≡ parts_after w.kept.samples w.kept.held sample (unchanged_now w.kept) left) (λ (u : Unit {0}). With w sample after)
     (λ u h samples all is.
     subst (IsKeptOf w.grammar w.infos (samples ++ sample ∷ [])) (sym h)
-    (settled_parts_exact w.grammar w.infos c.is_settled.ensures.point samples all w.kept is sample c.requires some turned changes.asked changes.all c.in-Some.ensures.changes c.in-Some.ensures.unasked c.in-Some.ensures.premises)) c.change.ensures.kept
+    (settled_parts_exact w.grammar w.infos c.is_settled.ensures.point samples all w.kept is sample c.requires some turned changes.asked changes.all (from_some _ _ _ changes c.in-Some.is c.in_ok-few.ensures.changes) (from_some _ _ _ changes c.in-Some.is c.in_ok-few.ensures.unasked) (from_some _ _ _ changes c.in-Some.is c.in_ok-few.ensures.premises))) c.change.ensures.kept
 
 pub returns-then-self-eq0-clause-stands : goal.returns-then-self-eq0-clause-stands
 returns-then-self-eq0-clause-stands c =
