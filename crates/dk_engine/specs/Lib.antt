@@ -7,15 +7,15 @@ pub mod Levels
 pub mod Laws
 pub mod StepLaws
 pub mod Saved
--- what those are made of, and words for the crates above
 pub mod Parts
+pub mod Memory
+-- what those are made of, and words for the crates above
 pub mod Numbers
 pub mod Reached
 pub mod Step
 pub mod Choices
 -- inner: cited by the clauses of bodies and in proofs alone
 pub mod Ordering
-pub mod Memory
 pub mod Sweeps
 pub mod Merged
 pub mod Narrow

@@ -2,9 +2,9 @@
 pub mod Saved
 pub mod StateFile
 pub mod Spelling
-pub mod Given
 pub mod Laws
 -- what those are made of, and words for the crates above
+pub mod Given
 pub mod Lines
 pub mod Declarations
 pub mod States
@@ -13,6 +13,7 @@ pub mod Compact
 pub mod Reading
 pub mod Fitting
 pub mod Within
+-- inner: cited by the clauses of bodies and in proofs alone
 pub mod Loading
 pub mod Numbered
 pub mod StateWords
