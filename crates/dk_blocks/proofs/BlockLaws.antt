@@ -1,18 +1,18 @@
--- The two laws of reading a block that the session rests on.
-use Rattle.std.proofs.Common.{◌≡◌, ℕ, [], Bool, false, Option, Some, None, Result, Ok, Err, refl}
+-- The two laws of reading a block that the reader rests on.
+use Rattle.std.proofs.Common.{◌≡◌, ℕ, [], Bool, Option, Some, None, Result, Ok, Err, refl}
 use Rattle.std.specs.Result.{IsOk}
 use Rattle.dk_base.specs.Reading.{LineFault, ◌>>=◌}
-use Rattle.dk_core.specs.History.{History, Taken, no_block, effect_of}
-use Rattle.dk_core.specs.Standing.{block_resumed, resumed_by}
-use Rattle.dk_core.specs.declared.block.Block.{Block}
-use Rattle.dk_core.specs.declared.block.State.{State}
-use Rattle.dk_core.specs.declared.block.State.TheVariants as state
+use Rattle.dk_blocks.specs.History.{History, Taken, no_block, effect_of}
+use Rattle.dk_blocks.specs.Standing.{block_resumed, resumed_by}
+use Rattle.dk_blocks.specs.declared.block.Block.{Block}
+use Rattle.dk_blocks.specs.declared.block.State.{State}
+use Rattle.dk_blocks.specs.declared.block.State.TheVariants as state
 use Rattle.dk_decl.proofs.Unfaulted.{no_fault_yet as no_fault_in_declaration}
 use Rattle.dk_trace.proofs.Unfaulted.{no_fault_yet as no_fault_in_record}
 
 -- what is read is no block, and holds no fault
 abbrev pub IsNone : Result Taken LineFault → Type 0
-IsNone (Ok t) = t.counts ≡ false
+IsNone (Ok t) = t.effect ≡ None
 IsNone (Err e) = ⊥
 
 -- what is only judged where a block ends is no block before, and has no fault

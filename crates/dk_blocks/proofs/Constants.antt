@@ -26,7 +26,7 @@ use Rattle.dk_decl.specs.declared.types.RepType.{RepType}
 use Rattle.dk_decl.specs.declared.types.RepType.TheVariants.{Of, Opaque}
 use Rattle.dk_base.specs.Words.{first_word}
 use Rattle.dk_trace.specs.Fitting.{FitsKind, HasFittingConstant}
-use Rattle.dk_core.specs.Fitting.{HasFittingConstants}
+use Rattle.dk_blocks.specs.Fitting.{HasFittingConstants}
 
 -- a constant that is read is a value of its variable's kind
 constant_fits : (rep : RepType) (o : Option Placed) (c : Option Value) → constant_at rep o ≡ Ok c → is_some o ≡ true → FitsKind (rep_kind rep) c

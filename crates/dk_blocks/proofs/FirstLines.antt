@@ -8,7 +8,7 @@ use Rattle.dk_base.specs.declared.why.Why.TheVariants.{BadHeader}
 use Rattle.dk_decl.specs.Headers.{header_line}
 use Rattle.dk_decl.specs.LineWords.{begins}
 use Rattle.dk_decl.specs.declared.header.Header.{Header}
-use Rattle.dk_core.specs.History.{is_declaration, is_list_of_implementors}
+use Rattle.dk_blocks.specs.History.{is_declaration, is_list_of_implementors}
 
 -- no front of the line is this word
 abbrev pub NoFront : List ℕ → List ℕ → Type 0

@@ -7,19 +7,19 @@ use Rattle.dk_base.specs.declared.why.Why.{Why}
 use Rattle.dk_decl.specs.Headers.{HeaderAnswers, header_line}
 use Rattle.dk_decl.specs.Outcomes.{refused, ReaderGoesOn as DeclGoesOn, FaultAgrees, FaultAgreesOnward as DeclToldOn}
 use Rattle.dk_decl.specs.declared.header.Header.{Header}
-use Rattle.dk_core.specs.Fronts.{Front, at_header_line, front_of, is_comment}
-use Rattle.dk_core.specs.History.{History, Taken, after_declaration, after_front, after_record, after_sample, block, effect_of, is_declaration, is_list_of_implementors, where_it_ends, with_record}
+use Rattle.dk_blocks.specs.Fronts.{Front, at_header_line, front_of, is_comment}
+use Rattle.dk_blocks.specs.History.{History, Taken, after_declaration, after_front, after_record, after_sample, block, effect_of, is_declaration, is_list_of_implementors, where_it_ends, with_record}
 use Rattle.dk_base.specs.declared.why.Why.TheVariants.{BadHeader}
 use Rattle.std.specs.Prelude.{OnOk}
 use Rattle.dk_points.specs.Table.{Point}
 use Rattle.dk_trace.specs.Records.{Sample}
 use Rattle.dk_trace.specs.RecordsResumed.{record_resumed}
 use Rattle.dk_trace.specs.declared.reader.RecordReader.{RecordReader}
-use Rattle.dk_core.specs.Standing.{BlockGoesOn, Closes, FaultAgreesOnward, block_resumed, left_behind, resumed_by}
-use Rattle.dk_core.specs.Steps.{WordsGive, stop_of_fault}
-use Rattle.dk_core.specs.declared.block.Block.{Block}
-use Rattle.dk_core.specs.declared.block.State.{State}
-use Rattle.dk_core.specs.declared.block.State.TheVariants as state
+use Rattle.dk_blocks.specs.Standing.{BlockGoesOn, Closes, DeclaredAs, FaultAgreesOnward, block_resumed, left_behind, resumed_by}
+use Rattle.dk_blocks.specs.Steps.{WordsGive, stop_of_fault}
+use Rattle.dk_blocks.specs.declared.block.Block.{Block}
+use Rattle.dk_blocks.specs.declared.block.State.{State}
+use Rattle.dk_blocks.specs.declared.block.State.TheVariants as state
 
 -- ---- the front of a block
 
@@ -148,6 +148,10 @@ record_goes ignores h ps b r r' l (Err e) is table told =
 pub told_closes : (e : BlockFault) (read : Result Taken LineFault) → FaultAgrees e read → Closes (Err e) read
 told_closes (Refused line why) read told = told
 told_closes NoMemory read told = tt
+
+pub told_declared : (e : BlockFault) (read : Result Taken LineFault) → FaultAgrees e read → DeclaredAs (Err e) read
+told_declared (Refused line why) read told = told
+told_declared NoMemory read told = tt
 
 -- a line's fault
 pub told_words : (ignores : Bool) (e : BlockFault) (read : Reads Taken) (l : Line) → FaultAgreesOnward e (λ ls close. read (l ∷ ls) close) → WordsGive ignores read l (Err (stop_of_fault e))

@@ -3,8 +3,8 @@ use Rattle.std.proofs.Common.{◌≡◌, Bool, true, false, List, [], ◌∷◌,
 use Rattle.std.proofs.lemmas.List.Elements.{All-cons, All-nil}
 use Rattle.dk_base.specs.Reading.{Line}
 use Rattle.dk_lines.specs.Left.{Left, Ends, Next}
-use Rattle.dk_core.specs.Blocks.{Groups, Group, Last, grouped, is_blank_line, onto_group, trimmed_line}
-use Rattle.dk_core.specs.Runs.{AreRuns, GroupsAreLongestRuns, IsRun}
+use Rattle.dk_blocks.specs.Blocks.{Groups, Group, Last, grouped, is_blank_line, onto_group, trimmed_line}
+use Rattle.dk_blocks.specs.Runs.{AreRuns, GroupsAreLongestRuns, IsRun}
 
 no_run : (left : Left) → IsRun [] left left
 no_run left = record { lines = []; none_blank = All-nil (λ l. is_blank_line l ≡ false); are_taken = refl; stand = refl }

@@ -3,8 +3,9 @@ use Rattle.std.proofs.Common.{◌≡◌, ◌∙◌, ◌<◌, ◌≤◌, ◌-◌,
 use Rattle.std.proofs.lemmas.List.Elements.{All-append, All-cons, All-nil, All-weaker}
 use Rattle.std.proofs.lemmas.List.{take-append-le}
 use Rattle.std.specs.Option.{option_map_or}
+use Rattle.dk_base.specs.declared.kinds.PointId.{PointId}
 use Rattle.dk_base.specs.declared.values.Value.{Value}
-use Rattle.dk_core.specs.Fitting.{ConstantsFit, FitAt, HasFittingConstants}
+use Rattle.dk_blocks.specs.Fitting.{ConstantsFit, Extends, FitAt, HasFittingConstants}
 use Rattle.dk_derive.specs.Laws.{all_vars_of}
 use Rattle.dk_derive.specs.Vars.{with_derived_vars}
 use Rattle.dk_base.specs.declared.why.Why.{Why}
@@ -44,10 +45,6 @@ taken_same false why r x e = absurd (cc (e))
 pub again_points : (ps ps' : List Point) (d : PointDecl) (i : ℕ) (x : Declared) (own : Option PointDecl) → declared_again ps d i own ≡ Ok (ps', x) → ps' ≡ ps
 again_points ps ps' d i x None e = absurd (cc (e))
 again_points ps ps' d i x (Some own) e = ap (λ (t : List Point × Declared). t.0) (taken_same (same_decl own d) DuplicatePoint (ps, Same (record { 0 = i })) (ps', x) e)
-
--- the same points, and behind them those that are new
-abbrev pub Extends : List Point → List Point → Type 0
-Extends ps ps' = (more : List Point) × (ps' ≡ ps ++ more)
 
 -- all of these points are by one declaration
 abbrev AreBy : PointDecl → List Point → Type 0
@@ -115,3 +112,19 @@ still_fits ps ps' p values (more, is) (d, own, fits) = (d, ap (λ qs. decl_at qs
   same_decl_of [] more p d own = absurd (cc own)
   same_decl_of (q ∷ ps) more zero d own = own
   same_decl_of (q ∷ ps) more (suc p) d own = same_decl_of ps more p d own
+
+-- a declaration that a point has already leaves the points as they are
+pub same_points : (ps ps' : List Point) (d : PointDecl) (line : ℕ) (p : PointId) → at_line line (declared ps d) ≡ Ok (ps', Same p) → ps' ≡ ps
+unfolding declared
+same_points ps ps' d line p e = by (place_of (names ps) d.name) (not_refused line (declared ps d) (ps', Same p) e)
+  where
+    is_new : (qs : List Point) → grown qs ≡ Ok (ps', Same p) → ps' ≡ ps
+    is_new qs e =
+        let last : Declared = New (record { 0 = length qs - 1 }) in
+        let same : (ps', Same p) ≡ (qs, last) = same_ok (Ok (qs, last)) (qs, last) (ps', Same p) refl (taken_if (has_cycle (nodes qs)) CyclicParents (Ok (qs, last)) (ps', Same p) e) in
+        let which : Same p ≡ last = ap (λ (t : List Point × Declared). t.1) same in
+        absurd (cc which)
+
+    by : (o : Option ℕ) → declared_at ps d o ≡ Ok (ps', Same p) → ps' ≡ ps
+    by None e = is_new (ps ++ added_points ps d) (taken_if (has_many_vars ps d) TooManyVariables _ _ (taken_if (has_many_points (ps ++ added_points ps d)) TooManyPoints _ _ e))
+    by (Some i) e = again_points ps ps' d i (Same p) (decl_at ps i) e

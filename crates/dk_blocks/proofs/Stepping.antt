@@ -1,6 +1,8 @@
--- Steps of a session.
-use Rattle.std.proofs.Common.{◌≡◌, ◌≤◌, ◌<◌, ◌+◌, ◌-◌, ℕ, List, [], ◌∷◌, ◌++◌, length, inl, inr, Bool, true, false, Option, Some, None, Result, Ok, Err, if◌then◌else◌, IfSome, IsErrOf, not, refl, sym, ◌∙◌, ap, subst, arith, length-append, append_assoc}
+-- Steps of a reader.
+use Rattle.std.proofs.Common.{◌≡◌, ◌≤◌, ◌<◌, ◌+◌, ◌-◌, ℕ, List, [], ◌∷◌, ◌++◌, length, inl, inr, Bool, true, false, is_some, Option, Some, None, Result, Ok, Err, if◌then◌else◌, IfSome, IsErrOf, not, refl, sym, ◌∙◌, ap, subst, arith, length-append, append_assoc}
 use Rattle.dk_base.specs.Reading.{Line, LineFault, Reads, ◌>>=◌}
+use Rattle.dk_base.specs.declared.faults.Fault.{Fault}
+use Rattle.dk_base.specs.declared.faults.Fault.TheVariants as whole
 use Rattle.dk_lines.specs.Left.{Left, End, Over, Broken, LongLine, TooLong, Ends, Next, lines_left, OneLine}
 use Rattle.dk_lines.specs.Reading.{Reading, room_of}
 use Rattle.dk_lines.specs.Answers.{IsNextLine, NextGives}
@@ -8,26 +10,32 @@ use Rattle.dk_lines.specs.declared.lines.Limits.{Limits}
 use Rattle.dk_lines.specs.declared.lines.LineFault as fault
 use Rattle.dk_lines.specs.declared.lines.LineFault.TheVariants as line
 use Rattle.dk_lines.proofs.Lined.{at_break, at_end}
-use Rattle.dk_core.specs.Steps.{stop_of_unread, Grown, TurnCounts, BlockCounts, BlockGives, NextBlock, LineShape, EndShape, ShapeAt, ClosesAt, LineStep, LineStepShape, StepShape, StepGives, StepCounts}
+use Rattle.dk_blocks.specs.Steps.{stop_of_unread, Grown, TurnCounts, BlockCounts, BlockGives, NextBlock, LineShape, EndShape, ShapeAt, ClosesAt, LineStep, LineStepShape, StepShape, StepGives, StepCounts}
 use Rattle.std.specs.Prelude.{◌==◌}
 use Rattle.dk_base.specs.Pieces.{is_empty}
 use Rattle.std.proofs.Math.Dec.{eqb-suc-zero}
-use Rattle.dk_core.specs.Blocks.{Groups, Group, Last, onto_group, is_blank_line, trimmed_line, grouped}
-use Rattle.dk_core.specs.History.{History, Taken, effect_of}
-use Rattle.dk_core.specs.Reading.{after_last, after_all, after_next, stop_or, Stepped}
-use Rattle.dk_core.specs.Standing.{Fits, Stands, block_resumed, ignores_of}
-use Rattle.dk_core.proofs.BlockLaws.{IsNone, no_block_yet, no_lines}
-use Rattle.dk_core.specs.Steps.{IsCutAlike, IsNoBlock, Moves, Steps, Stops, groups_left, LineGives, EndGives, BlankGives, WordsGive, TurnGives}
+use Rattle.dk_blocks.specs.Blocks.{Groups, Group, Last, onto_group, is_blank_line, trimmed_line, grouped}
+use Rattle.dk_blocks.specs.Finding.{outcome_of}
+use Rattle.dk_blocks.specs.History.{Effect, History, Taken, block_by, declared_effect, effect_of, with_table}
+use Rattle.dk_blocks.specs.Reading.{after_last, after_all, after_next, stepped, stop_or, Stepped}
+use Rattle.dk_blocks.specs.Standing.{Fits, Stands, block_resumed}
+use Rattle.dk_blocks.proofs.BlockLaws.{IsNone, no_block_yet, no_lines}
+use Rattle.dk_blocks.specs.Steps.{FaultAnswers, IsCutAlike, IsNoBlock, RefusedAs, behind_block, Moves, Steps, Stops, groups_left, LineGives, EndGives, BlankGives, WordsGive, TurnGives}
 use Rattle.dk_base.specs.declared.why.Why.{Why}
 use Rattle.dk_base.specs.declared.why.Why.TheVariants.{LongLine as WhyLong, TooLong as WhyMany}
-use Rattle.dk_core.specs.declared.session.Step.{Step}
-use Rattle.dk_core.specs.declared.session.Step.TheVariants.{More, Ended}
-use Rattle.dk_core.specs.declared.session.Stop.{Stop}
-use Rattle.dk_core.specs.declared.session.Stop.TheVariants.{Refused, Read, NoMemory}
-use Rattle.dk_core.specs.declared.block.Block.{Block}
-use Rattle.dk_core.specs.declared.kept.Kept.{Kept}
-use Rattle.dk_core.specs.Turns.{Turn, Goes, Ends as Stands_end, Ending}
-use Rattle.dk_core.specs.declared.session.Session.{Session}
+use Rattle.dk_blocks.specs.declared.reader.Step.{Step}
+use Rattle.dk_blocks.specs.declared.reader.Step.TheVariants.{More, Ended}
+use Rattle.dk_blocks.specs.declared.reader.Stop.{Stop}
+use Rattle.dk_blocks.specs.declared.reader.Stop.TheVariants.{Refused, Read, NoMemory}
+use Rattle.dk_blocks.specs.declared.block.Block.{Block}
+use Rattle.dk_points.specs.Declaring.{at_line, declared}
+use Rattle.dk_points.specs.Table.{Point}
+use Rattle.dk_points.specs.declared.declared.Declared.{Declared}
+use Rattle.dk_blocks.specs.declared.found.Found.{Found}
+use Rattle.dk_blocks.specs.declared.found.Found.TheVariants as found
+use Rattle.dk_blocks.specs.declared.kept.Kept.{Kept}
+use Rattle.dk_blocks.specs.Turns.{Turn, Goes, Ends as Stands_end, Ending}
+use Rattle.dk_blocks.specs.declared.reader.Reader.{Reader}
 
 -- ---- what is known of reading blocks
 
@@ -46,7 +54,7 @@ then_fault n why r = r >>= λ _. Err (record { line = n; why = why })
 -- two that read the same
 pub next_same : (ignores : Bool) (read more : Reads Taken) (gs : Groups) → ((ls : List Line) (close : Option ℕ) → read ls close ≡ more ls close) → after_next ignores read gs ≡ after_next ignores more gs
 next_same ignores read more (Group ls close rest) e = ap (λ (r : Result Taken LineFault). r >>= λ t. stop_or t rest (after_next ignores (effect_of ignores t.history) rest)) (e ls (Some close))
-next_same ignores read more (Last ls end) e = ap (λ (r : Result Taken LineFault). r >>= λ t. Ok (record { found = t.counts; history = t.history; left = Last [] end })) (last_same end) where
+next_same ignores read more (Last ls end) e = ap (λ (r : Result Taken LineFault). r >>= λ t. Ok (stepped t (Last [] end))) (last_same end) where
   last_same : (end : End) → after_last read ls end ≡ after_last more ls end
   last_same (Over n) = e ls (Some n)
   last_same Broken = e ls None
@@ -64,6 +72,16 @@ grouped_words line rest e = ap (λ (b : Bool). if b then Group [] line.number (g
 abbrev next_from : Bool → Groups → Result Taken LineFault → Result Stepped LineFault
 next_from ignores rest r = r >>= λ t. stop_or t rest (after_next ignores (effect_of ignores t.history) rest)
 
+-- what was found stops here
+stops : (ignores : Bool) (h : History) (found : Option Found) (rest : Groups) → is_some found ≡ true → next_from ignores rest (outcome_of h found) ≡ behind_block (outcome_of h found) rest
+stops ignores h None rest some = absurd (cc some)
+stops ignores h (Some found.Nothing) rest some = refl
+stops ignores h (Some (found.Declaration line decl)) rest some = go (at_line line (declared h.table decl)) where
+  go : (r : Result (List Point × Declared) LineFault) → next_from ignores rest (r >>= λ t. Ok (block_by (declared_effect t.1) (with_table h t.0))) ≡ behind_block (r >>= λ t. Ok (block_by (declared_effect t.1) (with_table h t.0))) rest
+  go (Ok t) = refl
+  go (Err e) = refl
+stops ignores h (Some (found.Sample point line values)) rest some = refl
+
 pub blank_line : (ignores : Bool) (read : Reads Taken) (line : Line) (result : Result Turn Stop) → is_blank_line line ≡ true → BlankGives ignores read line.number result → LineGives ignores read line result
 blank_line ignores read line (Ok (Goes kept block)) blank (h, stands, closes, begins) = (
   h,
@@ -74,7 +92,7 @@ blank_line ignores read line (Ok (Stands_end end)) blank (h, stands, over, found
   h,
   stands,
   over,
-  λ rest. ap (after_next ignores read) (grouped_blank line rest blank) ∙ ap (next_from ignores (grouped rest)) closes ∙ ap (λ (b : Bool). Ok (record { found = b; history = h; left = grouped rest })) (sym found),
+  λ rest. ap (after_next ignores read) (grouped_blank line rest blank) ∙ ap (next_from ignores (grouped rest)) closes ∙ stops ignores h end.found (grouped rest) found,
 )
 blank_line ignores read line (Err (Refused n why)) blank closes = λ rest. ap (after_next ignores read) (grouped_blank line rest blank) ∙ ap (next_from ignores (grouped rest)) closes
 blank_line ignores read line (Err Read) blank gives = absurd gives
@@ -103,7 +121,7 @@ words_line ignores read line (Err NoMemory) words gives = tt
 -- the groups that a broken line leaves are no block, and have no fault
 none_broken : (ignores : Bool) (h : History) (b : Block) → IsNoBlock (after_next ignores (block_resumed ignores h b) (grouped (Ends Broken)))
 none_broken ignores h b = go (block_resumed ignores h b [] None) (no_block_yet ignores h b) where
-  go : (r : Result Taken LineFault) → IsNone r → IsNoBlock (r >>= λ t. Ok (record { found = t.counts; history = t.history; left = Last [] Broken }))
+  go : (r : Result Taken LineFault) → IsNone r → IsNoBlock (r >>= λ t. Ok (stepped t (Last [] Broken)))
   go (Ok t) none = none
   go (Err e) none = none
 
@@ -139,10 +157,10 @@ turn_line ignores h b old new xs ys line (Ok (Stands_end end)) left is one (h', 
       room = one.room;
       nothing = λ first last. absurd (cc (last, over));
       takes = ap (λ (l : Left). after_next ignores (block_resumed ignores h b) (grouped l)) one.ended ∙ gives (lines_left new true ys)
-          ∙ ap (λ (o : Bool). Ok (record { found = end.found; history = h'; left = groups_left o new true ys })) (sym over);
+          ∙ ap (λ (o : Bool). behind_block (outcome_of h' end.found) (groups_left o new true ys)) (sym over);
       cut = λ d rest e. elim (one.cut d rest e) [
         | inl s ↦ inl (ap (λ (l : Left). after_next ignores (block_resumed ignores h b) (grouped l)) s ∙ gives (lines_left new false d)
-            ∙ ap (λ (o : Bool). Ok (record { found = end.found; history = h'; left = groups_left o new false d })) (sym over))
+            ∙ ap (λ (o : Bool). behind_block (outcome_of h' end.found) (groups_left o new false d)) (sym over))
         | inr s ↦ inr (s.0, subst (λ (l : Left). IsNoBlock (after_next ignores (block_resumed ignores h b) (grouped l))) (sym s.1) (none_broken ignores h b))
       ];
     },
@@ -176,8 +194,8 @@ turn_end ignores h b old new xs (Ok (Stands_end end)) left is none over number r
       room = room ∙ omega arith;
       nothing = λ first last. refl;
       takes = ap (λ (l : Left). after_next ignores (block_resumed ignores h b) (grouped l)) over ∙ gives
-          ∙ ap (λ (n : ℕ). Ok (record { found = end.found; history = h'; left = Last [] (Over (n + 1)) })) (sym number)
-          ∙ ap (λ (o : Bool). Ok (record { found = end.found; history = h'; left = groups_left o new true [] })) (sym ends);
+          ∙ ap (λ (n : ℕ). behind_block (outcome_of h' end.found) (Last [] (Over (n + 1)))) (sym number)
+          ∙ ap (λ (o : Bool). behind_block (outcome_of h' end.found) (groups_left o new true [])) (sym ends);
       cut = λ d rest e. let none = nothing_left d rest e in
           inr (
             refl,
@@ -209,10 +227,10 @@ turn_fault ignores h b old new xs left line.Read gives = record {
 }
 turn_fault ignores h b old new xs left (line.LongLine n) gives =
     ap (λ (l : Left). after_next ignores (block_resumed ignores h b) (grouped l)) (gives true)
-    ∙ ap (λ (r : Result Taken LineFault). r >>= λ t. Ok (record { found = t.counts; history = t.history; left = Last [] (LongLine n) })) (faulty ignores h b n WhyLong)
+    ∙ ap (λ (r : Result Taken LineFault). r >>= λ t. Ok (stepped t (Last [] (LongLine n)))) (faulty ignores h b n WhyLong)
 turn_fault ignores h b old new xs left (line.TooLong n) gives =
     ap (λ (l : Left). after_next ignores (block_resumed ignores h b) (grouped l)) (gives true)
-    ∙ ap (λ (r : Result Taken LineFault). r >>= λ t. Ok (record { found = t.counts; history = t.history; left = Last [] (TooLong n) })) (faulty ignores h b n WhyMany)
+    ∙ ap (λ (r : Result Taken LineFault). r >>= λ t. Ok (stepped t (Last [] (TooLong n)))) (faulty ignores h b n WhyMany)
 turn_fault ignores h b old new xs left line.NoMemory gives = tt
 
 -- ---- what one call of `next` tells
@@ -246,7 +264,7 @@ grown_true over r new e a = subst (λ (o : Bool). Grown o r new) (sym e) a
 pub counts_line : (old new : Reading) (o left : Option (List ℕ)) (line : Line) (result : Result Turn Stop)
     → IsNextLine old o (Ok (Some line)) new left → LineShape result → TurnCounts old result new
 counts_line old new o left line (Ok (Goes kept block)) gives shape = (gives.limits_stay, gives.counts.2, gives.counts.4, gives.counts.5)
-counts_line old new o left line (Ok (Stands_end end)) gives shape = (gives.limits_stay, (gives.counts.2 ∙ ap not (sym shape.0), grown_false end.is_over old new shape.0 gives.counts.4 gives.counts.5, λ none. absurd (cc (none, shape.1))))
+counts_line old new o left line (Ok (Stands_end end)) gives shape = (gives.limits_stay, (gives.counts.2 ∙ ap not (sym shape.0), grown_false end.is_over old new shape.0 gives.counts.4 gives.counts.5, λ none. let lacks : is_some end.found ≡ false = ap is_some none in absurd (cc (lacks, shape.1))))
 counts_line old new o left line (Err e) gives shape = gives.limits_stay
 
 pub counts_end : (old new : Reading) (o left : Option (List ℕ)) (result : Result Turn Stop)
@@ -316,14 +334,14 @@ moves_on ignores read mid read' r new last xs ys zs a b = record {
       (cut_on _ _ _ ys b.front zs b.split (a.cut (b.front ++ d) rest (split_on ys b.front zs d rest b.split e)) (b.cut d rest e));
 }
 
-steps_on : (ignores : Bool) (read mid : Reads Taken) (r new last : Reading) (xs ys zs : List ℕ) (found over : Bool) (h : History) → Moves ignores read r xs mid new ys → Steps ignores mid false new ys found h over last zs → Steps ignores read false r xs found h over last zs
-steps_on ignores read mid r new last xs ys zs found over h a b = record {
+steps_on : (ignores : Bool) (read mid : Reads Taken) (r new last : Reading) (xs ys zs : List ℕ) (outcome : Result Taken LineFault) (over : Bool) → Moves ignores read r xs mid new ys → Steps ignores mid false new ys outcome over last zs → Steps ignores read false r xs outcome over last zs
+steps_on ignores read mid r new last xs ys zs outcome over a b = record {
   front = a.front ++ b.front;
   split = split_on xs a.front ys b.front zs a.split b.split;
   room = room_on (room_of r) (room_of new) (room_of last) a.front b.front a.room b.room;
   nothing = λ first. b.nothing (λ e. absurd (cc (e)));
   takes = a.same ∙ b.takes;
-  cut = λ d rest e. subst (λ (l : List ℕ). IsCutAlike (after_next ignores read (groups_left false r false l)) (Ok (record { found = found; history = h; left = groups_left over last false d })) zs) (sym (append_assoc a.front b.front d))
+  cut = λ d rest e. subst (λ (l : List ℕ). IsCutAlike (after_next ignores read (groups_left false r false l)) (behind_block outcome (groups_left over last false d)) zs) (sym (append_assoc a.front b.front d))
       (cut_on _ _ _ ys b.front zs b.split (a.cut (b.front ++ d) rest (split_on ys b.front zs d rest b.split e)) (b.cut d rest e));
 }
 
@@ -343,7 +361,7 @@ pub turn_on : (ignores : Bool) (read : Reads Taken) (r new last : Reading) (xs :
 turn_on ignores read r new last xs kept block mid left result (h, stands, (ys, is, moves)) turn = go result (subst (λ (o : Option (List ℕ)). IfSome o (λ ys. TurnGives ignores (block_resumed ignores h block) new ys result last left)) is (turn h stands)) where
   go : (result : Result Turn Stop) → TurnGives ignores (block_resumed ignores h block) new ys result last left → TurnGives ignores read r xs result last left
   go (Ok (Goes k b)) (h', s, (zs, e, m)) = (h', s, (zs, e, moves_on ignores read (block_resumed ignores h block) (block_resumed ignores h' b) r new last xs ys zs moves m))
-  go (Ok (Stands_end end)) (h', s, (zs, e, m)) = (h', s, (zs, e, steps_on ignores read (block_resumed ignores h block) r new last xs ys zs end.found end.is_over h' moves m))
+  go (Ok (Stands_end end)) (h', s, (zs, e, m)) = (h', s, (zs, e, steps_on ignores read (block_resumed ignores h block) r new last xs ys zs (outcome_of h' end.found) end.is_over moves m))
   go (Err (Refused line why)) gives = moves.same ∙ gives
   go (Err Read) gives = stops_on ignores read (block_resumed ignores h block) r new xs ys left moves gives
   go (Err NoMemory) gives = tt
@@ -362,9 +380,9 @@ told_stop ignores read r last (Some xs) left Read gives = gives
 told_stop ignores read r last (Some xs) left NoMemory gives = gives
 
 -- at the file's end nothing is read
-pub still_over : {F : Type 0} (s : Session F) (h : History) (r : Reading) (o : Option (List ℕ)) → s.is_over ≡ true → Stands s.kept h → IfSome o (λ xs. NextBlock s h r xs (Ok (s, false)) r o)
-still_over s h r None over stands = tt
-still_over s h r (Some xs) over stands = (
+pub still_over : (ignores : Bool) (s : Reader) (h : History) (r : Reading) (o : Option (List ℕ)) → s.is_over ≡ true → Stands s.kept h → IfSome o (λ xs. NextBlock ignores s h r xs (Ok (s, None)) r o)
+still_over ignores s h r None over stands = tt
+still_over ignores s h r (Some xs) over stands = (
   h,
   stands,
   (
@@ -375,13 +393,22 @@ still_over s h r (Some xs) over stands = (
       split = refl;
       room = omega arith;
       nothing = λ first last. first last;
-      takes = subst (λ (o : Bool). after_next (ignores_of s) (effect_of (ignores_of s) h) (groups_left o r true xs) ≡ Ok (record { found = false; history = h; left = groups_left o r true xs })) (sym over)
-          (ap (λ (t : Result Taken LineFault). t >>= λ t. Ok (record { found = t.counts; history = t.history; left = Last [] (Over (r.number + 1)) })) (no_lines (ignores_of s) h (Some (r.number + 1))));
-      cut = λ d rest e. inl (subst (λ (o : Bool). after_next (ignores_of s) (effect_of (ignores_of s) h) (groups_left o r false d) ≡ Ok (record { found = false; history = h; left = groups_left o r false d })) (sym over)
-          (ap (λ (t : Result Taken LineFault). t >>= λ t. Ok (record { found = t.counts; history = t.history; left = Last [] (Over (r.number + 1)) })) (no_lines (ignores_of s) h (Some (r.number + 1)))));
+      takes = subst (λ (o : Bool). after_next ignores (effect_of ignores h) (groups_left o r true xs) ≡ Ok (record { effect = None; history = h; left = groups_left o r true xs })) (sym over)
+          (ap (λ (t : Result Taken LineFault). t >>= λ t. Ok (stepped t (Last [] (Over (r.number + 1))))) (no_lines ignores h (Some (r.number + 1))));
+      cut = λ d rest e. inl (subst (λ (o : Bool). after_next ignores (effect_of ignores h) (groups_left o r false d) ≡ Ok (record { effect = None; history = h; left = groups_left o r false d })) (sym over)
+          (ap (λ (t : Result Taken LineFault). t >>= λ t. Ok (stepped t (Last [] (Over (r.number + 1))))) (no_lines ignores h (Some (r.number + 1)))));
     },
   ),
 )
+
+-- what is refused behind a block is the next block's fault
+pub refused_behind : (ignores : Bool) (s reader : Reader) (h : History) (r new : Reading) (xs : List ℕ) (left : Option (List ℕ)) (found : Option Found) (fault : Fault)
+    → ((h1 : History) → Stands reader.kept h1 → RefusedAs fault (outcome_of h1 found))
+    → NextBlock ignores s h r xs (Ok (reader, found)) new left → FaultAnswers ignores (effect_of ignores h) s.is_over r xs fault left
+refused_behind ignores s reader h r new xs left found (whole.Refused file at why) refuses (h1, stands, (ys, is, steps)) =
+    steps.takes ∙ ap (λ (outcome : Result Taken LineFault). behind_block outcome (groups_left reader.is_over new true ys)) (refuses h1 stands)
+refused_behind ignores s reader h r new xs left found (whole.Read file) refuses (h1, stands, gives) = absurd (refuses h1 stands)
+refused_behind ignores s reader h r new xs left found whole.NoMemory refuses gives = tt
 
 -- ---- block after block
 
@@ -394,15 +421,15 @@ never n why (Err f) t e = cc (e)
 
 -- what a step through the groups says of all of them
 abbrev pub Follows : Bool → Reads Taken → Groups → Result Stepped LineFault → Type 0
-Follows ignores read gs (Ok step) = (after_all ignores read gs ≡ after_all ignores (effect_of ignores step.history) step.left) × (step.found ≡ false → after_all ignores read gs ≡ Ok step.history)
+Follows ignores read gs (Ok step) = (after_all ignores read gs ≡ after_all ignores (effect_of ignores step.history) step.left) × (step.effect ≡ None → after_all ignores read gs ≡ Ok step.history)
 Follows ignores read gs (Err e) = after_all ignores read gs ≡ Err e
 
 pub follows : (ignores : Bool) (read : Reads Taken) (gs : Groups) → Follows ignores read gs (after_next ignores read gs)
 follows ignores read (Group ls close rest) = go (read ls (Some close)) (λ h. follows ignores (effect_of ignores h) rest) refl where
-  counted : (t : Taken) (c : Bool) → t.counts ≡ c → read ls (Some close) ≡ Ok t → Follows ignores (effect_of ignores t.history) rest (after_next ignores (effect_of ignores t.history) rest)
-      → Follows ignores read (Group ls close rest) (if c then Ok (record { found = true; history = t.history; left = rest }) else after_next ignores (effect_of ignores t.history) rest)
-  counted t true e is more = (ap (then_all ignores rest) is, λ f. absurd (cc (f)))
-  counted t false e is more = on (after_next ignores (effect_of ignores t.history) rest) more where
+  counted : (t : Taken) (o : Option Effect) → t.effect ≡ o → read ls (Some close) ≡ Ok t → Follows ignores (effect_of ignores t.history) rest (after_next ignores (effect_of ignores t.history) rest)
+      → Follows ignores read (Group ls close rest) (if is_some o then Ok (record { effect = o; history = t.history; left = rest }) else after_next ignores (effect_of ignores t.history) rest)
+  counted t (Some effect) e is more = (ap (then_all ignores rest) is, λ f. absurd (cc (f)))
+  counted t None e is more = on (after_next ignores (effect_of ignores t.history) rest) more where
     on : (r : Result Stepped LineFault) → Follows ignores (effect_of ignores t.history) rest r → Follows ignores read (Group ls close rest) r
     on (Ok step) f = (ap (then_all ignores rest) is ∙ f.0, λ n. ap (then_all ignores rest) is ∙ f.1 n)
     on (Err e) f = ap (then_all ignores rest) is ∙ f
@@ -410,7 +437,7 @@ follows ignores read (Group ls close rest) = go (read ls (Some close)) (λ h. fo
   go : (r : Result Taken LineFault) → ((h : History) → Follows ignores (effect_of ignores h) rest (after_next ignores (effect_of ignores h) rest)) → read ls (Some close) ≡ r
       → Follows ignores read (Group ls close rest) (r >>= λ t. stop_or t rest (after_next ignores (effect_of ignores t.history) rest))
   go (Err e) more is = ap (then_all ignores rest) is
-  go (Ok t) more is = counted t t.counts refl is (more t.history)
+  go (Ok t) more is = counted t t.effect refl is (more t.history)
 follows ignores read (Last ls end) = go (after_last read ls end) refl where
   empty : (h : History) (end : End) → (t : Taken) → after_last read ls end ≡ Ok t → after_all ignores (effect_of ignores h) (Last [] end) ≡ Ok h
   empty h (Over n) t e = ap (λ (r : Result Taken LineFault). r >>= λ t. Ok t.history) (no_lines ignores h (Some n))
@@ -418,7 +445,7 @@ follows ignores read (Last ls end) = go (after_last read ls end) refl where
   empty h (LongLine n) t e = absurd (never n WhyLong (read ls None) t e)
   empty h (TooLong n) t e = absurd (never n WhyMany (read ls None) t e)
 
-  go : (r : Result Taken LineFault) → after_last read ls end ≡ r → Follows ignores read (Last ls end) (r >>= λ t. Ok (record { found = t.counts; history = t.history; left = Last [] end }))
+  go : (r : Result Taken LineFault) → after_last read ls end ≡ r → Follows ignores read (Last ls end) (r >>= λ t. Ok (stepped t (Last [] end)))
   go (Err e) is = ap (λ (r : Result Taken LineFault). r >>= λ t. Ok t.history) is
   go (Ok t) is = let all = ap (λ (r : Result Taken LineFault). r >>= λ t. Ok t.history) is in (all ∙ sym (empty t.history end t is), λ n. all)
 
@@ -493,21 +520,21 @@ pub closed_on : (ignores : Bool) (h : History) (kept : Kept) (b block : Block) (
 closed_on ignores h kept b block r new number over None left turn same gives closes = tt
 closed_on ignores h kept b block r new number over (Some xs) left turn same gives closes = gives turn (subst (λ (c : Block). ClosesAt ignores over (block_resumed ignores h c) number turn) same closes)
 
--- ---- the session behind the end of a block
+-- ---- the reader behind the end of a block
 
-pub block_answers : {F : Type 0} (s : Session F) (h : History) (r new : Reading) (o left : Option (List ℕ)) (end : Ending) (a : Session F × Bool) → s.is_over ≡ false
+pub block_answers : (ignores : Bool) (s : Reader) (h : History) (r new : Reading) (o left : Option (List ℕ)) (end : Ending) (a : Reader × Option Found) → s.is_over ≡ false
     → a.0.kept ≡ end.kept → a.0.is_over ≡ end.is_over → a.1 ≡ end.found
-    → IfSome o (λ xs. BlockGives (ignores_of s) (effect_of (ignores_of s) h) false r xs (Ok end) new left) → IfSome o (λ xs. NextBlock s h r xs (Ok a) new left)
-block_answers s h r new None left end a begun kept over found gives = tt
-block_answers s h r new (Some xs) left end a begun kept over found (h', stands, (ys, is, steps)) = (
+    → IfSome o (λ xs. BlockGives ignores (effect_of ignores h) false r xs (Ok end) new left) → IfSome o (λ xs. NextBlock ignores s h r xs (Ok a) new left)
+block_answers ignores s h r new None left end a begun kept over found gives = tt
+block_answers ignores s h r new (Some xs) left end a begun kept over found (h', stands, (ys, is, steps)) = (
   h',
   subst (λ (k : Kept). Stands k h') (sym kept) stands,
   (
     ys,
     is,
-    subst (λ (b : Bool). Steps (ignores_of s) (effect_of (ignores_of s) h) b r xs a.1 h' a.0.is_over new ys) (sym begun)
-        (subst (λ (b : Bool). Steps (ignores_of s) (effect_of (ignores_of s) h) false r xs b h' a.0.is_over new ys) (sym found)
-        (subst (λ (b : Bool). Steps (ignores_of s) (effect_of (ignores_of s) h) false r xs end.found h' b new ys) (sym over) steps)),
+    subst (λ (b : Bool). Steps ignores (effect_of ignores h) b r xs (outcome_of h' a.1) a.0.is_over new ys) (sym begun)
+        (subst (λ (b : Option Found). Steps ignores (effect_of ignores h) false r xs (outcome_of h' b) a.0.is_over new ys) (sym found)
+        (subst (λ (b : Bool). Steps ignores (effect_of ignores h) false r xs (outcome_of h' end.found) b new ys) (sym over) steps)),
   ),
 )
 

@@ -27,8 +27,8 @@ use Rattle.dk_trace.proofs.Fitted.{samples_fit}
 use Rattle.dk_trace.specs.Bodies.{body_of}
 use Rattle.dk_trace.specs.Fitting.{FitKinds, HasFittingConstant, declared_kinds}
 use Rattle.dk_trace.specs.Records.{Sample, declared_place, point_named_by, sample_of, sample_with, var_decls_at as vars_declared}
-use Rattle.dk_core.specs.Fitting.{CallFits, ConstantsFit, FitAt, HasFittingConstants}
-use Rattle.dk_core.specs.History.{base_values}
+use Rattle.dk_blocks.specs.Fitting.{CallFits, ConstantsFit, FitAt, HasFittingConstants}
+use Rattle.dk_blocks.specs.History.{base_values}
 
 -- ---- records
 -- the declaration of a declared point is that of the point

@@ -1,5 +1,5 @@
 -- Which values fit the points of a table.
-use Rattle.std.specs.Prelude.{◌≡◌, ℕ, ⊤, All, List, Ok, Some}
+use Rattle.std.specs.Prelude.{◌≡◌, ◌++◌, ℕ, ⊤, All, List, Ok, Some}
 use Rattle.dk_base.specs.Reading.{Line}
 use Rattle.dk_base.specs.declared.values.Value.{Value}
 use Rattle.dk_calls.specs.Standing.{CallsStandForRecords as CallsStandFor}
@@ -44,3 +44,8 @@ CallFits ps other = ⊤
 -- the entries that wait are those behind records with such values
 abbrev pub WaitingFit : List Point → Calls → Type 0
 WaitingFit ps calls = (earlier : List Call) × CallsStandFor calls earlier × All (CallFits ps) earlier
+
+-- ---- tables
+-- the same points, and behind them those that are new
+abbrev pub Extends : List Point → List Point → Type 0
+Extends ps ps' = (more : List Point) × (ps' ≡ ps ++ more)

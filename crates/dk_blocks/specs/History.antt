@@ -13,12 +13,14 @@ use Rattle.dk_decl.specs.declared.header.Header.{Header}
 use Rattle.dk_points.specs.Declaring.{at_line, declared}
 use Rattle.dk_points.specs.Table.{Point}
 use Rattle.dk_points.specs.Vars.{entry_of}
+use Rattle.dk_points.specs.declared.declared.Declared.{Declared}
+use Rattle.dk_points.specs.declared.declared.Declared.TheVariants.{New, Same}
 use Rattle.dk_trace.specs.Records.{Sample, sample_of}
 use Rattle.dk_calls.specs.Records.{call_of, values_at_exit}
 use Rattle.dk_calls.specs.Waiting.{Call}
 use Rattle.dk_template.specs.declared.grammar.Grammar.{Grammar}
 use Rattle.dk_template.specs.declared.grammar.Grammar.TheVariants.{Two}
-use Rattle.dk_core.specs.Fronts.{Front, front_of}
+use Rattle.dk_blocks.specs.Fronts.{Front, front_of}
 
 -- what the blocks so far come to
 pub record History : Type 0 where
@@ -33,16 +35,31 @@ pub record History : Type 0 where
   -- whose rows are looked for
   pub grammar : Grammar
 
--- what reading a block comes to: the history with it, and whether it is a block at all
+-- What a block does: nothing; it declares points; or the point at a place has a sample more, of a record that begins at a line, with these
+-- values of its base variables.
+pub data Effect : Type 0 where
+  Nothing : Effect
+  Declares : Effect
+  Samples : (point : ℕ) → (line : ℕ) → (values : List Value) → Effect
+
+-- what reading a block comes to: the history with it, and what it does; nothing where it is no block at all
 pub record Taken : Type 0 where
   pub history : History
-  pub counts : Bool
+  pub effect : Option Effect
+
+-- whether it is a block
+abbrev pub counts : Taken → Bool
+counts t = is_some t.effect
+
+-- a block that does this, and one that does nothing
+abbrev pub block_by : Effect → History → Taken
+block_by effect h = record { history = h; effect = Some effect }
 
 abbrev pub block : History → Taken
-block h = record { history = h; counts = true }
+block h = block_by Nothing h
 
 abbrev pub no_block : History → Taken
-no_block h = record { history = h; counts = false }
+no_block h = record { history = h; effect = None }
 
 -- What is judged where the block ends. Of a block that is cut off nothing is said.
 abbrev pub where_it_ends : Option ℕ → History → Result Taken LineFault → Result Taken LineFault
@@ -55,9 +72,14 @@ where_it_ends (Some close) h taken = taken
 abbrev pub with_table : History → List Point → History
 with_table h ps = record h { table = ps; samples = h.samples ++ replicate (length ps - length h.table) [] }
 
+-- the declaration of a new point declares, and one that its point has already does nothing
+abbrev pub declared_effect : Declared → Effect
+declared_effect (New p) = Declares
+declared_effect (Same p) = Nothing
+
 -- the points with a declaration, whose block begins at this line
 abbrev pub with_declaration : History → ℕ → PointDecl → Result Taken LineFault
-with_declaration h line d = at_line line (declared h.table d) >>= λ t. Ok (block (with_table h t.0))
+with_declaration h line d = at_line line (declared h.table d) >>= λ t. Ok (block_by (declared_effect t.1) (with_table h t.0))
 
 -- ---- sample records
 
@@ -72,7 +94,7 @@ with_sample samples p values = slice_set samples p (slice_index_or samples p [] 
 
 -- a record's base values give its point one sample more
 abbrev pub with_values : History → Sample → List Value → Taken
-with_values h s values = block (record h { samples = with_sample h.samples s.point values; calls = call_of h.table s ∷ h.calls })
+with_values h s values = block_by (Samples s.point s.line values) (record h { samples = with_sample h.samples s.point values; calls = call_of h.table s ∷ h.calls })
 
 -- Where exits without an entry are left out, such a record changes nothing, and its block counts.
 abbrev pub or_left_out : Bool → History → Result Taken LineFault → Result Taken LineFault

@@ -1,10 +1,10 @@
 -- What the groups of lines that are left come to.
-use Rattle.std.specs.Prelude.{Bool, true, List, [], if◌then◌else◌, Some, None, Result, Ok, Err}
+use Rattle.std.specs.Prelude.{Bool, List, [], if◌then◌else◌, Option, Some, None, Result, Ok, Err}
 use Rattle.dk_base.specs.Reading.{Line, LineFault, Reads, ◌>>=◌}
 use Rattle.dk_lines.specs.Left.{End, Over, Broken, LongLine, TooLong}
 use Rattle.dk_base.specs.declared.why.Why.TheVariants.{LongLine as WhyLong, TooLong as WhyMany}
-use Rattle.dk_core.specs.Blocks.{Groups, Group, Last}
-use Rattle.dk_core.specs.History.{History, Taken, effect_of}
+use Rattle.dk_blocks.specs.Blocks.{Groups, Group, Last}
+use Rattle.dk_blocks.specs.History.{Effect, History, Taken, counts, effect_of}
 
 -- the last lines, and then what ends them
 abbrev pub after_last : Reads Taken → List Line → End → Result Taken LineFault
@@ -18,16 +18,19 @@ abbrev pub after_all : Bool → Reads Taken → Groups → Result History LineFa
 after_all ignores read (Group ls close rest) = read ls (Some close) >>= λ t. after_all ignores (effect_of ignores t.history) rest
 after_all ignores read (Last ls end) = after_last read ls end >>= λ t. Ok t.history
 
--- the history after the next block, whether there was one, and the groups behind it
+-- what the next block does, if there is one, the history after it, and the groups behind it
 pub record Stepped : Type 0 where
-  pub found : Bool
+  pub effect : Option Effect
   pub history : History
   pub left : Groups
 
+abbrev pub stepped : Taken → Groups → Stepped
+stepped t rest = record { effect = t.effect; history = t.history; left = rest }
+
 abbrev pub stop_or : Taken → Groups → Result Stepped LineFault → Result Stepped LineFault
-stop_or t rest more = if t.counts then Ok (record { found = true; history = t.history; left = rest }) else more
+stop_or t rest more = if counts t then Ok (stepped t rest) else more
 
 -- The next block: groups that are none are passed over.
 abbrev pub after_next : Bool → Reads Taken → Groups → Result Stepped LineFault
 after_next ignores read (Group ls close rest) = read ls (Some close) >>= λ t. stop_or t rest (after_next ignores (effect_of ignores t.history) rest)
-after_next ignores read (Last ls end) = after_last read ls end >>= λ t. Ok (record { found = t.counts; history = t.history; left = Last [] end })
+after_next ignores read (Last ls end) = after_last read ls end >>= λ t. Ok (stepped t (Last [] end))

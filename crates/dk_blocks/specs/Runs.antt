@@ -2,7 +2,7 @@
 use Rattle.std.specs.Prelude.{◌≡◌, false, true, All, List, [], ◌∷◌, map}
 use Rattle.dk_base.specs.Reading.{Line}
 use Rattle.dk_lines.specs.Left.{Left, Ends, Next}
-use Rattle.dk_core.specs.Blocks.{Groups, Group, Last, grouped, is_blank_line, trimmed_line}
+use Rattle.dk_blocks.specs.Blocks.{Groups, Group, Last, grouped, is_blank_line, trimmed_line}
 
 -- these lines, and then what is left
 abbrev pub in_front : List Line → Left → Left

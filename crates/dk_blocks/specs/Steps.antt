@@ -1,6 +1,6 @@
--- Steps of a session through the bytes that are left.
-use Rattle.std.specs.Prelude.{◌≡◌, ◌≤◌, ◌<◌, ◌⊎◌, not, min, if◌then◌else◌, ◌+◌, ◌-◌, ◌^◌, ℕ, Bool, true, false, List, [], ◌∷◌, ◌++◌, length, ⊤, Option, Some, Result, Ok, Err}
-use Rattle.dk_base.specs.Reading.{Line, LineFault as BlockLineFault, Reads}
+-- Steps of a reader through the bytes that are left.
+use Rattle.std.specs.Prelude.{◌≡◌, ◌≤◌, ◌<◌, ◌⊎◌, not, ◌+◌, ◌-◌, ℕ, Bool, true, false, List, [], ◌∷◌, ◌++◌, is_some, length, ⊤, Option, Some, None, Result, Ok, Err}
+use Rattle.dk_base.specs.Reading.{Line, LineFault as BlockLineFault, Reads, ◌>>=◌}
 use Rattle.dk_lines.specs.Left.{Left, Next, Over, lines_left}
 use Rattle.dk_lines.specs.Reading.{Reading, room_of}
 use Rattle.dk_base.specs.declared.why.Why.TheVariants.{LongLine as WhyLong, TooLong as WhyMany}
@@ -8,29 +8,36 @@ use Rattle.dk_base.specs.declared.faults.BlockFault.{BlockFault}
 use Rattle.dk_base.specs.declared.faults.BlockFault.TheVariants as r
 use Rattle.dk_lines.specs.declared.lines.LineFault.{LineFault}
 use Rattle.dk_lines.specs.declared.lines.LineFault.TheVariants as f
-use Rattle.dk_core.specs.Blocks.{Groups, Last, grouped}
-use Rattle.dk_core.specs.History.{Taken, History, effect_of}
-use Rattle.dk_core.specs.Reading.{Stepped, after_next}
-use Rattle.dk_core.specs.Standing.{Fits, Stands, block_resumed, ignores_of}
-use Rattle.dk_core.specs.declared.block.Block.{Block}
-use Rattle.dk_core.specs.declared.kept.Kept.{Kept}
-use Rattle.dk_core.specs.declared.session.Step.{Step}
-use Rattle.dk_core.specs.declared.session.Step.TheVariants.{More, Ended}
-use Rattle.dk_core.specs.declared.session.Session.{Session}
+use Rattle.dk_blocks.specs.Blocks.{Groups, Last, grouped}
+use Rattle.dk_blocks.specs.Finding.{outcome_of}
+use Rattle.dk_blocks.specs.History.{History, Taken, block_by, declared_effect, effect_of, no_block}
+use Rattle.dk_blocks.specs.Reading.{Stepped, after_next, stepped}
+use Rattle.dk_blocks.specs.Standing.{Fits, Stands, block_resumed}
+use Rattle.dk_points.specs.declared.declared.Declared.{Declared}
+use Rattle.dk_blocks.specs.declared.found.Found.{Found}
+use Rattle.dk_blocks.specs.declared.block.Block.{Block}
+use Rattle.dk_blocks.specs.declared.kept.Kept.{Kept}
+use Rattle.dk_blocks.specs.declared.reader.Step.{Step}
+use Rattle.dk_blocks.specs.declared.reader.Step.TheVariants.{More, Ended}
+use Rattle.dk_blocks.specs.declared.reader.Reader.{Reader}
 use Rattle.dk_base.specs.declared.faults.Fault.{Fault}
 use Rattle.dk_base.specs.declared.faults.Fault.TheVariants as x
-use Rattle.dk_core.specs.declared.session.Stop.{Stop}
-use Rattle.dk_core.specs.Turns.{Turn, Goes, Ends, Ending}
-use Rattle.dk_core.specs.declared.session.Stop.TheVariants.{Refused, Read, NoMemory}
+use Rattle.dk_blocks.specs.declared.reader.Stop.{Stop}
+use Rattle.dk_blocks.specs.Turns.{Turn, Goes, Ends, Ending}
+use Rattle.dk_blocks.specs.declared.reader.Stop.TheVariants.{Refused, Read, NoMemory}
 
--- The groups that are left: none where the session has come to the file's end.
+-- The groups that are left: none where the reader has come to the file's end.
 abbrev pub groups_left : Bool → Reading → Bool → List ℕ → Groups
 groups_left true r is_ended xs = Last [] (Over (r.number + 1))
 groups_left false r is_ended xs = grouped (lines_left r is_ended xs)
 
+-- what a block comes to, with the groups behind it
+abbrev pub behind_block : Result Taken BlockLineFault → Groups → Result Stepped BlockLineFault
+behind_block outcome left = outcome >>= λ t. Ok (stepped t left)
+
 -- no block is found, and no fault
 abbrev pub IsNoBlock : Result Stepped BlockLineFault → Type 0
-IsNoBlock (Ok step) = step.found ≡ false
+IsNoBlock (Ok step) = step.effect ≡ None
 IsNoBlock (Err fault) = ⊥
 
 -- Of a file that is cut off the same is said; but the last line of an ended file, which no LF ends, and which nothing follows, is none there.
@@ -45,16 +52,16 @@ pub record Moves (ignores : Bool) (read : Reads Taken) (r : Reading) (xs : List 
   pub same : after_next ignores read (groups_left false r true xs) ≡ after_next ignores read' (groups_left false r' true ys)
   pub cut : (d rest : List ℕ) → ys ≡ d ++ rest → IsCutAlike (after_next ignores read (groups_left false r false (front ++ d))) (after_next ignores read' (groups_left false r' false d)) ys
 
--- The next block, or the file's end, was read, and the history is h now.
-pub record Steps (ignores : Bool) (read : Reads Taken) (over : Bool) (r : Reading) (xs : List ℕ) (found : Bool) (h : History) (over' : Bool) (r' : Reading) (ys : List ℕ) : Type 0 where
+-- The next block, or the file's end, was read, and this is what it comes to.
+pub record Steps (ignores : Bool) (read : Reads Taken) (over : Bool) (r : Reading) (xs : List ℕ) (outcome : Result Taken BlockLineFault) (over' : Bool) (r' : Reading) (ys : List ℕ) : Type 0 where
   pub front : List ℕ
   pub split : xs ≡ front ++ ys
   pub room : room_of r' ≡ room_of r - length front
   -- nothing is left at the file's end
   pub nothing : (over ≡ true → xs ≡ []) → over' ≡ true → ys ≡ []
-  pub takes : after_next ignores read (groups_left over r true xs) ≡ Ok (record { found = found; history = h; left = groups_left over' r' true ys })
+  pub takes : after_next ignores read (groups_left over r true xs) ≡ behind_block outcome (groups_left over' r' true ys)
   pub cut : (d rest : List ℕ) → ys ≡ d ++ rest →
-      IsCutAlike (after_next ignores read (groups_left over r false (front ++ d))) (Ok (record { found = found; history = h; left = groups_left over' r' false d })) ys
+      IsCutAlike (after_next ignores read (groups_left over r false (front ++ d))) (behind_block outcome (groups_left over' r' false d)) ys
 
 -- Reading failed, and what was delivered holds no block and no fault.
 pub record Stops (ignores : Bool) (read : Reads Taken) (over : Bool) (r : Reading) (xs : List ℕ) (left' : Option (List ℕ)) : Type 0 where
@@ -67,7 +74,7 @@ pub record Stops (ignores : Bool) (read : Reads Taken) (over : Bool) (r : Readin
 -- what one line does to a block
 abbrev pub TurnGives : Bool → Reads Taken → Reading → List ℕ → Result Turn Stop → Reading → Option (List ℕ) → Type 0
 TurnGives ignores read r xs (Ok (Goes kept block)) r' left' = (h : History) × Stands kept h × ((ys : List ℕ) × (left' ≡ Some ys) × Moves ignores read r xs (block_resumed ignores h block) r' ys)
-TurnGives ignores read r xs (Ok (Ends end)) r' left' = (h : History) × Stands end.kept h × ((ys : List ℕ) × (left' ≡ Some ys) × Steps ignores read false r xs end.found h end.is_over r' ys)
+TurnGives ignores read r xs (Ok (Ends end)) r' left' = (h : History) × Stands end.kept h × ((ys : List ℕ) × (left' ≡ Some ys) × Steps ignores read false r xs (outcome_of h end.found) end.is_over r' ys)
 TurnGives ignores read r xs (Err (Refused line why)) r' left' = after_next ignores read (groups_left false r true xs) ≡ Err (record { line = line; why = why })
 TurnGives ignores read r xs (Err Read) r' left' = Stops ignores read false r xs left'
 TurnGives ignores read r xs (Err NoMemory) r' left' = ⊤
@@ -77,7 +84,7 @@ abbrev pub LineGives : Bool → Reads Taken → Line → Result Turn Stop → Ty
 LineGives ignores read line (Ok (Goes kept block)) = (h : History) × Stands kept h × ((rest : Left) →
     after_next ignores read (grouped (Next line rest)) ≡ after_next ignores (block_resumed ignores h block) (grouped rest))
 LineGives ignores read line (Ok (Ends end)) = (h : History) × Stands end.kept h × (end.is_over ≡ false) × ((rest : Left) →
-    after_next ignores read (grouped (Next line rest)) ≡ Ok (record { found = end.found; history = h; left = grouped rest }))
+    after_next ignores read (grouped (Next line rest)) ≡ behind_block (outcome_of h end.found) (grouped rest))
 LineGives ignores read line (Err (Refused number why)) = (rest : Left) → after_next ignores read (grouped (Next line rest)) ≡ Err (record { line = number; why = why })
 LineGives ignores read line (Err Read) = ⊥
 LineGives ignores read line (Err NoMemory) = ⊤
@@ -86,7 +93,7 @@ LineGives ignores read line (Err NoMemory) = ⊤
 abbrev pub EndGives : Bool → Reads Taken → ℕ → Result Turn Stop → Type 0
 EndGives ignores read number (Ok (Goes kept block)) = ⊥
 EndGives ignores read number (Ok (Ends end)) = (h : History) × Stands end.kept h × (end.is_over ≡ true)
-    × (after_next ignores read (Last [] (Over number)) ≡ Ok (record { found = end.found; history = h; left = Last [] (Over number) }))
+    × (after_next ignores read (Last [] (Over number)) ≡ behind_block (outcome_of h end.found) (Last [] (Over number)))
 EndGives ignores read number (Err (Refused line why)) = after_next ignores read (Last [] (Over number)) ≡ Err (record { line = line; why = why })
 EndGives ignores read number (Err Read) = ⊥
 EndGives ignores read number (Err NoMemory) = ⊤
@@ -97,7 +104,7 @@ Grown true r r' = r.total ≤ r'.total
 Grown false r r' = (r.total < r'.total) × (r'.total ≤ r.limits.total)
 
 abbrev pub EndCounts : Reading → Ending → Reading → Type 0
-EndCounts r end r' = (r'.is_started ≡ not end.is_over) × Grown end.is_over r r' × (end.found ≡ false → end.is_over ≡ true)
+EndCounts r end r' = (r'.is_started ≡ not end.is_over) × Grown end.is_over r r' × (end.found ≡ None → end.is_over ≡ true)
 
 -- lines and totals, whatever is told
 abbrev pub TurnCounts : Reading → Result Turn Stop → Reading → Type 0
@@ -107,9 +114,9 @@ TurnCounts r (Err e) r' = r'.limits ≡ r.limits
 
 -- what a blank line of this number does to a block, whatever follows it
 abbrev pub BlankGives : Bool → Reads Taken → ℕ → Result Turn Stop → Type 0
-BlankGives ignores read number (Ok (Goes kept block)) = (h : History) × Stands kept h × (read [] (Some number) ≡ Ok (record { history = h; counts = false }))
+BlankGives ignores read number (Ok (Goes kept block)) = (h : History) × Stands kept h × (read [] (Some number) ≡ Ok (no_block h))
     × ((ls : List Line) (close : Option ℕ) → block_resumed ignores h block ls close ≡ effect_of ignores h ls close)
-BlankGives ignores read number (Ok (Ends end)) = (h : History) × Stands end.kept h × (end.is_over ≡ false) × (end.found ≡ true) × (read [] (Some number) ≡ Ok (record { history = h; counts = true }))
+BlankGives ignores read number (Ok (Ends end)) = (h : History) × Stands end.kept h × (end.is_over ≡ false) × (is_some end.found ≡ true) × (read [] (Some number) ≡ outcome_of h end.found)
 BlankGives ignores read number (Err (Refused line why)) = read [] (Some number) ≡ Err (record { line = line; why = why })
 BlankGives ignores read number (Err Read) = ⊥
 BlankGives ignores read number (Err NoMemory) = ⊤
@@ -135,7 +142,7 @@ stop_of_unread f.NoMemory = NoMemory
 -- the forms that an answer has, whatever is told
 abbrev pub LineShape : Result Turn Stop → Type 0
 LineShape (Ok (Goes kept block)) = Fits kept block
-LineShape (Ok (Ends end)) = (end.is_over ≡ false) × (end.found ≡ true)
+LineShape (Ok (Ends end)) = (end.is_over ≡ false) × (is_some end.found ≡ true)
 LineShape (Err (Refused line why)) = ⊤
 LineShape (Err Read) = ⊥
 LineShape (Err NoMemory) = ⊤
@@ -193,7 +200,7 @@ StepCounts r (Err e) r' = r'.limits ≡ r.limits
 
 -- what reading up to the end of a block comes to
 abbrev pub BlockGives : Bool → Reads Taken → Bool → Reading → List ℕ → Result Ending Stop → Reading → Option (List ℕ) → Type 0
-BlockGives ignores read over r xs (Ok end) r' left' = (h : History) × Stands end.kept h × ((ys : List ℕ) × (left' ≡ Some ys) × Steps ignores read over r xs end.found h end.is_over r' ys)
+BlockGives ignores read over r xs (Ok end) r' left' = (h : History) × Stands end.kept h × ((ys : List ℕ) × (left' ≡ Some ys) × Steps ignores read over r xs (outcome_of h end.found) end.is_over r' ys)
 BlockGives ignores read over r xs (Err (Refused line why)) r' left' = after_next ignores read (groups_left over r true xs) ≡ Err (record { line = line; why = why })
 BlockGives ignores read over r xs (Err Read) r' left' = Stops ignores read over r xs left'
 BlockGives ignores read over r xs (Err NoMemory) r' left' = ⊤
@@ -202,16 +209,17 @@ abbrev pub BlockCounts : Reading → Result Ending Stop → Reading → Type 0
 BlockCounts r (Ok end) r' = (r'.limits ≡ r.limits) × EndCounts r end r'
 BlockCounts r (Err e) r' = r'.limits ≡ r.limits
 
--- what a fault of `block` says, where the bytes xs are left: it is that of the next block, or reading failed
+-- what a fault of `next` says, where the bytes xs are left: it is that of the next block, or reading failed
 abbrev pub FaultAnswers : Bool → Reads Taken → Bool → Reading → List ℕ → Fault → Option (List ℕ) → Type 0
 FaultAnswers ignores read over r xs (x.Refused file line why) left' = after_next ignores read (groups_left over r true xs) ≡ Err (record { line = line; why = why })
 FaultAnswers ignores read over r xs (x.Read file) left' = Stops ignores read over r xs left'
 FaultAnswers ignores read over r xs x.NoMemory left' = ⊤
 
--- what `block` answers: the session after the next block, and whether there was one
-abbrev pub NextBlock : {F : Type 0} → Session F → History → Reading → List ℕ → Result (Session F × Bool) Fault → Reading → Option (List ℕ) → Type 0
-NextBlock s h r xs (Ok a) r' left' = (h' : History) × Stands a.0.kept h' × ((ys : List ℕ) × (left' ≡ Some ys) × Steps (ignores_of s) (effect_of (ignores_of s) h) s.is_over r xs a.1 h' a.0.is_over r' ys)
-NextBlock s h r xs (Err fault) r' left' = FaultAnswers (ignores_of s) (effect_of (ignores_of s) h) s.is_over r xs fault left'
+-- what `next` answers: the reader behind the next block, and what was found of it, if there is one
+abbrev pub NextBlock : Bool → Reader → History → Reading → List ℕ → Result (Reader × Option Found) Fault → Reading → Option (List ℕ) → Type 0
+NextBlock ignores s h r xs (Ok a) r' left' =
+    (h' : History) × Stands a.0.kept h' × ((ys : List ℕ) × (left' ≡ Some ys) × Steps ignores (effect_of ignores h) s.is_over r xs (outcome_of h' a.1) a.0.is_over r' ys)
+NextBlock ignores s h r xs (Err fault) r' left' = FaultAnswers ignores (effect_of ignores h) s.is_over r xs fault left'
 
 -- a fault has this file number
 abbrev pub IsInFile : ℕ → Fault → Type 0
@@ -219,14 +227,29 @@ IsInFile n (x.Refused file line why) = file ≡ n
 IsInFile n (x.Read file) = file ≡ n
 IsInFile n x.NoMemory = ⊤
 
--- numbers of lines, bytes, blocks and files, whatever is told
-abbrev pub SessionCounts : {F : Type 0} → Session F → Reading → Result (Session F × Bool) Fault → Reading → Type 0
-SessionCounts s r (Ok a) r' = (r'.limits ≡ r.limits) × (r'.is_started ≡ not a.0.is_over) × (a.0.file ≡ s.file)
-    × (a.0.blocks ≡ (if a.1 then min (s.blocks + 1) (2 ^ 64 - 1) else s.blocks)) × (a.1 ≡ false → a.0.is_over ≡ true)
-    × (a.1 ≡ true → s.is_over ≡ false) × (a.1 ≡ true → Grown a.0.is_over r r')
-SessionCounts s r (Err fault) r' = (r'.limits ≡ r.limits) × IsInFile s.file fault
+-- numbers of lines, bytes and files, whatever is answered
+abbrev pub ReaderCounts : Reader → Reading → Result (Reader × Option Found) Fault → Reading → Type 0
+ReaderCounts s r (Ok a) r' = (r'.limits ≡ r.limits) × (r'.is_started ≡ not a.0.is_over) × (a.0.file ≡ s.file)
+    × (a.1 ≡ None → a.0.is_over ≡ true) × (is_some a.1 ≡ true → s.is_over ≡ false) × (is_some a.1 ≡ true → Grown a.0.is_over r r')
+ReaderCounts s r (Err fault) r' = (r'.limits ≡ r.limits) × IsInFile s.file fault
 
 abbrev pub fault_in_file : ℕ → Stop → Fault
 fault_in_file file (Refused line why) = x.Refused file line why
 fault_in_file file Read = x.Read file
 fault_in_file file NoMemory = x.NoMemory
+
+-- what is refused behind a block comes to this fault
+abbrev pub RefusedAs : Fault → Result Taken BlockLineFault → Type 0
+RefusedAs (x.Refused file line why) outcome = outcome ≡ Err (record { line = line; why = why })
+RefusedAs (x.Read file) outcome = ⊥
+RefusedAs x.NoMemory outcome = ⊤
+
+-- what a declaration that is taken comes to
+abbrev pub DeclareGives : Result (Reader × Declared) Fault → Result Taken BlockLineFault → Type 0
+DeclareGives (Ok a) outcome = (h : History) × Stands a.0.kept h × (outcome ≡ Ok (block_by (declared_effect a.1) h))
+DeclareGives (Err fault) outcome = RefusedAs fault outcome
+
+-- a fault of a block is one in this file
+abbrev pub block_fault_in : ℕ → BlockFault → Fault
+block_fault_in file (r.Refused line why) = x.Refused file line why
+block_fault_in file r.NoMemory = x.NoMemory

@@ -1,17 +1,20 @@
 -- What a line does to a block, with what is kept and the block behind it.
-use Rattle.std.specs.Prelude.{Bool, Result, Ok, Err}
-use Rattle.dk_core.specs.declared.block.Block.{Block}
-use Rattle.dk_core.specs.declared.kept.Kept.{Kept}
-use Rattle.dk_core.specs.declared.session.After.{After}
-use Rattle.dk_core.specs.declared.session.After.TheVariants as after
-use Rattle.dk_core.specs.declared.session.End.{End}
-use Rattle.dk_core.specs.declared.session.Stop.{Stop}
+use Rattle.std.specs.Prelude.{⊤, Bool, List, Option, Result, Ok, Err}
+use Rattle.dk_points.specs.Table.{Point}
+use Rattle.dk_blocks.specs.Finding.{FoundFits}
+use Rattle.dk_blocks.specs.declared.block.Block.{Block}
+use Rattle.dk_blocks.specs.declared.found.Found.{Found}
+use Rattle.dk_blocks.specs.declared.kept.Kept.{Kept}
+use Rattle.dk_blocks.specs.declared.reader.After.{After}
+use Rattle.dk_blocks.specs.declared.reader.After.TheVariants as after
+use Rattle.dk_blocks.specs.declared.reader.End.{End}
+use Rattle.dk_blocks.specs.declared.reader.Stop.{Stop}
 
 -- the end of a block, or of a file without one, and what is kept then
 pub record Ending : Type 0 where
   pub kept : Kept
   pub is_over : Bool
-  pub found : Bool
+  pub found : Option Found
 
 -- the block goes on, or the next one began; or a block or the file ends
 pub data Turn : Type 0 where
@@ -29,3 +32,9 @@ turn_of kept block (Err stop) = Err stop
 abbrev pub ending_of : Kept → Result End Stop → Result Ending Stop
 ending_of kept (Ok end) = Ok (ended kept end)
 ending_of kept (Err stop) = Err stop
+
+-- what was found of a block that ends fits the points
+abbrev pub AfterFits : List Point → Result After Stop → Type 0
+AfterFits ps (Ok after.Goes) = ⊤
+AfterFits ps (Ok (after.Ends end)) = FoundFits ps end.found
+AfterFits ps (Err stop) = ⊤

@@ -1,7 +1,7 @@
 // A block that is being read.
 ghost use Rattle.std.specs.Prelude.{◌≡◌, ◌||◌};
 ghost use Rattle.dk_decl.specs.Comments.{is_comment};
-ghost use Rattle.dk_core.specs.History.{is_declaration, is_list_of_implementors};
+ghost use Rattle.dk_blocks.specs.History.{is_declaration, is_list_of_implementors};
 
 use bumpalo::Bump;
 use dk_base::first_word;

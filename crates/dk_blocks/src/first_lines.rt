@@ -2,7 +2,7 @@
 ghost use Rattle.std.specs.Prelude.{◌≡◌, ◌∷◌, ℕ, List, None, true, false, take};
 ghost use Rattle.std.specs.Str.{bytes_eq};
 ghost use Rattle.dk_decl.specs.Headers.{header_line};
-ghost use Rattle.dk_core.specs.History.{is_declaration, is_list_of_implementors};
+ghost use Rattle.dk_blocks.specs.History.{is_declaration, is_list_of_implementors};
 
 use dk_decl::Header;
 

@@ -1,72 +1,55 @@
-// What a session keeps from block to block.
-ghost use Rattle.std.specs.Prelude.{◌≡◌, ◌<◌, ◌≤◌, ◌∷◌, ◌++◌, [], All, IfOk, OnErr, OnOk, Bool, List, ℕ, Option, Some, false, is_some, length, slice_get};
+// What a reader of blocks keeps from block to block.
+ghost use Rattle.std.specs.Prelude.{◌≡◌, ◌<◌, ◌∷◌, [], IfOk, OnErr, OnOk, Bool, List, ℕ, Option, Some, false, is_some, length};
 ghost use Rattle.dk_base.specs.Reading.{Line};
-ghost use Rattle.dk_base.specs.Shapes.{AreWithDerived};
 ghost use Rattle.dk_base.specs.Values.{values_of};
-ghost use Rattle.dk_base.specs.declared.values.Value.{Value};
 ghost use Rattle.dk_calls.specs.Records.{call_of};
 ghost use Rattle.dk_calls.specs.Standing.{CallsStandForRecords as CallsStandFor, WaitAlike};
 ghost use Rattle.dk_calls.specs.Waiting.{Call};
-ghost use Rattle.dk_derive.specs.Laws.{base_of, var_kinds};
-ghost use Rattle.dk_derive.specs.Values.{values_by_form};
-ghost use Rattle.dk_hierarchy.specs.Samples.{own_samples_of};
 ghost use Rattle.dk_decl.specs.Headers.{is_implicit};
-ghost use Rattle.dk_hierarchy.specs.Standing.{AreEnginesOf, EngineStandsFor};
 ghost use Rattle.dk_points.specs.Vars.{entry_of};
-ghost use Rattle.dk_report.specs.Reports.{section_of as section_in};
-ghost use Rattle.dk_state.specs.StateFile.{StandForHistory};
+ghost use Rattle.dk_template.specs.declared.grammar.Grammar.{Grammar};
 ghost use Rattle.dk_trace.specs.Answers.{Shows};
-ghost use Rattle.dk_trace.specs.Fitting.{FitKinds};
 ghost use Rattle.dk_trace.specs.RecordsResumed.{shown};
-ghost use Rattle.dk_core.specs.Fitting.{ConstantsFit, FitAt, HasFittingConstants};
-ghost use Rattle.dk_core.specs.Growing.{AreGrown};
-ghost use Rattle.dk_core.specs.History.{History, after_declaration, after_record, after_sample, base_values, effect_of, file_ended, nothing_by, with_declaration, with_record, without_record};
-ghost use Rattle.dk_core.specs.Resuming.{IsStart, state_of};
-ghost use Rattle.dk_core.specs.Sections.{has_own_samples, has_samples, stats_of};
-ghost use Rattle.dk_core.specs.Refusing.{unmatched_answer};
+ghost use Rattle.dk_blocks.specs.Fitting.{ConstantsFit, Extends, FitAt, HasFittingConstants};
+ghost use Rattle.dk_blocks.specs.Finding.{FoundFits};
+ghost use Rattle.dk_blocks.specs.History.{History, after_declaration, after_record, after_sample, base_values, effect_of, file_ended, nothing_by, with_declaration, with_record, without_record};
+ghost use Rattle.dk_blocks.specs.Refusing.{unmatched_answer};
 
 use crate::block::{Block, State, is_comment, is_declaration, is_list_of_implementors};
 use crate::first_lines::is_plainly_sample;
+use crate::found::Found;
 use bumpalo::Bump;
-use dk_base::{BlockFault, NoMemory, PointId, Text, View};
+use dk_base::{BlockFault, NoMemory, View};
 use dk_calls::{Calls, is_entry};
 use dk_decl::{DeclBlock, Header, PointDecl};
-use dk_derive::extend;
-use dk_engine::Engine;
-use dk_hierarchy::engine_of;
-use dk_points::Points;
-use dk_report::{Options, push_section, push_stats};
-use dk_state::{Loaded, push_saved};
-use dk_template::Grammar;
+use dk_points::{Declared, Points};
 use dk_trace::{BaseSample, RecordReader};
 use std::alloc::Global;
 use std::marker::Model;
 use std::mem::replace;
 
-/// What a session keeps from block to block: the table of points, what the header lines have put in force, the entries of the file that
-/// wait, and the engine of each point's own samples.
+/// What a reader keeps from block to block: the table of points, what the header lines have put in force, and the entries of the file that
+/// wait.
 #[derive(Drop)]
 pub(crate) struct Kept {
     alloc: Global,
     points: Points,
     header: Header,
     calls: Calls,
-    grammar: Grammar,
-    engines: Vec<Engine>,
 }
 
 impl Model for Kept {
     ghost use Rattle.std.specs.Coded.{codes};
     ghost use Rattle.dk_calls.specs.contracts.calls.Calls as waiting;
-    ghost use Rattle.dk_core.specs.Keeping.{IsSound, Keeping};
+    ghost use Rattle.dk_blocks.specs.Keeping.{IsSound, Keeping};
 
     ghost Value = { Keeping };
 
     ghost coded = { Prim.hlevel (codes, waiting.the_row.coded) };
 
-    ghost view = { λ k. record { points = k.points; header = k.header; calls = k.calls; grammar = k.grammar; engines = k.engines.items } };
+    ghost view = { λ k. record { points = k.points; header = k.header; calls = k.calls } };
 
-    ghost invariant = { λ k. IsSound (record { points = k.points; header = k.header; calls = k.calls; grammar = k.grammar; engines = k.engines.items }) };
+    ghost invariant = { λ k. IsSound (record { points = k.points; header = k.header; calls = k.calls }) };
 }
 
 // An entry waits from here on. A record that is neither an entry nor an exit that must match one changes nothing.
@@ -103,68 +86,45 @@ fn base_values<'a>(
     Ok(sample.values)
 }
 
-// One sample more for an engine, from the values of its base variables.
-fn feed<'a>(arena: &'a Bump, engine: &mut Engine, base: &[View<'a>]) -> Result<(), NoMemory>
-    requires derived { AreWithDerived engine.old.infos }
-    requires fits { FitKinds (var_kinds (base_of engine.old.infos)) (values_of base.now) }
-    ensures grammar { engine.new.grammar ≡ engine.old.grammar }
-    ensures infos { engine.new.infos ≡ engine.old.infos }
-    ensures stands { OnOk result ((samples : List (List Value)) → EngineStandsFor engine.old samples → EngineStandsFor engine.new (samples ++ values_by_form engine.old.infos (values_of base.now) ∷ [])) }
-{
-    let sample = extend(arena, engine.vars(), base)?;
-    engine.feed(sample)
-}
-
-// What a record comes to that is refused, as an exit without an entry: where those are left out, its block counts.
-fn or_left_out(ignores: bool, fault: BlockFault) -> Result<bool, BlockFault>
+// What a record comes to that is refused, as an exit without an entry: where those are left out, its block counts, and does nothing.
+fn or_left_out<'a>(ignores: bool, fault: BlockFault) -> Result<Option<Found<'a>>, BlockFault>
     ensures { result ≡ unmatched_answer ignores fault }
 {
     match fault {
-        BlockFault::Refused { .. } if ignores => Ok(true),
+        BlockFault::Refused { .. } if ignores => Ok(Some(Found::Nothing)),
         fault => Err(fault),
     }
 }
 
 impl Kept {
-    ghost use Rattle.dk_core.specs.Standing.{Stands, Fits, BlockGoesOn, Closes, IsDeclared, as_block, left_behind, left_with_answer, block_resumed, resumed_by};
+    ghost use Rattle.dk_blocks.specs.Standing.{Stands, Fits, BlockGoesOn, Closes, DeclaredAs, IsBetweenFiles, IsDeclared, left_behind, left_with_answer, block_resumed, resumed_by};
 
     /// No points.
     #[tactic(auto, unfolding(crate::specs::Standing::Stands))]
-    pub(crate) fn new(alloc: Global, grammar: Grammar) -> Result<Kept, NoMemory>
-        ensures stands { IfOk result (λ kept. Stands kept (nothing_by grammar)) }
-        ensures grammar { IfOk result (λ kept. kept.grammar ≡ grammar) }
+    pub(crate) fn new(alloc: Global) -> Result<Kept, NoMemory>
+        ensures stands { IfOk result (λ kept. (grammar : Grammar) → Stands kept (nothing_by grammar)) }
+        ensures points { IfOk result (λ kept. kept.points ≡ []) }
     {
         Ok(Kept {
             alloc,
             points: Points::new(alloc)?,
             header: Header::new(),
             calls: Calls::new(alloc)?,
-            grammar,
-            engines: Vec::new(alloc),
         })
     }
 
-    /// What a state file says. No entry waits.
-    pub(crate) fn of_state(alloc: Global, loaded: Loaded, calls: Calls) -> Kept
-        requires engines { AreEnginesOf loaded.points loaded.engines × All (λ e. e.grammar ≡ loaded.grammar) loaded.engines }
-        requires constants { ConstantsFit loaded.points }
+    /// These points, and this comparability word in force: `implicit`, or else `none`. No entry waits.
+    pub(crate) fn of_table(alloc: Global, points: Points, implicit: bool, calls: Calls) -> Kept
+        requires constants { ConstantsFit points }
         requires calls { CallsStandFor calls [] }
-        ensures stands { (h : History) → IsStart h → StandForHistory h.grammar h.table loaded.engines h.samples → loaded.grammar ≡ h.grammar → loaded.points ≡ h.table
-            → loaded.implicit ≡ is_implicit h.header → Stands result h }
+        ensures stands { (h : History) → IsBetweenFiles h → points ≡ h.table → implicit ≡ is_implicit h.header → Stands result h }
+        ensures points { result.points ≡ points }
     {
-        let Loaded {
-            points,
-            engines,
-            implicit,
-            grammar,
-        } = loaded;
         Kept {
             alloc,
             points,
             header: Header::with_word(implicit),
             calls,
-            grammar,
-            engines: engines.into_vec(),
         }
     }
 
@@ -330,18 +290,19 @@ impl Kept {
         }
     }
 
-    /// Takes the block, which ends here: whether it is one. The line of this number ends it, or the file ends in front of that line. An
-    /// exit without an entry is left out, or refused. Nothing is said of the block behind it; after a fault nothing is said of the
-    /// history.
+    /// Takes the block, which ends here: what it comes to, if it is one. The line of this number ends it, or the file ends in front of that
+    /// line. An exit without an entry is left out, or refused. A declaration is still to be taken. Nothing is said of the block behind it;
+    /// after a fault nothing is said of the history.
     pub(crate) fn close<'a>(
         &mut self,
         block: &mut Block<'a>,
         number: u64,
         ignores: bool,
-    ) -> Result<bool, BlockFault>
+    ) -> Result<Option<Found<'a>>, BlockFault>
         requires { Fits self.old block.old }
         ensures closes { (h : History) → Stands self.old h → Closes (left_with_answer self.new result) (block_resumed ignores h block.old [] (Some number)) }
-        ensures grammar { self.new.grammar ≡ self.old.grammar }
+        ensures points { self.new.points ≡ self.old.points }
+        ensures fits { IfOk result (λ found. FoundFits self.new.points found) }
     {
         self.header = block.header;
         match &mut block.state {
@@ -353,89 +314,40 @@ impl Kept {
                 let last = *last;
                 self.without_record(last)
             }
-            State::Declaration { line: _, reader: _ } => self.declaration_end(block, number),
-            State::Implementors => Ok(true),
+            State::Declaration { line: _, reader: _ } => self.declaration_end(block),
+            State::Implementors => Ok(Some(Found::Nothing)),
         }
     }
 
     // A block ends whose last header line has this number, and that has no record.
-    fn without_record(&self, last: Option<u64>) -> Result<bool, BlockFault>
-        ensures { (h : History) → Stands self.now h → (close : ℕ) → Closes (left_with_answer self.now result) (without_record h last (Some close)) }
+    fn without_record<'a>(&self, last: Option<u64>) -> Result<Option<Found<'a>>, BlockFault>
+        ensures closes { (h : History) → Stands self.now h → (close : ℕ) → Closes (left_with_answer self.now result) (without_record h last (Some close)) }
+        ensures fits { IfOk result (λ found. FoundFits self.now.points found) }
     {
         let Some(line) = last else {
-            return Ok(false);
+            return Ok(None);
         };
         let mut header = self.header;
         match header.end() {
-            Ok(()) => Ok(true),
+            Ok(()) => Ok(Some(Found::Nothing)),
             Err(why) => Err(BlockFault::Refused { line, why }),
         }
     }
 
-    // A declaration ends.
+    // A declaration ends. What it does to the table is done behind the block.
     #[inline(never)]
-    fn declaration_end<'a>(
-        &mut self,
-        block: &mut Block<'a>,
-        number: u64,
-    ) -> Result<bool, BlockFault>
+    fn declaration_end<'a>(&self, block: &mut Block<'a>) -> Result<Option<Found<'a>>, BlockFault>
         requires declared { IsDeclared block.old.state }
-        requires fits { Fits self.old block.old }
-        ensures closes { (ignores : Bool) (h : History) → Stands self.old h → Closes (left_with_answer self.new result) (resumed_by ignores h block.old.state [] (Some number)) }
-        ensures grammar { self.new.grammar ≡ self.old.grammar }
+        requires fits { Fits self.now block.old }
+        ensures closes { (ignores : Bool) (h : History) → Stands self.now h → (close : ℕ) → Closes (left_with_answer self.now result) (resumed_by ignores h block.old.state [] (Some close)) }
+        ensures fits { IfOk result (λ found. FoundFits self.now.points found) }
     {
         match replace(&mut block.state, State::Implementors) {
             State::Declaration { line, reader } => match reader.end() {
-                Ok(decl) => self.with_declaration(line, decl),
+                Ok(decl) => Ok(Some(Found::Declaration { line, decl })),
                 Err(fault) => Err(fault),
             },
-            _ => Ok(true),
-        }
-    }
-
-    // With a declaration, whose block begins at this line.
-    fn with_declaration(&mut self, line: u64, decl: PointDecl) -> Result<bool, BlockFault>
-        requires { HasFittingConstants decl }
-        ensures closes { (h : History) → Stands self.old h → Closes (left_with_answer self.new result) (with_declaration h line decl) }
-        ensures grammar { self.new.grammar ≡ self.old.grammar }
-    {
-        let none = Kept::new(self.alloc, self.grammar)?;
-        match replace(self, none).declared(line, decl) {
-            Ok(kept) => {
-                *self = kept;
-                Ok(true)
-            }
-            Err(fault) => Err(fault),
-        }
-    }
-
-    // The same, where what is kept is taken apart: nothing is left of it if the declaration is refused.
-    fn declared(self, line: u64, decl: PointDecl) -> Result<Kept, BlockFault>
-        requires { HasFittingConstants decl }
-        ensures closes { (h : History) → Stands self h → Closes (as_block result) (with_declaration h line decl) }
-        ensures grammar { IfOk result (λ kept. kept.grammar ≡ self.grammar) }
-    {
-        let Kept {
-            alloc,
-            points,
-            header,
-            calls,
-            grammar,
-            engines,
-        } = self;
-        match points.declare(decl, line) {
-            Ok((points, _)) => match with_new(alloc, engines, &points, grammar) {
-                Ok(engines) => Ok(Kept {
-                    alloc,
-                    points,
-                    header,
-                    calls,
-                    grammar,
-                    engines,
-                }),
-                Err(NoMemory) => Err(BlockFault::NoMemory),
-            },
-            Err(fault) => Err(fault),
+            _ => Ok(Some(Found::Nothing)),
         }
     }
 
@@ -445,18 +357,46 @@ impl Kept {
         arena: &'a Bump,
         sample: &BaseSample<'a>,
         ignores: bool,
-    ) -> Result<bool, BlockFault>
+    ) -> Result<Option<Found<'a>>, BlockFault>
         requires within { sample.now.point.0 < length self.old.points }
         requires fits { FitAt self.old.points sample.now.point.0 (values_of sample.now.values.now) }
         ensures closes { (h : History) → Stands self.old h → Closes (left_with_answer self.new result) (with_record ignores h (shown sample.now)) }
-        ensures grammar { self.new.grammar ≡ self.old.grammar }
+        ensures points { self.new.points ≡ self.old.points }
+        ensures fits { IfOk result (λ found. FoundFits self.new.points found) }
     {
         match base_values(&self.points, &mut self.calls, arena, sample) {
-            Ok(base) => match feed(arena, &mut self.engines[sample.point.0 as usize], base) {
-                Ok(()) => Ok(true),
-                Err(NoMemory) => Err(BlockFault::NoMemory),
-            },
+            Ok(values) => Ok(Some(Found::Sample {
+                point: sample.point,
+                line: sample.line,
+                values,
+            })),
             Err(fault) => or_left_out(ignores, fault),
+        }
+    }
+
+    /// With a declaration, whose block begins at this line, and what it was to the table.
+    pub(crate) fn declared(self, line: u64, decl: PointDecl) -> Result<(Kept, Declared), BlockFault>
+        requires { HasFittingConstants decl }
+        ensures gives { (h : History) → Stands self h → DeclaredAs result (with_declaration h line decl) }
+        ensures points { IfOk result (λ r. Extends self.points r.0.points) }
+    {
+        let Kept {
+            alloc,
+            points,
+            header,
+            calls,
+        } = self;
+        match points.declare(decl, line) {
+            Ok((points, declared)) => Ok((
+                Kept {
+                    alloc,
+                    points,
+                    header,
+                    calls,
+                },
+                declared,
+            )),
+            Err(fault) => Err(fault),
         }
     }
 
@@ -464,7 +404,7 @@ impl Kept {
     #[tactic(auto, unfolding(crate::specs::Standing::Stands, crate::specs::History::file_ended))]
     pub(crate) fn end_file(&mut self)
         ensures stands { (h : History) → Stands self.old h → Stands self.new (file_ended h) }
-        ensures grammar { self.new.grammar ≡ self.old.grammar }
+        ensures points { self.new.points ≡ self.old.points }
     {
         self.calls.clear();
     }
@@ -478,81 +418,11 @@ impl Kept {
         &self.points
     }
 
-    /// The grammar of the engines.
-    pub(crate) fn grammar(&self) -> Grammar
-        ensures { result ≡ self.now.grammar }
+    /// Whether the comparability word in force is `implicit`, and not `none`.
+    #[tactic(auto, unfolding(crate::specs::Standing::Stands))]
+    pub(crate) fn implicit(&self) -> bool
+        ensures { (h : History) → Stands self.now h → result ≡ is_implicit h.header }
     {
-        self.grammar
+        self.header.implicit()
     }
-
-    /// The engine of the point's own samples.
-    pub(crate) fn engine(&self, p: PointId) -> &Engine
-        requires { p.0 < length self.now.points }
-        ensures engine { slice_get self.now.engines p.0 ≡ Some result.now }
-        ensures grammar { result.now.grammar ≡ self.now.grammar }
-        ensures stands { (h : History) → Stands self.now h → EngineStandsFor result.now (own_samples_of h.table h.samples p.0) }
-    {
-        &self.engines[p.0 as usize]
-    }
-
-    /// Writes the point's section behind the text, whatever its name: whether it has samples.
-    pub(crate) fn push_section(
-        &self,
-        text: &mut Text,
-        options: &Options,
-        p: PointId,
-    ) -> Result<bool, NoMemory>
-        requires { p.0 < length self.now.points }
-        ensures has { (h : History) → Stands self.now h → IfOk result (λ has. has ≡ has_samples h p.0) }
-        ensures text { (h : History) → Stands self.now h → IfOk result (λ _. text.new ≡ text.old ++ section_in h.grammar options.now h.table h.samples p.0) }
-    {
-        push_section(
-            self.alloc,
-            text,
-            options,
-            &self.points,
-            self.engines.as_slice(),
-            p,
-        )
-    }
-
-    /// Writes the line of the point's sizes behind the text: whether it has own samples.
-    pub(crate) fn push_stats(&self, text: &mut Text, p: PointId) -> Result<bool, NoMemory>
-        requires { p.0 < length self.now.points }
-        ensures has { (h : History) → Stands self.now h → IfOk result (λ has. has ≡ has_own_samples h p.0) }
-        ensures text { (h : History) → Stands self.now h → IfOk result (λ _. text.new ≡ text.old ++ stats_of h p.0) }
-    {
-        push_stats(text, &self.points, self.engines.as_slice(), p)
-    }
-
-    /// Writes the state behind the text.
-    pub(crate) fn push_state(&self, text: &mut Text) -> Result<(), NoMemory>
-        ensures { OnOk result ((h : History) → Stands self.now h → text.new ≡ text.old ++ state_of h) }
-    {
-        push_saved(
-            self.alloc,
-            text,
-            &self.points,
-            self.engines.as_slice(),
-            self.header.implicit(),
-            self.grammar,
-        )
-    }
-}
-
-// The engines with those of new points behind them, which have no samples.
-fn with_new(
-    alloc: Global,
-    engines: Vec<Engine>,
-    points: &Points,
-    grammar: Grammar,
-) -> Result<Vec<Engine>, NoMemory>
-    requires { length engines.items ≤ length points.now }
-    ensures { IfOk result (λ all. AreGrown points.now grammar engines.items all.items) }
-{
-    let mut engines = engines;
-    for place in engines.len()..points.len() as usize {
-        engines.push(engine_of(alloc, points, PointId(place as u32), grammar)?)?;
-    }
-    Ok(engines)
 }

@@ -1,41 +1,34 @@
-// A session.
-ghost use Rattle.std.specs.Prelude.{◌≡◌, ◌≤◌, ◌<◌, ◌+◌, ◌-◌, ◌^◌, min, not, ◌∷◌, ◌++◌, [], Bool, List, ℕ, Option, Some, None, Err, IfOk, OnOk, IfSome, IsErrOf, length, true, false, if◌then◌else◌};
-ghost use Rattle.dk_hierarchy.specs.Samples.{own_samples_of};
-ghost use Rattle.dk_hierarchy.specs.Standing.{EngineStandsFor};
+// A reader of blocks.
+ghost use Rattle.std.specs.Prelude.{◌≡◌, ◌≤◌, ◌<◌, ◌+◌, ◌^◌, min, not, ◌∷◌, [], Bool, List, ℕ, Option, Some, None, IfErr, IfOk, OnOk, IfSome, IsErrOf, Ok, length, true, false};
+ghost use Rattle.dk_calls.specs.Standing.{CallsStandForRecords as CallsStandFor};
+ghost use Rattle.dk_decl.specs.Headers.{is_implicit};
 ghost use Rattle.dk_io.specs.Outside.{Rose};
 ghost use Rattle.dk_lines.specs.Reading.{left_of};
-ghost use Rattle.dk_state.specs.Spelling.{IsSpelling};
-ghost use Rattle.dk_core.specs.History.{History, effect_of, no_history, file_ended};
-ghost use Rattle.dk_core.specs.Resuming.{IsStart, state_of};
-ghost use Rattle.dk_core.specs.Sections.{has_own_samples, has_section, section_of, some_if, stats_of};
-ghost use Rattle.dk_core.specs.Selecting.{SelectsBy};
-ghost use Rattle.dk_core.specs.Standing.{Fits, ReportsAlike, SessionStandsFor, Stands, block_resumed, blocks_of, file_of, grammar_of, left_behind, left_with_answer, options_of, over_of, points_of, select_of};
-ghost use Rattle.dk_core.specs.Steps.{LineGives, EndGives, BlankGives, WordsGive, NextBlock, SessionCounts, fault_in_file, BlockGives, BlockCounts, LineShape, EndShape, ShapeAt, ClosesAt, LineStep, LineStepShape, StepShape, StepGives, StepCounts, line_turn, stop_of_fault, stop_of_unread};
-ghost use Rattle.dk_core.specs.Turns.{turn_of, ending_of};
+ghost use Rattle.dk_template.specs.declared.grammar.Grammar.{Grammar};
+ghost use Rattle.dk_blocks.specs.Finding.{FoundFits};
+ghost use Rattle.dk_blocks.specs.Fitting.{ConstantsFit, Extends, HasFittingConstants};
+ghost use Rattle.dk_blocks.specs.History.{History, effect_of, file_ended, nothing_by, with_declaration};
+ghost use Rattle.dk_blocks.specs.Standing.{Fits, IsBetweenFiles, ReaderStandsFor, Stands, block_resumed, file_of, left_behind, left_with_answer, over_of, points_of};
+ghost use Rattle.dk_blocks.specs.Steps.{LineGives, EndGives, BlankGives, WordsGive, DeclareGives, IsInFile, NextBlock, ReaderCounts, block_fault_in, fault_in_file, BlockGives, BlockCounts, LineShape, EndShape, ShapeAt, ClosesAt, LineStep, LineStepShape, StepShape, StepGives, StepCounts, line_turn, stop_of_fault, stop_of_unread};
+ghost use Rattle.dk_blocks.specs.Turns.{AfterFits, ending_of, turn_of};
 
 use crate::block::Block;
+use crate::found::Found;
 use crate::kept::Kept;
 use bumpalo::Bump;
-use dk_base::{BlockFault, Fault, NoMemory, PointId, Text, Why, trimmed};
+use dk_base::{BlockFault, Fault, NoMemory, Why, trimmed};
 use dk_calls::Calls;
-use dk_engine::Engine;
+use dk_decl::PointDecl;
 use dk_io::Inputs;
 use dk_lines::{LineFault, Lines};
-use dk_points::Points;
-use dk_report::Options;
-use dk_state::{LoadFault, load};
-use dk_template::Grammar;
+use dk_points::{Declared, Points};
 use std::alloc::Global;
 
-/// What the blocks so far come to, and what is reported of it: the points that the selection answers `true` to, by their names, and of
-/// their instances those that the options leave.
+/// Reads the blocks of files, one after another: what each does, by the points that are declared so far and the entries of its file that
+/// wait. It keeps no samples.
 #[derive(Drop)]
-pub struct Session<F> {
-    pub(crate) alloc: Global,
+pub struct Reader {
     pub(crate) kept: Kept,
-    pub(crate) select: F,
-    pub(crate) options: Options,
-    pub(crate) blocks: u64,
     pub(crate) file: u32,
     pub(crate) is_over: bool,
 }
@@ -49,10 +42,10 @@ pub(crate) enum Stop {
 }
 
 /// The end of a block, or of a file without one.
-#[derive(Clone, Copy, Debug, PartialEq, Eq)]
-pub(crate) struct End {
+#[derive(Drop)]
+pub(crate) struct End<'a> {
     pub(crate) is_over: bool,
-    pub(crate) found: bool,
+    pub(crate) found: Option<Found<'a>>,
 }
 
 /// What one line does.
@@ -65,10 +58,10 @@ pub(crate) enum Step {
 }
 
 /// What comes of the end of a block's lines: they are no block, and the next one begins; or a block or the file ends.
-#[derive(Clone, Copy, Debug, PartialEq, Eq)]
-pub(crate) enum After {
+#[derive(Drop)]
+pub(crate) enum After<'a> {
     Goes,
-    Ends(End),
+    Ends(End<'a>),
 }
 
 fn stop_of(fault: BlockFault) -> Stop
@@ -103,21 +96,22 @@ fn at_blank<'a>(
     block: &mut Block<'a>,
     number: u64,
     ignores: bool,
-) -> Result<After, Stop>
+) -> Result<After<'a>, Stop>
     requires { Fits kept.old block.old }
     ensures shape { LineShape (turn_of kept.new block.new result) }
+    ensures points { kept.new.points ≡ kept.old.points }
+    ensures fits { AfterFits kept.new.points result }
     ensures gives { (h : History) → Stands kept.old h → BlankGives ignores (block_resumed ignores h block.old) number (turn_of kept.new block.new result) }
-    ensures grammar { kept.new.grammar ≡ kept.old.grammar }
 {
     match kept.close(block, number, ignores) {
-        Ok(true) => Ok(After::Ends(End {
-            is_over: false,
-            found: true,
-        })),
-        Ok(false) => {
+        Ok(None) => {
             kept.begin_again(block);
             Ok(After::Goes)
         }
+        Ok(Some(found)) => Ok(After::Ends(End {
+            is_over: false,
+            found: Some(found),
+        })),
         Err(fault) => Err(stop_of(fault)),
     }
 }
@@ -128,11 +122,12 @@ fn at_end<'a>(
     block: &mut Block<'a>,
     number: u64,
     ignores: bool,
-) -> Result<After, Stop>
+) -> Result<After<'a>, Stop>
     requires { Fits kept.old block.old }
     ensures shape { EndShape (turn_of kept.new block.new result) }
+    ensures points { kept.new.points ≡ kept.old.points }
+    ensures fits { AfterFits kept.new.points result }
     ensures gives { (h : History) → Stands kept.old h → EndGives ignores (block_resumed ignores h block.old) number (turn_of kept.new block.new result) }
-    ensures grammar { kept.new.grammar ≡ kept.old.grammar }
 {
     match kept.close(block, number, ignores) {
         Ok(found) => Ok(After::Ends(End {
@@ -150,11 +145,12 @@ fn close_block<'a>(
     number: u64,
     is_over: bool,
     ignores: bool,
-) -> Result<After, Stop>
+) -> Result<After<'a>, Stop>
     requires { Fits kept.old block.old }
     ensures shape { ShapeAt is_over (turn_of kept.new block.new result) }
+    ensures points { kept.new.points ≡ kept.old.points }
+    ensures fits { AfterFits kept.new.points result }
     ensures gives { (h : History) → Stands kept.old h → ClosesAt ignores is_over (block_resumed ignores h block.old) number (turn_of kept.new block.new result) }
-    ensures grammar { kept.new.grammar ≡ kept.old.grammar }
 {
     if is_over {
         at_end(kept, block, number, ignores)
@@ -229,27 +225,26 @@ fn take_line<'a, I: Inputs>(
     }
 }
 
-// Reads up to the end of the next block. The values of its record lie in an arena of its own, which takes no memory before the first of
-// them and goes whole behind the block.
-fn read_block<I: Inputs>(
-    alloc: Global,
+// Reads up to the end of the next block. The values of its record lie in the arena, which gives no memory before the first of them.
+fn read_block<'a, I: Inputs>(
     kept: &mut Kept,
+    arena: &'a Bump,
     inputs: &mut I,
     lines: &mut Lines,
     ignores: bool,
-) -> Result<End, Stop>
+) -> Result<End<'a>, Stop>
     requires { lines.old.is_started ≡ true }
     ensures gives { (h : History) → Stands kept.old h → IfSome (left_of lines.old (I.rest inputs.old))
         (λ xs. BlockGives ignores (effect_of ignores h) false lines.old xs (ending_of kept.new result) lines.new (left_of lines.new (I.rest inputs.new))) }
-    ensures grammar { kept.new.grammar ≡ kept.old.grammar }
+    ensures points { kept.new.points ≡ kept.old.points }
+    ensures fits { IfOk result (λ end. FoundFits kept.new.points end.found) }
     ensures counts { BlockCounts lines.old (ending_of kept.new result) lines.new }
     ensures emptied { IsErrOf result Stop.Read → lines.new.ahead ≡ [] }
     ensures files { I.file inputs.new ≡ I.file inputs.old }
     ensures later { I.faults inputs.old ≤ I.faults inputs.new }
     ensures cause { IsErrOf result Stop.Read → Rose (I.faults inputs.old) (I.faults inputs.new) }
 {
-    let arena = Bump::new(alloc);
-    let mut block = kept.begin(&arena);
+    let mut block = kept.begin(arena);
     'reading: loop {
         match take_line(kept, &mut block, inputs, lines) {
             Ok(Step::More) => continue 'reading,
@@ -276,85 +271,62 @@ fn fault_of(file: u32, stop: Stop) -> Fault
     }
 }
 
-// How many blocks were read, with one more where one was found.
-fn blocks_with(blocks: u64, found: bool) -> u64
-    ensures { result ≡ (if found then min (blocks + 1) (2 ^ 64 - 1) else blocks) }
+// The fault of a block with the number of its file.
+fn in_file(file: u32, fault: BlockFault) -> Fault
+    ensures { result ≡ block_fault_in file fault }
 {
-    if found {
-        blocks.saturating_add(1)
-    } else {
-        blocks
+    match fault {
+        BlockFault::Refused { line, why } => Fault::Refused { file, line, why },
+        BlockFault::NoMemory => Fault::NoMemory,
     }
 }
 
-impl<F: Fn(&[u8]) -> bool + Drop> Session<F> {
-    /// The session of no blocks, by the second grammar. It reports the points whose names the selection answers `true` to. The selection
-    /// may be asked of any name, any number of times.
-    #[tactic(auto, unfolding(crate::specs::History::no_history))]
-    pub fn new(alloc: Global, select: F, options: Options) -> Result<Session<F>, NoMemory>
-        ensures stands { IfOk result (λ s. SessionStandsFor s no_history) }
-        ensures grammar { IfOk result (λ s. grammar_of s ≡ Grammar.Two) }
-        ensures options { IfOk result (λ s. options_of s ≡ options) }
-        ensures select { IfOk result (λ s. select_of s ≡ select) }
-        ensures counts { IfOk result (λ s. (blocks_of s ≡ 0) × (file_of s ≡ 0) × (over_of s ≡ false)) }
+impl Reader {
+    /// No blocks were read.
+    pub fn new(alloc: Global) -> Result<Reader, NoMemory>
+        ensures stands { IfOk result (λ reader. (grammar : Grammar) → ReaderStandsFor reader (nothing_by grammar)) }
+        ensures counts { IfOk result (λ reader. (file_of reader ≡ 0) × (over_of reader ≡ false)) }
     {
-        let kept = Kept::new(alloc, Grammar::Two)?;
-        Ok(Session {
-            alloc,
-            kept,
-            select,
-            options,
-            blocks: 0,
+        Ok(Reader {
+            kept: Kept::new(alloc)?,
             file: 0,
             is_over: false,
         })
     }
 
-    /// The session of what a state file says, in the grammar of its version. No blocks count yet. `BadState` comes exactly where the bytes are
-    /// no state.
-    pub fn resume(
-        alloc: Global,
-        select: F,
-        options: Options,
-        state: &[u8],
-    ) -> Result<Session<F>, LoadFault>
-        ensures stands { IfOk result (λ s. (h : History) → IsStart h → state_of h ≡ state.now → SessionStandsFor s h) }
-        ensures spelling { IfOk result (λ s. IsSpelling state.now) }
-        ensures bad { result ≡ Err LoadFault.BadState → IsSpelling state.now → ⊥ }
-        ensures options { IfOk result (λ s. options_of s ≡ options) }
-        ensures select { IfOk result (λ s. select_of s ≡ select) }
-        ensures counts { IfOk result (λ s. (blocks_of s ≡ 0) × (file_of s ≡ 0) × (over_of s ≡ false)) }
+    /// These points are declared, and this comparability word is in force: `implicit`, or else `none`. No entry waits.
+    pub fn of_table(alloc: Global, points: Points, implicit: bool) -> Result<Reader, NoMemory>
+        requires { ConstantsFit points }
+        ensures stands { IfOk result (λ reader. (h : History) → IsBetweenFiles h → points ≡ h.table → implicit ≡ is_implicit h.header → ReaderStandsFor reader h) }
+        ensures points { IfOk result (λ reader. points_of reader ≡ points) }
+        ensures counts { IfOk result (λ reader. (file_of reader ≡ 0) × (over_of reader ≡ false)) }
     {
-        let blocks = 0;
-        let calls = match Calls::new(alloc) {
-            Ok(calls) => calls,
-            Err(NoMemory) => return Err(LoadFault::NoMemory),
-        };
-        match load(alloc, state) {
-            Ok(loaded) => Ok(Session {
-                alloc,
-                kept: Kept::of_state(alloc, loaded, calls),
-                select,
-                options,
-                blocks,
-                file: 0,
-                is_over: false,
-            }),
-            Err(fault) => Err(fault),
-        }
+        let calls = Calls::new(alloc)?;
+        Ok(Reader {
+            kept: Kept::of_table(alloc, points, implicit, calls),
+            file: 0,
+            is_over: false,
+        })
     }
 
-    /// Reads and applies the next block of the started file. False where the file ends without one. After a fault nothing is said of the
-    /// history.
-    pub fn block<I: Inputs>(&mut self, inputs: &mut I, lines: &mut Lines) -> Result<bool, Fault>
+    /// What the next block of the started file comes to; none where the file ends without one. The values of a sample lie in the arena. An exit
+    /// without an entry is left out, or refused. A declaration is not taken yet: that is the next thing to do. After a fault nothing is said of
+    /// the history.
+    pub fn next<'a, I: Inputs>(
+        &mut self,
+        arena: &'a Bump,
+        inputs: &mut I,
+        lines: &mut Lines,
+        ignores: bool,
+    ) -> Result<Option<Found<'a>>, Fault>
         requires { lines.old.is_started ≡ not (over_of self.old) }
-        ensures gives { (h : History) → SessionStandsFor self.old h → IfSome (left_of lines.old (I.rest inputs.old))
-            (λ xs. NextBlock self.old h lines.old xs (left_with_answer self.new result) lines.new (left_of lines.new (I.rest inputs.new))) }
-        ensures counts { SessionCounts self.old lines.old (left_with_answer self.new result) lines.new }
-        // Grammar, options and selection stay.
-        ensures alike { ReportsAlike self.old self.new }
+        ensures gives { (h : History) → ReaderStandsFor self.old h → IfSome (left_of lines.old (I.rest inputs.old))
+            (λ xs. NextBlock ignores self.old h lines.old xs (left_with_answer self.new result) lines.new (left_of lines.new (I.rest inputs.new))) }
+        ensures points { points_of self.new ≡ points_of self.old }
+        ensures fits { IfOk result (λ found. FoundFits (points_of self.new) found) }
+        ensures counts { ReaderCounts self.old lines.old (left_with_answer self.new result) lines.new }
         // At the file's end nothing is read.
-        ensures over { over_of self.old ≡ true → (result ≡ Ok false) × (self.new ≡ self.old) × (inputs.new ≡ inputs.old) × (lines.new ≡ lines.old) }
+        ensures over { over_of self.old ≡ true → (result ≡ Ok None) × (self.new ≡ self.old) × (inputs.new ≡ inputs.old) × (lines.new ≡ lines.old) }
         // Where reading failed, no byte that was read is held.
         ensures emptied { (file : ℕ) → IsErrOf result (Fault.Read file) → lines.new.ahead ≡ [] }
         ensures files { I.file inputs.new ≡ I.file inputs.old }
@@ -362,124 +334,68 @@ impl<F: Fn(&[u8]) -> bool + Drop> Session<F> {
         ensures cause { (file : ℕ) → IsErrOf result (Fault.Read file) → Rose (I.faults inputs.old) (I.faults inputs.new) }
     {
         if self.is_over {
-            return Ok(false);
+            return Ok(None);
         }
-        let ignores = self.options.ignore_missing_entry;
-        match read_block(self.alloc, &mut self.kept, inputs, lines, ignores) {
+        match read_block(&mut self.kept, arena, inputs, lines, ignores) {
             Ok(end) => {
                 self.is_over = end.is_over;
-                self.blocks = blocks_with(self.blocks, end.found);
                 Ok(end.found)
             }
             Err(stop) => Err(fault_of(self.file, stop)),
         }
     }
 
-    /// Without what ends with a file. The next block is of the next file.
-    pub fn end_file(self) -> Session<F>
-        ensures stands { (h : History) → SessionStandsFor self h → SessionStandsFor result (file_ended h) }
-        ensures counts { (blocks_of result ≡ blocks_of self) × (file_of result ≡ min (file_of self + 1) (2 ^ 32 - 1)) × (over_of result ≡ false) }
-        ensures alike { ReportsAlike self result }
+    /// Takes a declaration, whose block begins at this line: the reader with it, and what it was to the table. It is refused as
+    /// `Points::declare` refuses it.
+    pub fn declare(self, line: u64, decl: PointDecl) -> Result<(Reader, Declared), Fault>
+        requires { HasFittingConstants decl }
+        ensures gives { (h : History) → ReaderStandsFor self h → DeclareGives result (with_declaration h line decl) }
+        ensures points { IfOk result (λ r. Extends (points_of self) (points_of r.0)) }
+        ensures counts { IfOk result (λ r. (file_of r.0 ≡ file_of self) × (over_of r.0 ≡ over_of self)) }
+        ensures file { IfErr result (IsInFile (file_of self)) }
+        ensures unread { (file : ℕ) → IsErrOf result (Fault.Read file) → ⊥ }
     {
-        let mut session = self;
-        session.kept.end_file();
-        session.file = session.file.saturating_add(1);
-        session.is_over = false;
-        session
+        let Reader {
+            kept,
+            file,
+            is_over,
+        } = self;
+        match kept.declared(line, decl) {
+            Ok((kept, declared)) => Ok((
+                Reader {
+                    kept,
+                    file,
+                    is_over,
+                },
+                declared,
+            )),
+            Err(fault) => Err(in_file(file, fault)),
+        }
+    }
+
+    /// Without what ends with a file. The next block is of the next file.
+    pub fn end_file(&mut self)
+        ensures stands { (h : History) → ReaderStandsFor self.old h → ReaderStandsFor self.new (file_ended h) }
+        ensures points { points_of self.new ≡ points_of self.old }
+        ensures counts { (file_of self.new ≡ min (file_of self.old + 1) (2 ^ 32 - 1)) × (over_of self.new ≡ false) }
+    {
+        self.kept.end_file();
+        self.file = self.file.saturating_add(1);
+        self.is_over = false;
     }
 
     /// The table of points.
     pub fn points(&self) -> &Points
         ensures points { result.now ≡ points_of self.now }
-        ensures table { (h : History) → SessionStandsFor self.now h → result.now ≡ h.table }
+        ensures table { (h : History) → ReaderStandsFor self.now h → result.now ≡ h.table }
     {
         self.kept.points()
     }
 
-    /// How many blocks were read.
-    pub fn blocks(&self) -> u64
-        ensures { result ≡ blocks_of self.now }
+    /// Whether the comparability word in force is `implicit`, and not `none`.
+    pub fn implicit(&self) -> bool
+        ensures { (h : History) → ReaderStandsFor self.now h → result ≡ is_implicit h.header }
     {
-        self.blocks
-    }
-
-    /// The grammar of its engines.
-    pub fn grammar(&self) -> Grammar
-        ensures grammar { result ≡ grammar_of self.now }
-        ensures history { (h : History) → SessionStandsFor self.now h → result ≡ h.grammar }
-    {
-        self.kept.grammar()
-    }
-
-    /// The engine of the point's own samples.
-    pub fn engine(&self, p: PointId) -> &Engine
-        requires { p.0 < length (points_of self.now) }
-        ensures grammar { result.now.grammar ≡ grammar_of self.now }
-        ensures stands { (h : History) → SessionStandsFor self.now h → EngineStandsFor result.now (own_samples_of h.table h.samples p.0) }
-    {
-        self.kept.engine(p)
-    }
-
-    /// Writes the point's section behind the text: whether it has one. It has none without samples, or where its name isn't selected.
-    /// After an error the text may hold a part of it.
-    pub fn push_section(&self, text: &mut Text, p: PointId) -> Result<bool, NoMemory>
-        requires within { p.0 < length (points_of self.now) }
-        requires callable { F.IsAlwaysCallable (select_of self.now) }
-        ensures has { (h : History) → SessionStandsFor self.now h → (selects : List ℕ → Bool) → SelectsBy (F.post (select_of self.now)) selects → IfOk result (λ has. has ≡ has_section selects h p.0) }
-        ensures text { (h : History) → SessionStandsFor self.now h → (selects : List ℕ → Bool) → SelectsBy (F.post (select_of self.now)) selects
-            → IfOk result (λ _. text.new ≡ text.old ++ section_of (options_of self.now) selects h p.0) }
-    {
-        if !(self.select)(self.kept.points().name(p)) {
-            return Ok(false);
-        }
-        self.kept.push_section(text, &self.options, p)
-    }
-
-    /// The point's section; none without samples, or where its name isn't selected.
-    pub fn section(&self, p: PointId) -> Result<Option<Text>, NoMemory>
-        requires within { p.0 < length (points_of self.now) }
-        requires callable { F.IsAlwaysCallable (select_of self.now) }
-        ensures { (h : History) → SessionStandsFor self.now h → (selects : List ℕ → Bool) → SelectsBy (F.post (select_of self.now)) selects
-            → IfOk result (λ section. section ≡ some_if (has_section selects h p.0) (section_of (options_of self.now) selects h p.0)) }
-    {
-        let mut text = Text::new(self.alloc);
-        let has = self.push_section(&mut text, p)?;
-        Ok(if has { Some(text) } else { None })
-    }
-
-    /// Writes the line of the point's sizes behind the text: whether it has one. It has none without own samples. After an error the text
-    /// may hold a part of it.
-    pub fn push_stats(&self, text: &mut Text, p: PointId) -> Result<bool, NoMemory>
-        requires { p.0 < length (points_of self.now) }
-        ensures has { (h : History) → SessionStandsFor self.now h → IfOk result (λ has. has ≡ has_own_samples h p.0) }
-        ensures text { (h : History) → SessionStandsFor self.now h → IfOk result (λ _. text.new ≡ text.old ++ stats_of h p.0) }
-    {
-        self.kept.push_stats(text, p)
-    }
-
-    /// The line of the point's sizes; none without own samples.
-    pub fn stats(&self, p: PointId) -> Result<Option<Text>, NoMemory>
-        requires { p.0 < length (points_of self.now) }
-        ensures { (h : History) → SessionStandsFor self.now h → IfOk result (λ stats. stats ≡ some_if (has_own_samples h p.0) (stats_of h p.0)) }
-    {
-        let mut text = Text::new(self.alloc);
-        let has = self.push_stats(&mut text, p)?;
-        Ok(if has { Some(text) } else { None })
-    }
-
-    /// Writes the state behind the text. After an error the text may hold a part of it.
-    pub fn push_state(&self, text: &mut Text) -> Result<(), NoMemory>
-        ensures { OnOk result ((h : History) → SessionStandsFor self.now h → text.new ≡ text.old ++ state_of h) }
-    {
-        self.kept.push_state(text)
-    }
-
-    /// The state, as a session can begin with.
-    pub fn state(&self) -> Result<Text, NoMemory>
-        ensures { IfOk result (λ text. (h : History) → SessionStandsFor self.now h → text ≡ state_of h) }
-    {
-        let mut text = Text::new(self.alloc);
-        self.push_state(&mut text)?;
-        Ok(text)
+        self.kept.implicit()
     }
 }

@@ -1,6 +1,6 @@
 use Rattle.std.proofs.Common.{codes}
-use Rattle.dk_core.proofs.FirstLines.{no_declaration, no_list, not_true}
-use Rattle.dk_core.proofs.first_lines.is_no_declaration.Goals as goal
+use Rattle.dk_blocks.proofs.FirstLines.{no_declaration, no_list, not_true}
+use Rattle.dk_blocks.proofs.first_lines.is_no_declaration.Goals as goal
 
 pub returns-clause-declaration : goal.returns-clause-declaration
 returns-clause-declaration c is =

@@ -1,6 +1,6 @@
 use Rattle.std.proofs.Common.{◌∙◌, sym, codes}
-use Rattle.dk_core.proofs.FirstLines.{awaits_none, no_header, not_true}
-use Rattle.dk_core.proofs.first_lines.is_no_header.Goals as goal
+use Rattle.dk_blocks.proofs.FirstLines.{awaits_none, no_header, not_true}
+use Rattle.dk_blocks.proofs.first_lines.is_no_header.Goals as goal
 
 pub returns : goal.returns
 returns c is =

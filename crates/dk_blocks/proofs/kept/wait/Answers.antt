@@ -3,8 +3,8 @@ use Rattle.dk_calls.specs.Records.{call_of}
 use Rattle.dk_calls.specs.Standing.{CallsStandForRecords}
 use Rattle.dk_calls.specs.Waiting.{Call, other}
 use Rattle.dk_trace.specs.RecordsResumed.{shown}
-use Rattle.dk_core.proofs.Keeping.{other_call}
-use Rattle.dk_core.proofs.kept.wait.Goals as goal
+use Rattle.dk_blocks.proofs.Keeping.{other_call}
+use Rattle.dk_blocks.proofs.kept.wait.Goals as goal
 
 pub returns-clause-ok : goal.returns-clause-ok
 returns-clause-ok c earlier stands =

@@ -1,10 +1,10 @@
 use Rattle.std.proofs.Common.{Err, sym, subst}
 use Rattle.dk_base.specs.Reading.{Line}
-use Rattle.dk_core.proofs.Fronting.{told_words}
-use Rattle.dk_core.specs.Standing.{block_resumed}
-use Rattle.dk_core.specs.Steps.{WordsGive}
-use Rattle.dk_core.specs.declared.session.Stop.{Stop}
-use Rattle.dk_core.proofs.session.at_words.Goals as goal
+use Rattle.dk_blocks.proofs.Fronting.{told_words}
+use Rattle.dk_blocks.specs.Standing.{block_resumed}
+use Rattle.dk_blocks.specs.Steps.{WordsGive}
+use Rattle.dk_blocks.specs.declared.reader.Stop.{Stop}
+use Rattle.dk_blocks.proofs.reader.at_words.Goals as goal
 
 pub returns-in-Err-clause-gives : goal.returns-in-Err-clause-gives
 returns-in-Err-clause-gives c ignores h stands =

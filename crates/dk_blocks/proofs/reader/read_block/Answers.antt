@@ -1,16 +1,16 @@
 use Rattle.std.proofs.Common.{arith, rules, refl, subst, ◌≡◌, ◌∙◌, IfSome, Result, Ok, Err}
 use Rattle.dk_lines.specs.Reading.{left_of}
-use Rattle.dk_core.specs.History.{effect_of}
-use Rattle.dk_core.specs.Standing.{block_resumed}
-use Rattle.dk_core.specs.declared.session.Step.{Step}
-use Rattle.dk_core.specs.declared.session.Step.TheVariants.{More, Ended}
-use Rattle.dk_core.specs.declared.session.Stop.{Stop}
-use Rattle.dk_core.specs.Steps.{ClosesAt, ShapeAt, StepGives, StepShape, StepCounts, TurnCounts}
-use Rattle.dk_core.proofs.Stepping.{begun, block_counts, closed_on, fits_at, told_on, told_stop}
-use Rattle.dk_core.specs.Turns.{Goes, Ends, ended, turn_of}
-use Rattle.dk_core.specs.declared.session.After.{After}
-use Rattle.dk_core.specs.declared.session.After.TheVariants as after
-use Rattle.dk_core.proofs.session.read_block.Goals as goal
+use Rattle.dk_blocks.specs.History.{effect_of}
+use Rattle.dk_blocks.specs.Standing.{block_resumed}
+use Rattle.dk_blocks.specs.declared.reader.Step.{Step}
+use Rattle.dk_blocks.specs.declared.reader.Step.TheVariants.{More, Ended}
+use Rattle.dk_blocks.specs.declared.reader.Stop.{Stop}
+use Rattle.dk_blocks.specs.Steps.{ClosesAt, ShapeAt, StepGives, StepShape, StepCounts, TurnCounts}
+use Rattle.dk_blocks.proofs.Stepping.{begun, block_counts, closed_on, fits_at, told_on, told_stop}
+use Rattle.dk_blocks.specs.Turns.{AfterFits, Goes, Ends, ended, turn_of}
+use Rattle.dk_blocks.specs.declared.reader.After.{After}
+use Rattle.dk_blocks.specs.declared.reader.After.TheVariants as after
+use Rattle.dk_blocks.proofs.reader.read_block.Goals as goal
 
 pub reading-init : goal.reading-init
 reading-init g c = record {
@@ -19,7 +19,7 @@ reading-init g c = record {
   grown = search rules;
   files = search rules;
   later = search rules;
-  grammar = refl;
+  points = refl;
   fits = c.begin-block.ensures.fits;
   goes = λ h stands. begun c.args.ignores h c.args.kept.now c.begin-block.result c.args.lines.now (left_of c.args.lines.now (g.I.Inputs.rest c.args.inputs.now)) stands (c.begin-block.ensures.resumes c.args.ignores h stands);
 }
@@ -34,7 +34,7 @@ reading-preserved-in-Ok-More g c =
       grown = omega (arith, counts.2, c.reading.invariant.grown);
       files = c.take_line.ensures.files ∙ c.reading.invariant.files;
       later = omega (arith, c.take_line.ensures.later, c.reading.invariant.later);
-      grammar = c.reading.invariant.grammar;
+      points = c.reading.invariant.points;
       fits = subst (λ (t : Result Step Stop). StepShape c.reading.kept c.reading.block c.take_line.new.block t) is c.take_line.ensures.shape;
       goes = λ h stands.
           told_on c.args.ignores (effect_of c.args.ignores h) c.args.lines.now c.reading.lines c.take_line.new.lines _ _ _ c.reading.kept c.reading.block (Ok (Goes c.reading.kept c.take_line.new.block)) (c.reading.invariant.goes h stands)
@@ -56,7 +56,7 @@ reading-preserved g c =
       grown = omega (arith, counts.2, c.reading.invariant.grown);
       files = c.take_line.ensures.files ∙ c.reading.invariant.files;
       later = omega (arith, c.take_line.ensures.later, c.reading.invariant.later);
-      grammar = c.close_block.ensures.grammar ∙ c.reading.invariant.grammar;
+      points = c.close_block.ensures.points ∙ c.reading.invariant.points;
       fits = fits_at c.in-Ok-Ended.is_over c.close_block.new.kept c.close_block.new.block shape;
       goes = λ h stands.
           told_on c.args.ignores (effect_of c.args.ignores h) c.args.lines.now c.reading.lines c.take_line.new.lines _ _ _ c.reading.kept c.reading.block (Ok (Goes c.close_block.new.kept c.close_block.new.block)) (c.reading.invariant.goes h stands)
@@ -104,3 +104,8 @@ returns-in-Err-clause-gives g c h stands =
     (told_on c.args.ignores (effect_of c.args.ignores h) c.args.lines.now c.reading.lines c.take_line.new.lines _ _ _ c.reading.kept c.reading.block (Err c.in-Err.stop) (c.reading.invariant.goes h stands)
     (λ now holds. subst (λ (t : Result Step Stop). IfSome (left_of c.reading.lines (g.I.Inputs.rest c.reading.inputs)) (λ ys. StepGives c.args.ignores c.reading.kept c.take_line.new.block (block_resumed c.args.ignores now c.reading.block) c.reading.lines ys t c.take_line.new.lines (left_of c.take_line.new.lines (g.I.Inputs.rest c.take_line.new.inputs)))) is
     (c.take_line.ensures.gives c.args.ignores now holds)))
+
+pub returns-in-Ok-Ends-clause-fits : goal.returns-in-Ok-Ends-clause-fits
+returns-in-Ok-Ends-clause-fits g c =
+    let turns : c.close_block.result ≡ Ok (after.Ends c.in-Ok-Ends.end) = search rules in
+    subst (λ (t : Result After Stop). AfterFits c.close_block.new.kept.points t) turns c.close_block.ensures.fits

@@ -3,8 +3,8 @@ use Rattle.dk_lines.specs.declared.lines.LineFault.{LineFault}
 use Rattle.dk_base.specs.Reading.{Line}
 use Rattle.dk_lines.specs.Reading.{left_of}
 use Rattle.dk_lines.specs.Answers.{heard, IsNextLine}
-use Rattle.dk_core.proofs.Stepping.{step_line, step_end, step_fault, step_counts, end_counts, line_step_shape, never_read_step}
-use Rattle.dk_core.proofs.session.take_line.Goals as goal
+use Rattle.dk_blocks.proofs.Stepping.{step_line, step_end, step_fault, step_counts, end_counts, line_step_shape, never_read_step}
+use Rattle.dk_blocks.proofs.reader.take_line.Goals as goal
 
 pub returns-in-Ok-Some-clause-gives : goal.returns-in-Ok-Some-clause-gives
 returns-in-Ok-Some-clause-gives g c ignores h stands =

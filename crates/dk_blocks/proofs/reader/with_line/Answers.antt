@@ -1,10 +1,10 @@
 use Rattle.std.proofs.Common.{◌≡◌, ◌∙◌, sym, ap, subst, true, false, ℕ, List, Ok, Err}
 use Rattle.dk_base.specs.Pieces.{is_empty}
 use Rattle.dk_base.specs.Words.{trimmed}
-use Rattle.dk_core.specs.Standing.{block_resumed}
-use Rattle.dk_core.specs.Steps.{WordsGive, line_turn}
-use Rattle.dk_core.proofs.Stepping.{blank_step, words_step, words_fault, empty_len}
-use Rattle.dk_core.proofs.session.with_line.Goals as goal
+use Rattle.dk_blocks.specs.Standing.{block_resumed}
+use Rattle.dk_blocks.specs.Steps.{WordsGive, line_turn}
+use Rattle.dk_blocks.proofs.Stepping.{blank_step, words_step, words_fault, empty_len}
+use Rattle.dk_blocks.proofs.reader.with_line.Goals as goal
 
 pub returns-then-is_empty-clause-gives : goal.returns-then-is_empty-clause-gives
 returns-then-is_empty-clause-gives c ignores h stands =

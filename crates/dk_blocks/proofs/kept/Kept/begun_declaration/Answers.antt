@@ -2,10 +2,10 @@ use Rattle.std.proofs.Common.{◌∙◌, ap, sym, Bool, Result, Some}
 use Rattle.dk_base.specs.Reading.{Line, LineFault, ◌>>=◌}
 use Rattle.dk_decl.specs.Blocks.{block_decl}
 use Rattle.dk_decl.specs.declared.decls.PointDecl.{PointDecl}
-use Rattle.dk_core.proofs.Constants.{declared_fit}
-use Rattle.dk_core.specs.History.{History, where_it_ends, with_declaration}
-use Rattle.dk_core.specs.Standing.{Fits, block_resumed}
-use Rattle.dk_core.proofs.kept.Kept.begun_declaration.Goals as goal
+use Rattle.dk_blocks.proofs.Constants.{declared_fit}
+use Rattle.dk_blocks.specs.History.{History, where_it_ends, with_declaration}
+use Rattle.dk_blocks.specs.Standing.{Fits, block_resumed}
+use Rattle.dk_blocks.proofs.kept.Kept.begun_declaration.Goals as goal
 
 pub returns-in-Ok-clause-goes_on : goal.returns-in-Ok-clause-goes_on
 unfolding block_resumed

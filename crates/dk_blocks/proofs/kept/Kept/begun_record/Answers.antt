@@ -1,17 +1,17 @@
 use Rattle.std.proofs.Common.{◌≡◌, ◌∙◌, ap, sym, subst, List, Result}
 use Rattle.dk_trace.specs.RecordsResumed.{IsOf}
-use Rattle.dk_core.proofs.Recording.{reads_first}
-use Rattle.dk_core.specs.Fitting.{ReadsFitting}
-use Rattle.dk_core.specs.Keeping.{Keeping}
+use Rattle.dk_blocks.proofs.Recording.{reads_first}
+use Rattle.dk_blocks.specs.Fitting.{ReadsFitting}
+use Rattle.dk_blocks.specs.Keeping.{Keeping}
 use Rattle.dk_base.specs.Reading.{Line, LineFault, ◌>>=◌}
 use Rattle.dk_decl.specs.Outcomes.{FaultAgreesOnward as DeclToldOn}
 use Rattle.dk_points.specs.Table.{Point}
 use Rattle.dk_trace.specs.Records.{Sample, sample_of}
 use Rattle.dk_trace.specs.RecordsResumed.{record_resumed}
-use Rattle.dk_core.specs.History.{History, where_it_ends, with_record}
-use Rattle.dk_core.specs.Standing.{Fits, Stands, block_resumed}
-use Rattle.dk_core.proofs.Fronting.{told_then}
-use Rattle.dk_core.proofs.kept.Kept.begun_record.Goals as goal
+use Rattle.dk_blocks.specs.History.{History, where_it_ends, with_record}
+use Rattle.dk_blocks.specs.Standing.{Fits, Stands, block_resumed}
+use Rattle.dk_blocks.proofs.Fronting.{told_then}
+use Rattle.dk_blocks.proofs.kept.Kept.begun_record.Goals as goal
 
 pub returns-in-Ok-clause-goes_on : goal.returns-in-Ok-clause-goes_on
 unfolding block_resumed Stands

@@ -4,14 +4,14 @@ use Rattle.dk_decl.specs.Outcomes.{FaultAgrees}
 use Rattle.dk_points.specs.Table.{Point}
 use Rattle.dk_trace.specs.Records.{Sample}
 use Rattle.dk_trace.specs.RecordsResumed.{IsOf, record_resumed, shown}
-use Rattle.dk_core.specs.Fitting.{ReadsFitting}
-use Rattle.dk_core.specs.Keeping.{Keeping}
-use Rattle.dk_core.specs.History.{History, Taken, with_record}
-use Rattle.dk_core.specs.Standing.{Closes, Fits, Stands, StateFits, block_resumed, left_with_answer, resumed_by}
-use Rattle.dk_core.specs.declared.block.State.{State}
-use Rattle.dk_core.proofs.Fronting.{told_at, told_closes}
-use Rattle.dk_core.proofs.Keeping.{with_header}
-use Rattle.dk_core.proofs.kept.Kept.close.Goals as goal
+use Rattle.dk_blocks.specs.Fitting.{ReadsFitting}
+use Rattle.dk_blocks.specs.Keeping.{Keeping}
+use Rattle.dk_blocks.specs.History.{History, Taken, with_record}
+use Rattle.dk_blocks.specs.Standing.{Closes, Fits, Stands, StateFits, block_resumed, left_with_answer, resumed_by}
+use Rattle.dk_blocks.specs.declared.block.State.{State}
+use Rattle.dk_blocks.proofs.Fronting.{told_at, told_closes}
+use Rattle.dk_blocks.proofs.Keeping.{with_header}
+use Rattle.dk_blocks.proofs.kept.Kept.close.Goals as goal
 
 pub end-requires : goal.end-requires
 unfolding Fits
@@ -37,23 +37,23 @@ unfolding block_resumed
 returns-in-Front-clause-closes c h stands =
     let now : History = record h { header = c.args.block.now.header } in
     let points : c.self.inside.points ≡ c.args.self.now.points = ap (λ (k : Keeping). k.points) c.self.view_is in
-    let held = with_header c.args.self.now _ h c.args.block.now.header stands points refl (ap (λ (k : Keeping). k.calls) c.self.view_is) (ap (λ (k : Keeping). k.engines) c.self.view_is) (ap (λ (k : Keeping). k.grammar) c.self.view_is) in
-    rw c.in-Front.is (c.without_record.ensures now held c.args.number)
+    let held = with_header c.args.self.now _ h c.args.block.now.header stands points refl (ap (λ (k : Keeping). k.calls) c.self.view_is) in
+    rw c.in-Front.is (c.without_record.ensures.closes now held c.args.number)
 
 pub returns-in-Declaration-clause-closes : goal.returns-in-Declaration-clause-closes
 unfolding block_resumed
 returns-in-Declaration-clause-closes c h stands =
     let now : History = record h { header = c.args.block.now.header } in
     let points : c.self.inside.points ≡ c.args.self.now.points = ap (λ (k : Keeping). k.points) c.self.view_is in
-    let held = with_header c.args.self.now _ h c.args.block.now.header stands points refl (ap (λ (k : Keeping). k.calls) c.self.view_is) (ap (λ (k : Keeping). k.engines) c.self.view_is) (ap (λ (k : Keeping). k.grammar) c.self.view_is) in
-    c.declaration_end.ensures.closes c.args.ignores now held
+    let held = with_header c.args.self.now _ h c.args.block.now.header stands points refl (ap (λ (k : Keeping). k.calls) c.self.view_is) in
+    c.declaration_end.ensures.closes c.args.ignores now held c.args.number
 
 pub returns-in-Implementors-clause-closes : goal.returns-in-Implementors-clause-closes
 unfolding block_resumed
 returns-in-Implementors-clause-closes c h stands =
     let now : History = record h { header = c.args.block.now.header } in
     let points : c.self.inside.points ≡ c.args.self.now.points = ap (λ (k : Keeping). k.points) c.self.view_is in
-    let held = with_header c.args.self.now _ h c.args.block.now.header stands points refl (ap (λ (k : Keeping). k.calls) c.self.view_is) (ap (λ (k : Keeping). k.engines) c.self.view_is) (ap (λ (k : Keeping). k.grammar) c.self.view_is) in
+    let held = with_header c.args.self.now _ h c.args.block.now.header stands points refl (ap (λ (k : Keeping). k.calls) c.self.view_is) in
     (now, held, ap (λ (s : State). resumed_by c.args.ignores now s [] (Some c.args.number)) c.in-Implementors.is)
 
 pub returns-in-Ok-clause-closes : goal.returns-in-Ok-clause-closes
@@ -61,7 +61,7 @@ unfolding block_resumed Stands
 returns-in-Ok-clause-closes c h stands =
     let now : History = record h { header = c.args.block.now.header } in
     let points : c.self.inside.points ≡ c.args.self.now.points = ap (λ (k : Keeping). k.points) c.self.view_is in
-    let held = with_header c.args.self.now _ h c.args.block.now.header stands points refl (ap (λ (k : Keeping). k.calls) c.self.view_is) (ap (λ (k : Keeping). k.engines) c.self.view_is) (ap (λ (k : Keeping). k.grammar) c.self.view_is) in
+    let held = with_header c.args.self.now _ h c.args.block.now.header stands points refl (ap (λ (k : Keeping). k.calls) c.self.view_is) in
     subst (λ (r : Result Taken LineFault). Closes (left_with_answer c.with_record.new.self c.with_record.result) r)
     (sym (ap (λ (s : State). resumed_by c.args.ignores now s [] (Some c.args.number)) c.in-Record.is
     ∙ ap (λ (r : Result Sample LineFault). r >>= λ s. with_record c.args.ignores now s)

@@ -2,12 +2,12 @@ use Rattle.std.proofs.Common.{◌≡◌, ◌∙◌, ap, ◌∷◌, rules, subst,
 use Rattle.dk_base.specs.Reading.{Line, LineFault, ◌>>=◌}
 use Rattle.dk_decl.specs.Blocks.{decl_resumed}
 use Rattle.dk_decl.specs.declared.decls.PointDecl.{PointDecl}
-use Rattle.dk_core.specs.History.{History, where_it_ends, with_declaration}
-use Rattle.dk_core.specs.Standing.{Fits, StateFits, block_resumed, resumed_by}
-use Rattle.dk_core.specs.declared.block.State.{State}
-use Rattle.dk_core.specs.declared.block.State.TheVariants as state
-use Rattle.dk_core.proofs.Fronting.{goes_as, told_then}
-use Rattle.dk_core.proofs.kept.Kept.declaration_line.Goals as goal
+use Rattle.dk_blocks.specs.History.{History, where_it_ends, with_declaration}
+use Rattle.dk_blocks.specs.Standing.{Fits, StateFits, block_resumed, resumed_by}
+use Rattle.dk_blocks.specs.declared.block.State.{State}
+use Rattle.dk_blocks.specs.declared.block.State.TheVariants as state
+use Rattle.dk_blocks.proofs.Fronting.{goes_as, told_then}
+use Rattle.dk_blocks.proofs.kept.Kept.declaration_line.Goals as goal
 
 pub returns-in-Ok-clause-goes_on : goal.returns-in-Ok-clause-goes_on
 unfolding block_resumed

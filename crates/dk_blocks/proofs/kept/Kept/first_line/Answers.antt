@@ -1,9 +1,9 @@
 use Rattle.std.proofs.Common.{◌≡◌, ◌∙◌, sym, true, false}
 use Rattle.dk_base.specs.Reading.{Line}
-use Rattle.dk_core.specs.History.{History, is_declaration, is_list_of_implementors}
-use Rattle.dk_core.specs.Standing.{Fits, block_resumed, left_behind}
-use Rattle.dk_core.proofs.Fronting.{declares, lists, samples, goes_as}
-use Rattle.dk_core.proofs.kept.Kept.first_line.Goals as goal
+use Rattle.dk_blocks.specs.History.{History, is_declaration, is_list_of_implementors}
+use Rattle.dk_blocks.specs.Standing.{Fits, block_resumed, left_behind}
+use Rattle.dk_blocks.proofs.Fronting.{declares, lists, samples, goes_as}
+use Rattle.dk_blocks.proofs.kept.Kept.first_line.Goals as goal
 
 pub returns-then-is_declaration-clause-goes_on : goal.returns-then-is_declaration-clause-goes_on
 returns-then-is_declaration-clause-goes_on c ignores h stands =

@@ -3,10 +3,10 @@ use Rattle.dk_base.specs.Reading.{Line}
 use Rattle.dk_base.specs.declared.why.Why.{Why}
 use Rattle.dk_decl.specs.Headers.{HeaderAnswers, header_line}
 use Rattle.dk_decl.specs.declared.header.Header.{Header}
-use Rattle.dk_core.specs.History.{History}
-use Rattle.dk_core.specs.Standing.{Fits, block_resumed, left_behind}
-use Rattle.dk_core.proofs.Fronting.{past_comment, past_header, bad_header, at_record, goes_as, samples}
-use Rattle.dk_core.proofs.kept.Kept.front_line.Goals as goal
+use Rattle.dk_blocks.specs.History.{History}
+use Rattle.dk_blocks.specs.Standing.{Fits, block_resumed, left_behind}
+use Rattle.dk_blocks.proofs.Fronting.{past_comment, past_header, bad_header, at_record, goes_as, samples}
+use Rattle.dk_blocks.proofs.kept.Kept.front_line.Goals as goal
 
 pub returns-then-is_comment-clause-goes_on : goal.returns-then-is_comment-clause-goes_on
 unfolding block_resumed

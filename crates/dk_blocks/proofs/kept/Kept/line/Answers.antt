@@ -2,15 +2,15 @@ use Rattle.std.proofs.Common.{◌≡◌, ◌∙◌, ◌∷◌, ap, subst, sym, L
 use Rattle.std.specs.Prelude.{OnOk}
 use Rattle.dk_points.specs.Table.{Point}
 use Rattle.dk_trace.specs.RecordsResumed.{IsOf}
-use Rattle.dk_core.proofs.Recording.{reads_on}
-use Rattle.dk_core.specs.Fitting.{ReadsFitting}
-use Rattle.dk_core.specs.Keeping.{Keeping}
+use Rattle.dk_blocks.proofs.Recording.{reads_on}
+use Rattle.dk_blocks.specs.Fitting.{ReadsFitting}
+use Rattle.dk_blocks.specs.Keeping.{Keeping}
 use Rattle.dk_base.specs.Reading.{Line}
-use Rattle.dk_core.specs.History.{History}
-use Rattle.dk_core.specs.Standing.{Fits, Stands, StateFits, block_resumed, left_behind, resumed_by}
-use Rattle.dk_core.specs.declared.block.State.{State}
-use Rattle.dk_core.proofs.Fronting.{goes_as, record_goes}
-use Rattle.dk_core.proofs.kept.Kept.line.Goals as goal
+use Rattle.dk_blocks.specs.History.{History}
+use Rattle.dk_blocks.specs.Standing.{Fits, Stands, StateFits, block_resumed, left_behind, resumed_by}
+use Rattle.dk_blocks.specs.declared.block.State.{State}
+use Rattle.dk_blocks.proofs.Fronting.{goes_as, record_goes}
+use Rattle.dk_blocks.proofs.kept.Kept.line.Goals as goal
 
 pub line-requires : goal.line-requires
 unfolding Fits
