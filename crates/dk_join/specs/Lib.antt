@@ -1,0 +1,5 @@
+-- cited by public clauses
+pub mod Joined
+pub mod Laws
+-- what those are made of, and words for the crates above
+pub mod Joining
