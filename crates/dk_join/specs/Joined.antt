@@ -1,11 +1,13 @@
 -- The parts that are kept of two lists of samples together, from what is kept of each.
-use Rattle.std.specs.Prelude.{◌≡◌, ◌↔◌, ◌<◌, ◌+◌, ℕ, Contains, List, Some, filter, if◌then◌else◌, length, sum_by}
+use Rattle.std.specs.Prelude.{◌≡◌, ◌<◌, ◌+◌, ℕ, List, Option, None, Some, filter, filter_map, if◌then◌else◌, length, sum_by}
+use Rattle.std.specs.Option.{option_map}
+use Rattle.dk_base.specs.SameValues.{same_value}
 use Rattle.dk_base.specs.declared.kinds.VarId.{VarId}
 use Rattle.dk_base.specs.declared.kinds.VarInfo.{VarInfo}
 use Rattle.dk_base.specs.declared.values.Value.{Value}
 use Rattle.dk_classes.specs.Classes.{IsFirst}
 use Rattle.dk_classes.specs.Leaders.{leader_at, own_leaders}
-use Rattle.dk_constants.specs.Known.{Entries, EntriesAscend, known_at}
+use Rattle.dk_constants.specs.Known.{Entries, known_at}
 use Rattle.dk_presence.specs.Patterns.{AreHeld, capped, has, pattern_count, same_vars}
 use Rattle.dk_presence.specs.declared.held.Held.{Held}
 use Rattle.dk_template.specs.declared.grammar.Grammar.{Grammar}
@@ -43,11 +45,19 @@ pub record AreJoinedPatterns (first second : Kept) (leaders : List VarId) (held 
   pub counted : (pattern : List VarId) → pattern_count held pattern ≡ capped (times_present first.leaders leaders first.held pattern + times_present second.leaders leaders second.held pattern)
 
 -- ---- constants
--- a leader is constant where the leaders of its classes are constant in both, with one value
-pub record AreJoinedConstants (first second : Kept) (leaders : List VarId) (known : Entries) : Type 0 where
-  pub ascend : EntriesAscend known
-  pub each : (v : VarId) (x : Value) → (known_at known v ≡ Some x)
-      ↔ (Contains leaders v × (known_at first.known (leader_of first.leaders v) ≡ Some x) × (known_at second.known (leader_of second.leaders v) ≡ Some x))
+-- the value that is known in both, if it is one
+abbrev pub common_value : Option Value → Option Value → Option Value
+common_value (Some x) (Some y) = if same_value x y then Some x else None
+common_value (Some x) None = None
+common_value None other = None
+
+-- what is known of a leader: the value that the leaders of its classes have in both
+abbrev pub known_in_both : Kept → Kept → VarId → Option Value
+known_in_both first second v = common_value (known_at first.known (leader_of first.leaders v)) (known_at second.known (leader_of second.leaders v))
+
+-- the constant leaders, each with its value
+abbrev pub joined_known : Kept → Kept → List VarId → Entries
+joined_known first second leaders = filter_map (λ v. option_map (λ x. (v, x)) (known_in_both first second v)) leaders
 
 -- ---- all parts
 -- The slots are those of the new leaders with the joins of both states: in written order, not all constant, not Broken, and not
@@ -55,7 +65,7 @@ pub record AreJoinedConstants (first second : Kept) (leaders : List VarId) (know
 pub record IsJoinOf (grammar : Grammar) (infos : List VarInfo) (first second kept : Kept) : Type 0 where
   pub number : kept.samples ≡ capped (first.samples + second.samples)
   pub leaders : AreJoinedLeaders first.leaders second.leaders kept.leaders
-  pub known : AreJoinedConstants first second (own_leaders kept.leaders) kept.known
+  pub known : kept.known ≡ joined_known first second (own_leaders kept.leaders)
   pub held : AreJoinedPatterns first second (own_leaders kept.leaders) kept.held
   pub slots : kept.slots ≡ slots_of grammar infos (own_leaders kept.leaders) kept.known (read_joined first second)
 

@@ -24,6 +24,10 @@ pub record IsOfOnePoint (pair : Pair) : Type 0 where
 unfoldable pub read_joined : Kept → Kept → RowId → List VarId → State
 read_joined first second row vars = joined (form_of row) (read first row vars) (read second row vars)
 
+-- what two engines answer
+abbrev pub answer_of : Pair → RowId → List VarId → State
+answer_of pair = read_joined pair.first.kept pair.second.kept
+
 -- in how many samples of both none of the variables is missing
 abbrev pub count_joined : Kept → Kept → List VarId → ℕ
 count_joined first second vars = capped (count_read first vars + count_read second vars)
