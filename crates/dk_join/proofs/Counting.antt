@@ -1,5 +1,5 @@
 -- The patterns of both lists, over the joined leaders.
-use Rattle.std.specs.Prelude.{◌≡◌, ◌<◌, ◌+◌, ◌&&◌, ◌^◌, ℕ, true, All, Contains, List, [], ◌∷◌, ◌++◌, count_by, filter, if◌then◌else◌, length, refl}
+use Rattle.std.specs.Prelude.{◌≡◌, ◌<◌, ◌+◌, ◌&&◌, ◌^◌, ℕ, suc, true, All, Contains, List, [], ◌∷◌, ◌++◌, count_by, filter, if◌then◌else◌, length, refl}
 use Rattle.std.proofs.Common.{ap, ◌∙◌, arith, cond, get_or, sym}
 use Rattle.std.proofs.lemmas.List.{map-append}
 use Rattle.std.proofs.lemmas.List.Elements.{Contains-get_or}
@@ -41,7 +41,7 @@ module _ (own led : List VarId) (old : List VarId) (leads : All (λ v. Contains 
       let right = sum_by-cons {X = List VarId} (λ q. cond {A = ℕ} (same_vars p q) 1 0) (present_in led s) (patterns_of led samples) in
       let now = present_now s (λ k d l. agree k d l 0 s (omega arith)) in
       let here = ap {B = ℕ} (λ b. cond b 1 0) (ap (λ x. same_vars x p) (sym now) ∙ same_vars-sym (present_in led s) p) in
-      let rest = counted_now p samples (λ k d l i e m. agree k d l (i + 1) e (omega (arith, m))) in
+      let rest = counted_now p samples (λ k d l i e m. agree k d l (suc i) e (omega (arith, m))) in
       omega (arith, left, right, here, rest)
 
   times_now : (samples : List (List Value)) → All (λ v. Agree samples (leader_of old v) v) led → (held : List Held) → ArePatterns own samples held → (p : List VarId)

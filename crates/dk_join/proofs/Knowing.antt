@@ -88,14 +88,14 @@ module _ (first second : Kept) where
       ])
 
   behind_joined : (n : ℕ) (leaders : List VarId) → All (λ (w : VarId). n < w.0) leaders → Behind n (joined_known first second leaders)
-  behind_joined n [] all j l = absurd (omega (arith, l))
+  behind_joined n [] all = λ j l. absurd (omega (arith, l))
   behind_joined n (w ∷ ws) all = elim (known_in_both first second w) as (λ o. Behind n (cons_option (entry w o) (joined_known first second ws))) [
     | None ↦ behind_joined n ws (All-tail (λ (u : VarId). n < u.0) w ws all)
     | Some x ↦ behind_cons n (w, x) (joined_known first second ws) (All-head (λ (u : VarId). n < u.0) w ws all) (behind_joined n ws (All-tail (λ (u : VarId). n < u.0) w ws all))
   ]
 
   pub known_ascend : (leaders : List VarId) → VarsAscend leaders → EntriesAscend (joined_known first second leaders)
-  known_ascend [] up i j l m = absurd (omega (arith, m))
+  known_ascend [] up = λ i j l m. absurd (omega (arith, m))
   known_ascend (w ∷ ws) up = elim (known_in_both first second w) as (λ o. EntriesAscend (cons_option (entry w o) (joined_known first second ws))) [
     | None ↦ known_ascend ws (ascend_rest w ws up)
     | Some x ↦ up_cons (w, x) (joined_known first second ws) (behind_joined w.0 ws (λ k d l. up 0 (suc k) d (omega arith) (omega (arith, l)))) (known_ascend ws (ascend_rest w ws up))

@@ -1,11 +1,11 @@
 -- Patterns that are counted together.
-use Rattle.std.proofs.Common.{◌≡◌, ℕ, zero, suc, ◌+◌, ◌<◌, ◌≤◌, ◌^◌, eqb, inl, inr, List, [], ◌∷◌, ◌++◌, length, get_or, set, map, position, Some, None, Bool, true, false, cond, ◌||◌, refl, ap, sym, ◌∙◌, subst, arith}
+use Rattle.std.proofs.Common.{◌≡◌, ℕ, zero, suc, ◌+◌, ◌<◌, ◌≤◌, ◌^◌, eqb, inl, inr, List, [], ◌∷◌, ◌++◌, length, get_or, set, map, take, position, Some, None, Bool, true, false, cond, ◌||◌, refl, ap, sym, ◌∙◌, subst, arith}
 use Rattle.std.specs.Prelude.{nat_lt}
 use Rattle.std.specs.List.{All, IsDistinct, list_any, position_or_len}
 use Rattle.std.proofs.lemmas.Bool.{cases_Bool, true≢false}
 use Rattle.std.proofs.lemmas.Bool.Decides.{nat_tests}
 use Rattle.std.proofs.lemmas.List.{get_or-map, length-map}
-use Rattle.std.proofs.lemmas.List.Sums.{fails_before_first}
+use Rattle.std.proofs.lemmas.List.Sums.{fails_before_first, sum_by_more}
 use Rattle.std.proofs.lemmas.List.Elements.{All-cons, All-head, All-nil, All-tail}
 use Rattle.std.proofs.lemmas.List.Quantifiers.{position-Some}
 use Rattle.dk_base.specs.declared.kinds.VarId.{VarId}
@@ -15,11 +15,15 @@ use Rattle.dk_presence.specs.Patterns.{AreHeld, capped, held_patterns, pattern_c
 use Rattle.dk_presence.specs.Steps.{counted_once_more, with_sample_of}
 use Rattle.dk_presence.proofs.Placing.{added_found, held_added}
 use Rattle.dk_presence.proofs.Sameness.{same_vars-at, same_vars-sym, same_vars-true}
+use Rattle.dk_join.specs.Joined.{present_with, times_present}
 use Rattle.dk_join.specs.Tallies.{counted_more, with_samples_of}
+
+abbrev held_with : List VarId → ℕ → Held
+held_with present n = record { count = n; leaders = present }
 
 -- a pattern with its count, at most 2^64 - 1
 abbrev first_of : ℕ → List VarId → Held
-first_of count present = record { count = capped count; leaders = present }
+first_of count present = held_with present (capped count)
 
 module _ (count : ℕ) (present : List VarId) where
   -- ---- which patterns there are
@@ -112,5 +116,23 @@ module _ (count : ℕ) (present : List VarId) where
       tallied_last held (any_not (λ p. same_vars p present) (held_patterns held)
       (λ k l. same_vars-sym (get_or (held_patterns held) k []) present ∙ fails_before_first (same_vars present) (held_patterns held) k [] (omega (arith, l, long))))
 
-pub first_is : (count : ℕ) (present : List VarId) → count < 2 ^ 64 → first_of count present ≡ record { count = count; leaders = present }
-first_is count present l = ap (λ (n : ℕ). record { count = n; leaders = present }) (omega (arith, l))
+pub first_is : (count : ℕ) (present : List VarId) → count < 2 ^ 64 → first_of count present ≡ held_with present count
+first_is count present l = ap (held_with present) (omega (arith, l))
+
+-- ---- one pattern more
+pub times_more : (old leaders : List VarId) (held : List Held) (i : ℕ) (d : Held) → i < length held → (p : List VarId) (n : ℕ) (present : List VarId) (count : ℕ)
+    → present ≡ present_with old leaders (get_or held i d).leaders → count ≡ (get_or held i d).count → (tally : List Held) → pattern_count tally p ≡ capped (n + times_present old leaders (take i held) p)
+    → pattern_count (with_samples_of count present tally) p ≡ capped (n + times_present old leaders (take (i + 1) held) p)
+times_more old leaders held i d l p n present count same counts tally h =
+    let F : Held → ℕ = λ k. cond (same_vars (present_with old leaders k.leaders) p) k.count 0 in
+    let so_far = times_present old leaders (take i held) p in
+    let more = sum_by_more F held i d l in
+    let told : so_far + cond (same_vars present p) count 0 ≡ so_far + F (get_or held i d) =
+    ap (λ ps. so_far + cond (same_vars ps p) count 0) same ∙ ap (λ m. so_far + cond (same_vars (present_with old leaders (get_or held i d).leaders) p) m 0) counts in
+    count_tallied count present tally p
+    ∙ (ap (λ m. cond (same_vars present p) (capped (m + count)) m) h
+    ∙ (step so_far (same_vars present p) ∙ ap (λ m. capped (n + m)) (told ∙ sym more)))
+  where
+    step : (t : ℕ) (b : Bool) → cond b (capped (capped (n + t) + count)) (capped (n + t)) ≡ capped (n + (t + cond b count 0))
+    step t true = omega arith
+    step t false = ap capped (omega arith)
