@@ -1,7 +1,7 @@
 -- Joined leaders are those of both lists.
-use Rattle.std.specs.Prelude.{◌≡◌, ◌<◌, ◌^◌, ◌++◌, Contains, List, length}
-use Rattle.std.proofs.Common.{ap, ◌∙◌, arith, sym}
-use Rattle.std.proofs.lemmas.List.Elements.{All-append}
+use Rattle.std.specs.Prelude.{◌≡◌, ◌<◌, ◌^◌, ◌++◌, All, Contains, List, length}
+use Rattle.std.proofs.Common.{ap, ◌∙◌, arith, get_or, sym}
+use Rattle.std.proofs.lemmas.List.Elements.{All-append, Contains-get_or}
 use Rattle.dk_base.specs.declared.kinds.Kind.{Kind}
 use Rattle.dk_base.specs.declared.kinds.VarId.{VarId}
 use Rattle.dk_base.specs.declared.values.Value.{Value}
@@ -61,3 +61,12 @@ within_first first second leaders joined v has =
     let within = (leads_from_own leaders v has).0 in
     let long = joined.long in
     omega (arith, within, long)
+
+pub all_within_first : (first second leaders : List VarId) → AreJoinedLeaders first second leaders → All (λ (v : VarId). v.0 < length first) (own_leaders leaders)
+all_within_first first second leaders joined k d l =
+    within_first first second leaders joined (get_or (own_leaders leaders) k d) (Contains-get_or (own_leaders leaders) k d l)
+
+pub all_within_second : (first second leaders : List VarId) → length second ≡ length first → AreJoinedLeaders first second leaders → All (λ (v : VarId). v.0 < length second) (own_leaders leaders)
+all_within_second first second leaders same joined k d l =
+    let within = within_first first second leaders joined (get_or (own_leaders leaders) k d) (Contains-get_or (own_leaders leaders) k d l) in
+    omega (arith, within, same)

@@ -12,7 +12,7 @@ use std::alloc::Global;
 
 // The value that is known in both, if it is one.
 fn common_value<'a>(first: Option<&'a Value>, second: Option<&'a Value>) -> Option<&'a Value>
-    ensures { option_copied result ≡ common_value (option_copied first) (option_copied second) }
+    ensures { option_copied result ≡ common_value (option_copied first.entry) (option_copied second.entry) }
 {
     match first {
         Some(x) => match second {

@@ -1,7 +1,7 @@
 // The join of two engines.
 ghost use Rattle.std.specs.Prelude.{◌≡◌, ◌≢◌, ◌<◌, ◌≤◌, ◌+◌, ◌^◌, ◌++◌, Err, IfOk, List, length};
 ghost use Rattle.dk_base.specs.declared.values.Value.{Value};
-ghost use Rattle.dk_engine.specs.Exact.{IsKeptOf};
+ghost use Rattle.dk_engine.specs.Exact.{AreOfPoint, IsKeptOf};
 ghost use Rattle.dk_engine.specs.Saved.{AreSavedParts, parts_of};
 ghost use Rattle.dk_engine.specs.declared.parts.Parts.{Parts as AllParts};
 ghost use Rattle.dk_join.specs.Joined.{AreJoinedParts};
@@ -66,13 +66,23 @@ fn copy_vars(alloc: Global, vars: &[VarInfo]) -> Result<List<VarInfo>, NoMemory>
     Ok(copies)
 }
 
+// Equal variables as the engine has.
+fn vars_of(alloc: Global, engine: &Engine) -> Result<List<VarInfo>, NoMemory>
+    ensures vars { IfOk result (λ vars. vars ≡ engine.now.infos) }
+    ensures point { IfOk result AreOfPoint }
+{
+    let _kept = engine.kept();
+    copy_vars(alloc, engine.vars())
+}
+
 // The parts of the join, in the order in which they are saved.
 fn joined_parts(alloc: Global, first: &Engine, second: &Engine) -> Result<Parts, NoMemory>
     requires { IsOfOnePoint (record { first = first.now; second = second.now }) }
     ensures { IfOk result (AreJoinedParts first.now.grammar first.now.infos first.now.kept second.now.kept) }
 {
     let count = first.vars().len();
-    let (one, other) = (first.kept(), second.kept());
+    let one = first.kept();
+    let other = second.kept();
     let classes = joined_leaders(alloc, &one.leaders, &other.leaders, count)?;
     let leaders = classes.leaders();
     let known = Constants::from_known(alloc, joined_known(alloc, one, other, leaders)?)?;
@@ -112,7 +122,7 @@ pub fn join(alloc: Global, first: &Engine, second: &Engine) -> Result<Engine, Jo
     ensures few { (samples others : List (List Value)) → AreKeptOf first.now.grammar first.now.infos samples others first.now.kept second.now.kept → length samples + length others ≤ 2 ^ 40 → result ≢ Err JoinFault.Joined }
 {
     let parts = joined_parts(alloc, first, second)?;
-    let vars = copy_vars(alloc, first.vars())?;
+    let vars = vars_of(alloc, first)?;
     match Engine::from_parts(alloc, vars, parts, first.grammar()) {
         Ok(engine) => Ok(engine),
         Err(PartsFault::Bad) => Err(JoinFault::Joined),
