@@ -1,5 +1,5 @@
 -- A name is looked for in the front of a text, from the shortest on.
-use Rattle.std.specs.Prelude.{◌≡◌, ◌+◌, ◌<◌, ◌≤◌, ◌⊎◌, ℕ, true, false, Contains, List, [], ◌++◌, drop, length, map, take, refl}
+use Rattle.std.specs.Prelude.{◌≡◌, ◌+◌, ◌<◌, ◌≤◌, ◌⊎◌, ℕ, Bool, true, false, Contains, List, [], ◌++◌, drop, if◌then◌else◌, length, map, take, refl}
 use Rattle.std.proofs.Common.{◌∙◌, ap, arith, inl, inr, subst, sym}
 use Rattle.std.proofs.lemmas.Bool.{cases_lt, false≢true}
 use Rattle.std.proofs.lemmas.List.{drop_at, get_or-map, length-append, length-map, take_at}
@@ -74,3 +74,15 @@ module _ (listed : Listed) (role : ℕ) (following : List Part) (found : Found) 
   all_searched new len all so_far name more v e may there =
       let long : length rest ≡ length name + length more = ap length e ∙ length-append name more in
       so_far.finds name more v (omega (arith, long, all)) e may there
+
+  -- one length more
+  pub step_searched : (mid new : List Found) (len : ℕ)
+      → new ≡ (if may_be following (drop len rest) then mid ++ map (λ v. with_var role v (past len found)) (noted_under listed (take len rest)) else mid)
+      → IsSearched listed role following found rest old mid len → IsSearched listed role following found rest old new (len + 1)
+  step_searched mid new len is so_far = by (may_be following (drop len rest)) refl is
+    where
+      by : (b : Bool) → may_be following (drop len rest) ≡ b
+          → new ≡ (if b then mid ++ map (λ v. with_var role v (past len found)) (noted_under listed (take len rest)) else mid)
+          → IsSearched listed role following found rest old new (len + 1)
+      by true e h = more_searched mid new len h so_far
+      by false e h = subst (λ l. IsSearched listed role following found rest old l (len + 1)) (sym h) (same_searched mid len e so_far)

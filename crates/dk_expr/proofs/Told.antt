@@ -121,11 +121,11 @@ above_zero : (a : ℤ) → pos 0 <ℤ a → pos (unsigned_abs a) ≡ a
 above_zero (pos n) lt = refl
 above_zero (negsuc n) lt = absurd (omega (arith, ints))
 
-line_above : (a b : ℤ) → (pos 0 <ℤ a) ⊎ ((a ≡ pos 0) × (pos 0 <ℤ b)) → is_nonzero a ≡ true → pos (unsigned_abs a) ≡ a
+pub line_above : (a b : ℤ) → (pos 0 <ℤ a) ⊎ ((a ≡ pos 0) × (pos 0 <ℤ b)) → is_nonzero a ≡ true → pos (unsigned_abs a) ≡ a
 line_above a b (inl lt) h = above_zero a lt
 line_above a b (inr z) h = absurd (false≢true (sym (ap is_nonzero z.0) ∙ h))
 
-plane_above : (a b c : ℤ) → (pos 0 <ℤ a) ⊎ ((a ≡ pos 0) × ((pos 0 <ℤ b) ⊎ ((b ≡ pos 0) × (pos 0 <ℤ c)))) → is_nonzero a ≡ true → pos (unsigned_abs a) ≡ a
+pub plane_above : (a b c : ℤ) → (pos 0 <ℤ a) ⊎ ((a ≡ pos 0) × ((pos 0 <ℤ b) ⊎ ((b ≡ pos 0) × (pos 0 <ℤ c)))) → is_nonzero a ≡ true → pos (unsigned_abs a) ≡ a
 plane_above a b c (inl lt) h = above_zero a lt
 plane_above a b c (inr z) h = absurd (false≢true (sym (ap is_nonzero z.0) ∙ h))
 

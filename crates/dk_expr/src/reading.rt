@@ -9,7 +9,7 @@ ghost use Rattle.dk_print.specs.Texts.{instance_text};
 ghost use Rattle.dk_template.specs.Fitting.{fits};
 ghost use Rattle.dk_template.specs.Proper.{IsProper};
 ghost use Rattle.dk_template.specs.Templates.{IsRow, arity_of, form_of};
-ghost use Rattle.dk_expr.specs.Finds.{IsFoundBy, IsNoLater, first_vars};
+ghost use Rattle.dk_expr.specs.Finds.{IsFoundBy, IsNoLater, first_vars, is_some_code};
 ghost use Rattle.dk_expr.specs.Held.{is_held};
 ghost use Rattle.dk_expr.specs.Naming.{AreUnderNames};
 ghost use Rattle.dk_expr.specs.Reads.{HasNone, HasText, IsRead, told_state};
@@ -150,16 +150,18 @@ fn lesser(a: Option<Assertion>, b: Option<Assertion>) -> Option<Assertion>
     ensures first { (vars : List VarId) → IsNoLater a vars → IsNoLater result vars }
     ensures second { IfSome b (λ x. IsNoLater result x.vars) }
 {
-    match (a, b) {
-        (None, b) => b,
-        (a, None) => a,
-        (Some(a), Some(b)) => {
-            if precedes(b.vars.as_slice(), a.vars.as_slice()) {
-                Some(b)
-            } else {
-                Some(a)
+    match a {
+        None => b,
+        Some(a) => match b {
+            None => Some(a),
+            Some(b) => {
+                if precedes(b.vars.as_slice(), a.vars.as_slice()) {
+                    Some(b)
+                } else {
+                    Some(a)
+                }
             }
-        }
+        },
     }
 }
 
@@ -202,25 +204,32 @@ fn first_of(
     least_among(alloc, infos, text, row, ends.as_slice())
 }
 
-// The assertion, its state Empty where the text doesn't tell the hash code.
-fn as_told(assertion: Assertion) -> Assertion
-    ensures { result ≡ record assertion { state = told_state assertion.state } }
+// Whether the state is a hash code that isn't null.
+fn is_some_code(state: &State) -> bool
+    ensures { result ≡ is_some_code state.now }
 {
-    match assertion.state {
-        State::Code(code) => {
-            if code == 0 {
-                assertion
-            } else {
-                Assertion {
-                    state: State::Empty,
-                    ..assertion
-                }
-            }
-        }
-        _ => assertion,
+    match state {
+        State::Code(code) => *code != 0,
+        _ => false,
     }
 }
 
+// The assertion, its state Empty where the text doesn't tell the hash code.
+fn as_told(assertion: Assertion) -> Assertion
+    ensures row { result.row ≡ assertion.row }
+    ensures vars { result.vars ≡ assertion.vars }
+    ensures state { result.state ≡ told_state assertion.state }
+{
+    let Assertion { row, vars, state } = assertion;
+    let state = if is_some_code(&state) {
+        State::Empty
+    } else {
+        state
+    };
+    Assertion { row, vars, state }
+}
+
+// What the text is read as, with the variables by their names.
 fn read_by(
     alloc: Global,
     infos: &[VarInfo],

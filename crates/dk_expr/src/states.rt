@@ -1,9 +1,13 @@
 // The state that was found.
-ghost use Rattle.std.specs.Prelude.{◌≡◌, IfOk, IfSome, IsTrue, Some, drop};
+ghost use Rattle.std.specs.Prelude.{◌≡◌, ◌<◌, ◌≤◌, ◌^◌, ℕ, ℤ, Bool, IfOk, IfSome, IsTrue, List, Some, bytes_eq, drop, if◌then◌else◌, length, pos};
+ghost use Rattle.std.specs.List.{list_all};
+ghost use Rattle.dk_base.specs.Numbers.{fits_i64};
 ghost use Rattle.dk_forms.specs.declared.states.State.{State as SomeState};
+ghost use Rattle.dk_print.specs.Parts.{known_text};
 ghost use Rattle.dk_template.specs.Fitting.{fits};
 ghost use Rattle.dk_template.specs.Proper.{IsProper};
 ghost use Rattle.dk_expr.specs.Held.{is_held};
+ghost use Rattle.dk_expr.specs.Readable.{says_null};
 ghost use Rattle.dk_expr.specs.Telling.{Tells, printed_state};
 
 use crate::found::Found;
@@ -20,21 +24,37 @@ fn bytes_from(text: &[u8], place: usize) -> &[u8]
     &text[place.min(text.len())..]
 }
 
+// Whether the bytes are this word.
+fn is_word(bytes: &[u8], word: &[u8]) -> bool
+    ensures { result ≡ bytes_eq bytes.now word.now }
+{
+    bytes == word
+}
+
 // A least value.
-fn least(number: i128) -> Option<State> {
-    Some(State::Least(in_i64(number)?))
+fn least(bound: i128) -> Option<State>
+    ensures read { IsTrue (fits_i64 bound) → result ≡ Some (State.Least bound) }
+    ensures held { IfSome result (λ s. IsTrue (is_held s)) }
+{
+    Some(State::Least(in_i64(bound)?))
 }
 
 // A greatest value.
-fn greatest(number: i128) -> Option<State> {
-    Some(State::Greatest(in_i64(number)?))
+fn greatest(bound: i128) -> Option<State>
+    ensures read { IsTrue (fits_i64 bound) → result ≡ Some (State.Greatest bound) }
+    ensures held { IfSome result (λ s. IsTrue (is_held s)) }
+{
+    Some(State::Greatest(in_i64(bound)?))
 }
 
 // A truth value.
-fn truth(bytes: &[u8]) -> Option<State> {
-    if bytes == b" == true" {
+fn truth(bytes: &[u8]) -> Option<State>
+    ensures read { (b : Bool) → bytes.now ≡ known_text (State.Truth b) → result ≡ Some (State.Truth b) }
+    ensures held { IfSome result (λ s. IsTrue (is_held s)) }
+{
+    if is_word(bytes, b" == true") {
         Some(State::Truth(true))
-    } else if bytes == b" == false" {
+    } else if is_word(bytes, b" == false") {
         Some(State::Truth(false))
     } else {
         None
@@ -42,8 +62,10 @@ fn truth(bytes: &[u8]) -> Option<State> {
 }
 
 // A hash code: null, or any other one.
-fn code(bytes: &[u8]) -> State {
-    if bytes == b" == null" {
+fn code(bytes: &[u8]) -> State
+    ensures { result ≡ State.Code (if says_null bytes.now then 0 else 1) }
+{
+    if is_word(bytes, b" == null") {
         State::Code(0)
     } else {
         State::Code(1)
@@ -51,7 +73,10 @@ fn code(bytes: &[u8]) -> State {
 }
 
 // Whole numbers.
-fn ints(alloc: Global, bytes: &[u8]) -> Result<Option<State>, NoMemory> {
+fn ints(alloc: Global, bytes: &[u8]) -> Result<Option<State>, NoMemory>
+    ensures read { IfOk result (λ state. (ks : List ℤ) → IsTrue (list_all fits_i64 ks) → 1 ≤ length ks → length ks ≤ 3 → bytes.now ≡ known_text (State.Ints ks) → state ≡ Some (State.Ints ks)) }
+    ensures held { IfOk result (λ state. IfSome state (λ s. IsTrue (is_held s))) }
+{
     let texts = values_in(alloc, bytes)?;
     Ok(match ints_of(alloc, texts.as_slice()) {
         Some(few) => Some(State::Ints(few)),
@@ -60,7 +85,10 @@ fn ints(alloc: Global, bytes: &[u8]) -> Result<Option<State>, NoMemory> {
 }
 
 // A modulus with its remainder.
-fn modulus(m: i128, r: i128) -> Option<State> {
+fn modulus(m: i128, r: i128) -> Option<State>
+    ensures read { (n k : ℕ) → n < 2 ^ 64 → k < 2 ^ 64 → m ≡ pos n → r ≡ pos k → result ≡ Some (State.Modulus n k) }
+    ensures held { IfSome result (λ s. IsTrue (is_held s)) }
+{
     Some(State::Modulus {
         m: in_u64(m)?,
         r: in_u64(r)?,

@@ -1,5 +1,5 @@
 // The ways in which a part can be read in the front of what is left of a text.
-ghost use Rattle.std.specs.Prelude.{◌≡◌, ◌∷◌, ◌++◌, ◌<◌, ◌^◌, ℕ, ℤ, Contains, List, OnOk, Some, codes, drop, length, map, pos, true, unsigned_abs};
+ghost use Rattle.std.specs.Prelude.{◌≡◌, ◌∷◌, ◌++◌, ◌+◌, ◌<◌, ◌≤◌, ◌^◌, ℕ, ℤ, Contains, List, OnOk, Some, codes, drop, if◌then◌else◌, length, map, pos, take, true, unsigned_abs};
 ghost use Rattle.std.specs.Fmt.{decimal, signed_decimal};
 ghost use Rattle.dk_base.specs.declared.kinds.VarId.{VarId};
 ghost use Rattle.dk_forms.specs.declared.states.State.{State};
@@ -32,7 +32,7 @@ fn may_be(parts: &[Part], bytes: &[u8]) -> bool
 {
     match parts {
         [] => bytes.is_empty(),
-        [part, ..] => match part {
+        [part, ..] => match *part {
             Part::Word(word) => bytes.starts_with(word),
             _ => begins_blank(bytes),
         },
@@ -54,6 +54,28 @@ fn push_vars(
     Ok(())
 }
 
+// The name of a variable, which is at the role, in so many bytes, with the following parts behind it.
+fn push_named_len(
+    names: &Names,
+    rest: &[u8],
+    len: usize,
+    role: usize,
+    following: &[Part],
+    found: Found,
+    list: &mut List<Found>,
+) -> Result<(), NoMemory>
+    requires within { len ≤ length rest.now }
+    requires fits { found.at + len < 2 ^ 64 }
+    ensures { OnOk result (list.new ≡ (if may_be (map shown following.now) (drop len rest.now) then list.old ++ map (λ v. with_var role v (past len found)) (noted_under names.now (take len rest.now)) else list.old)) }
+{
+    let (name, behind) = rest.split_at(len);
+    if may_be(following, behind) {
+        push_vars(names.under(name), role, found.past(len), list)
+    } else {
+        Ok(())
+    }
+}
+
 // The name of a variable, which is at the role, with the following parts behind it.
 fn push_named(
     names: &Names,
@@ -67,12 +89,10 @@ fn push_named(
     ensures finds { OnOk result ((name more : List ℕ) (v : VarId) → drop found.at text.now ≡ name ++ more → may_be (map shown following.now) more ≡ true → Contains (noted_under names.now name) v → Contains list.new (with_var role v (past (length name) found))) }
 {
     let rest = found.rest(text);
-    for len in 0..rest.len() + 1 {
-        if may_be(following, &rest[len..]) {
-            push_vars(names.under(&rest[..len]), role, found.past(len), list)?;
-        }
+    for len in 0..rest.len() {
+        push_named_len(names, rest, len, role, following, found, list)?;
     }
-    Ok(())
+    push_named_len(names, rest, rest.len(), role, following, found, list)
 }
 
 // A name with a factor of this sign in front of it.

@@ -1,5 +1,5 @@
 // The values in a text.
-ghost use Rattle.std.specs.Prelude.{◌≡◌, ◌∷◌, [], ◌++◌, ◌≤◌, All, IfOk, IfSome, IsTrue, List, OnOk, Some, codes, length, map, true, ℕ, ℤ};
+ghost use Rattle.std.specs.Prelude.{◌≡◌, ◌∷◌, [], ◌++◌, ◌≤◌, All, IfOk, IfSome, IsSomeAnd, IsTrue, List, OnOk, Some, codes, length, map, true, ℕ, ℤ};
 ghost use Rattle.std.specs.Fmt.{signed_decimal};
 ghost use Rattle.std.specs.List.{join_by, list_all};
 ghost use Rattle.dk_base.specs.Numbers.{fits_i64};
@@ -10,6 +10,13 @@ use crate::numbers::{int_in, number_len};
 use dk_base::{List, NoMemory, Text};
 use dk_template::Few;
 use std::alloc::Global;
+
+// What stands behind the word, if the bytes begin with it.
+fn behind_word<'a>(bytes: &'a [u8], word: &[u8]) -> Option<&'a [u8]>
+    ensures { (more : List ℕ) → bytes.now ≡ word.now ++ more → IsSomeAnd result (λ rest. rest.now ≡ more) }
+{
+    bytes.strip_prefix(word)
+}
 
 // How many bytes there are up to the first quote that no backslash takes with it, the quote included.
 fn quoted_len(bytes: &[u8]) -> usize
@@ -51,7 +58,7 @@ fn push_values(
     }
     let (value, behind) = bytes.split_at(value_len(bytes));
     values.push(Text::from_slice(alloc, value)?)?;
-    match behind.strip_prefix(b", ") {
+    match behind_word(behind, b", ") {
         Some(rest) => push_values(alloc, rest, most - 1, values),
         None => Ok(()),
     }
@@ -70,11 +77,11 @@ fn list_of_one(alloc: Global, text: &[u8]) -> Result<List<Text>, NoMemory>
 pub(crate) fn values_in(alloc: Global, bytes: &[u8]) -> Result<List<Text>, NoMemory>
     ensures { IfOk result (λ values. (texts : List (List ℕ)) → All IsValueText texts → 1 ≤ length texts → length texts ≤ 3 → bytes.now ≡ values_text (λ t. t) texts → values ≡ texts) }
 {
-    if let Some(value) = bytes.strip_prefix(b" == ") {
+    if let Some(value) = behind_word(bytes, b" == ") {
         return list_of_one(alloc, value);
     }
     let mut values = List::new(alloc);
-    if let Some(rest) = bytes.strip_prefix(b" one of { ") {
+    if let Some(rest) = behind_word(bytes, b" one of { ") {
         push_values(alloc, rest, 3, &mut values)?;
     }
     Ok(values)
