@@ -28,17 +28,11 @@ module _ (text : List ℕ) (names : List (List ℕ)) (vars : List VarId) (s : St
 
   -- behind a part stands what the following ones say
   pub behind : (p : Part) (ps : List Part) (f : Found) → drop f.at text ≡ text_by (p ∷ ps) names s → drop (followed names vars s p f).at text ≡ text_by ps names s
-  behind p ps f is = of (marked vars s p f) (at_kept p f)
-    where
-      len : ℕ
-      len = length (part_text names s p)
-
-      of : (g : Found) → g.at ≡ f.at → drop (g.at + len) text ≡ text_by ps names s
-      of g e =
-          ap (λ n. drop (n + len) text) e
-          ∙ sym (drop-drop len f.at text)
-          ∙ ap (drop len) is
-          ∙ drop_at (part_text names s p) (text_by ps names s) len refl
+  behind p ps f is =
+      ap (λ n. drop (n + length (part_text names s p)) text) (at_kept p f)
+      ∙ sym (drop-drop (length (part_text names s p)) f.at text)
+      ∙ ap (drop (length (part_text names s p))) is
+      ∙ drop_at (part_text names s p) (text_by ps names s) (length (part_text names s p)) refl
 
   module _ (P : Found → Type 0) (sets : Part → Bool)
       (keeps : (p : Part) (f : Found) → sets p ≡ false → P f → P (followed names vars s p f))

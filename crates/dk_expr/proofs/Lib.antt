@@ -9,7 +9,9 @@ pub mod SameParts
 pub mod Searching
 pub mod Ends
 pub mod Small
+pub mod Arms
 pub mod Followed
 pub mod Foundings
 pub mod Told
 pub mod Unique
+pub mod Reading

@@ -6,7 +6,7 @@ use Rattle.std.specs.Str.Parse.{AllDigits, digits_value}
 use Rattle.std.proofs.Common.{◌∙◌, ap, arith, get_or, inl, inr, subst, sym, append_assoc}
 use Rattle.std.proofs.Math.ListN.{get_or-append}
 use Rattle.std.proofs.Math.Seq.{get_or-append_right, get_or-append_seam}
-use Rattle.std.proofs.lemmas.Bool.{and_parts, cases_lt, eqb-true, false≢true, ne_eqb}
+use Rattle.std.proofs.lemmas.Bool.{and_parts, cases_lt, eqb-true, false≢true, le-ltb, ne_eqb}
 use Rattle.std.proofs.lemmas.Fmt.{decimal_is_IsNumeral_wide}
 use Rattle.std.proofs.lemmas.List.{append_cancel_left, drop_at, length-append, take_at}
 use Rattle.std.proofs.lemmas.Str.Parse.{digit_from_value}
@@ -60,10 +60,8 @@ same_sign false true e = cc
 
 by_sign : (k l : ℤ) → int_lt k (pos 0) ≡ int_lt l (pos 0) → unsigned_abs k ≡ unsigned_abs l → k ≡ l
 by_sign (pos m) (pos n) s e = ap pos e
-by_sign (pos zero) (negsuc n) s e = absurd (false≢true s)
-by_sign (pos (suc m)) (negsuc n) s e = absurd (false≢true s)
-by_sign (negsuc m) (pos zero) s e = absurd (false≢true (sym s))
-by_sign (negsuc m) (pos (suc n)) s e = absurd (false≢true (sym s))
+by_sign (pos m) (negsuc n) s e = absurd (false≢true (sym (le-ltb m 0 (omega arith)) ∙ s))
+by_sign (negsuc m) (pos n) s e = absurd (false≢true (sym (le-ltb n 0 (omega arith)) ∙ sym s))
 by_sign (negsuc m) (negsuc n) s e = ap negsuc (omega (arith, e))
 
 pub signs_apart : (k l : ℤ) (x y a b : List ℕ) → (sign_text k ++ x) ++ a ≡ (sign_text l ++ y) ++ b → (int_lt k (pos 0) ≡ int_lt l (pos 0)) × (x ++ a ≡ y ++ b)

@@ -33,27 +33,25 @@ module _ (listed : Listed) (role : ℕ) (following : List Part) (found : Found) 
         inr (e, ap (take len) is ∙ take_at name more len e, ap (drop len) is ∙ drop_at name more len e)
   ]
 
-  pub more_searched : (mid new : List Found) (len : ℕ) → new ≡ mid ++ map (λ v. with_var role v (past len found)) (noted_under listed (take len rest))
-      → IsSearched listed role following found rest old mid len → IsSearched listed role following found rest old new (len + 1)
-  more_searched mid new len is so_far =
-      record {
-        keeps = λ x h. here x (Contains-append_left mid pushed x (so_far.keeps x h));
-        finds = λ name more v lt e may there. by name more v e may there (split name more len lt e);
-      }
-    where
-      pushed : List Found
-      pushed = map (λ v. with_var role v (past len found)) (noted_under listed (take len rest))
+  module _ (mid new pushed : List Found) (len : ℕ) (is : new ≡ mid ++ pushed) (are : pushed ≡ map (λ v. with_var role v (past len found)) (noted_under listed (take len rest)))
+      (so_far : IsSearched listed role following found rest old mid len) where
+    here : (x : Found) → Contains (mid ++ pushed) x → Contains new x
+    here x h = subst (λ l. Contains l x) (sym is) h
 
-      here : (x : Found) → Contains (mid ++ pushed) x → Contains new x
-      here x h = subst (λ l. Contains l x) (sym is) h
+    looked : (name more : List ℕ) (v : VarId) → rest ≡ name ++ more → may_be following more ≡ true → Contains (noted_under listed name) v
+        → (length name < len) ⊎ ((length name ≡ len) × (take len rest ≡ name) × (drop len rest ≡ more)) → Contains new (with_var role v (past (length name) found))
+    looked name more v e may there (inl below) = here _ (Contains-append_left mid pushed _ (so_far.finds name more v below e may there))
+    looked name more v e may there (inr at) =
+        let own = contains_map (λ w. with_var role w (past len found)) (noted_under listed (take len rest)) v (subst (λ l. Contains (noted_under listed l) v) (sym at.1) there) in
+        subst (λ n. Contains new (with_var role v (past n found))) (sym at.0)
+        (here _ (Contains-append_right mid pushed _ (subst (λ l. Contains l (with_var role v (past len found))) (sym are) own)))
 
-      by : (name more : List ℕ) (v : VarId) → rest ≡ name ++ more → may_be following more ≡ true → Contains (noted_under listed name) v
-          → (length name < len) ⊎ ((length name ≡ len) × (take len rest ≡ name) × (drop len rest ≡ more)) → Contains new (with_var role v (past (length name) found))
-      by name more v e may there (inl below) = here _ (Contains-append_left mid pushed _ (so_far.finds name more v below e may there))
-      by name more v e may there (inr at) =
-          subst (λ n. Contains new (with_var role v (past n found))) (sym at.0)
-          (here _ (Contains-append_right mid pushed _
-          (contains_map (λ w. with_var role w (past len found)) (noted_under listed (take len rest)) v (subst (λ l. Contains (noted_under listed l) v) (sym at.1) there))))
+    pub more_searched : IsSearched listed role following found rest old new (len + 1)
+    more_searched =
+        record {
+          keeps = λ x h. here x (Contains-append_left mid pushed x (so_far.keeps x h));
+          finds = λ name more v lt e may there. looked name more v e may there (split name more len lt e);
+        }
 
   pub same_searched : (mid : List Found) (len : ℕ) → may_be following (drop len rest) ≡ false
       → IsSearched listed role following found rest old mid len → IsSearched listed role following found rest old mid (len + 1)
@@ -84,5 +82,5 @@ module _ (listed : Listed) (role : ℕ) (following : List Part) (found : Found) 
       by : (b : Bool) → may_be following (drop len rest) ≡ b
           → new ≡ (if b then mid ++ map (λ v. with_var role v (past len found)) (noted_under listed (take len rest)) else mid)
           → IsSearched listed role following found rest old new (len + 1)
-      by true e h = more_searched mid new len h so_far
+      by true e h = more_searched mid new (map (λ v. with_var role v (past len found)) (noted_under listed (take len rest))) len h refl so_far
       by false e h = subst (λ l. IsSearched listed role following found rest old l (len + 1)) (sym h) (same_searched mid len e so_far)

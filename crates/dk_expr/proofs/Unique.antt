@@ -264,7 +264,7 @@ one_instance infos text r q vars others s t a b first second =
 pub texts_read_back : TextsReadBack
 texts_read_back infos r vars s read a first is =
     let text = instance_text infos r vars s in
-    let same = one_instance infos text r read.row vars read.vars s is.state a is.has first is.first in
-    let told = told_once infos text read.row read.vars s is.state (subst (λ v. HasText infos text read.row v s) same.1 (subst (λ q. HasText infos text q vars s) same.0 a)) is.has in
+    let same = one_instance infos text r read.row vars read.vars s is.printed a is.has first is.first in
+    let told = told_once infos text read.row read.vars s is.printed (subst (λ v. HasText infos text read.row v s) same.1 (subst (λ q. HasText infos text q vars s) same.0 a)) is.has in
     let state = is.tells ∙ sym told in
     λ i. record { row = sym same.0 i; vars = sym same.1 i; state = state i }

@@ -9,6 +9,7 @@ pub mod Shown
 pub mod Naming
 pub mod Readable
 pub mod Following
+pub mod Searches
 pub mod Telling
 pub mod Valued
 pub mod Finds

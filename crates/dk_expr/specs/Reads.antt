@@ -33,10 +33,10 @@ told_state s = s
 
 -- the text is read as this: the first instance that has it, and its state
 pub record IsRead (infos : List VarInfo) (text : List ℕ) (read : Assertion) : Type 0 where
-  pub state : State
-  pub has : HasText infos text read.row read.vars state
+  pub printed : State
+  pub has : HasText infos text read.row read.vars printed
   pub first : IsFirst infos text read.row read.vars
-  pub tells : read.state ≡ told_state state
+  pub tells : read.state ≡ told_state printed
 
 -- no instance has the text
 abbrev pub HasNone : List VarInfo → List ℕ → Type 0

@@ -3,6 +3,7 @@
 
 mod assertions;
 mod found;
+pub mod laws;
 mod names;
 mod numbers;
 mod parts;

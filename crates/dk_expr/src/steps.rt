@@ -1,12 +1,9 @@
 // The ways in which a part can be read in the front of what is left of a text.
-ghost use Rattle.std.specs.Prelude.{◌≡◌, ◌∷◌, ◌++◌, ◌+◌, ◌<◌, ◌≤◌, ◌^◌, ℕ, ℤ, Contains, List, OnOk, Some, codes, drop, if◌then◌else◌, length, map, pos, take, true, unsigned_abs};
-ghost use Rattle.std.specs.Fmt.{decimal, signed_decimal};
-ghost use Rattle.dk_base.specs.declared.kinds.VarId.{VarId};
-ghost use Rattle.dk_forms.specs.declared.states.State.{State};
+ghost use Rattle.std.specs.Prelude.{◌≡◌, ◌++◌, ◌+◌, ◌<◌, ◌≤◌, ◌^◌, ℕ, Contains, List, OnOk, Some, drop, if◌then◌else◌, length, map, take};
 ghost use Rattle.dk_graph.specs.Notes.{noted_under};
-ghost use Rattle.dk_print.specs.Parts.{constant_text, step_text, term_text, text_by, times_text};
-ghost use Rattle.dk_expr.specs.Following.{IsSought, followed, past, with_factor, with_sign, with_var};
-ghost use Rattle.dk_expr.specs.Readable.{are_ended, begins_behind_number, begins_blank, may_be};
+ghost use Rattle.dk_expr.specs.Following.{past, with_var};
+ghost use Rattle.dk_expr.specs.Readable.{begins_blank, may_be};
+ghost use Rattle.dk_expr.specs.Searches.{FindsConstant, FindsName, FindsNumber, FindsPart, FindsProduct, FindsStep, FindsTerm, FindsTimes, KeepsAll};
 ghost use Rattle.dk_expr.specs.Shown.{shown};
 ghost use Rattle.dk_expr.specs.declared.found.Found.{Found};
 
@@ -85,8 +82,8 @@ fn push_named(
     found: Found,
     list: &mut List<Found>,
 ) -> Result<(), NoMemory>
-    ensures keeps { OnOk result ((x : Found) → Contains list.old x → Contains list.new x) }
-    ensures finds { OnOk result ((name more : List ℕ) (v : VarId) → drop found.at text.now ≡ name ++ more → may_be (map shown following.now) more ≡ true → Contains (noted_under names.now name) v → Contains list.new (with_var role v (past (length name) found))) }
+    ensures keeps { OnOk result (KeepsAll list.old list.new) }
+    ensures finds { OnOk result (FindsName names.now text.now role (map shown following.now) found list.new) }
 {
     let rest = found.rest(text);
     for len in 0..rest.len() {
@@ -105,8 +102,8 @@ fn push_product(
     found: Found,
     list: &mut List<Found>,
 ) -> Result<(), NoMemory>
-    ensures keeps { OnOk result ((x : Found) → Contains list.old x → Contains list.new x) }
-    ensures finds { OnOk result ((n : ℕ) (name more : List ℕ) (v : VarId) → n < 2 ^ 127 → drop found.at text.now ≡ decimal n ++ codes " * " ++ name ++ more → may_be (map shown following.now) more ≡ true → Contains (noted_under names.now name) v → Contains list.new (with_var role v (with_factor role (with_sign is_negative (pos n)) (past (length (decimal n ++ codes " * " ++ name)) found)))) }
+    ensures keeps { OnOk result (KeepsAll list.old list.new) }
+    ensures finds { OnOk result (FindsProduct names.now text.now role (map shown following.now) found list.new is_negative) }
 {
     let rest = found.rest(text);
     let Some(number) = number_at(rest) else {
@@ -130,8 +127,8 @@ fn push_times(
     found: Found,
     list: &mut List<Found>,
 ) -> Result<(), NoMemory>
-    ensures keeps { OnOk result ((x : Found) → Contains list.old x → Contains list.new x) }
-    ensures finds { OnOk result ((n : ℕ) (name more : List ℕ) (v : VarId) → n < 2 ^ 127 → drop found.at text.now ≡ times_text n name ++ more → may_be (map shown following.now) more ≡ true → Contains (noted_under names.now name) v → Contains list.new (with_var role v (with_factor role (with_sign is_negative (pos n)) (past (length (times_text n name)) found)))) }
+    ensures keeps { OnOk result (KeepsAll list.old list.new) }
+    ensures finds { OnOk result (FindsTimes names.now text.now role (map shown following.now) found list.new is_negative) }
 {
     let one = found.with_factor(role, with_sign(is_negative, 1));
     push_named(names, text, role, following, one, list)?;
@@ -147,8 +144,8 @@ fn push_term(
     found: Found,
     list: &mut List<Found>,
 ) -> Result<(), NoMemory>
-    ensures keeps { OnOk result ((x : Found) → Contains list.old x → Contains list.new x) }
-    ensures finds { OnOk result ((k : ℤ) (name more : List ℕ) (v : VarId) → unsigned_abs k < 2 ^ 127 → drop found.at text.now ≡ term_text k name ++ more → may_be (map shown following.now) more ≡ true → Contains (noted_under names.now name) v → Contains list.new (with_var role v (with_factor role k (past (length (term_text k name)) found)))) }
+    ensures keeps { OnOk result (KeepsAll list.old list.new) }
+    ensures finds { OnOk result (FindsTerm names.now text.now role (map shown following.now) found list.new) }
 {
     match sign_at(found.rest(text)) {
         Some(is_negative) => {
@@ -168,7 +165,7 @@ fn push_term(
 
 // What is found, if something is.
 fn push_some(found: Option<Found>, list: &mut List<Found>) -> Result<(), NoMemory>
-    ensures keeps { OnOk result ((x : Found) → Contains list.old x → Contains list.new x) }
+    ensures keeps { OnOk result (KeepsAll list.old list.new) }
     ensures finds { OnOk result ((x : Found) → found ≡ Some x → Contains list.new x) }
 {
     match found {
@@ -190,7 +187,7 @@ fn with_word(text: &[u8], word: &[u8], found: Found) -> Option<Found>
 
 // A bound.
 fn with_bound(text: &[u8], found: Found) -> Option<Found>
-    ensures { (z : ℤ) (more : List ℕ) → unsigned_abs z < 2 ^ 127 → begins_behind_number more ≡ true → drop found.at text.now ≡ signed_decimal z ++ more → result ≡ Some (past (length (signed_decimal z)) (record found { bound = z })) }
+    ensures { FindsNumber text.now found (λ k. record found { bound = k }) result }
 {
     let number = number_at(found.rest(text))?;
     let told = Found {
@@ -202,7 +199,7 @@ fn with_bound(text: &[u8], found: Found) -> Option<Found>
 
 // A remainder.
 fn with_remainder(text: &[u8], found: Found) -> Option<Found>
-    ensures { (z : ℤ) (more : List ℕ) → unsigned_abs z < 2 ^ 127 → begins_behind_number more ≡ true → drop found.at text.now ≡ signed_decimal z ++ more → result ≡ Some (past (length (signed_decimal z)) (record found { remainder = z })) }
+    ensures { FindsNumber text.now found (λ k. record found { remainder = k }) result }
 {
     let number = number_at(found.rest(text))?;
     let told = Found {
@@ -214,7 +211,7 @@ fn with_remainder(text: &[u8], found: Found) -> Option<Found>
 
 // A modulus.
 fn with_modulus(text: &[u8], found: Found) -> Option<Found>
-    ensures { (z : ℤ) (more : List ℕ) → unsigned_abs z < 2 ^ 127 → begins_behind_number more ≡ true → drop found.at text.now ≡ signed_decimal z ++ more → result ≡ Some (past (length (signed_decimal z)) (record found { modulus = z })) }
+    ensures { FindsNumber text.now found (λ k. record found { modulus = k }) result }
 {
     let number = number_at(found.rest(text))?;
     let told = Found {
@@ -226,7 +223,7 @@ fn with_modulus(text: &[u8], found: Found) -> Option<Found>
 
 // An offset with its sign.
 fn with_step(text: &[u8], found: Found) -> Option<Found>
-    ensures { (k : ℤ) (more : List ℕ) → unsigned_abs k < 2 ^ 127 → begins_behind_number more ≡ true → drop found.at text.now ≡ step_text k ++ more → result ≡ Some (past (length (step_text k)) (record found { offset = k })) }
+    ensures { FindsStep text.now found (λ k. record found { offset = k }) result }
 {
     let number = step_at(found.rest(text))?;
     let told = Found {
@@ -238,7 +235,7 @@ fn with_step(text: &[u8], found: Found) -> Option<Found>
 
 // A constant with its sign.
 fn with_constant(text: &[u8], found: Found) -> Option<Found>
-    ensures { (k : ℤ) (more : List ℕ) → unsigned_abs k < 2 ^ 127 → begins_behind_number more ≡ true → drop found.at text.now ≡ step_text k ++ more → result ≡ Some (past (length (step_text k)) (record found { constant = k })) }
+    ensures { FindsStep text.now found (λ k. record found { constant = k }) result }
 {
     let number = step_at(found.rest(text))?;
     let told = Found {
@@ -250,8 +247,8 @@ fn with_constant(text: &[u8], found: Found) -> Option<Found>
 
 // A constant with its sign, or 0 where there is none.
 fn push_constant(text: &[u8], found: Found, list: &mut List<Found>) -> Result<(), NoMemory>
-    ensures keeps { OnOk result ((x : Found) → Contains list.old x → Contains list.new x) }
-    ensures finds { OnOk result ((k : ℤ) (more : List ℕ) → unsigned_abs k < 2 ^ 127 → begins_behind_number more ≡ true → drop found.at text.now ≡ constant_text k ++ more → Contains list.new (past (length (constant_text k)) (record found { constant = k }))) }
+    ensures keeps { OnOk result (KeepsAll list.old list.new) }
+    ensures finds { OnOk result (FindsConstant text.now found (λ k. record found { constant = k }) list.new) }
 {
     push_some(
         Some(Found {
@@ -294,8 +291,8 @@ pub(crate) fn push_part(
     found: Found,
     list: &mut List<Found>,
 ) -> Result<(), NoMemory>
-    ensures keeps { OnOk result ((x : Found) → Contains list.old x → Contains list.new x) }
-    ensures finds { OnOk result ((called : List (List ℕ)) (vars : List VarId) (s : State) → IsSought names.now called vars s → are_ended (length vars) (shown part ∷ map shown following.now) ≡ true → drop found.at text.now ≡ text_by (shown part ∷ map shown following.now) called s → Contains list.new (followed called vars s (shown part) found)) }
+    ensures keeps { OnOk result (KeepsAll list.old list.new) }
+    ensures finds { OnOk result (FindsPart names.now text.now (shown part) (map shown following.now) found list.new) }
 {
     match part {
         Part::Word(word) => push_some(with_word(text, word, found), list),

@@ -1,10 +1,6 @@
 // What can be found in a text of what the parts of a row say.
-ghost use Rattle.std.specs.Prelude.{◌≡◌, ◌∷◌, ℕ, Contains, IfOk, List, drop, length, map, true};
-ghost use Rattle.dk_base.specs.declared.kinds.VarId.{VarId};
-ghost use Rattle.dk_forms.specs.declared.states.State.{State};
-ghost use Rattle.dk_print.specs.Parts.{text_by};
-ghost use Rattle.dk_expr.specs.Following.{IsSought, all_followed, followed};
-ghost use Rattle.dk_expr.specs.Readable.{are_ended};
+ghost use Rattle.std.specs.Prelude.{Contains, IfOk, map};
+ghost use Rattle.dk_expr.specs.Searches.{FindsPart, FindsParts};
 ghost use Rattle.dk_expr.specs.Shown.{shown};
 ghost use Rattle.dk_expr.specs.declared.found.Found.{Found};
 
@@ -24,7 +20,7 @@ fn behind_each(
     following: &[Part],
     before: &[Found],
 ) -> Result<List<Found>, NoMemory>
-    ensures { IfOk result (λ next. (called : List (List ℕ)) (vars : List VarId) (s : State) (f : Found) → IsSought names.now called vars s → are_ended (length vars) (shown part ∷ map shown following.now) ≡ true → Contains before.now f → drop f.at text.now ≡ text_by (shown part ∷ map shown following.now) called s → Contains next (followed called vars s (shown part) f)) }
+    ensures { IfOk result (λ next. (f : Found) → Contains before.now f → FindsPart names.now text.now (shown part) (map shown following.now) f next) }
 {
     let mut next = List::new(alloc);
     for found in before {
@@ -41,7 +37,7 @@ pub(crate) fn behind_all(
     parts: &[Part],
     before: List<Found>,
 ) -> Result<List<Found>, NoMemory>
-    ensures { IfOk result (λ ends. (called : List (List ℕ)) (vars : List VarId) (s : State) (f : Found) → IsSought names.now called vars s → are_ended (length vars) (map shown parts.now) ≡ true → Contains before f → drop f.at text.now ≡ text_by (map shown parts.now) called s → Contains ends (all_followed called vars s (map shown parts.now) f)) }
+    ensures { IfOk result (λ ends. (f : Found) → Contains before f → FindsParts names.now text.now (map shown parts.now) f ends) }
 {
     match parts {
         [] => Ok(before),
