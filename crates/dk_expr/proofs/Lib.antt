@@ -5,12 +5,14 @@ pub mod Numerals
 pub mod SameNumbers
 pub mod Shapes
 pub mod ValueTexts
+pub mod Words
 pub mod SameParts
 pub mod Searching
 pub mod Ends
 pub mod Small
 pub mod Arms
 pub mod Followed
+pub mod Walking
 pub mod Foundings
 pub mod Told
 pub mod Unique

@@ -2,7 +2,9 @@
 use Rattle.std.specs.Prelude.{◌≡◌, ◌==◌, ◌+◌, ◌<◌, ◌≤◌, ◌^◌, ◌⊎◌, ◌++◌, ℕ, pos, Bool, IfOk, IfSome, IsSomeAnd, IsTrue, true, false, Contains, List, [], ◌∷◌, Option, None, Some, Result, codes, length, map, nat_lt, slice_index_or, if◌then◌else◌, refl}
 use Rattle.std.proofs.Common.{◌∙◌, ap, arith, get_or, inl, inr, subst, sym}
 use Rattle.std.proofs.lemmas.Bool.{and_parts, cases_lt}
+use Rattle.std.specs.List.{AllWithin}
 use Rattle.std.proofs.lemmas.List.{get_or-map}
+use Rattle.std.proofs.lemmas.List.Elements.{AllWithin-more, AllWithin-none, All-contains, All-from_all_within, at_read}
 use Rattle.std.proofs.lemmas.Result.{IfOk-weaker}
 use Rattle.dk_base.specs.declared.kinds.VarId.{VarId}
 use Rattle.dk_base.specs.declared.kinds.VarInfo.{VarInfo}
@@ -155,3 +157,44 @@ module _ (infos : List VarInfo) (text : List ℕ) where
 
   pub none_at_all : NoneBelow 69 → HasNone infos text
   none_at_all none r vars s h = none r vars s (let high = h.instance.of_grammar.1 in omega (arith, high)) h
+
+-- ---- the least of what was found
+module _ (infos : List VarInfo) (text : List ℕ) (r : RowId) where
+  -- no instance that was found comes before this one
+  abbrev pub IsBelow : Option Assertion → Found → Type 0
+  IsBelow least f = (vars : List VarId) (s : State) → HasText infos text r vars s → IsFoundBy text r vars s f → IsNoLater least vars
+
+  pub record IsLeastUpTo (ends : List Found) (least : Option Assertion) (n : ℕ) : Type 0 where
+    pub has : IfSome least (λ a. (a.row ≡ r) × HasText infos text r a.vars a.state)
+    pub below : AllWithin (IsBelow least) ends 0 n
+
+  pub none_least : (ends : List Found) → IsLeastUpTo ends None 0
+  none_least ends = record { has = tt; below = AllWithin-none (IsBelow None) ends 0 }
+
+  -- one of them more
+  pub more_least : (ends : List Found) (old next new : Option Assertion) (i : ℕ) (f : Found) → i < length ends → f ≡ get_or ends i f
+      → IfSome next (λ a. (a.row ≡ r) × HasText infos text r a.vars a.state)
+      → ((vars : List VarId) (s : State) → HasText infos text r vars s → IsFoundBy text r vars s f → IsSomeAnd next (λ a. a.vars ≡ vars))
+      → (new ≡ old) ⊎ (new ≡ next) → ((vars : List VarId) → IsNoLater old vars → IsNoLater new vars) → IfSome next (λ a. IsNoLater new a.vars)
+      → IsLeastUpTo ends old i → IsLeastUpTo ends new (i + 1)
+  more_least ends old next new i f lt is has some choice first second so_far =
+      record {
+        has = of choice;
+        below =
+            AllWithin-more (IsBelow new) ends 0 i
+            (λ k d low high vars s h by. first vars (so_far.below k d low high vars s h by))
+            (at_read ends (IsBelow new) i f lt is (λ vars s h by. here next vars second (some vars s h by)));
+      }
+    where
+      of : (new ≡ old) ⊎ (new ≡ next) → IfSome new (λ a. (a.row ≡ r) × HasText infos text r a.vars a.state)
+      of (inl e) = subst (λ o. IfSome o (λ a. (a.row ≡ r) × HasText infos text r a.vars a.state)) (sym e) so_far.has
+      of (inr e) = subst (λ o. IfSome o (λ a. (a.row ≡ r) × HasText infos text r a.vars a.state)) (sym e) has
+
+      here : (next : Option Assertion) (vars : List VarId) → IfSome next (λ a. IsNoLater new a.vars) → IsSomeAnd next (λ a. a.vars ≡ vars) → IsNoLater new vars
+      here None vars h k = absurd k
+      here (Some a) vars h k = subst (IsNoLater new) k h
+
+  -- all of them
+  pub least_of_all : (ends : List Found) (least : Option Assertion) → IsLeastUpTo ends least (length ends)
+      → (vars : List VarId) (s : State) (f : Found) → HasText infos text r vars s → Contains ends f → IsFoundBy text r vars s f → IsNoLater least vars
+  least_of_all ends least all vars s f h there by = All-contains (IsBelow least) ends f (All-from_all_within (IsBelow least) ends all.below) there vars s h by

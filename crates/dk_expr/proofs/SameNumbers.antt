@@ -55,8 +55,8 @@ sign_long false = refl
 same_sign : (b c : Bool) → (if b then codes " - " else codes " + ") ≡ (if c then codes " - " else codes " + ") → b ≡ c
 same_sign true true e = refl
 same_sign false false e = refl
-same_sign true false e = cc
-same_sign false true e = cc
+same_sign true false e = absurd (false≢true (ap (λ l. get_or l 1 0 == 43) e))
+same_sign false true e = absurd (false≢true (ap (λ l. get_or l 1 0 == 45) e))
 
 by_sign : (k l : ℤ) → int_lt k (pos 0) ≡ int_lt l (pos 0) → unsigned_abs k ≡ unsigned_abs l → k ≡ l
 by_sign (pos m) (pos n) s e = ap pos e

@@ -1,15 +1,17 @@
 -- A name is looked for in the front of a text, from the shortest on.
-use Rattle.std.specs.Prelude.{◌≡◌, ◌+◌, ◌<◌, ◌≤◌, ◌⊎◌, ℕ, Bool, true, false, Contains, List, [], ◌++◌, drop, if◌then◌else◌, length, map, take, refl}
+use Rattle.std.specs.Prelude.{◌≡◌, ◌+◌, ◌<◌, ◌≤◌, ◌⊎◌, ℕ, Bool, true, false, Contains, List, [], ◌++◌, drop, if◌then◌else◌, length, map, OnOk, Result, take, refl}
 use Rattle.std.proofs.Common.{◌∙◌, ap, arith, inl, inr, subst, sym}
 use Rattle.std.proofs.lemmas.Bool.{cases_lt, false≢true}
 use Rattle.std.proofs.lemmas.List.{drop_at, get_or-map, length-append, length-map, take_at}
 use Rattle.std.proofs.lemmas.List.Elements.{Contains-append_left, Contains-append_right}
+use Rattle.std.proofs.lemmas.Result.{on_ok_weaker}
 use Rattle.dk_base.specs.declared.kinds.VarId.{VarId}
 use Rattle.dk_graph.specs.Notes.{noted_under}
 use Rattle.dk_print.specs.Parts.{Part}
 use Rattle.dk_expr.specs.Following.{past, with_var}
 use Rattle.dk_expr.specs.Naming.{Listed}
 use Rattle.dk_expr.specs.Readable.{may_be}
+use Rattle.dk_expr.specs.Searches.{FindsName, KeepsAll}
 use Rattle.dk_expr.specs.declared.found.Found.{Found}
 
 pub contains_map : {X Y : Type 0} (f : X → Y) (xs : List X) (x : X) → Contains xs x → Contains (map f xs) (f x)
@@ -84,3 +86,15 @@ module _ (listed : Listed) (role : ℕ) (following : List Part) (found : Found) 
           → IsSearched listed role following found rest old new (len + 1)
       by true e h = more_searched mid new (map (λ v. with_var role v (past len found)) (noted_under listed (take len rest))) len h refl so_far
       by false e h = subst (λ l. IsSearched listed role following found rest old l (len + 1)) (sym h) (same_searched mid len e so_far)
+
+  -- and so it is after the last length
+  pub searched : {T E : Type 0} (r : Result T E) (text : List ℕ) (mid new : List Found) → rest ≡ drop found.at text
+      → OnOk r (new ≡ (if may_be following (drop (length rest) rest) then mid ++ map (λ v. with_var role v (past (length rest) found)) (noted_under listed (take (length rest) rest)) else mid))
+      → IsSearched listed role following found rest old mid (length rest) → OnOk r (KeepsAll old new) × OnOk r (FindsName listed text role following found new)
+  searched r text mid new own step so_far = (
+    on_ok_weaker r (λ s. (step_searched mid new (length rest) s so_far).keeps) step,
+    on_ok_weaker r
+        (λ s name more v e may there.
+        all_searched new (length rest + 1) (omega arith) (step_searched mid new (length rest) s so_far) name more v (own ∙ e) may there)
+        step,
+  )

@@ -2,7 +2,7 @@
 use Rattle.std.specs.Prelude.{◌≡◌, ◌==◌, ◌&&◌, ◌<◌, ◌≤◌, ◌^◌, ◌⊎◌, ℕ, ℤ, pos, All, Bool, IsTrue, true, false, List, [], ◌∷◌, codes, length, map, unsigned_abs, if◌then◌else◌, refl}
 use Rattle.std.specs.Fmt.{signed_decimal}
 use Rattle.std.specs.List.{list_all, list_any}
-use Rattle.std.proofs.Common.{◌∙◌, ap, arith, inl, inr, subst, sym}
+use Rattle.std.proofs.Common.{◌∙◌, ap, arith, get_or, inl, inr, subst, sym}
 use Rattle.std.proofs.lemmas.Bool.{and_parts, cases_lt, eqb-true, false≢true}
 use Rattle.std.proofs.lemmas.List.{length-map}
 use Rattle.std.proofs.lemmas.List.Elements.{All-head, All-tail, All-cons, All-nil, All-weaker}
@@ -74,8 +74,8 @@ same_known_texts ts us p q x y e =
 same_truth : (b c : Bool) → known_text (state.Truth b) ≡ known_text (state.Truth c) → b ≡ c
 same_truth true true e = refl
 same_truth false false e = refl
-same_truth true false e = cc
-same_truth false true e = cc
+same_truth true false e = absurd (false≢true (ap (λ l. get_or l 4 0 == 102) e))
+same_truth false true e = absurd (false≢true (ap (λ l. get_or l 4 0 == 116) e))
 
 line_up : (a b c : ℤ) → IsProper form.Line (state.Straight a b c) → IsTrue (fits (state.Straight a b c)) → pos (unsigned_abs a) ≡ a
 line_up a b c p f = line_above a b p.normal.sign (and_parts _ _ f).0

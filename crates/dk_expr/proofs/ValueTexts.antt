@@ -4,7 +4,7 @@ use Rattle.std.specs.Fmt.{decimal, signed_decimal}
 use Rattle.std.specs.List.{join_by, list_all, position_or_len}
 use Rattle.std.specs.Str.{bytes_eq}
 use Rattle.std.specs.Str.Parse.{AllDigits}
-use Rattle.std.proofs.Common.{◌∙◌, ap, arith, inl, inr, subst, sym, append_assoc}
+use Rattle.std.proofs.Common.{◌∙◌, ap, arith, get_or, inl, inr, subst, sym, append_assoc}
 use Rattle.std.proofs.lemmas.Bool.{and_parts, eqb-true, false≢true, ne_eqb, or_cases}
 use Rattle.std.proofs.lemmas.Fmt.{decimal_is_IsNumeral_wide}
 use Rattle.std.proofs.lemmas.List.{append_cancel_left, append-nil}
@@ -113,7 +113,7 @@ rest_cons t ts =
 
 rest_apart : (t : List ℕ) (ts : List (List ℕ)) → rest_behind [] ≡ rest_behind (t ∷ ts) → ⊥
 unfolding rest_behind
-rest_apart t ts e = cc
+rest_apart t ts e = false≢true (ap (λ l. get_or l 0 0 == 44) e)
 
 same_rest : (ts us : List (List ℕ)) → All IsValueText ts → All IsValueText us → rest_behind ts ≡ rest_behind us → ts ≡ us
 same_rest [] [] p q e = refl
@@ -133,8 +133,8 @@ pub same_values : (ts us : List (List ℕ)) → All IsValueText ts → All IsVal
 same_values [] us p q x y e = absurd (omega (arith, x))
 same_values ts [] p q x y e = absurd (omega (arith, y))
 same_values (t ∷ []) (u ∷ []) p q x y e = ap (λ v. v ∷ []) (append_cancel_left (codes " == ") t u e)
-same_values (t ∷ []) (u ∷ v ∷ us) p q x y e = cc
-same_values (t ∷ v ∷ ts) (u ∷ []) p q x y e = cc
+same_values (t ∷ []) (u ∷ v ∷ us) p q x y e = absurd (false≢true (ap (λ l. get_or l 1 0 == 111) e))
+same_values (t ∷ v ∷ ts) (u ∷ []) p q x y e = absurd (false≢true (ap (λ l. get_or l 1 0 == 61) e))
 same_values (t ∷ v ∷ ts) (u ∷ w ∷ us) p q x y e =
     let inner = append_cancel_left (codes " one of { ") (t ++ rest_behind (v ∷ ts)) (u ++ rest_behind (w ∷ us)) (sym (many_values t v ts) ∙ e ∙ many_values u w us) in
     let both = same_value t u (rest_behind (v ∷ ts)) (rest_behind (w ∷ us)) (All-head IsValueText t (v ∷ ts) p) (All-head IsValueText u (w ∷ us) q) (begins_rest (v ∷ ts)) (begins_rest (w ∷ us)) inner in

@@ -103,7 +103,7 @@ pub(crate) fn with_sign(is_negative: bool, number: i128) -> i128
 // The number behind a sign of three bytes.
 fn behind_sign(is_negative: bool, bytes: &[u8]) -> Option<Number>
     requires { 3 ≤ length bytes.now }
-    ensures { (n : ℕ) (sign more : List ℕ) → n < 2 ^ 127 → length sign ≡ 3 → begins_behind_number more ≡ true → bytes.now ≡ sign ++ decimal n ++ more → result ≡ Some (record { value = with_sign is_negative (pos n); len = 3 + length (decimal n) }) }
+    ensures read { (n : ℕ) (sign more : List ℕ) → n < 2 ^ 127 → length sign ≡ 3 → begins_behind_number more ≡ true → bytes.now ≡ sign ++ decimal n ++ more → result ≡ Some (record { value = with_sign is_negative (pos n); len = 3 + length (decimal n) }) }
     ensures within { IfSome result (λ n. n.len ≤ length bytes.now) }
 {
     let number = number_at(&bytes[3..])?;

@@ -36,7 +36,8 @@ fn least(bound: i128) -> Option<State>
     ensures read { IsTrue (fits_i64 bound) → result ≡ Some (State.Least bound) }
     ensures held { IfSome result (λ s. IsTrue (is_held s)) }
 {
-    Some(State::Least(in_i64(bound)?))
+    let least = in_i64(bound)?;
+    Some(State::Least(least))
 }
 
 // A greatest value.
@@ -44,7 +45,8 @@ fn greatest(bound: i128) -> Option<State>
     ensures read { IsTrue (fits_i64 bound) → result ≡ Some (State.Greatest bound) }
     ensures held { IfSome result (λ s. IsTrue (is_held s)) }
 {
-    Some(State::Greatest(in_i64(bound)?))
+    let greatest = in_i64(bound)?;
+    Some(State::Greatest(greatest))
 }
 
 // A truth value.
@@ -89,10 +91,9 @@ fn modulus(m: i128, r: i128) -> Option<State>
     ensures read { (n k : ℕ) → n < 2 ^ 64 → k < 2 ^ 64 → m ≡ pos n → r ≡ pos k → result ≡ Some (State.Modulus n k) }
     ensures held { IfSome result (λ s. IsTrue (is_held s)) }
 {
-    Some(State::Modulus {
-        m: in_u64(m)?,
-        r: in_u64(r)?,
-    })
+    let m = in_u64(m)?;
+    let r = in_u64(r)?;
+    Some(State::Modulus { m, r })
 }
 
 /// The state of this form that was found in the text, if there is one.

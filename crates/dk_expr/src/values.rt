@@ -13,7 +13,8 @@ use std::alloc::Global;
 
 // What stands behind the word, if the bytes begin with it.
 fn behind_word<'a>(bytes: &'a [u8], word: &[u8]) -> Option<&'a [u8]>
-    ensures { (more : List ℕ) → bytes.now ≡ word.now ++ more → IsSomeAnd result (λ rest. rest.now ≡ more) }
+    ensures read { (more : List ℕ) → bytes.now ≡ word.now ++ more → IsSomeAnd result (λ rest. rest.now ≡ more) }
+    ensures front { IfSome result (λ rest. bytes.now ≡ word.now ++ rest.now) }
 {
     bytes.strip_prefix(word)
 }
@@ -93,16 +94,21 @@ pub(crate) fn ints_of(alloc: Global, texts: &[Text]) -> Option<Few>
     ensures within { IfSome result (λ ks. IsTrue (list_all fits_i64 ks)) }
 {
     match texts {
-        [a] => Some(Few::of(alloc, &[int_in(a.as_slice())?])),
-        [a, b] => Some(Few::of(alloc, &[int_in(a.as_slice())?, int_in(b.as_slice())?])),
-        [a, b, c] => Some(Few::of(
-            alloc,
-            &[
-                int_in(a.as_slice())?,
-                int_in(b.as_slice())?,
-                int_in(c.as_slice())?,
-            ],
-        )),
+        [a] => {
+            let x = int_in(a.as_slice())?;
+            Some(Few::of(alloc, &[x]))
+        }
+        [a, b] => {
+            let x = int_in(a.as_slice())?;
+            let y = int_in(b.as_slice())?;
+            Some(Few::of(alloc, &[x, y]))
+        }
+        [a, b, c] => {
+            let x = int_in(a.as_slice())?;
+            let y = int_in(b.as_slice())?;
+            let z = int_in(c.as_slice())?;
+            Some(Few::of(alloc, &[x, y, z]))
+        }
         _ => None,
     }
 }

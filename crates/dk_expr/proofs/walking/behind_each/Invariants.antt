@@ -1,0 +1,7 @@
+use Rattle.std.proofs.Common.{map}
+use Rattle.dk_expr.specs.Shown.{shown}
+use Rattle.dk_expr.proofs.Walking.{Behind}
+use Rattle.dk_expr.proofs.walking.behind_each.Given as goal
+
+abbrev pub invariant-loop-found : goal.invariant-loop-found
+invariant-loop-found l = Behind l.names l.text (shown l.part) (map shown l.following) l.before l.next l.found-index
