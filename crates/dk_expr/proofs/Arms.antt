@@ -9,7 +9,7 @@ use Rattle.dk_base.specs.Pieces.{is_empty}
 use Rattle.dk_base.specs.declared.kinds.VarId.{VarId}
 use Rattle.dk_forms.specs.declared.states.State.{State}
 use Rattle.dk_graph.specs.Notes.{noted_under}
-use Rattle.dk_print.specs.Parts.{Part, word, named, bound, values, null_or, remainder, modulus, lead, term, constant, step, constant_in, constant_text, factor_at, name_at, part_text, step_text, term_text, text_by, times_text}
+use Rattle.dk_print.specs.Parts.{Part, word, named, bound, values, null_or, remainder, modulus, lead, term, constant, step, bound_in, constant_in, constant_text, factor_at, known_text, modulus_in, name_at, offset_in, part_text, remainder_in, step_text, term_text, text_by, times_text}
 use Rattle.dk_expr.specs.Following.{IsSought, followed, past, with_factor, with_var}
 use Rattle.dk_expr.specs.Naming.{Listed, var_at}
 use Rattle.dk_expr.specs.Readable.{are_ended, begins_behind_number, ends_name, is_ended, may_be, says_null}
@@ -32,19 +32,19 @@ module _ {T E : Type 0} (listed : Listed) (text : List ℕ) (ps : List Part) (f 
   word_arm bytes found one some = on_ok_weaker r (λ finds called vars s sought ended is. finds _ (one (text_by ps called s) is)) some
 
   pub bound_arm : (found : Option Found) → FindsNumber text f (λ z. record f { bound = z }) found → FindsSome found → OnOk r (Finds bound)
-  bound_arm found one some = on_ok_weaker r (λ finds called vars s sought ended is. finds _ (one _ (text_by ps called s) sought.small.bound (number_ended called s ps (here (length vars) bound ended)) is)) some
+  bound_arm found one some = on_ok_weaker r (λ finds called vars s sought ended is. finds _ (one (bound_in s) (text_by ps called s) sought.small.bound (number_ended called s ps (here (length vars) bound ended)) is)) some
 
   pub remainder_arm : (found : Option Found) → FindsNumber text f (λ z. record f { remainder = z }) found → FindsSome found → OnOk r (Finds remainder)
-  remainder_arm found one some = on_ok_weaker r (λ finds called vars s sought ended is. finds _ (one (pos _) (text_by ps called s) sought.small.remainder (number_ended called s ps (here (length vars) remainder ended)) is)) some
+  remainder_arm found one some = on_ok_weaker r (λ finds called vars s sought ended is. finds _ (one (pos (remainder_in s)) (text_by ps called s) sought.small.remainder (number_ended called s ps (here (length vars) remainder ended)) is)) some
 
   pub modulus_arm : (found : Option Found) → FindsNumber text f (λ z. record f { modulus = z }) found → FindsSome found → OnOk r (Finds modulus)
-  modulus_arm found one some = on_ok_weaker r (λ finds called vars s sought ended is. finds _ (one (pos _) (text_by ps called s) sought.small.modulus (number_ended called s ps (here (length vars) modulus ended)) is)) some
+  modulus_arm found one some = on_ok_weaker r (λ finds called vars s sought ended is. finds _ (one (pos (modulus_in s)) (text_by ps called s) sought.small.modulus (number_ended called s ps (here (length vars) modulus ended)) is)) some
 
   pub step_arm : (found : Option Found) → FindsStep text f (λ k. record f { offset = k }) found → FindsSome found → OnOk r (Finds step)
-  step_arm found one some = on_ok_weaker r (λ finds called vars s sought ended is. finds _ (one _ (text_by ps called s) sought.small.offset (number_ended called s ps (here (length vars) step ended)) is)) some
+  step_arm found one some = on_ok_weaker r (λ finds called vars s sought ended is. finds _ (one (offset_in s) (text_by ps called s) sought.small.offset (number_ended called s ps (here (length vars) step ended)) is)) some
 
   pub constant_arm : OnOk r (FindsConstant text f (λ k. record f { constant = k }) new) → OnOk r (Finds constant)
-  constant_arm some = on_ok_weaker r (λ finds called vars s sought ended is. finds _ (text_by ps called s) sought.small.constant (number_ended called s ps (here (length vars) constant ended)) is) some
+  constant_arm some = on_ok_weaker r (λ finds called vars s sought ended is. finds (constant_in s) (text_by ps called s) sought.small.constant (number_ended called s ps (here (length vars) constant ended)) is) some
 
   -- ---- all that is left
   all_left : (qs : List Part) (names : List (List ℕ)) (s : State) (own : List ℕ) → is_empty qs ≡ true → drop f.at text ≡ own ++ text_by qs names s → drop f.at text ≡ own
@@ -55,7 +55,7 @@ module _ {T E : Type 0} (listed : Listed) (text : List ℕ) (ps : List Part) (f 
   values_arm found one some =
       on_ok_weaker r
       (λ finds called vars s sought ended is.
-      finds _ (ap (λ g. Some g) (one ∙ ap (λ l. past (length l) (record f { values = f.at })) (all_left ps called s _ (here (length vars) values ended) is))))
+      finds _ (ap (λ g. Some g) (one ∙ ap (λ l. past (length l) (record f { values = f.at })) (all_left ps called s (known_text s) (here (length vars) values ended) is))))
       some
 
   pub code_arm : (bytes : List ℕ) (found : Found) → found ≡ past (length (drop f.at text)) (record f { code = f.at }) → FindsSome (Some found) → OnOk r (Finds (null_or bytes))
