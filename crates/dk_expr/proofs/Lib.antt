@@ -12,8 +12,8 @@ pub mod Ends
 pub mod Small
 pub mod Arms
 pub mod Followed
-pub mod Walking
+pub mod Walks
 pub mod Foundings
 pub mod Told
 pub mod Unique
-pub mod Reading
+pub mod FirstRead

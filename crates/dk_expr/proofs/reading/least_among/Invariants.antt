@@ -1,4 +1,4 @@
-use Rattle.dk_expr.proofs.Reading.{IsLeastUpTo}
+use Rattle.dk_expr.proofs.FirstRead.{IsLeastUpTo}
 use Rattle.dk_expr.proofs.reading.least_among.Given as goal
 
 abbrev pub invariant-loop-found : goal.invariant-loop-found

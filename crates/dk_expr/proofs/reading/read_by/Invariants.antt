@@ -1,4 +1,4 @@
-use Rattle.dk_expr.proofs.Reading.{NoneBelow}
+use Rattle.dk_expr.proofs.FirstRead.{NoneBelow}
 use Rattle.dk_expr.proofs.reading.read_by.Given as goal
 
 abbrev pub invariant-loop-row : goal.invariant-loop-row

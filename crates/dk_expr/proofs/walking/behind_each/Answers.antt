@@ -1,7 +1,7 @@
 use Rattle.std.specs.Prelude.{length}
 use Rattle.std.proofs.Common.{map}
 use Rattle.dk_expr.specs.Shown.{shown}
-use Rattle.dk_expr.proofs.Walking.{all_behind, one_more}
+use Rattle.dk_expr.proofs.Walks.{all_behind, one_more}
 use Rattle.dk_expr.proofs.walking.behind_each.Goals as goal
 
 pub loop-found-preserved : goal.loop-found-preserved

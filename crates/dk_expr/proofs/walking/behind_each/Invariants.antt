@@ -1,6 +1,6 @@
 use Rattle.std.proofs.Common.{map}
 use Rattle.dk_expr.specs.Shown.{shown}
-use Rattle.dk_expr.proofs.Walking.{Behind}
+use Rattle.dk_expr.proofs.Walks.{Behind}
 use Rattle.dk_expr.proofs.walking.behind_each.Given as goal
 
 abbrev pub invariant-loop-found : goal.invariant-loop-found
