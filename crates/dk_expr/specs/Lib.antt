@@ -5,7 +5,6 @@ pub mod Laws
 -- what those are made of
 pub mod Held
 -- inner: cited by the clauses of bodies and in proofs alone
-pub mod Shown
 pub mod Naming
 pub mod Readable
 pub mod Following

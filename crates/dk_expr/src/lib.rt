@@ -6,7 +6,6 @@ mod found;
 pub mod laws;
 mod names;
 mod numbers;
-mod parts;
 mod reading;
 mod states;
 mod steps;

@@ -19,11 +19,10 @@ ghost use Rattle.dk_expr.specs.declared.found.Found.{Found};
 use crate::Assertion;
 use crate::found::Found;
 use crate::names::Names;
-use crate::parts::parts_of;
 use crate::states::state_of;
 use crate::walking::behind_all;
 use dk_base::{List, NoMemory, VarId, VarInfo};
-use dk_print::instance;
+use dk_print::{instance, parts_of};
 use dk_template::{RowId, State, Takes, Tuple, admits, fits, is_written, proper, template_at};
 use std::alloc::Global;
 

@@ -4,14 +4,14 @@ ghost use Rattle.dk_graph.specs.Notes.{noted_under};
 ghost use Rattle.dk_expr.specs.Following.{past, with_var};
 ghost use Rattle.dk_expr.specs.Readable.{begins_blank, may_be};
 ghost use Rattle.dk_expr.specs.Searches.{FindsConstant, FindsName, FindsNumber, FindsPart, FindsProduct, FindsStep, FindsTerm, FindsTimes, KeepsAll};
-ghost use Rattle.dk_expr.specs.Shown.{shown};
+ghost use Rattle.dk_print.specs.Shown.{shown};
 ghost use Rattle.dk_expr.specs.declared.found.Found.{Found};
 
 use crate::found::Found;
 use crate::names::Names;
 use crate::numbers::{number_at, sign_at, step_at, with_sign};
-use crate::parts::Part;
 use dk_base::{List, NoMemory, VarId};
+use dk_print::Part;
 
 // Whether the bytes are none, or begin with a blank.
 fn begins_blank(bytes: &[u8]) -> bool

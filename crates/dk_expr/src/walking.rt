@@ -1,14 +1,14 @@
 // What can be found in a text of what the parts of a row say.
 ghost use Rattle.std.specs.Prelude.{Contains, IfOk, map};
 ghost use Rattle.dk_expr.specs.Searches.{FindsPart, FindsParts};
-ghost use Rattle.dk_expr.specs.Shown.{shown};
+ghost use Rattle.dk_print.specs.Shown.{shown};
 ghost use Rattle.dk_expr.specs.declared.found.Found.{Found};
 
 use crate::found::Found;
 use crate::names::Names;
-use crate::parts::Part;
 use crate::steps::push_part;
 use dk_base::{List, NoMemory};
+use dk_print::Part;
 use std::alloc::Global;
 
 // The ways in which the part can be read behind each of what is found.

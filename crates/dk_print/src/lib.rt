@@ -11,4 +11,5 @@ mod terms;
 mod values;
 
 pub use instances::{instance, push_instance};
+pub use parts::{Part, parts_of};
 pub use sections::{fault, push_fault, push_section, push_stats, section, stats};

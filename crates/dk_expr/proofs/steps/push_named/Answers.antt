@@ -1,5 +1,5 @@
 use Rattle.std.proofs.Common.{map}
-use Rattle.dk_expr.specs.Shown.{shown}
+use Rattle.dk_print.specs.Shown.{shown}
 use Rattle.dk_expr.proofs.Searching.{none_searched, step_searched}
 use Rattle.dk_expr.proofs.steps.push_named.Goals as goal
 

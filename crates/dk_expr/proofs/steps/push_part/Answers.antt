@@ -1,5 +1,5 @@
 use Rattle.std.proofs.Common.{map}
-use Rattle.dk_expr.specs.Shown.{shown}
+use Rattle.dk_print.specs.Shown.{shown}
 use Rattle.dk_expr.proofs.Arms.{bound_arm, code_arm, constant_arm, lead_arm, modulus_arm, named_arm, remainder_arm, step_arm, term_arm, values_arm, word_arm}
 use Rattle.dk_expr.proofs.steps.push_part.Goals as goal
 

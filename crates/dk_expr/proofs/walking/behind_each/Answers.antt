@@ -1,6 +1,6 @@
 use Rattle.std.specs.Prelude.{length}
 use Rattle.std.proofs.Common.{map}
-use Rattle.dk_expr.specs.Shown.{shown}
+use Rattle.dk_print.specs.Shown.{shown}
 use Rattle.dk_expr.proofs.Walks.{all_behind, one_more}
 use Rattle.dk_expr.proofs.walking.behind_each.Goals as goal
 

@@ -1,5 +1,5 @@
 use Rattle.std.proofs.Common.{map}
-use Rattle.dk_expr.specs.Shown.{shown}
+use Rattle.dk_print.specs.Shown.{shown}
 use Rattle.dk_expr.proofs.Walks.{Behind}
 use Rattle.dk_expr.proofs.walking.behind_each.Given as goal
 
