@@ -16,8 +16,8 @@ pub fn gcd_of(a: u64, b: u64) -> u64
     x
 }
 
-/// The greatest common divisor of wide numbers.
-pub fn gcd_wide(a: u128, b: u128) -> u128
+// That of wide numbers.
+fn gcd_of_wide(a: u128, b: u128) -> u128
     ensures { result ≡ gcd a b }
 {
     let mut x = a;
@@ -28,4 +28,15 @@ pub fn gcd_wide(a: u128, b: u128) -> u128
         y = rest;
     }
     x
+}
+
+/// The greatest common divisor of wide numbers, in 64 bits where both have no more.
+pub fn gcd_wide(a: u128, b: u128) -> u128
+    ensures { result ≡ gcd a b }
+{
+    if a <= u64::MAX as u128 && b <= u64::MAX as u128 {
+        gcd_of(a as u64, b as u64) as u128
+    } else {
+        gcd_of_wide(a, b)
+    }
 }

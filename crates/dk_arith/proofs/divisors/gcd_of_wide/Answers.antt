@@ -1,7 +1,7 @@
 use Rattle.std.proofs.Common.{arith}
 use Rattle.std.proofs.lemmas.Nat.Gcd.{IsGcd-from_zero, IsGcd-from_mod}
 use Rattle.dk_arith.proofs.GcdLaws.{gcd_is}
-use Rattle.dk_arith.proofs.divisors.gcd_wide.Goals as goal
+use Rattle.dk_arith.proofs.divisors.gcd_of_wide.Goals as goal
 
 pub loop-y-preserved : goal.loop-y-preserved
 loop-y-preserved c g h = c.loop-y.invariant g (IsGcd-from_mod _ _ g h)
