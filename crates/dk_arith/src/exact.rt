@@ -1,6 +1,5 @@
 // Exact sums and products of the coordinates of points and directions.
 ghost use Rattle.std.specs.Prelude.{◌≡◌, ◌≤◌, ◌^◌, ℤ, pos, unsigned_abs, ◌+ℤ◌, ◌-ℤ◌, ◌*ℤ◌, ◌≤ℤ◌, int_div};
-ghost use Rattle.std.specs.Ordering.{int_eq};
 ghost use Rattle.dk_arith.specs.Directions.{gcd_of_three, leading, signed_as, divisor};
 
 use crate::divisors::gcd_wide;
@@ -102,17 +101,6 @@ pub fn value_at(a: i128, b: i128, x: i64, y: i64) -> i128
     ensures small { unsigned_abs result ≤ 2 ^ 126 }
 {
     a * x as i128 + b * y as i128
-}
-
-/// Whether `a * b` and `c * d` are equal. It is exact.
-pub fn same_products(a: i128, b: i128, c: i128, d: i128) -> bool
-    requires a { unsigned_abs a ≤ 2 ^ 31 }
-    requires b { unsigned_abs b ≤ 2 ^ 31 }
-    requires c { unsigned_abs c ≤ 2 ^ 31 }
-    requires d { unsigned_abs d ≤ 2 ^ 31 }
-    ensures { result ≡ int_eq (a *ℤ b) (c *ℤ d) }
-{
-    a * b == c * d
 }
 
 /// `a * b - c * d`, which is exact.

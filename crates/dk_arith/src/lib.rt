@@ -6,4 +6,4 @@ mod exact;
 pub mod laws;
 
 pub use divisors::{gcd_of, gcd_wide};
-pub use exact::{Direction, area, lowest, minus, same_products, value_at, value_in_space};
+pub use exact::{Direction, area, lowest, minus, value_at, value_in_space};

@@ -2,13 +2,13 @@
 ghost use Rattle.std.specs.Prelude.{◌≡◌, ◌↔◌, ◌&&◌, ◌≤◌, ◌^◌, ℤ, pos, false, unsigned_abs, [], ◌∷◌, map, nat_le, IsTrue};
 ghost use Rattle.dk_forms.specs.Known.{fact, both};
 ghost use Rattle.dk_arith.specs.Vectors.{minus, cross};
-ghost use Rattle.dk_forms.specs.Plane.{span, plane, plane_meet, in_space, plane_between, plane_across, first_off, are_parallel, is_before, lesser, greater, are_aligned, is_in_plane, plane_through, IsPoint, IsSpan, IsPlane, plane_from, IsPlaneState, plane_state, plane_known, plane_join, plane_of};
+ghost use Rattle.dk_forms.specs.Plane.{span, plane, plane_meet, in_space, plane_between, plane_across, first_off, is_before, lesser, greater, are_aligned, is_in_plane, plane_through, IsPoint, IsSpan, IsPlane, plane_from, IsPlaneState, plane_state, plane_known, plane_join, plane_of};
 ghost use Rattle.dk_forms.specs.Points.{triple, quadruple, direction, step, IsGap};
 ghost use Rattle.std.specs.List.{list_all, All};
 
 use crate::State;
 use crate::small::{self, Step};
-use dk_arith::{Direction, area, lowest, minus, same_products, value_in_space};
+use dk_arith::{Direction, area, lowest, minus, value_in_space};
 
 /// A point in space.
 #[derive(Clone, Copy)]
@@ -59,32 +59,6 @@ fn gap(p: Point, q: Point) -> Direction
         b: minus(q.y, p.y),
         c: minus(q.z, p.z),
     }
-}
-
-fn are_parallel(u: Direction, f: Direction) -> bool
-    requires u { IsGap (direction u) }
-    requires f { IsGap (direction f) }
-    ensures { result ≡ are_parallel (direction u) (direction f) }
-{
-    if same_products(u.a, f.b, f.a, u.b) {
-        if same_products(u.a, f.c, f.a, u.c) {
-            same_products(u.b, f.c, f.b, u.c)
-        } else {
-            false
-        }
-    } else {
-        false
-    }
-}
-
-/// Whether the three points lie on one line.
-fn are_aligned(p: Point, q: Point, v: Point) -> bool
-    requires p { IsPoint (triple p) }
-    requires q { IsPoint (triple q) }
-    requires v { IsPoint (triple v) }
-    ensures { result ≡ are_aligned (triple p) (triple q) (triple v) }
-{
-    are_parallel(gap(p, q), gap(p, v))
 }
 
 /// A plane: the points with `a * x + b * y + c * z + d = 0`.
@@ -158,7 +132,7 @@ fn first_off(p: Point, q: Point, points: &[Point]) -> Point
 {
     match points {
         [] => p,
-        [v, rest @ ..] => if are_aligned(p, q, *v) {
+        [v, rest @ ..] => if are_on_line(p, q, *v) {
             first_off(p, q, rest)
         } else {
             *v
@@ -189,7 +163,7 @@ fn plane_between(p: Point, q: Point, points: &[Point]) -> State
     ensures { result ≡ plane_state (plane_between (triple p) (triple q) (map triple points.now)) }
 {
     let v = first_off(p, q, points);
-    if are_aligned(p, q, v) {
+    if are_on_line(p, q, v) {
         state_of_span(p, q)
     } else {
         let n = plane_through(p, q, v);
