@@ -35,6 +35,7 @@ fn state_of_one(tuple: &[View<'_>]) -> State
 }
 
 // Whether one point leaves the state as it is.
+#[inline(always)]
 fn one_stays(state: &State, tuple: &[View<'_>]) -> bool
     requires state { IsLineState state.now }
     requires tuple { IsTuple (kind.Int ∷ kind.Int ∷ []) (values_of tuple.now) }
@@ -65,6 +66,7 @@ impl Row for Linear {
         join(alloc, self.row(), a, b)
     }
 
+    #[inline(always)]
     fn stays(&self, state: &State, tuple: &[View<'_>]) -> bool {
         one_stays(state, tuple)
     }

@@ -1,6 +1,6 @@
 // Bitmaps of the patterns: which of them have a leader, 64 to a word.
 ghost use Rattle.std.specs.Prelude.{◌≡◌, ◌↔◌, ◌<◌, ◌≤◌, ◌*◌, [], ◌∷◌, true, false, All, IfOk, IsTrue, List, cond, drop, length, take};
-ghost use Rattle.dk_presence.specs.Patterns.{counted_by, has};
+ghost use Rattle.dk_presence.specs.Patterns.{counted_by, has, has_all};
 ghost use Rattle.dk_presence.specs.declared.held.Held.{Held};
 ghost use Rattle.dk_samples.specs.Leaders.{VarsAscend};
 ghost use Rattle.dk_base.specs.declared.kinds.VarId.{VarId};
@@ -152,11 +152,37 @@ fn rarest(lists: &[Vec<usize>], x: VarId, y: VarId, z: VarId) -> VarId
     }
 }
 
-/// Whether in some sample all of these leaders are present, as the patterns tell one after another.
+// Whether a pattern has all of these variables.
+fn has_each(pattern: &Held, vars: &[VarId]) -> bool
+    requires { VarsAscend pattern.now.leaders }
+    ensures { result ≡ has_all pattern.now.leaders vars.now }
+{
+    for v in vars {
+        if !has(pattern.leaders.as_slice(), *v) {
+            return false;
+        }
+    }
+    true
+}
+
+// Whether some pattern has all of these variables. It ends at the first that does.
+fn some_has_each(held: &[Held], vars: &[VarId]) -> bool
+    requires { All (λ h. VarsAscend h.leaders) held.now }
+    ensures { result ≡ are_together held.now vars.now }
+{
+    for pattern in held {
+        if has_each(pattern, vars) {
+            return true;
+        }
+    }
+    false
+}
+
+/// Whether in some sample all of these leaders are present, as the patterns tell one after another, up to the first that has all.
 pub(crate) fn counts_some(presence: &Presence, vars: &[VarId]) -> bool
     ensures { IsTrue result ↔ (0 < counted_by presence.now vars.now) }
 {
-    presence.count(vars) != 0
+    some_has_each(presence.held(), vars)
 }
 
 /// An index of the patterns of present leaders: for each variable where the patterns stand that have it, and a bitmap where these are
