@@ -105,42 +105,18 @@ row_more old row leaders present i w v b long within is has_it word done rest = 
 pub rest_more : (old row : List ℕ) (i w : ℕ) → ((k : ℕ) → i ≤ k → get_or row k 0 ≡ get_or old k 0) → (k : ℕ) → i + 1 ≤ k → get_or (set row i w) k 0 ≡ get_or old k 0
 rest_more old row i w rest = λ k l. get_or-set_other row i k w 0 (λ e. absurd (omega (arith, l, e))) ∙ rest k (omega (arith, l))
 
--- ---- one pattern more
-pub row_none : (leaders : List VarId) (block : List Held) (row : List ℕ) → row ≡ replicate (length leaders) 0 → IsRowOf leaders (take 0 block) row
-row_none leaders block row is = record {
-  long = ap length is ∙ length-replicate (length leaders) 0;
-  each = λ k d l. ap (λ xs. get_or xs k 0) is ∙ get_or-replicate (length leaders) k 0 0 l;
-}
-
+-- ---- room for one pattern more
 pub row_room : (leaders : List VarId) (block : List Held) (row : List ℕ) (i : ℕ) (d : Held) → IsRowOf leaders (take i block) row → i < length block → length block ≤ 64
     → All (λ n. n < 2 ^ 63) row
 row_room leaders block row i d is within few = λ k e l.
     let at = get_or_default row k e 0 l in
     let word = is.each k none (omega (arith, l, is.long)) in
     let below = digits_below (λ h. has h.leaders (get_or leaders k none)) block d i (omega (arith, within)) in
-    let most : 2 ^ i ≤ 2 ^ 63 = pow-le-pow_right (omega arith) (omega (arith, within, few)) in
+    let le : i ≤ 63 = omega (arith, within, few) in
+    let most : 2 ^ i ≤ 2 ^ 63 = pow-le-pow_right (omega arith) le in
     omega (arith, at, word, below, most)
 
-pub row_of_more : (leaders present : List VarId) (block : List Held) (i : ℕ) (pattern : Held) (old new : List ℕ) → i < length block → pattern ≡ get_or block i pattern → present ≡ pattern.leaders
-    → IsRowOf leaders (take i block) old → length new ≡ length old
-    → ((k : ℕ) (d : VarId) → k < length leaders → get_or new k 0 ≡ get_or old k 0 * 2 + cond (has present (get_or leaders k d)) 1 0)
-    → IsRowOf leaders (take (i + 1) block) new
-row_of_more leaders present block i pattern old new within is of row long each = record {
-  long = long ∙ row.long;
-  each = λ k d l.
-      let v = get_or leaders k d in
-      let digit : has present v ≡ has (get_or block i pattern).leaders v = ap (λ vs. has vs v) (of ∙ ap (λ (h : Held). h.leaders) is) in
-      each k d l ∙ (ap (λ n. n * 2 + cond (has present v) 1 0) (row.each k d l)
-      ∙ (ap (λ b. digits (λ h. has h.leaders v) (take i block) * 2 + cond b 1 0) digit ∙ sym (digits_more (λ h. has h.leaders v) block i pattern within)));
-}
-
 -- ---- one block more
-pub begun_none : (held : List Held) (leaders : List VarId) (maps : List (Vec ℕ)) → length maps ≡ length leaders → All (λ (m : Vec ℕ). m.items ≡ []) maps → AreBegun held leaders 0 maps
-begun_none held leaders maps long empty = record {
-  long = long;
-  each = λ k d e l. record { long = ap length (empty k e (omega (arith, l, long))); each = λ j lj. absurd (omega (arith, lj)) };
-}
-
 words_more : (held : List Held) (v : VarId) (j word : ℕ) (old new : List ℕ) → AreWords held v j old → word ≡ digits (λ h. has h.leaders v) (block_at held j) → new ≡ old ++ word ∷ [] → AreWords held v (j + 1) new
 words_more held v j word old new are is pushed = record {
   long = let l = ap length pushed in omega (arith, l, length_push old word, are.long);
@@ -162,21 +138,3 @@ begun_more held leaders j block maps new row begun is of long each = record {
       let word = of.each k d l ∙ ap (digits (λ h. has h.leaders (get_or leaders k d))) is in
       words_more held (get_or leaders k d) j (get_or row k 0) (get_or maps k e).items (get_or new k e).items (begun.each k d e l) word (each k e (omega (arith, l, of.long)));
 }
-
--- ---- one word more in a bitmap
-pub push_more : (old maps : List (Vec ℕ)) (row : List ℕ) (i : ℕ) (word : ℕ) (map more : Vec ℕ) → i < length maps → map ≡ get_or maps i map → word ≡ get_or row i 0 → more.items ≡ map.items ++ word ∷ []
-    → ((k : ℕ) (d : Vec ℕ) → k < i → (get_or maps k d).items ≡ (get_or old k d).items ++ get_or row k 0 ∷ [])
-    → ((k : ℕ) (d : Vec ℕ) → i ≤ k → get_or maps k d ≡ get_or old k d)
-    → (k : ℕ) (d : Vec ℕ) → k < i + 1 → (get_or (set maps i more) k d).items ≡ (get_or old k d).items ++ get_or row k 0 ∷ []
-push_more old maps row i word map more within is word_is pushed done rest = λ k d l. elim (cases_lt k i) as (λ _. (get_or (set maps i more) k d).items ≡ (get_or old k d).items ++ get_or row k 0 ∷ []) [
-  | inl below ↦ ap (λ (m : Vec ℕ). m.items) (get_or-set_other maps i k more d (λ e. absurd (omega (arith, below, e)))) ∙ done k d below
-  | inr up ↦
-      let same : i ≡ k = omega (arith, l, up) in
-      let at : map ≡ get_or old i d = is ∙ (get_or_default maps i map d within ∙ rest i d (omega arith)) in
-      subst (λ n. (get_or (set maps i more) n d).items ≡ (get_or old n d).items ++ get_or row n 0 ∷ []) same
-      (ap (λ (m : Vec ℕ). m.items) (get_or-set_same maps i more d within) ∙ (pushed ∙ (ap (λ (m : Vec ℕ). m.items ++ word ∷ []) at ∙ ap (λ n. (get_or old i d).items ++ n ∷ []) word_is)))
-]
-
-pub left_more : (old maps : List (Vec ℕ)) (i : ℕ) (more : Vec ℕ) → ((k : ℕ) (d : Vec ℕ) → i ≤ k → get_or maps k d ≡ get_or old k d)
-    → (k : ℕ) (d : Vec ℕ) → i + 1 ≤ k → get_or (set maps i more) k d ≡ get_or old k d
-left_more old maps i more rest = λ k d l. get_or-set_other maps i k more d (λ e. absurd (omega (arith, l, e))) ∙ rest k d (omega (arith, l))
