@@ -1,5 +1,5 @@
 -- How bitmaps are made.
-use Rattle.std.proofs.Common.{◌≡◌, ◌≢◌, ◌<◌, ◌≤◌, ◌+◌, ◌*◌, ◌^◌, ◌++◌, ◌||◌, ◌∙◌, ◌==◌, ℕ, zero, suc, Bool, true, false, cond, All, List, [], ◌∷◌, Ok, arith, ap, sym, refl, subst, inl, inr, length, get_or, take}
+use Rattle.std.proofs.Common.{◌≡◌, ◌≢◌, ◌<◌, ◌≤◌, ◌+◌, ◌*◌, ◌^◌, ◌++◌, ◌||◌, ◌∙◌, ◌==◌, ℕ, zero, suc, Bool, true, false, cond, All, List, [], ◌∷◌, Ok, arith, ap, sym, refl, subst, inl, inr, length, get_or, take, replicate}
 use Rattle.std.specs.Global.{Vec}
 use Rattle.std.specs.List.Sorted.{IsBinarySearchResult}
 use Rattle.std.specs.Ordering.{nat_cmp}
@@ -7,13 +7,13 @@ use Rattle.std.proofs.Math.ListN.{set}
 use Rattle.std.proofs.Math.Nat.{pow-le-pow_right}
 use Rattle.std.proofs.lemmas.Bool.{cases_lt, cases_Bool, eq-eqb, eqb-true}
 use Rattle.std.proofs.lemmas.Cmp.{ranked}
-use Rattle.std.proofs.lemmas.List.{get_or-set_other, get_or-set_same, get_or_append_left, get_or_default, get_or_push, length_push}
+use Rattle.std.proofs.lemmas.List.{get_or-replicate, get_or-set_other, get_or-set_same, get_or_append_left, get_or_default, get_or_push, length-replicate, length_push}
 use Rattle.dk_base.specs.declared.kinds.VarId.{VarId}
 use Rattle.dk_presence.specs.Patterns.{has}
 use Rattle.dk_presence.specs.declared.held.Held.{Held}
 use Rattle.dk_samples.specs.Leaders.{VarsAscend}
 use Rattle.dk_engine.specs.Bitmaps.{AreBegun, AreBitmaps, AreWords, IsBitmap, IsPlaceOf, IsRowOf, block_at, digits}
-use Rattle.dk_engine.proofs.BitmapFacts.{digits_below}
+use Rattle.dk_engine.proofs.BitmapFacts.{digits_below, digits_more}
 
 none : VarId
 none = record { 0 = 0 }
@@ -97,10 +97,9 @@ row_more old row leaders present i w v b long within is has_it word done rest = 
       let same : i ≡ k = omega (arith, l, up) in
       let here : get_or (set row i w) i 0 ≡ w = get_or-set_same row i w 0 (omega (arith, within, long)) in
       let at : v ≡ get_or leaders i d = is ∙ get_or_default leaders i v d within in
-      let least : i ≤ i = omega arith in
       let digit : cond b 1 0 ≡ cond (has present (get_or leaders i d)) 1 0 = ap (λ c. cond c 1 0) (sym has_it ∙ ap (has present) at) in
       subst (λ n. get_or (set row i w) n 0 ≡ get_or old n 0 * 2 + cond (has present (get_or leaders n d)) 1 0) same
-      (here ∙ (word ∙ (ap (λ n. n * 2 + cond b 1 0) (rest i least) ∙ ap (λ n. get_or old i 0 * 2 + n) digit)))
+      (here ∙ (word ∙ (ap (λ n. n * 2 + cond b 1 0) (rest i (omega arith)) ∙ ap (λ n. get_or old i 0 * 2 + n) digit)))
 ]
 
 pub rest_more : (old row : List ℕ) (i w : ℕ) → ((k : ℕ) → i ≤ k → get_or row k 0 ≡ get_or old k 0) → (k : ℕ) → i + 1 ≤ k → get_or (set row i w) k 0 ≡ get_or old k 0

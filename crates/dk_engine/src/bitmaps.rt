@@ -1,5 +1,5 @@
 // Bitmaps of the patterns: which of them have a leader, 64 to a word.
-ghost use Rattle.std.specs.Prelude.{◌≡◌, ◌+◌, ◌/◌, ◌↔◌, ◌<◌, ◌≤◌, [], ◌∷◌, All, IfSome, IsTrue, List, cond, drop, length, take};
+ghost use Rattle.std.specs.Prelude.{◌≡◌, ◌+◌, ◌/◌, ◌↔◌, ◌<◌, ◌≤◌, ◌*◌, [], ◌∷◌, All, IfSome, IsTrue, List, cond, drop, get_or, length, take};
 ghost use Rattle.dk_presence.specs.Patterns.{counted_by, has, has_all};
 ghost use Rattle.dk_presence.specs.declared.held.Held.{Held};
 ghost use Rattle.dk_samples.specs.Leaders.{VarsAscend};
