@@ -14,5 +14,6 @@ pub mod Fitting
 pub mod Reading
 pub mod Turns
 -- inner: cited by the clauses of bodies and in proofs alone
+pub mod LineSteps
 pub mod Growing
 pub mod Refusing
