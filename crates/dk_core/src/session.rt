@@ -6,11 +6,12 @@ ghost use Rattle.dk_io.specs.Outside.{Rose};
 ghost use Rattle.dk_lines.specs.Reading.{left_of};
 ghost use Rattle.dk_state.specs.Spelling.{IsSpelling};
 ghost use Rattle.dk_core.specs.History.{History, effect_of, no_history, file_ended};
+ghost use Rattle.dk_core.specs.LineSteps.{LineGives, EndGives, BlankGives, WordsGive, fault_in_file, BlockGives, BlockCounts, LineShape, EndShape, ShapeAt, ClosesAt, LineStep, LineStepShape, StepShape, StepGives, StepCounts, line_turn, stop_of_fault, stop_of_unread};
 ghost use Rattle.dk_core.specs.Resuming.{IsStart, state_file};
 ghost use Rattle.dk_core.specs.Sections.{has_own_samples, has_section, section_of, some_if, stats_of};
 ghost use Rattle.dk_core.specs.Selecting.{SelectsBy};
 ghost use Rattle.dk_core.specs.Standing.{Fits, ReportsAlike, SessionStandsFor, Stands, block_resumed, blocks_of, file_of, grammar_of, left_behind, left_with_answer, options_of, over_of, points_of, select_of};
-ghost use Rattle.dk_core.specs.Steps.{LineGives, EndGives, BlankGives, WordsGive, NextBlock, SessionCounts, fault_in_file, BlockGives, BlockCounts, LineShape, EndShape, ShapeAt, ClosesAt, LineStep, LineStepShape, StepShape, StepGives, StepCounts, line_turn, stop_of_fault, stop_of_unread};
+ghost use Rattle.dk_core.specs.Steps.{NextBlock, SessionCounts};
 ghost use Rattle.dk_core.specs.Turns.{turn_of, ending_of};
 
 use crate::block::Block;
