@@ -20,3 +20,7 @@ pub mod Left
 pub mod Narrowed
 pub mod Sole
 pub mod Alone
+pub mod Picking
+pub mod Told
+pub mod Viewed
+pub mod Rules

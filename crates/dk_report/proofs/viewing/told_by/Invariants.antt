@@ -1,0 +1,10 @@
+use Rattle.std.specs.Prelude.{◌≡◌, ◌||◌, filter, is_some, map, take}
+use Rattle.std.specs.List.{list_any}
+use Rattle.dk_constants.specs.Known.{known_at}
+use Rattle.dk_presence.specs.Patterns.{has}
+use Rattle.dk_report.specs.Viewing.{may_follow}
+use Rattle.dk_report.proofs.viewing.told_by.Given as goal
+
+abbrev pub invariant-loop-pair : goal.invariant-loop-pair
+invariant-loop-pair l =
+    l.list ≡ map (λ pair. pair.0) (filter (λ pair. is_some (known_at l.known pair.1) || list_any (λ slot. has slot.now.leaders pair.1) l.slots || may_follow l.below l.row pair.0) (take l.pair-index l.led))
