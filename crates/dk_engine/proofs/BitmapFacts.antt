@@ -1,13 +1,12 @@
 -- What bitmaps say of patterns.
 use Rattle.std.proofs.Common.{◌≡◌, ◌≢◌, ◌<◌, ◌≤◌, ◌+◌, ◌-◌, ◌*◌, ◌/◌, ◌%◌, ◌^◌, ◌↔◌, ◌&&◌, ◌||◌, ◌⊎◌, ◌++◌, ◌∙◌, ℕ, zero, suc, min, Bool, true, false, cond, All, List, [], ◌∷◌, Ok, arith, ap, sym, refl, subst, inl, inr, length, get_or, take, drop, fold, sum_by, bit_and}
-use Rattle.std.specs.Global.{Vec}
 use Rattle.std.specs.List.{list_any}
 use Rattle.std.specs.Int.Bits.{and_step}
 use Rattle.std.proofs.lemmas.Bool.{cases_Bool, false≢true, true≢false}
-use Rattle.std.proofs.lemmas.List.{get_or-drop, get_or-take, get_or_default, get_or_push, get_or_append_left, length-drop, length-take, length_push, take-append-drop}
-use Rattle.std.proofs.lemmas.List.Elements.{All-head, All-tail}
+use Rattle.std.proofs.lemmas.List.{get_or-drop, get_or-take, length-drop, length-take, take-append-drop, take_more}
+use Rattle.std.proofs.lemmas.List.Elements.{All-cons, All-drop, All-head, All-tail, All-take}
 use Rattle.std.proofs.lemmas.List.Folds.{list_any-append, list_any_at, list_any_none}
-use Rattle.std.proofs.lemmas.List.Sums.{sum_by-cons}
+use Rattle.std.proofs.lemmas.List.Sums.{fold-append, sum_by-cons}
 use Rattle.dk_base.specs.declared.kinds.VarId.{VarId}
 use Rattle.dk_presence.specs.Patterns.{AreHeld, capped, counted_by, has, has_all}
 use Rattle.dk_presence.specs.declared.held.Held.{Held}
@@ -15,7 +14,7 @@ use Rattle.dk_forms.specs.declared.states.State.{State}
 use Rattle.dk_forms.specs.declared.states.State.TheVariants.{Empty, Holds}
 use Rattle.dk_suppress.specs.Soundness.{holds_of}
 use Rattle.dk_template.specs.declared.templates.StateForm.{StateForm}
-use Rattle.dk_engine.specs.Bitmaps.{AreBitmaps, IsBitmap, IsMapped, are_together, block_at, digits}
+use Rattle.dk_engine.specs.Bitmaps.{IsBitmap, are_together, block_at, digits}
 use Rattle.dk_engine.specs.Restored.{IsStateOf}
 
 -- ---- digits
@@ -67,7 +66,61 @@ digits_none p (k ∷ block) h = elim (cases_Bool (p k)) [
   | inr n ↦ ap (λ b. after p (0 * 2 + cond b 1 0) block) n ∙ digits_none p block (ap (λ b. b || list_any p block) (sym n) ∙ h)
 ]
 
+same_digit : (m n : ℕ) (b c : Bool) → m * 2 + cond b 1 0 ≡ n * 2 + cond c 1 0 → (m ≡ n) × (b ≡ c)
+same_digit m n true true e = (omega (arith, e), refl)
+same_digit m n true false e = absurd (omega (arith, e))
+same_digit m n false true e = absurd (omega (arith, e))
+same_digit m n false false e = (omega (arith, e), refl)
+
+-- numbers of as many digits are the same only where each digit is
+after_same : (p q : Held → Bool) (m n : ℕ) (block : List Held) → after p m block ≡ after q n block → (m ≡ n) × All (λ h. p h ≡ q h) block
+unfolding after
+after_same p q m n [] e = (e, λ k d l. absurd (omega (arith, l)))
+after_same p q m n (h ∷ block) e =
+    let rest = after_same p q (m * 2 + cond (p h) 1 0) (n * 2 + cond (q h) 1 0) block e in
+    let here = same_digit m n (p h) (q h) rest.0 in
+    (here.0, All-cons (λ h. p h ≡ q h) h block here.1 rest.1)
+
+digits_same : (p q : Held → Bool) (block : List Held) → digits p block ≡ digits q block → All (λ h. p h ≡ q h) block
+unfolding after
+digits_same p q block e = (after_same p q 0 0 block e).1
+
+after_alike : (p q : Held → Bool) (m : ℕ) (block : List Held) → All (λ h. p h ≡ q h) block → after p m block ≡ after q m block
+unfolding after
+after_alike p q m [] all = refl
+after_alike p q m (h ∷ block) all =
+    ap (λ b. after p (m * 2 + cond b 1 0) block) (All-head (λ h. p h ≡ q h) h block all)
+    ∙ after_alike p q (m * 2 + cond (q h) 1 0) block (All-tail (λ h. p h ≡ q h) h block all)
+
+digits_alike : (p q : Held → Bool) (block : List Held) → All (λ h. p h ≡ q h) block → digits p block ≡ digits q block
+unfolding after
+digits_alike p q block all = after_alike p q 0 block all
+
+-- one pattern more
+pub digits_more : (test : Held → Bool) (block : List Held) (i : ℕ) (d : Held) → i < length block
+    → digits test (take (i + 1) block) ≡ digits test (take i block) * 2 + cond (test (get_or block i d)) 1 0
+digits_more test block i d l = ap (digits test) (take_more block i d l) ∙ fold-append (λ n h. n * 2 + cond (test h) 1 0) 0 (take i block) (get_or block i d ∷ [])
+
+pub digits_below : (test : Held → Bool) (block : List Held) (d : Held) (i : ℕ) → i ≤ length block → digits test (take i block) < 2 ^ i
+digits_below test block d zero l = omega arith
+digits_below test block d (suc i) l =
+    let below = digits_below test block d i (omega (arith, l)) in
+    let next : i + 1 ≡ suc i = omega arith in
+    let more : digits test (take (suc i) block) ≡ digits test (take i block) * 2 + cond (test (get_or block i d)) 1 0 =
+    ap (λ n. digits test (take n block)) (sym next) ∙ digits_more test block i d (omega (arith, l))
+    in
+    let bit : cond (test (get_or block i d)) 1 0 < 2 = small (test (get_or block i d)) in
+    let twice : 2 ^ suc i ≡ 2 ^ i * 2 = omega arith in
+    omega (arith, below, more, bit, twice)
+  where
+    small : (b : Bool) → cond b 1 0 < 2
+    small true = omega arith
+    small false = omega arith
+
 -- ---- blocks
+length_block : (held : List Held) (j : ℕ) → length (block_at held j) ≡ min 64 (length held - j * 64)
+length_block held j = length-take 64 (drop (j * 64) held) ∙ ap (min 64) (length-drop (j * 64) held)
+
 -- one that a block has is one of all
 in_block : (p : Held → Bool) (held : List Held) (s : ℕ) → list_any p (take 64 (drop s held)) ≡ true → list_any p held ≡ true
 in_block p held s h =
@@ -97,9 +150,6 @@ no_block p held none = list_any_none p held (λ i d l.
       | inl e ↦ absurd (true≢false (sym (list_any_at p (block_at held j) r d long (ap p at ∙ e)) ∙ none j within))
       | inr n ↦ n
     ])
-  where
-    length_block : (held : List Held) (j : ℕ) → length (block_at held j) ≡ min 64 (length held - j * 64)
-    length_block held j = length-take 64 (drop (j * 64) held) ∙ ap (min 64) (length-drop (j * 64) held)
 
 list_any_ext : (p q : Held → Bool) (held : List Held) → ((h : Held) → p h ≡ q h) → list_any p held ≡ list_any q held
 list_any_ext p q [] e = refl
@@ -124,9 +174,10 @@ word_and : (held : List Held) (x y z : VarId) (a b c : List ℕ) → IsBitmap he
 unfolding all_three
 word_and held x y z a b c ia ib ic j l =
     let block = block_at held j in
-    let ea = ia.each j l in
-    let eb = ib.each j (omega (arith, l, ia.long, ib.long)) in
-    let ec = ic.each j (omega (arith, l, ia.long, ic.long)) in
+    let within : j < length held / 64 + 1 = omega (arith, l, ia.long) in
+    let ea = ia.each j within in
+    let eb = ib.each j within in
+    let ec = ic.each j within in
     ap (λ n. bit_and (bit_and n (get_or b j 0)) (get_or c j 0)) ea
     ∙ (ap (λ n. bit_and (bit_and (digits (λ h. has h.leaders x) block) n) (get_or c j 0)) eb
     ∙ (ap (λ n. bit_and n (get_or c j 0)) (digits_and (λ h. has h.leaders x) (λ h. has h.leaders y) block)
@@ -156,6 +207,29 @@ common_none held x y z a b c ia ib ic none =
           absurd (omega (arith, some, word, nil))
       | inr n ↦ n
     ])
+
+-- ---- one bitmap
+-- words in which all patterns have the same bit
+pub all_same : (held : List Held) (v : VarId) (words : List ℕ) (present : Bool) → IsBitmap held v words
+    → ((j : ℕ) → j < length words → get_or words j 0 ≡ digits (λ _. present) (block_at held j)) → All (λ h. has h.leaders v ≡ present) held
+all_same held v words present is same = λ i d l.
+    let j = i / 64 in
+    let r = i % 64 in
+    let sum : j * 64 + r ≡ i = omega arith in
+    let small : r < 64 = omega arith in
+    let within : j < length held / 64 + 1 = omega (arith, l) in
+    let at : get_or (block_at held j) r d ≡ get_or held i d =
+    get_or-take 64 (drop (j * 64) held) r d small ∙ (get_or-drop (j * 64) held r d ∙ ap (λ k. get_or held k d) sum)
+    in
+    let long : r < length (block_at held j) = grind (arith, length_block held j, l, sum, small) in
+    let digit : digits (λ h. has h.leaders v) (block_at held j) ≡ digits (λ _. present) (block_at held j) = sym (is.each j within) ∙ same j (omega (arith, within, is.long)) in
+    ap (λ (h : Held). has h.leaders v) (sym at) ∙ digits_same (λ h. has h.leaders v) (λ _. present) (block_at held j) digit r d long
+
+pub not_same : (held : List Held) (v : VarId) (words : List ℕ) (present : Bool) (j : ℕ) → IsBitmap held v words → j < length words
+    → get_or words j 0 ≢ digits (λ _. present) (block_at held j) → All (λ h. has h.leaders v ≡ present) held → ⊥
+not_same held v words present j is l other all =
+    let P : Held → Type 0 = λ h. has h.leaders v ≡ present in
+    other (is.each j (omega (arith, l, is.long)) ∙ digits_alike (λ h. has h.leaders v) (λ _. present) (block_at held j) (All-take P 64 (drop (j * 64) held) (All-drop P (j * 64) held all)))
 
 -- ---- counts
 count_none : (held : List Held) (vars : List VarId) → are_together held vars ≡ false → sum_by (λ h. cond (has_all h.leaders vars) h.count 0) held ≡ 0
@@ -252,33 +326,6 @@ three_long (x ∷ []) d e f least most = absurd (omega (arith, least))
 three_long (x ∷ y ∷ []) d e f least most = absurd (omega (arith, least))
 three_long (x ∷ y ∷ z ∷ []) d e f least most = refl
 three_long (x ∷ y ∷ z ∷ w ∷ vars) d e f least most = absurd (omega (arith, most))
-
--- ---- maps
--- the words of a variable that has a bitmap
-pub bitmap_of : (held : List Held) (maps : List (Vec ℕ)) (v : VarId) (map : Vec ℕ) (words : List ℕ) → AreBitmaps held maps → IsMapped maps v → map ≡ get_or maps v.0 map → words ≡ map.items → IsBitmap held v words
-bitmap_of held maps v map words are mapped is of =
-    subst (IsBitmap held v) (ap (λ (m : Vec ℕ). m.items) (sym is) ∙ sym of) (are v map mapped.within (mapped.some map))
-
--- one bitmap more
-pub with_bitmap : (held : List Held) (maps : List (Vec ℕ)) (n : ℕ) (map : Vec ℕ) → length maps ≡ n → AreBitmaps held maps → (0 < length map.items → IsBitmap held (record { 0 = n }) map.items) → AreBitmaps held (maps ++ map ∷ [])
-with_bitmap held maps n map long are here = λ v d l some. elim (less_or_same v.0 n (omega (arith, l, long, length_push maps map))) [
-  | inl before ↦
-      let at : get_or (maps ++ map ∷ []) v.0 d ≡ get_or maps v.0 d = get_or_append_left maps (map ∷ []) d v.0 (omega (arith, before, long)) in
-      subst (λ (m : Vec ℕ). IsBitmap held v m.items) (sym at) (are v d (omega (arith, before, long)) (subst (λ (m : Vec ℕ). 0 < length m.items) at some))
-  | inr same ↦
-      let at : get_or (maps ++ map ∷ []) v.0 d ≡ map = get_or_push maps map d v.0 (long ∙ sym same) in
-      let v_is : record { 0 = n } ≡ v = ap (λ k. record { 0 = k }) (sym same) in
-      subst (λ (m : Vec ℕ). IsBitmap held v m.items) (sym at) (subst (λ (w : VarId). IsBitmap held w map.items) v_is (here (subst (λ (m : Vec ℕ). 0 < length m.items) at some)))
-]
-  where
-    less_or_same : (k i : ℕ) → k < i + 1 → (k < i) ⊎ (k ≡ i)
-    less_or_same zero zero l = inr refl
-    less_or_same zero (suc i) l = inl (omega arith)
-    less_or_same (suc k) zero l = absurd (omega (arith, l))
-    less_or_same (suc k) (suc i) l = elim (less_or_same k i (omega (arith, l))) [
-      | inl before ↦ inl (omega (arith, before))
-      | inr same ↦ inr (ap suc same)
-    ]
 
 -- ---- states
 -- a state that a row can have depends only on whether there are samples

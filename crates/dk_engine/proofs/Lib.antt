@@ -54,5 +54,5 @@ pub mod Saving
 mod Examples
 mod SeenSooner
 mod Slotless
-pub mod PostingFacts
 pub mod BitmapFacts
+pub mod MappingFacts

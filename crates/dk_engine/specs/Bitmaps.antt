@@ -18,16 +18,30 @@ digits test block = fold (λ n h. n * 2 + cond (test h) 1 0) 0 block
 abbrev pub block_at : List Held → ℕ → List Held
 block_at held j = take 64 (drop (j * 64) held)
 
+-- the first so many words of the bitmap of a variable, each of 64 patterns but for the last of all
+pub record AreWords (held : List Held) (v : VarId) (count : ℕ) (words : List ℕ) : Type 0 where
+  pub long : length words ≡ count
+  pub each : (j : ℕ) → j < count → get_or words j 0 ≡ digits (λ h. has h.leaders v) (block_at held j)
+
 -- the bitmap of a variable: a word for each 64 patterns, and one for those that are left
-pub record IsBitmap (held : List Held) (v : VarId) (words : List ℕ) : Type 0 where
-  pub long : length words ≡ length held / 64 + 1
-  pub each : (j : ℕ) → j < length words → get_or words j 0 ≡ digits (λ h. has h.leaders v) (block_at held j)
+abbrev pub IsBitmap : List Held → VarId → List ℕ → Type 0
+IsBitmap held v words = AreWords held v (length held / 64 + 1) words
 
--- the variable has a bitmap, which has words
-pub record IsMapped (maps : List (Vec ℕ)) (v : VarId) : Type 0 where
-  pub within : v.0 < length maps
-  pub some : (d : Vec ℕ) → 0 < length (get_or maps v.0 d).items
+-- for each leader, in their order, the first so many words of its bitmap
+pub record AreBegun (held : List Held) (leaders : List VarId) (count : ℕ) (maps : List (Vec ℕ)) : Type 0 where
+  pub long : length maps ≡ length leaders
+  pub each : (k : ℕ) (d : VarId) (e : Vec ℕ) → k < length leaders → AreWords held (get_or leaders k d) count (get_or maps k e).items
 
--- by the number of each variable its bitmap, or no words
-abbrev pub AreBitmaps : List Held → List (Vec ℕ) → Type 0
-AreBitmaps held maps = (v : VarId) (d : Vec ℕ) → v.0 < length maps → 0 < length (get_or maps v.0 d).items → IsBitmap held v (get_or maps v.0 d).items
+-- for each leader, in their order, its bitmap
+abbrev pub AreBitmaps : List Held → List VarId → List (Vec ℕ) → Type 0
+AreBitmaps held leaders maps = AreBegun held leaders (length held / 64 + 1) maps
+
+-- for each leader, in their order, the word of these patterns
+pub record IsRowOf (leaders : List VarId) (block : List Held) (row : List ℕ) : Type 0 where
+  pub long : length row ≡ length leaders
+  pub each : (k : ℕ) (d : VarId) → k < length leaders → get_or row k 0 ≡ digits (λ h. has h.leaders (get_or leaders k d)) block
+
+-- the variable stands at the place
+pub record IsPlaceOf (leaders : List VarId) (v : VarId) (place : ℕ) : Type 0 where
+  pub within : place < length leaders
+  pub stands : (d : VarId) → get_or leaders place d ≡ v

@@ -20,5 +20,4 @@ pub mod Sweeps
 pub mod Merged
 pub mod Narrow
 pub mod Restored
-pub mod Postings
 pub mod Bitmaps

@@ -137,6 +137,32 @@ fn add_changes(
     Ok(())
 }
 
+// With the changes of the next slots, from a place on, behind those of the slots in front of it, and up to which place they are.
+fn add_next(
+    after: &After<'_>,
+    asked: bool,
+    slots: &[Slot],
+    place: usize,
+    changes: &mut List<Change>,
+) -> Result<usize, NoMemory>
+    requires placed { All (λ slot. IsPlaced after.now.whole.grammar after.now.whole.infos after.now.whole.kept.leaders slot.row slot.leaders) slots.now }
+    requires proper { All (λ slot. IsProper (form_of slot.row) slot.state) slots.now }
+    requires within { place < length slots.now }
+    requires below { AreChangesBelow place (outcome asked (read_after after.now.whole.kept after.now.sample) after.now.sample) slots.now changes.old }
+    ensures more { IfOk result (λ next. place < next) }
+    ensures within { IfOk result (λ next. next ≤ length slots.now) }
+    ensures below { IfOk result (λ next. AreChangesBelow next (outcome asked (read_after after.now.whole.kept after.now.sample) after.now.sample) slots.now changes.new) }
+{
+    let end = run_end(asked, slots, place);
+    if place < end {
+        add_changes(after, asked, slots, place, end, changes)?;
+        Ok(end)
+    } else {
+        add_change(after, asked, slots, place, changes)?;
+        Ok(place + 1)
+    }
+}
+
 /// The changes of the slots that the sample doesn't leave as they are. Where it is asked, those that close go too.
 pub(crate) fn changes(
     alloc: Global,
@@ -151,16 +177,34 @@ pub(crate) fn changes(
     let mut changes = List::new(alloc);
     let mut place = 0;
     while place < slots.len() {
-        let end = run_end(asked, slots, place);
-        if place < end {
-            add_changes(after, asked, slots, place, end, &mut changes)?;
-            place = end;
-        } else {
-            add_change(after, asked, slots, place, &mut changes)?;
-            place += 1;
-        }
+        place = add_next(after, asked, slots, place, &mut changes)?;
     }
     Ok(changes)
+}
+
+// How many changes are few. A sample that changes many slots mostly loses a premise too, and then all its changes are found again.
+const FEW: usize = 64;
+
+/// The same changes, if they are few.
+pub(crate) fn few_changes(
+    alloc: Global,
+    after: &After<'_>,
+    asked: bool,
+    slots: &[Slot],
+) -> Result<Option<List<Change>>, NoMemory>
+    requires placed { All (λ slot. IsPlaced after.now.whole.grammar after.now.whole.infos after.now.whole.kept.leaders slot.row slot.leaders) slots.now }
+    requires proper { All (λ slot. IsProper (form_of slot.row) slot.state) slots.now }
+    ensures { IfOk result (λ found. IfSome found (AreChanges (outcome asked (read_after after.now.whole.kept after.now.sample) after.now.sample) slots.now)) }
+{
+    let mut changes = List::new(alloc);
+    let mut place = 0;
+    while place < slots.len() {
+        if changes.len() > FEW {
+            return Ok(None);
+        }
+        place = add_next(after, asked, slots, place, &mut changes)?;
+    }
+    Ok(Some(changes))
 }
 
 // Whether a premise about the row is content with the old state and not with the new one.

@@ -1,5 +1,5 @@
 // Whether kept parts meet the conditions, but for suppression.
-ghost use Rattle.std.specs.Prelude.{◌≡◌, ◌↔◌, ◌<◌, ◌^◌, All, Contains, IfOk, IsTrue, length};
+ghost use Rattle.std.specs.Prelude.{◌≡◌, ◌↔◌, ◌<◌, ◌^◌, All, Contains, IsTrue, length};
 ghost use Rattle.std.specs.List.{AllPairs};
 ghost use Rattle.dk_base.specs.Items.{is_text as is_string};
 ghost use Rattle.dk_base.specs.Numbers.{fits_i64};
@@ -14,15 +14,14 @@ ghost use Rattle.dk_samples.specs.Leaders.{VarsAscend};
 ghost use Rattle.dk_samples.specs.Samples.{is_present};
 ghost use Rattle.dk_template.specs.Templates.{IsRow, form_of};
 
-use crate::bitmaps::{Bitmaps, bit};
+use crate::bitmaps::{Bitmaps, are_same_words, bit};
 use crate::constant::are_known;
 use crate::places::is_before;
 use crate::{Kept, Slot};
-use dk_base::{Kind, NoMemory, Text, Value, VarId, VarInfo, is_text};
+use dk_base::{Kind, Text, Value, VarId, VarInfo, is_text};
 use dk_classes::Classes;
 use dk_presence::Held;
 use dk_template::{Grammar, RowId, State, admits, info, is_written as stands_written, proper};
-use std::alloc::Global;
 
 // The kind of a variable.
 fn kind_of(infos: &[VarInfo], v: VarId) -> Kind
@@ -169,21 +168,29 @@ pub(crate) fn has(vars: &[VarId], v: VarId) -> bool
     vars.binary_search_by_key(&v.0, |w| w.0).is_ok()
 }
 
+// Whether the variable is in all patterns, or in none, as they tell one after another.
+fn is_in_each(held: &[Held], v: VarId, present: bool) -> bool
+    requires { All (λ h. VarsAscend h.leaders) held.now }
+    ensures { IsTrue result ↔ All (λ h. has h.leaders v ≡ present) held.now }
+{
+    for pattern in held {
+        if has(pattern.leaders.as_slice(), v) != present {
+            return false;
+        }
+    }
+    true
+}
+
 // Whether the leader is present in all patterns, or absent from all.
 fn is_throughout(bitmaps: &Bitmaps<'_>, held: &[Held], leader: VarId, present: bool) -> bool
     requires ascend { All (λ h. VarsAscend h.leaders) held.now }
     requires bitmaps { bitmaps.now ≡ held.now }
     ensures { IsTrue result ↔ All (λ h. has h.leaders leader ≡ present) held.now }
 {
-    if !present && bitmaps.is_in_none(leader) {
-        return true;
+    match bitmaps.map(leader) {
+        Some(words) => are_same_words(held, words, present),
+        None => is_in_each(held, leader, present),
     }
-    for pattern in held {
-        if has(pattern.leaders.as_slice(), leader) != present {
-            return false;
-        }
-    }
-    true
 }
 
 // Whether the value isn't the missing one.
@@ -310,8 +317,13 @@ fn are_open_slots(grammar: Grammar, infos: &[VarInfo], kept: &Kept, bitmaps: &Bi
     true
 }
 
-// Whether parts meet the conditions, but that a rule may suppress a slot, as the bitmaps of their patterns tell.
-fn are_open_by(grammar: Grammar, infos: &[VarInfo], kept: &Kept, bitmaps: &Bitmaps<'_>) -> bool
+/// Whether parts meet the conditions, but that a rule may suppress a slot, as the bitmaps of their patterns tell.
+pub(crate) fn are_open(
+    grammar: Grammar,
+    infos: &[VarInfo],
+    kept: &Kept,
+    bitmaps: &Bitmaps<'_>,
+) -> bool
     requires shaped { AreShaped (length infos.now) kept.now }
     requires bitmaps { bitmaps.now ≡ kept.now.held }
     ensures { IsTrue result ↔ AreOpen grammar infos.now kept.now }
@@ -321,18 +333,4 @@ fn are_open_by(grammar: Grammar, infos: &[VarInfo], kept: &Kept, bitmaps: &Bitma
         && are_constants(infos, kept, bitmaps)
         && are_in_order(kept.slots.as_slice())
         && are_open_slots(grammar, infos, kept, bitmaps)
-}
-
-/// Whether parts meet the conditions, but that a rule may suppress a slot.
-pub(crate) fn are_open(
-    alloc: Global,
-    grammar: Grammar,
-    infos: &[VarInfo],
-    kept: &Kept,
-) -> Result<bool, NoMemory>
-    requires { AreShaped (length infos.now) kept.now }
-    ensures { IfOk result (λ are. IsTrue are ↔ AreOpen grammar infos.now kept.now) }
-{
-    let bitmaps = Bitmaps::of(alloc, infos.len() as u32, &kept.held)?;
-    Ok(are_open_by(grammar, infos, kept, &bitmaps))
 }

@@ -1,5 +1,6 @@
 // One sample more.
-ghost use Rattle.std.specs.Prelude.{◌≡◌, ◌<◌, [], ◌∷◌, ◌++◌, true, false, All, IfOk, IsTrue, List, length, map};
+ghost use Rattle.std.specs.Prelude.{◌≡◌, ◌<◌, [], ◌∷◌, ◌++◌, true, false, All, IfOk, IfSome, IsTrue, List, length, map};
+ghost use Rattle.std.specs.List.{list_any};
 ghost use Rattle.dk_base.specs.Values.{values_of};
 ghost use Rattle.dk_base.specs.declared.values.Value.{Value as SampleValue};
 ghost use Rattle.dk_classes.specs.Leaders.{own_leaders};
@@ -10,10 +11,10 @@ ghost use Rattle.dk_samples.specs.Leaders.{VarsAscend};
 ghost use Rattle.dk_engine.specs.Conditions.{AreFormed};
 ghost use Rattle.dk_engine.specs.Exact.{AreOfPoint, AreSamples, IsKeptOf};
 ghost use Rattle.dk_engine.specs.Feeding.{IsTurned, parts_after, read_after, slots_of, unchanged_now};
-ghost use Rattle.dk_engine.specs.Narrow.{AreChanges, IsMergedStep, IsShut, lost_places, opened_slots, outcome, slots_left};
+ghost use Rattle.dk_engine.specs.Narrow.{AreChanges, IsMergedStep, IsShut, loses_by, lost_places, opened_slots, outcome, slots_left};
 
 use crate::after::After;
-use crate::changes::{Change, changes, lose_some, lost_places, some_may_begin};
+use crate::changes::{Change, changes, few_changes, lose_some, lost_places, some_may_begin};
 use crate::changing::changed;
 use crate::counting::are_many;
 use crate::merging::merged;
@@ -86,26 +87,30 @@ impl Engine {
         })
     }
 
-    // What the sample makes of the slots. It is asked which of them close where they can: with a new pattern, and where the least or
-    // the greatest element may begin to be known.
-    fn changes(&self, sample: &[View<'_>]) -> Result<Changes, NoMemory>
+    // What the sample makes of the slots, if that is little: it changes few, no premise is lost by them, and without a new pattern none
+    // lets the least or the greatest element begin to be known. With a new pattern it is asked which slots close.
+    fn few_changes(&self, sample: &[View<'_>]) -> Result<Option<Changes>, NoMemory>
         requires { IsSample self.now.infos (values_of sample.now) }
-        ensures changes { IfOk result (λ c. AreChanges (outcome c.asked (read_after self.now.kept (values_of sample.now)) (values_of sample.now)) self.now.kept.slots c.all) }
-        ensures unasked { IfOk result (λ c. c.asked ≡ false → IsShut (values_of sample.now) self.now.kept c.all) }
+        ensures changes { IfOk result (λ o. IfSome o (λ c. AreChanges (outcome c.asked (read_after self.now.kept (values_of sample.now)) (values_of sample.now)) self.now.kept.slots c.all)) }
+        ensures unasked { IfOk result (λ o. IfSome o (λ c. c.asked ≡ false → IsShut (values_of sample.now) self.now.kept c.all)) }
+        ensures premises { IfOk result (λ o. IfSome o (λ c. list_any (loses_by self.now.kept.slots) c.all ≡ false)) }
     {
         let leaders = self.kept.leaders.leaders();
         let new = !self.kept.held.has_sample(leaders, sample)?;
         let after = After::of(self.alloc, self, sample);
         let slots = self.kept.slots.as_slice();
-        let all = changes(self.alloc, &after, new, slots)?;
-        if new {
-            return Ok(Changes { asked: new, all });
+        match few_changes(self.alloc, &after, new, slots)? {
+            Some(all) => {
+                if lose_some(slots, all.as_slice()) {
+                    return Ok(None);
+                }
+                if !new && some_may_begin(slots, all.as_slice()) {
+                    return Ok(None);
+                }
+                Ok(Some(Changes { asked: new, all }))
+            }
+            None => Ok(None),
         }
-        if !some_may_begin(slots, all.as_slice()) {
-            return Ok(Changes { asked: new, all });
-        }
-        let all = changes(self.alloc, &after, true, slots)?;
-        Ok(Changes { asked: true, all })
     }
 
     // Makes the changes of the slots, where the sample splits no class and ends no constant.
@@ -245,8 +250,8 @@ impl Engine {
         ensures stands { IfOk result (λ _. (samples : List (List SampleValue)) → AreSamples self.old.infos samples → IsKeptOf self.old.grammar self.old.infos samples self.old.kept → IsKeptOf self.old.grammar self.old.infos (samples ++ values_of sample.now ∷ []) self.new.kept) }
     {
         if self.is_settled(sample) {
-            let changes = self.changes(sample)?;
-            if !lose_some(self.slots(), changes.all.as_slice()) {
+            let few = self.few_changes(sample)?;
+            if let Some(changes) = few {
                 return self.change(sample, changes);
             }
         }

@@ -3,14 +3,17 @@ ghost use Rattle.std.specs.Prelude.{◌≡◌, ◌≢◌, ◌<◌, ◌≤◌, �
 ghost use Rattle.dk_base.specs.declared.values.Value.{Value};
 ghost use Rattle.dk_suppress.specs.Rules.{is_suppressed};
 ghost use Rattle.dk_template.specs.Admitted.{admits};
+ghost use Rattle.dk_classes.specs.Leaders.{own_leaders};
+ghost use Rattle.dk_engine.specs.Bitmaps.{AreBitmaps};
 ghost use Rattle.dk_engine.specs.Conditions.{AreParts};
 ghost use Rattle.dk_engine.specs.Exact.{AreOfPoint, AreSamples, IsKeptOf};
-ghost use Rattle.dk_engine.specs.Restored.{AreShaped, AreUnsuppressed, HaveParts, IsRearranged};
+ghost use Rattle.dk_engine.specs.Restored.{AreOpen, AreShaped, AreUnsuppressed, HaveParts, IsRearranged};
 ghost use Rattle.dk_engine.specs.Saved.{AreSavedParts, parts_of};
 ghost use Rattle.dk_engine.specs.declared.kept.Kept.{Kept};
 
 use crate::bitmaps::Bitmaps;
 use crate::conditions::are_open;
+use crate::mapping::bitmaps;
 use crate::nothing::Nothing;
 use crate::{Engine, Kept, Parts, Slot, Slots};
 use dk_base::{List, NoMemory, VarInfo};
@@ -86,12 +89,23 @@ fn kept_from(alloc: Global, count: usize, parts: Parts) -> Result<Option<Kept>, 
     }))
 }
 
+// Whether parts meet the conditions, but that a rule may suppress a slot, as these bitmaps of their leaders tell.
+fn is_open(grammar: Grammar, infos: &[VarInfo], kept: &Kept, maps: &[Vec<u64>]) -> bool
+    requires shaped { AreShaped (length infos.now) kept.now }
+    requires bitmaps { AreBitmaps kept.now.held (own_leaders kept.now.leaders) maps.now }
+    ensures { IsTrue result ↔ AreOpen grammar infos.now kept.now }
+{
+    let bitmaps = Bitmaps::of(&kept.held, kept.leaders.leaders(), maps);
+    are_open(grammar, infos, kept, &bitmaps)
+}
+
 impl Engine {
     // Whether no rule suppresses a slot in the parts as they stand.
-    fn suppresses_none(&self) -> Result<bool, NoMemory>
-        ensures { IfOk result (λ none. IsTrue none ↔ AreUnsuppressed self.now.kept) }
+    fn suppresses_none(&self, maps: &[Vec<u64>]) -> bool
+        requires { AreBitmaps self.now.kept.held (own_leaders self.now.kept.leaders) maps.now }
+        ensures { IsTrue result ↔ AreUnsuppressed self.now.kept }
     {
-        let bitmaps = Bitmaps::of(self.alloc, self.infos.len() as u32, &self.kept.held)?;
+        let bitmaps = Bitmaps::of(&self.kept.held, self.kept.leaders.leaders(), maps);
         let lowest = self.over(
             Some(&bitmaps),
             0,
@@ -104,7 +118,7 @@ impl Engine {
         let second = self.over(Some(&bitmaps), 1, lowest);
         let third = self.over(Some(&bitmaps), 2, second);
         let levels = self.over(Some(&bitmaps), 3, third);
-        Ok(none_suppressed(self.kept.slots.as_slice(), &levels))
+        none_suppressed(self.kept.slots.as_slice(), &levels)
     }
 
     // The engine with these parts, or None where they don't meet the conditions.
@@ -123,7 +137,8 @@ impl Engine {
         ensures meets { IfOk result (λ found. IfSome found (λ e. AreParts grammar vars kept)) }
         ensures none { IfOk result (λ found. found ≡ None → AreParts grammar vars kept → ⊥) }
     {
-        if !are_open(alloc, grammar, vars.as_slice(), &kept)? {
+        let maps = bitmaps(alloc, kept.leaders.leaders(), kept.held.held())?;
+        if !is_open(grammar, vars.as_slice(), &kept, maps.as_slice()) {
             return Ok(None);
         }
         let engine = Engine {
@@ -132,7 +147,7 @@ impl Engine {
             infos: vars,
             kept,
         };
-        if engine.suppresses_none()? {
+        if engine.suppresses_none(maps.as_slice()) {
             Ok(Some(engine))
         } else {
             Ok(None)

@@ -1,5 +1,4 @@
-use Rattle.std.specs.Prelude.{◌≡◌, ◌<◌, ◌++◌, ◌∷◌, ℕ, [], All, List, true, false, filter, length}
-use Rattle.std.specs.List.{list_any}
+use Rattle.std.specs.Prelude.{◌≡◌, ◌<◌, ◌++◌, ◌∷◌, ℕ, [], All, IfSome, List, Option, Some, true, filter, length}
 use Rattle.std.proofs.Common.{get_or, subst, sym, ◌∙◌, ap, arith}
 use Rattle.std.proofs.lemmas.List.Elements.{All-contains, All-weaker, Contains-get_or}
 use Rattle.std.proofs.lemmas.Result.{IfOk-weaker}
@@ -36,37 +35,37 @@ lost-requires c =
     let w : Whole = c.args.self.now in
     let sample = values_of c.args.sample.now in
     let made = outcome true (read_after w.kept sample) sample in
-    let changes = c.in_ok-changes-2.changes in
+    let changes = c.in_ok-changes.changes in
     let P : Change → Type 0 = λ d. d.place < length w.kept.slots in
-    subst (λ (ds : List Change). All P ds) (sym c.as_slice-2.ensures) (All-weaker (IsChange made w.kept.slots) P (λ d is. is.within) changes c.in_ok-changes-2.ensures.each)
+    subst (λ (ds : List Change). All P ds) (sym c.as_slice.ensures) (All-weaker (IsChange made w.kept.slots) P (λ d is. is.within) changes c.in_ok-changes.ensures.each)
 
 pub are_many-requires : goal.are_many-requires
 are_many-requires c =
     let w : Whole = c.args.self.now in
     let sample = values_of c.args.sample.now in
     let made = outcome true (read_after w.kept sample) sample in
-    let changes = c.in_ok-changes-2.changes in
-    let lost : c.in_ok-lost.lost ≡ lost_places w.kept.slots changes = lost_of w.kept.slots c.as_slice-2.result.now changes c.in_ok-lost.lost c.as_slice-2.ensures c.in_ok-lost.ensures in
-    subst (λ (ss : List Slot). All (λ k. k < length ss) c.as_slice-3.result.now) (sym c.slots-2.ensures)
-    (subst (All (λ k. k < length w.kept.slots)) (sym (c.as_slice-3.ensures ∙ lost)) (lost_within made w.kept.slots changes c.in_ok-changes-2.ensures.each))
+    let changes = c.in_ok-changes.changes in
+    let lost : c.in_ok-lost.lost ≡ lost_places w.kept.slots changes = lost_of w.kept.slots c.as_slice.result.now changes c.in_ok-lost.lost c.as_slice.ensures c.in_ok-lost.ensures in
+    subst (λ (ss : List Slot). All (λ k. k < length ss) c.as_slice-2.result.now) (sym c.slots.ensures)
+    (subst (All (λ k. k < length w.kept.slots)) (sym (c.as_slice-2.ensures ∙ lost)) (lost_within made w.kept.slots changes c.in_ok-changes.ensures.each))
 
 pub opened-requires-clause-within : goal.opened-requires-clause-within
 opened-requires-clause-within c =
     let w : Whole = c.args.self.now in
     let sample = values_of c.args.sample.now in
     let made = outcome true (read_after w.kept sample) sample in
-    let changes = c.in_ok-changes-2.changes in
-    let lost : c.in_ok-lost.lost ≡ lost_places w.kept.slots changes = lost_of w.kept.slots c.as_slice-2.result.now changes c.in_ok-lost.lost c.as_slice-2.ensures c.in_ok-lost.ensures in
-    subst (All (λ k. k < length w.kept.slots)) (sym (c.as_slice-4.ensures ∙ lost)) (lost_within made w.kept.slots changes c.in_ok-changes-2.ensures.each)
+    let changes = c.in_ok-changes.changes in
+    let lost : c.in_ok-lost.lost ≡ lost_places w.kept.slots changes = lost_of w.kept.slots c.as_slice.result.now changes c.in_ok-lost.lost c.as_slice.ensures c.in_ok-lost.ensures in
+    subst (All (λ k. k < length w.kept.slots)) (sym (c.as_slice-3.ensures ∙ lost)) (lost_within made w.kept.slots changes c.in_ok-changes.ensures.each)
 
 pub step-requires-clause-within : goal.step-requires-clause-within
 step-requires-clause-within c =
     let w : Whole = c.args.self.now in
     let sample = values_of c.args.sample.now in
     let made = outcome true (read_after w.kept sample) sample in
-    let changes = c.in_ok-changes-2.changes in
-    let lost : c.in_ok-lost.lost ≡ lost_places w.kept.slots changes = lost_of w.kept.slots c.as_slice-2.result.now changes c.in_ok-lost.lost c.as_slice-2.ensures c.in_ok-lost.ensures in
-    subst (All (λ k. k < length w.kept.slots)) (sym (c.as_slice-5.ensures ∙ lost)) (lost_within made w.kept.slots changes c.in_ok-changes-2.ensures.each)
+    let changes = c.in_ok-changes.changes in
+    let lost : c.in_ok-lost.lost ≡ lost_places w.kept.slots changes = lost_of w.kept.slots c.as_slice.result.now changes c.in_ok-lost.lost c.as_slice.ensures c.in_ok-lost.ensures in
+    subst (All (λ k. k < length w.kept.slots)) (sym (c.as_slice-4.ensures ∙ lost)) (lost_within made w.kept.slots changes c.in_ok-changes.ensures.each)
 
 -- with the sample the parts are those of one sample more
 abbrev With : Whole → List Value → Kept → Type 0
@@ -88,34 +87,35 @@ pub returns-clause-stands : goal.returns-clause-stands
 returns-clause-stands c =
     let w : Whole = c.args.self.now in
     let sample = values_of c.args.sample.now in
-    let changes = c.in_ok-changes-2.changes in
-    let lost : c.in_ok-lost.lost ≡ lost_places w.kept.slots changes = lost_of w.kept.slots c.as_slice-2.result.now changes c.in_ok-lost.lost c.as_slice-2.ensures c.in_ok-lost.ensures in
+    let changes = c.in_ok-changes.changes in
+    let lost : c.in_ok-lost.lost ≡ lost_places w.kept.slots changes = lost_of w.kept.slots c.as_slice.result.now changes c.in_ok-lost.lost c.as_slice.ensures c.in_ok-lost.ensures in
     let now = c.in_ok-now.now in
     let same : c.self.inside.kept.samples ≡ w.kept.samples = ap (λ (v : Whole). v.kept.samples) c.self.view_is in
     let later : w.kept.samples ≡ 0 → ⊥ = λ e. c.if-self-eq0.false (same ∙ e) in
     let some : 0 < w.kept.samples = omega (arith, later) in
-    let asked = c.as_slice-5.result.now in
-    let is_lost : asked ≡ lost_places w.kept.slots changes = c.as_slice-5.ensures ∙ lost in
+    let asked = c.as_slice-4.result.now in
+    let is_lost : asked ≡ lost_places w.kept.slots changes = c.as_slice-4.ensures ∙ lost in
     let after = c.step.new.self.kept in
     IfOk-weaker c.step.result (λ (u : Unit {0}). IsMergedStep w.grammar w.infos w.kept sample now asked after) (λ (u : Unit {0}). With w sample after)
-    (λ u h samples all is. merged_parts_exact w.grammar w.infos c.is_settled.ensures.point samples all w.kept is sample c.requires some now c.in_ok-now.ensures changes c.in_ok-changes-2.ensures after (subst (λ ls. IsMergedStep w.grammar w.infos w.kept sample now ls after) is_lost h)) c.step.ensures.kept
+    (λ u h samples all is. merged_parts_exact w.grammar w.infos c.is_settled.ensures.point samples all w.kept is sample c.requires some now c.in_ok-now.ensures changes c.in_ok-changes.ensures after (subst (λ ls. IsMergedStep w.grammar w.infos w.kept sample now ls after) is_lost h)) c.step.ensures.kept
 
-pub returns-then-not-lose_some-clause-stands : goal.returns-then-not-lose_some-clause-stands
-returns-then-not-lose_some-clause-stands c =
+-- what holds of a value if there is one holds of the one that is there
+from_some : (A : Type 0) (P : A → Type 0) (o : Option A) (x : A) → o ≡ Some x → IfSome o P → P x
+from_some A P o x is h = subst (λ (p : Option A). IfSome p P) is h
+
+pub returns-in-Some-clause-stands : goal.returns-in-Some-clause-stands
+returns-in-Some-clause-stands c =
     let w : Whole = c.args.self.now in
     let sample = values_of c.args.sample.now in
-    let changes = c.in_ok-changes.changes in
+    let changes = c.in-Some.changes in
     let some : 0 < w.kept.samples = c.is_settled.ensures.some c.if-is_settled.true in
     let turned : IsTurned w.kept sample (unchanged_now w.kept) = c.is_settled.ensures.turned c.if-is_settled.true in
-    let told : c.lose_some.result ≡ list_any (loses_by w.kept.slots) changes.all =
-    c.lose_some.ensures ∙ (ap (λ ss. list_any (loses_by ss) c.as_slice.result.now) c.slots.ensures ∙ ap (list_any (loses_by w.kept.slots)) c.as_slice.ensures) in
-    let none : list_any (loses_by w.kept.slots) changes.all ≡ false = sym told ∙ c.if-not-lose_some.true in
     let left = slots_left (outcome changes.asked (read_after w.kept sample) sample) w.kept.slots in
     let after = c.change.new.self.kept in
     IfOk-weaker c.change.result (λ (u : Unit {0}). after ≡ parts_after w.kept.samples w.kept.held sample (unchanged_now w.kept) left) (λ (u : Unit {0}). With w sample after)
     (λ u h samples all is.
     subst (IsKeptOf w.grammar w.infos (samples ++ sample ∷ [])) (sym h)
-    (settled_parts_exact w.grammar w.infos c.is_settled.ensures.point samples all w.kept is sample c.requires some turned changes.asked changes.all c.in_ok-changes.ensures.changes c.in_ok-changes.ensures.unasked none)) c.change.ensures.kept
+    (settled_parts_exact w.grammar w.infos c.is_settled.ensures.point samples all w.kept is sample c.requires some turned changes.asked changes.all (from_some _ _ _ changes c.in-Some.is c.in_ok-few.ensures.changes) (from_some _ _ _ changes c.in-Some.is c.in_ok-few.ensures.unasked) (from_some _ _ _ changes c.in-Some.is c.in_ok-few.ensures.premises))) c.change.ensures.kept
 
 pub returns-then-self-eq0-clause-stands : goal.returns-then-self-eq0-clause-stands
 returns-then-self-eq0-clause-stands c =
