@@ -66,11 +66,13 @@ swap-in v w u rest (inr (inl e)) = inl e
 swap-in v w u rest (inr (inr i)) = inr (inr i)
 
 swap-apart : (v w : VarId) (rest : List VarId) → Apart (v ∷ w ∷ rest) → Apart (w ∷ v ∷ rest)
-swap-apart v w rest a =
-    (λ u i e. elim i as (λ _. ⊥) [
-      | inl same ↦ a.0 w (inl refl) (sym (e ∙ ap (λ (x : VarId). x.0) same))
-      | inr later ↦ a.1.0 u later e
-    ], (λ u i e. a.0 u (inr i) e, a.1.1))
+swap-apart v w rest a = (
+  λ u i e. elim i as (λ _. ⊥) [
+    | inl same ↦ a.0 w (inl refl) (sym (e ∙ ap (λ (x : VarId). x.0) same))
+    | inr later ↦ a.1.0 u later e
+  ],
+  (λ u i e. a.0 u (inr i) e, a.1.1),
+)
 
 moved-self : (vars : List VarId) → Apart vars → AreMoved vars vars
 moved-self vars a = record { apart = a; long = refl; to = λ w i. i; from = λ w i. i }
@@ -148,12 +150,13 @@ picked vars roles = map (λ role. at_role role vars) roles
 pub picked-apart : (vars : List VarId) → Apart vars → (roles : List ℕ) → are_apart roles ≡ true → ((r : ℕ) → IsIn r roles → r < length vars) → Apart (picked vars roles)
 picked-apart vars a [] h within = tt
 picked-apart vars a (r ∷ roles) h within =
-    let hs = and_parts (list_all (λ s. not (r == s)) roles) (are_apart roles) h in
-    (λ w i e.
-    let m = of_map {X = ℕ} {Y = VarId} (λ role. at_role role vars) w roles i in
-    let same : r ≡ m.0 = apart-at vars a r m.0 (within r (inl refl)) (within m.0 (inr m.1)) (e ∙ ap (λ (x : VarId). x.0) m.2) in
-    true≢false (sym (eq-eqb r m.0 same) ∙ not-true (r == m.0) (all-at (λ s. not (r == s)) m.0 roles m.1 hs.0)),
-    picked-apart vars a roles hs.1 (λ s i. within s (inr i)))
+    let hs = and_parts (list_all (λ s. not (r == s)) roles) (are_apart roles) h in (
+      λ w i e.
+          let m = of_map {X = ℕ} {Y = VarId} (λ role. at_role role vars) w roles i in
+          let same : r ≡ m.0 = apart-at vars a r m.0 (within r (inl refl)) (within m.0 (inr m.1)) (e ∙ ap (λ (x : VarId). x.0) m.2) in
+          true≢false (sym (eq-eqb r m.0 same) ∙ not-true (r == m.0) (all-at (λ s. not (r == s)) m.0 roles m.1 hs.0)),
+      picked-apart vars a roles hs.1 (λ s i. within s (inr i)),
+    )
 
 pub picked-in : (vars : List VarId) (roles : List ℕ) → ((r : ℕ) → IsIn r roles → r < length vars) → (w : VarId) → IsIn w (picked vars roles) → IsIn w vars
 picked-in vars [] within w i = absurd i

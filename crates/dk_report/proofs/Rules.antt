@@ -1,7 +1,7 @@
 -- What the code finds among the rules is what the table of the rules has.
 use Rattle.std.specs.Prelude.{◌≡◌, ◌<◌, ◌≤◌, ◌+◌, ◌&&◌, ◌||◌, ◌==◌, ℕ, zero, suc, Bool, true, false, All, IfSome, List, [], ◌∷◌, ◌++◌, length, map, refl, slice_index_or, take, Option, Some, None}
 use Rattle.std.specs.List.{list_any}
-use Rattle.std.proofs.Common.{◌∙◌, ap, arith, get_or, inl, inr, subst, sym}
+use Rattle.std.proofs.Common.{◌∙◌, ap, arith, inl, inr, subst, sym}
 use Rattle.std.proofs.lemmas.Bool.{eqb-true}
 use Rattle.std.proofs.lemmas.List.{take_all}
 use Rattle.std.proofs.lemmas.List.Folds.{list_any_at}
@@ -13,7 +13,7 @@ use Rattle.dk_engine.specs.Levels.{Whole}
 use Rattle.dk_engine.specs.Parts.{leader_of}
 use Rattle.dk_engine.specs.Reading.{agree_read}
 use Rattle.dk_engine.specs.declared.kept.Kept.{Kept}
-use Rattle.dk_fits.proofs.Members.{contained, in_map, is_in}
+use Rattle.dk_fits.proofs.Members.{contained, in_map}
 use Rattle.dk_fits.specs.Instances.{rows_of}
 use Rattle.dk_forms.specs.Laws.{IsIn}
 use Rattle.dk_hierarchy.specs.declared.way.Way.{Way}
@@ -76,10 +76,11 @@ pub rows-all : (g : Grammar) (F : RowId → List VarId) (n : ℕ) → rows_in g 
 rows-all g F n past = ap (λ (rs : List RowId). [] ∷ map F rs) (rows_all g n past)
 
 -- ---- leaders
-pub found-leader : (kept : Kept) (own : List VarId) → own ≡ own_leaders kept.leaders → (i : ℕ) → i < length own → (a : VarId) → a ≡ get_or own i a → (v : VarId) → agree_read kept v a ≡ true
-    → a ≡ leader_of kept.leaders v
-found-leader kept own all i l a is v agrees =
-    let c = contained a (own_leaders kept.leaders) (subst (IsIn a) all (is_in a own i l (sym is))) in
+pub found-leader : (kept : Kept) (own : List VarId) → own ≡ own_leaders kept.leaders → (i : ℕ) → i < length own → (d : VarId) (v : VarId) → agree_read kept v (slice_index_or own i d) ≡ true
+    → slice_index_or own i d ≡ leader_of kept.leaders v
+found-leader kept own all i l d v agrees =
+    let a = slice_index_or own i d in
+    let c = contained a (own_leaders kept.leaders) (subst (IsIn a) all (in-get own i d l)) in
     let leads = (leads_from_own kept.leaders a c).1 in
     let same = eqb-true (leader_at kept.leaders v.0) (leader_at kept.leaders a.0) agrees in
     ap (λ n. record { 0 = n }) (sym (same ∙ leads))

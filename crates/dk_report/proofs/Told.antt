@@ -1,5 +1,5 @@
 -- What isn't Broken by what an engine keeps is over variables of which its tables tell.
-use Rattle.std.specs.Prelude.{◌≡◌, ◌≢◌, ◌<◌, ◌≤◌, ◌&&◌, ◌||◌, ◌==◌, ℕ, zero, suc, Bool, true, false, not, List, [], ◌∷◌, count_by, filter, if◌then◌else◌, is_some, length, map, nat_le, nat_lt, refl, slice_index_or, Option, Some, None}
+use Rattle.std.specs.Prelude.{◌≡◌, ◌≢◌, ◌<◌, ◌≤◌, ◌+◌, ◌&&◌, ◌||◌, ◌==◌, ℕ, zero, suc, Bool, true, false, not, List, [], ◌∷◌, count_by, filter, if◌then◌else◌, is_some, length, map, nat_le, nat_lt, refl, slice_index_or, Option, Some, None}
 use Rattle.std.specs.List.{list_all, list_any, range_with_len}
 use Rattle.std.proofs.Common.{◌∙◌, ap, arith, inl, inr, subst, sym}
 use Rattle.std.proofs.lemmas.Bool.{and_from, and_parts, cases_Bool, eq-eqb, eqb-true, false≢true, leb-true, lt-ltb, ltb-true, not-true, or_left, or_right, true≢false}
@@ -258,10 +258,10 @@ module _ (g : Grammar) (kept : Kept) (f : VarId → VarId) (several : List VarId
         let slot : Slot = record { row = row; leaders = leaders; state = s } in
         let c = slot_found kept.slots row leaders s h in
         let met : is_met led row slot ≡ true = and_from (row.0 == row.0) (are_distinct leaders || list_any (leads_several led) leaders) (eq-eqb row.0 row.0 refl)
-            (elim (cases_Bool (are_distinct leaders)) as (λ _. are_distinct leaders || list_any (leads_several led) leaders ≡ true) [
-              | inl differ ↦ or_left (are_distinct leaders) (list_any (leads_several led) leaders) differ
-              | inr twice ↦ or_right (are_distinct leaders) (list_any (leads_several led) leaders) (several-lead f several vars apart within twice)
-            ]) in
+        (elim (cases_Bool (are_distinct leaders)) as (λ _. are_distinct leaders || list_any (leads_several led) leaders ≡ true) [
+          | inl differ ↦ or_left (are_distinct leaders) (list_any (leads_several led) leaders) differ
+          | inr twice ↦ or_right (are_distinct leaders) (list_any (leads_several led) leaders) (several-lead f several vars apart within twice)
+        ]) in
         or_left (is_some (known_at kept.known (f v)) || stands_in slots (f v)) (may_follow (table n) row v)
         (or_right (is_some (known_at kept.known (f v))) (stands_in slots (f v))
         (any-at (λ (t : Slot). has t.leaders (f v)) slot slots (in_filter (is_met led row) slot kept.slots (is_in slot kept.slots c.0 c.1 c.2) met) (has-of (f v) leaders (in_map f v vars i))))

@@ -102,17 +102,18 @@ module _ (joint : Joint) (row : RowId) (vars : List VarId) where
 partners-led : (leaders : List VarId) (way : Way) (through : VarId → VarId) → ((v w : VarId) → partner_at way.partners v ≡ Some w → through v ≡ leader_of leaders w) → (vars : List VarId)
     → ((v : VarId) → IsIn v vars → is_some (partner_at way.partners v) ≡ true) → (there : List VarId) × (partners_at way.partners vars ≡ Some there) × (leaders_of leaders there ≡ map through vars)
 partners-led leaders way through is [] mapped = ([], refl, refl)
-partners-led leaders way through is (v ∷ vars) mapped = at (partner_at way.partners v) refl (mapped v (inl refl))
+partners-led leaders way through is (v ∷ vars) mapped = at (partner_at way.partners v) refl (mapped v (inl refl)) (partners-led leaders way through is vars (λ u i. mapped u (inr i)))
   where
     at : (o : Option VarId) → partner_at way.partners v ≡ o → is_some o ≡ true
+        → (there : List VarId) × (partners_at way.partners vars ≡ Some there) × (leaders_of leaders there ≡ map through vars)
         → (there : List VarId) × (partners_at way.partners (v ∷ vars) ≡ Some there) × (leaders_of leaders there ≡ map through (v ∷ vars))
-    at None e h = absurd (false≢true h)
-    at (Some w) e h =
-        let rest = partners-led leaders way through is vars (λ u i. mapped u (inr i)) in
-        (w ∷ rest.0,
-        ap (λ (o : Option VarId). option_and_then (λ u. option_map (λ more. u ∷ more) (partners_at way.partners vars)) o) e
-        ∙ ap (λ (o : Option (List VarId)). option_map (λ more. w ∷ more) o) rest.1,
-        ap (λ x. x ∷ leaders_of leaders rest.0) (sym (is v w e)) ∙ ap (λ xs. through v ∷ xs) rest.2)
+    at None e h rest = absurd (false≢true h)
+    at (Some w) e h rest = (
+      w ∷ rest.0,
+      ap (λ (o : Option VarId). option_and_then (λ u. option_map (λ more. u ∷ more) (partners_at way.partners vars)) o) e
+          ∙ ap (λ (o : Option (List VarId)). option_map (λ more. w ∷ more) o) rest.1,
+      ap (λ x. x ∷ leaders_of leaders rest.0) (sym (is v w e)) ∙ ap (λ xs. through v ∷ xs) rest.2,
+    )
 
 module _ (joint : Joint) (several : List VarId) (way : Way) (engine : Whole) (view : IsView joint.engines joint.ways several way engine) where
   abbrev through : VarId → VarId
@@ -134,11 +135,12 @@ module _ (joint : Joint) (several : List VarId) (way : Way) (engine : Whole) (vi
 -- ---- lists of a table
 firsts-of : (q : VarId × VarId → Bool) (f : VarId → VarId) (vars : List VarId) → map (λ (pair : VarId × VarId). pair.0) (filter q (map (pair_of f) vars)) ≡ filter (λ v. q (pair_of f v)) vars
 firsts-of q f [] = refl
-firsts-of q f (v ∷ vars) = at (q (pair_of f v))
+firsts-of q f (v ∷ vars) = at (q (pair_of f v)) (firsts-of q f vars)
   where
-    at : (b : Bool) → map (λ (pair : VarId × VarId). pair.0) (if b then pair_of f v ∷ filter q (map (pair_of f) vars) else filter q (map (pair_of f) vars)) ≡ (if b then v ∷ filter (λ w. q (pair_of f w)) vars else filter (λ w. q (pair_of f w)) vars)
-    at true = ap (λ rest. v ∷ rest) (firsts-of q f vars)
-    at false = firsts-of q f vars
+    at : (b : Bool) → map (λ (pair : VarId × VarId). pair.0) (filter q (map (pair_of f) vars)) ≡ filter (λ w. q (pair_of f w)) vars
+        → map (λ (pair : VarId × VarId). pair.0) (if b then pair_of f v ∷ filter q (map (pair_of f) vars) else filter q (map (pair_of f) vars)) ≡ (if b then v ∷ filter (λ w. q (pair_of f w)) vars else filter (λ w. q (pair_of f w)) vars)
+    at true same = ap (λ rest. v ∷ rest) same
+    at false same = same
 
 module _ (options : Options) (joint : Joint) (here : Answers) (answered : (row : RowId) (vars : List VarId) → here.answered row vars ≡ merged_state joint row vars)
     (parents : List Parent) (several : List VarId) (several_is : several ≡ filter (may_stand options (found_of here parents) true) (all_vars here.infos))
@@ -188,7 +190,7 @@ module _ (options : Options) (joint : Joint) (here : Answers) (answered : (row :
         | inl passes ↦ passes
         | inr stops ↦
             (let none = passed options here parents row vars w i (no-equality (first_in (found_of here parents).firsts) row vars differs)
-                (ap (λ b. may_stand options (found_of here parents) b w) (lt-ltb 1 (length vars) (omega (arith, long, more))) ∙ stops) in
+            (ap (λ b. may_stand options (found_of here parents) b w) (lt-ltb 1 (length vars) (omega (arith, long, more))) ∙ stops) in
             let there = listed-there vars stays in
             absurd (cc))
       ]

@@ -244,7 +244,8 @@ impl<'a, 'e> Asking<'a, 'e> {
         requires standing { AreStanding self.now standing.now }
         ensures { IfOk result (λ list. list ≡ candidates_kept (keeps self.now.options.now) (candidates_of self.now.here.now.here.grammar self.now.options.now.least (here_of self.now) (views_of self.now))) }
     {
-        match self.told(engines, standing)? {
+        let told = self.told(engines, standing)?;
+        match told {
             Some(table) => self.viewed(table.as_slice(), standing),
             None => self.swept(standing),
         }

@@ -145,7 +145,7 @@ fn reads(premise: &Premise, role: u8) -> bool
     match *premise {
         Premise::Holds { row, roles } => {
             let arity = info(row).arity as usize;
-            roles[..arity].iter().any(|r| *r == role)
+            roles.iter().take(arity).any(|r| *r == role)
         }
         Premise::LeastAtLeast { role: read, .. } => read == role,
         Premise::GreatestAtMost { role: read, .. } => read == role,
@@ -291,7 +291,7 @@ fn told_rows(
     ensures { IfOk result (λ rows. rows.items ≡ told_rows rank_bound grammar engine.now.kept led.now) }
 {
     let mut rows = Vec::new(alloc);
-    for _ in 0..4 {
+    for _ in 0..4u32 {
         rows = told_level(alloc, grammar, engine, led, rows.as_slice())?;
     }
     Ok(rows)
@@ -332,7 +332,7 @@ fn has_fewer(view: &View<'_>, other: &View<'_>) -> bool {
 
 // The one with fewer slots, where both are there.
 fn fewer<'v>(best: Option<View<'v>>, view: Option<View<'v>>) -> Option<View<'v>>
-    ensures { (engines : List Whole) (ways : List WholeWay) (vars : List Variable) → IfSome best (λ b. IsView engines ways vars b.way.now b.engine.now) → IfSome view (λ v. IsView engines ways vars v.way.now v.engine.now) → IfSome result (λ r. IsView engines ways vars r.way.now r.engine.now) }
+    ensures { (engines : List Whole) (ways : List WholeWay) (vars : List Variable) → IfSome best.entry (λ b. IsView engines ways vars b.way.now b.engine.now) → IfSome view.entry (λ v. IsView engines ways vars v.way.now v.engine.now) → IfSome result (λ r. IsView engines ways vars r.way.now r.engine.now) }
 {
     match (best, view) {
         (Some(best), Some(view)) => Some(if has_fewer(&view, &best) { view } else { best }),
@@ -356,10 +356,10 @@ fn fewest<'v>(engines: &'v [Engine], ways: &'v [Way], vars: &[VarId]) -> Option<
 fn told_through(
     alloc: Global,
     grammar: Grammar,
-    view: View<'_>,
+    view: &View<'_>,
     vars: &[VarId],
 ) -> Result<Option<Vec<List<VarId>>>, NoMemory>
-    ensures { IfOk result (λ o. IfSome o (λ table. table.items ≡ told_rows rank_bound grammar view.engine.now.kept (led_through view.engine.now.kept view.way.now vars.now))) }
+    ensures { IfOk result (λ o. IfSome o (λ table. table.items ≡ told_rows rank_bound grammar view.now.engine.now.kept (led_through view.now.engine.now.kept view.now.way.now vars.now))) }
 {
     match led_through(alloc, view.engine, view.way, vars)? {
         None => Ok(None),
@@ -384,7 +384,7 @@ impl<'a, 'e> Asking<'a, 'e> {
         let vars = standing.several.as_slice();
         match fewest(engines, self.here.ways(), vars) {
             None => Ok(None),
-            Some(view) => told_through(self.alloc, self.grammar, view, vars),
+            Some(view) => told_through(self.alloc, self.grammar, &view, vars),
         }
     }
 

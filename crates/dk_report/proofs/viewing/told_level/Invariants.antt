@@ -4,4 +4,4 @@ use Rattle.dk_report.specs.Viewing.{told_row}
 use Rattle.dk_report.proofs.viewing.told_level.Given as goal
 
 abbrev pub invariant-loop-n : goal.invariant-loop-n
-invariant-loop-n l = l.rows.items ≡ [] ∷ map (told_row l.engine.kept l.led l.below) (take l.n (rows_of l.grammar))
+invariant-loop-n l = l.rows.items ≡ [] ∷ map (told_row l.engine.kept l.led l.below) (take l.n (rows_of l.fn.grammar))

@@ -1,4 +1,4 @@
-use Rattle.std.specs.Prelude.{◌≡◌, List, flat_map}
+use Rattle.std.specs.Prelude.{◌≡◌, IfSome, List, flat_map}
 use Rattle.std.proofs.Common.{◌∙◌, subst, sym}
 use Rattle.dk_base.specs.declared.kinds.VarId.{VarId}
 use Rattle.dk_fits.specs.Instances.{rows_of}
@@ -13,5 +13,5 @@ returns-in-Some c =
     let of = c.args.standing.now in
     let table : List (List VarId) = c.as_slice.result.now in
     if_ok c.viewed.result (λ list. list ≡ flat_map (candidates_told table asking of) (rows_of asking.here.now.here.grammar)) _
-    (λ list is. is ∙ viewed_is asking c.requires.asked of c.requires.standing table (subst (IsTold asking.here.now of.several) (sym c.as_slice.ensures.value) c.in-Some.ensures))
+    (λ list is. is ∙ viewed_is asking c.requires.asked of c.requires.standing table (subst (IsTold asking.here.now of.several) (sym c.as_slice.ensures.value) (subst (λ o. IfSome o (λ t. IsTold asking.here.now of.several t.items)) c.in-Some.is c.in_ok-told.ensures)))
     c.viewed.ensures
