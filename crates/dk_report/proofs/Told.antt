@@ -4,6 +4,7 @@ use Rattle.std.specs.List.{list_all, list_any, range_with_len}
 use Rattle.std.proofs.Common.{◌∙◌, ap, arith, inl, inr, subst, sym}
 use Rattle.std.proofs.lemmas.Bool.{and_from, and_parts, cases_Bool, eq-eqb, eqb-true, false≢true, leb-true, lt-ltb, ltb-true, not-true, or_left, or_right, true≢false}
 use Rattle.std.proofs.lemmas.List.{get_or-map, length-map}
+use Rattle.std.proofs.lemmas.List.Sums.{length-filter}
 use Rattle.std.proofs.lemmas.List.FromFn.{get_or-range_with_len, length-range_with_len}
 use Rattle.dk_base.specs.Pieces.{is_empty}
 use Rattle.dk_base.specs.declared.kinds.VarId.{VarId}
@@ -161,30 +162,30 @@ module _ (f : VarId → VarId) where
   abbrev leads_one : VarId → VarId × VarId → Bool
   leads_one a pair = pair.1.0 == a.0
 
-  counts-one : (a v : VarId) (vars : List VarId) → IsIn v vars → f v ≡ a → 1 ≤ count_by (leads_one a) (map pair_of vars)
-  counts-one a v [] i e = absurd i
-  counts-one a v (w ∷ vars) (inl same) e =
-      let here : ((f w).0 == a.0) ≡ true = eq-eqb (f w).0 a.0 (ap (λ (x : VarId). x.0) (ap f (sym same) ∙ e)) in
-      subst (λ b. 1 ≤ (if b then 1 else 0) + count_by (leads_one a) (map pair_of vars)) (sym here) (omega arith)
-  counts-one a v (w ∷ vars) (inr i) e =
-      let rest = counts-one a v vars i e in
-      let n = count_by (leads_one a) (map pair_of vars) in
-      elim ((f w).0 == a.0) as (λ b. 1 ≤ (if b then 1 else 0) + count_by (leads_one a) (map pair_of vars)) [ true ↦ omega arith | false ↦ omega (arith, rest) ]
+  abbrev led_by : VarId → List VarId → List (VarId × VarId)
+  led_by a vars = filter (leads_one a) (map pair_of vars)
 
-  counts-two : (a v w : VarId) (vars : List VarId) → IsIn v vars → IsIn w vars → (v ≡ w → ⊥) → f v ≡ a → f w ≡ a → 2 ≤ count_by (leads_one a) (map pair_of vars)
+  led-first : (a v : VarId) (vars : List VarId) → f v ≡ a → led_by a (v ∷ vars) ≡ pair_of v ∷ led_by a vars
+  led-first a v vars e = ap (λ b. if b then pair_of v ∷ led_by a vars else led_by a vars) (eq-eqb (f v).0 a.0 (ap (λ (x : VarId). x.0) e))
+
+  led-more : (n : ℕ) (a v : VarId) (vars : List VarId) → n ≤ length (led_by a vars) → n ≤ length (led_by a (v ∷ vars))
+  led-more n a v vars rest = elim ((f v).0 == a.0) as (λ b. n ≤ length (if b then pair_of v ∷ led_by a vars else led_by a vars)) [ true ↦ omega (arith, rest) | false ↦ rest ]
+
+  counts-one : (a v : VarId) (vars : List VarId) → IsIn v vars → f v ≡ a → 1 ≤ length (led_by a vars)
+  counts-one a v [] i e = absurd i
+  counts-one a v (w ∷ vars) (inl same) e = subst (λ (ps : List (VarId × VarId)). 1 ≤ length ps) (sym (led-first a w vars (ap f (sym same) ∙ e))) (omega arith)
+  counts-one a v (w ∷ vars) (inr i) e = led-more 1 a w vars (counts-one a v vars i e)
+
+  counts-two : (a v w : VarId) (vars : List VarId) → IsIn v vars → IsIn w vars → (v ≡ w → ⊥) → f v ≡ a → f w ≡ a → 2 ≤ length (led_by a vars)
   counts-two a v w [] i j apart e d = absurd i
   counts-two a v w (x ∷ vars) (inl s) (inl t) apart e d = absurd (apart (s ∙ sym t))
   counts-two a v w (x ∷ vars) (inl s) (inr j) apart e d =
       let rest = counts-one a w vars j d in
-      let here : ((f x).0 == a.0) ≡ true = eq-eqb (f x).0 a.0 (ap (λ (y : VarId). y.0) (ap f (sym s) ∙ e)) in
-      subst (λ b. 2 ≤ (if b then 1 else 0) + count_by (leads_one a) (map pair_of vars)) (sym here) (omega (arith, rest))
+      subst (λ (ps : List (VarId × VarId)). 2 ≤ length ps) (sym (led-first a x vars (ap f (sym s) ∙ e))) (omega (arith, rest))
   counts-two a v w (x ∷ vars) (inr i) (inl t) apart e d =
       let rest = counts-one a v vars i e in
-      let here : ((f x).0 == a.0) ≡ true = eq-eqb (f x).0 a.0 (ap (λ (y : VarId). y.0) (ap f (sym t) ∙ d)) in
-      subst (λ b. 2 ≤ (if b then 1 else 0) + count_by (leads_one a) (map pair_of vars)) (sym here) (omega (arith, rest))
-  counts-two a v w (x ∷ vars) (inr i) (inr j) apart e d =
-      let rest = counts-two a v w vars i j apart e d in
-      elim ((f x).0 == a.0) as (λ b. 2 ≤ (if b then 1 else 0) + count_by (leads_one a) (map pair_of vars)) [ true ↦ omega (arith, rest) | false ↦ omega (arith, rest) ]
+      subst (λ (ps : List (VarId × VarId)). 2 ≤ length ps) (sym (led-first a x vars (ap f (sym t) ∙ d))) (omega (arith, rest))
+  counts-two a v w (x ∷ vars) (inr i) (inr j) apart e d = led-more 2 a x vars (counts-two a v w vars i j apart e d)
 
   -- one of them leads several, if one stands twice
   several-lead : (several vars : List VarId) → Apart vars → ((w : VarId) → IsIn w vars → IsIn w several) → are_distinct (map f vars) ≡ false
@@ -201,7 +202,7 @@ module _ (f : VarId → VarId) where
             (let twin = same-leader vars shared in
             let apart : v ≡ twin.0 → ⊥ = λ e. a.0 twin.0 twin.1 (ap (λ (x : VarId). x.0) e) in
             let two = counts-two (f v) v twin.0 several (within v (inl refl)) (within twin.0 (inr twin.1)) apart refl (sym twin.2) in
-            or_left (leads_several led (f v)) (list_any (leads_several led) (map f vars)) (lt-ltb 1 (count_by (leads_one (f v)) led) (omega (arith, two))))
+            or_left (leads_several led (f v)) (list_any (leads_several led) (map f vars)) (lt-ltb 1 (count_by (leads_one (f v)) led) (let n = length-filter (leads_one (f v)) led in omega (arith, two, n))))
       ]
     where
       same-leader : (others : List VarId) → list_all (λ (w : VarId). not ((f v).0 == w.0)) (map f others) ≡ false → (u : VarId) × IsIn u others × (f v ≡ f u)

@@ -145,7 +145,7 @@ fn reads(premise: &Premise, role: u8) -> bool
     match *premise {
         Premise::Holds { row, roles } => {
             let arity = info(row).arity as usize;
-            roles.iter().take(arity).any(|r| *r == role)
+            roles[..arity].iter().any(|r| *r == role)
         }
         Premise::LeastAtLeast { role: read, .. } => read == role,
         Premise::GreatestAtMost { role: read, .. } => read == role,

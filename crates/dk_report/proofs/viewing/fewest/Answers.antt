@@ -9,5 +9,5 @@ loop-way-preserved c =
     let ways = c.args.ways.now in
     let vars = c.args.vars.now in
     let item = c.way-item.result in
-    c.fewer.ensures engines ways vars c.loop-way.invariant
+    c.fewer-best.ensures engines ways vars c.loop-way.invariant
     (view-among engines ways vars item (is_in item ways c.loop-way.way-index c.loop-way-test.true (sym c.way-item.is)) c.view_of.result c.view_of.ensures)

@@ -1,0 +1,11 @@
+use Rattle.std.specs.Prelude.{◌≡◌}
+use Rattle.std.proofs.Common.{◌∙◌, ap, arith}
+use Rattle.dk_report.specs.Viewing.{told_rows}
+use Rattle.dk_report.proofs.viewing.told_rows.Goals as goal
+
+pub returns : goal.returns
+returns c =
+    let test = c.loop-test.false in
+    let end = c.loop.auto.counter-end in
+    let last : c.loop.counter ≡ 4 = omega (arith, test, end) in
+    c.loop.invariant ∙ ap (λ n. told_rows n c.args.grammar c.args.engine.now.kept c.args.led.now) last
