@@ -1,6 +1,6 @@
 // The candidates of a point to which several ways bring samples: rows of several variables are asked about only over those of which
 // they may say something by what one way brings.
-ghost use Rattle.std.specs.Prelude.{◌≡◌, ◌==◌, ◌&&◌, ◌++◌, ◌||◌, [], ◌∷◌, All, List, IfOk, IfSome, filter, flat_map, is_some, map};
+ghost use Rattle.std.specs.Prelude.{◌≡◌, ◌==◌, ◌&&◌, ◌++◌, ◌||◌, [], ◌∷◌, All, List, IfOk, IfSome, filter, flat_map, is_some, map, take};
 ghost use Rattle.std.specs.List.{list_any};
 ghost use Rattle.dk_base.specs.declared.kinds.VarId.{VarId as Variable};
 ghost use Rattle.dk_engine.specs.Levels.{Whole};
@@ -137,16 +137,22 @@ fn told_at(table: &[List<VarId>], row: RowId) -> &[VarId]
     }
 }
 
+// Whether the role is among the first so many of three.
+fn is_among(roles: [u8; 3], count: u8, role: u8) -> bool
+    ensures { result ≡ list_any (λ r. r == role) (take count roles) }
+{
+    (0 < count && roles[0] == role)
+        || (1 < count && roles[1] == role)
+        || (2 < count && roles[2] == role)
+}
+
 // Whether the premise reads the role.
 fn reads(premise: &Premise, role: u8) -> bool
     requires { IsRow (row_of premise.now) }
     ensures { result ≡ reads premise.now role }
 {
     match *premise {
-        Premise::Holds { row, roles } => {
-            let arity = info(row).arity as usize;
-            roles[..arity].iter().any(|r| *r == role)
-        }
+        Premise::Holds { row, roles } => is_among(roles, info(row).arity, role),
         Premise::LeastAtLeast { role: read, .. } => read == role,
         Premise::GreatestAtMost { role: read, .. } => read == role,
         Premise::Only { role: read, .. } => read == role,
