@@ -24,3 +24,4 @@ pub mod Picking
 pub mod Told
 pub mod Viewed
 pub mod Rules
+pub mod Shown

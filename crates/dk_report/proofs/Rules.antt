@@ -66,13 +66,13 @@ map-push : {X Y : Type 0} (f : X → Y) (xs : List X) (x : X) → map f (xs ++ x
 map-push f [] x = refl
 map-push f (y ∷ xs) x = ap (λ rest. f y ∷ rest) (map-push f xs x)
 
-pub row-more : (g : Grammar) (F : RowId → List VarId) (n : ℕ) → n < rows_in g
+pub row-more : {X : Type 0} (g : Grammar) (F : RowId → List X) (n : ℕ) → n < rows_in g
     → ([] ∷ map F (take n (rows_of g))) ++ F (record { 0 = n + 1 }) ∷ [] ≡ [] ∷ map F (take (n + 1) (rows_of g))
-row-more g F n l =
+row-more {X} g F n l =
     let r : RowId = record { 0 = n + 1 } in
-    ap (λ (xs : List (List VarId)). [] ∷ xs) (sym (ap (map F) (rows_more g n l) ∙ map-push F (take n (rows_of g)) r))
+    ap (λ (xs : List (List X)). [] ∷ xs) (sym (ap (map F) (rows_more g n l) ∙ map-push F (take n (rows_of g)) r))
 
-pub rows-all : (g : Grammar) (F : RowId → List VarId) (n : ℕ) → rows_in g ≤ n → [] ∷ map F (take n (rows_of g)) ≡ [] ∷ map F (rows_of g)
+pub rows-all : {X : Type 0} (g : Grammar) (F : RowId → List X) (n : ℕ) → rows_in g ≤ n → [] ∷ map F (take n (rows_of g)) ≡ [] ∷ map F (rows_of g)
 rows-all g F n past = ap (λ (rs : List RowId). [] ∷ map F rs) (rows_all g n past)
 
 -- ---- leaders

@@ -137,8 +137,8 @@ vars-picked (GreatestAtMost row role k) vars = refl
 vars-picked (Only role k) vars = refl
 
 -- ---- a table's row
-pub row-at : (g : Grammar) (F : RowId → List VarId) (row : RowId) → IsRowOf g row → told_at ([] ∷ map F (rows_of g)) row ≡ F row
-row-at g F row of = at row.0 refl
+pub row-at : {X : Type 0} (g : Grammar) (F : RowId → List X) (row : RowId) → IsRowOf g row → slice_index_or ([] ∷ map F (rows_of g)) row.0 [] ≡ F row
+row-at {X} g F row of = at row.0 refl
   where
     at : (n : ℕ) → row.0 ≡ n → slice_index_or ([] ∷ map F (rows_of g)) n [] ≡ F row
     at zero e = (let low = of.0 in absurd (omega (arith, low, e)))

@@ -74,10 +74,13 @@ may_follow_by below arity v premises =
 abbrev pub may_follow : List (List VarId) → RowId → VarId → Bool
 may_follow below row v = list_any (λ (r : Rule). r.0.0 == row.0 && may_follow_by below (arity_of row) v r.1) rules
 
--- The row may say something of a variable with this leader: the leader is constant or stands in a slot of the row, or the row may follow.
+-- what the engine keeps says something of a variable with this leader by the row: the leader is constant or stands in a slot of the row
+abbrev pub is_shown : Kept → List (VarId × VarId) → RowId → VarId × VarId → Bool
+is_shown kept led row pair = is_some (known_at kept.known pair.1) || stands_in (filter (is_met led row) kept.slots) pair.1
+
+-- the row may say something of it: what the engine keeps does, or the row may follow
 abbrev pub is_told : Kept → List (VarId × VarId) → List (List VarId) → RowId → VarId × VarId → Bool
-is_told kept led below row pair =
-    is_some (known_at kept.known pair.1) || stands_in (filter (is_met led row) kept.slots) pair.1 || may_follow below row pair.0
+is_told kept led below row pair = is_shown kept led row pair || may_follow below row pair.0
 
 abbrev pub told_row : Kept → List (VarId × VarId) → List (List VarId) → RowId → List VarId
 told_row kept led below row = map (λ pair. pair.0) (filter (is_told kept led below row) led)
@@ -90,6 +93,20 @@ told_level grammar kept led below = [] ∷ map (told_row kept led below) (rows_o
 unfoldable pub told_rows : ℕ → Grammar → Kept → List (VarId × VarId) → List (List VarId)
 told_rows zero grammar kept led = []
 told_rows (suc n) grammar kept led = told_level grammar kept led (told_rows n grammar kept led)
+
+-- The same by a table of what the engine shows: for each row from 0 on the variables, each with whether what the engine keeps says
+-- something of it.
+abbrev pub shown_row : Kept → List (VarId × VarId) → RowId → List (VarId × Bool)
+shown_row kept led row = map (λ pair. (pair.0, is_shown kept led row pair)) led
+
+abbrev pub shown_rows : Grammar → Kept → List (VarId × VarId) → List (List (VarId × Bool))
+shown_rows grammar kept led = [] ∷ map (shown_row kept led) (rows_of grammar)
+
+abbrev pub left_of_shown : List (List (VarId × Bool)) → List (List VarId) → RowId → List VarId
+left_of_shown shown below row = map (λ pair. pair.0) (filter (λ pair. pair.1 || may_follow below row pair.0) (slice_index_or shown row.0 []))
+
+abbrev pub shown_level : Grammar → List (List (VarId × Bool)) → List (List VarId) → List (List VarId)
+shown_level grammar shown below = [] ∷ map (left_of_shown shown below) (rows_of grammar)
 
 -- ---- the way that is asked
 -- each of the variables has a partner

@@ -1,6 +1,6 @@
 // The candidates of a point to which several ways bring samples: rows of several variables are asked about only over those of which
 // they may say something by what one way brings.
-ghost use Rattle.std.specs.Prelude.{◌≡◌, ◌==◌, ◌&&◌, ◌++◌, ◌||◌, [], ◌∷◌, All, List, IfOk, IfSome, filter, flat_map, is_some, map, take};
+ghost use Rattle.std.specs.Prelude.{◌≡◌, ◌==◌, ◌&&◌, ◌++◌, ◌||◌, [], ◌∷◌, All, List, IfOk, IfSome, filter, flat_map, is_some, map, slice_index_or, take};
 ghost use Rattle.std.specs.List.{list_any};
 ghost use Rattle.dk_base.specs.declared.kinds.VarId.{VarId as Variable};
 ghost use Rattle.dk_engine.specs.Levels.{Whole};
@@ -12,7 +12,7 @@ ghost use Rattle.dk_hierarchy.specs.Edges.{partner_at};
 ghost use Rattle.dk_hierarchy.specs.declared.way.Way.{Way as WholeWay};
 ghost use Rattle.dk_report.specs.Asked.{CanBeAsked};
 ghost use Rattle.dk_presence.specs.Patterns.{has};
-ghost use Rattle.dk_report.specs.Viewing.{IsTold, IsView, all_may_fit, are_mapped, candidates_told, is_met, leader_through, leads_several, led_through, may_fit, may_follow, may_follow_by, reads, told_at, told_level, told_row, told_rows};
+ghost use Rattle.dk_report.specs.Viewing.{IsTold, IsView, all_may_fit, are_mapped, candidates_told, is_met, leader_through, leads_several, led_through, may_fit, may_follow, may_follow_by, reads, shown_level, shown_row, shown_rows, told_at, told_rows};
 ghost use Rattle.dk_template.specs.Premises.{row_of};
 ghost use Rattle.dk_template.specs.Templates.{IsRow, IsRowOf, arity_of};
 
@@ -217,70 +217,111 @@ fn may_follow(below: &[List<VarId>], row: RowId, v: VarId) -> bool
     false
 }
 
-// Whether the row may say something of a variable with this leader.
-fn is_told(
-    known: &Constants,
-    slots: &[&Slot],
-    below: &[List<VarId>],
-    row: RowId,
-    pair: (VarId, VarId),
-) -> bool
-    requires { IsRow row }
-    ensures { result ≡ (is_some (known_at known.now pair.1) || list_any (λ slot. has slot.now.leaders pair.1) slots.now || may_follow below.now row pair.0) }
+// Whether the leader is constant or stands in one of the slots.
+fn is_shown(known: &Constants, slots: &[&Slot], a: VarId) -> bool
+    ensures { result ≡ (is_some (known_at known.now a) || list_any (λ slot. has slot.now.leaders a) slots.now) }
 {
-    known.value(pair.1).is_some() || stands_in(slots, pair.1) || may_follow(below, row, pair.0)
+    known.value(a).is_some() || stands_in(slots, a)
 }
 
-// The variables of which it may, by these constants and slots.
-fn told_by(
+// The variables, each with whether its leader is.
+fn shown_by(
     alloc: Global,
     led: &[(VarId, VarId)],
     known: &Constants,
     slots: &[&Slot],
+) -> Result<List<(VarId, bool)>, NoMemory>
+    ensures { IfOk result (λ list. list ≡ map (λ pair. (pair.0, is_some (known_at known.now pair.1) || list_any (λ slot. has slot.now.leaders pair.1) slots.now)) led.now) }
+{
+    let mut list = List::new(alloc);
+    for pair in led {
+        list.push((pair.0, is_shown(known, slots, pair.1)))?;
+    }
+    Ok(list)
+}
+
+// The variables, each with whether what the engine keeps says something of it by the row.
+fn shown_row(
+    alloc: Global,
+    engine: &Engine,
+    led: &[(VarId, VarId)],
+    row: RowId,
+) -> Result<List<(VarId, bool)>, NoMemory>
+    ensures { IfOk result (λ list. list ≡ shown_row engine.now.kept led.now row) }
+{
+    let slots = slots_met(alloc, led, engine.slots(), row)?;
+    shown_by(alloc, led, engine.constants(), slots.as_slice())
+}
+
+// The same for each row.
+fn shown_rows(
+    alloc: Global,
+    grammar: Grammar,
+    engine: &Engine,
+    led: &[(VarId, VarId)],
+) -> Result<Vec<List<(VarId, bool)>>, NoMemory>
+    ensures { IfOk result (λ rows. rows.items ≡ shown_rows grammar engine.now.kept led.now) }
+{
+    let mut rows = Vec::new(alloc);
+    rows.push(List::new(alloc))?;
+    for n in 0..grammar.rows() {
+        let vars = shown_row(alloc, engine, led, RowId(n + 1))?;
+        rows.push(vars)?;
+    }
+    Ok(rows)
+}
+
+// Those of a row.
+fn shown_at(shown: &[List<(VarId, bool)>], row: RowId) -> &[(VarId, bool)]
+    ensures { result.now ≡ slice_index_or shown.now row.0 [] }
+{
+    match shown.get(row.0 as usize) {
+        None => &[],
+        Some(vars) => vars.as_slice(),
+    }
+}
+
+// Whether the row may say something of a variable of which what the engine keeps says something or not.
+fn is_told(shown: bool, below: &[List<VarId>], row: RowId, v: VarId) -> bool
+    requires { IsRow row }
+    ensures { result ≡ (shown || may_follow below.now row v) }
+{
+    shown || may_follow(below, row, v)
+}
+
+// Such variables.
+fn told_row(
+    alloc: Global,
+    shown: &[(VarId, bool)],
     below: &[List<VarId>],
     row: RowId,
 ) -> Result<List<VarId>, NoMemory>
     requires { IsRow row }
-    ensures { IfOk result (λ list. list ≡ map (λ pair. pair.0) (filter (λ pair. is_some (known_at known.now pair.1) || list_any (λ slot. has slot.now.leaders pair.1) slots.now || may_follow below.now row pair.0) led.now)) }
+    ensures { IfOk result (λ list. list ≡ map (λ pair. pair.0) (filter (λ pair. pair.1 || may_follow below.now row pair.0) shown.now)) }
 {
     let mut list = List::new(alloc);
-    for pair in led {
-        if is_told(known, slots, below, row, *pair) {
+    for pair in shown {
+        if is_told(pair.1, below, row, pair.0) {
             list.push(pair.0)?;
         }
     }
     Ok(list)
 }
 
-// The variables of which it may, by what the engine keeps.
-fn told_row(
-    alloc: Global,
-    engine: &Engine,
-    led: &[(VarId, VarId)],
-    below: &[List<VarId>],
-    row: RowId,
-) -> Result<List<VarId>, NoMemory>
-    requires { IsRow row }
-    ensures { IfOk result (λ list. list ≡ told_row engine.now.kept led.now below.now row) }
-{
-    let slots = slots_met(alloc, led, engine.slots(), row)?;
-    told_by(alloc, led, engine.constants(), slots.as_slice(), below, row)
-}
-
 // For each row its variables.
 fn told_level(
     alloc: Global,
     grammar: Grammar,
-    engine: &Engine,
-    led: &[(VarId, VarId)],
+    shown: &[List<(VarId, bool)>],
     below: &[List<VarId>],
 ) -> Result<Vec<List<VarId>>, NoMemory>
-    ensures { IfOk result (λ rows. rows.items ≡ told_level grammar engine.now.kept led.now below.now) }
+    ensures { IfOk result (λ rows. rows.items ≡ shown_level grammar shown.now below.now) }
 {
     let mut rows = Vec::new(alloc);
     rows.push(List::new(alloc))?;
     for n in 0..grammar.rows() {
-        let vars = told_row(alloc, engine, led, below, RowId(n + 1))?;
+        let row = RowId(n + 1);
+        let vars = told_row(alloc, shown_at(shown, row), below, row)?;
         rows.push(vars)?;
     }
     Ok(rows)
@@ -296,9 +337,10 @@ fn told_rows(
 ) -> Result<Vec<List<VarId>>, NoMemory>
     ensures { IfOk result (λ rows. rows.items ≡ told_rows rank_bound grammar engine.now.kept led.now) }
 {
+    let shown = shown_rows(alloc, grammar, engine, led)?;
     let mut rows = Vec::new(alloc);
     for _ in 0..4u32 {
-        rows = told_level(alloc, grammar, engine, led, rows.as_slice())?;
+        rows = told_level(alloc, grammar, shown.as_slice(), rows.as_slice())?;
     }
     Ok(rows)
 }
