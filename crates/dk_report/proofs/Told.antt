@@ -1,8 +1,8 @@
 -- What isn't Broken by what an engine keeps is over variables of which its tables tell.
-use Rattle.std.specs.Prelude.{◌≡◌, ◌≢◌, ◌<◌, ◌≤◌, ◌+◌, ◌&&◌, ◌||◌, ◌==◌, ℕ, zero, suc, Bool, true, false, not, List, [], ◌∷◌, count_by, filter, if◌then◌else◌, is_some, length, map, nat_le, nat_lt, refl, slice_index_or, Option, Some, None}
+use Rattle.std.specs.Prelude.{◌≡◌, ◌≢◌, ◌<◌, ◌≤◌, ◌&&◌, ◌||◌, ◌==◌, ℕ, zero, suc, Bool, true, false, not, List, [], ◌∷◌, count_by, filter, if◌then◌else◌, is_some, length, map, nat_le, nat_lt, refl, slice_index_or, Option, Some, None}
 use Rattle.std.specs.List.{list_all, list_any, range_with_len}
 use Rattle.std.proofs.Common.{◌∙◌, ap, arith, inl, inr, subst, sym}
-use Rattle.std.proofs.lemmas.Bool.{and_from, and_parts, cases_Bool, eq-eqb, eqb-true, false≢true, leb-true, lt-ltb, ltb-true, not-true, or_left, or_right, true≢false}
+use Rattle.std.proofs.lemmas.Bool.{and_from, and_parts, cases_Bool, eq-eqb, eqb-true, false≢true, leb-true, lt-ltb, ltb-true, or_left, or_right, true≢false}
 use Rattle.std.proofs.lemmas.List.{get_or-map, length-map}
 use Rattle.std.proofs.lemmas.List.Sums.{length-filter}
 use Rattle.std.proofs.lemmas.List.FromFn.{get_or-range_with_len, length-range_with_len}
@@ -35,9 +35,9 @@ use Rattle.dk_template.specs.declared.grammar.Grammar.TheVariants as grammar
 use Rattle.dk_template.specs.declared.grammar.RowId.{RowId}
 use Rattle.dk_template.specs.declared.templates.Symmetry.{Symmetry}
 use Rattle.dk_template.specs.declared.templates.Symmetry.TheVariants as symmetry
-use Rattle.dk_report.proofs.Picking.{Apart, all-at, are_apart, in-at, moved-written, picked, picked-apart, picked-in, picked-map, place-of}
+use Rattle.dk_report.proofs.Picking.{Apart, all-at, are_apart, moved-written, picked, picked-apart, picked-in, picked-map, place-of}
 use Rattle.dk_report.specs.Narrowing.{stands_in}
-use Rattle.dk_report.specs.Viewing.{all_may_fit, is_met, is_told, leads_several, may_fit, may_follow, may_follow_by, reads, told_at, told_level, told_row, told_rows}
+use Rattle.dk_report.specs.Viewing.{all_may_fit, is_met, is_told, leads_several, may_fit, may_follow, may_follow_by, reads, told_at, told_row, told_rows}
 
 -- ---- tests of lists
 any-at : {X : Type 0} (q : X → Bool) (x : X) (xs : List X) → IsIn x xs → q x ≡ true → list_any q xs ≡ true

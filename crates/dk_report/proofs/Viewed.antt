@@ -1,10 +1,8 @@
 -- Rows that are asked about only over the variables of which one way's table tells list the same.
-use Rattle.std.specs.Prelude.{◌≡◌, ◌≢◌, ◌<◌, ◌&&◌, ◌==◌, ◌++◌, ℕ, Bool, true, false, not, List, [], ◌∷◌, filter, flat_map, if◌then◌else◌, is_some, length, map, nat_lt, refl, slice_get, slice_index_or, Option, Some, None, option_and_then, option_map}
-use Rattle.std.specs.List.{list_all}
+use Rattle.std.specs.Prelude.{◌≡◌, ◌≢◌, ◌<◌, ◌&&◌, ◌==◌, Bool, true, false, not, List, [], ◌∷◌, filter, flat_map, if◌then◌else◌, is_some, length, map, refl, Option, Some, None, option_and_then, option_map}
 use Rattle.std.specs.Option.{option_map_or}
 use Rattle.std.proofs.Common.{◌∙◌, ap, arith, inl, inr, subst, sym}
 use Rattle.std.proofs.lemmas.Bool.{and_from, and_left, and_parts, and_right, cases_Bool, eq-eqb, eqb-false, false≢true, lt-ltb, not-true, true≢false}
-use Rattle.std.proofs.lemmas.List.{length-map}
 use Rattle.dk_base.specs.Shapes.{var}
 use Rattle.dk_base.specs.declared.kinds.VarId.{VarId}
 use Rattle.dk_engine.proofs.LevelFacts.{read_some}
@@ -26,14 +24,12 @@ use Rattle.dk_forms.specs.declared.states.State.{State}
 use Rattle.dk_forms.specs.declared.states.State.TheVariants.{Broken, Empty}
 use Rattle.dk_hierarchy.proofs.Joining.{broken_stays}
 use Rattle.dk_hierarchy.specs.Edges.{partner_at, partners_at}
-use Rattle.dk_hierarchy.specs.Merging.{AreWays, IsWay, Joint, engine_at, merged_state, state_through, states_joined}
+use Rattle.dk_hierarchy.specs.Merging.{Joint, engine_at, merged_state, state_through, states_joined}
 use Rattle.dk_hierarchy.specs.declared.way.Way.{Way}
-use Rattle.dk_presence.specs.Patterns.{has}
 use Rattle.dk_template.specs.Admitted.{admits, is_written}
 use Rattle.dk_template.specs.Fitting.{fits}
 use Rattle.dk_template.specs.Joins.{joined}
 use Rattle.dk_template.specs.Templates.{IsRowOf, arity_of, form_of, template_of}
-use Rattle.dk_template.specs.declared.grammar.Grammar.{Grammar}
 use Rattle.dk_template.specs.declared.grammar.RowId.{RowId}
 use Rattle.dk_template.specs.declared.templates.StateForm.{StateForm}
 use Rattle.dk_template.specs.declared.templates.StateForm.TheVariants.{Plain, Least, Greatest, Ints, Truth, Code, Texts, Modulus, Line, Plane, Offset}
@@ -62,7 +58,7 @@ use Rattle.dk_report.specs.Asked.{AreStanding, CanBeAsked, candidates_over, here
 use Rattle.dk_report.specs.Keeping.{keeps}
 use Rattle.dk_report.specs.Listing.{is_equality, is_listed, listed_candidates, listed_candidates_of_row, may_stand}
 use Rattle.dk_report.specs.Narrowing.{is_narrow}
-use Rattle.dk_report.specs.Viewing.{IsTold, IsView, are_mapped, candidates_told, is_told, leader_through, led_through, told_at, told_row, told_rows}
+use Rattle.dk_report.specs.Viewing.{IsTold, IsView, candidates_told, is_told, leader_through, led_through, told_at, told_row, told_rows}
 use Rattle.dk_report.specs.declared.asking.Asking.{Asking}
 use Rattle.dk_report.specs.declared.options.Options.{Options}
 use Rattle.dk_report.specs.declared.sweeping.Standing.{Standing}

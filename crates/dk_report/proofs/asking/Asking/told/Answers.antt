@@ -1,5 +1,3 @@
-use Rattle.std.specs.Prelude.{◌≡◌, IfSome, List}
-use Rattle.dk_base.specs.declared.kinds.VarId.{VarId}
 use Rattle.dk_report.proofs.Reported.{if_ok}
 use Rattle.dk_report.proofs.Rules.{if-some, told-is}
 use Rattle.dk_report.proofs.asking.Asking.told.Goals as goal
