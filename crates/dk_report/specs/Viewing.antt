@@ -103,7 +103,8 @@ abbrev pub shown_rows : Grammar → Kept → List (VarId × VarId) → List (Lis
 shown_rows grammar kept led = [] ∷ map (shown_row kept led) (rows_of grammar)
 
 abbrev pub left_of_shown : List (List (VarId × Bool)) → List (List VarId) → RowId → List VarId
-left_of_shown shown below row = map (λ pair. pair.0) (filter (λ pair. pair.1 || may_follow below row pair.0) (slice_index_or shown row.0 []))
+left_of_shown shown below row =
+    map (λ pair. pair.0) (filter (λ pair. pair.1 || may_follow below row pair.0) (slice_index_or shown row.0 []))
 
 abbrev pub shown_level : Grammar → List (List (VarId × Bool)) → List (List VarId) → List (List VarId)
 shown_level grammar shown below = [] ∷ map (left_of_shown shown below) (rows_of grammar)
