@@ -8,73 +8,80 @@ use std::test::Fail;
 
 /// A point, and two children that have its variables in other orders.
 const DECLARED: &str =
-    "ppt P\nppt-type point\nvariable x\nrep-type int\ncomparability 1\nvariable y\nrep-type int\ncomparability 1\nvariable z\nrep-type int\ncomparability 1\nvariable w\nrep-type int\ncomparability 2\nvariable s[..]\nrep-type int[]\ncomparability 1[1]\n\nppt A\nppt-type point\nparent parent P 1\nvariable z\nrep-type int\ncomparability 1\nparent P 1\nvariable y\nrep-type int\ncomparability 1\nparent P 1\nvariable x\nrep-type int\ncomparability 1\nparent P 1\nvariable w\nrep-type int\ncomparability 2\nparent P 1\nvariable s[..]\nrep-type int[]\ncomparability 1[1]\nparent P 1\n\nppt B\nppt-type point\nparent parent P 1\nvariable w\nrep-type int\ncomparability 2\nparent P 1\nvariable x\nrep-type int\ncomparability 1\nparent P 1\nvariable y\nrep-type int\ncomparability 1\nparent P 1\nvariable z\nrep-type int\ncomparability 1\nparent P 1\nvariable s[..]\nrep-type int[]\ncomparability 1[1]\nparent P 1\n\n";
+    "ppt P\nppt-type point\nvariable x\nrep-type int\ncomparability 1\nvariable y\nrep-type int\ncomparability 1\nvariable z\nrep-type int\ncomparability 1\nvariable w\nrep-type int\ncomparability 2\nvariable v\nrep-type int\ncomparability 1\nvariable u\nrep-type int\ncomparability 1\n\nppt A\nppt-type point\nparent parent P 1\nvariable z\nrep-type int\ncomparability 1\nparent P 1\nvariable y\nrep-type int\ncomparability 1\nparent P 1\nvariable x\nrep-type int\ncomparability 1\nparent P 1\nvariable w\nrep-type int\ncomparability 2\nparent P 1\nvariable v\nrep-type int\ncomparability 1\nparent P 1\nvariable u\nrep-type int\ncomparability 1\nparent P 1\n\nppt B\nppt-type point\nparent parent P 1\nvariable w\nrep-type int\ncomparability 2\nparent P 1\nvariable x\nrep-type int\ncomparability 1\nparent P 1\nvariable y\nrep-type int\ncomparability 1\nparent P 1\nvariable z\nrep-type int\ncomparability 1\nparent P 1\nvariable u\nrep-type int\ncomparability 1\nparent P 1\nvariable v\nrep-type int\ncomparability 1\nparent P 1\n\n";
 
-/// Values of x, y, z, w and s, of the two in turn. At the first z is x, and w has one value; at the second z is y.
-static SAMPLES: [[&str; 5]; 6] = [
+/// Values of x, y, z, w, v and u, of the two in turn. At the first z is x, and w has one value; at the second z is y. At both v has one,
+/// and u is x.
+static SAMPLES: [[&str; 6]; 6] = [
     [
         "x\n1\n1\n",
         "y\n2\n1\n",
         "z\n1\n1\n",
         "w\n4\n1\n",
-        "s[..]\n[1 2]\n1\n",
+        "v\n4\n1\n",
+        "u\n1\n1\n",
     ],
     [
         "x\n2\n1\n",
         "y\n6\n1\n",
         "z\n6\n1\n",
         "w\n8\n1\n",
-        "s[..]\n[2 5 6]\n1\n",
+        "v\n4\n1\n",
+        "u\n2\n1\n",
     ],
     [
         "x\n3\n1\n",
         "y\n6\n1\n",
         "z\n3\n1\n",
         "w\n4\n1\n",
-        "s[..]\n[3]\n1\n",
+        "v\n4\n1\n",
+        "u\n3\n1\n",
     ],
     [
         "x\n1\n1\n",
         "y\n4\n1\n",
         "z\n4\n1\n",
         "w\n9\n1\n",
-        "s[..]\n[1 1 4]\n1\n",
+        "v\n4\n1\n",
+        "u\n1\n1\n",
     ],
     [
         "x\n4\n1\n",
         "y\n4\n1\n",
         "z\n4\n1\n",
         "w\n4\n1\n",
-        "s[..]\nnonsensical\n2\n",
+        "v\n4\n1\n",
+        "u\n4\n1\n",
     ],
     [
         "x\n2\n1\n",
         "y\n3\n1\n",
         "z\n3\n1\n",
         "w\n7\n1\n",
-        "s[..]\n[]\n1\n",
+        "v\n4\n1\n",
+        "u\n2\n1\n",
     ],
 ];
 
 /// A point, and the places of its variables among those values.
 struct Layout {
     point: &'static str,
-    places: [usize; 5],
+    places: [usize; 6],
 }
 
 static PARENT: Layout = Layout {
     point: "P",
-    places: [0, 1, 2, 3, 4],
+    places: [0, 1, 2, 3, 4, 5],
 };
 
 static FIRST: Layout = Layout {
     point: "A",
-    places: [2, 1, 0, 3, 4],
+    places: [2, 1, 0, 3, 4, 5],
 };
 
 static SECOND: Layout = Layout {
     point: "B",
-    places: [3, 0, 1, 2, 4],
+    places: [3, 0, 1, 2, 5, 4],
 };
 
 static FILTERS: [&str; 5] = [
