@@ -23,6 +23,7 @@ pub mod Spread
 pub mod NumberSamples
 pub mod OfKinds
 pub mod Breaking
+pub mod Growing
 pub mod Sizes
 pub mod Pushing
 pub mod BegunPremises

@@ -244,6 +244,13 @@ module _ (g : Grammar) (infos : List VarInfo) (point : AreOfPoint infos) (kept :
             | inr b ↦ open_placed (get_or merged k d) (open_in (get_or merged k d) b)
           ];
           in_order = together.ascend;
+          unbroken = λ k d l. elim (from k d l) as (λ _. (get_or merged k d).state ≢ Broken) [
+            | inl a ↦ All-contains (λ s. s.state ≢ Broken) left (get_or merged k d) formed.unbroken a
+            | inr b ↦
+                let s : Slot = get_or merged k d in
+                let is = open_in s b in
+                λ e. has_unbroken infos now.known after_it s.row s.leaders is.there (sym is.state ∙ e)
+          ];
         }
 
 -- ---- by samples

@@ -57,9 +57,9 @@ StateStays made slot = (made slot ≡ slot.state) × (slot.state ≢ Broken)
 abbrev pub StayBetween : ℕ → ℕ → (Slot → State) → List Slot → Type 0
 StayBetween from to made slots = (k : ℕ) → from ≤ k → k < to → StateStays made (slot_in slots k)
 
--- a slot of the row that isn't Broken and, where it is asked, can't close
+-- a slot of the row that, where it is asked, can't close
 abbrev pub is_in_run : Bool → RowId → Slot → Bool
-is_in_run asked row slot = slot.row.0 == row.0 && (not (is_broken slot.state) && not (asked && can_close slot))
+is_in_run asked row slot = slot.row.0 == row.0 && not (asked && can_close slot)
 
 -- a slot's place with the state that is made of it
 pub record IsChange (made : Slot → State) (slots : List Slot) (change : Change) : Type 0 where

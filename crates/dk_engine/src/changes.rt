@@ -1,8 +1,10 @@
 // The slots that a sample changes.
-ghost use Rattle.std.specs.Prelude.{◌≡◌, ◌<◌, ◌≤◌, ◌+◌, ◌++◌, ◌∷◌, ℕ, [], true, All, IfNone, IfOk, IfSome, OnOk, length};
-ghost use Rattle.std.specs.List.{list_any};
+ghost use Rattle.std.specs.Prelude.{◌≡◌, ◌≢◌, ◌<◌, ◌≤◌, ◌+◌, ◌++◌, ◌∷◌, ℕ, [], true, All, IfNone, IfOk, IfSome, OnOk, length};
+ghost use Rattle.std.specs.List.{AllPairs, list_any};
+ghost use Rattle.dk_forms.specs.declared.states.State.TheVariants.{Broken};
 ghost use Rattle.dk_template.specs.Proper.{IsProper};
 ghost use Rattle.dk_template.specs.Templates.{form_of};
+ghost use Rattle.dk_engine.specs.Exact.{SlotBefore};
 ghost use Rattle.dk_engine.specs.Feeding.{read_after, with_sample};
 ghost use Rattle.dk_engine.specs.Narrow.{AreChanges, AreChangesBelow, StateStays, closes, is_in_run, loses, loses_by, lost_places, may_begin, outcome, slot_in};
 ghost use Rattle.dk_engine.specs.Step.{IsPlaced, can_close, is_empty_state, is_of_elements};
@@ -122,6 +124,7 @@ fn add_changes(
 ) -> Result<(), NoMemory>
     requires placed { All (λ slot. IsPlaced after.now.whole.grammar after.now.whole.infos after.now.whole.kept.leaders slot.row slot.leaders) slots.now }
     requires proper { All (λ slot. IsProper (form_of slot.row) slot.state) slots.now }
+    requires unbroken { All (λ slot. slot.state ≢ Broken) slots.now }
     requires from { from < to }
     requires to { to ≤ length slots.now }
     requires run { (k : ℕ) → from ≤ k → k < to → is_in_run asked (slot_in slots.now from).row (slot_in slots.now k) ≡ true }
@@ -147,6 +150,8 @@ fn add_next(
 ) -> Result<usize, NoMemory>
     requires placed { All (λ slot. IsPlaced after.now.whole.grammar after.now.whole.infos after.now.whole.kept.leaders slot.row slot.leaders) slots.now }
     requires proper { All (λ slot. IsProper (form_of slot.row) slot.state) slots.now }
+    requires in_order { AllPairs SlotBefore slots.now }
+    requires unbroken { All (λ slot. slot.state ≢ Broken) slots.now }
     requires within { place < length slots.now }
     requires below { AreChangesBelow place (outcome asked (read_after after.now.whole.kept after.now.sample) after.now.sample) slots.now changes.old }
     ensures more { IfOk result (λ next. place < next) }
@@ -172,6 +177,8 @@ pub(crate) fn changes(
 ) -> Result<List<Change>, NoMemory>
     requires placed { All (λ slot. IsPlaced after.now.whole.grammar after.now.whole.infos after.now.whole.kept.leaders slot.row slot.leaders) slots.now }
     requires proper { All (λ slot. IsProper (form_of slot.row) slot.state) slots.now }
+    requires in_order { AllPairs SlotBefore slots.now }
+    requires unbroken { All (λ slot. slot.state ≢ Broken) slots.now }
     ensures { IfOk result (AreChanges (outcome asked (read_after after.now.whole.kept after.now.sample) after.now.sample) slots.now) }
 {
     let mut changes = List::new(alloc);
@@ -194,6 +201,8 @@ pub(crate) fn few_changes(
 ) -> Result<Option<List<Change>>, NoMemory>
     requires placed { All (λ slot. IsPlaced after.now.whole.grammar after.now.whole.infos after.now.whole.kept.leaders slot.row slot.leaders) slots.now }
     requires proper { All (λ slot. IsProper (form_of slot.row) slot.state) slots.now }
+    requires in_order { AllPairs SlotBefore slots.now }
+    requires unbroken { All (λ slot. slot.state ≢ Broken) slots.now }
     ensures { IfOk result (λ found. IfSome found (AreChanges (outcome asked (read_after after.now.whole.kept after.now.sample) after.now.sample) slots.now)) }
 {
     let mut changes = List::new(alloc);

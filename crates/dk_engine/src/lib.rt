@@ -11,6 +11,7 @@ mod counting;
 mod counts;
 mod engine;
 mod feed;
+mod growing;
 mod kept;
 pub mod laws;
 mod lending;

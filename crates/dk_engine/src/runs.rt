@@ -1,10 +1,12 @@
 // Runs of slots that a sample leaves as they are, found without looking at the row of each.
-ghost use Rattle.std.specs.Prelude.{◌≡◌, ◌<◌, ◌≤◌, ℕ, true, All, length};
+ghost use Rattle.std.specs.Prelude.{◌≡◌, ◌<◌, ◌≤◌, ℕ, true, false, All, length};
+ghost use Rattle.std.specs.List.{AllPairs};
 ghost use Rattle.dk_base.specs.Values.{values_of};
 ghost use Rattle.dk_base.specs.declared.kinds.VarId.{VarId};
+ghost use Rattle.dk_engine.specs.Exact.{SlotBefore};
 ghost use Rattle.dk_engine.specs.Feeding.{with_sample};
 ghost use Rattle.dk_engine.specs.Narrow.{is_in_run, slot_in};
-ghost use Rattle.dk_engine.specs.Step.{IsPlaced};
+ghost use Rattle.dk_engine.specs.Step.{IsPlaced, can_close};
 ghost use Rattle.dk_engine.specs.declared.slot.Slot.{Slot};
 ghost use Rattle.dk_grammar.specs.Runs.{AreSlots};
 ghost use Rattle.dk_template.specs.Proper.{IsProper};
@@ -13,36 +15,70 @@ ghost use Rattle.dk_template.specs.Templates.{IsRow, form_of};
 use crate::Slot;
 use crate::after::After;
 use crate::changes::can_close;
-use crate::changing::is_broken;
 use dk_base::View;
 use dk_grammar::first_changed;
 use dk_template::RowId;
 
-// Whether the slot is of the row, isn't Broken and, where it is asked, can't close.
-fn is_in_run(asked: bool, row: RowId, slot: &Slot) -> bool
-    ensures { result ≡ is_in_run asked row slot.now }
+// Where the slots of this row and of earlier ones end, found by halving.
+fn rows_end(slots: &[Slot], row: RowId) -> usize
+    requires { AllPairs SlotBefore slots.now }
+    ensures within { result ≤ length slots.now }
+    ensures in_front { (k : ℕ) → k < result → (slot_in slots.now k).row.0 ≤ row.0 }
+    ensures behind { (k : ℕ) → result ≤ k → k < length slots.now → row.0 < (slot_in slots.now k).row.0 }
 {
-    slot.row.0 == row.0 && (!is_broken(&slot.state) && !(asked && can_close(slot)))
+    slots.partition_point(|slot| slot.row.0 <= row.0)
 }
 
-// How many slots of a run are taken together, so that they are still in the first cache where they are compared with the sample.
-const REACH: usize = 32;
+// How many slots of a row are taken together, so that the changes are counted before there are too many.
+const REACH: usize = 512;
 
-/// Where the run of slots from a place on ends, of as many as are taken together: slots of one row that aren't Broken and, where it is
-/// asked, can't close.
+// Where the slots of one row from a place on end, of as many as are taken together.
+fn row_end(slots: &[Slot], place: usize) -> usize
+    requires in_order { AllPairs SlotBefore slots.now }
+    requires within { place < length slots.now }
+    ensures from { place < result }
+    ensures to { result ≤ length slots.now }
+    ensures of_row { (k : ℕ) → place ≤ k → k < result → (slot_in slots.now k).row ≡ (slot_in slots.now place).row }
+{
+    let end = rows_end(slots, slots[place].row);
+    if end - place <= REACH {
+        end
+    } else {
+        place + REACH
+    }
+}
+
+// Up to where the slots from one place to another can't close.
+fn open_end(slots: &[Slot], from: usize, to: usize) -> usize
+    requires from { from ≤ to }
+    requires to { to ≤ length slots.now }
+    ensures from { from ≤ result }
+    ensures to { result ≤ to }
+    ensures open { (k : ℕ) → from ≤ k → k < result → can_close (slot_in slots.now k) ≡ false }
+{
+    for place in from..to {
+        if can_close(&slots[place]) {
+            return place;
+        }
+    }
+    to
+}
+
+/// Where the run of slots from a place on ends, of as many as are taken together: slots of one row that, where it is asked, can't
+/// close.
 pub(crate) fn run_end(asked: bool, slots: &[Slot], place: usize) -> usize
-    requires { place < length slots.now }
+    requires in_order { AllPairs SlotBefore slots.now }
+    requires within { place < length slots.now }
     ensures from { place ≤ result }
     ensures to { result ≤ length slots.now }
     ensures run { (k : ℕ) → place ≤ k → k < result → is_in_run asked (slot_in slots.now place).row (slot_in slots.now k) ≡ true }
 {
-    let row = slots[place].row;
-    for end in place..slots.len() {
-        if end - place == REACH || !is_in_run(asked, row, &slots[end]) {
-            return end;
-        }
+    let end = row_end(slots, place);
+    if asked {
+        open_end(slots, place, end)
+    } else {
+        end
     }
-    slots.len()
 }
 
 // How many slots of a run of one row come before the first of which the sample changes the state.
