@@ -20,13 +20,19 @@ use Rattle.dk_template.specs.declared.grammar.Grammar.{Grammar}
 use Rattle.dk_template.specs.declared.grammar.RowId.{RowId}
 use Rattle.dk_engine.specs.Exact.{SlotBefore}
 use Rattle.dk_engine.specs.Feeding.{with_sample}
-use Rattle.dk_engine.specs.Narrow.{StateStays, closes, is_in_run, no_slot, outcome, slot_in}
+use Rattle.dk_engine.specs.Idle.{PassesStill, skip_in}
+use Rattle.dk_engine.specs.Narrow.{StateStays, closes, is_in_run, outcome}
+use Rattle.dk_engine.specs.Parts.{no_slot, slot_in}
 use Rattle.dk_engine.specs.Step.{Answer, IsPlaced, can_close}
 use Rattle.dk_engine.specs.declared.slot.Slot.{Slot}
 
 -- the sample leaves a slot's state of the row as it is
 abbrev pub IsStill : RowId → List Value → Slot → Type 0
 IsStill row sample s = with_sample row s.leaders sample s.state ≡ s.state
+
+-- so does the slot at a place, of its own row
+abbrev pub IsStillAt : List Value → List Slot → ℕ → Type 0
+IsStillAt sample slots k = with_sample (slot_in slots k).row (slot_in slots k).leaders sample (slot_in slots k).state ≡ (slot_in slots k).state
 
 -- an item that is found is there
 there : (P : Slot → Type 0) (slots : List Slot) (n : ℕ) → IsSomeAnd (slice_get slots n) P → n < length slots
@@ -139,3 +145,15 @@ module _ (slots : List Slot) (place n : ℕ) where
         let back : place + j ≡ k = omega (arith, from) in
         let l : j < length (take n (drop place slots)) = omega (arith, from, to, most) in
         subst (λ i. IsStill row sample (slot_in slots i)) back (subst (IsStill row sample) (at_run j no_slot l) (still j (omega (arith, from, to))))
+
+-- ---- planes of which some are passed over
+pub still_more : (sample : List Value) (slots : List Slot) (skips : List ℕ) (from place next : ℕ) → PassesStill sample slots skips
+    → ((k : ℕ) → from ≤ k → k < place → IsStillAt sample slots k) → IsStillAt sample slots place → ((j : ℕ) → place + 1 ≤ j → j < next → j < skip_in skips (place + 1))
+    → (k : ℕ) → from ≤ k → k < next → IsStillAt sample slots k
+still_more sample slots skips from place next passes so_far here passed k a b = elim (cases_lt k place) as (λ _. IsStillAt sample slots k) [
+  | inl lt ↦ so_far k a lt
+  | inr ge ↦ elim (cases_lt place k) as (λ _. IsStillAt sample slots k) [
+    | inl behind ↦ passes (place + 1) k (omega (arith, behind)) (passed k (omega (arith, behind)) b)
+    | inr le ↦ let same : place ≡ k = omega (arith, ge, le) in subst (IsStillAt sample slots) same here
+  ]
+]

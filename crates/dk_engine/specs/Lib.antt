@@ -21,3 +21,4 @@ pub mod Merged
 pub mod Narrow
 pub mod Restored
 pub mod Bitmaps
+pub mod Idle

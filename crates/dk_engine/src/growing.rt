@@ -1,10 +1,11 @@
-// Stretches of a line that grow with a sample: the point lies on the line, beyond the last one.
-ghost use Rattle.std.specs.Prelude.{◌≡◌, ◌∷◌, [], ◌^◌, unsigned_abs, nat_le, IfSome};
+// Planes and stretches of a line with a sample: whether they stay as they are, and stretches that grow, as the sample's point lies on the
+// line, beyond the last one.
+ghost use Rattle.std.specs.Prelude.{◌≡◌, ◌∷◌, [], ◌^◌, unsigned_abs, nat_le, true, IfSome, IsTrue};
 ghost use Rattle.dk_base.specs.Values.{values_of};
-ghost use Rattle.dk_forms.specs.Plane.{IsPlaneState, in_space, is_before, plane_join, plane_of};
+ghost use Rattle.dk_forms.specs.Plane.{IsPlaneState, IsSpan, in_space, is_before, plane_join, plane_of};
+ghost use Rattle.dk_forms.specs.declared.states.State.TheVariants.{Span};
 ghost use Rattle.dk_template.specs.Proper.{IsProper};
 ghost use Rattle.dk_template.specs.Templates.{form_of};
-ghost use Rattle.dk_ternary.specs.Rows.{linear_ternary_row};
 ghost use Rattle.dk_engine.specs.Feeding.{with_sample};
 
 use crate::Slot;
@@ -38,8 +39,41 @@ fn is_before(x1: i64, y1: i64, z1: i64, x: i64, y: i64, z: i64) -> bool
     }
 }
 
-// The state with a point more, if it is a stretch of a line that ends at the point then: from its first point to the new one, and its
-// last point lies between them.
+// The stretch from p to v, if it has the point q.
+fn longer(p: (i64, i64, i64), q: (i64, i64, i64), v: (i64, i64, i64)) -> Option<State>
+    requires p { IsSpan (p, q) }
+    requires near { in_space v ≡ true }
+    requires before { is_before p v ≡ true }
+    ensures { IfSome result (λ s. s ≡ plane_join (Span p.0 p.1 p.2 q.0 q.1 q.2) (plane_of (v ∷ []))) }
+{
+    let longer = State::Span {
+        x1: p.0,
+        y1: p.1,
+        z1: p.2,
+        x2: v.0,
+        y2: v.1,
+        z2: v.2,
+    };
+    if plane_stays(&longer, q.0, q.1, q.2) {
+        Some(longer)
+    } else {
+        None
+    }
+}
+
+// The stretch from p to q with the point v, if it ends at v then.
+fn prolonged(p: (i64, i64, i64), q: (i64, i64, i64), v: (i64, i64, i64)) -> Option<State>
+    requires { IsSpan (p, q) }
+    ensures { IfSome result (λ s. s ≡ plane_join (Span p.0 p.1 p.2 q.0 q.1 q.2) (plane_of (v ∷ []))) }
+{
+    if is_in_space(v.0, v.1, v.2) && is_before(p.0, p.1, p.2, v.0, v.1, v.2) {
+        longer(p, q, v)
+    } else {
+        None
+    }
+}
+
+// The state with a point more, if it is a stretch of a line that ends at the point then.
 fn grown(state: &State, x: i64, y: i64, z: i64) -> Option<State>
     requires { IsPlaneState state.now }
     ensures { IfSome result (λ s. s ≡ plane_join state.now (plane_of ((x, y, z) ∷ []))) }
@@ -52,39 +86,24 @@ fn grown(state: &State, x: i64, y: i64, z: i64) -> Option<State>
             x2,
             y2,
             z2,
-        } => {
-            if !is_in_space(x, y, z) || !is_before(*x1, *y1, *z1, x, y, z) {
-                return None;
-            }
-            let longer = State::Span {
-                x1: *x1,
-                y1: *y1,
-                z1: *z1,
-                x2: x,
-                y2: y,
-                z2: z,
-            };
-            if plane_stays(&longer, *x2, *y2, *z2) {
-                Some(longer)
-            } else {
-                None
-            }
-        }
+        } => prolonged((*x1, *y1, *z1), (*x2, *y2, *z2), (x, y, z)),
         _ => None,
     }
 }
 
-// The same of three variables' values in a sample.
-fn grown_by(state: &State, sample: &[View<'_>], u: VarId, v: VarId, w: VarId) -> Option<State>
-    requires { IsPlaneState state.now }
-    ensures { IfSome result (λ s. s ≡ with_sample linear_ternary_row (u ∷ v ∷ w ∷ []) (values_of sample.now) state.now) }
+// The state of a slot of row 67 over three leaders with a sample, if it is a stretch of a line that ends at the sample's point then.
+fn grown_by(slot: &Slot, sample: &[View<'_>], u: VarId, v: VarId, w: VarId) -> Option<State>
+    requires row { slot.now.row.0 ≡ 67 }
+    requires leaders { slot.now.leaders ≡ u ∷ v ∷ w ∷ [] }
+    requires proper { IsProper (form_of slot.now.row) slot.now.state }
+    ensures { IfSome result (λ s. s ≡ with_sample slot.now.row slot.now.leaders (values_of sample.now) slot.now.state) }
 {
     match (
         number_at(sample, u),
         number_at(sample, v),
         number_at(sample, w),
     ) {
-        (Some(x), Some(y), Some(z)) => grown(state, x, y, z),
+        (Some(x), Some(y), Some(z)) => grown(&slot.state, x, y, z),
         _ => None,
     }
 }
@@ -98,7 +117,40 @@ pub(crate) fn grown_with(slot: &Slot, sample: &[View<'_>]) -> Option<State>
         return None;
     }
     match slot.leaders.as_slice() {
-        [u, v, w] => grown_by(&slot.state, sample, *u, *v, *w),
+        [u, v, w] => grown_by(slot, sample, *u, *v, *w),
         _ => None,
+    }
+}
+
+// Whether a sample has numbers for a slot of row 67 over three leaders, and leaves it as it is.
+#[inline(always)]
+fn stays_by(slot: &Slot, sample: &[View<'_>], u: VarId, v: VarId, w: VarId) -> bool
+    requires row { slot.now.row.0 ≡ 67 }
+    requires leaders { slot.now.leaders ≡ u ∷ v ∷ w ∷ [] }
+    requires proper { IsProper (form_of slot.now.row) slot.now.state }
+    ensures { IsTrue result → with_sample slot.now.row slot.now.leaders (values_of sample.now) slot.now.state ≡ slot.now.state }
+{
+    match (
+        number_at(sample, u),
+        number_at(sample, v),
+        number_at(sample, w),
+    ) {
+        (Some(x), Some(y), Some(z)) => plane_stays(&slot.state, x, y, z),
+        _ => false,
+    }
+}
+
+/// Whether a sample has numbers for a slot that is a plane, or a stretch of a line, and leaves it as it is.
+#[inline(always)]
+pub(crate) fn plane_stays_with(slot: &Slot, sample: &[View<'_>]) -> bool
+    requires { IsProper (form_of slot.now.row) slot.now.state }
+    ensures { IsTrue result → with_sample slot.now.row slot.now.leaders (values_of sample.now) slot.now.state ≡ slot.now.state }
+{
+    if slot.row.0 != 67 {
+        return false;
+    }
+    match slot.leaders.as_slice() {
+        [u, v, w] => stays_by(slot, sample, *u, *v, *w),
+        _ => false,
     }
 }

@@ -12,6 +12,7 @@ mod counts;
 mod engine;
 mod feed;
 mod growing;
+mod idle;
 mod kept;
 pub mod laws;
 mod lending;

@@ -8,7 +8,8 @@ use Rattle.dk_engine.proofs.Narrowing.{change_more, stay_more}
 use Rattle.dk_engine.proofs.Running.{IsStill, of_row, outcome_of_run, stays_of_still}
 use Rattle.dk_engine.specs.Feeding.{read_after, with_sample}
 use Rattle.dk_engine.specs.Levels.{OneMore}
-use Rattle.dk_engine.specs.Narrow.{AreChangesBelow, StayBetween, is_in_run, no_slot, outcome, slot_in}
+use Rattle.dk_engine.specs.Narrow.{AreChangesBelow, StayBetween, is_in_run, outcome}
+use Rattle.dk_engine.specs.Parts.{no_slot, slot_in}
 use Rattle.dk_engine.specs.Step.{Answer}
 use Rattle.dk_engine.specs.declared.changes.Change.{Change}
 use Rattle.dk_engine.specs.declared.slot.Slot.{Slot}

@@ -1,5 +1,5 @@
 use Rattle.std.specs.Prelude.{◌≡◌, ◌<◌, ◌≤◌, ℕ, false}
-use Rattle.dk_engine.specs.Narrow.{slot_in}
+use Rattle.dk_engine.specs.Parts.{slot_in}
 use Rattle.dk_engine.specs.Step.{can_close}
 use Rattle.dk_engine.proofs.runs.open_end.Given as goal
 

@@ -5,7 +5,7 @@ use Rattle.std.proofs.lemmas.List.{get_or_default}
 use Rattle.dk_template.specs.declared.grammar.RowId.{RowId}
 use Rattle.dk_engine.proofs.Running.{of_one_row, place_in_front}
 use Rattle.dk_engine.specs.Exact.{SlotBefore}
-use Rattle.dk_engine.specs.Narrow.{no_slot, slot_in}
+use Rattle.dk_engine.specs.Parts.{no_slot, slot_in}
 use Rattle.dk_engine.specs.declared.slot.Slot.{Slot}
 use Rattle.dk_engine.proofs.runs.row_end.Goals as goal
 

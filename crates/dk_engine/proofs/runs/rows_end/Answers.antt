@@ -4,7 +4,7 @@ use Rattle.std.proofs.Common.{arith, leb, rules}
 use Rattle.std.proofs.lemmas.Bool.Decides.{nat_tests}
 use Rattle.std.proofs.lemmas.List.Sorted.{IsPartitionPoint-from_clause, IsPartitionedBy-leb}
 use Rattle.dk_engine.proofs.Running.{rows_rise}
-use Rattle.dk_engine.specs.Narrow.{no_slot}
+use Rattle.dk_engine.specs.Parts.{no_slot}
 use Rattle.dk_engine.specs.declared.slot.Slot.{Slot}
 use Rattle.dk_engine.proofs.runs.rows_end.Goals as goal
 

@@ -1,5 +1,5 @@
 -- A stretch of a line with a point that lies beyond it on the line.
-use Rattle.std.specs.Prelude.{◌≡◌, ℤ, ◌-ℤ◌, ◌*ℤ◌, true, false, ◌∷◌, [], List, if◌then◌else◌, ◌&&◌, nat_le, unsigned_abs, ◌^◌, refl}
+use Rattle.std.specs.Prelude.{◌≡◌, ℕ, ℤ, ◌-ℤ◌, ◌*ℤ◌, true, false, ◌∷◌, [], List, if◌then◌else◌, ◌&&◌, refl}
 use Rattle.std.specs.Ordering.{int_eq}
 use Rattle.std.proofs.Common.{◌∙◌, ap, arith, inl, inr, subst, sym}
 use Rattle.std.proofs.lemmas.Bool.{and_from, and_parts, false≢true}
@@ -15,7 +15,7 @@ use Rattle.dk_forms.proofs.PlaneFacts.{plane_of_point, point_of_limit}
 use Rattle.dk_forms.proofs.PlaneStays.{span_stays}
 use Rattle.dk_forms.proofs.PointOrder.{before_or}
 use Rattle.dk_forms.specs.Known.{broken, fact}
-use Rattle.dk_forms.specs.Plane.{Before, Flat, IsPlaneState, IsSpan, are_aligned, first_off, greater, in_space, is_before, lesser, plane_between, plane_from, plane_join, plane_meet, plane_of, plane_of_all, plane_state, plane_through, span}
+use Rattle.dk_forms.specs.Plane.{Before, IsPlaneState, IsSpan, are_aligned, first_off, greater, in_space, is_before, lesser, plane_between, plane_from, plane_join, plane_meet, plane_of, plane_of_all, plane_state, plane_through, span}
 use Rattle.dk_forms.specs.declared.states.State.{State}
 use Rattle.dk_forms.specs.declared.states.State.TheVariants.{Span}
 use Rattle.dk_rows.specs.Meanings.{meanings, state_of}
@@ -28,6 +28,7 @@ use Rattle.dk_template.specs.declared.templates.StateForm.{StateForm}
 use Rattle.dk_template.specs.declared.templates.StateForm.TheVariants as form
 use Rattle.dk_ternary.specs.Rows.{linear_ternary_row}
 use Rattle.dk_engine.specs.Feeding.{with_sample}
+use Rattle.dk_engine.specs.declared.slot.Slot.{Slot}
 
 -- ---- points on one line
 -- the test is right
@@ -132,3 +133,12 @@ planar_sample u v w sample x y z at_u at_v at_w s =
   where
     three : (i j k : Value) → i ≡ value.Int x → j ≡ value.Int y → k ≡ value.Int z → (let l : List Value = i ∷ j ∷ k ∷ [] in l) ≡ value.Int x ∷ value.Int y ∷ value.Int z ∷ []
     three i j k p q r = cc
+
+-- the same of a slot
+pub planar_slot : (slot : Slot) → slot.row.0 ≡ 67 → (u v w : VarId) → slot.leaders ≡ u ∷ v ∷ w ∷ [] → (sample : List Value) (x y z : ℤ)
+    → value_in sample u ≡ value.Int x → value_in sample v ≡ value.Int y → value_in sample w ≡ value.Int z
+    → plane_join slot.state (plane_of ((x, y, z) ∷ [])) ≡ with_sample slot.row slot.leaders sample slot.state
+planar_slot slot e u v w over sample x y z at_u at_v at_w =
+    let row : slot.row ≡ linear_ternary_row = ap (λ (n : ℕ). (let r : RowId = record { 0 = n } in r)) e in
+    planar_sample u v w sample x y z at_u at_v at_w slot.state
+    ∙ (ap (λ vs. with_sample linear_ternary_row vs sample slot.state) (sym over) ∙ ap (λ r. with_sample r slot.leaders sample slot.state) (sym row))
