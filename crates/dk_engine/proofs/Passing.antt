@@ -165,7 +165,7 @@ module _ (slots : List Slot) (skips : List ℕ) (p : ℕ) (idle : IsIdle (slot_i
   else_at j n = get_or-set_other skips p j end 0 n
 
   here_noted : p < skip_in put p
-  here_noted = let at = put_at in let low = later_next (p + 1) (skip_in skips (p + 1)) in omega (arith, at, low)
+  here_noted = let low : p + 1 ≤ end = later_next (p + 1) (skip_in skips (p + 1)) in subst (λ n. p < n) (sym put_at) (omega (arith, low))
 
   -- a place that was noted is
   still_noted : (j : ℕ) → j < skip_in skips j → j < skip_in put j
@@ -177,8 +177,7 @@ module _ (slots : List Slot) (skips : List ℕ) (p : ℕ) (idle : IsIdle (slot_i
   behind_noted : (j : ℕ) → p ≤ j → j ≢ p → j < skip_in put p → j < skip_in skips j
   behind_noted j a n l =
       let low : p + 1 ≤ j = omega (arith, a, n) in
-      let at = put_at in
-      are.1.noted (p + 1) j low (later_skip (p + 1) (skip_in skips (p + 1)) j low (omega (arith, at, l)))
+      are.1.noted (p + 1) j low (later_skip (p + 1) (skip_in skips (p + 1)) j low (subst (λ n. j < n) put_at l))
 
   pub notes_more : AreNotes slots put
   notes_more = (

@@ -46,7 +46,7 @@ fn longer(p: (i64, i64, i64), q: (i64, i64, i64), v: (i64, i64, i64)) -> Option<
     requires before { is_before p v ≡ true }
     ensures { IfSome result (λ s. s ≡ plane_join (Span p.0 p.1 p.2 q.0 q.1 q.2) (plane_of (v ∷ []))) }
 {
-    let longer = State::Span {
+    let stretch = State::Span {
         x1: p.0,
         y1: p.1,
         z1: p.2,
@@ -54,8 +54,8 @@ fn longer(p: (i64, i64, i64), q: (i64, i64, i64), v: (i64, i64, i64)) -> Option<
         y2: v.1,
         z2: v.2,
     };
-    if plane_stays(&longer, q.0, q.1, q.2) {
-        Some(longer)
+    if plane_stays(&stretch, q.0, q.1, q.2) {
+        Some(stretch)
     } else {
         None
     }
