@@ -39,35 +39,55 @@ fn is_before(x1: i64, y1: i64, z1: i64, x: i64, y: i64, z: i64) -> bool
     }
 }
 
-// The stretch from p to v, if it has the point q.
-fn longer(p: (i64, i64, i64), q: (i64, i64, i64), v: (i64, i64, i64)) -> Option<State>
-    requires p { IsSpan (p, q) }
-    requires near { in_space v ≡ true }
-    requires before { is_before p v ≡ true }
-    ensures { IfSome result (λ s. s ≡ plane_join (Span p.0 p.1 p.2 q.0 q.1 q.2) (plane_of (v ∷ []))) }
+// The stretch from its first point to a new one, if it has the one that was its last.
+fn longer(
+    x1: i64,
+    y1: i64,
+    z1: i64,
+    x2: i64,
+    y2: i64,
+    z2: i64,
+    x: i64,
+    y: i64,
+    z: i64,
+) -> Option<State>
+    requires span { IsSpan ((x1, y1, z1), (x2, y2, z2)) }
+    requires near { in_space (x, y, z) ≡ true }
+    requires before { is_before (x1, y1, z1) (x, y, z) ≡ true }
+    ensures { IfSome result (λ s. s ≡ plane_join (Span x1 y1 z1 x2 y2 z2) (plane_of ((x, y, z) ∷ []))) }
 {
     let stretch = State::Span {
-        x1: p.0,
-        y1: p.1,
-        z1: p.2,
-        x2: v.0,
-        y2: v.1,
-        z2: v.2,
+        x1,
+        y1,
+        z1,
+        x2: x,
+        y2: y,
+        z2: z,
     };
-    if plane_stays(&stretch, q.0, q.1, q.2) {
+    if plane_stays(&stretch, x2, y2, z2) {
         Some(stretch)
     } else {
         None
     }
 }
 
-// The stretch from p to q with the point v, if it ends at v then.
-fn prolonged(p: (i64, i64, i64), q: (i64, i64, i64), v: (i64, i64, i64)) -> Option<State>
-    requires { IsSpan (p, q) }
-    ensures { IfSome result (λ s. s ≡ plane_join (Span p.0 p.1 p.2 q.0 q.1 q.2) (plane_of (v ∷ []))) }
+// A stretch with a point more, if it ends at the point then.
+fn prolonged(
+    x1: i64,
+    y1: i64,
+    z1: i64,
+    x2: i64,
+    y2: i64,
+    z2: i64,
+    x: i64,
+    y: i64,
+    z: i64,
+) -> Option<State>
+    requires { IsSpan ((x1, y1, z1), (x2, y2, z2)) }
+    ensures { IfSome result (λ s. s ≡ plane_join (Span x1 y1 z1 x2 y2 z2) (plane_of ((x, y, z) ∷ []))) }
 {
-    if is_in_space(v.0, v.1, v.2) && is_before(p.0, p.1, p.2, v.0, v.1, v.2) {
-        longer(p, q, v)
+    if is_in_space(x, y, z) && is_before(x1, y1, z1, x, y, z) {
+        longer(x1, y1, z1, x2, y2, z2, x, y, z)
     } else {
         None
     }
@@ -86,7 +106,7 @@ fn grown(state: &State, x: i64, y: i64, z: i64) -> Option<State>
             x2,
             y2,
             z2,
-        } => prolonged((*x1, *y1, *z1), (*x2, *y2, *z2), (x, y, z)),
+        } => prolonged(*x1, *y1, *z1, *x2, *y2, *z2, x, y, z),
         _ => None,
     }
 }
