@@ -1,6 +1,6 @@
 // Planes and stretches of a line with a sample: whether they stay as they are, and stretches that grow, as the sample's point lies on the
 // line, beyond the last one.
-ghost use Rattle.std.specs.Prelude.{◌≡◌, ◌∷◌, [], ◌^◌, unsigned_abs, nat_le, true, IfSome, IsTrue};
+ghost use Rattle.std.specs.Prelude.{◌≡◌, ◌∷◌, [], ◌^◌, unsigned_abs, nat_le, IfSome, IsTrue};
 ghost use Rattle.dk_base.specs.Values.{values_of};
 ghost use Rattle.dk_forms.specs.Plane.{IsPlaneState, IsSpan, in_space, is_before, plane_join, plane_of};
 ghost use Rattle.dk_forms.specs.declared.states.State.TheVariants.{Span};
@@ -39,38 +39,6 @@ fn is_before(x1: i64, y1: i64, z1: i64, x: i64, y: i64, z: i64) -> bool
     }
 }
 
-// The stretch from its first point to a new one, if it has the one that was its last.
-fn longer(
-    x1: i64,
-    y1: i64,
-    z1: i64,
-    x2: i64,
-    y2: i64,
-    z2: i64,
-    x: i64,
-    y: i64,
-    z: i64,
-) -> Option<State>
-    requires span { IsSpan ((x1, y1, z1), (x2, y2, z2)) }
-    requires near { in_space (x, y, z) ≡ true }
-    requires before { is_before (x1, y1, z1) (x, y, z) ≡ true }
-    ensures { IfSome result (λ s. s ≡ plane_join (Span x1 y1 z1 x2 y2 z2) (plane_of ((x, y, z) ∷ []))) }
-{
-    let stretch = State::Span {
-        x1,
-        y1,
-        z1,
-        x2: x,
-        y2: y,
-        z2: z,
-    };
-    if plane_stays(&stretch, x2, y2, z2) {
-        Some(stretch)
-    } else {
-        None
-    }
-}
-
 // A stretch with a point more, if it ends at the point then.
 fn prolonged(
     x1: i64,
@@ -86,8 +54,22 @@ fn prolonged(
     requires { IsSpan ((x1, y1, z1), (x2, y2, z2)) }
     ensures { IfSome result (λ s. s ≡ plane_join (Span x1 y1 z1 x2 y2 z2) (plane_of ((x, y, z) ∷ []))) }
 {
-    if is_in_space(x, y, z) && is_before(x1, y1, z1, x, y, z) {
-        longer(x1, y1, z1, x2, y2, z2, x, y, z)
+    if !is_in_space(x, y, z) {
+        return None;
+    }
+    if !is_before(x1, y1, z1, x, y, z) {
+        return None;
+    }
+    let stretch = State::Span {
+        x1,
+        y1,
+        z1,
+        x2: x,
+        y2: y,
+        z2: z,
+    };
+    if plane_stays(&stretch, x2, y2, z2) {
+        Some(stretch)
     } else {
         None
     }

@@ -1,6 +1,6 @@
 // Slots that no sample of near numbers changes: planes that say of a variable, which stands at two roles, that it is itself. A search for
 // changed slots passes over them.
-ghost use Rattle.std.specs.Prelude.{◌≡◌, ◌<◌, ◌+◌, ◌∷◌, [], IfOk, IsTrue, length, replicate, slice_set};
+ghost use Rattle.std.specs.Prelude.{◌≡◌, ◌<◌, ◌+◌, ◌==◌, ◌&&◌, ◌∷◌, [], IfOk, IsTrue, length, replicate, slice_set};
 ghost use Rattle.dk_base.specs.Values.{value_of, values_of};
 ghost use Rattle.dk_engine.specs.Idle.{AreNotes, AreSkips, IsIdle, are_near, is_diagonal, is_idle_over, is_near, is_passed, later, skip_in};
 
@@ -38,14 +38,20 @@ fn is_diagonal(a: i128, b: i128, c: i128, d: i128) -> bool
     a == 1 && (b == -1 && (c == 0 && d == 0))
 }
 
+// Whether two variables are one, and the plane says that of their values.
+fn is_itself(u: VarId, v: VarId, a: i128, b: i128, c: i128, d: i128) -> bool
+    ensures { result ≡ (u.0 == v.0 && is_diagonal a b c d) }
+{
+    u.0 == v.0 && is_diagonal(a, b, c, d)
+}
+
 // Whether the plane says no more than that a variable, which stands at two roles, is itself.
 fn is_idle_over(u: VarId, v: VarId, w: VarId, state: &State) -> bool
     ensures { result ≡ is_idle_over u v w state.now }
 {
     match state {
         State::Plane { a, b, c, d } => {
-            (u.0 == v.0 && is_diagonal(*a, *b, *c, *d))
-                || (v.0 == w.0 && is_diagonal(*b, *c, *a, *d))
+            is_itself(u, v, *a, *b, *c, *d) || is_itself(v, w, *b, *c, *a, *d)
         }
         _ => false,
     }

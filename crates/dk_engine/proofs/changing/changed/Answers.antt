@@ -11,7 +11,7 @@ use Rattle.dk_engine.proofs.changing.changed.Goals as goal
 pub returns-then-breaks : goal.returns-then-breaks
 returns-then-breaks c made are =
     let all : c.with_changes-all.result ≡ fold with_change c.args.slots c.args.changes = c.with_changes-all.ensures ∙ ap (fold with_change c.args.slots) c.into_vec.ensures in
-    c.of.ensures ∙ (c.unbroken.ensures ∙ (ap (filter (λ (s : Slot). not (is_broken s.state))) (c.into_vec-2.ensures ∙ all) ∙ left_by_changes made c.args.slots c.args.changes are))
+    c.of.ensures ∙ (c.unbroken.ensures ∙ (ap (filter (λ (s : Slot). not (is_broken s.state))) (c.into_vec-then-breaks.ensures ∙ all) ∙ left_by_changes made c.args.slots c.args.changes are))
 
 pub returns : goal.returns
 returns c made are =

@@ -15,7 +15,7 @@ returns-clause-in_front c k l =
     let parted : IsPartitionPoint (λ (s : Slot). leb s.row.0 row.0 ≡ true) (λ s. leb s.row.0 row.0 ≡ false) slots c.partition_point.result =
     IsPartitionPoint-from_clause (λ (s : Slot). leb s.row.0 row.0) slots c.partition_point.result c.partition_point.ensures.partitioned
     (IsPartitionedBy-leb (λ (s : Slot). s.row.0) slots row.0 (rows_rise slots c.requires)) (λ a r f called. search rules) in
-    let low = parted.0 k no_slot l in grind (arith, nat_tests, low)
+    let low = parted.0 k no_slot (omega arith) l in grind (arith, nat_tests, low)
 
 pub returns-clause-behind : goal.returns-clause-behind
 returns-clause-behind c k from l =
