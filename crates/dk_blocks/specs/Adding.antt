@@ -30,4 +30,6 @@ Adds h (Some (Samples p line values)) h' = AddsSample h h' p values
 
 -- A block does nothing but what it says, and the grammar stays.
 abbrev pub EffectsAreAdded : Type 0
-EffectsAreAdded = (ignores : Bool) (h : History) (ls : List Line) (close : Option ℕ) (t : Taken) → effect_of ignores h ls close ≡ Ok t → Adds h t.effect t.history × (t.history.grammar ≡ h.grammar)
+EffectsAreAdded =
+    (ignores : Bool) (h : History) (ls : List Line) (close : Option ℕ) (t : Taken) → effect_of ignores h ls close ≡ Ok t
+    → Adds h t.effect t.history × (t.history.grammar ≡ h.grammar)

@@ -94,7 +94,9 @@ own_samples_with samples p values = slice_set samples p (slice_index_or samples 
 
 -- a record's base values give its point one sample more
 abbrev pub with_values : History → Sample → List Value → Taken
-with_values h s values = block_by (Samples s.point s.line values) (record h { samples = own_samples_with h.samples s.point values; calls = call_of h.table s ∷ h.calls })
+with_values h s values =
+    block_by (Samples s.point s.line values)
+    (record h { samples = own_samples_with h.samples s.point values; calls = call_of h.table s ∷ h.calls })
 
 -- Where exits without an entry are left out, such a record changes nothing, and its block counts.
 abbrev pub or_left_out : Bool → History → Result Taken LineFault → Result Taken LineFault

@@ -34,9 +34,11 @@ Stands kept h = KeepsAll kept h
 -- what a block so far says of the lines that are left; the header is that behind its header lines
 abbrev pub resumed_by : Bool → History → State → Reads Taken
 resumed_by ignores h (state.Front last) ls close = block_front h.header last ls >>= λ front. after_front ignores h front close
-resumed_by ignores h (state.Declaration line reader) ls close = decl_resumed reader ls close >>= λ d. where_it_ends close h (with_declaration h line d)
+resumed_by ignores h (state.Declaration line reader) ls close =
+    decl_resumed reader ls close >>= λ d. where_it_ends close h (with_declaration h line d)
 resumed_by ignores h state.Implementors ls close = where_it_ends close h (Ok (block h))
-resumed_by ignores h (state.Record reader) ls close = record_resumed h.table reader ls close >>= λ s. where_it_ends close h (with_record ignores h s)
+resumed_by ignores h (state.Record reader) ls close =
+    record_resumed h.table reader ls close >>= λ s. where_it_ends close h (with_record ignores h s)
 
 unfoldable pub block_resumed : Bool → History → Block → Reads Taken
 block_resumed ignores h b ls close = resumed_by ignores (record h { header = b.header }) b.state ls close

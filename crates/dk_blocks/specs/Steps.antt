@@ -57,8 +57,8 @@ pub record Moves (ignores : Bool) (read : Reads Taken) (r : Reading) (xs : List 
       (after_next ignores read' (groups_left false r' false d)) ys
 
 -- The next block, or the file's end, was read, and this is what it comes to.
-pub record Steps (ignores : Bool) (read : Reads Taken) (over : Bool) (r : Reading) (xs : List ℕ) (outcome : Result Taken BlockLineFault) (over' : Bool)
-    (r' : Reading) (ys : List ℕ) : Type 0 where
+pub record Steps (ignores : Bool) (read : Reads Taken) (over : Bool) (r : Reading) (xs : List ℕ)
+    (outcome : Result Taken BlockLineFault) (over' : Bool) (r' : Reading) (ys : List ℕ) : Type 0 where
   pub front : List ℕ
   pub split : xs ≡ front ++ ys
   pub room : room_of r' ≡ room_of r - length front
@@ -83,7 +83,8 @@ abbrev pub TurnGives : Bool → Reads Taken → Reading → List ℕ → Result 
 TurnGives ignores read r xs (Ok (Goes kept block)) r' left' =
     (h : History) × Stands kept h × ((ys : List ℕ) × (left' ≡ Some ys) × Moves ignores read r xs (block_resumed ignores h block) r' ys)
 TurnGives ignores read r xs (Ok (Ends end)) r' left' =
-    (h : History) × Stands end.kept h × ((ys : List ℕ) × (left' ≡ Some ys) × Steps ignores read false r xs (outcome_of h end.found) end.is_over r' ys)
+    (h : History) × Stands end.kept h
+    × ((ys : List ℕ) × (left' ≡ Some ys) × Steps ignores read false r xs (outcome_of h end.found) end.is_over r' ys)
 TurnGives ignores read r xs (Err (Refused line why)) r' left' =
     after_next ignores read (groups_left false r true xs) ≡ Err (record { line = line; why = why })
 TurnGives ignores read r xs (Err Read) r' left' = Stops ignores read false r xs left'
@@ -221,7 +222,8 @@ StepCounts r (Err e) r' = r'.limits ≡ r.limits
 -- what reading up to the end of a block comes to
 abbrev pub BlockGives : Bool → Reads Taken → Bool → Reading → List ℕ → Result Ending Stop → Reading → Option (List ℕ) → Type 0
 BlockGives ignores read over r xs (Ok end) r' left' =
-    (h : History) × Stands end.kept h × ((ys : List ℕ) × (left' ≡ Some ys) × Steps ignores read over r xs (outcome_of h end.found) end.is_over r' ys)
+    (h : History) × Stands end.kept h
+    × ((ys : List ℕ) × (left' ≡ Some ys) × Steps ignores read over r xs (outcome_of h end.found) end.is_over r' ys)
 BlockGives ignores read over r xs (Err (Refused line why)) r' left' =
     after_next ignores read (groups_left over r true xs) ≡ Err (record { line = line; why = why })
 BlockGives ignores read over r xs (Err Read) r' left' = Stops ignores read over r xs left'

@@ -18,11 +18,13 @@ kept_left (Err fault) = Err fault
 abbrev pub NextKept : Bool → Kept → History → Reading → List ℕ → Result (Kept × Bool) Fault → Reading → Option (List ℕ) → Type 0
 NextKept ignores k h r xs (Ok a) r' left' =
     (h' : History) × Stands a.0 h' × ((effect : Option Effect) × (a.1 ≡ is_some effect)
-    × ((ys : List ℕ) × (left' ≡ Some ys) × Steps ignores (effect_of ignores h) (over_in k.reader) r xs (Ok (record { history = h'; effect = effect })) (over_in a.0.reader) r' ys))
+    × ((ys : List ℕ) × (left' ≡ Some ys) × Steps ignores (effect_of ignores h) (over_in k.reader) r xs
+    (Ok (record { history = h'; effect = effect })) (over_in a.0.reader) r' ys))
 NextKept ignores k h r xs (Err fault) r' left' = FaultAnswers ignores (effect_of ignores h) (over_in k.reader) r xs fault left'
 
 -- what `block` answers: the session after the next block, and whether there was one
-abbrev pub NextBlock : {F : Type 0} → Session F → History → Reading → List ℕ → Result (Session F × Bool) Fault → Reading → Option (List ℕ) → Type 0
+abbrev pub NextBlock : {F : Type 0} → Session F → History → Reading → List ℕ → Result (Session F × Bool) Fault → Reading
+    → Option (List ℕ) → Type 0
 NextBlock s h r xs a r' left' = NextKept (ignores_of s) s.kept h r xs (kept_left a) r' left'
 
 -- numbers of lines, bytes and files, whatever is told

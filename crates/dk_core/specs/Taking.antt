@@ -20,5 +20,6 @@ pub record EnginesWere (kept : Keeping) (h : History) : Type 0 where
 -- The block comes to this effect, and what is kept behind it stands for the history with it; or it is refused.
 abbrev pub TakenAs : History → Result Keeping Fault → Result Taken LineFault → Type 0
 TakenAs h (Ok kept) outcome =
-    (h' : History) × ((effect : Effect) × (outcome ≡ Ok (record { history = h'; effect = Some effect })) × (Adds h (Some effect) h' → h'.grammar ≡ h.grammar → Stands kept h'))
+    (h' : History) × ((effect : Effect) × (outcome ≡ Ok (record { history = h'; effect = Some effect }))
+    × (Adds h (Some effect) h' → h'.grammar ≡ h.grammar → Stands kept h'))
 TakenAs h (Err fault) outcome = RefusedAs fault outcome

@@ -38,18 +38,24 @@ reader_left (Err fault) = Err fault
 
 -- what a block that was found comes to, as the event tells it
 abbrev pub TakenAs : Result (Following × Event) Fault → Result Taken LineFault → Type 0
-TakenAs (Ok a) outcome = (h : History) × EventsStandFor a.0 h × ((effect : Option Effect) × (told (Some a.1) ≡ derived_effect h.table effect) × (outcome ≡ Ok (record { history = h; effect = effect })))
+TakenAs (Ok a) outcome =
+    (h : History) × EventsStandFor a.0 h
+    × ((effect : Option Effect) × (told (Some a.1) ≡ derived_effect h.table effect)
+    × (outcome ≡ Ok (record { history = h; effect = effect })))
 TakenAs (Err fault) outcome = RefusedAs fault outcome
 
 -- What `next` answers: the events after the next block, and what the block does, if there is one, with the values of derived variables.
-abbrev pub NextEvent : Following → History → Reading → List ℕ → Result (Following × Option Event) Fault → Reading → Option (List ℕ) → Type 0
+abbrev pub NextEvent : Following → History → Reading → List ℕ → Result (Following × Option Event) Fault → Reading
+    → Option (List ℕ) → Type 0
 NextEvent e h r xs (Ok a) r' left' =
     (h' : History) × EventsStandFor a.0 h' × ((effect : Option Effect) × (told a.1 ≡ derived_effect h'.table effect)
-    × ((ys : List ℕ) × (left' ≡ Some ys) × Steps (ignores_of e) (effect_of (ignores_of e) h) (over_of e) r xs (Ok (record { history = h'; effect = effect })) (over_of a.0) r' ys))
+    × ((ys : List ℕ) × (left' ≡ Some ys) × Steps (ignores_of e) (effect_of (ignores_of e) h) (over_of e) r xs
+    (Ok (record { history = h'; effect = effect })) (over_of a.0) r' ys))
 NextEvent e h r xs (Err fault) r' left' = FaultAnswers (ignores_of e) (effect_of (ignores_of e) h) (over_of e) r xs fault left'
 
 -- numbers of lines, bytes and files, whatever is answered
 abbrev pub EventCounts : Following → Reading → Result (Following × Option Event) Fault → Reading → Type 0
-EventCounts e r (Ok a) r' = (r'.limits ≡ r.limits) × (r'.is_started ≡ not (over_of a.0)) × (file_of a.0 ≡ file_of e) × (ignores_of a.0 ≡ ignores_of e)
+EventCounts e r (Ok a) r' =
+    (r'.limits ≡ r.limits) × (r'.is_started ≡ not (over_of a.0)) × (file_of a.0 ≡ file_of e) × (ignores_of a.0 ≡ ignores_of e)
     × (a.1 ≡ None → over_of a.0 ≡ true) × (is_some a.1 ≡ true → over_of e ≡ false) × (is_some a.1 ≡ true → Grown (over_of a.0) r r')
 EventCounts e r (Err fault) r' = (r'.limits ≡ r.limits) × IsInFile (file_of e) fault

@@ -32,4 +32,5 @@ abbrev pub EventFits : List Point → Option Event → Type 0
 EventFits ps None = ⊤
 EventFits ps (Some event.Nothing) = ⊤
 EventFits ps (Some event.Declared) = ⊤
-EventFits ps (Some (event.Sample point line values)) = (point.0 < length ps) × FitKinds (var_kinds (all_vars_of ps point.0)) (values_of values.now)
+EventFits ps (Some (event.Sample point line values)) =
+    (point.0 < length ps) × FitKinds (var_kinds (all_vars_of ps point.0)) (values_of values.now)
