@@ -19,7 +19,7 @@ const FIRST: &str =
     "var-comparability none\n\nppt P\nvariable a[..]\nrep-type int[]\nvariable n\nrep-type int\n\nppt P\nvariable a[..]\nrep-type int[]\nvariable n\nrep-type int\n\nListImplementors\nP\n\nP\na[..]\n[4 5]\n1\nn\n1\n1\n\n# nothing\n\nppt m:::ENTER\nvariable x\nrep-type int\n\nppt m:::EXIT1\nvariable x\nrep-type int\n\nm:::EXIT1\nx\n7\n1\n\nm:::ENTER\nx\n1\n1\n\nm:::EXIT1\nx\n2\n1\n\nm:::ENTER\nx\n3\n1\n";
 
 const TOLD: &str =
-    "nothing;declared;nothing;nothing;0 at 18: [4 5] 1 2 4 5 5 [4 5] [4] [5] [];declared;declared;nothing;1 at 41: 1;2 at 45: 2 1;1 at 49: 3;end;";
+    "nothing;declared;nothing;nothing;0 at 18: [4 5] 1 2 4 5 5 [4 5] [4] [5] [];declared;declared;nothing;1 at 41: 1;3 at 46: 2 1;1 at 51: 3;end;";
 
 /// The method alone, with an entry that waits.
 const DECLARED: &str =
