@@ -159,7 +159,10 @@ fn an_exit_without_an_entry_is_refused(rt: HostRuntime) -> Result<(), Fail> {
     let mut lines = Lines::new(alloc, Limits::STANDARD)?;
     let mut events = Events::new(alloc, false)?;
     let told = show_file(alloc, &mut events, &mut inputs, &mut lines, "first")?;
-    assert_eq!(&rt; told.as_slice(), b"declared;declared;0 at 9: 3;end;".as_slice());
+    assert_eq!(&rt;
+        told.as_slice(),
+        b"declared;declared;0 at 9: 3;end;".as_slice()
+    );
     assert!(rt; events.implicit());
     let mut events = events.end_file();
     let told = show_file(alloc, &mut events, &mut inputs, &mut lines, "second")?;
@@ -201,24 +204,26 @@ fn reads_record<I: Inputs>(
     let last = reader.points().len();
     let arena = Arena::new(alloc);
     match reader.next(&arena, inputs, lines, false) {
-        Ok(Some(Found::Sample {
-            point,
-            line,
-            values,
-        })) => point.0 < last && line == begins && values.len() == 1,
+        Ok(
+            Some(
+                Found::Sample {
+                    point,
+                    line,
+                    values,
+                },
+            ),
+        ) => point.0 < last && line == begins && values.len() == 1,
         _ => false,
     }
 }
 
 // Whether a reader finds two new points and a record in the started file, and none of its entries waits in the next one.
-fn reads_by_hand<I: Inputs>(
-    alloc: Global,
-    inputs: &mut I,
-    lines: &mut Lines,
-) -> Result<bool, Fault>
+fn reads_by_hand<I: Inputs>(alloc: Global, inputs: &mut I, lines: &mut Lines) -> Result<bool, Fault>
     requires { lines.old.is_started ≡ true }
 {
-    let reader = Reader::new(alloc)?;
+    let Ok(reader) = Reader::new(alloc) else {
+        return Err(Fault::NoMemory);
+    };
     let Some(reader) = takes_declaration(alloc, reader, inputs, lines)? else {
         return Ok(false);
     };
