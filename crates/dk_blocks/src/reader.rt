@@ -1,5 +1,5 @@
 // A reader of blocks.
-ghost use Rattle.std.specs.Prelude.{◌≡◌, ◌≤◌, ◌<◌, ◌+◌, ◌^◌, min, not, ◌∷◌, [], Bool, List, ℕ, Option, Some, None, IfErr, IfOk, OnOk, IfSome, IsErrOf, Ok, length, true, false};
+ghost use Rattle.std.specs.Prelude.{◌≡◌, ◌≤◌, ◌<◌, ◌+◌, ◌-◌, ◌^◌, min, not, ◌∷◌, [], Bool, List, ℕ, Option, Some, None, IfErr, IfOk, OnOk, IfSome, IsErrOf, Ok, length, true, false};
 ghost use Rattle.dk_calls.specs.Standing.{CallsStandForRecords as CallsStandFor};
 ghost use Rattle.dk_decl.specs.Headers.{is_implicit};
 ghost use Rattle.dk_io.specs.Outside.{Rose};
