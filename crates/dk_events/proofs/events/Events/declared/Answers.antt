@@ -1,6 +1,6 @@
-use Rattle.std.proofs.Common.{◌≡◌, arith, ap, length, subst, sym, List}
+use Rattle.std.proofs.Common.{arith, ap, length, subst, sym, List}
 use Rattle.dk_points.specs.Table.{Point}
-use Rattle.dk_blocks.specs.Standing.{ReaderStandsFor, points_of as points_in}
+use Rattle.dk_blocks.specs.Standing.{points_of as points_in}
 use Rattle.dk_events.proofs.Followed.{few_still, first_still}
 use Rattle.dk_events.specs.Following.{AreVarsOf, AreVarsOfFirst, Following}
 use Rattle.dk_events.specs.Standing.{EventsStandFor}

@@ -3,7 +3,7 @@ use Rattle.dk_base.specs.declared.faults.Fault.{Fault}
 use Rattle.dk_lines.specs.Reading.{left_of}
 use Rattle.dk_blocks.specs.Finding.{outcome_of}
 use Rattle.dk_blocks.specs.Standing.{left_with_answer}
-use Rattle.dk_blocks.specs.Steps.{NextBlock, RefusedAs}
+use Rattle.dk_blocks.specs.Steps.{NextBlock}
 use Rattle.dk_blocks.specs.declared.found.Found.{Found}
 use Rattle.dk_events.proofs.Followed.{told_fault, told_none, told_refused, told_taken}
 use Rattle.dk_events.specs.Following.{Following}
