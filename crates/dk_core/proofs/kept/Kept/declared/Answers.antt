@@ -1,4 +1,4 @@
-use Rattle.std.proofs.Common.{◌≡◌, ap, arith, length, subst, sym, List}
+use Rattle.std.proofs.Common.{ap, arith, length, subst, sym, List}
 use Rattle.dk_engine.specs.Levels.{Whole}
 use Rattle.dk_points.specs.Table.{Point}
 use Rattle.dk_blocks.proofs.Growing.{more_points}

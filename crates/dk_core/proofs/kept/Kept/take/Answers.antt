@@ -1,4 +1,4 @@
-use Rattle.std.proofs.Common.{◌≡◌, ◌∙◌, ap, arith, length, refl, slice_get, slice_set, subst, sym, Unit, List, Option, Some, Result, Ok, Err}
+use Rattle.std.proofs.Common.{◌≡◌, ◌∙◌, arith, refl, slice_get, slice_set, subst, sym, Unit, Some, Result, Ok}
 use Rattle.std.proofs.lemmas.List.Elements.{All-set}
 use Rattle.dk_base.specs.Values.{values_of}
 use Rattle.dk_base.specs.declared.faults.Fault.{Fault}
