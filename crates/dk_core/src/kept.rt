@@ -148,7 +148,7 @@ impl Kept {
     // Takes a block that was found: a declaration's points get engines, and a sample goes to the engine of its point.
     fn take<'a>(&mut self, arena: &'a Bump, found: Found<'a>) -> Result<(), Fault>
         requires { FoundFits (points_in self.old.reader) (Some found) }
-        ensures gives { (h now : History) → EnginesWere self.old h → ReaderStandsFor self.old.reader now → TakenAs h (left_behind self.new result) (outcome_of now (Some found)) }
+        ensures gives { (h now : History) → EnginesWere self.old h → ReaderStandsFor self.old.reader now → TakenAs h (left_behind self.new result) (outcome_of now (Some found.entry)) }
         ensures grammar { self.new.grammar ≡ self.old.grammar }
         ensures counts { IfOk result (λ _. (file_in self.new.reader ≡ file_in self.old.reader) × (over_in self.new.reader ≡ over_in self.old.reader)) }
         ensures file { IfErr result (IsInFile (file_in self.old.reader)) }

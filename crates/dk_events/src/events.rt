@@ -155,7 +155,7 @@ impl Events {
     // Takes a block that was found: what it does.
     fn take<'a>(&mut self, arena: &'a Bump, found: Found<'a>) -> Result<Event<'a>, Fault>
         requires { FoundFits (points_of self.old) (Some found) }
-        ensures gives { (h : History) → EventsStandFor self.old h → TakenAs (left_with_answer self.new result) (outcome_of h (Some found)) }
+        ensures gives { (h : History) → EventsStandFor self.old h → TakenAs (left_with_answer self.new result) (outcome_of h (Some found.entry)) }
         ensures fits { IfOk result (λ event. EventFits (points_of self.new) (Some event)) }
         ensures ignores { ignores_of self.new ≡ ignores_of self.old }
         ensures counts { IfOk result (λ _. (file_of self.new ≡ file_of self.old) × (over_of self.new ≡ over_of self.old)) }

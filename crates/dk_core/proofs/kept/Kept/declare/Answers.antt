@@ -5,13 +5,13 @@ use Rattle.dk_core.specs.Standing.{Stands}
 use Rattle.dk_core.specs.Taking.{EnginesWere}
 use Rattle.dk_core.proofs.kept.Kept.declare.Goals as goal
 
-pub returns-in-Ok-clause-gives : goal.returns-in-Ok-clause-gives
-returns-in-Ok-clause-gives c h now were stands =
-    let taken = c.in-Ok.ensures.gives h now (subst (λ (k : Keeping). EnginesWere k h) (sym c.replace.ensures.value) were)
+pub returns-in-Ok-declared-clause-gives : goal.returns-in-Ok-declared-clause-gives
+returns-in-Ok-declared-clause-gives c h now were stands =
+    let taken = c.in-Ok-declared.ensures.gives h now (subst (λ (k : Keeping). EnginesWere k h) (sym c.replace.ensures.value) were)
         (subst (λ (k : Keeping). ReaderStandsFor k.reader now) (sym c.replace.ensures.value) stands) in
-    (taken.0, (taken.1.0, (taken.1.1, λ adds grammar. subst (λ (k : Keeping). Stands k taken.0) (sym c.drop-in-Ok.view_is) (taken.1.2 adds grammar))))
+    (taken.0, (taken.1.0, (taken.1.1, λ adds grammar. subst (λ (k : Keeping). Stands k taken.0) (sym c.drop-in-Ok-declared.view_is) (taken.1.2 adds grammar))))
 
-pub returns-in-Err-clause-gives : goal.returns-in-Err-clause-gives
-returns-in-Err-clause-gives c h now were stands =
-    c.in-Err.ensures.gives h now (subst (λ (k : Keeping). EnginesWere k h) (sym c.replace.ensures.value) were)
+pub returns-in-Err-declared-clause-gives : goal.returns-in-Err-declared-clause-gives
+returns-in-Err-declared-clause-gives c h now were stands =
+    c.in-Err-declared.ensures.gives h now (subst (λ (k : Keeping). EnginesWere k h) (sym c.replace.ensures.value) were)
     (subst (λ (k : Keeping). ReaderStandsFor k.reader now) (sym c.replace.ensures.value) stands)

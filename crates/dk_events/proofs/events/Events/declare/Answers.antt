@@ -3,10 +3,10 @@ use Rattle.dk_events.specs.Following.{Following}
 use Rattle.dk_events.specs.Standing.{EventsStandFor}
 use Rattle.dk_events.proofs.events.Events.declare.Goals as goal
 
-pub returns-in-Ok-clause-gives : goal.returns-in-Ok-clause-gives
-returns-in-Ok-clause-gives c h stands =
-    let taken = c.in-Ok.ensures.gives h (subst (λ (f : Following). EventsStandFor f h) (sym c.replace.ensures.value) stands) in
-    (taken.0, subst (λ (f : Following). EventsStandFor f taken.0) (sym c.drop-in-Ok.view_is) taken.1, taken.2)
+pub returns-in-Ok-declared-clause-gives : goal.returns-in-Ok-declared-clause-gives
+returns-in-Ok-declared-clause-gives c h stands =
+    let taken = c.in-Ok-declared.ensures.gives h (subst (λ (f : Following). EventsStandFor f h) (sym c.replace.ensures.value) stands) in
+    (taken.0, subst (λ (f : Following). EventsStandFor f taken.0) (sym c.drop-in-Ok-declared.view_is) taken.1, taken.2)
 
-pub returns-in-Err-clause-gives : goal.returns-in-Err-clause-gives
-returns-in-Err-clause-gives c h stands = c.in-Err.ensures.gives h (subst (λ (f : Following). EventsStandFor f h) (sym c.replace.ensures.value) stands)
+pub returns-in-Err-declared-clause-gives : goal.returns-in-Err-declared-clause-gives
+returns-in-Err-declared-clause-gives c h stands = c.in-Err-declared.ensures.gives h (subst (λ (f : Following). EventsStandFor f h) (sym c.replace.ensures.value) stands)
