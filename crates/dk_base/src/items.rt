@@ -1,10 +1,10 @@
 // What a text is as a value of a kind that is no sequence.
 ghost use Rattle.std.specs.Prelude.{◌≡◌, ◌≤◌, true, false, option_map, unsigned_abs};
-ghost use Rattle.std.specs.Str.{bytes_eq};
 ghost use Rattle.dk_base.specs.Items.{bool_item, closes_quote, hash_code_of, hash_item, int_item, is_missing_word, is_quoted, is_text, item_in_range, item_map};
 ghost use Rattle.dk_base.specs.Numbers.{fits_i64, fits_u64, numeral_of, signed, whole_of};
 
 use crate::numbers::{numeral, whole};
+use crate::sameness::same_bytes;
 
 /// What a text is as an item of some kind.
 #[derive(Clone, Copy)]
@@ -17,25 +17,19 @@ pub(crate) enum Item<T> {
     Present(T),
 }
 
-pub(crate) fn is_word(text: &[u8], word: &[u8]) -> bool
-    ensures { result ≡ bytes_eq text.now word.now }
-{
-    text == word
-}
-
 pub(crate) fn is_missing_word(text: &[u8]) -> bool
     ensures { result ≡ is_missing_word text.now }
 {
-    is_word(text, b"nonsensical") || is_word(text, b"uninit") || is_word(text, b"missing")
+    same_bytes(text, b"nonsensical") || same_bytes(text, b"uninit") || same_bytes(text, b"missing")
 }
 
 #[tactic(auto, unfolding(crate::specs::Items::bool_item))]
 pub(crate) fn bool_item(text: &[u8]) -> Item<bool>
     ensures { result ≡ bool_item text.now }
 {
-    if is_word(text, b"true") || is_word(text, b"1") {
+    if same_bytes(text, b"true") || same_bytes(text, b"1") {
         Item::Present(true)
-    } else if is_word(text, b"false") || is_word(text, b"0") {
+    } else if same_bytes(text, b"false") || same_bytes(text, b"0") {
         Item::Present(false)
     } else if is_missing_word(text) {
         Item::Missing
@@ -51,9 +45,9 @@ fn int_word(text: &[u8]) -> Item<i64>
 {
     if is_missing_word(text) {
         Item::Missing
-    } else if is_word(text, b"true") {
+    } else if same_bytes(text, b"true") {
         Item::Present(1)
-    } else if is_word(text, b"false") {
+    } else if same_bytes(text, b"false") {
         Item::Present(0)
     } else {
         Item::Bad
@@ -118,7 +112,7 @@ fn code(text: &[u8]) -> Item<u64>
 fn hash_word(text: &[u8]) -> Item<u64>
     ensures { item_map unsigned_abs (item_in_range fits_u64 (hash_code_of text.now)) ≡ Item.Bad → result ≡ hash_item text.now }
 {
-    if is_word(text, b"null") {
+    if same_bytes(text, b"null") {
         Item::Present(0)
     } else if is_missing_word(text) {
         Item::Missing
@@ -170,5 +164,5 @@ fn is_quoted(text: &[u8]) -> bool
 pub fn is_text(text: &[u8]) -> bool
     ensures { result ≡ is_text text.now }
 {
-    is_word(text, b"null") || is_quoted(text)
+    same_bytes(text, b"null") || is_quoted(text)
 }

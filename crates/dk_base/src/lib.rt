@@ -30,7 +30,7 @@ pub use memory::NoMemory;
 pub use names::{escape, is_plain, is_spelling, unescape};
 pub use numbers::{parse_integer, parse_natural};
 pub use parsing::{ValueFault, parse_value};
-pub use sameness::{same, same_kept};
+pub use sameness::{same, same_bytes, same_items, same_kept};
 pub use spelling::spell;
 pub use splitting::is_blank;
 pub use texts::Text;

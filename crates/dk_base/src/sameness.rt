@@ -1,11 +1,18 @@
-// Equality of values.
-ghost use Rattle.std.specs.Prelude.{◌≡◌, ◌↔◌, Decides, IsTrue, map};
+// Equality of values, of texts and of lists.
+ghost use Rattle.std.specs.Prelude.{◌≡◌, ◌↔◌, Decides, IsTrue, bytes_eq, map};
 ghost use Rattle.dk_base.specs.Values.{value_of};
 
 use crate::{Value, View};
 
+/// Whether the two texts have the same bytes.
+pub fn same_bytes(a: &[u8], b: &[u8]) -> bool
+    ensures { result ≡ bytes_eq a.now b.now }
+{
+    a == b
+}
+
 /// Whether the two slices have the same items, which `==` tells apart.
-fn same_items<T: PartialEq>(a: &[T], b: &[T]) -> bool
+pub fn same_items<T: PartialEq>(a: &[T], b: &[T]) -> bool
     requires { (x y : T) → Decides (T.eq x y) (x ≡ y) }
     ensures { IsTrue result ↔ (a.now ≡ b.now) }
 {

@@ -6,7 +6,8 @@ ghost use Rattle.dk_base.specs.Sequences.{all_of, inside, sequence};
 ghost use Rattle.dk_base.specs.declared.items.Item.{Item};
 ghost use Rattle.dk_base.specs.declared.splitting.Cut.TheVariants.{AtBlanksOutsideQuotes};
 
-use crate::items::{Item, bool_item, hash_item, int_item, is_missing_word, is_text, is_word};
+use crate::items::{Item, bool_item, hash_item, int_item, is_missing_word, is_text};
+use crate::sameness::same_bytes;
 use crate::splitting::{Cut, next_piece};
 use crate::{Arena, NoMemory};
 use bumpalo::collections::into_bump_slice;
@@ -115,7 +116,7 @@ pub(crate) fn sequence<'a, T: Element>(
 ) -> Result<Item<&'a [T]>, NoMemory>
     ensures { IfOk result (λ found. item_map (λ s. s.now) found ≡ sequence T.item_of text.now) }
 {
-    if is_missing_word(text) || is_word(text, b"null") {
+    if is_missing_word(text) || same_bytes(text, b"null") {
         return Ok(Item::Missing);
     }
     match inside(text) {
@@ -132,7 +133,7 @@ pub(crate) fn text_sequence<'a>(
 ) -> Result<Item<&'a [&'a [u8]]>, NoMemory>
     ensures { IfOk result (λ found. item_map (λ s. map (λ t. t.now) s.now) found ≡ sequence str_item text.now) }
 {
-    if is_missing_word(text) || is_word(text, b"null") {
+    if is_missing_word(text) || same_bytes(text, b"null") {
         return Ok(Item::Missing);
     }
     match inside(text) {

@@ -1,5 +1,5 @@
 // The values that orig variables have at an exit.
-ghost use Rattle.std.specs.Prelude.{◌≡◌, ◌++◌, ◌∷◌, ◌<◌, ◌≤◌, [], true, IfOk, List, bytes_eq, drop, length};
+ghost use Rattle.std.specs.Prelude.{◌≡◌, ◌++◌, ◌∷◌, ◌<◌, ◌≤◌, [], true, IfOk, List, drop, length};
 ghost use Rattle.dk_base.specs.Shapes.{is_orig};
 ghost use Rattle.dk_base.specs.Values.{values_of};
 ghost use Rattle.dk_points.specs.Vars.{orig_vars, same_kind};
@@ -7,7 +7,7 @@ ghost use Rattle.dk_base.specs.declared.kinds.VarInfo.{VarInfo as Variable};
 ghost use Rattle.dk_base.specs.declared.values.Value.{Value as Kept};
 ghost use Rattle.dk_calls.specs.Origs.{IsPassed, inner_name, is_next, orig_values, own_len};
 
-use dk_base::{Arena, Form, Kind, NoMemory, Value, VarInfo, View};
+use dk_base::{Arena, Form, Kind, NoMemory, Value, VarInfo, View, same_bytes};
 
 fn is_orig(form: Form) -> bool
     ensures { result ≡ is_orig form }
@@ -45,12 +45,6 @@ fn inner_name(name: &[u8]) -> &[u8]
     }
 }
 
-fn same_name(a: &[u8], b: &[u8]) -> bool
-    ensures { result ≡ bytes_eq a.now b.now }
-{
-    a == b
-}
-
 // Whether the orig variable at this place is that of the variable.
 fn is_next(origs: &[VarInfo], place: usize, var: &VarInfo) -> bool
     ensures next { result ≡ is_next (drop place origs.now) var.now }
@@ -59,7 +53,7 @@ fn is_next(origs: &[VarInfo], place: usize, var: &VarInfo) -> bool
     match origs.get(place) {
         None => false,
         Some(orig) => {
-            same_name(inner_name(orig.name.as_slice()), var.name.as_slice())
+            same_bytes(inner_name(orig.name.as_slice()), var.name.as_slice())
                 && same_kind(var.kind, orig.kind)
         }
     }

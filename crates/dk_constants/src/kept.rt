@@ -1,17 +1,9 @@
 // Values that are kept, beside the views of a sample.
-ghost use Rattle.std.specs.Prelude.{◌≡◌, ◌↔◌, Decides, IfOk, IsTrue, map};
+ghost use Rattle.std.specs.Prelude.{◌≡◌, ◌↔◌, IfOk, IsTrue, map};
 ghost use Rattle.dk_base.specs.Values.{value_of};
 
-use dk_base::{List, NoMemory, Text, Value, VarId, View};
+use dk_base::{List, NoMemory, Text, Value, VarId, View, same_items};
 use std::alloc::Global;
-
-// Whether the two lists have the same items, which `==` tells apart.
-fn same_items<T: PartialEq>(a: &[T], b: &[T]) -> bool
-    requires { (x y : T) → Decides (T.eq x y) (x ≡ y) }
-    ensures { IsTrue result ↔ (a.now ≡ b.now) }
-{
-    a == b
-}
 
 // Whether the two lists have the same texts.
 fn same_texts(a: &[&[u8]], b: &[Text]) -> bool

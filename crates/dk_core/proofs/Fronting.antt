@@ -16,7 +16,7 @@ use Rattle.dk_trace.specs.Records.{Sample}
 use Rattle.dk_trace.specs.RecordsResumed.{record_resumed}
 use Rattle.dk_trace.specs.declared.reader.RecordReader.{RecordReader}
 use Rattle.dk_core.specs.Standing.{BlockGoesOn, Closes, FaultAgreesOnward, block_resumed, left_behind, resumed_by}
-use Rattle.dk_core.specs.Steps.{WordsGive, stop_of_fault}
+use Rattle.dk_core.specs.LineSteps.{WordsGive, stop_of_fault}
 use Rattle.dk_core.specs.declared.block.Block.{Block}
 use Rattle.dk_core.specs.declared.block.State.{State}
 use Rattle.dk_core.specs.declared.block.State.TheVariants as state

@@ -8,7 +8,8 @@ use Rattle.dk_lines.specs.declared.lines.Limits.{Limits}
 use Rattle.dk_lines.specs.declared.lines.LineFault as fault
 use Rattle.dk_lines.specs.declared.lines.LineFault.TheVariants as line
 use Rattle.dk_lines.proofs.Lined.{at_break, at_end}
-use Rattle.dk_core.specs.Steps.{stop_of_unread, Grown, TurnCounts, BlockCounts, BlockGives, NextBlock, LineShape, EndShape, ShapeAt, ClosesAt, LineStep, LineStepShape, StepShape, StepGives, StepCounts}
+use Rattle.dk_core.specs.LineSteps.{stop_of_unread, TurnCounts, BlockCounts, BlockGives, LineShape, EndShape, ShapeAt, ClosesAt, LineStep, LineStepShape, StepShape, StepGives, StepCounts}
+use Rattle.dk_core.specs.Steps.{Grown, NextBlock}
 use Rattle.std.specs.Prelude.{◌==◌}
 use Rattle.dk_base.specs.Pieces.{is_empty}
 use Rattle.std.proofs.Math.Dec.{eqb-suc-zero}
@@ -17,7 +18,8 @@ use Rattle.dk_core.specs.History.{History, Taken, effect_of}
 use Rattle.dk_core.specs.Reading.{after_last, after_all, after_next, stop_or, Stepped}
 use Rattle.dk_core.specs.Standing.{Fits, Stands, block_resumed, ignores_of}
 use Rattle.dk_core.proofs.BlockLaws.{IsNone, no_block_yet, no_lines}
-use Rattle.dk_core.specs.Steps.{IsCutAlike, IsNoBlock, Moves, Steps, Stops, groups_left, LineGives, EndGives, BlankGives, WordsGive, TurnGives}
+use Rattle.dk_core.specs.LineSteps.{Moves, LineGives, EndGives, BlankGives, WordsGive, TurnGives}
+use Rattle.dk_core.specs.Steps.{IsCutAlike, IsNoBlock, Steps, Stops, groups_left}
 use Rattle.dk_base.specs.declared.why.Why.{Why}
 use Rattle.dk_base.specs.declared.why.Why.TheVariants.{LongLine as WhyLong, TooLong as WhyMany}
 use Rattle.dk_core.specs.declared.session.Step.{Step}

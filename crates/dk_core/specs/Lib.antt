@@ -4,7 +4,6 @@ pub mod History
 pub mod Resuming
 pub mod Sections
 pub mod Selecting
-pub mod Keeping
 pub mod Standing
 pub mod Steps
 -- what those are made of, and words for the crates above
@@ -12,7 +11,9 @@ pub mod Blocks
 pub mod Fronts
 pub mod Fitting
 pub mod Reading
-pub mod Turns
 -- inner: cited by the clauses of bodies and in proofs alone
+pub mod LineSteps
 pub mod Growing
 pub mod Refusing
+pub mod Keeping
+pub mod Turns

@@ -14,6 +14,7 @@ use Rattle.dk_calls.specs.Standing.{CallsStandForRecords as CallsStandFor}
 use Rattle.dk_core.specs.Fitting.{DeclaresFitting, ReadsFitting}
 use Rattle.dk_core.specs.Fronts.{block_front}
 use Rattle.dk_core.specs.History.{History, Taken, after_front, block, where_it_ends, with_declaration, with_record}
+use Rattle.dk_core.specs.Keeping.{saved_by}
 use Rattle.dk_core.specs.declared.block.Block.{Block}
 use Rattle.dk_core.specs.declared.block.State.{State}
 use Rattle.dk_core.specs.declared.block.State.TheVariants as state
@@ -115,6 +116,10 @@ file_of s = s.file
 -- the grammar of its engines
 abbrev pub grammar_of : {F : Type 0} → Session F → Grammar
 grammar_of s = s.kept.grammar
+
+-- what is saved of it, whether it stands for a history or for none
+abbrev pub saved_of : {F : Type 0} → Session F → List ℕ
+saved_of s = saved_by s.kept
 
 abbrev pub options_of : {F : Type 0} → Session F → Options
 options_of s = s.options

@@ -1,27 +1,15 @@
--- Steps of a session through the bytes that are left.
-use Rattle.std.specs.Prelude.{◌≡◌, ◌≤◌, ◌<◌, ◌⊎◌, not, min, if◌then◌else◌, ◌+◌, ◌-◌, ◌^◌, ℕ, Bool, true, false, List, [], ◌∷◌, ◌++◌, length, ⊤, Option, Some, Result, Ok, Err}
-use Rattle.dk_base.specs.Reading.{Line, LineFault as BlockLineFault, Reads}
-use Rattle.dk_lines.specs.Left.{Left, Next, Over, lines_left}
+-- Steps of a session through the bytes that are left: what one call of `block` answers.
+use Rattle.std.specs.Prelude.{◌≡◌, ◌≤◌, ◌<◌, ◌⊎◌, not, min, if◌then◌else◌, ◌+◌, ◌-◌, ◌^◌, ℕ, Bool, true, false, List, [], ◌++◌, length, ⊤, Option, Some, Result, Ok, Err}
+use Rattle.dk_base.specs.Reading.{LineFault as BlockLineFault, Reads}
+use Rattle.dk_lines.specs.Left.{Over, lines_left}
 use Rattle.dk_lines.specs.Reading.{Reading, room_of}
-use Rattle.dk_base.specs.declared.why.Why.TheVariants.{LongLine as WhyLong, TooLong as WhyMany}
-use Rattle.dk_base.specs.declared.faults.BlockFault.{BlockFault}
-use Rattle.dk_base.specs.declared.faults.BlockFault.TheVariants as r
-use Rattle.dk_lines.specs.declared.lines.LineFault.{LineFault}
-use Rattle.dk_lines.specs.declared.lines.LineFault.TheVariants as f
 use Rattle.dk_core.specs.Blocks.{Groups, Last, groups_of}
 use Rattle.dk_core.specs.History.{Taken, History, effect_of}
 use Rattle.dk_core.specs.Reading.{Stepped, after_next}
-use Rattle.dk_core.specs.Standing.{Fits, Stands, block_resumed, ignores_of}
-use Rattle.dk_core.specs.declared.block.Block.{Block}
-use Rattle.dk_core.specs.declared.kept.Kept.{Kept}
-use Rattle.dk_core.specs.declared.session.Step.{Step}
-use Rattle.dk_core.specs.declared.session.Step.TheVariants.{More, Ended}
+use Rattle.dk_core.specs.Standing.{Stands, ignores_of}
 use Rattle.dk_core.specs.declared.session.Session.{Session}
 use Rattle.dk_base.specs.declared.faults.Fault.{Fault}
 use Rattle.dk_base.specs.declared.faults.Fault.TheVariants as x
-use Rattle.dk_core.specs.declared.session.Stop.{Stop}
-use Rattle.dk_core.specs.Turns.{Turn, Goes, Ends, Ending}
-use Rattle.dk_core.specs.declared.session.Stop.TheVariants.{Refused, Read, NoMemory}
 
 -- The groups that are left: none where the session has come to the file's end.
 abbrev pub groups_left : Bool → Reading → Bool → List ℕ → Groups
@@ -37,17 +25,6 @@ IsNoBlock (Err fault) = ⊥
 -- there.
 abbrev pub IsCutAlike : Result Stepped BlockLineFault → Result Stepped BlockLineFault → List ℕ → Type 0
 IsCutAlike all later ys = (all ≡ later) ⊎ ((ys ≡ []) × IsNoBlock all)
-
--- Within a block: what `read` says of what was left is what `read'` says of what is left now.
-pub record Moves (ignores : Bool) (read : Reads Taken) (r : Reading) (xs : List ℕ) (read' : Reads Taken) (r' : Reading)
-    (ys : List ℕ) : Type 0 where
-  pub front : List ℕ
-  pub split : xs ≡ front ++ ys
-  pub room : room_of r' ≡ room_of r - length front
-  pub same : after_next ignores read (groups_left false r true xs) ≡ after_next ignores read' (groups_left false r' true ys)
-  pub cut : (d rest : List ℕ) → ys ≡ d ++ rest
-      → IsCutAlike (after_next ignores read (groups_left false r false (front ++ d)))
-      (after_next ignores read' (groups_left false r' false d)) ys
 
 -- The next block, or the file's end, was read, and the history is h now.
 pub record Steps (ignores : Bool) (read : Reads Taken) (over : Bool) (r : Reading) (xs : List ℕ) (found : Bool) (h : History) (over' : Bool)
@@ -71,158 +48,10 @@ pub record Stops (ignores : Bool) (read : Reads Taken) (over : Bool) (r : Readin
   pub left_is : left' ≡ Some rest
   pub fine : IsNoBlock (after_next ignores read (groups_left over r false front))
 
--- what one line does to a block
-abbrev pub TurnGives : Bool → Reads Taken → Reading → List ℕ → Result Turn Stop → Reading → Option (List ℕ) → Type 0
-TurnGives ignores read r xs (Ok (Goes kept block)) r' left' =
-    (h : History) × Stands kept h × ((ys : List ℕ) × (left' ≡ Some ys) × Moves ignores read r xs (block_resumed ignores h block) r' ys)
-TurnGives ignores read r xs (Ok (Ends end)) r' left' =
-    (h : History) × Stands end.kept h × ((ys : List ℕ) × (left' ≡ Some ys) × Steps ignores read false r xs end.found h end.is_over r' ys)
-TurnGives ignores read r xs (Err (Refused line why)) r' left' =
-    after_next ignores read (groups_left false r true xs) ≡ Err (record { line = line; why = why })
-TurnGives ignores read r xs (Err Read) r' left' = Stops ignores read false r xs left'
-TurnGives ignores read r xs (Err NoMemory) r' left' = ⊤
-
--- what a line does to a block, whatever follows it
-abbrev pub LineGives : Bool → Reads Taken → Line → Result Turn Stop → Type 0
-LineGives ignores read line (Ok (Goes kept block)) = (h : History) × Stands kept h × ((rest : Left) →
-    after_next ignores read (groups_of (Next line rest)) ≡ after_next ignores (block_resumed ignores h block) (groups_of rest))
-LineGives ignores read line (Ok (Ends end)) = (h : History) × Stands end.kept h × (end.is_over ≡ false) × ((rest : Left) →
-    after_next ignores read (groups_of (Next line rest)) ≡ Ok (record { found = end.found; history = h; left = groups_of rest }))
-LineGives ignores read line (Err (Refused number why)) =
-    (rest : Left) → after_next ignores read (groups_of (Next line rest)) ≡ Err (record { line = number; why = why })
-LineGives ignores read line (Err Read) = ⊥
-LineGives ignores read line (Err NoMemory) = ⊤
-
--- what the file's end does to a block
-abbrev pub EndGives : Bool → Reads Taken → ℕ → Result Turn Stop → Type 0
-EndGives ignores read number (Ok (Goes kept block)) = ⊥
-EndGives ignores read number (Ok (Ends end)) = (h : History) × Stands end.kept h × (end.is_over ≡ true)
-    × (after_next ignores read (Last [] (Over number)) ≡ Ok (record { found = end.found; history = h; left = Last [] (Over number) }))
-EndGives ignores read number (Err (Refused line why)) =
-    after_next ignores read (Last [] (Over number)) ≡ Err (record { line = line; why = why })
-EndGives ignores read number (Err Read) = ⊥
-EndGives ignores read number (Err NoMemory) = ⊤
-
 -- In front of the file's end a line was read. Where there was no block, the file is at its end.
 abbrev pub Grown : Bool → Reading → Reading → Type 0
 Grown true r r' = r.total ≤ r'.total
 Grown false r r' = (r.total < r'.total) × (r'.total ≤ r.limits.total)
-
-abbrev pub EndCounts : Reading → Ending → Reading → Type 0
-EndCounts r end r' = (r'.is_started ≡ not end.is_over) × Grown end.is_over r r' × (end.found ≡ false → end.is_over ≡ true)
-
--- lines and totals, whatever is told
-abbrev pub TurnCounts : Reading → Result Turn Stop → Reading → Type 0
-TurnCounts r (Ok (Goes kept block)) r' =
-    (r'.limits ≡ r.limits) × (r'.is_started ≡ true) × (r.total < r'.total) × (r'.total ≤ r.limits.total)
-TurnCounts r (Ok (Ends end)) r' = (r'.limits ≡ r.limits) × EndCounts r end r'
-TurnCounts r (Err e) r' = r'.limits ≡ r.limits
-
--- what a blank line of this number does to a block, whatever follows it
-abbrev pub BlankGives : Bool → Reads Taken → ℕ → Result Turn Stop → Type 0
-BlankGives ignores read number (Ok (Goes kept block)) =
-    (h : History) × Stands kept h × (read [] (Some number) ≡ Ok (record { history = h; counts = false }))
-    × ((ls : List Line) (close : Option ℕ) → block_resumed ignores h block ls close ≡ effect_of ignores h ls close)
-BlankGives ignores read number (Ok (Ends end)) =
-    (h : History) × Stands end.kept h × (end.is_over ≡ false) × (end.found ≡ true)
-    × (read [] (Some number) ≡ Ok (record { history = h; counts = true }))
-BlankGives ignores read number (Err (Refused line why)) = read [] (Some number) ≡ Err (record { line = line; why = why })
-BlankGives ignores read number (Err Read) = ⊥
-BlankGives ignores read number (Err NoMemory) = ⊤
-
--- what a line that isn't blank does
-abbrev pub WordsGive : Bool → Reads Taken → Line → Result Turn Stop → Type 0
-WordsGive ignores read line (Ok (Goes kept block)) =
-    (h : History) × Stands kept h × ((ls : List Line) (close : Option ℕ) → read (line ∷ ls) close ≡ block_resumed ignores h block ls close)
-WordsGive ignores read line (Ok (Ends end)) = ⊥
-WordsGive ignores read line (Err (Refused number why)) =
-    (ls : List Line) (close : Option ℕ) → read (line ∷ ls) close ≡ Err (record { line = number; why = why })
-WordsGive ignores read line (Err Read) = ⊥
-WordsGive ignores read line (Err NoMemory) = ⊤
-
-abbrev pub stop_of_fault : BlockFault → Stop
-stop_of_fault (r.Refused line why) = Refused line why
-stop_of_fault r.NoMemory = NoMemory
-
-abbrev pub stop_of_unread : LineFault → Stop
-stop_of_unread f.Read = Read
-stop_of_unread (f.LongLine line) = Refused line WhyLong
-stop_of_unread (f.TooLong line) = Refused line WhyMany
-stop_of_unread f.NoMemory = NoMemory
-
--- the forms that an answer has, whatever is told
-abbrev pub LineShape : Result Turn Stop → Type 0
-LineShape (Ok (Goes kept block)) = Fits kept block
-LineShape (Ok (Ends end)) = (end.is_over ≡ false) × (end.found ≡ true)
-LineShape (Err (Refused line why)) = ⊤
-LineShape (Err Read) = ⊥
-LineShape (Err NoMemory) = ⊤
-
-abbrev pub EndShape : Result Turn Stop → Type 0
-EndShape (Ok (Goes kept block)) = ⊥
-EndShape (Ok (Ends end)) = end.is_over ≡ true
-EndShape (Err (Refused line why)) = ⊤
-EndShape (Err Read) = ⊥
-EndShape (Err NoMemory) = ⊤
-
--- the turn of a line that isn't blank
-abbrev pub line_turn : Kept → Result Block Stop → Result Turn Stop
-line_turn kept (Ok block) = Ok (Goes kept block)
-line_turn kept (Err stop) = Err stop
-
--- what the end of a block's lines comes to, at the file's end or at a blank line
-abbrev pub ClosesAt : Bool → Bool → Reads Taken → ℕ → Result Turn Stop → Type 0
-ClosesAt ignores true read number turn = EndGives ignores read number turn
-ClosesAt ignores false read number turn = BlankGives ignores read number turn
-
-abbrev pub ShapeAt : Bool → Result Turn Stop → Type 0
-ShapeAt true turn = EndShape turn
-ShapeAt false turn = LineShape turn
-
--- What a line does to a block, which is `block` then, whatever follows it: the block has a line more, or it ends, and then does what its
--- end comes to.
-abbrev pub LineStep : Bool → Kept → Block → Reads Taken → Line → Result Step Stop → Type 0
-LineStep ignores kept block read line (Ok More) = LineGives ignores read line (Ok (Goes kept block))
-LineStep ignores kept block read line (Ok (Ended number is_over)) =
-    (turn : Result Turn Stop) → ClosesAt ignores is_over read number turn → LineGives ignores read line turn
-LineStep ignores kept block read line (Err stop) = LineGives ignores read line (Err stop)
-
--- a block with a line more fits what is kept; a line that isn't read ends no block
-abbrev pub LineStepShape : Kept → Block → Block → Result Step Stop → Type 0
-LineStepShape kept old block (Ok More) = Fits kept block
-LineStepShape kept old block (Ok (Ended number is_over)) = (block ≡ old) × (is_over ≡ false)
-LineStepShape kept old block (Err stop) = LineShape (Err stop)
-
-abbrev pub StepShape : Kept → Block → Block → Result Step Stop → Type 0
-StepShape kept old block (Ok More) = Fits kept block
-StepShape kept old block (Ok (Ended number is_over)) = block ≡ old
-StepShape kept old block (Err stop) = ⊤
-
--- what one line does to a block, which is `block` then, of the bytes that are left
-abbrev pub StepGives : Bool → Kept → Block → Reads Taken → Reading → List ℕ → Result Step Stop → Reading → Option (List ℕ) → Type 0
-StepGives ignores kept block read r xs (Ok More) r' left' = TurnGives ignores read r xs (Ok (Goes kept block)) r' left'
-StepGives ignores kept block read r xs (Ok (Ended number is_over)) r' left' =
-    (turn : Result Turn Stop) → ClosesAt ignores is_over read number turn → TurnGives ignores read r xs turn r' left'
-StepGives ignores kept block read r xs (Err stop) r' left' = TurnGives ignores read r xs (Err stop) r' left'
-
--- lines and totals, whatever is told
-abbrev pub StepCounts : Reading → Result Step Stop → Reading → Type 0
-StepCounts r (Ok More) r' = (r'.limits ≡ r.limits) × (r'.is_started ≡ true) × (r.total < r'.total) × (r'.total ≤ r.limits.total)
-StepCounts r (Ok (Ended number is_over)) r' = (turn : Result Turn Stop) → ShapeAt is_over turn → TurnCounts r turn r'
-StepCounts r (Err e) r' = r'.limits ≡ r.limits
-
--- what reading up to the end of a block comes to
-abbrev pub BlockGives : Bool → Reads Taken → Bool → Reading → List ℕ → Result Ending Stop → Reading → Option (List ℕ) → Type 0
-BlockGives ignores read over r xs (Ok end) r' left' =
-    (h : History) × Stands end.kept h × ((ys : List ℕ) × (left' ≡ Some ys) × Steps ignores read over r xs end.found h end.is_over r' ys)
-BlockGives ignores read over r xs (Err (Refused line why)) r' left' =
-    after_next ignores read (groups_left over r true xs) ≡ Err (record { line = line; why = why })
-BlockGives ignores read over r xs (Err Read) r' left' = Stops ignores read over r xs left'
-BlockGives ignores read over r xs (Err NoMemory) r' left' = ⊤
-
-abbrev pub BlockCounts : Reading → Result Ending Stop → Reading → Type 0
-BlockCounts r (Ok end) r' = (r'.limits ≡ r.limits) × EndCounts r end r'
-BlockCounts r (Err e) r' = r'.limits ≡ r.limits
 
 -- what a fault of `block` says, where the bytes xs are left: it is that of the next block, or reading failed
 abbrev pub FaultAnswers : Bool → Reads Taken → Bool → Reading → List ℕ → Fault → Option (List ℕ) → Type 0
@@ -251,8 +80,3 @@ SessionCounts s r (Ok a) r' = (r'.limits ≡ r.limits) × (r'.is_started ≡ not
     × (a.0.blocks ≡ (if a.1 then min (s.blocks + 1) (2 ^ 64 - 1) else s.blocks)) × (a.1 ≡ false → a.0.is_over ≡ true)
     × (a.1 ≡ true → s.is_over ≡ false) × (a.1 ≡ true → Grown a.0.is_over r r')
 SessionCounts s r (Err fault) r' = (r'.limits ≡ r.limits) × IsInFile s.file fault
-
-abbrev pub fault_in_file : ℕ → Stop → Fault
-fault_in_file file (Refused line why) = x.Refused file line why
-fault_in_file file Read = x.Read file
-fault_in_file file NoMemory = x.NoMemory

@@ -1,5 +1,5 @@
 // What a session keeps from block to block.
-ghost use Rattle.std.specs.Prelude.{◌≡◌, ◌<◌, ◌≤◌, ◌∷◌, ◌++◌, [], All, IfOk, OnErr, OnOk, Bool, List, ℕ, Option, Some, false, is_some, length, slice_get};
+ghost use Rattle.std.specs.Prelude.{◌≡◌, ◌<◌, ◌≤◌, ◌∷◌, ◌++◌, [], All, IfOk, OnErr, OnOk, Bool, List, ℕ, Option, Some, false, is_some, length, map, slice_get};
 ghost use Rattle.dk_base.specs.Reading.{Line};
 ghost use Rattle.dk_base.specs.Shapes.{AreWithDerived};
 ghost use Rattle.dk_base.specs.Values.{values_of};
@@ -14,6 +14,7 @@ ghost use Rattle.dk_decl.specs.Headers.{is_implicit};
 ghost use Rattle.dk_hierarchy.specs.Standing.{AreEnginesOf, EngineStandsFor};
 ghost use Rattle.dk_points.specs.Vars.{entry_of};
 ghost use Rattle.dk_report.specs.Reports.{section_of as section_in};
+ghost use Rattle.dk_state.specs.Saved.{saved_text};
 ghost use Rattle.dk_state.specs.StateFile.{StandForHistory};
 ghost use Rattle.dk_trace.specs.Answers.{Shows};
 ghost use Rattle.dk_trace.specs.Fitting.{FitKinds};
@@ -21,6 +22,7 @@ ghost use Rattle.dk_trace.specs.RecordsResumed.{shown};
 ghost use Rattle.dk_core.specs.Fitting.{ConstantsFit, FitAt, HasFittingConstants};
 ghost use Rattle.dk_core.specs.Growing.{AreGrown};
 ghost use Rattle.dk_core.specs.History.{History, after_declaration, after_record, after_sample, base_values, effect_of, file_ended, nothing_by, with_declaration, with_record, without_record};
+ghost use Rattle.dk_core.specs.Keeping.{saved_by};
 ghost use Rattle.dk_core.specs.Resuming.{IsStart, state_file};
 ghost use Rattle.dk_core.specs.Sections.{has_own_samples, has_samples, stats_of};
 ghost use Rattle.dk_core.specs.Refusing.{unmatched_answer};
@@ -151,6 +153,7 @@ impl Kept {
         requires calls { CallsStandFor calls [] }
         ensures stands { (h : History) → IsStart h → StandForHistory h.grammar h.table loaded.engines h.samples → loaded.grammar ≡ h.grammar → loaded.points ≡ h.table
             → loaded.implicit ≡ is_implicit h.header → Stands result h }
+        ensures saves { saved_by result ≡ saved_text loaded.grammar loaded.points loaded.implicit (map (λ e. e.kept) loaded.engines) }
     {
         let Loaded {
             points,
@@ -527,7 +530,8 @@ impl Kept {
 
     /// Writes the state behind the text.
     pub(crate) fn push_state(&self, text: &mut Text) -> Result<(), NoMemory>
-        ensures { OnOk result ((h : History) → Stands self.now h → text.new ≡ text.old ++ state_file h) }
+        ensures saved { OnOk result (text.new ≡ text.old ++ saved_by self.now) }
+        ensures history { OnOk result ((h : History) → Stands self.now h → text.new ≡ text.old ++ state_file h) }
     {
         push_saved(
             self.alloc,

@@ -6,11 +6,12 @@ ghost use Rattle.dk_io.specs.Outside.{Rose};
 ghost use Rattle.dk_lines.specs.Reading.{left_of};
 ghost use Rattle.dk_state.specs.Spelling.{IsSpelling};
 ghost use Rattle.dk_core.specs.History.{History, effect_of, no_history, file_ended};
+ghost use Rattle.dk_core.specs.LineSteps.{LineGives, EndGives, BlankGives, WordsGive, fault_in_file, BlockGives, BlockCounts, LineShape, EndShape, ShapeAt, ClosesAt, LineStep, LineStepShape, StepShape, StepGives, StepCounts, line_turn, stop_of_fault, stop_of_unread};
 ghost use Rattle.dk_core.specs.Resuming.{IsStart, state_file};
 ghost use Rattle.dk_core.specs.Sections.{has_own_samples, has_section, section_of, some_if, stats_of};
 ghost use Rattle.dk_core.specs.Selecting.{SelectsBy};
-ghost use Rattle.dk_core.specs.Standing.{Fits, ReportsAlike, SessionStandsFor, Stands, block_resumed, blocks_of, file_of, grammar_of, left_behind, left_with_answer, options_of, over_of, points_of, select_of};
-ghost use Rattle.dk_core.specs.Steps.{LineGives, EndGives, BlankGives, WordsGive, NextBlock, SessionCounts, fault_in_file, BlockGives, BlockCounts, LineShape, EndShape, ShapeAt, ClosesAt, LineStep, LineStepShape, StepShape, StepGives, StepCounts, line_turn, stop_of_fault, stop_of_unread};
+ghost use Rattle.dk_core.specs.Standing.{Fits, ReportsAlike, SessionStandsFor, Stands, block_resumed, blocks_of, file_of, grammar_of, left_behind, left_with_answer, options_of, over_of, points_of, saved_of, select_of};
+ghost use Rattle.dk_core.specs.Steps.{NextBlock, SessionCounts};
 ghost use Rattle.dk_core.specs.Turns.{turn_of, ending_of};
 
 use crate::block::Block;
@@ -320,6 +321,7 @@ impl<F: Fn(&[u8]) -> bool + Drop> Session<F> {
     ) -> Result<Session<F>, LoadFault>
         ensures stands { IfOk result (λ s. (h : History) → IsStart h → state_file h ≡ state.now → SessionStandsFor s h) }
         ensures spelling { IfOk result (λ s. IsSpelling state.now) }
+        ensures saves { IfOk result (λ s. saved_of s ≡ state.now) }
         ensures bad { result ≡ Err LoadFault.BadState → IsSpelling state.now → ⊥ }
         ensures options { IfOk result (λ s. options_of s ≡ options) }
         ensures select { IfOk result (λ s. select_of s ≡ select) }
@@ -469,14 +471,16 @@ impl<F: Fn(&[u8]) -> bool + Drop> Session<F> {
 
     /// Writes the state behind the text. After an error the text may hold a part of it.
     pub fn push_state(&self, text: &mut Text) -> Result<(), NoMemory>
-        ensures { OnOk result ((h : History) → SessionStandsFor self.now h → text.new ≡ text.old ++ state_file h) }
+        ensures saved { OnOk result (text.new ≡ text.old ++ saved_of self.now) }
+        ensures history { OnOk result ((h : History) → SessionStandsFor self.now h → text.new ≡ text.old ++ state_file h) }
     {
         self.kept.push_state(text)
     }
 
     /// The state, as a session can begin with.
     pub fn state(&self) -> Result<Text, NoMemory>
-        ensures { IfOk result (λ text. (h : History) → SessionStandsFor self.now h → text ≡ state_file h) }
+        ensures saved { IfOk result (λ text. text ≡ saved_of self.now) }
+        ensures history { IfOk result (λ text. (h : History) → SessionStandsFor self.now h → text ≡ state_file h) }
     {
         let mut text = Text::new(self.alloc);
         self.push_state(&mut text)?;

@@ -1,7 +1,6 @@
 -- cited by public clauses
 pub mod Outcomes
 pub mod Headers
-pub mod VarNames
 pub mod Blocks
 pub mod Laws
 pub mod ReadPast
@@ -17,3 +16,4 @@ pub mod Variables
 pub mod PptBlock
 pub mod DeclareBlock
 pub mod Comments
+pub mod VarNames

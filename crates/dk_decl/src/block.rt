@@ -3,9 +3,8 @@ ghost use Rattle.std.specs.Prelude.{◌≡◌, [], ◌∷◌, ℕ};
 
 use crate::declare::DeclareBlock;
 use crate::decls::PointDecl;
-use crate::line_words::is_word;
 use crate::ppt::PptBlock;
-use dk_base::BlockFault;
+use dk_base::{BlockFault, same_bytes};
 use std::alloc::Global;
 
 /// The form that the declaration has.
@@ -38,7 +37,7 @@ impl DeclBlock {
     ) -> Result<DeclBlock, BlockFault>
         ensures { ReaderGoesOn decl_resumed result (block_decl implicit (record { number = line; bytes = bytes.now })) }
     {
-        let form = if is_word(bytes, b"DECLARE") {
+        let form = if same_bytes(bytes, b"DECLARE") {
             BlockForm::Declare(DeclareBlock::begin(line))
         } else {
             BlockForm::Ppt(PptBlock::begin(alloc, line, bytes)?)

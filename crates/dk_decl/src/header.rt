@@ -1,8 +1,8 @@
 // Header lines.
 ghost use Rattle.std.specs.Prelude.{◌≡◌, false, Ok, Err, if◌then◌else◌};
 
-use crate::line_words::{begins, is_word, operand};
-use dk_base::Why;
+use crate::line_words::{begins, operand};
+use dk_base::{Why, same_bytes};
 
 /// What the header lines so far have put in force.
 ///
@@ -45,13 +45,13 @@ impl Header {
     {
         if self.awaits_word {
             self.word(bytes)
-        } else if is_word(bytes, b"VarComparability") {
+        } else if same_bytes(bytes, b"VarComparability") {
             self.awaits_word = true;
             Ok(true)
         } else if begins(b"var-comparability", bytes) {
             self.word(operand(bytes))
         } else if begins(b"decl-version", bytes) {
-            if is_word(operand(bytes), b"2.0") {
+            if same_bytes(operand(bytes), b"2.0") {
                 Ok(true)
             } else {
                 Err(Why::BadHeader)
@@ -66,13 +66,13 @@ impl Header {
     fn word(&mut self, text: &[u8]) -> Result<bool, Why>
         ensures { HeaderAnswers (Some (with_text (comparability_word text.now))) self.old result self.new }
     {
-        if is_word(text, b"implicit") {
+        if same_bytes(text, b"implicit") {
             *self = Header {
                 implicit: true,
                 awaits_word: false,
             };
             Ok(true)
-        } else if is_word(text, b"none") {
+        } else if same_bytes(text, b"none") {
             *self = Header {
                 implicit: false,
                 awaits_word: false,

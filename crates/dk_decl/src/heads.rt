@@ -7,9 +7,9 @@ ghost use Rattle.dk_decl.specs.Heads.{head_line, id_of, is_edge, is_point_type, 
 ghost use Rattle.dk_decl.specs.Outcomes.{AnswerAgrees};
 
 use crate::decls::EdgeDecl;
-use crate::line_words::{begins, is_word, operand, operands};
+use crate::line_words::{begins, operand, operands};
 use crate::outcomes::{bad_point, in_memory};
-use dk_base::{BlockFault, List, Text, parse_natural, unescape};
+use dk_base::{BlockFault, List, Text, parse_natural, same_bytes, unescape};
 use std::alloc::Global;
 
 /// A decimal number below 2^32.
@@ -30,7 +30,7 @@ pub(crate) fn edge_at(edges: &List<EdgeDecl>, parent: &[u8], id: u32) -> Option<
     edges
         .as_slice()
         .iter()
-        .position(|e| is_word(e.parent.as_slice(), parent) && e.id == id)
+        .position(|e| same_bytes(e.parent.as_slice(), parent) && e.id == id)
 }
 
 fn has_edge(edges: &List<EdgeDecl>, parent: &[u8], id: u32) -> bool
@@ -39,7 +39,7 @@ fn has_edge(edges: &List<EdgeDecl>, parent: &[u8], id: u32) -> bool
     edges
         .as_slice()
         .iter()
-        .any(|e| is_word(e.parent.as_slice(), parent) && e.id == id)
+        .any(|e| same_bytes(e.parent.as_slice(), parent) && e.id == id)
 }
 
 fn with_edge(
@@ -71,7 +71,7 @@ fn with_relation(
 ) -> Result<List<EdgeDecl>, BlockFault>
     ensures { AnswerAgrees result (with_relation edges line relation.now parent id) }
 {
-    if is_word(relation, b"parent") {
+    if same_bytes(relation, b"parent") {
         with_edge(edges, line, parent, id)
     } else if id.is_some() {
         Ok(edges)

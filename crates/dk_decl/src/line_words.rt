@@ -1,23 +1,16 @@
 // The words of a line.
 ghost use Rattle.std.specs.Prelude.{◌≡◌, IfOk, map};
-ghost use Rattle.std.specs.Str.{bytes_eq};
 ghost use Rattle.dk_decl.specs.LineWords.{begins, operand, operands};
 
-use dk_base::{NoMemory, first_word, rest_of_line, words};
+use dk_base::{NoMemory, first_word, rest_of_line, same_bytes, words};
 use std::alloc::Global;
-
-pub(crate) fn is_word(text: &[u8], word: &[u8]) -> bool
-    ensures { result ≡ bytes_eq text.now word.now }
-{
-    text == word
-}
 
 /// Whether this is the line's first word.
 #[tactic(auto, unfolding(crate::specs::LineWords::begins))]
 pub(crate) fn begins(word: &[u8], bytes: &[u8]) -> bool
     ensures { result ≡ begins word.now bytes.now }
 {
-    is_word(first_word(bytes), word)
+    same_bytes(first_word(bytes), word)
 }
 
 /// What stands behind the first word of the line.

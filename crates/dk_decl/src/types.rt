@@ -4,9 +4,8 @@ ghost use Rattle.dk_base.specs.Values.{value_of};
 ghost use Rattle.dk_decl.specs.Outcomes.{AnswerAgrees};
 ghost use Rattle.dk_decl.specs.Types.{constant_at, constant_of, is_missing, rep_kind, rep_type_of};
 
-use crate::line_words::is_word;
 use crate::outcomes::{bad_variable, in_memory};
-use dk_base::{Arena, BlockFault, Kind, Text, Value, ValueFault, View, parse_value};
+use dk_base::{Arena, BlockFault, Kind, Text, Value, ValueFault, View, parse_value, same_bytes};
 use std::alloc::Global;
 
 /// How a variable's values are represented: as values of one kind, or as texts that are read past.
@@ -28,23 +27,23 @@ pub(crate) struct Placed {
 pub(crate) fn rep_type_of(text: &[u8]) -> Option<RepType>
     ensures { result ≡ rep_type_of text.now }
 {
-    if is_word(text, b"boolean") {
+    if same_bytes(text, b"boolean") {
         Some(RepType::Of(Kind::Bool))
-    } else if is_word(text, b"int") {
+    } else if same_bytes(text, b"int") {
         Some(RepType::Of(Kind::Int))
-    } else if is_word(text, b"hashcode") {
+    } else if same_bytes(text, b"hashcode") {
         Some(RepType::Of(Kind::Hash))
-    } else if is_word(text, b"java.lang.String") || is_word(text, b"String") {
+    } else if same_bytes(text, b"java.lang.String") || same_bytes(text, b"String") {
         Some(RepType::Of(Kind::Str))
-    } else if is_word(text, b"boolean[]") {
+    } else if same_bytes(text, b"boolean[]") {
         Some(RepType::Of(Kind::BoolSeq))
-    } else if is_word(text, b"int[]") {
+    } else if same_bytes(text, b"int[]") {
         Some(RepType::Of(Kind::IntSeq))
-    } else if is_word(text, b"hashcode[]") {
+    } else if same_bytes(text, b"hashcode[]") {
         Some(RepType::Of(Kind::HashSeq))
-    } else if is_word(text, b"java.lang.String[]") || is_word(text, b"String[]") {
+    } else if same_bytes(text, b"java.lang.String[]") || same_bytes(text, b"String[]") {
         Some(RepType::Of(Kind::StrSeq))
-    } else if is_word(text, b"double") || is_word(text, b"double[]") {
+    } else if same_bytes(text, b"double") || same_bytes(text, b"double[]") {
         Some(RepType::Opaque)
     } else {
         None

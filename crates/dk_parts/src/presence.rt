@@ -8,7 +8,7 @@ ghost use Rattle.dk_parts.specs.Restored.{HavePatterns, chosen, held_of};
 ghost use Rattle.dk_samples.specs.Leaders.{VarsAscend};
 
 use crate::{Pattern, patterns_in_order};
-use dk_base::{List, NoMemory, VarId};
+use dk_base::{List, NoMemory, VarId, same_items};
 use dk_presence::{Held, Presence};
 use indexmap::IndexSet;
 use std::alloc::Global;
@@ -88,19 +88,11 @@ fn are_same(patterns: &[Pattern], others: &[Pattern]) -> bool
     true
 }
 
-// Whether the truth values are the same, in the same order.
-fn same_truths(truths: &[bool], others: &[bool]) -> bool
-    ensures { IsTrue result ↔ (truths.now ≡ others.now) }
-{
-    truths == others
-}
-
 // Whether the patterns are the same.
 fn is_same(pattern: &Pattern, other: &Pattern) -> bool
     ensures { IsTrue result ↔ (pattern.now ≡ other.now) }
 {
-    pattern.count == other.count
-        && same_truths(pattern.present.as_slice(), other.present.as_slice())
+    pattern.count == other.count && same_items(pattern.present.as_slice(), other.present.as_slice())
 }
 
 /// The patterns over these leaders, which ascend, from the order in which they are saved; or None where no patterns are saved like

@@ -5,15 +5,14 @@ ghost use Rattle.std.specs.Option.{option_map, option_map_or};
 ghost use Rattle.dk_points.specs.KeptEdges.{is_dropped, kept_by};
 ghost use Rattle.dk_points.specs.Links.{is_to, same_edge};
 
-use crate::roles::is_text;
-use dk_base::{List, NoMemory, Text};
+use dk_base::{List, NoMemory, Text, same_bytes};
 use dk_decl::EdgeDecl;
 use std::alloc::Global;
 
 pub(crate) fn same_edge(a: &EdgeDecl, b: &EdgeDecl) -> bool
     ensures { result ≡ same_edge a.now b.now }
 {
-    is_text(a.parent.as_slice(), b.parent.as_slice()) && a.id == b.id
+    same_bytes(a.parent.as_slice(), b.parent.as_slice()) && a.id == b.id
 }
 
 fn has_edge(edges: &[EdgeDecl], edge: &EdgeDecl) -> bool
@@ -32,7 +31,7 @@ fn is_to_combined(edge: &EdgeDecl, combined: Option<&Text>) -> bool
 {
     match combined {
         None => false,
-        Some(name) => is_text(edge.parent.as_slice(), name.as_slice()),
+        Some(name) => same_bytes(edge.parent.as_slice(), name.as_slice()),
     }
 }
 

@@ -5,9 +5,8 @@ ghost use Rattle.dk_base.specs.Shapes.{is_orig};
 ghost use Rattle.dk_points.specs.Partners.{gives, is_like, partner_name, plain_name};
 
 use crate::places::KeptPoint;
-use crate::roles::is_text;
 use crate::variables::same_kind;
-use dk_base::{Form, VarInfo};
+use dk_base::{Form, VarInfo, same_bytes};
 use dk_decl::{PointDecl, VarDecl};
 
 /// Whether it is the form of what a declared variable had at the entry.
@@ -39,7 +38,7 @@ fn gives(var: &VarDecl, edge: u64, name: &[u8]) -> bool
     ensures { result ≡ gives edge name.now var.now }
 {
     for line in var.parents.as_slice() {
-        if line.edge == edge && is_text(name, line.name.as_slice()) {
+        if line.edge == edge && same_bytes(name, line.name.as_slice()) {
             return true;
         }
     }
@@ -77,7 +76,9 @@ pub(crate) fn partner_name<'a>(
 fn is_like(w: &VarInfo, name: &[u8], v: &VarInfo) -> bool
     ensures { result ≡ is_like w.now name.now v.now }
 {
-    is_text(name, plain_name(v)) && same_kind(v.kind, w.kind) && is_orig(v.form) == is_orig(w.form)
+    same_bytes(name, plain_name(v))
+        && same_kind(v.kind, w.kind)
+        && is_orig(v.form) == is_orig(w.form)
 }
 
 /// The first of the variables with this plain name, and kind and form of `w`.

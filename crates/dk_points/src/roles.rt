@@ -1,9 +1,9 @@
 // What the name of a point says.
-ghost use Rattle.std.specs.Prelude.{◌≡◌, ◌≤◌, ◌&&◌, ◌++◌, length, IfOk, drop, take, codes, bytes_eq};
+ghost use Rattle.std.specs.Prelude.{◌≡◌, ◌≤◌, ◌&&◌, ◌++◌, length, IfOk, drop, take, codes};
 ghost use Rattle.std.specs.List.{list_all};
 ghost use Rattle.dk_points.specs.Names.{combined_name, combined_of, entry_name, is_digit, is_exit, is_separator, is_subexit, is_subexit_tag, method_len, method_of, role_of, role_of_tag, tag_of};
 
-use dk_base::{NoMemory, Text};
+use dk_base::{NoMemory, Text, same_bytes};
 use std::alloc::Global;
 
 /// The role of a point in the calls of its method.
@@ -39,12 +39,6 @@ impl Role {
             _ => false,
         }
     }
-}
-
-pub(crate) fn is_text(a: &[u8], b: &[u8]) -> bool
-    ensures { result ≡ bytes_eq a.now b.now }
-{
-    a == b
 }
 
 fn is_separator(name: &[u8], place: usize) -> bool
@@ -104,9 +98,9 @@ fn is_subexit_tag(tag: &[u8]) -> bool
 fn role_of_tag(tag: &[u8]) -> Role
     ensures { result ≡ role_of_tag tag.now }
 {
-    if is_text(tag, b"ENTER") {
+    if same_bytes(tag, b"ENTER") {
         Role::Entry
-    } else if is_text(tag, b"EXIT") {
+    } else if same_bytes(tag, b"EXIT") {
         Role::Combined
     } else if is_subexit_tag(tag) {
         Role::Subexit

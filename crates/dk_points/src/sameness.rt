@@ -6,9 +6,8 @@ ghost use Rattle.dk_points.specs.Links.{same_edge};
 ghost use Rattle.dk_points.specs.Sameness.{same_compar, same_decl, same_option, same_parent_var, same_var};
 ghost use Rattle.dk_points.specs.Vars.{same_kind};
 
-use crate::roles::is_text;
 use crate::variables::same_kind;
-use dk_base::{Compar, Kind, Value, same_kept};
+use dk_base::{Compar, Kind, Value, same_bytes, same_kept};
 use dk_decl::{EdgeDecl, ParentVar, PointDecl, VarDecl};
 
 fn same_kinds(a: Option<Kind>, b: Option<Kind>) -> bool
@@ -62,7 +61,7 @@ fn same_edges(a: &[EdgeDecl], b: &[EdgeDecl]) -> bool
 fn same_var(a: &VarDecl, b: &VarDecl) -> bool
     ensures { result ≡ same_var a.now b.now }
 {
-    is_text(a.name.as_slice(), b.name.as_slice())
+    same_bytes(a.name.as_slice(), b.name.as_slice())
         && same_kinds(a.kind, b.kind)
         && same_compar(a.compar, b.compar)
         && same_constant(&a.constant, &b.constant)
@@ -90,7 +89,7 @@ fn same_vars(a: &[VarDecl], b: &[VarDecl]) -> bool
 pub(crate) fn same_decl(a: &PointDecl, b: &PointDecl) -> bool
     ensures { result ≡ same_decl a.now b.now }
 {
-    is_text(a.name.as_slice(), b.name.as_slice())
+    same_bytes(a.name.as_slice(), b.name.as_slice())
         && same_edges(a.edges.as_slice(), b.edges.as_slice())
         && same_vars(a.vars.as_slice(), b.vars.as_slice())
 }

@@ -1,1 +1,2 @@
+-- cited by the clauses of its functions
 pub mod Samples

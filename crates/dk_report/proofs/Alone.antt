@@ -27,7 +27,7 @@ use Rattle.dk_report.specs.Narrowing.{CanNarrow, candidates_left, is_left, is_na
 use Rattle.dk_report.specs.declared.asking.Asking.{Asking}
 use Rattle.dk_report.specs.declared.sweeping.Standing.{Standing}
 
-flat_map-rows : {B : Type 0} (f g : RowId → List B) (rows : List RowId) → ((row : RowId) → IsIn row rows → f row ≡ g row) → flat_map f rows ≡ flat_map g rows
+pub flat_map-rows : {B : Type 0} (f g : RowId → List B) (rows : List RowId) → ((row : RowId) → IsIn row rows → f row ≡ g row) → flat_map f rows ≡ flat_map g rows
 flat_map-rows f g [] same = refl
 flat_map-rows f g (row ∷ rows) same =
     ap (λ r. f row ++ r) (flat_map-rows f g rows (λ r i. same r (inr i))) ∙ ap (λ r. r ++ flat_map g rows) (same row (inl refl))

@@ -37,7 +37,7 @@ use Rattle.dk_template.specs.declared.grammar.RowId.{RowId}
 use Rattle.dk_report.specs.Narrowing.{is_fixed, is_left, is_of_row, stands_in}
 
 -- ---- states
-not-broken : (s : State) → fits s ≡ true → s ≢ Broken
+pub not-broken : (s : State) → fits s ≡ true → s ≢ Broken
 not-broken s h e = false≢true (ap fits (sym e) ∙ h)
 
 -- ---- members

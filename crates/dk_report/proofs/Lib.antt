@@ -20,3 +20,8 @@ pub mod Left
 pub mod Narrowed
 pub mod Sole
 pub mod Alone
+pub mod Picking
+pub mod Told
+pub mod Viewed
+pub mod Rules
+pub mod Shown

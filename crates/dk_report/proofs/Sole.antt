@@ -43,7 +43,7 @@ zip-long R [] (y ∷ ys) z = absurd z
 zip-long R (x ∷ xs) [] z = absurd z
 zip-long R (x ∷ xs) (y ∷ ys) z = ap suc (zip-long R xs ys z.1)
 
-got-at : {X : Type 0} (xs : List X) (i : ℕ) (x d : X) → slice_get xs i ≡ Some x → slice_index_or xs i d ≡ x
+pub got-at : {X : Type 0} (xs : List X) (i : ℕ) (x d : X) → slice_get xs i ≡ Some x → slice_index_or xs i d ≡ x
 got-at [] i x d at = absurd (cc)
 got-at (y ∷ xs) zero x d at = some-injective at
 got-at (y ∷ xs) (suc i) x d at = got-at xs i x d at

@@ -10,4 +10,5 @@ pub mod Sweeps
 pub mod Listing
 pub mod Asked
 pub mod Narrowing
+pub mod Viewing
 pub mod Parents

@@ -10,6 +10,7 @@ mod parents;
 mod sections;
 mod stats;
 mod sweeping;
+mod viewing;
 
 pub use options::Options;
 pub use sections::{kept_instances, push_section};

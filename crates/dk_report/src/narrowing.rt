@@ -10,7 +10,7 @@ ghost use Rattle.dk_filters.specs.Candidates.{candidates_kept, candidates_of};
 ghost use Rattle.dk_filters.specs.Laws.{ShowTheSame};
 ghost use Rattle.dk_hierarchy.specs.Standing.{EnginesStandFor};
 ghost use Rattle.dk_presence.specs.Patterns.{has};
-ghost use Rattle.dk_report.specs.Asked.{CanBeAsked, here_of, views_of};
+ghost use Rattle.dk_report.specs.Asked.{AreStanding, CanBeAsked, here_of, views_of};
 ghost use Rattle.dk_report.specs.Keeping.{keeps};
 ghost use Rattle.dk_report.specs.Narrowing.{CanNarrow, IsSole, all_lead, brings_samples, candidates_left, is_fixed, is_left, is_narrow, is_of_row};
 ghost use Rattle.dk_template.specs.Templates.{IsRow, IsRowOf};
@@ -56,15 +56,15 @@ fn slots_of_row<'s>(alloc: Global, slots: &'s [Slot], row: RowId) -> Result<Vec<
     Ok(list)
 }
 
-// Whether the variable is one of them.
-fn has(vars: &[VarId], v: VarId) -> bool
+/// Whether the variable is one of them.
+pub(crate) fn has(vars: &[VarId], v: VarId) -> bool
     ensures { result ≡ has vars.now v }
 {
     vars.iter().any(|w| w.0 == v.0)
 }
 
-// Whether the variable stands in one of the slots.
-fn stands_in(slots: &[&Slot], v: VarId) -> bool
+/// Whether the variable stands in one of the slots.
+pub(crate) fn stands_in(slots: &[&Slot], v: VarId) -> bool
     ensures { result ≡ list_any (λ slot. has slot.now.leaders v) slots.now }
 {
     slots.iter().any(|slot| has(slot.leaders.as_slice(), v))
@@ -95,8 +95,8 @@ fn left_of(
     Ok(list)
 }
 
-// Whether the row takes several variables, and doesn't say that two are the same.
-fn is_narrow(row: RowId) -> bool
+/// Whether the row takes several variables, and doesn't say that two are the same.
+pub(crate) fn is_narrow(row: RowId) -> bool
     requires { IsRow row }
     ensures { result ≡ is_narrow row }
 {
@@ -233,6 +233,24 @@ impl<'a, 'e> Asking<'a, 'e> {
         }
     }
 
+    // The candidates by what one view of the point tells, or else by all tuples.
+    fn told_or_swept(
+        &self,
+        engines: &[Engine],
+        standing: &Standing,
+    ) -> Result<List<Candidate>, NoMemory>
+        requires engines { self.now.here.now.engines ≡ engines.now }
+        requires asked { CanBeAsked self.now }
+        requires standing { AreStanding self.now standing.now }
+        ensures { IfOk result (λ list. list ≡ candidates_kept (keeps self.now.options.now) (candidates_of self.now.here.now.here.grammar self.now.options.now.least (here_of self.now) (views_of self.now))) }
+    {
+        let told = self.told(engines, standing)?;
+        match told {
+            Some(table) => self.viewed(table.as_slice(), standing),
+            None => self.swept(standing),
+        }
+    }
+
     /// The candidates that the options let through, by row and then by variables.
     pub(crate) fn listed(&self, engines: &[Engine]) -> Result<List<Candidate>, NoMemory>
         requires engines { self.now.here.now.engines ≡ engines.now }
@@ -244,7 +262,7 @@ impl<'a, 'e> Asking<'a, 'e> {
         let standing = self.all_standing()?;
         match self.narrowing(engines, &standing) {
             Some(engine) => self.narrowed(engine, &standing),
-            None => self.swept(&standing),
+            None => self.told_or_swept(engines, &standing),
         }
     }
 }

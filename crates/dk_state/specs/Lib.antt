@@ -12,8 +12,8 @@ pub mod Kept
 pub mod Compact
 pub mod Reading
 pub mod Fitting
-pub mod Within
 -- inner: cited by the clauses of bodies and in proofs alone
 pub mod Loading
 pub mod Numbered
 pub mod StateWords
+pub mod Within

@@ -1,7 +1,6 @@
 // What is left of a state file while it is read.
 ghost use Rattle.std.specs.Prelude.{◌≡◌, ◌++◌, ◌-◌, ◌<◌, ◌≤◌, ◌^◌, [], ℕ, ℤ, IfOk, IfSome, IsTrue, List, Some, length, pos, nat_eq, take, drop, unsigned_abs, unwrap_or};
 ghost use Rattle.std.specs.List.{position_or_len, starts_with};
-ghost use Rattle.std.specs.Str.{bytes_eq};
 ghost use Rattle.std.specs.Fmt.{decimal, signed_decimal};
 ghost use Rattle.dk_base.specs.Names.{escaped};
 ghost use Rattle.dk_base.specs.Numbers.{fits_i64};
@@ -27,13 +26,6 @@ impl<'a> Model for Front<'a> {
     ghost Value = { List ℕ };
 
     ghost view = { λ f. f.left.now };
-}
-
-/// Whether the bytes are this word.
-pub(crate) fn is_word(bytes: &[u8], word: &[u8]) -> bool
-    ensures { result ≡ bytes_eq bytes.now word.now }
-{
-    bytes == word
 }
 
 // How many bytes stand in front of the first blank or LF.

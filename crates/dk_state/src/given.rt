@@ -5,8 +5,7 @@ ghost use Rattle.dk_decl.specs.Types.{is_missing};
 ghost use Rattle.dk_state.specs.Given.{all_new, edge_key, has_none, is_given_constant, is_given_counterpart, is_given_edge, is_given_point, is_given_var, is_name};
 
 use crate::fields::{push_field, push_number};
-use crate::front::is_word;
-use dk_base::{NoMemory, Text, Value};
+use dk_base::{NoMemory, Text, Value, same_bytes};
 use dk_decl::{EdgeDecl, ParentVar, PointDecl, VarDecl};
 use dk_graph::Names;
 use std::alloc::Global;
@@ -37,7 +36,7 @@ fn is_mapped(mapped: &ParentVar, own: &[u8], edges: usize) -> bool
     ensures { result ≡ is_given_counterpart own.now edges mapped.now }
 {
     let name = mapped.name.as_slice();
-    mapped.edge < edges as u64 && is_name(name) && (has_none(name, TAB) || is_word(name, own))
+    mapped.edge < edges as u64 && is_name(name) && (has_none(name, TAB) || same_bytes(name, own))
 }
 
 fn are_mapped(parents: &[ParentVar], own: &[u8], edges: usize) -> bool

@@ -20,11 +20,11 @@ ghost use Rattle.dk_state.specs.Spelling.{AreSavedAt, CanBeSaved, Content, IsCon
 ghost use Rattle.dk_template.specs.declared.grammar.Grammar.{Grammar as Grammars};
 
 use crate::entries::read_all;
-use crate::front::{Front, is_word};
+use crate::front::Front;
 use crate::given::is_given;
 use crate::reading_kept::{next_point, parts};
 use crate::saving::save;
-use dk_base::{BlockFault, List, NoMemory, PointId};
+use dk_base::{BlockFault, List, NoMemory, PointId, same_bytes};
 use dk_decl::PointDecl;
 use dk_derive::derive;
 use dk_engine::{Engine, PartsFault};
@@ -96,7 +96,7 @@ fn implicit(front: &mut Front<'_>) -> bool
     front.pass(b"comparability");
     let word = front.field();
     front.pass(b"\n");
-    is_word(word, b"implicit")
+    same_bytes(word, b"implicit")
 }
 
 // The number of points, which is told again by the declarations.
@@ -256,7 +256,7 @@ fn saves_to(alloc: Global, loaded: &Loaded, bytes: &[u8]) -> Result<bool, NoMemo
         loaded.implicit,
         loaded.grammar,
     )?;
-    Ok(is_word(text.as_slice(), bytes))
+    Ok(same_bytes(text.as_slice(), bytes))
 }
 
 /// What a state file says. It takes exactly the spellings of states: the bytes to which some table, comparability word and kept parts that

@@ -10,8 +10,8 @@ ghost use Rattle.dk_state.specs.Fitting.{FitsConstant, FitsEdge, FitsMapped, Fit
 ghost use Rattle.dk_state.specs.Within.{IsEdgeWithin, IsMappedWithin, IsPointWithin, IsVarWithin};
 
 use crate::entries::{Entry, read_all};
-use crate::front::{Front, is_word};
-use dk_base::{Compar, Kind, NoMemory, Value, VarInfo};
+use crate::front::Front;
+use dk_base::{Compar, Kind, NoMemory, Value, VarInfo, same_bytes};
 use dk_decl::{EdgeDecl, ParentVar, PointDecl, VarDecl};
 use std::alloc::Global;
 
@@ -79,21 +79,21 @@ impl Entry for ParentVar {
 fn kind_of(rep: &[u8]) -> Option<Kind>
     ensures { (kind : Option Kinds) → rep.now ≡ rep_text kind → result ≡ kind }
 {
-    if is_word(rep, b"boolean") {
+    if same_bytes(rep, b"boolean") {
         Some(Kind::Bool)
-    } else if is_word(rep, b"int") {
+    } else if same_bytes(rep, b"int") {
         Some(Kind::Int)
-    } else if is_word(rep, b"hashcode") {
+    } else if same_bytes(rep, b"hashcode") {
         Some(Kind::Hash)
-    } else if is_word(rep, b"java.lang.String") {
+    } else if same_bytes(rep, b"java.lang.String") {
         Some(Kind::Str)
-    } else if is_word(rep, b"boolean[]") {
+    } else if same_bytes(rep, b"boolean[]") {
         Some(Kind::BoolSeq)
-    } else if is_word(rep, b"int[]") {
+    } else if same_bytes(rep, b"int[]") {
         Some(Kind::IntSeq)
-    } else if is_word(rep, b"hashcode[]") {
+    } else if same_bytes(rep, b"hashcode[]") {
         Some(Kind::HashSeq)
-    } else if is_word(rep, b"java.lang.String[]") {
+    } else if same_bytes(rep, b"java.lang.String[]") {
         Some(Kind::StrSeq)
     } else {
         None

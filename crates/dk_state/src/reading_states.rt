@@ -11,8 +11,8 @@ ghost use Rattle.dk_state.specs.Reading.{HasNone, ends_line};
 ghost use Rattle.dk_state.specs.StateWords.{state_word, state_word_in, told_fields};
 ghost use Rattle.dk_state.specs.States.{state_fields};
 
-use crate::front::{Front, is_word};
-use dk_base::{Kind, List, NoMemory, Text, Value};
+use crate::front::Front;
+use dk_base::{Kind, List, NoMemory, Text, Value, same_bytes};
 use dk_template::{Few, State};
 use std::alloc::Global;
 
@@ -40,35 +40,35 @@ enum Word {
 fn word_in(field: &[u8]) -> Word
     ensures { result ≡ state_word_in field.now }
 {
-    if is_word(field, b"empty") {
+    if same_bytes(field, b"empty") {
         Word::Empty
-    } else if is_word(field, b"holds") {
+    } else if same_bytes(field, b"holds") {
         Word::Holds
-    } else if is_word(field, b"least") {
+    } else if same_bytes(field, b"least") {
         Word::Least
-    } else if is_word(field, b"greatest") {
+    } else if same_bytes(field, b"greatest") {
         Word::Greatest
-    } else if is_word(field, b"ints") {
+    } else if same_bytes(field, b"ints") {
         Word::Ints
-    } else if is_word(field, b"truth") {
+    } else if same_bytes(field, b"truth") {
         Word::Truth
-    } else if is_word(field, b"code") {
+    } else if same_bytes(field, b"code") {
         Word::Code
-    } else if is_word(field, b"texts") {
+    } else if same_bytes(field, b"texts") {
         Word::Texts
-    } else if is_word(field, b"one") {
+    } else if same_bytes(field, b"one") {
         Word::One
-    } else if is_word(field, b"modulus") {
+    } else if same_bytes(field, b"modulus") {
         Word::Modulus
-    } else if is_word(field, b"spot") {
+    } else if same_bytes(field, b"spot") {
         Word::Spot
-    } else if is_word(field, b"straight") {
+    } else if same_bytes(field, b"straight") {
         Word::Straight
-    } else if is_word(field, b"span") {
+    } else if same_bytes(field, b"span") {
         Word::Span
-    } else if is_word(field, b"plane") {
+    } else if same_bytes(field, b"plane") {
         Word::Plane
-    } else if is_word(field, b"offset") {
+    } else if same_bytes(field, b"offset") {
         Word::Offset
     } else {
         Word::Other

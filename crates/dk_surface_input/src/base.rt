@@ -273,7 +273,8 @@ fn lists_and_texts_grow(rt: HostRuntime) -> Result<(), Fail> {
     let mut text = Text::from_slice(rt.alloc(), b"a")?;
     text.push(b'b')?;
     text.append(b"cd")?;
-    assert!(rt; text.as_slice() == b"abcd".as_slice());
+    assert!(rt; same_bytes(text.as_slice(), b"abcd") && !same_bytes(text.as_slice(), b"abc"));
+    assert!(rt; same_items(&[1u8, 2], &[1, 2]) && !same_items(&[1u8, 2], &[2, 1]));
     assert!(rt; text.len() == 4 && !text.is_empty());
     assert!(rt; text == Text::from_slice(rt.alloc(), b"abcd")?);
     Ok(())

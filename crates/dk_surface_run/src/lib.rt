@@ -11,6 +11,8 @@ mod outcomes;
 #[cfg(test)]
 mod outside;
 #[cfg(test)]
+mod parents;
+#[cfg(test)]
 mod sizes;
 #[cfg(test)]
 mod stack_ar;

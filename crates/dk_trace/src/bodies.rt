@@ -6,9 +6,9 @@ ghost use Rattle.dk_decl.specs.declared.decls.VarDecl.{VarDecl as Declared};
 ghost use Rattle.dk_trace.specs.Answers.{Shows};
 ghost use Rattle.dk_trace.specs.Bodies.{body_of, from_nonce, is_nonce_line, nonce_of};
 
-use crate::marks::{is_word, refused};
+use crate::marks::refused;
 use crate::values::ValueReader;
-use dk_base::{Arena, BlockFault, View, Why, parse_integer};
+use dk_base::{Arena, BlockFault, View, Why, parse_integer, same_bytes};
 use dk_decl::VarDecl;
 
 /// The lines of a record behind its first, which are read one after another.
@@ -26,7 +26,7 @@ pub(crate) enum BodyReader<'a> {
 fn is_nonce_line(line: u64, bytes: &[u8]) -> bool
     ensures { result ≡ is_nonce_line (record { number = line; bytes = bytes.now }) }
 {
-    is_word(bytes, b"this_invocation_nonce")
+    same_bytes(bytes, b"this_invocation_nonce")
 }
 
 #[tactic(auto, unfolding(crate::specs::Bodies::nonce_of))]

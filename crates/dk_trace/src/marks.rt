@@ -25,12 +25,6 @@ pub(crate) fn refused(line: u64, why: Why) -> BlockFault
     BlockFault::Refused { line, why }
 }
 
-pub(crate) fn is_word(text: &[u8], word: &[u8]) -> bool
-    ensures { result ≡ bytes_eq text.now word.now }
-{
-    text == word
-}
-
 // Whether the text is this one byte.
 #[tactic(auto, using(crate::proofs::Marked::empty_is_no_byte, crate::proofs::Marked::one_byte, crate::proofs::Marked::more_is_no_byte))]
 fn is_byte(text: &[u8], byte: u8) -> bool

@@ -2,7 +2,7 @@ use Rattle.std.proofs.Common.{Err, sym, subst}
 use Rattle.dk_base.specs.Reading.{Line}
 use Rattle.dk_core.proofs.Fronting.{told_words}
 use Rattle.dk_core.specs.Standing.{block_resumed}
-use Rattle.dk_core.specs.Steps.{WordsGive}
+use Rattle.dk_core.specs.LineSteps.{WordsGive}
 use Rattle.dk_core.specs.declared.session.Stop.{Stop}
 use Rattle.dk_core.proofs.session.at_words.Goals as goal
 

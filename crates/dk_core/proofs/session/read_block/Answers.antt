@@ -5,7 +5,7 @@ use Rattle.dk_core.specs.Standing.{block_resumed}
 use Rattle.dk_core.specs.declared.session.Step.{Step}
 use Rattle.dk_core.specs.declared.session.Step.TheVariants.{More, Ended}
 use Rattle.dk_core.specs.declared.session.Stop.{Stop}
-use Rattle.dk_core.specs.Steps.{ClosesAt, ShapeAt, StepGives, StepShape, StepCounts, TurnCounts}
+use Rattle.dk_core.specs.LineSteps.{ClosesAt, ShapeAt, StepGives, StepShape, StepCounts, TurnCounts}
 use Rattle.dk_core.proofs.Stepping.{begun, block_counts, closed_on, fits_at, told_on, told_stop}
 use Rattle.dk_core.specs.Turns.{Goes, Ends, ending_at, turn_of}
 use Rattle.dk_core.specs.declared.session.After.{After}

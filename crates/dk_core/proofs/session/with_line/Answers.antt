@@ -2,7 +2,7 @@ use Rattle.std.proofs.Common.{◌≡◌, ◌∙◌, sym, ap, subst, true, false,
 use Rattle.dk_base.specs.Pieces.{is_empty}
 use Rattle.dk_base.specs.Words.{trimmed}
 use Rattle.dk_core.specs.Standing.{block_resumed}
-use Rattle.dk_core.specs.Steps.{WordsGive, line_turn}
+use Rattle.dk_core.specs.LineSteps.{WordsGive, line_turn}
 use Rattle.dk_core.proofs.Stepping.{blank_step, words_step, words_fault, empty_len}
 use Rattle.dk_core.proofs.session.with_line.Goals as goal
 

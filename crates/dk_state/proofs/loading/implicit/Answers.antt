@@ -18,4 +18,4 @@ pub returns : goal.returns
 returns c b rest is =
     let passed = c.pass.ensures.read (fields_onto (comparability_text b ∷ []) (10 ∷ rest)) (is ∙ line_onto (codes "comparability") (comparability_text b ∷ []) rest) in
     let word = c.field-word.ensures.read (comparability_text b) (10 ∷ rest) (plain b) refl passed in
-    (c.is_word.ensures ∙ ap (λ w. bytes_eq w (codes "implicit")) word.0 ∙ same b, c.pass-2.ensures.read rest word.1)
+    (c.same_bytes.ensures ∙ ap (λ w. bytes_eq w (codes "implicit")) word.0 ∙ same b, c.pass-2.ensures.read rest word.1)

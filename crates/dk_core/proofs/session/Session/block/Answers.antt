@@ -1,7 +1,7 @@
 use Rattle.std.proofs.Common.{◌≡◌, false, IfSome, Result, Ok, rules, refl, subst}
 use Rattle.dk_lines.specs.Reading.{left_of}
 use Rattle.dk_core.specs.History.{effect_of}
-use Rattle.dk_core.specs.Steps.{BlockGives}
+use Rattle.dk_core.specs.LineSteps.{BlockGives}
 use Rattle.dk_core.specs.declared.session.Stop.{Stop}
 use Rattle.dk_core.proofs.Stepping.{block_answers, still_over}
 use Rattle.dk_core.specs.Turns.{ending_at, ending_of}
