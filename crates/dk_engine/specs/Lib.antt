@@ -21,4 +21,3 @@ pub mod Narrow
 pub mod Restored
 pub mod Bitmaps
 pub mod Memory
-pub mod Idle

@@ -11,8 +11,6 @@ mod counting;
 mod counts;
 mod engine;
 mod feed;
-mod growing;
-mod idle;
 mod kept;
 pub mod laws;
 mod lending;
