@@ -19,4 +19,6 @@ LowestTermsAreNormal = (k : ℤ × ℤ × ℤ) → HasLength k → IsNormal3 (in
 -- and each is the divisor's part of the part that it was taken from
 abbrev pub LowestTermsAreParts : Type 0
 LowestTermsAreParts =
-    (k : ℤ × ℤ × ℤ) → HasLength k → ((in_lowest k).0 *ℤ divisor k.0 k.1 k.2 ≡ k.0) × ((in_lowest k).1 *ℤ divisor k.0 k.1 k.2 ≡ k.1) × ((in_lowest k).2 *ℤ divisor k.0 k.1 k.2 ≡ k.2)
+    (k : ℤ × ℤ × ℤ) → HasLength k
+    → ((in_lowest k).0 *ℤ divisor k.0 k.1 k.2 ≡ k.0)
+    × ((in_lowest k).1 *ℤ divisor k.0 k.1 k.2 ≡ k.1) × ((in_lowest k).2 *ℤ divisor k.0 k.1 k.2 ≡ k.2)

@@ -21,7 +21,8 @@ abbrev pub Takes : Call → List Call → (ℕ → Type 0) → ℕ → Type 0
 Takes (enters w) calls waits i = ⊥
 Takes (exits point (Some n)) calls waits i = IsLatest calls waits (is_of point (Some n)) i
 Takes (exits point None) calls waits i =
-    (own : ℕ) × (IsLatest calls waits (is_of point None) own × (i ≤ own) × waits i × ((w : Entry) × IsEntryAt calls i w × (is_plain w ≡ true)))
+    (own : ℕ)
+    × (IsLatest calls waits (is_of point None) own × (i ≤ own) × waits i × ((w : Entry) × IsEntryAt calls i w × (is_plain w ≡ true)))
 Takes other calls waits i = ⊥
 
 -- A record waits behind these records of its file, the one at this place of them: it is an entry, and no exit behind it took it.

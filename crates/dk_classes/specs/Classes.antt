@@ -47,7 +47,9 @@ pub record IsSplit (leaders : List VarId) (sample : List Value) (split : List Va
 -- the variables that lead now and didn't before, ascending, each with its old leader
 pub record AreNew (leaders split : List VarId) (new : List (VarId × VarId)) : Type 0 where
   pub ascend : AllPairs (λ m n. m.0.0 < n.0.0) new
-  pub each : (v w : VarId) → Contains new (v, w) ↔ ((v.0 < length split) × (leader_at split v.0 ≡ v.0) × (leader_at leaders v.0 ≢ v.0) × (w.0 ≡ leader_at leaders v.0))
+  pub each : (v w : VarId)
+      → Contains new (v, w)
+      ↔ ((v.0 < length split) × (leader_at split v.0 ≡ v.0) × (leader_at leaders v.0 ≢ v.0) × (w.0 ≡ leader_at leaders v.0))
 
 -- a variable whose old leader is another one, and that is the first of those like it
 pub record IsNewLeader (leaders : List VarId) (sample : List Value) (v : ℕ) : Type 0 where

@@ -23,4 +23,5 @@ HaveKeys sample new keys = All (λ n. has_key keys (key_of n.1 (value_in sample 
 
 -- the new leader out of an old class that has the value in the sample, or none where there is none
 abbrev pub FindsLike : List (VarId × VarId) → List Value → VarId → Value → Option VarId → Type 0
-FindsLike new sample old value found = MatchOption found (All (λ n. n.1 ≡ old → value_in sample n.0 ≢ value) new) (λ w. Contains new (w, old) × (value_in sample w ≡ value))
+FindsLike new sample old value found =
+    MatchOption found (All (λ n. n.1 ≡ old → value_in sample n.0 ≢ value) new) (λ w. Contains new (w, old) × (value_in sample w ≡ value))

@@ -8,15 +8,19 @@ use Rattle.dk_classes.specs.Leaders.{leader_at}
 
 -- the leaders of samples are one list
 abbrev pub LeadersAreDetermined : Type 0
-LeadersAreDetermined = (kinds : List Kind) (samples : List (List Value)) (leaders others : List VarId) → AreLeaders kinds samples leaders → AreLeaders kinds samples others → leaders ≡ others
+LeadersAreDetermined =
+    (kinds : List Kind) (samples : List (List Value)) (leaders others : List VarId)
+    → AreLeaders kinds samples leaders → AreLeaders kinds samples others → leaders ≡ others
 
 -- two variables have one leader exactly where they are of one class
 abbrev pub LeadersTellClasses : Type 0
 LeadersTellClasses =
-    (kinds : List Kind) (samples : List (List Value)) (leaders : List VarId) → AreLeaders kinds samples leaders → (v w : ℕ) → v < length leaders → w < length leaders
+    (kinds : List Kind) (samples : List (List Value)) (leaders : List VarId)
+    → AreLeaders kinds samples leaders → (v w : ℕ) → v < length leaders → w < length leaders
     → (leader_at leaders v ≡ leader_at leaders w) ↔ InClass kinds samples v w
 
 -- a variable and its leader are of one class: they are of one kind and agree
 abbrev pub LeadersAgree : Type 0
 LeadersAgree =
-    (kinds : List Kind) (samples : List (List Value)) (leaders : List VarId) → AreLeaders kinds samples leaders → (v : ℕ) → v < length leaders → InClass kinds samples v (leader_at leaders v)
+    (kinds : List Kind) (samples : List (List Value)) (leaders : List VarId) → AreLeaders kinds samples leaders
+    → (v : ℕ) → v < length leaders → InClass kinds samples v (leader_at leaders v)

@@ -17,13 +17,15 @@ pub record AreConstants (leaders : List VarId) (samples : List (List Value)) (kn
   pub each : (v : VarId) (x : Value) → (known_at known v ≡ Some x) ↔ (Contains leaders v × HasAlways samples v x)
 
 -- the leaders that were constant in these samples and are not with one sample more, ascending, each with the value that it had
-pub record HaveEnded (leaders : List VarId) (samples : List (List Value)) (sample : List Value) (ended : List (VarId × Value)) : Type 0 where
+pub record HaveEnded (leaders : List VarId) (samples : List (List Value))
+    (sample : List Value) (ended : List (VarId × Value)) : Type 0 where
   pub ascend : EntriesAscend ended
   pub each : (v : VarId) (x : Value) → (known_at ended v ≡ Some x) ↔ (Contains leaders v × HasAlways samples v x × (value_in sample v ≢ x))
 
 -- What a sample makes of constants: each of them, and each new leader of which the old one was constant, stays constant where the
 -- sample has its value, and else has ended.
-pub record AreFed (known : List (VarId × Value)) (new : List (VarId × VarId)) (sample : List Value) (still over : List (VarId × Value)) : Type 0 where
+pub record AreFed (known : List (VarId × Value)) (new : List (VarId × VarId))
+    (sample : List Value) (still over : List (VarId × Value)) : Type 0 where
   pub still_ascend : EntriesAscend still
   pub over_ascend : EntriesAscend over
   pub stays : (v : VarId) (x : Value) → known_at still v ≡ Some x → (known_at known (old_of new v) ≡ Some x) × (value_in sample v ≡ x)

@@ -9,7 +9,9 @@ use Rattle.dk_constants.specs.Known.{Entries, known_at}
 
 -- the constants of samples are one list
 abbrev pub ConstantsAreDetermined : Type 0
-ConstantsAreDetermined = (leaders : List VarId) (samples : List (List Value)) (known others : Entries) → AreConstants leaders samples known → AreConstants leaders samples others → known ≡ others
+ConstantsAreDetermined =
+    (leaders : List VarId) (samples : List (List Value)) (known others : Entries)
+    → AreConstants leaders samples known → AreConstants leaders samples others → known ≡ others
 
 -- of no samples there are none
 abbrev pub NoSamplesHaveNone : Type 0

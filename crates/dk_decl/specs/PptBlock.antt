@@ -39,7 +39,8 @@ with_var vs o false = Ok vs
 abbrev pub vars_after : Bool → List EdgeDecl → List VarDecl → List (Line × List Line) → Option ℕ → Result (List VarDecl) LineFault
 vars_after implicit es vs [] close = Ok vs
 vars_after implicit es vs (g ∷ gs) close =
-    opened vs g.0 >>= λ o. each_line (var_line implicit es) o g.1 >>= λ w. with_var vs w (has_ended gs close) >>= λ more. vars_after implicit es more gs close
+    opened vs g.0 >>= λ o. each_line (var_line implicit es) o g.1
+    >>= λ w. with_var vs w (has_ended gs close) >>= λ more. vars_after implicit es more gs close
 
 abbrev pub point_with : List ℕ → List EdgeDecl → Result (List VarDecl) LineFault → Result PointDecl LineFault
 point_with name es vars = vars >>= λ vs. Ok (record { name = name; edges = es; vars = vs })

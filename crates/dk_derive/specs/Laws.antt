@@ -29,7 +29,9 @@ base_of vars = filter (λ v. is_base_form v.form) vars
 
 -- Where each value of the base variables is missing or of its variable's kind, so is each value of all variables.
 abbrev pub ValuesAreOfKinds : Type 0
-ValuesAreOfKinds = (vars : List VarInfo) (base : List Value) → AreWithDerived vars → AllZip IsOfKind (var_kinds (base_of vars)) base → AllZip IsOfKind (var_kinds vars) (values_by_form vars base)
+ValuesAreOfKinds =
+    (vars : List VarInfo) (base : List Value) → AreWithDerived vars
+    → AllZip IsOfKind (var_kinds (base_of vars)) base → AllZip IsOfKind (var_kinds vars) (values_by_form vars base)
 
 -- what is derived of base variables are base variables and derived ones
 abbrev pub GivesDerived : Type 0
@@ -42,7 +44,8 @@ is_derived_of orig base v = not (is_base_form v.form) && beq (is_orig (var_at ba
 -- q plain sequences and n plain whole numbers give 3 q + 5 q n derived variables, and orig ones likewise.
 abbrev pub DerivedAreCounted : Type 0
 DerivedAreCounted = (orig : Bool) (base : List VarInfo) → All IsBaseVar base
-    → length (filter (is_derived_of orig base) (with_derived_vars base)) ≡ 3 * number_of_sequences orig base + 5 * (number_of_sequences orig base * number_of_ints orig base)
+    → length (filter (is_derived_of orig base) (with_derived_vars base))
+    ≡ 3 * number_of_sequences orig base + 5 * (number_of_sequences orig base * number_of_ints orig base)
 
 -- whether the derived value is there, and not missing
 abbrev pub is_there : List Value → Form → Bool
@@ -59,7 +62,9 @@ pub record AreThereWithin (base : List Value) (s i : VarId) (n : ℕ) (z : ℤ) 
   pub after : is_there base (form.After s i) ≡ (int_le (negsuc 0) z && int_lt z (pos n))
 
 abbrev pub ValuesAreWithin : Type 0
-ValuesAreWithin = (base : List Value) (s i : VarId) (n : ℕ) (z : ℤ) → size (at base s) ≡ value.Int (pos n) → at base i ≡ value.Int z → AreThereWithin base s i n z
+ValuesAreWithin =
+    (base : List Value) (s i : VarId) (n : ℕ) (z : ℤ) → size (at base s) ≡ value.Int (pos n)
+    → at base i ≡ value.Int z → AreThereWithin base s i n z
 
 -- what is derived by an index is missing
 pub record AreMissingBy (base : List Value) (s i : VarId) : Type 0 where
@@ -91,5 +96,6 @@ all_vars_of ps i = with_derived_vars (vars_of ps i)
 
 -- A variable and its partner are alike.
 abbrev pub PartnersAreAlike : Type 0
-PartnersAreAlike = (ps : List Point) (e : Edge) (w v : ℕ) → partner_with_derived ps e (all_vars_of ps e.parent.0) (all_vars_of ps e.child.0) w ≡ Some v
+PartnersAreAlike =
+    (ps : List Point) (e : Edge) (w v : ℕ) → partner_with_derived ps e (all_vars_of ps e.parent.0) (all_vars_of ps e.child.0) w ≡ Some v
     → IsSomeAnd (slice_get (all_vars_of ps e.parent.0) w) (λ p. IsSomeAnd (slice_get (all_vars_of ps e.child.0) v) (IsAlike p))

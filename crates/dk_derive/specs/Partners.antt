@@ -53,7 +53,8 @@ place_of_form child f = position (λ v. same_form f v.form) child
 -- the partner of the parent's variable w, which has this form, through the edge: of a base variable it is a base variable, of a derived
 -- one the child's variable that is derived in the same way of its bases' partners
 abbrev pub partner_by_form : List Point → Edge → List VarInfo → ℕ → Form → Option ℕ
-partner_by_form ps e child w f = if is_base_form f then partner_of ps e w else option_and_then (place_of_form child) (form_through (partner_of ps e) f)
+partner_by_form ps e child w f =
+    if is_base_form f then partner_of ps e w else option_and_then (place_of_form child) (form_through (partner_of ps e) f)
 
 -- The partner among the child's variables of the parent's variable at this place, derived ones included.
 unfoldable pub partner_with_derived : List Point → Edge → List VarInfo → List VarInfo → ℕ → Option ℕ

@@ -31,7 +31,12 @@ var_at base v = slice_index_or base v no_var
 
 -- the variable of this kind and form over a sequence and an index
 abbrev pub var_over : VarInfo → VarInfo → Shape → VarInfo
-var_over s i d = record { name = name_over (is_orig s.form) (plain_name s) (plain_name i) d.form; kind = d.kind; form = d.form; compar = compar_over s.compar d.form }
+var_over s i d = record {
+  name = name_over (is_orig s.form) (plain_name s) (plain_name i) d.form;
+  kind = d.kind;
+  form = d.form;
+  compar = compar_over s.compar d.form;
+}
 
 abbrev pub derived_var : List VarInfo → Shape → VarInfo
 derived_var base d = var_over (var_at base (bases_of d.form).0) (var_at base (bases_of d.form).1) d

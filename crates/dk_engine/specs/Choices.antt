@@ -30,4 +30,5 @@ touched_choices now (suc k) (suc n) = other_leaders now ∷ touched_choices now 
 -- at the others any leaders that don't touch
 abbrev pub freed_choices : Now → Premise → List VarId → ℕ → ℕ → List (List VarId)
 freed_choices now p lost k zero = []
-freed_choices now p lost k (suc n) = (if list_any (λ role. role == k) (roles_read p) then lost else other_leaders now) ∷ freed_choices now p lost (k + 1) n
+freed_choices now p lost k (suc n) =
+    (if list_any (λ role. role == k) (roles_read p) then lost else other_leaders now) ∷ freed_choices now p lost (k + 1) n

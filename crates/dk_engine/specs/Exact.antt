@@ -40,7 +40,8 @@ pub record IsOverLeaders (grammar : Grammar) (infos : List VarInfo) (leaders : L
 -- ---- slots
 -- A slot of the samples, of which there are some. It is a row over leaders in its written order, repeats allowed, that aren't all
 -- constant. Its state is the row's fit, which isn't Broken and which no rule suppresses.
-pub record IsSlot (grammar : Grammar) (infos : List VarInfo) (samples : List (List Value)) (leaders : List VarId) (known : Entries) (slot : Slot) : Type 0 where
+pub record IsSlot (grammar : Grammar) (infos : List VarInfo) (samples : List (List Value))
+    (leaders : List VarId) (known : Entries) (slot : Slot) : Type 0 where
   pub some : 0 < length samples
   pub over : IsOverLeaders grammar infos leaders slot.row slot.leaders
   pub written : IsTrue (is_written slot.row slot.leaders)
@@ -54,7 +55,8 @@ abbrev pub SlotBefore : Slot → Slot → Type 0
 SlotBefore a b = ComesBefore (a.row, a.leaders) (b.row, b.leaders)
 
 -- exactly the slots of the samples, ascending, so none comes twice
-pub record AreSlots (grammar : Grammar) (infos : List VarInfo) (samples : List (List Value)) (leaders : List VarId) (known : Entries) (slots : List Slot) : Type 0 where
+pub record AreSlots (grammar : Grammar) (infos : List VarInfo) (samples : List (List Value))
+    (leaders : List VarId) (known : Entries) (slots : List Slot) : Type 0 where
   pub ascend : AllPairs SlotBefore slots
   pub each : (slot : Slot) → Contains slots slot ↔ IsSlot grammar infos samples leaders known slot
 

@@ -32,7 +32,8 @@ use Rattle.dk_engine.specs.declared.slot.Slot.{Slot}
 -- ---- one sample more
 -- a state of variables with one sample more, which counts where none of them is missing
 abbrev pub with_sample : RowId → List VarId → List Value → State → State
-with_sample row vars sample s = if is_whole (tuple_in vars sample) then joined (form_of row) s (state_of row (tuple_in vars sample ∷ [])) else s
+with_sample row vars sample s =
+    if is_whole (tuple_in vars sample) then joined (form_of row) s (state_of row (tuple_in vars sample ∷ [])) else s
 
 -- The state of a row over variables with one sample more, by what was kept before it. A leader that is new is read as its old one.
 unfoldable pub read_after : Kept → List Value → RowId → List VarId → State
@@ -55,12 +56,15 @@ is_broken _ = false
 -- nor suppressed
 abbrev pub has_slot : List VarInfo → Entries → (RowId → List VarId → State) → RowId → List VarId → Bool
 has_slot infos known answered row vars =
-    admits row infos vars && (is_written row vars && (not (all_known known vars) && (not (is_broken (answered row vars)) && not (is_suppressed answered row vars))))
+    admits row infos vars
+    && (is_written row vars
+    && (not (all_known known vars) && (not (is_broken (answered row vars)) && not (is_suppressed answered row vars))))
 
 -- a row's slots over these leaders, by the variables in the order of the roles
 abbrev pub slots_of_row : List VarInfo → List VarId → Entries → (RowId → List VarId → State) → RowId → List Slot
 slots_of_row infos leaders known answered row =
-    map (λ vars. record { row = row; leaders = vars; state = answered row vars }) (filter (has_slot infos known answered row) (tuples_over (arity_of row) leaders))
+    map (λ vars. record { row = row; leaders = vars; state = answered row vars })
+    (filter (has_slot infos known answered row) (tuples_over (arity_of row) leaders))
 
 -- all slots over these leaders, by row
 unfoldable pub slots_of : Grammar → List VarInfo → List VarId → Entries → (RowId → List VarId → State) → List Slot
@@ -88,7 +92,8 @@ parts_after n held sample now slots = record {
 -- all parts by a plain sweep: the slots are those that reading gives
 pub record IsFed (grammar : Grammar) (infos : List VarInfo) (kept : Kept) (sample : List Value) (now : Now) (after : Kept) : Type 0 where
   pub turned : IsTurned kept sample now
-  pub parts : after ≡ parts_after kept.samples kept.held sample now (slots_of grammar infos (own_leaders now.leaders) now.known (read_after kept sample))
+  pub parts : after
+      ≡ parts_after kept.samples kept.held sample now (slots_of grammar infos (own_leaders now.leaders) now.known (read_after kept sample))
 
 -- where no class splits and no constant ends
 abbrev pub unchanged_now : Kept → Now

@@ -37,12 +37,14 @@ OfKept P =
 
 -- the state of each row over variables that it admits, in any order and with any repeats
 abbrev pub ReadingIsFit : Type 0
-ReadingIsFit = OfKept (λ grammar infos samples kept. (row : RowId) → IsRowOf grammar row → (vars : List VarId) → IsTrue (admits row infos vars)
+ReadingIsFit = OfKept (λ grammar infos samples kept. (row : RowId)
+    → IsRowOf grammar row → (vars : List VarId) → IsTrue (admits row infos vars)
     → state_read kept row vars ≡ fit row vars samples)
 
 -- the counts
 abbrev pub CountReadIsCount : Type 0
-CountReadIsCount = OfKept (λ grammar infos samples kept. (vars : List VarId) → AreThere infos vars → count_read kept vars ≡ count_of vars samples)
+CountReadIsCount =
+    OfKept (λ grammar infos samples kept. (vars : List VarId) → AreThere infos vars → count_read kept vars ≡ count_of vars samples)
 
 -- agreement
 abbrev pub AgreeReadIsAgreement : Type 0
@@ -55,36 +57,42 @@ KeptPartsMeetTheirConditions = OfKept (λ grammar infos samples kept. AreParts g
 
 -- what is kept of 1 to 2^40 samples is saved as parts of which an engine can be made
 abbrev pub KeptPartsAreSaved : Type 0
-KeptPartsAreSaved = OfKept (λ grammar infos samples kept. 1 ≤ length samples → length samples ≤ 2 ^ 40 → AreSavedParts grammar infos (parts_of kept))
+KeptPartsAreSaved =
+    OfKept (λ grammar infos samples kept. 1 ≤ length samples → length samples ≤ 2 ^ 40 → AreSavedParts grammar infos (parts_of kept))
 
 -- a row that admits variables admits their leaders: these are of the same kinds, and base variables stand first
 abbrev pub LeadersAreAdmitted : Type 0
 LeadersAreAdmitted =
-    (infos : List VarInfo) → AreOfPoint infos → (samples : List (List Value)) (leaders : List VarId) → AreLeaders (var_kinds infos) samples leaders
+    (infos : List VarInfo) → AreOfPoint infos → (samples : List (List Value)) (leaders : List VarId)
+    → AreLeaders (var_kinds infos) samples leaders
     → (row : RowId) (vars : List VarId) → IsTrue (admits row infos vars) → IsTrue (admits row infos (leaders_of leaders vars))
 
 -- ---- one sample more
 -- the states with one sample more
 abbrev pub ReadAfterIsFit : Type 0
-ReadAfterIsFit = OfKept (λ grammar infos samples kept. (sample : List Value) → (row : RowId) → IsRowOf grammar row → (vars : List VarId) → IsTrue (admits row infos vars)
+ReadAfterIsFit = OfKept (λ grammar infos samples kept. (sample : List Value) → (row : RowId)
+    → IsRowOf grammar row → (vars : List VarId) → IsTrue (admits row infos vars)
     → read_after kept sample row vars ≡ fit row vars (samples ++ sample ∷ []))
 
 -- the slots that the fits of some samples give are the slots of the samples
 abbrev pub SlotsOfFitsAreExact : Type 0
 SlotsOfFitsAreExact =
-    (grammar : Grammar) (infos : List VarInfo) (samples : List (List Value)) → 0 < length samples → (leaders : List VarId) → VarsAscend (own_leaders leaders) → (known : Entries)
+    (grammar : Grammar) (infos : List VarInfo) (samples : List (List Value)) → 0 < length samples
+    → (leaders : List VarId) → VarsAscend (own_leaders leaders) → (known : Entries)
     → AreSlots grammar infos samples leaders known (slots_of grammar infos (own_leaders leaders) known (fit_of samples))
 
 -- the parts with one sample more are what an engine keeps of the samples and that one
 abbrev pub FedPartsAreExact : Type 0
-FedPartsAreExact = OfKept (λ grammar infos samples kept. (sample : List Value) → IsSample infos sample → (now : Now) (after : Kept) → IsFed grammar infos kept sample now after
+FedPartsAreExact = OfKept (λ grammar infos samples kept. (sample : List Value)
+    → IsSample infos sample → (now : Now) (after : Kept) → IsFed grammar infos kept sample now after
     → IsKeptOf grammar infos (samples ++ sample ∷ []) after)
 
 -- ---- uniqueness
 -- the slots of samples are one list
 abbrev pub SlotsAreDetermined : Type 0
 SlotsAreDetermined =
-    (grammar : Grammar) (infos : List VarInfo) (samples : List (List Value)) (leaders : List VarId) (known : Entries) (slots others : List Slot)
+    (grammar : Grammar) (infos : List VarInfo) (samples : List (List Value))
+    (leaders : List VarId) (known : Entries) (slots others : List Slot)
     → AreSlots grammar infos samples leaders known slots → AreSlots grammar infos samples leaders known others → slots ≡ others
 
 -- the same parts, their patterns in any order
@@ -98,10 +106,12 @@ pub record AreSameParts (kept other : Kept) : Type 0 where
 -- what is kept of samples is so too
 abbrev pub KeptPartsAreDetermined : Type 0
 KeptPartsAreDetermined =
-    (grammar : Grammar) (infos : List VarInfo) (samples : List (List Value)) (kept other : Kept) → IsKeptOf grammar infos samples kept → IsKeptOf grammar infos samples other → AreSameParts kept other
+    (grammar : Grammar) (infos : List VarInfo) (samples : List (List Value)) (kept other : Kept)
+    → IsKeptOf grammar infos samples kept → IsKeptOf grammar infos samples other → AreSameParts kept other
 
 -- ---- order
 -- what is kept of samples is kept of them in any order
 abbrev pub OrderDoesNotMatter : Type 0
 OrderDoesNotMatter =
-    (grammar : Grammar) (infos : List VarInfo) (samples others : List (List Value)) → IsPermutation samples others → (kept : Kept) → IsKeptOf grammar infos samples kept → IsKeptOf grammar infos others kept
+    (grammar : Grammar) (infos : List VarInfo) (samples others : List (List Value)) → IsPermutation samples others
+    → (kept : Kept) → IsKeptOf grammar infos samples kept → IsKeptOf grammar infos others kept

@@ -17,7 +17,8 @@ var_bound = 4294967296
 
 -- a number by which slots ascend: the row's, and then those of the leaders
 unfoldable pub slot_number : Slot → ℕ
-slot_number slot = ((slot.row.0 * var_bound + var_in slot.leaders 0) * var_bound + var_in slot.leaders 1) * var_bound + var_in slot.leaders 2
+slot_number slot =
+    ((slot.row.0 * var_bound + var_in slot.leaders 0) * var_bound + var_in slot.leaders 1) * var_bound + var_in slot.leaders 2
 
 -- as many leaders as the row has roles, each with a number of 32 bits
 pub record HasNumber (slot : Slot) : Type 0 where

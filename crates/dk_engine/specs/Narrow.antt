@@ -102,7 +102,8 @@ pub record AreLeft (after : Answer) (sample : List Value) (slots left : List Slo
   pub each : (slot : Slot) → Contains left slot ↔ ((old : Slot) × Contains slots old × IsLeftOf after sample old slot)
 
 -- what the candidates get, ascending
-pub record AreOpened (after : Answer) (slots : List Slot) (known : Entries) (candidates : List (RowId × List VarId)) (opened : List Slot) : Type 0 where
+pub record AreOpened (after : Answer) (slots : List Slot) (known : Entries)
+    (candidates : List (RowId × List VarId)) (opened : List Slot) : Type 0 where
   pub ascend : AllPairs SlotBefore opened
   pub each : (slot : Slot) → Contains opened slot ↔ IsOpened after slots known candidates slot
 
@@ -118,16 +119,20 @@ lost_places slots changes = map (λ (c : Change). c.place) (filter (loses_by slo
 
 -- those that the slots at these places free
 abbrev pub freed_by_all : List VarInfo → Entries → Answer → List VarId → List Slot → List ℕ → List Slot
-freed_by_all infos known after leaders slots lost = flat_map (λ k. freed_slots infos known after leaders (slot_in slots k).row (slot_in slots k).leaders) lost
+freed_by_all infos known after leaders slots lost =
+    flat_map (λ k. freed_slots infos known after leaders (slot_in slots k).row (slot_in slots k).leaders) lost
 
 -- slots over tuples that the sample touches, and over those with the leaders of a slot by which a premise is lost
 unfoldable pub opened_slots : Grammar → List VarInfo → Answer → List Slot → Now → List ℕ → List Slot
 opened_slots grammar infos after slots now lost =
     let leaders = own_leaders now.leaders in
-    touched_slots grammar infos now.known after (touching_leaders now) (other_leaders now) leaders ++ freed_by_all infos now.known after leaders slots lost
+    touched_slots grammar infos now.known after (touching_leaders now) (other_leaders now) leaders
+    ++ freed_by_all infos now.known after leaders slots lost
 
 -- the parts with what the sample leaves of the slots and what it opens
-pub record IsMergedStep (grammar : Grammar) (infos : List VarInfo) (kept : Kept) (sample : List Value) (now : Now) (lost : List ℕ) (after : Kept) : Type 0 where
+pub record IsMergedStep (grammar : Grammar) (infos : List VarInfo) (kept : Kept)
+    (sample : List Value) (now : Now) (lost : List ℕ) (after : Kept) : Type 0 where
   pub slots : List Slot
-  pub together : AreTogether (slots_left (outcome true (read_after kept sample) sample) kept.slots ++ opened_slots grammar infos (read_after kept sample) kept.slots now lost) slots
+  pub together : AreTogether (slots_left (outcome true (read_after kept sample) sample) kept.slots
+      ++ opened_slots grammar infos (read_after kept sample) kept.slots now lost) slots
   pub parts : after ≡ parts_after kept.samples kept.held sample now slots

@@ -37,7 +37,8 @@ pub record IsNow (infos : List VarInfo) (samples : List (List Value)) (sample : 
   pub ended : HaveEnded (own_leaders now.leaders) samples sample now.ended
 
 -- what is kept is kept of some samples, and one sample more made these other parts of it
-pub record IsStep (grammar : Grammar) (infos : List VarInfo) (samples : List (List Value)) (sample : List Value) (kept : Kept) (now : Now) : Type 0 where
+pub record IsStep (grammar : Grammar) (infos : List VarInfo) (samples : List (List Value))
+    (sample : List Value) (kept : Kept) (now : Now) : Type 0 where
   pub some : 0 < length samples
   pub all : AreSamples infos (samples ++ sample ∷ [])
   pub before : IsKeptOf grammar infos samples kept
@@ -50,7 +51,8 @@ Answer = RowId → List VarId → State
 
 -- of each row of the grammar over variables that it admits it tells the fit
 pub record Tells (grammar : Grammar) (infos : List VarInfo) (samples : List (List Value)) (answered : Answer) : Type 0 where
-  pub each : (row : RowId) → IsRowOf grammar row → (vars : List VarId) → IsTrue (admits row infos vars) → answered row vars ≡ fit row vars samples
+  pub each : (row : RowId) → IsRowOf grammar row → (vars : List VarId)
+      → IsTrue (admits row infos vars) → answered row vars ≡ fit row vars samples
 
 -- ---- premises
 -- a premise of one of the row's rules
@@ -87,7 +89,8 @@ touches now v = is_new now.new v || is_some (known_at now.ended v)
 abbrev pub is_touched : Now → List VarId → Bool
 is_touched now vars = list_any (touches now) vars
 
-module _ (grammar : Grammar) (infos : List VarInfo) (before after : Answer) (slots : List Slot) (now : Now) (candidates : List (RowId × List VarId)) where
+module _ (grammar : Grammar) (infos : List VarInfo) (before after : Answer)
+    (slots : List Slot) (now : Now) (candidates : List (RowId × List VarId)) where
   -- An untouched tuple that a rule suppressed before, and none does after: a premise is lost that had a slot, or is a candidate itself.
   -- Where it is Broken now it counts if it can be a premise in turn.
   pub record IsFreed (row : RowId) (vars : List VarId) : Type 0 where
@@ -99,7 +102,8 @@ module _ (grammar : Grammar) (infos : List VarInfo) (before after : Answer) (slo
     pub premise : Premise
     pub of_row : IsPremiseOf row premise
     pub lost : IsTrue (is_lost before after premise vars)
-    pub reached : IsSome (slot_at slots (row_of premise) (slot_vars premise vars)) ⊎ Contains candidates (row_of premise, slot_vars premise vars)
+    pub reached : IsSome (slot_at slots (row_of premise) (slot_vars premise vars))
+        ⊎ Contains candidates (row_of premise, slot_vars premise vars)
 
   -- the candidates have the freed tuples of the rows of a rank below n
   abbrev pub HaveFreedBelow : ℕ → Type 0
@@ -109,7 +113,8 @@ module _ (grammar : Grammar) (infos : List VarInfo) (before after : Answer) (slo
   -- do no harm.
   pub record AreCandidates : Type 0 where
     pub placed : All (λ (c : RowId × List VarId). IsPlaced grammar infos now.leaders c.0 c.1) candidates
-    pub touched : (row : RowId) (vars : List VarId) → IsPlaced grammar infos now.leaders row vars → IsTrue (is_touched now vars) → after row vars ≢ Broken → Contains candidates (row, vars)
+    pub touched : (row : RowId) (vars : List VarId) → IsPlaced grammar infos now.leaders row vars
+        → IsTrue (is_touched now vars) → after row vars ≢ Broken → Contains candidates (row, vars)
     pub freed : (row : RowId) (vars : List VarId) → IsFreed row vars → Contains candidates (row, vars)
 
 -- An old slot by which a premise is lost: the premise is content with its state, and not with that after the sample. Its row reaches
@@ -160,7 +165,8 @@ pub record IsLeftOf (after : Answer) (sample : List Value) (old slot : Slot) : T
   pub unsuppressed : IsTrue (can_close old) → is_suppressed after slot.row slot.leaders ≡ false
 
 -- what a candidate without a slot gets
-pub record IsOpened (after : Answer) (slots : List Slot) (known : Entries) (candidates : List (RowId × List VarId)) (slot : Slot) : Type 0 where
+pub record IsOpened (after : Answer) (slots : List Slot) (known : Entries)
+    (candidates : List (RowId × List VarId)) (slot : Slot) : Type 0 where
   pub candidate : Contains candidates (slot.row, slot.leaders)
   pub unkept : slot_at slots slot.row slot.leaders ≡ None
   pub varies : all_known known slot.leaders ≡ false
@@ -170,10 +176,12 @@ pub record IsOpened (after : Answer) (slots : List Slot) (known : Entries) (cand
 
 -- a slot with one sample more: what the sample leaves of an old one, or what a candidate gets
 abbrev pub IsSteppedSlot : Answer → List Value → List Slot → Entries → List (RowId × List VarId) → Slot → Type 0
-IsSteppedSlot after sample slots known candidates slot = ((old : Slot) × Contains slots old × IsLeftOf after sample old slot) ⊎ IsOpened after slots known candidates slot
+IsSteppedSlot after sample slots known candidates slot =
+    ((old : Slot) × Contains slots old × IsLeftOf after sample old slot) ⊎ IsOpened after slots known candidates slot
 
 -- all of them, ascending
-pub record IsStepped (after : Answer) (sample : List Value) (slots : List Slot) (known : Entries) (candidates : List (RowId × List VarId)) (stepped : List Slot) : Type 0 where
+pub record IsStepped (after : Answer) (sample : List Value) (slots : List Slot) (known : Entries)
+    (candidates : List (RowId × List VarId)) (stepped : List Slot) : Type 0 where
   pub ascend : AllPairs SlotBefore stepped
   pub each : (slot : Slot) → Contains stepped slot ↔ IsSteppedSlot after sample slots known candidates slot
 

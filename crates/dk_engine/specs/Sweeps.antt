@@ -16,7 +16,8 @@ use Rattle.dk_engine.specs.declared.slot.Slot.{Slot}
 module _ (infos : List VarInfo) (known : Entries) (answered : RowId → List VarId → State) (row : RowId) where
   -- the slot of the leaders, if they have one
   abbrev pub considered : List VarId → List Slot
-  considered vars = map (λ vs. record { row = row; leaders = vs; state = answered row vs }) (filter (has_slot infos known answered row) (vars ∷ []))
+  considered vars =
+      map (λ vs. record { row = row; leaders = vs; state = answered row vs }) (filter (has_slot infos known answered row) (vars ∷ []))
 
   -- those of one leader of the list each; of a leader and one of the list; and of two and one of the list
   abbrev pub firsts : List VarId → List Slot
@@ -46,14 +47,18 @@ module _ (infos : List VarInfo) (known : Entries) (answered : RowId → List Var
   threes_with_one of before leaders = triples of leaders leaders ++ triples before of leaders ++ triples before before of
 
   abbrev pub with_one : List VarId → List VarId → List VarId → List Slot
-  with_one of before leaders = if arity_of row == 1 then firsts of else if arity_of row == 2 then twos_with_one of before leaders else threes_with_one of before leaders
+  with_one of before leaders =
+      if arity_of row == 1 then firsts of
+      else if arity_of row == 2 then twos_with_one of before leaders
+      else threes_with_one of before leaders
 
   -- those with two leaders, in this order, at any two of the roles
   abbrev pub threes_with_two : VarId → VarId → List VarId → List Slot
   threes_with_two v w leaders = triples (v ∷ []) (w ∷ []) leaders ++ triples (v ∷ []) leaders (w ∷ []) ++ triples leaders (v ∷ []) (w ∷ [])
 
   abbrev pub with_two : VarId → VarId → List VarId → List Slot
-  with_two v w leaders = if arity_of row == 1 then [] else if arity_of row == 2 then pairs (v ∷ []) (w ∷ []) else threes_with_two v w leaders
+  with_two v w leaders =
+      if arity_of row == 1 then [] else if arity_of row == 2 then pairs (v ∷ []) (w ∷ []) else threes_with_two v w leaders
 
   -- those with two leaders, which may be one
   abbrev pub with_ends : VarId → VarId → List VarId → List Slot
@@ -64,8 +69,10 @@ module _ (infos : List VarInfo) (known : Entries) (answered : RowId → List Var
   with_both lost leaders = with_ends (slice_index_or lost 0 (var 0)) (slice_index_or lost (length lost - 1) (var 0)) leaders
 
 -- those of all rows with a leader that touches them, by the first one that does
-unfoldable pub touched_slots : Grammar → List VarInfo → Entries → (RowId → List VarId → State) → List VarId → List VarId → List VarId → List Slot
-touched_slots grammar infos known answered touching others leaders = flat_map (λ row. with_one infos known answered row touching others leaders) (rows_of grammar)
+unfoldable pub touched_slots : Grammar → List VarInfo → Entries
+    → (RowId → List VarId → State) → List VarId → List VarId → List VarId → List Slot
+touched_slots grammar infos known answered touching others leaders =
+    flat_map (λ row. with_one infos known answered row touching others leaders) (rows_of grammar)
 
 -- those of the rows that a row reaches, with the leaders of a slot
 unfoldable pub freed_slots : List VarInfo → Entries → (RowId → List VarId → State) → List VarId → RowId → List VarId → List Slot

@@ -33,22 +33,29 @@ FitsOfNoSamples = (row : RowId) → IsRow row → (vars : List VarId) → fit ro
 
 -- on two lists of samples together
 abbrev pub FitsJoin : Type 0
-FitsJoin = (row : RowId) → IsRow row → (vars : List VarId) (first second : List (List Value)) → fit row vars (first ++ second) ≡ joined (form_of row) (fit row vars first) (fit row vars second)
+FitsJoin =
+    (row : RowId) → IsRow row → (vars : List VarId) (first second : List (List Value))
+    → fit row vars (first ++ second) ≡ joined (form_of row) (fit row vars first) (fit row vars second)
 
 -- on the same samples in any order and with any repeats
 abbrev pub FitsAreOfSets : Type 0
-FitsAreOfSets = (row : RowId) → IsRow row → (vars : List VarId) (first second : List (List Value)) → SameSet first second → fit row vars first ≡ fit row vars second
+FitsAreOfSets =
+    (row : RowId) → IsRow row → (vars : List VarId) (first second : List (List Value))
+    → SameSet first second → fit row vars first ≡ fit row vars second
 
 -- a sample more: one in which a variable is missing changes nothing, and any other one joins with its tuple
 abbrev pub SamplesJoinOneByOne : Type 0
 SamplesJoinOneByOne =
     (row : RowId) → IsRow row → (vars : List VarId) (samples : List (List Value)) (sample : List Value)
-    → fit row vars (samples ++ sample ∷ []) ≡ (if is_whole (tuple_in vars sample) then joined (form_of row) (fit row vars samples) (state_of row (tuple_in vars sample ∷ [])) else fit row vars samples)
+    → fit row vars (samples ++ sample ∷ [])
+    ≡ (if is_whole (tuple_in vars sample) then joined (form_of row) (fit row vars samples) (state_of row (tuple_in vars sample ∷ []))
+    else fit row vars samples)
 
 -- over variables that have one tuple in all samples
 abbrev pub FitsOfOneTuple : Type 0
 FitsOfOneTuple =
-    (row : RowId) → IsRow row → (vars : List VarId) (tuple : List Value) (samples : List (List Value)) → 0 < length samples → All (λ s. tuple_in vars s ≡ tuple) samples
+    (row : RowId) → IsRow row → (vars : List VarId) (tuple : List Value) (samples : List (List Value))
+    → 0 < length samples → All (λ s. tuple_in vars s ≡ tuple) samples
     → fit row vars samples ≡ (if is_whole tuple then state_of row (tuple ∷ []) else Empty)
 
 -- one of the variables is missing in the sample, or their values satisfy the row's relation
@@ -75,7 +82,8 @@ pub record IsSample (infos : List VarInfo) (sample : List Value) : Type 0 where
 -- over variables that the row admits, on samples of them
 abbrev pub FitsAreProper : Type 0
 FitsAreProper =
-    (row : RowId) → IsRow row → (infos : List VarInfo) (vars : List VarId) → admits row infos vars ≡ true → (samples : List (List Value)) → All (IsSample infos) samples
+    (row : RowId) → IsRow row → (infos : List VarInfo) (vars : List VarId)
+    → admits row infos vars ≡ true → (samples : List (List Value)) → All (IsSample infos) samples
     → IsProper (form_of row) (fit row vars samples)
 
 -- ---- variables in another order
@@ -89,13 +97,15 @@ may_exchange symmetry.Arguments Last = true
 -- over variables of which two such neighbours are exchanged
 abbrev pub SymmetricRowsExchange : Type 0
 SymmetricRowsExchange =
-    (row : RowId) → IsRow row → (e : Exchange) → may_exchange (template_of row).symmetry e ≡ true → (vars : List VarId) → length vars ≡ arity_of row → (samples : List (List Value))
+    (row : RowId) → IsRow row → (e : Exchange) → may_exchange (template_of row).symmetry e ≡ true
+    → (vars : List VarId) → length vars ≡ arity_of row → (samples : List (List Value))
     → fit row (exchange e vars) samples ≡ exchanged e (fit row vars samples)
 
 -- over variables in any order: the fit over them in written order, turned
 abbrev pub FitsTurn : Type 0
 FitsTurn =
-    (row : RowId) → IsRow row → (vars : List VarId) → length vars ≡ arity_of row → (samples : List (List Value)) → fit row vars samples ≡ turned_state row vars (fit row (written_order row vars) samples)
+    (row : RowId) → IsRow row → (vars : List VarId) → length vars ≡ arity_of row → (samples : List (List Value))
+    → fit row vars samples ≡ turned_state row vars (fit row (written_order row vars) samples)
 
 -- ---- counts
 -- the number of the tuples
@@ -104,7 +114,9 @@ CountsAreOfTuples = (vars : List VarId) (samples : List (List Value)) → count_
 
 -- on two lists of samples together
 abbrev pub CountsAdd : Type 0
-CountsAdd = (vars : List VarId) (first second : List (List Value)) → count_of vars (first ++ second) ≡ capped (count_of vars first + count_of vars second)
+CountsAdd =
+    (vars : List VarId) (first second : List (List Value))
+    → count_of vars (first ++ second) ≡ capped (count_of vars first + count_of vars second)
 
 -- of no variables
 abbrev pub CountsOfNoVariables : Type 0
@@ -116,15 +128,21 @@ abbrev pub AreAlike : List (List Value) → List VarId → List VarId → Type 0
 AreAlike samples vars others = AllZip (Agree samples) vars others
 
 abbrev pub AgreeingVariablesFitAlike : Type 0
-AgreeingVariablesFitAlike = (samples : List (List Value)) (vars others : List VarId) → AreAlike samples vars others → (row : RowId) → fit row vars samples ≡ fit row others samples
+AgreeingVariablesFitAlike =
+    (samples : List (List Value)) (vars others : List VarId) → AreAlike samples vars others
+    → (row : RowId) → fit row vars samples ≡ fit row others samples
 
 abbrev pub AgreeingVariablesCountAlike : Type 0
-AgreeingVariablesCountAlike = (samples : List (List Value)) (vars others : List VarId) → AreAlike samples vars others → count_of vars samples ≡ count_of others samples
+AgreeingVariablesCountAlike =
+    (samples : List (List Value)) (vars others : List VarId)
+    → AreAlike samples vars others → count_of vars samples ≡ count_of others samples
 
 -- ---- instances
 -- exactly these are listed
 abbrev pub InstancesAreListed : Type 0
-InstancesAreListed = (grammar : Grammar) (infos : List VarInfo) (row : RowId) (vars : List VarId) → Contains (instances_of grammar infos) (row, vars) ↔ IsInstance grammar infos row vars
+InstancesAreListed =
+    (grammar : Grammar) (infos : List VarInfo) (row : RowId) (vars : List VarId)
+    → Contains (instances_of grammar infos) (row, vars) ↔ IsInstance grammar infos row vars
 
 -- each of them comes before the later ones, so none comes twice
 abbrev pub InstancesAscend : Type 0

@@ -24,11 +24,14 @@ LinesHaveAllPoints = (points : List (ℤ × ℤ)) (l : ℤ × ℤ × ℤ) → li
 
 -- and it is the only one
 abbrev pub PointsHaveOneLine : Type 0
-PointsHaveOneLine = (points : List (ℤ × ℤ)) (l m : ℤ × ℤ × ℤ) → line_of points ≡ Straight l.0 l.1 l.2 → IsStraight m → Each (IsOn m) points → m ≡ l
+PointsHaveOneLine =
+    (points : List (ℤ × ℤ)) (l m : ℤ × ℤ × ℤ) → line_of points ≡ Straight l.0 l.1 l.2 → IsStraight m → Each (IsOn m) points → m ≡ l
 
 -- points within the limit have none where their state is Broken
 abbrev pub BrokenPointsHaveNoLine : Type 0
-BrokenPointsHaveNoLine = (points : List (ℤ × ℤ)) (m : ℤ × ℤ × ℤ) → line_of points ≡ Broken → Each (λ p. in_limit p ≡ true) points → IsStraight m → Each (IsOn m) points → ⊥
+BrokenPointsHaveNoLine =
+    (points : List (ℤ × ℤ)) (m : ℤ × ℤ × ℤ) → line_of points ≡ Broken
+    → Each (λ p. in_limit p ≡ true) points → IsStraight m → Each (IsOn m) points → ⊥
 
 -- ---- planes
 -- the plane of points is one in which all of them are
@@ -37,8 +40,12 @@ PlanesHaveAllPoints = (points : List (ℤ × ℤ × ℤ)) (n : ℤ × ℤ × ℤ
 
 -- and it is the only one
 abbrev pub PointsHaveOnePlane : Type 0
-PointsHaveOnePlane = (points : List (ℤ × ℤ × ℤ)) (n m : ℤ × ℤ × ℤ × ℤ) → plane_of points ≡ Plane n.0 n.1 n.2 n.3 → IsPlane m → Each (IsInPlane m) points → m ≡ n
+PointsHaveOnePlane =
+    (points : List (ℤ × ℤ × ℤ)) (n m : ℤ × ℤ × ℤ × ℤ)
+    → plane_of points ≡ Plane n.0 n.1 n.2 n.3 → IsPlane m → Each (IsInPlane m) points → m ≡ n
 
 -- points within the limit have none where their state is Broken
 abbrev pub BrokenPointsHaveNoPlane : Type 0
-BrokenPointsHaveNoPlane = (points : List (ℤ × ℤ × ℤ)) (m : ℤ × ℤ × ℤ × ℤ) → plane_of points ≡ Broken → Each (λ p. in_space p ≡ true) points → IsPlane m → Each (IsInPlane m) points → ⊥
+BrokenPointsHaveNoPlane =
+    (points : List (ℤ × ℤ × ℤ)) (m : ℤ × ℤ × ℤ × ℤ) → plane_of points ≡ Broken
+    → Each (λ p. in_space p ≡ true) points → IsPlane m → Each (IsInPlane m) points → ⊥

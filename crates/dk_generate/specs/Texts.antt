@@ -14,7 +14,8 @@ line text = text ++ codes "\n"
 
 -- the lines of a variable; at a point with a parent those of the stack have one line more
 abbrev pub variable_lines : List ℕ → List ℕ → List ℕ → List ℕ
-variable_lines name var_kind rep_type = line (codes "variable " ++ name) ++ (line (codes "var-kind " ++ var_kind) ++ line (codes "rep-type " ++ rep_type))
+variable_lines name var_kind rep_type =
+    line (codes "variable " ++ name) ++ (line (codes "var-kind " ++ var_kind) ++ line (codes "rep-type " ++ rep_type))
 
 abbrev pub inherited : Bool → List ℕ → List ℕ
 inherited has_parent lines = lines ++ (if has_parent then line (codes "parent Stack:::OBJECT 1") else [])

@@ -33,7 +33,8 @@ links ns = flat_map links_at (enumerate_from 0 ns)
 
 -- A link is an edge if one of the points has the parent's name.
 abbrev pub edge_of : List (List ℕ) → Link → Option Edge
-edge_of all l = option_map (λ j. record { child = record { 0 = l.child }; parent = record { 0 = j }; number = l.number }) (place_of all l.parent)
+edge_of all l =
+    option_map (λ j. record { child = record { 0 = l.child }; parent = record { 0 = j }; number = l.number }) (place_of all l.parent)
 
 -- All edges, by child and then by number.
 unfoldable pub edges : List Node → List Edge

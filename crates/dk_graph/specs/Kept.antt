@@ -22,7 +22,8 @@ waited all (l ∷ ls) notes = waited all ls (if is_none (place_of all l.parent) 
 abbrev pub links_to : List Node → List ℕ → List Waiting
 links_to ns name = map waiting_link (filter (λ l. bytes_eq l.parent name) (links ns))
 
-pub record IsJoined (ns : List Node) (all : List (List ℕ)) (waiting : List (List ℕ × List Waiting)) (from into : List (List Edge)) : Type 0 where
+pub record IsJoined (ns : List Node) (all : List (List ℕ))
+    (waiting : List (List ℕ × List Waiting)) (from into : List (List Edge)) : Type 0 where
   pub named : all ≡ node_names ns
   pub from_all : length from ≡ length ns
   pub from_are : (p : ℕ) → row from p ≡ edges_from ns p

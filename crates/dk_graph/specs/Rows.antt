@@ -35,4 +35,5 @@ spread into (e ∷ es) = spread (slice_set into e.parent.0 (row into e.parent.0 
 -- one more than the depth of the deepest child; children without a depth do not count
 abbrev pub above_children : List ℕ → List Edge → ℕ
 above_children ds [] = 0
-above_children ds (e ∷ es) = if nat_lt e.child.0 (length ds) then max (slice_index ds e.child.0 + 1) (above_children ds es) else above_children ds es
+above_children ds (e ∷ es) =
+    if nat_lt e.child.0 (length ds) then max (slice_index ds e.child.0 + 1) (above_children ds es) else above_children ds es

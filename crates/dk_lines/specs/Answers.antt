@@ -19,7 +19,8 @@ NextCounts old (Ok (Some line)) new = (line.number ≡ old.number + 1) × (new.n
     × (length line.bytes ≤ old.limits.line) × (old.total < new.total) × (new.total ≤ old.limits.total)
 NextCounts old (Ok None) new = (new.is_started ≡ false) × (new.total ≡ old.total) × (new.number ≡ old.number)
 NextCounts old (Err fault.Read) new = (new.is_started ≡ false) × (new.ahead ≡ []) × (old.total ≤ new.total)
-NextCounts old (Err (fault.LongLine n)) new = (n ≡ old.number + 1) × (new.is_started ≡ false) × (new.total ≡ min (old.total + old.limits.line + 1) (old.limits.total + 1))
+NextCounts old (Err (fault.LongLine n)) new =
+    (n ≡ old.number + 1) × (new.is_started ≡ false) × (new.total ≡ min (old.total + old.limits.line + 1) (old.limits.total + 1))
 NextCounts old (Err (fault.TooLong n)) new = (n ≡ old.number + 1) × (new.is_started ≡ false) × (new.total ≡ old.limits.total + 1)
 NextCounts old (Err fault.NoMemory) new = (new.is_started ≡ false) × (old.total ≤ new.total)
 
@@ -35,7 +36,8 @@ NextGives old xs (Err (fault.TooLong n)) new left = (is_ended : Bool) → lines_
 NextGives old xs (Err fault.NoMemory) new left = ⊤
 
 -- the answer of `next`, with what was left of the file before it and what is left now
-pub record IsNextLine (old : Reading) (before : Option (List ℕ)) (answer : Result (Option Line) LineFault) (new : Reading) (after : Option (List ℕ)) : Type 0 where
+pub record IsNextLine (old : Reading) (before : Option (List ℕ))
+    (answer : Result (Option Line) LineFault) (new : Reading) (after : Option (List ℕ)) : Type 0 where
   pub limits_stay : new.limits ≡ old.limits
   pub counts : NextCounts old answer new
   pub gives : IfSome before (λ xs. NextGives old xs answer new after)

@@ -4,7 +4,8 @@ use Rattle.std.specs.Io.BufRead.{strip_last}
 use Rattle.dk_base.specs.Reading.{Line}
 use Rattle.dk_lines.specs.Reading.{Reading, room_of}
 
--- The file ends in front of the line of this number; or it was cut off, and no more is known; or this line has a byte too many; or the files have one, which is in this line.
+-- The file ends in front of the line of this number; or it was cut off, and no more is known; or this line has a byte too many; or the
+-- files have one, which is in this line.
 pub data End : Type 0 where
   Over : (line : ℕ) → End
   Broken : End
@@ -56,7 +57,8 @@ is_long limit room p = nat_lt limit (length p.bytes) && nat_le limit room
 abbrev pub is_over : ℕ → Piece → Bool
 is_over room p = nat_lt room (size_of p)
 
--- The lines of pieces where n lines stand before them and room bytes may still come. A piece without an LF is a line where the file is ended, and none where it was cut off.
+-- The lines of pieces where n lines stand before them and room bytes may still come. A piece without an LF is a line where the file is
+-- ended, and none where it was cut off.
 abbrev pub lined_by : ℕ → ℕ → Bool → ℕ → List Piece → Left
 lined_by limit room is_ended n [] = Ends (if is_ended then Over (n + 1) else Broken)
 lined_by limit room is_ended n (p ∷ ps) =
@@ -73,7 +75,8 @@ lined limit room n is_ended bytes = lined_by limit room is_ended n (pieces bytes
 abbrev pub lines_left : Reading → Bool → List ℕ → Left
 lines_left r is_ended bytes = lined r.limits.line (room_of r) r.number is_ended bytes
 
--- A line was read: it stood at the front of what was left, and the bytes ys follow it. Where the file is cut off behind it, what is left of ys follows it too; but the last line of an ended file, which no LF ends, and which nothing follows, is then none.
+-- A line was read: it stood at the front of what was left, and the bytes ys follow it. Where the file is cut off behind it, what is left of
+-- ys follows it too; but the last line of an ended file, which no LF ends, and which nothing follows, is then none.
 pub record OneLine (old : Reading) (xs : List ℕ) (line : Line) (new : Reading) (ys : List ℕ) : Type 0 where
   pub front : List ℕ
   pub split : xs ≡ front ++ ys
@@ -81,4 +84,5 @@ pub record OneLine (old : Reading) (xs : List ℕ) (line : Line) (new : Reading)
   pub room : room_of new ≡ room_of old - length front
   pub ended : lines_left old true xs ≡ Next line (lines_left new true ys)
   pub cut : (d rest : List ℕ) → ys ≡ d ++ rest →
-      (lines_left old false (front ++ d) ≡ Next line (lines_left new false d)) ⊎ ((ys ≡ []) × (lines_left old false (front ++ d) ≡ Ends Broken))
+      (lines_left old false (front ++ d) ≡ Next line (lines_left new false d))
+      ⊎ ((ys ≡ []) × (lines_left old false (front ++ d) ≡ Ends Broken))

@@ -45,6 +45,7 @@ TableGrows None ps = has_cycle (nodes ps) ≡ true
 
 -- what a new declaration's own parts are, or why it is refused before its edges are looked at
 abbrev pub Judges : Result Own BlockFault → ℕ → List Point → PointDecl → Type 0
-Judges (Ok o) line ps d = (o.decl ≡ d) × IsOwnBehind ps o × (has_many_points (ps ++ added_points ps d) ≡ false) × (has_many_vars ps d ≡ false)
+Judges (Ok o) line ps d =
+    (o.decl ≡ d) × IsOwnBehind ps o × (has_many_points (ps ++ added_points ps d) ≡ false) × (has_many_vars ps d ≡ false)
 Judges (Err (Refused l why)) line ps d = (l ≡ line) × (declared_new ps d ≡ Err why)
 Judges (Err NoMemory) line ps d = Unit {0}

@@ -22,4 +22,5 @@ SameIsEqual = (a b : PointDecl) → IsTrue (same_decl a b) ↔ (a ≡ b)
 -- The table takes 65,535 points; a new name beyond is refused, and so is one that would bring an implicit exit beyond.
 pub record FullTableTakesNone : Type 0 where
   pub one : (ps : List Point) (d : PointDecl) → 65535 ≤ length ps → place_of (names ps) d.name ≡ None → declared ps d ≡ Err TooManyPoints
-  pub two : (ps : List Point) (d : PointDecl) → 65534 ≤ length ps → makes_exit ps d ≡ true → place_of (names ps) d.name ≡ None → declared ps d ≡ Err TooManyPoints
+  pub two : (ps : List Point) (d : PointDecl) → 65534 ≤ length ps → makes_exit ps d ≡ true
+      → place_of (names ps) d.name ≡ None → declared ps d ≡ Err TooManyPoints

@@ -23,7 +23,8 @@ edges_of_implicit ps name = option_map_or (λ p. if p.is_implicit then p.decl.ed
 abbrev pub is_dropped : List Point → Point → EdgeDecl → Bool
 is_dropped ps p e =
     if p.is_implicit then is_to (combined_name p.decl.name) e
-    else if is_subexit (role_of p.decl.name) then is_to (combined_name p.decl.name) e || list_any (same_edge e) (edges_of_implicit ps (combined_name p.decl.name))
+    else if is_subexit (role_of p.decl.name)
+    then is_to (combined_name p.decl.name) e || list_any (same_edge e) (edges_of_implicit ps (combined_name p.decl.name))
     else false
 
 -- the declared edges that are not dropped, each with its place in the declaration

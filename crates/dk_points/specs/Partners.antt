@@ -33,8 +33,11 @@ is_like w name v = bytes_eq name (plain_name v) && (same_kind v.kind w.kind && b
 -- the place among the base variables of the child at i of the partner of its parent's variable w, through its edge of this number
 abbrev pub partner_in : List Point → ℕ → ℕ → VarInfo → Point → Option ℕ
 partner_in ps i number w p =
-    option_and_then (λ name. position (is_like w name) (vars_of ps i)) (partner_name p.decl (slice_get (map (λ e. e.0) (kept_edges (take i ps) p)) number) (plain_name w))
+    option_and_then (λ name. position (is_like w name) (vars_of ps i))
+    (partner_name p.decl (slice_get (map (λ e. e.0) (kept_edges (take i ps) p)) number) (plain_name w))
 
 -- The partner, in the edge's child, of the variable at this place in the edge's parent.
 unfoldable pub partner_of : List Point → Edge → ℕ → Option ℕ
-partner_of ps e w = option_and_then (λ v. option_and_then (partner_in ps e.child.0 e.number v) (slice_get ps e.child.0)) (slice_get (vars_of ps e.parent.0) w)
+partner_of ps e w =
+    option_and_then (λ v. option_and_then (partner_in ps e.child.0 e.number v) (slice_get ps e.child.0))
+    (slice_get (vars_of ps e.parent.0) w)

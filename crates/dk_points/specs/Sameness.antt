@@ -26,7 +26,8 @@ same_parent_var a b = a.edge == b.edge && bytes_eq a.name b.name
 -- name, kind, comparability, constant, and the parent lines that count
 abbrev pub same_var : VarDecl → VarDecl → Bool
 same_var a b = bytes_eq a.name b.name && (same_option same_kind a.kind b.kind && (same_compar a.compar b.compar
-    && (same_option same_value a.constant b.constant && (beq a.constant_line b.constant_line && pointwise same_parent_var a.parents b.parents))))
+    && (same_option same_value a.constant b.constant
+    && (beq a.constant_line b.constant_line && pointwise same_parent_var a.parents b.parents))))
 
 -- name, edges in order, and variables in order
 unfoldable pub same_decl : PointDecl → PointDecl → Bool

@@ -36,7 +36,8 @@ orig_name name = codes "orig(" ++ (name ++ codes ")")
 
 -- the value that the entry's variable v had at the entry, where the exit's variable of its name has its kind
 abbrev pub orig_of : VarInfo → VarInfo → Option VarInfo
-orig_of v w = if same_kind v.kind w.kind then Some (record { name = orig_name v.name; kind = v.kind; form = form.Orig; compar = w.compar }) else None
+orig_of v w =
+    if same_kind v.kind w.kind then Some (record { name = orig_name v.name; kind = v.kind; form = form.Orig; compar = w.compar }) else None
 
 abbrev pub orig_var : List VarInfo → VarInfo → Option VarInfo
 orig_var exit v = option_and_then (orig_of v) (find (λ w. bytes_eq v.name w.name) exit)

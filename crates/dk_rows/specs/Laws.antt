@@ -18,4 +18,6 @@ RowsKeepTheirLaws = (r : RowId) → IsRow r → RowLaws (role_kinds r) (form_of 
 
 -- the state of a row with a relation tells whether each tuple satisfies the relation
 abbrev pub PlainRowsStateTheirRelation : Type 0
-PlainRowsStateTheirRelation = (r : RowId) → IsRow r → form_of r ≡ form.Plain → (tuples : List (List Value)) → state_of r tuples ≡ plain_of (map (relation_of r) tuples)
+PlainRowsStateTheirRelation =
+    (r : RowId) → IsRow r → form_of r ≡ form.Plain → (tuples : List (List Value))
+    → state_of r tuples ≡ plain_of (map (relation_of r) tuples)

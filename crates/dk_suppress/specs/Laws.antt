@@ -41,15 +41,18 @@ PremisesAreUsable =
 -- two answers are the same for the rows of a rank below n, over variables that they admit and of which each is one of these
 abbrev pub SameBelow : Grammar → List VarInfo → List VarId → (f g : RowId → List VarId → State) → ℕ → Type 0
 SameBelow grammar infos vars f g n =
-    (row : RowId) → IsRowOf grammar row → rank_of row < n → (others : List VarId) → IsTrue (admits row infos others) → All (Contains vars) others → f row others ≡ g row others
+    (row : RowId) → IsRowOf grammar row → rank_of row < n → (others : List VarId)
+    → IsTrue (admits row infos others) → All (Contains vars) others → f row others ≡ g row others
 
 -- answers that are the same for the rows of lower rank over a row's variables suppress the same
 abbrev pub SuppressionIsOfLowerRank : Type 0
 SuppressionIsOfLowerRank =
-    (grammar : Grammar) (infos : List VarInfo) (f g : RowId → List VarId → State) (row : RowId) (vars : List VarId) → IsTrue (admits row infos vars) → SameBelow grammar infos vars f g (rank_of row)
+    (grammar : Grammar) (infos : List VarInfo) (f g : RowId → List VarId → State) (row : RowId) (vars : List VarId)
+    → IsTrue (admits row infos vars) → SameBelow grammar infos vars f g (rank_of row)
     → is_suppressed f row vars ≡ is_suppressed g row vars
 
 -- variables that agree are suppressed alike
 abbrev pub AgreeingVariablesAreSuppressedAlike : Type 0
 AgreeingVariablesAreSuppressedAlike =
-    (samples : List (List Value)) (vars others : List VarId) → AreAlike samples vars others → (row : RowId) → is_suppressed (fit_of samples) row vars ≡ is_suppressed (fit_of samples) row others
+    (samples : List (List Value)) (vars others : List VarId) → AreAlike samples vars others
+    → (row : RowId) → is_suppressed (fit_of samples) row vars ≡ is_suppressed (fit_of samples) row others

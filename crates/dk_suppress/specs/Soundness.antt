@@ -26,10 +26,13 @@ holds_of (suc n) = state.Holds
 abbrev pub RulesAreSound : Type 0
 RulesAreSound =
     (samples : List (List Value)) → All (λ s. All IsWritten s) samples
-    → All (λ (r : Rule). (vars : List VarId) → length vars ≡ arity_of r.0 → IsTrue (list_all (λ p. premise_fits (fit_of samples) p vars) r.1) → fit_of samples r.0 vars ≡ holds_of (length (tuples_of vars samples))) rules
+    → All (λ (r : Rule). (vars : List VarId) → length vars ≡ arity_of r.0
+    → IsTrue (list_all (λ p. premise_fits (fit_of samples) p vars) r.1)
+    → fit_of samples r.0 vars ≡ holds_of (length (tuples_of vars samples))) rules
 
 -- so a suppressed instance holds
 abbrev pub SuppressedInstancesHold : Type 0
 SuppressedInstancesHold =
     (samples : List (List Value)) → All (λ s. All IsWritten s) samples
-    → (row : RowId) (vars : List VarId) → length vars ≡ arity_of row → IsTrue (is_suppressed (fit_of samples) row vars) → fit_of samples row vars ≡ holds_of (length (tuples_of vars samples))
+    → (row : RowId) (vars : List VarId) → length vars ≡ arity_of row → IsTrue (is_suppressed (fit_of samples) row vars)
+    → fit_of samples row vars ≡ holds_of (length (tuples_of vars samples))

@@ -97,7 +97,8 @@ exchanged_back e tuple s = if descends e tuple then exchanged e s else s
 
 abbrev pub disarranged : Symmetry → List VarId → State → State
 disarranged symmetry.Fixed tuple s = s
-disarranged symmetry.All tuple s = exchanged_back Last tuple (exchanged_back First (ordered Last tuple) (exchanged_back Last (ordered First (ordered Last tuple)) s))
+disarranged symmetry.All tuple s =
+    exchanged_back Last tuple (exchanged_back First (ordered Last tuple) (exchanged_back Last (ordered First (ordered Last tuple)) s))
 disarranged symmetry.Arguments tuple s = exchanged_back Last tuple s
 
 -- from the state of a row over a tuple in written order, that over the tuple as it stands

@@ -50,7 +50,8 @@ PlanesExchange = (e : Exchange) (points : List (ℤ × ℤ × ℤ)) → plane_of
 -- the state of pairs of sequences, with the two exchanged
 abbrev pub OffsetsExchange : Type 0
 OffsetsExchange = (pairs : List (List ℤ × List ℤ))
-    → offset_of (flat_map (λ (p : List ℤ × List ℤ). differences p.1 p.0) pairs) ≡ exchanged First (offset_of (flat_map (λ (p : List ℤ × List ℤ). differences p.0 p.1) pairs))
+    → offset_of (flat_map (λ (p : List ℤ × List ℤ). differences p.1 p.0) pairs)
+    ≡ exchanged First (offset_of (flat_map (λ (p : List ℤ × List ℤ). differences p.0 p.1) pairs))
 
 -- the roles that may be exchanged take the same
 abbrev pub TakeTheSame : Symmetry → Takes → Type 0
@@ -66,7 +67,9 @@ ExchangeableRolesTakeTheSame = (row : RowId) → IsRow row → TakeTheSame (temp
 
 -- a tuple that a row admits is admitted in its written order
 abbrev pub WrittenTuplesAreAdmitted : Type 0
-WrittenTuplesAreAdmitted = (row : RowId) → IsRow row → (vars : List VarInfo) (tuple : List VarId) → admits row vars tuple ≡ true → admits row vars (written row tuple) ≡ true
+WrittenTuplesAreAdmitted =
+    (row : RowId) → IsRow row → (vars : List VarInfo) (tuple : List VarId)
+    → admits row vars tuple ≡ true → admits row vars (written row tuple) ≡ true
 
 -- the written order of at most three variables is written
 abbrev pub WrittenOrdersAreWritten : Type 0

@@ -52,12 +52,16 @@ rows =
     ∷ row (Three (Base kind.Int) (Base kind.Int) (Base kind.Int)) exchange.Arguments form.Plain 1  -- 26 Product: z = x * y
     ∷ row (Three (Base kind.Int) (Base kind.Int) (Base kind.Int)) exchange.Arguments form.Plain 2  -- 27 Minimum: z is the smaller of x, y
     ∷ row (Three (Base kind.Int) (Base kind.Int) (Base kind.Int)) exchange.Arguments form.Plain 2  -- 28 Maximum: z is the greater of x, y
-    ∷ row (Three (Base kind.Int) (Base kind.Int) (Base kind.Int)) exchange.Fixed form.Plain 2  -- 29 Quotient: y isn't 0, and z is x / y cut towards 0
-    ∷ row (Three (Base kind.Int) (Base kind.Int) (Base kind.Int)) exchange.Fixed form.Plain 3  -- 30 Remainder: y isn't 0, and z is the remainder of x / y cut towards 0
+    -- 29 Quotient: y isn't 0, and z is x / y cut towards 0
+    ∷ row (Three (Base kind.Int) (Base kind.Int) (Base kind.Int)) exchange.Fixed form.Plain 2
+    -- 30 Remainder: y isn't 0, and z is the remainder of x / y cut towards 0
+    ∷ row (Three (Base kind.Int) (Base kind.Int) (Base kind.Int)) exchange.Fixed form.Plain 3
     ∷ row (Three (Base kind.Int) (Base kind.Int) (Base kind.Int)) exchange.Arguments form.Plain 1  -- 31 And: z is the bitwise and of x, y
     ∷ row (Three (Base kind.Int) (Base kind.Int) (Base kind.Int)) exchange.Arguments form.Plain 1  -- 32 Or: z is the bitwise or of x, y
-    ∷ row (Three (Base kind.Int) (Base kind.Int) (Base kind.Int)) exchange.Arguments form.Plain 1  -- 33 Xor: z is the bitwise exclusive or of x, y
-    ∷ row (Three (Base kind.Int) (Base kind.Int) (Base kind.Int)) exchange.Arguments form.Plain 3  -- 34 Gcd: z is the greatest common divisor of x, y
+    -- 33 Xor: z is the bitwise exclusive or of x, y
+    ∷ row (Three (Base kind.Int) (Base kind.Int) (Base kind.Int)) exchange.Arguments form.Plain 1
+    -- 34 Gcd: z is the greatest common divisor of x, y
+    ∷ row (Three (Base kind.Int) (Base kind.Int) (Base kind.Int)) exchange.Arguments form.Plain 3
     ∷ row (One (Any kind.IntSeq)) exchange.Fixed form.Ints 0  -- 35 EltOneOfInt: the elements of s
     ∷ row (One (Any kind.IntSeq)) exchange.Fixed form.Least 0  -- 36 EltLower: the least element of s
     ∷ row (One (Any kind.IntSeq)) exchange.Fixed form.Greatest 0  -- 37 EltUpper: the greatest element of s
@@ -84,14 +88,18 @@ rows =
     ∷ row (Two (Any kind.BoolSeq) (Any kind.BoolSeq)) exchange.All form.Plain 0  -- 58 EqBoolSeq: s = t
     ∷ row (Two (Any kind.HashSeq) (Any kind.HashSeq)) exchange.All form.Plain 0  -- 59 EqHashSeq: s = t
     ∷ row (Two (Any kind.StrSeq) (Any kind.StrSeq)) exchange.All form.Plain 0  -- 60 EqStrSeq: s = t
-    ∷ row (Two (Base kind.IntSeq) (Base kind.IntSeq)) exchange.Fixed form.Plain 0  -- 61 PairLt: equal lengths, and each element of s < its partner in t
-    ∷ row (Two (Base kind.IntSeq) (Base kind.IntSeq)) exchange.Fixed form.Plain 1  -- 62 PairLe: equal lengths, and each element of s <= its partner in t
+    -- 61 PairLt: equal lengths, and each element of s < its partner in t
+    ∷ row (Two (Base kind.IntSeq) (Base kind.IntSeq)) exchange.Fixed form.Plain 0
+    -- 62 PairLe: equal lengths, and each element of s <= its partner in t
+    ∷ row (Two (Base kind.IntSeq) (Base kind.IntSeq)) exchange.Fixed form.Plain 1
     ∷ row (Two (Base kind.IntSeq) (Base kind.IntSeq)) exchange.Fixed form.Plain 2  -- 63 SubsetInt: each element of s is one of t
     ∷ row (Two (Base kind.HashSeq) (Base kind.HashSeq)) exchange.Fixed form.Plain 1  -- 64 SubsetHash: each element of s is one of t
     ∷ row (Two (Base kind.StrSeq) (Base kind.StrSeq)) exchange.Fixed form.Plain 1  -- 65 SubsetStr: each element of s is one of t
     ∷ row (Two (Base kind.IntSeq) (Base kind.IntSeq)) exchange.All form.Plain 1  -- 66 Reverse: s read backwards is t
-    ∷ row (Three (Base kind.Int) (Base kind.Int) (Base kind.Int)) exchange.All form.Plane 0  -- 67 LinearTernary: the plane through the points (x, y, z)
-    ∷ row (Two (Base kind.IntSeq) (Base kind.IntSeq)) exchange.All form.Offset 0  -- 68 PairOffset: by how much the elements of t are greater than those of s
+    -- 67 LinearTernary: the plane through the points (x, y, z)
+    ∷ row (Three (Base kind.Int) (Base kind.Int) (Base kind.Int)) exchange.All form.Plane 0
+    -- 68 PairOffset: by how much the elements of t are greater than those of s
+    ∷ row (Two (Base kind.IntSeq) (Base kind.IntSeq)) exchange.All form.Offset 0
     ∷ []
 
 -- ---- what the table says of a row
