@@ -16,7 +16,7 @@ fn leading_of(p: i128, q: i128, r: i128) -> i128
 }
 
 // A size, with the sign of a number.
-fn signed(size: i128, like: i128) -> i128
+fn with_sign_of(size: i128, like: i128) -> i128
     requires { pos 0 ≤ℤ size }
     ensures { result ≡ signed_as like size }
 {
@@ -43,7 +43,7 @@ fn divisor_of(p: i128, q: i128, r: i128) -> i128
     requires r { unsigned_abs r ≤ 2 ^ 64 }
     ensures { result ≡ divisor p q r }
 {
-    signed(size_of(p, q, r), leading_of(p, q, r))
+    with_sign_of(size_of(p, q, r), leading_of(p, q, r))
 }
 
 /// A direction in space; of a direction in the plane the last part is 0.

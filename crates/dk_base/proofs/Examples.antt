@@ -9,7 +9,7 @@ use Rattle.dk_base.specs.Sequences.{sequence}
 use Rattle.dk_base.specs.Shapes.{shape, var, with_derived}
 use Rattle.dk_base.specs.Spelling.{spelling}
 use Rattle.dk_base.specs.Values.{value_of_text}
-use Rattle.dk_base.specs.Words.{rest_of_line, trimmed, words}
+use Rattle.dk_base.specs.Words.{rest_of_line, trim_blanks, words}
 use Rattle.dk_base.specs.declared.kinds.Form.TheVariants as form
 use Rattle.dk_base.specs.declared.kinds.Kind.TheVariants as kind
 use Rattle.dk_base.specs.declared.values.Value.TheVariants as value
@@ -51,7 +51,7 @@ name : unescaped (codes "a\\_b\\\\_c\\d") ≡ codes "a b\\_c\\d"
 unfolding unescaped
 name = refl
 
-line : words (trimmed (codes " \tparent  parent\tQ 1 ")) ≡ codes "parent" ∷ codes "parent" ∷ codes "Q" ∷ codes "1" ∷ []
+line : words (trim_blanks (codes " \tparent  parent\tQ 1 ")) ≡ codes "parent" ∷ codes "parent" ∷ codes "Q" ∷ codes "1" ∷ []
 unfolding pieces
 line = refl
 

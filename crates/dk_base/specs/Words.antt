@@ -11,8 +11,8 @@ without_front [] = []
 without_front (b ∷ bs) = if is_blank b then without_front bs else b ∷ bs
 
 -- without the blanks and tabs at its two ends
-abbrev pub trimmed : List ℕ → List ℕ
-trimmed bytes = reverse (without_front (reverse (without_front bytes)))
+abbrev pub trim_blanks : List ℕ → List ℕ
+trim_blanks bytes = reverse (without_front (reverse (without_front bytes)))
 
 -- how many bytes stand in front of the first blank or tab
 abbrev pub word_len : List ℕ → ℕ

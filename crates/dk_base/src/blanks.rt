@@ -1,6 +1,6 @@
 // Blanks and words of a line.
 ghost use Rattle.std.specs.Prelude.{◌≡◌, ◌≤◌, IfOk, length, map, reverse};
-ghost use Rattle.dk_base.specs.Words.{first_word, rest_of_line, trimmed, without_front, word_len, words};
+ghost use Rattle.dk_base.specs.Words.{first_word, rest_of_line, trim_blanks, without_front, word_len, words};
 
 use crate::NoMemory;
 use crate::splitting::{Cut, is_blank, next_piece};
@@ -33,8 +33,8 @@ fn drop_back(bytes: &[u8]) -> &[u8]
 }
 
 /// The line without the blanks and tabs at its two ends.
-pub fn trimmed(bytes: &[u8]) -> &[u8]
-    ensures { result.now ≡ trimmed bytes.now }
+pub fn trim_blanks(bytes: &[u8]) -> &[u8]
+    ensures { result.now ≡ trim_blanks bytes.now }
 {
     drop_back(drop_front(bytes))
 }

@@ -21,7 +21,7 @@ mod tuples;
 mod values;
 mod why;
 
-pub use blanks::{first_word, rest_of_line, trimmed, words};
+pub use blanks::{first_word, rest_of_line, trim_blanks, words};
 pub use faults::{BlockFault, Fault};
 pub use items::is_text;
 pub use kinds::{Compar, Form, Kind, PointId, VarId, VarInfo, comparable};

@@ -77,7 +77,7 @@ pub fn is_spelling(text: &[u8], name: &[u8]) -> bool
     is_spelled(text, name)
 }
 
-fn spelled(alloc: Global, name: &[u8]) -> Result<Text, NoMemory>
+fn spell_name(alloc: Global, name: &[u8]) -> Result<Text, NoMemory>
     ensures { IfOk result (λ text. text ≡ escaped name.now) }
 {
     let mut text = Text::new(alloc);
@@ -98,5 +98,5 @@ pub fn escape(alloc: Global, name: &[u8]) -> Result<Text, NoMemory>
     ensures means { IfOk result (λ text. unescaped text ≡ name.now) }
     ensures without_blanks { IfOk result (λ text. All (λ b. b ≢ BLANK) text) }
 {
-    spelled(alloc, name)
+    spell_name(alloc, name)
 }

@@ -60,7 +60,7 @@ fn is_fit(merged: &Merged<'_>, row: RowId, vars: &[VarId]) -> Result<bool, NoMem
 }
 
 // The questions that fit: each way answers them.
-fn fitting(
+fn questions_that_fit(
     alloc: Global,
     merged: &Merged<'_>,
     questions: &[Question],
@@ -85,7 +85,7 @@ fn fitting(
 
 // How many of the questions fit.
 #[inline(never)]
-fn answered(merged: &Merged<'_>, questions: &[Question]) -> Result<u64, NoMemory>
+fn count_fits(merged: &Merged<'_>, questions: &[Question]) -> Result<u64, NoMemory>
     requires grammar { merged.now.here.grammar ≡ grammar.Two }
     requires questions { AreQuestions merged.now.here.infos questions.now }
 {
@@ -99,7 +99,7 @@ fn answered(merged: &Merged<'_>, questions: &[Question]) -> Result<u64, NoMemory
 
 // In how many samples the variables of the questions are present, added up.
 #[inline(never)]
-fn counted(merged: &Merged<'_>, questions: &[Question]) -> u64
+fn sum_counts(merged: &Merged<'_>, questions: &[Question]) -> u64
     requires { AreQuestions merged.now.here.infos questions.now }
 {
     let mut found = 0u64;
@@ -111,7 +111,7 @@ fn counted(merged: &Merged<'_>, questions: &[Question]) -> u64
 
 // How often the first two variables agree, in either order.
 #[inline(never)]
-fn agreed(merged: &Merged<'_>) -> u64 {
+fn count_agreements(merged: &Merged<'_>) -> u64 {
     let mut found = 0u64;
     if merged.vars().len() < 2 {
         return found;
@@ -132,7 +132,7 @@ fn answer_nanos(rt: &impl Clock, merged: &Merged<'_>, questions: &[Question]) ->
     let many = questions.len().min(u32::MAX as usize) as u32;
     Ok(nanos_each(
         rt,
-        || answered(merged, questions).unwrap_or(0),
+        || count_fits(merged, questions).unwrap_or(0),
         f64::from(many),
     )?)
 }
@@ -142,7 +142,7 @@ fn count_nanos(rt: &impl Clock, merged: &Merged<'_>, questions: &[Question]) -> 
     requires { AreQuestions merged.now.here.infos questions.now }
 {
     let many = questions.len().min(u32::MAX as usize) as u32;
-    Ok(nanos_each(rt, || counted(merged, questions), f64::from(many))?)
+    Ok(nanos_each(rt, || sum_counts(merged, questions), f64::from(many))?)
 }
 
 // One line of the table: of what answers for a point, the ways, how many questions fit, what an answer, a count and a comparison cost
@@ -160,7 +160,7 @@ fn print_costs(
 {
     let answer = answer_nanos(rt, merged, fit)?;
     let count = count_nanos(rt, merged, fit)?;
-    let agree = nanos_each(rt, || agreed(merged), f64::from(TURNS))?;
+    let agree = nanos_each(rt, || count_agreements(merged), f64::from(TURNS))?;
     let each = answer_nanos(rt, merged, all)?;
     println!(rt;
         "{name:<6} {:>5} {:>6} {answer:>9.0} {count:>9.0} {agree:>9.0} {:>8} {each:>8.0}",
@@ -181,7 +181,7 @@ fn print_questions(
     requires grammar { merged.now.here.grammar ≡ grammar.Two }
     requires all { AreQuestions merged.now.here.infos all.now }
 {
-    let fit = fitting(rt.alloc(), merged, all)?;
+    let fit = questions_that_fit(rt.alloc(), merged, all)?;
     print_costs(rt, name, merged, all, &fit)
 }
 

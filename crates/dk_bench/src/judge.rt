@@ -137,7 +137,7 @@ fn number_of(facts: Facts) -> u64 {
 }
 
 // How many facts there are of an instance.
-fn judged(
+fn count_facts(
     here: &Merged<'_>,
     parents: &[ParentView<'_, Merged<'_>>],
     found: &PointFacts,
@@ -172,7 +172,7 @@ fn all_judged(
 {
     let mut number = 0u64;
     for instance in instances {
-        number = number.wrapping_add(judged(here, parents, found, instance)?);
+        number = number.wrapping_add(count_facts(here, parents, found, instance)?);
     }
     Ok(number)
 }

@@ -36,7 +36,7 @@ fn records_of(word: &str) -> Option<Records> {
 }
 
 // Writes the trace that the words name; false where they name none.
-fn traced(
+fn write_named_trace(
     rt: &(impl Print + AllocGlobal),
     kind: Option<String>,
     count: Option<String>,
@@ -62,7 +62,7 @@ fn main(rt: HostRuntime) -> Result<(), Fault> {
         Some(word) if word.as_str() == "traces" => {
             let kind = words.next();
             let count = words.next();
-            if traced(&rt, kind, count)? {
+            if write_named_trace(&rt, kind, count)? {
                 Ok(())
             } else {
                 Ok(print!(rt; "{USAGE}")?)

@@ -179,7 +179,7 @@ fn next_noise(noise: u64) -> u64 {
 
 // How often one of two samples changes no slot.
 #[inline(never)]
-fn unchanged(row: RowId, run: &[RowSlot], a: &[View<'_>], b: &[View<'_>]) -> u64
+fn count_unchanged(row: RowId, run: &[RowSlot], a: &[View<'_>], b: &[View<'_>]) -> u64
     requires row { IsRow row }
     requires a { AreOver row (values_of a.now) run.now }
     requires b { AreOver row (values_of b.now) run.now }
@@ -200,7 +200,7 @@ fn unchanged(row: RowId, run: &[RowSlot], a: &[View<'_>], b: &[View<'_>]) -> u64
 
 // How many slots fit with a sample more, each of them joined with it so often.
 #[inline(never)]
-fn joined(alloc: Global, row: RowId, run: &[RowSlot], a: &[View<'_>]) -> Result<u64, NoMemory>
+fn count_fits(alloc: Global, row: RowId, run: &[RowSlot], a: &[View<'_>]) -> Result<u64, NoMemory>
     requires row { IsRow row }
     requires a { AreOver row (values_of a.now) run.now }
 {
@@ -227,7 +227,7 @@ fn unchanged_nanos(
     requires a { AreOver row (values_of a.now) run.now }
     requires b { AreOver row (values_of b.now) run.now }
 {
-    nanos_each(rt, || unchanged(row, run, a, b), looks)
+    nanos_each(rt, || count_unchanged(row, run, a, b), looks)
 }
 
 // The nanoseconds for each slot, of a point and a join.
@@ -242,7 +242,7 @@ fn joined_nanos(
     requires a { AreOver row (values_of a.now) run.now }
 {
     let alloc = rt.alloc();
-    nanos_each(rt, || joined(alloc, row, run, a).unwrap_or(0), looks)
+    nanos_each(rt, || count_fits(alloc, row, run, a).unwrap_or(0), looks)
 }
 
 // One line of the table, for slots of the row: the plain loop, a sample that changes none, and a point and a join.

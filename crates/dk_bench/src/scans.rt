@@ -164,7 +164,7 @@ fn print_lines<P: Fn(&[i64], &[i64]) -> u64 + Drop, S: Fn(&[i64], &[i64]) -> u64
 }
 
 // Numbers in order, each 3 above the one before it.
-fn rising(alloc: Global, first: i64) -> Result<Vec<i64>, AllocError> {
+fn rising_numbers(alloc: Global, first: i64) -> Result<Vec<i64>, AllocError> {
     let mut numbers = Vec::new(alloc);
     let mut next = first;
     for _ in 0..NUMBERS {
@@ -175,7 +175,7 @@ fn rising(alloc: Global, first: i64) -> Result<Vec<i64>, AllocError> {
 }
 
 // Numbers in no order.
-fn mixed(alloc: Global) -> Result<Vec<i64>, AllocError> {
+fn mixed_numbers(alloc: Global) -> Result<Vec<i64>, AllocError> {
     let mut numbers = Vec::new(alloc);
     let mut next = 88172645463325252u64;
     for _ in 0..NUMBERS {
@@ -189,9 +189,9 @@ fn mixed(alloc: Global) -> Result<Vec<i64>, AllocError> {
 
 /// Prints the table.
 pub fn print_table(rt: &(impl Print + Clock + AllocGlobal)) -> io::Result<()> {
-    let m = mixed(rt.alloc())?;
-    let s = rising(rt.alloc(), 1000)?;
-    let t = rising(rt.alloc(), 1007)?;
+    let m = mixed_numbers(rt.alloc())?;
+    let s = rising_numbers(rt.alloc(), 1000)?;
+    let t = rising_numbers(rt.alloc(), 1007)?;
     println!(rt; "length     loop     scan  ratio")?;
     print_lines(rt, "all", &m, &m, plain::all, scan_all)?;
     print_lines(rt, "member", &m, &m, plain::member, scan_member)?;

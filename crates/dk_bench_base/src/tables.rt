@@ -53,7 +53,7 @@ pub fn push_point(
 }
 
 // The table with the point of a block.
-fn declared(alloc: Global, points: Points, block: &[(u64, &[u8])]) -> Result<Points, Fault> {
+fn with_block(alloc: Global, points: Points, block: &[(u64, &[u8])]) -> Result<Points, Fault> {
     match block {
         [] => Ok(points),
         [first, rest @ ..] => {
@@ -75,7 +75,7 @@ pub fn table_of(alloc: Global, text: &[u8]) -> Result<Points, Fault> {
     let mut block: Vec<(u64, &[u8])> = Vec::new(alloc);
     for line in text.split(|byte| *byte == b'\n') {
         if line.is_empty() {
-            points = declared(alloc, points, block.as_slice())?;
+            points = with_block(alloc, points, block.as_slice())?;
             block = Vec::new(alloc);
         } else {
             push_line(&mut block, line)?;

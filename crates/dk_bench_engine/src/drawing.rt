@@ -43,7 +43,11 @@ fn number(noise: &mut Noise, bound: u32) -> View<'static>
 }
 
 /// So many numbers, each of which is a little above the one before it.
-pub fn rising(alloc: Global, noise: &mut Noise, vars: usize) -> Result<Vec<View<'static>>, NoMemory>
+pub fn rising_numbers(
+    alloc: Global,
+    noise: &mut Noise,
+    vars: usize,
+) -> Result<Vec<View<'static>>, NoMemory>
     ensures { IfOk result (λ sample. All IsWritten (values_of sample.items)) }
 {
     let mut sample = Vec::new(alloc);
@@ -148,7 +152,7 @@ fn feed_one(
 ) -> Result<(), NoMemory> {
     let vars = engine.vars().len();
     match samples {
-        Samples::Rising => feed(engine, &rising(alloc, noise, vars)?),
+        Samples::Rising => feed(engine, &rising_numbers(alloc, noise, vars)?),
         Samples::Random => feed(engine, &random(alloc, noise, vars)?),
         Samples::Ten => feed(engine, &ten(noise, place)),
         Samples::Sequences => feed_mixed(alloc, engine, noise),

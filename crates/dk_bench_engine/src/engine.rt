@@ -3,7 +3,7 @@ ghost use Rattle.std.specs.Prelude.{All};
 ghost use Rattle.dk_base.specs.Spelling.{IsWritten};
 ghost use Rattle.dk_base.specs.Values.{values_of};
 
-use crate::drawing::{Samples, feed_all, rising};
+use crate::drawing::{Samples, feed_all, rising_numbers};
 use dk_base::{NoMemory, PointId, Text, View};
 use dk_bench_base::{Fault, Noise, feed, plain_nanos, push_point, table_of};
 use dk_engine::Engine;
@@ -96,8 +96,8 @@ fn print_quiet(rt: &(impl Print + Clock + AllocGlobal), vars: u32) -> Result<(),
     let mut noise = Noise::new();
     let mut engine = engine_of_numbers(alloc, vars)?;
     feed_all(alloc, &mut engine, &mut noise, Samples::Rising, 100)?;
-    let a = rising(alloc, &mut noise, vars as usize)?;
-    let b = rising(alloc, &mut noise, vars as usize)?;
+    let a = rising_numbers(alloc, &mut noise, vars as usize)?;
+    let b = rising_numbers(alloc, &mut noise, vars as usize)?;
     let nanos = again_nanos(rt, &mut engine, &a, &b)?;
     let slots = engine.counts().slots.min(1_000_000) as u32;
     println!(rt;

@@ -180,7 +180,7 @@ impl Calls {
             unreachable!()
         };
         let values = match self.latest(entry, sample.nonce) {
-            None => return Err(unmatched(sample.line)),
+            None => return Err(unmatched_exit(sample.line)),
             Some(kept) => with_entry(points, arena, sample, entry, kept.as_slice())?,
         };
         self.take(entry, sample.nonce);
@@ -188,7 +188,7 @@ impl Calls {
     }
 }
 
-fn unmatched(line: u64) -> BlockFault
+fn unmatched_exit(line: u64) -> BlockFault
     ensures { result ≡ BlockFault.Refused line Why.UnmatchedExit }
 {
     BlockFault::Refused {

@@ -11,7 +11,7 @@ ghost use Rattle.dk_constants.specs.Known.{EntriesAscend, known_at};
 
 use crate::kept::copies;
 use crate::places::find;
-use crate::steps::{are_still, fed};
+use crate::steps::{are_still, feed_constants};
 use dk_base::{List, NoMemory, Value, VarId, View};
 use dk_samples::value_at;
 use std::alloc::Global;
@@ -94,7 +94,7 @@ impl Constants {
         ensures stands { IfOk result (λ r. (leaders now : List VarId) (samples : List (List Value)) → 0 < length samples → AreConstants leaders samples self → LeadNow leaders new.now samples now → AreConstants now (samples ++ values_of sample.now ∷ []) r.0 × HaveEnded now samples (values_of sample.now) r.1) }
     {
         let Constants { alloc, known } = self;
-        let (known, ended) = fed(alloc, known, new, sample)?;
+        let (known, ended) = feed_constants(alloc, known, new, sample)?;
         Ok((Constants { alloc, known }, ended))
     }
 
@@ -116,7 +116,7 @@ impl Constants {
         ensures { IfOk result (λ r. AreFed self.now new.now (values_of sample.now) r.0 r.1) }
     {
         let known = copies(self.alloc, self.known.as_slice())?;
-        let (known, ended) = fed(self.alloc, known, new, sample)?;
+        let (known, ended) = feed_constants(self.alloc, known, new, sample)?;
         let constants = Constants {
             alloc: self.alloc,
             known,

@@ -95,7 +95,7 @@ pub(crate) fn with_entries(
 }
 
 /// The entries whose value the sample has, and the others.
-pub(crate) fn parted(
+pub(crate) fn split_constants(
     alloc: Global,
     known: Vec<(VarId, Value)>,
     sample: &[View<'_>],
@@ -115,7 +115,7 @@ pub(crate) fn parted(
 }
 
 /// The known values that the sample still has, and those that ended, with those of new leaders.
-pub(crate) fn fed(
+pub(crate) fn feed_constants(
     alloc: Global,
     known: Vec<(VarId, Value)>,
     new: &[(VarId, VarId)],
@@ -131,6 +131,6 @@ pub(crate) fn fed(
         return Ok((known, List::new(alloc)));
     }
     let all = with_entries(known, born)?;
-    let (still, ended) = parted(alloc, all, sample)?;
+    let (still, ended) = split_constants(alloc, all, sample)?;
     Ok((still, ended))
 }

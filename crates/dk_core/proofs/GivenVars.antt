@@ -28,7 +28,7 @@ use Rattle.dk_decl.specs.Outcomes.{or_refused, refused}
 use Rattle.dk_decl.specs.PptBlock.{groups, has_ended, is_variable, vars_after, with_var}
 use Rattle.dk_decl.specs.Types.{constant_at, constant_of, is_missing, known, rep_kind, rep_type_of}
 use Rattle.dk_decl.specs.VarNames.{has_name}
-use Rattle.dk_decl.specs.Variables.{at_edge, counterparts, new_var, opened, var_decl_of, var_line, var_with, with_counterparts}
+use Rattle.dk_decl.specs.Variables.{at_edge, counterparts, new_var, open_var, var_decl_of, var_line, var_with, with_counterparts}
 use Rattle.dk_decl.specs.declared.decls.EdgeDecl.{EdgeDecl}
 use Rattle.dk_decl.specs.declared.decls.ParentVar.{ParentVar}
 use Rattle.dk_decl.specs.declared.decls.VarDecl.{VarDecl}
@@ -208,8 +208,8 @@ record IsGoing (n : ℕ) (vs : List VarDecl) (o : OpenVar) : Type 0 where
   compar : IsCompar o.compar
   parents : AreMapped o.name n o.parents
 
-opened_open : (n : ℕ) (vs : List VarDecl) (l : Line) (o : OpenVar) → IsSpelled l.bytes → opened vs l ≡ Ok o → IsGoing n vs o
-unfolding opened operand
+opened_open : (n : ℕ) (vs : List VarDecl) (l : Line) (o : OpenVar) → IsSpelled l.bytes → open_var vs l ≡ Ok o → IsGoing n vs o
+unfolding open_var operand
 opened_open n vs l o spelled e = by (is_empty (rest_of_line l.bytes) || has_name (unescaped (rest_of_line l.bytes)) vs) refl e
   where
     name : List ℕ
@@ -295,7 +295,7 @@ pub vars_given : (implicit : Bool) (es : List EdgeDecl) (vs : List VarDecl) (gs 
 vars_given implicit es vs [] close vs' few all given e = let same : vs ≡ vs' = cc e in subst (AreGivenVars (length es)) same given
 vars_given implicit es vs (g ∷ gs) close vs' few all given e =
     let own = All-head IsGroup g gs all in
-    bind_ok (opened vs g.0) _ vs' e (λ o first rest.
+    bind_ok (open_var vs g.0) _ vs' e (λ o first rest.
     bind_ok (each_line (var_line implicit es) o g.1) _ vs' rest (λ w lines more.
     bind_ok (with_var vs w (has_ended gs (Some close))) _ vs' more (λ next ended last.
     vars_given implicit es next gs close vs' few (All-tail IsGroup g gs all)

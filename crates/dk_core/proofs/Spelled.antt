@@ -7,7 +7,7 @@ use Rattle.std.proofs.lemmas.List.Folds.{list_all-append}
 use Rattle.dk_base.specs.Names.{unescaped}
 use Rattle.dk_base.proofs.Parted.{words_are_parts}
 use Rattle.dk_base.specs.Pieces.{is_blank, is_empty, nonempty}
-use Rattle.dk_base.specs.Words.{rest_of_line, trimmed, without_front, word_len, words}
+use Rattle.dk_base.specs.Words.{rest_of_line, trim_blanks, without_front, word_len, words}
 use Rattle.dk_state.specs.Given.{has_none, is_name}
 
 abbrev pub begins_well : List ℕ → Bool
@@ -202,7 +202,7 @@ some_reverse : (bs : List ℕ) → is_empty (reverse bs) ≡ false → is_empty 
 some_reverse [] some = absurd (cc some)
 some_reverse (b ∷ bs) some = refl
 
-pub spelled_trimmed : (bs : List ℕ) → is_empty (trimmed bs) ≡ false → has_none bs 10 ≡ true → IsSpelled (trimmed bs)
+pub spelled_trimmed : (bs : List ℕ) → is_empty (trim_blanks bs) ≡ false → has_none bs 10 ≡ true → IsSpelled (trim_blanks bs)
 spelled_trimmed bs some none =
     let front = without_front bs in
     let back = without_front (reverse front) in

@@ -403,7 +403,7 @@ impl Kept {
         ensures grammar { self.new.grammar ≡ self.old.grammar }
     {
         let none = Kept::new(self.alloc, self.grammar)?;
-        match replace(self, none).declared(line, decl) {
+        match replace(self, none).declare(line, decl) {
             Ok(kept) => {
                 *self = kept;
                 Ok(true)
@@ -413,7 +413,7 @@ impl Kept {
     }
 
     // The same, where what is kept is taken apart: nothing is left of it if the declaration is refused.
-    fn declared(self, line: u64, decl: PointDecl) -> Result<Kept, BlockFault>
+    fn declare(self, line: u64, decl: PointDecl) -> Result<Kept, BlockFault>
         requires { HasFittingConstants decl }
         ensures closes { (h : History) → Stands self h → Closes (as_block result) (with_declaration h line decl) }
         ensures grammar { IfOk result (λ kept. kept.grammar ≡ self.grammar) }

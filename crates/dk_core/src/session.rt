@@ -17,7 +17,7 @@ ghost use Rattle.dk_core.specs.Turns.{turn_of, ending_of};
 use crate::block::Block;
 use crate::kept::Kept;
 use bumpalo::Bump;
-use dk_base::{BlockFault, Fault, NoMemory, PointId, Text, Why, trimmed};
+use dk_base::{BlockFault, Fault, NoMemory, PointId, Text, Why, trim_blanks};
 use dk_calls::Calls;
 use dk_engine::Engine;
 use dk_io::Inputs;
@@ -188,7 +188,7 @@ fn with_line<'a>(
     ensures shape { LineStepShape kept.now block.old block.new result }
     ensures gives { (ignores : Bool) (h : History) → Stands kept.now h → LineStep ignores kept.now block.new (block_resumed ignores h block.old) (record { number = number; bytes = bytes.now }) result }
 {
-    let words = trimmed(bytes);
+    let words = trim_blanks(bytes);
     if words.is_empty() {
         return Ok(Step::Ended {
             number,

@@ -17,7 +17,7 @@ use Rattle.dk_decl.specs.LineWords.{begins, operand, operands}
 use Rattle.dk_decl.specs.Outcomes.{refused}
 use Rattle.dk_decl.specs.PptBlock.{is_variable, point_name, ppt_lines, ppt_of, with_var}
 use Rattle.dk_decl.specs.Types.{constant_at, constant_of, rep_type_of}
-use Rattle.dk_decl.specs.Variables.{counterparts, opened, var_decl_of, var_line}
+use Rattle.dk_decl.specs.Variables.{counterparts, open_var, var_decl_of, var_line}
 
 -- lines with their numbers, from this one on
 abbrev numbered : ℕ → List (List ℕ) → List Line
@@ -65,25 +65,25 @@ child : block_decl true (first (codes "ppt C")) (numbered 2 (codes "ppt-type Poi
           }
           ∷ [];
     })
-unfolding block_decl ppt_of point_name ppt_lines head_line parent_line is_point_type id_of is_variable opened var_line with_var var_decl_of counterparts
+unfolding block_decl ppt_of point_name ppt_lines head_line parent_line is_point_type id_of is_variable open_var var_line with_var var_decl_of counterparts
     rep_type_of constant_at compar_of bracket_parts numbers_of index_number index_of integer_of whole_of natural_of begins operand operands pieces unescaped
 child = refl
 
 -- a variable without a rep-type is judged when it ends, and in front of the `variable` line that ends it
 no_rep_type : block_decl true (first (codes "ppt P")) (numbered 2 (codes "variable x" ∷ codes "constant a" ∷ codes "variable" ∷ [])) (Some 5) ≡ refused BadVariable 2
-unfolding block_decl ppt_of point_name ppt_lines is_variable opened var_line with_var var_decl_of begins operand unescaped
+unfolding block_decl ppt_of point_name ppt_lines is_variable open_var var_line with_var var_decl_of begins operand unescaped
 no_rep_type = refl
 
 -- where the block is cut off it is not judged, and does not stand in the declaration
 cut_off : block_decl true (first (codes "ppt P")) (numbered 2 (codes "variable x" ∷ codes "constant a" ∷ [])) None
     ≡ Ok (record { name = codes "P"; edges = []; vars = [] })
-unfolding block_decl ppt_of point_name ppt_lines is_variable opened var_line with_var begins operand unescaped
+unfolding block_decl ppt_of point_name ppt_lines is_variable open_var var_line with_var begins operand unescaped
 cut_off = refl
 
 -- a constant is judged with the last rep-type, at its own line
 bad_constant : block_decl true (first (codes "ppt P")) (numbered 2 (codes "variable x" ∷ codes "rep-type String" ∷ codes "constant 5" ∷ codes "rep-type boolean" ∷ [])) (Some 6)
     ≡ refused BadVariable 4
-unfolding block_decl ppt_of point_name ppt_lines is_variable opened var_line with_var var_decl_of rep_type_of constant_at constant_of begins operand unescaped
+unfolding block_decl ppt_of point_name ppt_lines is_variable open_var var_line with_var var_decl_of rep_type_of constant_at constant_of begins operand unescaped
     bool_item
 bad_constant = refl
 

@@ -16,7 +16,7 @@ use Rattle.dk_decl.specs.Outcomes.{or_refused, refused}
 use Rattle.dk_decl.specs.PptBlock.{groups, has_ended, point_name, point_with, ppt_lines, ppt_of, vars_after, with_var}
 use Rattle.dk_decl.specs.Types.{constant_at, rep_kind, rep_type_of}
 use Rattle.dk_decl.specs.VarNames.{has_name}
-use Rattle.dk_decl.specs.Variables.{counterparts, new_var, opened, var_decl_of, var_line, var_with, with_counterparts}
+use Rattle.dk_decl.specs.Variables.{counterparts, new_var, open_var, var_decl_of, var_line, var_with, with_counterparts}
 use Rattle.dk_decl.specs.declared.decls.EdgeDecl.{EdgeDecl}
 use Rattle.dk_decl.specs.declared.decls.VarDecl.{VarDecl}
 use Rattle.dk_decl.specs.declared.variables.OpenVar.{OpenVar}
@@ -179,8 +179,8 @@ compar_kept false es o w ls begun e =
     same_kept (var_line false es) (λ x. x.compar)
     (λ o m l h. (step false es o m l h).compar ∙ ap (λ b. if b then compar_at l else o.compar) (and_false (begins (codes "comparability") l.bytes))) o w ls e ∙ begun
 
-opened_as : (vs : List VarDecl) (l : Line) (o : OpenVar) → opened vs l ≡ Ok o → o ≡ new_var l.number (unescaped (operand l.bytes))
-unfolding opened
+opened_as : (vs : List VarDecl) (l : Line) (o : OpenVar) → open_var vs l ≡ Ok o → o ≡ new_var l.number (unescaped (operand l.bytes))
+unfolding open_var
 opened_as vs l o e = go (is_empty (operand l.bytes) || has_name (unescaped (operand l.bytes)) vs) e
   where
     go : (b : Bool) → (if b then refused {A = OpenVar} BadVariable l.number else Ok (new_var l.number (unescaped (operand l.bytes)))) ≡ Ok o
@@ -190,7 +190,7 @@ opened_as vs l o e = go (is_empty (operand l.bytes) || has_name (unescaped (oper
 
 -- a variable is what its lines say
 declared_by : (implicit : Bool) (es : List EdgeDecl) (vs : List VarDecl) (g : Line × List Line) (o w : OpenVar) (v : VarDecl)
-    → opened vs g.0 ≡ Ok o → each_line (var_line implicit es) o g.1 ≡ Ok w → var_decl_of w ≡ Ok v → IsDeclaredBy implicit es g v
+    → open_var vs g.0 ≡ Ok o → each_line (var_line implicit es) o g.1 ≡ Ok w → var_decl_of w ≡ Ok v → IsDeclaredBy implicit es g v
 unfolding var_decl_of
 declared_by implicit es vs g o w v open_is lines_are closed_is =
     bind_ok (or_refused BadVariable w.line w.rep) (λ rep. constant_at rep w.constant >>= λ constant. Ok (var_with w rep constant)) v closed_is (λ rep rep_found then_constant.
@@ -228,7 +228,7 @@ declared_in_order : (implicit : Bool) (es : List EdgeDecl) (vs : List VarDecl) (
 unfolding with_var
 declared_in_order implicit es vs [] close ws e = ([], same_ok (Ok vs) vs ws refl e ∙ sym (append-nil vs), tt)
 declared_in_order implicit es vs (g ∷ gs) close ws e =
-    bind_ok (opened vs g.0) (λ o. each_line (var_line implicit es) o g.1 >>= λ w. with_var vs w (has_ended gs (Some close)) >>= λ more. vars_after implicit es more gs (Some close)) ws e (λ o open_is e1.
+    bind_ok (open_var vs g.0) (λ o. each_line (var_line implicit es) o g.1 >>= λ w. with_var vs w (has_ended gs (Some close)) >>= λ more. vars_after implicit es more gs (Some close)) ws e (λ o open_is e1.
     bind_ok (each_line (var_line implicit es) o g.1) (λ w. with_var vs w (has_ended gs (Some close)) >>= λ more. vars_after implicit es more gs (Some close)) ws e1 (λ w lines_are e2.
     bind_ok (with_var vs w (has_ended gs (Some close))) (λ more. vars_after implicit es more gs (Some close)) ws e2 (λ longer with_is e3.
     bind_ok (var_decl_of w) (λ v. Ok (vs ++ v ∷ [])) longer (ap (with_var vs w) (sym (ended gs close)) ∙ with_is) (λ v closed_is longer_is.

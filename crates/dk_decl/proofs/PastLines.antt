@@ -10,7 +10,7 @@ use Rattle.dk_decl.specs.LineWords.{begins, each_line}
 use Rattle.dk_decl.specs.PptBlock.{groups, has_ended, is_variable, point_name, point_with, ppt_lines, ppt_of, vars_after, with_var}
 use Rattle.dk_decl.specs.Comments.{is_comment}
 use Rattle.dk_decl.specs.ReadPast.{CommentsAreReadPast, OtherLinesAreReadPast, is_read}
-use Rattle.dk_decl.specs.Variables.{opened, var_line}
+use Rattle.dk_decl.specs.Variables.{open_var, var_line}
 use Rattle.dk_decl.specs.declared.decls.EdgeDecl.{EdgeDecl}
 use Rattle.dk_decl.specs.declared.decls.PointDecl.{PointDecl}
 use Rattle.dk_decl.specs.declared.decls.VarDecl.{VarDecl}
@@ -99,7 +99,7 @@ vars_same : (implicit : Bool) (es : List EdgeDecl) (keeps : Line → Bool) → (
     → vars_after implicit es vs (map (kept_lines keeps) gs) close ≡ vars_after implicit es vs gs close
 vars_same implicit es keeps skips vs [] close = refl
 vars_same implicit es keeps skips vs (g ∷ gs) close = λ i.
-    opened vs g.0 >>= λ o. each_same (var_line implicit es) keeps skips o g.1 i >>= λ w. with_var vs w (ended_same keeps gs close i) >>= λ more.
+    open_var vs g.0 >>= λ o. each_same (var_line implicit es) keeps skips o g.1 i >>= λ w. with_var vs w (ended_same keeps gs close i) >>= λ more.
     vars_same implicit es keeps skips more gs close i
 
 -- lines without the format's first words may be left out of a block

@@ -7,7 +7,7 @@ use Rattle.dk_base.specs.declared.why.Why.TheVariants.{BadPoint}
 use Rattle.dk_decl.specs.Heads.{head_line}
 use Rattle.dk_decl.specs.LineWords.{begins, each_line, operand}
 use Rattle.dk_decl.specs.Outcomes.{refused}
-use Rattle.dk_decl.specs.Variables.{opened, var_decl_of, var_line}
+use Rattle.dk_decl.specs.Variables.{open_var, var_decl_of, var_line}
 use Rattle.dk_decl.specs.declared.decls.EdgeDecl.{EdgeDecl}
 use Rattle.dk_decl.specs.declared.decls.VarDecl.{VarDecl}
 use Rattle.dk_decl.specs.declared.decls.PointDecl.{PointDecl}
@@ -39,7 +39,7 @@ with_var vs o false = Ok vs
 abbrev pub vars_after : Bool → List EdgeDecl → List VarDecl → List (Line × List Line) → Option ℕ → Result (List VarDecl) LineFault
 vars_after implicit es vs [] close = Ok vs
 vars_after implicit es vs (g ∷ gs) close =
-    opened vs g.0 >>= λ o. each_line (var_line implicit es) o g.1
+    open_var vs g.0 >>= λ o. each_line (var_line implicit es) o g.1
     >>= λ w. with_var vs w (has_ended gs close) >>= λ more. vars_after implicit es more gs close
 
 abbrev pub point_with : List ℕ → List EdgeDecl → Result (List VarDecl) LineFault → Result PointDecl LineFault

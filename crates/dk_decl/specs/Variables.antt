@@ -23,8 +23,8 @@ abbrev pub new_var : ℕ → List ℕ → OpenVar
 new_var line name = record { line = line; name = name; rep = None; compar = no_compar; constant = None; parents = [] }
 
 -- a `variable NAME` line: a name that is not empty and that no earlier variable has
-unfoldable pub opened : List VarDecl → Line → Result OpenVar LineFault
-opened vs l =
+unfoldable pub open_var : List VarDecl → Line → Result OpenVar LineFault
+open_var vs l =
     if is_empty (operand l.bytes) || has_name (unescaped (operand l.bytes)) vs then refused BadVariable l.number
     else Ok (new_var l.number (unescaped (operand l.bytes)))
 

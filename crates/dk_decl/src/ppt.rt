@@ -7,7 +7,7 @@ use crate::decls::{EdgeDecl, PointDecl};
 use crate::heads::head_line;
 use crate::line_words::{begins, operand};
 use crate::outcomes::{bad_point, in_memory};
-use crate::variables::{OpenVar, close_var, opened, var_line};
+use crate::variables::{OpenVar, close_var, open_var, var_line};
 use crate::vars::Vars;
 use dk_base::{BlockFault, List, Text, unescape};
 use std::alloc::Global;
@@ -39,7 +39,7 @@ impl PptBlock {
 
     // A block of which the first line was read.
     #[tactic(auto, unfolding(crate::specs::PptBlock::ppt_lines, crate::specs::PptBlock::ppt_resumed))]
-    fn named(alloc: Global, name: Text) -> PptBlock
+    fn of_name(alloc: Global, name: Text) -> PptBlock
         ensures { (implicit : Bool) (ls : List Line) (close : Option ℕ) → ppt_lines implicit name ls close ≡ ppt_resumed implicit result ls close }
     {
         PptBlock {
@@ -56,7 +56,7 @@ impl PptBlock {
         ensures { (implicit : Bool) → ReaderGoesOn (ppt_resumed implicit) result (ppt_of implicit (record { number = line; bytes = bytes.now })) }
     {
         let name = PptBlock::point_name(alloc, line, bytes)?;
-        Ok(PptBlock::named(alloc, name))
+        Ok(PptBlock::of_name(alloc, name))
     }
 
     #[tactic(auto, unfolding(crate::specs::PptBlock::is_variable))]
@@ -113,7 +113,7 @@ impl PptBlock {
         if let Some(ended) = current {
             vars = PptBlock::with_var(alloc, vars, ended)?;
         }
-        let current = opened(alloc, &vars, line, bytes)?;
+        let current = open_var(alloc, &vars, line, bytes)?;
         Ok(PptBlock {
             name,
             edges,

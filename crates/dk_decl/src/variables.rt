@@ -1,7 +1,7 @@
 // The lines of a variable in a `ppt` block.
 ghost use Rattle.std.specs.Prelude.{◌≡◌, map, option_map};
 ghost use Rattle.dk_decl.specs.Outcomes.{AnswerAgrees};
-ghost use Rattle.dk_decl.specs.Variables.{at_edge, counterparts, opened, var_decl_of, var_line, with_counterparts};
+ghost use Rattle.dk_decl.specs.Variables.{at_edge, counterparts, open_var, var_decl_of, var_line, with_counterparts};
 
 use crate::brackets::compar_of;
 use crate::decls::{EdgeDecl, ParentVar, VarDecl};
@@ -31,14 +31,14 @@ pub(crate) const NO_COMPAR: Compar = Compar {
 };
 
 /// The variable that a `variable` line opens.
-#[tactic(auto, unfolding(crate::specs::Variables::opened))]
-pub(crate) fn opened(
+#[tactic(auto, unfolding(crate::specs::Variables::open_var))]
+pub(crate) fn open_var(
     alloc: Global,
     vars: &Vars,
     line: u64,
     bytes: &[u8],
 ) -> Result<OpenVar, BlockFault>
-    ensures { AnswerAgrees result (opened vars.now (record { number = line; bytes = bytes.now })) }
+    ensures { AnswerAgrees result (open_var vars.now (record { number = line; bytes = bytes.now })) }
 {
     let rest = operand(bytes);
     if rest.is_empty() {

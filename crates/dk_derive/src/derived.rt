@@ -143,7 +143,7 @@ fn push_of_sequence(
     push_by_indices(alloc, vars, base, s, sequence)
 }
 
-fn copied(alloc: Global, vars: &[VarInfo]) -> Result<List<VarInfo>, NoMemory>
+fn copy_vars(alloc: Global, vars: &[VarInfo]) -> Result<List<VarInfo>, NoMemory>
     ensures { IfOk result (λ copy. copy ≡ vars.now) }
 {
     let mut copy = List::new(alloc);
@@ -167,7 +167,7 @@ pub fn derive(alloc: Global, base: &[VarInfo]) -> Result<List<VarInfo>, NoMemory
     ensures shapes { IfOk result AreWithDerived }
     ensures len { IfOk result (λ all. length all ≡ length (with_derived (map shape_of base.now))) }
 {
-    let mut vars = copied(alloc, base)?;
+    let mut vars = copy_vars(alloc, base)?;
     for (place, sequence) in base.iter().enumerate() {
         push_of_sequence(alloc, &mut vars, base, VarId(place as u32), sequence)?;
     }

@@ -20,7 +20,7 @@ fn stem(name: &[u8]) -> &[u8]
     }
 }
 
-fn followed(alloc: Global, front: &[u8], back: &[u8]) -> Result<Text, NoMemory>
+fn concatenate(alloc: Global, front: &[u8], back: &[u8]) -> Result<Text, NoMemory>
     ensures { IfOk result (λ text. text ≡ front.now ++ back.now) }
 {
     let mut text = Text::from_slice(alloc, front)?;
@@ -29,7 +29,7 @@ fn followed(alloc: Global, front: &[u8], back: &[u8]) -> Result<Text, NoMemory>
 }
 
 // A name, and behind it an index or a range.
-fn bracketed(
+fn with_brackets(
     alloc: Global,
     name: &[u8],
     opening: &[u8],
@@ -38,7 +38,7 @@ fn bracketed(
 ) -> Result<Text, NoMemory>
     ensures { IfOk result (λ text. text ≡ name.now ++ opening.now ++ index.now ++ closing.now) }
 {
-    let mut text = followed(alloc, name, opening)?;
+    let mut text = concatenate(alloc, name, opening)?;
     text.append(index)?;
     text.append(closing)?;
     Ok(text)
@@ -52,14 +52,14 @@ fn text_over(alloc: Global, sequence: &[u8], index: &[u8], form: Form) -> Result
     match form {
         Form::Declared => Text::from_slice(alloc, sequence),
         Form::Orig => Text::from_slice(alloc, sequence),
-        Form::Size(_) => bracketed(alloc, b"", b"size(", sequence, b")"),
-        Form::First(_) => followed(alloc, stem(sequence), b"[0]"),
-        Form::Last(_) => followed(alloc, stem(sequence), b"[-1]"),
-        Form::At(_, _) => bracketed(alloc, stem(sequence), b"[", index, b"]"),
-        Form::Upto(_, _) => bracketed(alloc, stem(sequence), b"[0..", index, b"]"),
-        Form::Before(_, _) => bracketed(alloc, stem(sequence), b"[0..", index, b"-1]"),
-        Form::Since(_, _) => bracketed(alloc, stem(sequence), b"[", index, b"..]"),
-        Form::After(_, _) => bracketed(alloc, stem(sequence), b"[", index, b"+1..]"),
+        Form::Size(_) => with_brackets(alloc, b"", b"size(", sequence, b")"),
+        Form::First(_) => concatenate(alloc, stem(sequence), b"[0]"),
+        Form::Last(_) => concatenate(alloc, stem(sequence), b"[-1]"),
+        Form::At(_, _) => with_brackets(alloc, stem(sequence), b"[", index, b"]"),
+        Form::Upto(_, _) => with_brackets(alloc, stem(sequence), b"[0..", index, b"]"),
+        Form::Before(_, _) => with_brackets(alloc, stem(sequence), b"[0..", index, b"-1]"),
+        Form::Since(_, _) => with_brackets(alloc, stem(sequence), b"[", index, b"..]"),
+        Form::After(_, _) => with_brackets(alloc, stem(sequence), b"[", index, b"+1..]"),
     }
 }
 

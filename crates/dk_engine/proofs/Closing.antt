@@ -25,7 +25,7 @@ use Rattle.dk_suppress.specs.Rules.{Rule, is_suppressed, rules}
 use Rattle.dk_suppress.specs.Soundness.{fit_of}
 use Rattle.dk_template.specs.Admitted.{admits}
 use Rattle.dk_template.specs.Premises.{IsUsable, at_role, premise_fits, row_of, suffices, vars_of}
-use Rattle.dk_template.specs.Exchange.{arranged}
+use Rattle.dk_template.specs.Exchange.{arrange_tuple}
 use Rattle.dk_template.specs.Templates.{IsRow, arity_of, form_of, is_plain, rows, template_of}
 use Rattle.dk_template.specs.declared.answers.Premise.{Premise}
 use Rattle.dk_template.specs.declared.answers.Premise.TheVariants.{Holds, LeastAtLeast, GreatestAtMost, Only}
@@ -156,7 +156,7 @@ one_variable row p of elements =
     ap arity_of (sym of.concludes)
     ∙ eqb-true (arity_of of.rule.0) 1 (ap (λ b. not b || (arity_of of.rule.0 == 1)) (sym elements) ∙ passes (λ r q. not (is_of_elements (row_of q)) || (arity_of r.0 == 1)) one_role row p of)
 
-first_role : (y : Symmetry) (v : VarId) (role : ℕ) → role < 1 → arranged y (at_role role (v ∷ []) ∷ []) ≡ v ∷ []
+first_role : (y : Symmetry) (v : VarId) (role : ℕ) → role < 1 → arrange_tuple y (at_role role (v ∷ []) ∷ []) ≡ v ∷ []
 first_role y v zero l = arranged_one y v
 first_role y v (suc role) l = absurd (omega (arith, l))
 

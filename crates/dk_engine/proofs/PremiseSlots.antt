@@ -26,7 +26,7 @@ use Rattle.dk_suppress.specs.Laws.{AllPremises}
 use Rattle.dk_suppress.specs.Rules.{Rule, asks, rules}
 use Rattle.dk_template.proofs.WrittenOrder.{arranged_ascends, written_tuples_are_admitted}
 use Rattle.dk_template.specs.Admitted.{admits}
-use Rattle.dk_template.specs.Exchange.{arranged, descends, disarranged, exchange, exchanged, exchanged_back, ordered, written}
+use Rattle.dk_template.specs.Exchange.{arrange_tuple, descends, disarrange_state, exchange, exchanged_back, exchanged_state, order_tuple, written_order}
 use Rattle.dk_template.specs.Fitting.{fits}
 use Rattle.dk_template.specs.Premises.{IsUsable, at_role, roles_read, row_of, suffices, vars_of}
 use Rattle.dk_template.specs.Templates.{IsRow, IsRowOf, arity_of, form_of, is_plain, rank_of, roles_of, template_of}
@@ -93,12 +93,12 @@ module _ (P : VarId → Type 0) where
   exchange_all Last (u ∷ v ∷ w ∷ rest) h =
       All-cons P u (w ∷ v ∷ rest) (All-head P u (v ∷ w ∷ rest) h) (exchange_all First (v ∷ w ∷ rest) (All-tail P u (v ∷ w ∷ rest) h))
 
-  ordered_all : (e : Exchange) (vars : List VarId) → All P vars → All P (ordered e vars)
+  ordered_all : (e : Exchange) (vars : List VarId) → All P vars → All P (order_tuple e vars)
   ordered_all e vars h = elim (descends e vars) as (λ b. All P (cond b (exchange e vars) vars)) [ true ↦ exchange_all e vars h | false ↦ h ]
 
-  arranged_all : (s : Symmetry) (vars : List VarId) → All P vars → All P (arranged s vars)
+  arranged_all : (s : Symmetry) (vars : List VarId) → All P vars → All P (arrange_tuple s vars)
   arranged_all symmetry.Fixed vars h = h
-  arranged_all symmetry.All vars h = ordered_all Last (ordered First (ordered Last vars)) (ordered_all First (ordered Last vars) (ordered_all Last vars h))
+  arranged_all symmetry.All vars h = ordered_all Last (order_tuple First (order_tuple Last vars)) (ordered_all First (order_tuple Last vars) (ordered_all Last vars h))
   arranged_all symmetry.Arguments vars h = ordered_all Last vars h
 
   pub asked_all : (p : Premise) (vars : List VarId) → All (λ role. role < length vars) (roles_read p) → All P vars → All P (vars_of p vars)
@@ -122,12 +122,12 @@ exchange_in Last v (a ∷ b ∷ []) h = h
 exchange_in Last v (a ∷ b ∷ c ∷ rest) (inl h) = inl h
 exchange_in Last v (a ∷ b ∷ c ∷ rest) (inr h) = inr (exchange_in First v (b ∷ c ∷ rest) h)
 
-ordered_in : (e : Exchange) (v : VarId) (vars : List VarId) → IsIn v vars → IsIn v (ordered e vars)
+ordered_in : (e : Exchange) (v : VarId) (vars : List VarId) → IsIn v vars → IsIn v (order_tuple e vars)
 ordered_in e v vars h = elim (descends e vars) as (λ b. IsIn v (cond b (exchange e vars) vars)) [ true ↦ exchange_in e v vars h | false ↦ h ]
 
-arranged_in : (s : Symmetry) (v : VarId) (vars : List VarId) → IsIn v vars → IsIn v (arranged s vars)
+arranged_in : (s : Symmetry) (v : VarId) (vars : List VarId) → IsIn v vars → IsIn v (arrange_tuple s vars)
 arranged_in symmetry.Fixed v vars h = h
-arranged_in symmetry.All v vars h = ordered_in Last v (ordered First (ordered Last vars)) (ordered_in First v (ordered Last vars) (ordered_in Last v vars h))
+arranged_in symmetry.All v vars h = ordered_in Last v (order_tuple First (order_tuple Last vars)) (ordered_in First v (order_tuple Last vars) (ordered_in Last v vars h))
 arranged_in symmetry.Arguments v vars h = ordered_in Last v vars h
 
 pub roles_read_the_slot : RolesReadTheSlot
@@ -164,7 +164,7 @@ asks_placed g infos leaders vars p can lead =
     }
 
 -- ---- a premise finds the same in its slot
-plain_exchanged : (e : Exchange) (s : State) → IsPlainState s → exchanged e s ≡ s
+plain_exchanged : (e : Exchange) (s : State) → IsPlainState s → exchanged_state e s ≡ s
 plain_exchanged First state.Empty h = refl
 plain_exchanged First state.Broken h = refl
 plain_exchanged First state.Holds h = refl
@@ -174,13 +174,13 @@ plain_exchanged Last state.Holds h = refl
 plain_exchanged _ _ h = absurd h
 
 plain_back : (e : Exchange) (vars : List VarId) (s : State) → IsPlainState s → exchanged_back e vars s ≡ s
-plain_back e vars s h = elim (descends e vars) as (λ b. cond b (exchanged e s) s ≡ s) [ true ↦ plain_exchanged e s h | false ↦ refl ]
+plain_back e vars s h = elim (descends e vars) as (λ b. cond b (exchanged_state e s) s ≡ s) [ true ↦ plain_exchanged e s h | false ↦ refl ]
 
-plain_disarranged : (y : Symmetry) (vars : List VarId) (s : State) → IsPlainState s → disarranged y vars s ≡ s
+plain_disarranged : (y : Symmetry) (vars : List VarId) (s : State) → IsPlainState s → disarrange_state y vars s ≡ s
 plain_disarranged symmetry.Fixed vars s h = refl
 plain_disarranged symmetry.All vars s h =
-    let one = ordered Last vars in
-    ap (λ t. exchanged_back Last vars (exchanged_back First one t)) (plain_back Last (ordered First one) s h) ∙ (ap (exchanged_back Last vars) (plain_back First one s h) ∙ plain_back Last vars s h)
+    let one = order_tuple Last vars in
+    ap (λ t. exchanged_back Last vars (exchanged_back First one t)) (plain_back Last (order_tuple First one) s h) ∙ (ap (exchanged_back Last vars) (plain_back First one s h) ∙ plain_back Last vars s h)
 plain_disarranged symmetry.Arguments vars s h = plain_back Last vars s h
 
 plain_of_list : (bs : List Bool) → IsPlainState (plain_of bs)
@@ -192,7 +192,7 @@ unfolding fit
 plain_fit row is plain vars samples =
     subst IsPlainState (sym (plain_rows row is (plain_form (form_of row) plain) (tuples_of vars samples))) (plain_of_list (map (relation_of row) (tuples_of vars samples)))
 
-pub arranged_one : (y : Symmetry) (v : VarId) → arranged y (v ∷ []) ≡ v ∷ []
+pub arranged_one : (y : Symmetry) (v : VarId) → arrange_tuple y (v ∷ []) ≡ v ∷ []
 arranged_one symmetry.Fixed v = refl
 arranged_one symmetry.All v = refl
 arranged_one symmetry.Arguments v = refl
@@ -202,8 +202,8 @@ pub slot_tells : (g : Grammar) (infos : List VarInfo) (vars : List VarId) (p : P
 slot_tells g infos vars (Holds row roles) can samples =
     let is = row_of_grammar g row can.row in
     let own = vars_of (Holds row roles) vars in
-    let plain = plain_fit row is (and_parts (is_plain (form_of row)) _ can.formed).0 (written row own) samples in
-    ap fits (fits_turn row is own (long row infos own can.admitted) samples ∙ plain_disarranged (template_of row).symmetry own (fit row (written row own) samples) plain)
+    let plain = plain_fit row is (and_parts (is_plain (form_of row)) _ can.formed).0 (written_order row own) samples in
+    ap fits (fits_turn row is own (long row infos own can.admitted) samples ∙ plain_disarranged (template_of row).symmetry own (fit row (written_order row own) samples) plain)
 slot_tells g infos vars (LeastAtLeast row role k) can samples = ap (λ own. suffices (LeastAtLeast row role k) (fit row own samples)) (sym (arranged_one (template_of row).symmetry (at_role role vars)))
 slot_tells g infos vars (GreatestAtMost row role k) can samples = ap (λ own. suffices (GreatestAtMost row role k) (fit row own samples)) (sym (arranged_one (template_of row).symmetry (at_role role vars)))
 slot_tells g infos vars (Only role k) can samples = ap (λ own. suffices (Only role k) (fit (row_of (Only role k)) own samples)) (sym (arranged_one (template_of (row_of (Only role k))).symmetry (at_role role vars)))

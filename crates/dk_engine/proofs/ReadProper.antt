@@ -15,7 +15,7 @@ use Rattle.dk_template.proofs.Exchanges.{proper_disarranged}
 use Rattle.dk_template.proofs.ProperStates.{proper_laws}
 use Rattle.dk_template.proofs.WrittenOrder.{written_tuples_are_admitted}
 use Rattle.dk_template.specs.Admitted.{admits}
-use Rattle.dk_template.specs.Exchange.{written}
+use Rattle.dk_template.specs.Exchange.{written_order}
 use Rattle.dk_template.specs.Joins.{joined}
 use Rattle.dk_template.specs.Proper.{IsProper}
 use Rattle.dk_template.specs.Rows.{IsTuple}
@@ -47,8 +47,8 @@ module _ (g : Grammar) (infos : List VarInfo) (point : AreOfPoint infos) (kept :
   unfolding read_leaders
   read_leaders_proper zero row of vars a = (proper_laws (form_of row)).broken_proper
   read_leaders_proper (suc n) row of vars a =
-      proper_disarranged (form_of row) (template_of row).symmetry vars (read_written kept (read_leaders n kept) row (written row vars))
-      (read_written_proper g infos kept can (read_leaders n kept) row (written row vars) of (written_tuples_are_admitted row (row_is g row of) infos vars a))
+      proper_disarranged (form_of row) (template_of row).symmetry vars (read_written kept (read_leaders n kept) row (written_order row vars))
+      (read_written_proper g infos kept can (read_leaders n kept) row (written_order row vars) of (written_tuples_are_admitted row (row_is g row of) infos vars a))
 
   pub read_proper : (row : RowId) → IsRowOf g row → (vars : List VarId) → admits row infos vars ≡ true → IsProper (form_of row) (state_read kept row vars)
   unfolding state_read

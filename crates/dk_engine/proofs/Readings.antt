@@ -32,7 +32,7 @@ use Rattle.dk_suppress.specs.Soundness.{fit_of, holds_of}
 use Rattle.dk_template.proofs.WrittenOrder.{written_tuples_are_admitted}
 use Rattle.dk_template.proofs.WrittenTuples.{admitted_arity, admitted_few, rank_below, written_all, written_is_written}
 use Rattle.dk_template.specs.Admitted.{admits, is_written}
-use Rattle.dk_template.specs.Exchange.{turned_state, written}
+use Rattle.dk_template.specs.Exchange.{turned_state, written_order}
 use Rattle.dk_template.specs.Premises.{AreThere}
 use Rattle.dk_template.specs.Templates.{IsRow, IsRowOf, rank_of}
 use Rattle.dk_template.specs.declared.grammar.Grammar.{Grammar}
@@ -139,8 +139,8 @@ module _ (g : Grammar) (infos : List VarInfo) (point : AreOfPoint infos) (sample
         let lead = written_all (Contains (own_leaders kept.leaders)) row vars over.lead in
         let same = suppressed_alike g infos (Contains (own_leaders kept.leaders)) (read_leaders n kept) (fit_of samples) row
         (λ r of lower vs a all. read_leaders_fits n r vs (record { of_grammar = of; admitted = a; lead = all }) (omega (arith, below, lower)))
-        (written row vars) admitted lead in
-        ap (turned_state row vars) (read_written_fits row (written row vars) (record { of_grammar = over.of_grammar; admitted = admitted; lead = lead })
+        (written_order row vars) admitted lead in
+        ap (turned_state row vars) (read_written_fits row (written_order row vars) (record { of_grammar = over.of_grammar; admitted = admitted; lead = lead })
         (written_is_written row vars (admitted_few row infos vars over.admitted)) (read_leaders n kept) same)
         ∙ sym (fits_turn row isrow vars (admitted_arity row infos vars over.admitted) samples)
 

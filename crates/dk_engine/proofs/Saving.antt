@@ -22,7 +22,7 @@ use Rattle.dk_presence.specs.Patterns.{capped, counted_by, has, has_all, held_pa
 use Rattle.dk_presence.specs.declared.held.Held.{Held}
 use Rattle.dk_samples.specs.Samples.{is_present}
 use Rattle.dk_suppress.specs.Rules.{is_suppressed}
-use Rattle.dk_template.specs.Exchange.{turned_state, written}
+use Rattle.dk_template.specs.Exchange.{turned_state, written_order}
 use Rattle.dk_template.specs.declared.grammar.Grammar.{Grammar}
 use Rattle.dk_engine.specs.Conditions.{AreParts, CanBeFed, CanBeRead}
 use Rattle.dk_engine.proofs.PartsOfSamples.{kept_parts_meet}
@@ -124,8 +124,8 @@ module _ (kept : Kept) (held : List Held) (moved : IsPermutation kept.held held)
   unfolding read_leaders
   read_moved zero = refl
   read_moved (suc n) = λ i row vars. turned_state row vars (
-      if all_known kept.known (written row vars) then state_of_one row (known_tuple kept.known (written row vars))
-      else read_slot (slot_at kept.slots row (written row vars)) (is_suppressed (read_moved n i) row (written row vars)) (counted_moved (written row vars) i))
+      if all_known kept.known (written_order row vars) then state_of_one row (known_tuple kept.known (written_order row vars))
+      else read_slot (slot_at kept.slots row (written_order row vars)) (is_suppressed (read_moved n i) row (written_order row vars)) (counted_moved (written_order row vars) i))
 
   pub parts_moved : (grammar : Grammar) (infos : List VarInfo) → AreParts grammar infos kept → AreParts grammar infos (with_held kept held)
   parts_moved grammar infos are = record {

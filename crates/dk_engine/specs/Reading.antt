@@ -10,7 +10,7 @@ use Rattle.dk_presence.specs.Patterns.{counted_by}
 use Rattle.dk_rows.specs.Meanings.{state_of}
 use Rattle.dk_suppress.specs.Rules.{is_suppressed}
 use Rattle.dk_suppress.specs.Soundness.{holds_of}
-use Rattle.dk_template.specs.Exchange.{turned_state, written}
+use Rattle.dk_template.specs.Exchange.{turned_state, written_order}
 use Rattle.dk_template.specs.declared.grammar.RowId.{RowId}
 use Rattle.dk_engine.specs.Parts.{all_known, known_tuple, leaders_of, slot_at}
 use Rattle.dk_engine.specs.declared.kept.Kept.{Kept}
@@ -36,7 +36,7 @@ read_written kept lower row vars =
 
 -- the same of leaders in any order
 abbrev pub read_turned : Kept → (RowId → List VarId → State) → RowId → List VarId → State
-read_turned kept lower row vars = turned_state row vars (read_written kept lower row (written row vars))
+read_turned kept lower row vars = turned_state row vars (read_written kept lower row (written_order row vars))
 
 -- the state of leaders, for the rows of a rank below n
 unfoldable pub read_leaders : ℕ → Kept → RowId → List VarId → State

@@ -14,7 +14,7 @@ use Rattle.dk_forms.specs.declared.states.State.TheVariants.{Broken, Empty}
 use Rattle.dk_presence.specs.Patterns.{pattern_count, present_in}
 use Rattle.dk_suppress.specs.Rules.{Rule, asks, is_suppressed, rules}
 use Rattle.dk_template.specs.Admitted.{admits, is_written}
-use Rattle.dk_template.specs.Exchange.{written}
+use Rattle.dk_template.specs.Exchange.{written_order}
 use Rattle.dk_template.specs.Premises.{premise_fits, row_of, suffices, vars_of}
 use Rattle.dk_template.specs.Templates.{IsRowOf, rank_of}
 use Rattle.dk_template.specs.declared.answers.Premise.{Premise}
@@ -64,7 +64,7 @@ pub record IsPremiseOf (row : RowId) (p : Premise) : Type 0 where
 
 -- the variables that a premise asks about, in its row's written order: those of its slot
 abbrev pub slot_vars : Premise → List VarId → List VarId
-slot_vars p vars = written (row_of p) (vars_of p vars)
+slot_vars p vars = written_order (row_of p) (vars_of p vars)
 
 -- the premise fitted before, and doesn't after; or the other way round
 abbrev pub is_lost : Answer → Answer → Premise → List VarId → Bool

@@ -136,7 +136,7 @@ impl<'a> After<'a> {
     }
 
     /// A state of a row over variables with the sample.
-    pub(crate) fn joined(
+    pub(crate) fn with_sample(
         &self,
         row: RowId,
         vars: &[VarId],
@@ -178,7 +178,7 @@ impl<'a> After<'a> {
         if !info(row).plain {
             return Ok(false);
         }
-        let state = self.joined(row, vars, State::Empty)?;
+        let state = self.with_sample(row, vars, State::Empty)?;
         Ok(matches!(state, State::Broken))
     }
 
@@ -194,7 +194,7 @@ impl<'a> After<'a> {
             return Ok(State::Broken);
         }
         let before = self.engine.state(row, vars)?;
-        self.joined(row, vars, before)
+        self.with_sample(row, vars, before)
     }
 
     /// A slot's state with the sample.
@@ -204,7 +204,7 @@ impl<'a> After<'a> {
         ensures { IfOk result (λ s. s ≡ with_sample slot.now.row slot.now.leaders self.now.sample slot.now.state) }
     {
         let before = slot.state.copy(self.alloc)?;
-        self.joined(slot.row, slot.leaders.as_slice(), before)
+        self.with_sample(slot.row, slot.leaders.as_slice(), before)
     }
 
     // Whether the tuple of the variables in the sample leaves a state of a row over them as it is.

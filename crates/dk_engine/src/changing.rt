@@ -54,7 +54,7 @@ fn with_changes(slots: Vec<Slot>, changes: Vec<Change>) -> Vec<Slot>
 }
 
 // Those that aren't Broken.
-fn unbroken(slots: Vec<Slot>) -> Vec<Slot>
+fn without_broken(slots: Vec<Slot>) -> Vec<Slot>
     ensures { result.items ≡ filter (λ s. not (is_broken s.state)) slots.items }
 {
     let mut left = slots;
@@ -63,13 +63,13 @@ fn unbroken(slots: Vec<Slot>) -> Vec<Slot>
 }
 
 /// The slots with all changes, without those that are Broken then.
-pub(crate) fn changed(slots: Slots, changes: List<Change>) -> Slots
+pub(crate) fn apply_changes(slots: Slots, changes: List<Change>) -> Slots
     ensures { (made : KeptSlot → SlotState) → AreChanges made slots changes → result ≡ slots_left made slots }
 {
     let breaks = break_some(changes.as_slice());
     let all = with_changes(slots.into_vec(), changes.into_vec());
     if breaks {
-        return Slots::of(unbroken(all));
+        return Slots::of(without_broken(all));
     }
     Slots::of(all)
 }

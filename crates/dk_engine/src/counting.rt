@@ -1,7 +1,7 @@
 // How many tuples a step would look at.
 ghost use Rattle.std.specs.Prelude.{◌<◌, All, length};
 
-use crate::reaching::reached;
+use crate::reaching::rows_reached;
 use crate::touching::touches;
 use crate::{Now, Slot};
 
@@ -15,7 +15,7 @@ fn times(n: u64, m: u64) -> u64 {
 
 // About how many tuples of n leaders a lost slot frees.
 fn freed_count(slot: &Slot, n: u64) -> u64 {
-    let rows = reached(slot.row).len() as u64;
+    let rows = rows_reached(slot.row).len() as u64;
     if slot.leaders.as_slice().len() == 1 {
         times(rows, times(3, times(n, n)))
     } else {

@@ -15,11 +15,11 @@ ghost use Rattle.dk_engine.specs.Narrow.{AreChanges, IsMergedStep, IsShut, loses
 
 use crate::after::After;
 use crate::changes::{Change, changes, few_changes, lose_some, lost_places, some_may_begin};
-use crate::changing::changed;
+use crate::changing::apply_changes;
 use crate::counting::are_many;
-use crate::merging::merged;
+use crate::merging::merge_slots;
 use crate::sweeps::Sweep;
-use crate::touching::{others, touching};
+use crate::touching::{others, touching_leaders};
 use crate::{Engine, Kept, Now, Slots};
 use dk_base::{List, NoMemory, VarId, View};
 use dk_constants::Constants;
@@ -129,12 +129,12 @@ impl Engine {
         let slots = replace(&mut self.kept.slots, Slots::new(self.alloc));
         self.kept.samples = self.kept.samples.saturating_add(1);
         self.kept.held = held;
-        self.kept.slots = changed(slots, all);
+        self.kept.slots = apply_changes(slots, all);
         Ok(())
     }
 
     // All slots with the sample, tuple by tuple.
-    fn swept(&self, sample: &[View<'_>], now: &Now) -> Result<Slots, NoMemory>
+    fn sweep_all(&self, sample: &[View<'_>], now: &Now) -> Result<Slots, NoMemory>
         requires { IsSample self.now.infos (values_of sample.now) }
         ensures exact { IfOk result (λ slots. slots ≡ slots_of self.now.grammar self.now.infos (own_leaders now.now.leaders) now.now.known (read_after self.now.kept (values_of sample.now))) }
         ensures formed { IfOk result (AreFormed self.now.grammar self.now.infos now.now.leaders) }
@@ -159,7 +159,7 @@ impl Engine {
     }
 
     // The places of the slots by which a premise is lost.
-    fn lost(&self, changes: &[Change]) -> Result<List<usize>, NoMemory>
+    fn lost_places(&self, changes: &[Change]) -> Result<List<usize>, NoMemory>
         requires { All (λ c. c.place < length self.now.kept.slots) changes.now }
         ensures { IfOk result (λ lost. lost ≡ lost_places self.now.kept.slots changes.now) }
     {
@@ -167,7 +167,12 @@ impl Engine {
     }
 
     // The slots that the sample opens: over tuples that it touches, and over those with the leaders of a slot by which a premise is lost.
-    fn opened(&self, sample: &[View<'_>], now: &Now, lost: &[usize]) -> Result<Slots, NoMemory>
+    fn opened_slots(
+        &self,
+        sample: &[View<'_>],
+        now: &Now,
+        lost: &[usize],
+    ) -> Result<Slots, NoMemory>
         requires sampled { IsSample self.now.infos (values_of sample.now) }
         requires within { All (λ k. k < length self.now.kept.slots) lost.now }
         ensures { IfOk result (λ slots. slots ≡ opened_slots self.now.grammar self.now.infos (read_after self.now.kept (values_of sample.now)) self.now.kept.slots now.now lost.now) }
@@ -179,10 +184,10 @@ impl Engine {
             known: &now.known,
             answers: &after,
         };
-        let touching = touching(self.alloc, now)?;
+        let touching = touching_leaders(self.alloc, now)?;
         let others = others(self.alloc, now)?;
         let leaders = now.leaders.leaders();
-        let touched = sweep.touched(
+        let touched = sweep.touched_slots(
             self.grammar,
             touching.as_slice(),
             others.as_slice(),
@@ -210,7 +215,7 @@ impl Engine {
         ensures kept { IfOk result (λ _. IsMergedStep self.old.grammar self.old.infos self.old.kept (values_of sample.now) now lost.now self.new.kept) }
     {
         let slots = replace(&mut self.kept.slots, Slots::new(self.alloc));
-        let slots = merged(changed(slots, changes), opened)?;
+        let slots = merge_slots(apply_changes(slots, changes), opened)?;
         self.set_parts(sample, now, slots)
     }
 
@@ -261,12 +266,12 @@ impl Engine {
             return self.set_parts(sample, now, none);
         }
         let changes = self.all_changes(sample)?;
-        let lost = self.lost(changes.as_slice())?;
+        let lost = self.lost_places(changes.as_slice())?;
         if are_many(&now, self.slots(), lost.as_slice()) {
-            let slots = self.swept(sample, &now)?;
+            let slots = self.sweep_all(sample, &now)?;
             return self.set_parts(sample, now, slots);
         }
-        let opened = self.opened(sample, &now, lost.as_slice())?;
+        let opened = self.opened_slots(sample, &now, lost.as_slice())?;
         self.step(sample, now, changes, lost.as_slice(), opened)
     }
 }

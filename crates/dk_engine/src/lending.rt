@@ -26,7 +26,7 @@ fn laid_out<'a>(alloc: Global, value: &'a Value) -> Result<Vec<&'a [u8]>, NoMemo
 }
 
 // The value as a view, with the strings of a sequence of strings laid out.
-fn shown<'a>(value: &'a Value, texts: &'a [&'a [u8]]) -> View<'a>
+fn view_of<'a>(value: &'a Value, texts: &'a [&'a [u8]]) -> View<'a>
     requires { IsLaidOut value.now texts.now }
     ensures { value_of result ≡ value.now }
 {
@@ -56,7 +56,7 @@ fn point_of_one_shown<'x>(
     ensures state { IfOk result (λ s. s ≡ state_of row ((a.now ∷ []) ∷ [])) }
     ensures err { OnErr result (IsTrue (wants_memory row)) }
 {
-    let tuple = [shown(a, first)];
+    let tuple = [view_of(a, first)];
     point(alloc, row, &tuple)
 }
 
@@ -87,7 +87,7 @@ fn point_of_two_shown<'x>(
     ensures state { IfOk result (λ s. s ≡ state_of row ((a.now ∷ b.now ∷ []) ∷ [])) }
     ensures err { OnErr result (IsTrue (wants_memory row)) }
 {
-    let tuple = [shown(a, first), shown(b, second)];
+    let tuple = [view_of(a, first), view_of(b, second)];
     point(alloc, row, &tuple)
 }
 
@@ -134,7 +134,7 @@ fn point_of_three_shown<'x>(
     ensures state { IfOk result (λ s. s ≡ state_of row ((a.now ∷ b.now ∷ c.now ∷ []) ∷ [])) }
     ensures err { OnErr result (IsTrue (wants_memory row)) }
 {
-    let tuple = [shown(a, first), shown(b, second), shown(c, third)];
+    let tuple = [view_of(a, first), view_of(b, second), view_of(c, third)];
     point(alloc, row, &tuple)
 }
 

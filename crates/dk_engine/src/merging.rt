@@ -28,7 +28,7 @@ fn number(slot: &Slot) -> u128
 }
 
 // The slots of both lists, one behind the other.
-fn joined(left: Vec<Slot>, opened: Vec<Slot>) -> Result<Vec<Slot>, NoMemory>
+fn concatenate(left: Vec<Slot>, opened: Vec<Slot>) -> Result<Vec<Slot>, NoMemory>
     ensures { IfOk result (λ all. all.items ≡ left.items ++ opened.items) }
 {
     let mut all = left;
@@ -50,7 +50,7 @@ fn in_order(all: Vec<Slot>) -> Result<Slots, NoMemory>
 }
 
 /// The slots of both lists, ascending.
-pub(crate) fn merged(left: Slots, opened: Slots) -> Result<Slots, NoMemory>
+pub(crate) fn merge_slots(left: Slots, opened: Slots) -> Result<Slots, NoMemory>
     requires ascend { AllPairs SlotBefore left }
     requires left { All HasNumber left }
     requires opened { All HasNumber opened }
@@ -59,5 +59,5 @@ pub(crate) fn merged(left: Slots, opened: Slots) -> Result<Slots, NoMemory>
     if opened.as_slice().is_empty() {
         return Ok(left);
     }
-    in_order(joined(left.into_vec(), opened.into_vec())?)
+    in_order(concatenate(left.into_vec(), opened.into_vec())?)
 }

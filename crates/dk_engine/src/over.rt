@@ -18,7 +18,7 @@ use crate::constant::{are_known, constant_state};
 use crate::places::find;
 use dk_base::{NoMemory, VarId, VarInfo};
 use dk_suppress::suppressed;
-use dk_template::{Answers, Grammar, RowId, State, turn_state, written};
+use dk_template::{Answers, Grammar, RowId, State, turn_state, written_order};
 use std::alloc::Global;
 use std::marker::Model;
 
@@ -102,7 +102,7 @@ impl<'a, B: Answers> Over<'a, B> {
     {
         // What holds of the level is known once something of it is read.
         let _kept = self.kept;
-        let ordered = written(row, vars);
+        let ordered = written_order(row, vars);
         let state = self.state_written(row, ordered.as_slice())?;
         Ok(turn_state(row, vars, state))
     }

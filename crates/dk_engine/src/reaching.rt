@@ -89,7 +89,7 @@ fn reached_rows() -> &'static [&'static [RowId]]
 }
 
 /// The rows with a rule that has this row among its premises, those with a rule that has one of these, and so on, each once, ascending.
-pub(crate) fn reached(row: RowId) -> &'static [RowId]
+pub(crate) fn rows_reached(row: RowId) -> &'static [RowId]
     ensures { result.now ≡ rows_reached row }
 {
     match reached_rows().get(row.0 as usize) {

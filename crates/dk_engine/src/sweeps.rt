@@ -10,7 +10,7 @@ ghost use Rattle.dk_engine.specs.Sweeps.{behind, considered, firsts, freed_slots
 use crate::after::After;
 use crate::constant::are_known;
 use crate::operations::{breaks, descend, operation_of};
-use crate::reaching::reached;
+use crate::reaching::rows_reached;
 use crate::{Slot, Slots};
 use dk_base::{NoMemory, VarId, VarInfo};
 use dk_constants::Constants;
@@ -330,7 +330,7 @@ impl<'a> Sweep<'a> {
     }
 
     /// Those of all rows with a leader that touches them, by the first one that does.
-    pub(crate) fn touched(
+    pub(crate) fn touched_slots(
         &self,
         grammar: Grammar,
         touching: &[VarId],
@@ -351,7 +351,7 @@ impl<'a> Sweep<'a> {
     }
 
     /// Those of the rows that a row frees, with the leaders of its lost slot.
-    pub(crate) fn freed(
+    pub(crate) fn freed_slots(
         &self,
         row: RowId,
         lost: &[VarId],
@@ -362,7 +362,7 @@ impl<'a> Sweep<'a> {
         ensures { IfOk result (λ more. more ≡ slots ++ freed_slots self.now.infos.now self.now.known.now (read_after self.now.answers.now.whole.kept self.now.answers.now.sample) leaders.now row lost.now) }
     {
         let mut slots = slots;
-        for freed in reached(row) {
+        for freed in rows_reached(row) {
             slots = self.with_both(*freed, lost, leaders, slots)?;
         }
         Ok(slots)
@@ -383,7 +383,7 @@ impl<'a> Sweep<'a> {
         let mut slots = slots;
         for place in lost {
             let slot = &kept[*place];
-            slots = self.freed(slot.row, slot.leaders.as_slice(), leaders, slots)?;
+            slots = self.freed_slots(slot.row, slot.leaders.as_slice(), leaders, slots)?;
         }
         Ok(slots)
     }

@@ -40,7 +40,7 @@ pub(crate) fn touches(now: &Now, v: VarId) -> bool
 }
 
 /// The leaders that touch a tuple.
-pub(crate) fn touching(alloc: Global, now: &Now) -> Result<List<VarId>, NoMemory>
+pub(crate) fn touching_leaders(alloc: Global, now: &Now) -> Result<List<VarId>, NoMemory>
     ensures { IfOk result (λ vars. vars ≡ touching_leaders now.now) }
 {
     let mut vars = List::new(alloc);

@@ -14,7 +14,7 @@ use Rattle.dk_forms.specs.Line.{through}
 use Rattle.dk_forms.specs.declared.states.State.TheVariants.{Empty, Broken, Holds, Greatest, Straight, Plane}
 use Rattle.dk_presence.specs.Patterns.{count_of}
 use Rattle.dk_rows.specs.Meanings.{meanings, state_of}
-use Rattle.dk_template.specs.Exchange.{turned_state, written}
+use Rattle.dk_template.specs.Exchange.{turned_state, written_order}
 use Rattle.dk_template.specs.Templates.{rows}
 use Rattle.dk_template.specs.declared.answers.Premise.TheVariants.{LeastAtLeast}
 use Rattle.dk_template.specs.declared.grammar.Grammar.TheVariants as grammar
@@ -88,7 +88,7 @@ line_turned : fit (row 15) (y ∷ x ∷ []) samples ≡ Straight (pos 1) (negsuc
 unfolding fit state_of meanings through divisor gcd
 line_turned = refl
 
-in_order : written (row 15) (y ∷ x ∷ []) ≡ x ∷ y ∷ []
+in_order : written_order (row 15) (y ∷ x ∷ []) ≡ x ∷ y ∷ []
 unfolding rows
 in_order = refl
 

@@ -28,7 +28,7 @@ use Rattle.dk_rows.specs.Meanings.{meaning_of, meanings, of_three, of_two}
 use Rattle.dk_rows.specs.Relations.{are_pairwise, differ, is_bitwise, is_gcd, is_maximum, is_minimum, is_product, is_reverse, is_sum}
 use Rattle.dk_template.proofs.Exchanges.{lines_exchange, offsets_exchange, planes_exchange}
 use Rattle.dk_template.proofs.Table.{length-rows}
-use Rattle.dk_template.specs.Exchange.{exchange, exchanged, swap, swapped}
+use Rattle.dk_template.specs.Exchange.{exchange, exchanged_state, swap, swapped}
 use Rattle.dk_template.specs.Templates.{IsRow, arity_of, roles_of, rows, template_of}
 use Rattle.dk_template.specs.declared.exchange.Exchange.{Exchange}
 use Rattle.dk_template.specs.declared.exchange.Exchange.TheVariants.{First, Last}
@@ -70,17 +70,17 @@ module _ {B : Type 0} (n : ℕ) (move : List Value → List Value) where
 -- ---- what is said of tuples
 -- the state of tuples with two neighbours exchanged is the exchanged state
 abbrev pub Exchanges : Symmetry → ℕ → Meaning → Type 0
-Exchanges s n m = (e : Exchange) → may_exchange s e ≡ true → (tuples : List (List Value)) → All (HasArity n) tuples → state_by m (map (exchange e) tuples) ≡ exchanged e (state_by m tuples)
+Exchanges s n m = (e : Exchange) → may_exchange s e ≡ true → (tuples : List (List Value)) → All (HasArity n) tuples → state_by m (map (exchange e) tuples) ≡ exchanged_state e (state_by m tuples)
 
 fixed : (n : ℕ) (m : Meaning) → Exchanges symmetry.Fixed n m
 fixed n m e may tuples all = absurd (false≢true may)
 
 -- ---- relations
-plain_still : (e : Exchange) (bs : List Bool) → exchanged e (plain_of bs) ≡ plain_of bs
+plain_still : (e : Exchange) (bs : List Bool) → exchanged_state e (plain_of bs) ≡ plain_of bs
 plain_still First [] = refl
-plain_still First (b ∷ bs) = elim (list_all (λ h. h) (b ∷ bs)) as (λ c. exchanged First (if c then Holds else Broken) ≡ (if c then Holds else Broken)) [ true ↦ refl | false ↦ refl ]
+plain_still First (b ∷ bs) = elim (list_all (λ h. h) (b ∷ bs)) as (λ c. exchanged_state First (if c then Holds else Broken) ≡ (if c then Holds else Broken)) [ true ↦ refl | false ↦ refl ]
 plain_still Last [] = refl
-plain_still Last (b ∷ bs) = elim (list_all (λ h. h) (b ∷ bs)) as (λ c. exchanged Last (if c then Holds else Broken) ≡ (if c then Holds else Broken)) [ true ↦ refl | false ↦ refl ]
+plain_still Last (b ∷ bs) = elim (list_all (λ h. h) (b ∷ bs)) as (λ c. exchanged_state Last (if c then Holds else Broken) ≡ (if c then Holds else Broken)) [ true ↦ refl | false ↦ refl ]
 
 relation_exchanges : (s : Symmetry) (n : ℕ) (r : List Value → Bool) → ((e : Exchange) → may_exchange s e ≡ true → (t : List Value) → length t ≡ n → r (exchange e t) ≡ r t) → Exchanges s n (relation r)
 relation_exchanges s n r each e may tuples all = ap plain_of (maps_move n (exchange e) r r (each e may) tuples all) ∙ sym (plain_still e (map r tuples))
@@ -108,7 +108,7 @@ arguments_exchange R alike = relation_exchanges symmetry.Arguments 3 (of_three R
 abbrev point_of : List Value → ℤ × ℤ
 point_of = of_two int_of int_of (λ x y. (x, y))
 
-line_still : (k : Known Line) → exchanged Last (line_state k) ≡ line_state k
+line_still : (k : Known Line) → exchanged_state Last (line_state k) ≡ line_state k
 line_still nothing = refl
 line_still broken = refl
 line_still (fact (spot p)) = refl
@@ -146,7 +146,7 @@ forth p = differences p.0 p.1
 abbrev turned_round : List ℤ × List ℤ → List (Option ℤ)
 turned_round p = differences p.1 p.0
 
-offset_still : (k : Known ℤ) → exchanged Last (offset_state k) ≡ offset_state k
+offset_still : (k : Known ℤ) → exchanged_state Last (offset_state k) ≡ offset_state k
 offset_still nothing = refl
 offset_still broken = refl
 offset_still (fact k) = refl
@@ -158,7 +158,7 @@ offset_exchanges First may tuples all =
     values_move 2 (exchange First) differences_of (λ t. turned_round (pair_of t)) (two_values (λ t. differences_of (exchange First t) ≡ turned_round (pair_of t)) (λ x y. refl)) tuples all in
     let two : flat_map turned_round pairs ≡ flat_map (λ t. turned_round (pair_of t)) tuples = flat_map-map turned_round pair_of tuples in
     let three : flat_map forth pairs ≡ flat_map differences_of tuples = flat_map-map forth pair_of tuples in
-    ap offset_of (one ∙ sym two) ∙ (offsets_exchange pairs ∙ ap (λ ds. exchanged First (offset_of ds)) three)
+    ap offset_of (one ∙ sym two) ∙ (offsets_exchange pairs ∙ ap (λ ds. exchanged_state First (offset_of ds)) three)
 offset_exchanges Last may tuples all =
     ap offset_of (values_move 2 (exchange Last) differences_of differences_of (two_values (λ t. differences_of (exchange Last t) ≡ differences_of t) (λ x y. refl)) tuples all)
     ∙ sym (offset_still (offset_known_of (flat_map differences_of tuples)))

@@ -11,7 +11,7 @@ use Rattle.dk_fits.specs.Laws.{FitsTurn, SymmetricRowsExchange, may_exchange}
 use Rattle.dk_forms.specs.declared.states.State.{State}
 use Rattle.dk_rows.specs.Meanings.{state_of}
 use Rattle.dk_samples.specs.Samples.{is_present, value_in}
-use Rattle.dk_template.specs.Exchange.{arranged, descends, disarranged, exchange, exchanged, exchanged_back, ordered}
+use Rattle.dk_template.specs.Exchange.{arrange_tuple, descends, disarrange_state, exchange, exchanged_back, exchanged_state, order_tuple}
 use Rattle.dk_template.specs.Templates.{arity_of, template_of}
 use Rattle.dk_template.specs.declared.exchange.Exchange.{Exchange}
 use Rattle.dk_template.specs.declared.exchange.Exchange.TheVariants.{First, Last}
@@ -83,25 +83,25 @@ length_exchange Last (u ∷ []) = refl
 length_exchange Last (u ∷ v ∷ []) = refl
 length_exchange Last (u ∷ v ∷ w ∷ rest) = refl
 
-length_ordered : (e : Exchange) (vars : List VarId) → length (ordered e vars) ≡ length vars
+length_ordered : (e : Exchange) (vars : List VarId) → length (order_tuple e vars) ≡ length vars
 length_ordered e vars = elim (descends e vars) as (λ b. length (if b then exchange e vars else vars) ≡ length vars) [ true ↦ length_exchange e vars | false ↦ refl ]
 
 -- what is said of variables, in whose order it exchanges as the roles of the symmetry may
-module _ (s : Symmetry) (n : ℕ) (said : List VarId → State) (exchanges : (e : Exchange) → may_exchange s e ≡ true → (vars : List VarId) → length vars ≡ n → said (exchange e vars) ≡ exchanged e (said vars)) where
-  step : (e : Exchange) → may_exchange s e ≡ true → (vars : List VarId) → length vars ≡ n → said vars ≡ exchanged_back e vars (said (ordered e vars))
+module _ (s : Symmetry) (n : ℕ) (said : List VarId → State) (exchanges : (e : Exchange) → may_exchange s e ≡ true → (vars : List VarId) → length vars ≡ n → said (exchange e vars) ≡ exchanged_state e (said vars)) where
+  step : (e : Exchange) → may_exchange s e ≡ true → (vars : List VarId) → length vars ≡ n → said vars ≡ exchanged_back e vars (said (order_tuple e vars))
   step e may vars long =
-      elim (descends e vars) as (λ b. said vars ≡ (if b then exchanged e (said (if b then exchange e vars else vars)) else said (if b then exchange e vars else vars))) [
+      elim (descends e vars) as (λ b. said vars ≡ (if b then exchanged_state e (said (if b then exchange e vars else vars)) else said (if b then exchange e vars else vars))) [
         | true ↦ ap said (sym (exchange_twice e vars)) ∙ exchanges e may (exchange e vars) (length_exchange e vars ∙ long)
         | false ↦ refl
       ]
 
-turns : (s : Symmetry) (n : ℕ) (said : List VarId → State) → ((e : Exchange) → may_exchange s e ≡ true → (vars : List VarId) → length vars ≡ n → said (exchange e vars) ≡ exchanged e (said vars))
-    → (vars : List VarId) → length vars ≡ n → said vars ≡ disarranged s vars (said (arranged s vars))
+turns : (s : Symmetry) (n : ℕ) (said : List VarId → State) → ((e : Exchange) → may_exchange s e ≡ true → (vars : List VarId) → length vars ≡ n → said (exchange e vars) ≡ exchanged_state e (said vars))
+    → (vars : List VarId) → length vars ≡ n → said vars ≡ disarrange_state s vars (said (arrange_tuple s vars))
 turns symmetry.Fixed n said exchanges vars long = refl
 turns symmetry.Arguments n said exchanges vars long = step symmetry.Arguments n said exchanges Last refl vars long
 turns symmetry.All n said exchanges vars long =
-    let one = ordered Last vars in
-    let two = ordered First one in
+    let one = order_tuple Last vars in
+    let two = order_tuple First one in
     let long1 = length_ordered Last vars ∙ long in
     let long2 = length_ordered First one ∙ long1 in
     step symmetry.All n said exchanges Last refl vars long

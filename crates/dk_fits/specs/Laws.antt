@@ -14,7 +14,7 @@ use Rattle.dk_presence.specs.Patterns.{capped, count_of}
 use Rattle.dk_rows.specs.Meanings.{relation_of, state_of}
 use Rattle.dk_samples.specs.Samples.{Agree}
 use Rattle.dk_template.specs.Admitted.{admits}
-use Rattle.dk_template.specs.Exchange.{exchange, exchanged, turned_state, written as written_order}
+use Rattle.dk_template.specs.Exchange.{exchange, exchanged_state, turned_state, written_order}
 use Rattle.dk_template.specs.Joins.{joined}
 use Rattle.dk_template.specs.Proper.{IsProper}
 use Rattle.dk_template.specs.Templates.{IsRow, arity_of, form_of, template_of}
@@ -99,7 +99,7 @@ abbrev pub SymmetricRowsExchange : Type 0
 SymmetricRowsExchange =
     (row : RowId) → IsRow row → (e : Exchange) → may_exchange (template_of row).symmetry e ≡ true
     → (vars : List VarId) → length vars ≡ arity_of row → (samples : List (List Value))
-    → fit row (exchange e vars) samples ≡ exchanged e (fit row vars samples)
+    → fit row (exchange e vars) samples ≡ exchanged_state e (fit row vars samples)
 
 -- over variables in any order: the fit over them in written order, turned
 abbrev pub FitsTurn : Type 0

@@ -40,7 +40,7 @@ pub(crate) fn copies(alloc: Global, texts: &[Text]) -> Result<List<Text>, NoMemo
 }
 
 // A list of these texts.
-fn listed(alloc: Global, texts: Vec<Text>) -> Result<List<Text>, NoMemory>
+fn list_of(alloc: Global, texts: Vec<Text>) -> Result<List<Text>, NoMemory>
     ensures { IfOk result (λ list. list ≡ texts.items) }
 {
     let mut list = List::new(alloc);
@@ -51,7 +51,7 @@ fn listed(alloc: Global, texts: Vec<Text>) -> Result<List<Text>, NoMemory>
 }
 
 // With one text more at a place.
-fn inserted(
+fn insert_text(
     alloc: Global,
     texts: List<Text>,
     at: usize,
@@ -62,7 +62,7 @@ fn inserted(
 {
     let mut items = texts.into_vec();
     items.insert(at, Text::from_slice(alloc, text)?)?;
-    listed(alloc, items)
+    list_of(alloc, items)
 }
 
 // With one text more, or none where that makes more than three.
@@ -74,7 +74,7 @@ fn with_text(alloc: Global, texts: List<Text>, text: &[u8]) -> Result<Option<Lis
         FoundPlace::There => Ok(Some(texts)),
         FoundPlace::Before(at) => {
             if texts.len() < 3 {
-                Ok(Some(inserted(alloc, texts, at, text)?))
+                Ok(Some(insert_text(alloc, texts, at, text)?))
             } else {
                 Ok(None)
             }

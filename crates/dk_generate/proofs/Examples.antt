@@ -2,12 +2,12 @@
 use Rattle.std.proofs.Common.{◌≡◌, ◌∷◌, [], codes, refl}
 use Rattle.std.specs.Fmt.{digits}
 use Rattle.dk_generate.specs.Calls.{drawn_call}
-use Rattle.dk_generate.specs.Draws.{drawn, next_state}
+use Rattle.dk_generate.specs.Draws.{drawn_number, next_state}
 use Rattle.dk_generate.specs.Generated.{calls_text, first_turn, turn_after}
 use Rattle.dk_generate.specs.Records.{call_text, head_text, items_text, nonce_text, number_text, pop_text, push_text, stack_text, top_text}
 use Rattle.dk_generate.specs.declared.calls.Call.TheVariants.{Push, Pop}
 
-first_draw : drawn (next_state 1) ≡ 908834774
+first_draw : drawn_number (next_state 1) ≡ 908834774
 first_draw = refl
 
 first_call : drawn_call (first_turn 1) ≡ Push 53

@@ -3,7 +3,7 @@ use Rattle.std.proofs.Common.{◌≡◌, ◌≤◌, ◌<◌, ◌+◌, ◌==◌, 
 use Rattle.std.specs.List.{range_with_len}
 use Rattle.std.proofs.lemmas.Bool.{eqb-true, false≢true, ltb-true}
 use Rattle.std.proofs.lemmas.Grind.{flat_map-append}
-use Rattle.dk_generate.specs.Draws.{drawn, next_state}
+use Rattle.dk_generate.specs.Draws.{drawn_number, next_state}
 use Rattle.dk_generate.specs.Calls.{after_call, drawn_call, is_push, next_turn}
 use Rattle.dk_generate.specs.Generated.{calls_text, turn_after}
 use Rattle.dk_generate.specs.Records.{call_text}
@@ -58,11 +58,11 @@ room height number e = go (height == 0) refl (nat_lt height 8) refl
     go false is false f = absurd (false≢true (rw (is, f) at e))
 
 kept : (turn : Turn) → turn.stack.height ≤ 8 → (after_call turn.stack (drawn_call turn)).height ≤ 8
-kept turn h = go (is_push turn.stack.height (drawn (next_state turn.draws))) refl
+kept turn h = go (is_push turn.stack.height (drawn_number (next_state turn.draws))) refl
   where
-    go : (pushes : Bool) → is_push turn.stack.height (drawn (next_state turn.draws)) ≡ pushes
-        → (after_call turn.stack (cond pushes (Push (drawn (next_state (next_state turn.draws)) % 100)) Pop)).height ≤ 8
-    go true e = let more = room turn.stack.height (drawn (next_state turn.draws)) e in omega arith
+    go : (pushes : Bool) → is_push turn.stack.height (drawn_number (next_state turn.draws)) ≡ pushes
+        → (after_call turn.stack (cond pushes (Push (drawn_number (next_state (next_state turn.draws)) % 100)) Pop)).height ≤ 8
+    go true e = let more = room turn.stack.height (drawn_number (next_state turn.draws)) e in omega arith
     go false e = omega arith
 
 -- the stack has room for its items

@@ -1,6 +1,6 @@
 -- The calls that work on the stack.
 use Rattle.std.specs.Prelude.{◌==◌, ◌&&◌, ◌||◌, ◌+◌, ◌-◌, ◌%◌, ◌<◌, ◌≤◌, ℕ, Bool, if◌then◌else◌, nat_lt, slice_index, slice_set}
-use Rattle.dk_generate.specs.Draws.{drawn, next_state}
+use Rattle.dk_generate.specs.Draws.{drawn_number, next_state}
 use Rattle.dk_generate.specs.declared.calls.Call.{Call}
 use Rattle.dk_generate.specs.declared.calls.Call.TheVariants.{Push, Pop}
 use Rattle.dk_generate.specs.declared.calls.Stack.{Stack}
@@ -14,7 +14,7 @@ is_push height number = height == 0 || (nat_lt height 8 && number % 2 == 0)
 abbrev pub drawn_call : Turn → Call
 drawn_call turn =
     let state = next_state turn.draws in
-    if is_push turn.stack.height (drawn state) then Push (drawn (next_state state) % 100) else Pop
+    if is_push turn.stack.height (drawn_number state) then Push (drawn_number (next_state state) % 100) else Pop
 
 -- the draws behind a call
 abbrev pub draws_after : ℕ → Call → ℕ

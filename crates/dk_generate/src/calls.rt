@@ -2,7 +2,7 @@
 ghost use Rattle.std.specs.Prelude.{◌≡◌, ◌≤◌, ◌<◌};
 ghost use Rattle.dk_generate.specs.Calls.{IsAllowed, after_call, drawn_call, draws_after, is_push, next_turn};
 
-use crate::draws::{drawn, next_state};
+use crate::draws::{drawn_number, next_state};
 
 /// How many items the stack has room for.
 pub(crate) const ROOM: usize = 8;
@@ -44,8 +44,8 @@ pub(crate) fn drawn_call(turn: Turn) -> Call
     ensures allowed { IsAllowed turn.stack result }
 {
     let state = next_state(turn.draws);
-    if is_push(turn.stack.height, drawn(state)) {
-        Call::Push((drawn(next_state(state)) % 100) as u8)
+    if is_push(turn.stack.height, drawn_number(state)) {
+        Call::Push((drawn_number(next_state(state)) % 100) as u8)
     } else {
         Call::Pop
     }

@@ -1,6 +1,6 @@
 // Draws of numbers.
 ghost use Rattle.std.specs.Prelude.{◌≡◌};
-ghost use Rattle.dk_generate.specs.Draws.{drawn, next_state};
+ghost use Rattle.dk_generate.specs.Draws.{drawn_number, next_state};
 
 const FACTOR: u64 = 6364136223846793005;
 
@@ -14,8 +14,8 @@ pub(crate) fn next_state(state: u64) -> u64
 }
 
 /// The number that was drawn when the draw ended in this state. It is below 2^31.
-pub(crate) fn drawn(state: u64) -> u64
-    ensures { result ≡ drawn state }
+pub(crate) fn drawn_number(state: u64) -> u64
+    ensures { result ≡ drawn_number state }
 {
     state / (1 << 33)
 }

@@ -96,7 +96,7 @@ impl Graph {
         requires few { length self < 65535 }
         ensures { IfOk result (λ g. GraphGrows g (self ++ node ∷ [])) }
     {
-        Growing::new(self).with(node)?.judged()
+        Growing::new(self).with(node)?.into_graph()
     }
 
     /// Two points more, which go last together. None where the edges would have a cycle.
@@ -107,6 +107,6 @@ impl Graph {
         requires few { length self < 65534 }
         ensures { IfOk result (λ g. GraphGrows g (self ++ first ∷ second ∷ [])) }
     {
-        Growing::new(self).with(first)?.with(second)?.judged()
+        Growing::new(self).with(first)?.with(second)?.into_graph()
     }
 }

@@ -69,7 +69,7 @@ impl Growing {
     }
 
     // The graph of these points, once all parents have been raised. None where there is a cycle.
-    pub fn judged(self) -> Result<Option<Graph>, NoMemory>
+    pub fn into_graph(self) -> Result<Option<Graph>, NoMemory>
         ensures { IfOk result (λ g. GraphGrows g self) }
     {
         let Growing {

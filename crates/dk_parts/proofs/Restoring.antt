@@ -26,7 +26,7 @@ use Rattle.dk_samples.specs.Leaders.{VarsAscend}
 use Rattle.dk_parts.proofs.PatternOrder.{same_patterns}
 use Rattle.dk_parts.specs.Entries.{all_known_of}
 use Rattle.dk_parts.specs.Patterns.{pattern_cmp, pattern_of, patterns_of}
-use Rattle.dk_parts.specs.Restored.{HaveEntries, HavePatterns, chosen, entry_of, held_of}
+use Rattle.dk_parts.specs.Restored.{HaveEntries, HavePatterns, chosen_leaders, entry_of, held_of}
 use Rattle.dk_parts.specs.Sorting.{ascending, put}
 use Rattle.dk_parts.specs.declared.known.Known.{Known}
 use Rattle.dk_parts.specs.declared.pattern.Pattern.{Pattern}
@@ -47,38 +47,38 @@ pub same_known : (known : List Known) (entries : Entries) → entries ≡ map en
 same_known known entries e = ap all_known_of e ∙ known_back known
 
 -- ---- present leaders
-chosen_push : (leaders : List VarId) (truths : List Bool) (v : VarId) → chosen (leaders ++ v ∷ []) truths ≡ chosen leaders truths ++ (if slice_index_or truths (length leaders) false then v ∷ [] else [])
+chosen_push : (leaders : List VarId) (truths : List Bool) (v : VarId) → chosen_leaders (leaders ++ v ∷ []) truths ≡ chosen_leaders leaders truths ++ (if slice_index_or truths (length leaders) false then v ∷ [] else [])
 chosen_push [] [] v = refl
 chosen_push [] (t ∷ truths) v = elim t as (λ b. (if b then v ∷ [] else []) ≡ (if b then v ∷ [] else [])) [ true ↦ refl | false ↦ refl ]
 chosen_push (w ∷ leaders) [] v = ap (λ b. if b then v ∷ [] else []) (sym (get_or_past [] (suc (length leaders)) false (omega arith)))
 chosen_push (w ∷ leaders) (t ∷ truths) v =
     let rest = chosen_push leaders truths v in
-    elim t as (λ b. (if b then w ∷ chosen (leaders ++ v ∷ []) truths else chosen (leaders ++ v ∷ []) truths)
-    ≡ (if b then w ∷ chosen leaders truths else chosen leaders truths) ++ (if slice_index_or truths (length leaders) false then v ∷ [] else [])) [
+    elim t as (λ b. (if b then w ∷ chosen_leaders (leaders ++ v ∷ []) truths else chosen_leaders (leaders ++ v ∷ []) truths)
+    ≡ (if b then w ∷ chosen_leaders leaders truths else chosen_leaders leaders truths) ++ (if slice_index_or truths (length leaders) false then v ∷ [] else [])) [
       | true ↦ ap (λ vs. w ∷ vs) rest
       | false ↦ rest
     ]
 
 pub chosen_more : (leaders : List VarId) (truths : List Bool) (i : ℕ) (d : VarId) → i < length leaders
-    → chosen (take (i + 1) leaders) truths ≡ chosen (take i leaders) truths ++ (if slice_index_or truths i false then get_or leaders i d ∷ [] else [])
+    → chosen_leaders (take (i + 1) leaders) truths ≡ chosen_leaders (take i leaders) truths ++ (if slice_index_or truths i false then get_or leaders i d ∷ [] else [])
 chosen_more leaders truths i d l =
-    ap (λ vs. chosen vs truths) (take_more leaders i d l) ∙ (chosen_push (take i leaders) truths (get_or leaders i d)
-    ∙ ap (λ n. chosen (take i leaders) truths ++ (if slice_index_or truths n false then get_or leaders i d ∷ [] else [])) (length-take-le i leaders (omega arith)))
+    ap (λ vs. chosen_leaders vs truths) (take_more leaders i d l) ∙ (chosen_push (take i leaders) truths (get_or leaders i d)
+    ∙ ap (λ n. chosen_leaders (take i leaders) truths ++ (if slice_index_or truths n false then get_or leaders i d ∷ [] else [])) (length-take-le i leaders (omega arith)))
 
-chosen_all : (P : VarId → Type 0) (leaders : List VarId) (truths : List Bool) → All P leaders → All P (chosen leaders truths)
+chosen_all : (P : VarId → Type 0) (leaders : List VarId) (truths : List Bool) → All P leaders → All P (chosen_leaders leaders truths)
 chosen_all P [] truths all = All-nil P
 chosen_all P (v ∷ leaders) [] all = All-nil P
 chosen_all P (v ∷ leaders) (t ∷ truths) all =
     let rest = chosen_all P leaders truths (All-tail P v leaders all) in
-    elim t as (λ b. All P (if b then v ∷ chosen leaders truths else chosen leaders truths)) [ true ↦ All-cons P v (chosen leaders truths) (All-head P v leaders all) rest | false ↦ rest ]
+    elim t as (λ b. All P (if b then v ∷ chosen_leaders leaders truths else chosen_leaders leaders truths)) [ true ↦ All-cons P v (chosen_leaders leaders truths) (All-head P v leaders all) rest | false ↦ rest ]
 
-chosen_ascends : (leaders : List VarId) (truths : List Bool) → VarsAscend leaders → VarsAscend (chosen leaders truths)
+chosen_ascends : (leaders : List VarId) (truths : List Bool) → VarsAscend leaders → VarsAscend (chosen_leaders leaders truths)
 chosen_ascends [] truths up = up
 chosen_ascends (v ∷ leaders) [] up = λ i j d l m. absurd (omega (arith, m))
 chosen_ascends (v ∷ leaders) (t ∷ truths) up =
     let rest = chosen_ascends leaders truths (ascend_rest v leaders up) in
-    elim t as (λ b. VarsAscend (if b then v ∷ chosen leaders truths else chosen leaders truths)) [
-      | true ↦ AllPairs-cons (λ (a b : VarId). a.0 < b.0) v (chosen leaders truths) (chosen_all (λ w. v.0 < w.0) leaders truths (λ k d l. up 0 (suc k) d (omega arith) (omega (arith, l)))) rest
+    elim t as (λ b. VarsAscend (if b then v ∷ chosen_leaders leaders truths else chosen_leaders leaders truths)) [
+      | true ↦ AllPairs-cons (λ (a b : VarId). a.0 < b.0) v (chosen_leaders leaders truths) (chosen_all (λ w. v.0 < w.0) leaders truths (λ k d l. up 0 (suc k) d (omega arith) (omega (arith, l)))) rest
       | false ↦ rest
     ]
 
@@ -91,9 +91,9 @@ pub held_ascend : (leaders : List VarId) (patterns : List Pattern) → VarsAscen
 held_ascend leaders [] up = All-nil (λ h. VarsAscend h.leaders)
 held_ascend leaders (p ∷ patterns) up = All-cons (λ h. VarsAscend h.leaders) (held_of leaders p) (map (held_of leaders) patterns) (chosen_ascends leaders p.present up) (held_ascend leaders patterns up)
 
-chosen_filter : (p : VarId → Bool) (leaders : List VarId) → chosen leaders (map p leaders) ≡ filter p leaders
+chosen_filter : (p : VarId → Bool) (leaders : List VarId) → chosen_leaders leaders (map p leaders) ≡ filter p leaders
 chosen_filter p [] = refl
-chosen_filter p (v ∷ leaders) = elim (p v) as (λ b. (if b then v ∷ chosen leaders (map p leaders) else chosen leaders (map p leaders)) ≡ cond b (v ∷ filter p leaders) (filter p leaders)) [
+chosen_filter p (v ∷ leaders) = elim (p v) as (λ b. (if b then v ∷ chosen_leaders leaders (map p leaders) else chosen_leaders leaders (map p leaders)) ≡ cond b (v ∷ filter p leaders) (filter p leaders)) [
   | true ↦ ap (λ vs. v ∷ vs) (chosen_filter p leaders)
   | false ↦ chosen_filter p leaders
 ]
@@ -108,7 +108,7 @@ held_back leaders up h own lead =
           ap (λ b. b && has h.leaders v) (has-contains leaders v among)
       | inr none ↦ ap (λ b. has leaders v && b) none ∙ (elim (has leaders v) as (λ b. (b && false) ≡ false) [ true ↦ refl | false ↦ refl ] ∙ sym none)
     ] in
-    let back : chosen leaders (map (has h.leaders) leaders) ≡ h.leaders = chosen_filter (has h.leaders) leaders ∙ same_ascending (filter (has h.leaders) leaders) h.leaders (AllPairs-filter (λ (v w : VarId). v.0 < w.0) (has h.leaders) leaders up) own told in
+    let back : chosen_leaders leaders (map (has h.leaders) leaders) ≡ h.leaders = chosen_filter (has h.leaders) leaders ∙ same_ascending (filter (has h.leaders) leaders) h.leaders (AllPairs-filter (λ (v w : VarId). v.0 < w.0) (has h.leaders) leaders up) own told in
     λ i. record { count = h.count; leaders = back i }
 
 all_back : (leaders : List VarId) → VarsAscend leaders → (held : List Held) → All (λ h. VarsAscend h.leaders) held → All (λ h. All (Contains leaders) h.leaders) held → map (held_of leaders) (map (pattern_of leaders) held) ≡ held

@@ -46,13 +46,13 @@ heads_of [] heads = heads
 heads_of (class ∷ classes) heads = heads_of classes (led class heads)
 
 -- the leaders at whose places the truth values are true
-abbrev pub chosen : List VarId → List Bool → List VarId
-chosen [] truths = []
-chosen (v ∷ leaders) [] = []
-chosen (v ∷ leaders) (t ∷ truths) = if t then v ∷ chosen leaders truths else chosen leaders truths
+abbrev pub chosen_leaders : List VarId → List Bool → List VarId
+chosen_leaders [] truths = []
+chosen_leaders (v ∷ leaders) [] = []
+chosen_leaders (v ∷ leaders) (t ∷ truths) = if t then v ∷ chosen_leaders leaders truths else chosen_leaders leaders truths
 
 abbrev pub held_of : List VarId → Pattern → Held
-held_of leaders p = record { count = p.count; leaders = chosen leaders p.present }
+held_of leaders p = record { count = p.count; leaders = chosen_leaders leaders p.present }
 
 abbrev pub entry_of : Known → VarId × Value
 entry_of k = (k.leader, k.value)

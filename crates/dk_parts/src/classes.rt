@@ -19,7 +19,11 @@ fn empty_groups(alloc: Global, count: usize) -> Result<Vec<List<VarId>>, NoMemor
 }
 
 // For each of so many variables the members of the class that it leads.
-fn grouped(alloc: Global, classes: &Classes, count: usize) -> Result<Vec<List<VarId>>, NoMemory>
+fn group_members(
+    alloc: Global,
+    classes: &Classes,
+    count: usize,
+) -> Result<Vec<List<VarId>>, NoMemory>
     requires count { count ≡ length classes.now }
     requires classes { AreClasses classes.now }
     ensures { IfOk result (λ groups. AreGroups classes.now count groups.items) }
@@ -57,5 +61,5 @@ pub fn classes_in_order(
     ensures { IfOk result (λ all. all ≡ classes_of classes.now) }
 {
     let _leaders = classes.leaders();
-    nonempty(alloc, grouped(alloc, classes, count)?)
+    nonempty(alloc, group_members(alloc, classes, count)?)
 }

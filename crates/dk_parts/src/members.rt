@@ -10,7 +10,7 @@ use dk_classes::Classes;
 use std::alloc::Global;
 
 // So many variables, each the first one.
-fn unled(alloc: Global, count: usize) -> Result<Vec<VarId>, NoMemory>
+fn initial_heads(alloc: Global, count: usize) -> Result<Vec<VarId>, NoMemory>
     ensures { IfOk result (λ heads. heads.items ≡ replicate count (var 0)) }
 {
     let mut heads = Vec::new(alloc);
@@ -45,7 +45,7 @@ fn lead(heads: &mut Vec<VarId>, members: &[VarId])
 fn heads(alloc: Global, count: usize, classes: &[List<VarId>]) -> Result<Vec<VarId>, NoMemory>
     ensures { IfOk result (λ heads. heads.items ≡ heads_of classes.now (replicate count (var 0))) }
 {
-    let mut heads = unled(alloc, count)?;
+    let mut heads = initial_heads(alloc, count)?;
     for class in classes {
         lead(&mut heads, class.as_slice());
     }

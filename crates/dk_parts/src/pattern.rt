@@ -74,7 +74,7 @@ fn with_truths(
 }
 
 // The same patterns, ascending.
-fn sorted(all: Vec<(Vec<bool>, u64)>) -> Result<Vec<(Vec<bool>, u64)>, NoMemory>
+fn sort_patterns(all: Vec<(Vec<bool>, u64)>) -> Result<Vec<(Vec<bool>, u64)>, NoMemory>
     ensures { IfOk result (λ sorted. map seen sorted.items ≡ ascending pattern_cmp (map seen all.items)) }
 {
     let mut all = all;
@@ -106,5 +106,5 @@ pub fn patterns_in_order(
     requires held { AreHeld held.now }
     ensures { IfOk result (λ patterns. patterns ≡ patterns_of leaders.now held.now) }
 {
-    as_patterns(alloc, sorted(with_truths(alloc, leaders, held)?)?)
+    as_patterns(alloc, sort_patterns(with_truths(alloc, leaders, held)?)?)
 }

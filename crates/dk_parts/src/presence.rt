@@ -4,7 +4,7 @@ ghost use Rattle.std.specs.List.{IsDistinct};
 ghost use Rattle.std.specs.List.Sorted.{IsPermutation};
 ghost use Rattle.dk_presence.specs.Patterns.{held_patterns, same_vars};
 ghost use Rattle.dk_presence.specs.declared.held.Held.{Held};
-ghost use Rattle.dk_parts.specs.Restored.{HavePatterns, chosen, held_of};
+ghost use Rattle.dk_parts.specs.Restored.{HavePatterns, chosen_leaders, held_of};
 ghost use Rattle.dk_samples.specs.Leaders.{VarsAscend};
 
 use crate::{Pattern, patterns_in_order};
@@ -21,8 +21,12 @@ fn is_true(truths: &[bool], place: usize) -> bool
 }
 
 // The leaders at whose places the truth values are true.
-fn chosen(alloc: Global, leaders: &[VarId], truths: &[bool]) -> Result<List<VarId>, NoMemory>
-    ensures { IfOk result (λ present. present ≡ chosen leaders.now truths.now) }
+fn chosen_leaders(
+    alloc: Global,
+    leaders: &[VarId],
+    truths: &[bool],
+) -> Result<List<VarId>, NoMemory>
+    ensures { IfOk result (λ present. present ≡ chosen_leaders leaders.now truths.now) }
 {
     let mut present = List::new(alloc);
     for i in 0..leaders.len() {
@@ -39,7 +43,7 @@ fn all_held(alloc: Global, leaders: &[VarId], patterns: &[Pattern]) -> Result<Li
 {
     let mut held = List::new(alloc);
     for pattern in patterns {
-        let present = chosen(alloc, leaders, pattern.present.as_slice())?;
+        let present = chosen_leaders(alloc, leaders, pattern.present.as_slice())?;
         held.push(Held {
             count: pattern.count,
             leaders: present,

@@ -47,7 +47,7 @@ impl Points {
     }
 
     // The declaration with the role, the base variables and the entry of its point.
-    pub(crate) fn own(&self, decl: PointDecl) -> Result<Own, NoMemory>
+    pub(crate) fn own_of(&self, decl: PointDecl) -> Result<Own, NoMemory>
         ensures decl { IfOk result (λ own. own.decl ≡ decl) }
         ensures own { IfOk result (λ own. IsOwnBehind self.now own) }
     {

@@ -18,7 +18,7 @@ use crate::sameness::same_decl;
 use dk_base::{BlockFault, NoMemory, PointId, Text, Why};
 use dk_decl::PointDecl;
 
-fn refused(line: u64, why: Why) -> BlockFault
+fn refuse(line: u64, why: Why) -> BlockFault
     ensures { result ≡ BlockFault.Refused line why }
 {
     BlockFault::Refused { line, why }
@@ -35,16 +35,16 @@ impl Points {
     }
 
     // The declaration with its own parts, if there are not too many points and not too many variables.
-    fn judged(&self, decl: PointDecl, makes: bool, line: u64) -> Result<Own, BlockFault>
+    fn own_within_limits(&self, decl: PointDecl, makes: bool, line: u64) -> Result<Own, BlockFault>
         requires { makes ≡ makes_exit self.now decl }
         ensures { Judges result line self.now decl }
     {
         if self.has_many_points(&decl, makes) {
-            return Err(refused(line, Why::TooManyPoints));
+            return Err(refuse(line, Why::TooManyPoints));
         }
-        let own = self.own(decl)?;
+        let own = self.own_of(decl)?;
         if has_many_vars(own.decl.vars.len(), own.vars.as_slice()) {
-            return Err(refused(line, Why::TooManyVariables));
+            return Err(refuse(line, Why::TooManyVariables));
         }
         Ok(own)
     }
@@ -80,9 +80,9 @@ impl Points {
     {
         let combined = combined_of(self.alloc, decl.name.as_slice())?;
         let makes = self.makes_exit(&decl, combined.as_ref());
-        let own = self.judged(decl, makes, line)?;
+        let own = self.own_within_limits(decl, makes, line)?;
         match self.with_added(own, combined, makes)? {
-            None => Err(refused(line, Why::CyclicParents)),
+            None => Err(refuse(line, Why::CyclicParents)),
             Some(points) => {
                 let last = points.len() - 1;
                 Ok((points, Declared::New(PointId(last))))
@@ -113,7 +113,7 @@ impl Points {
         if self.has_decl(p, &decl) {
             Ok((self, Declared::Same(p)))
         } else {
-            Err(refused(line, Why::DuplicatePoint))
+            Err(refuse(line, Why::DuplicatePoint))
         }
     }
 

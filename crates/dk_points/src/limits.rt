@@ -58,7 +58,7 @@ fn number_of_ints(vars: &[VarInfo], orig: bool) -> u64
 }
 
 // How many variables q sequences and n whole numbers give: for each sequence three, and five for each number.
-fn derived(vars: &[VarInfo], orig: bool) -> u64
+fn number_of_derived(vars: &[VarInfo], orig: bool) -> u64
     requires { length vars.now ≤ 16384 }
     ensures number { result ≡ 3 * number_of_sequences orig vars.now + 5 * (number_of_sequences orig vars.now * number_of_ints orig vars.now) }
     ensures within { result ≤ 2 ^ 40 }
@@ -75,5 +75,5 @@ pub(crate) fn has_many_vars(declared: usize, vars: &[VarInfo]) -> bool
     if declared > 1024 || vars.len() > 16384 {
         return true;
     }
-    vars.len() as u64 + derived(vars, false) + derived(vars, true) > 16384
+    vars.len() as u64 + number_of_derived(vars, false) + number_of_derived(vars, true) > 16384
 }

@@ -8,7 +8,7 @@ use Rattle.dk_base.specs.declared.kinds.VarId.{VarId}
 use Rattle.dk_fits.proofs.Members.{of_map}
 use Rattle.dk_fits.specs.Instances.{are_distinct}
 use Rattle.dk_forms.specs.Laws.{IsIn}
-use Rattle.dk_template.specs.Exchange.{arranged, descends, exchange, ordered, written}
+use Rattle.dk_template.specs.Exchange.{arrange_tuple, descends, exchange, order_tuple, written_order}
 use Rattle.dk_template.specs.Premises.{at_role}
 use Rattle.dk_template.specs.Templates.{template_of}
 use Rattle.dk_template.specs.declared.exchange.Exchange.{Exchange}
@@ -118,20 +118,20 @@ module _ (f : VarId → VarId) where
   moved-by e vars a true = (exchange e vars, map-exchange e vars, moved-exchange e vars a)
   moved-by e vars a false = (vars, refl, moved-self vars a)
 
-  moved-ordered : (e : Exchange) (vars leaders : List VarId) → IsMovedTo vars leaders → IsMovedTo vars (ordered e leaders)
+  moved-ordered : (e : Exchange) (vars leaders : List VarId) → IsMovedTo vars leaders → IsMovedTo vars (order_tuple e leaders)
   moved-ordered e vars leaders m =
       let next = moved-by e m.0 m.2.apart (descends e (map f m.0)) in
-      (next.0, ap (λ ls. ordered e ls) m.1 ∙ next.1, moved-on vars m.0 next.0 m.2 next.2)
+      (next.0, ap (λ ls. order_tuple e ls) m.1 ∙ next.1, moved-on vars m.0 next.0 m.2 next.2)
 
-  moved-arranged : (s : Symmetry) (vars : List VarId) → Apart vars → IsMovedTo vars (arranged s (map f vars))
+  moved-arranged : (s : Symmetry) (vars : List VarId) → Apart vars → IsMovedTo vars (arrange_tuple s (map f vars))
   moved-arranged symmetry.Fixed vars a = (vars, refl, moved-self vars a)
   moved-arranged symmetry.All vars a =
       let all = map f vars in
-      moved-ordered Last vars (ordered First (ordered Last all)) (moved-ordered First vars (ordered Last all) (moved-ordered Last vars all (vars, refl, moved-self vars a)))
+      moved-ordered Last vars (order_tuple First (order_tuple Last all)) (moved-ordered First vars (order_tuple Last all) (moved-ordered Last vars all (vars, refl, moved-self vars a)))
   moved-arranged symmetry.Arguments vars a = moved-ordered Last vars (map f vars) (vars, refl, moved-self vars a)
 
   -- leaders in a row's written order are those of the variables in some order
-  pub moved-written : (row : RowId) (vars : List VarId) → Apart vars → IsMovedTo vars (written row (map f vars))
+  pub moved-written : (row : RowId) (vars : List VarId) → Apart vars → IsMovedTo vars (written_order row (map f vars))
   moved-written row vars a = moved-arranged (template_of row).symmetry vars a
 
   -- the leader at a role is that of the variable there

@@ -23,7 +23,7 @@ use Rattle.dk_forms.specs.declared.states.State.TheVariants.{Broken}
 use Rattle.dk_presence.specs.Patterns.{counted_by, has}
 use Rattle.dk_suppress.specs.Rules.{Rule, is_suppressed, rules}
 use Rattle.dk_template.proofs.WrittenTuples.{few_roles}
-use Rattle.dk_template.specs.Exchange.{descends, disarranged, exchanged, exchanged_back, ordered, turned_state, written}
+use Rattle.dk_template.specs.Exchange.{descends, disarrange_state, exchanged_back, exchanged_state, order_tuple, turned_state, written_order}
 use Rattle.dk_template.specs.Premises.{at_role, premise_fits, roles_read, row_of, suffices, vars_of}
 use Rattle.dk_template.specs.Templates.{IsRow, IsRowOf, arity_of, rows, rows_in, template_of}
 use Rattle.dk_template.specs.declared.answers.Premise.{Premise}
@@ -64,22 +64,22 @@ some-in v [] i = absurd i
 some-in v (w ∷ vars) i = refl
 
 -- ---- Broken stays Broken, whichever way round
-exchanged-broken : (e : Exchange) → exchanged e Broken ≡ Broken
+exchanged-broken : (e : Exchange) → exchanged_state e Broken ≡ Broken
 exchanged-broken First = refl
 exchanged-broken Last = refl
 
-back-by : (e : Exchange) (b : Bool) (s : State) → s ≡ Broken → (if b then exchanged e s else s) ≡ Broken
-back-by e true s h = ap (exchanged e) h ∙ exchanged-broken e
+back-by : (e : Exchange) (b : Bool) (s : State) → s ≡ Broken → (if b then exchanged_state e s else s) ≡ Broken
+back-by e true s h = ap (exchanged_state e) h ∙ exchanged-broken e
 back-by e false s h = h
 
 back-broken : (e : Exchange) (tuple : List VarId) (s : State) → s ≡ Broken → exchanged_back e tuple s ≡ Broken
 back-broken e tuple s h = back-by e (descends e tuple) s h
 
-disarranged-broken : (m : Symmetry) (tuple : List VarId) (s : State) → s ≡ Broken → disarranged m tuple s ≡ Broken
+disarranged-broken : (m : Symmetry) (tuple : List VarId) (s : State) → s ≡ Broken → disarrange_state m tuple s ≡ Broken
 disarranged-broken symmetry.Fixed tuple s h = h
 disarranged-broken symmetry.All tuple s h =
-    back-broken Last tuple (exchanged_back First (ordered Last tuple) (exchanged_back Last (ordered First (ordered Last tuple)) s))
-    (back-broken First (ordered Last tuple) (exchanged_back Last (ordered First (ordered Last tuple)) s) (back-broken Last (ordered First (ordered Last tuple)) s h))
+    back-broken Last tuple (exchanged_back First (order_tuple Last tuple) (exchanged_back Last (order_tuple First (order_tuple Last tuple)) s))
+    (back-broken First (order_tuple Last tuple) (exchanged_back Last (order_tuple First (order_tuple Last tuple)) s) (back-broken Last (order_tuple First (order_tuple Last tuple)) s h))
 disarranged-broken symmetry.Arguments tuple s h = back-broken Last tuple s h
 
 turned-broken : (row : RowId) (tuple : List VarId) (s : State) → s ≡ Broken → turned_state row tuple s ≡ Broken
@@ -355,7 +355,7 @@ module _ (g : Grammar) (kept : Kept) (f : VarId → VarId) (several : List VarId
   more-tells n below row of vars long apart within holds v i =
       let m = moved-written f row vars apart in
       written-tells n below row of m.0 (m.2.long ∙ long) m.2.apart (λ w j. within w (m.2.from w j))
-      (λ broken. holds (turned-broken row (map f vars) (read_written kept (read_leaders n kept) row (written row (map f vars))) (ap (read_written kept (read_leaders n kept) row) m.1 ∙ broken)))
+      (λ broken. holds (turned-broken row (map f vars) (read_written kept (read_leaders n kept) row (written_order row (map f vars))) (ap (read_written kept (read_leaders n kept) row) m.1 ∙ broken)))
       v (m.2.to v i)
 
   pub all-tell : (n : ℕ) → Tells n

@@ -162,7 +162,12 @@ fn are_own(partners: &[Option<VarId>]) -> bool
 
 impl<'a, 'e> Asking<'a, 'e> {
     // Those of the variables over which the row may say something, by what the engine keeps.
-    fn left(&self, engine: &Engine, row: RowId, of: &[VarId]) -> Result<List<VarId>, NoMemory>
+    fn narrow_vars(
+        &self,
+        engine: &Engine,
+        row: RowId,
+        of: &[VarId],
+    ) -> Result<List<VarId>, NoMemory>
         ensures { IfOk result (λ list. list ≡ filter (is_left engine.now.kept row) of.now) }
     {
         let slots = slots_of_row(self.alloc, engine.slots(), row)?;
@@ -185,12 +190,12 @@ impl<'a, 'e> Asking<'a, 'e> {
         if !is_narrow(row) {
             return self.over(row, of, list);
         }
-        let left = self.left(engine, row, of)?;
+        let left = self.narrow_vars(engine, row, of)?;
         self.over(row, left.as_slice(), list)
     }
 
     // The candidates of a point whose samples the engine alone has.
-    fn narrowed(&self, engine: &Engine, standing: &Standing) -> Result<List<Candidate>, NoMemory>
+    fn narrow_to(&self, engine: &Engine, standing: &Standing) -> Result<List<Candidate>, NoMemory>
         requires { CanBeAsked self.now }
         ensures { IfOk result (λ list. list ≡ flat_map (candidates_left engine.now.kept self.now standing.now) (rows_of self.now.here.now.here.grammar)) }
     {
@@ -217,7 +222,7 @@ impl<'a, 'e> Asking<'a, 'e> {
     }
 
     // That engine, if what it keeps tells where the options can let something through.
-    fn narrowing<'n>(&self, engines: &'n [Engine], standing: &Standing) -> Option<&'n Engine>
+    fn narrowing_engine<'n>(&self, engines: &'n [Engine], standing: &Standing) -> Option<&'n Engine>
         requires engines { self.now.here.now.engines ≡ engines.now }
         requires few { length self.now.here.now.here.infos < 2 ^ 32 }
         ensures { IfSome result (λ engine. CanNarrow self.now.options.now self.now.here.now standing.now engine.now) }
@@ -247,12 +252,12 @@ impl<'a, 'e> Asking<'a, 'e> {
         let told = self.told(engines, standing)?;
         match told {
             Some(table) => self.viewed(table.as_slice(), standing),
-            None => self.swept(standing),
+            None => self.sweep_all(standing),
         }
     }
 
     /// The candidates that the options let through, by row and then by variables.
-    pub(crate) fn listed(&self, engines: &[Engine]) -> Result<List<Candidate>, NoMemory>
+    pub(crate) fn list_candidates(&self, engines: &[Engine]) -> Result<List<Candidate>, NoMemory>
         requires engines { self.now.here.now.engines ≡ engines.now }
         requires few { length self.now.here.now.here.infos < 2 ^ 32 }
         requires paths { All (λ way. 0 < way.paths) self.now.here.now.ways }
@@ -260,8 +265,8 @@ impl<'a, 'e> Asking<'a, 'e> {
         ensures { IfOk result (λ list. (samples : ℕ → List (List SampleValue)) (parents : List Parent) → EnginesStandFor engines.now samples → AllZip (ShowTheSame self.now.here.now.here.grammar self.now.here.now.here.infos) (views_of self.now) parents → list ≡ candidates_kept (keeps self.now.options.now) (candidates_of self.now.here.now.here.grammar self.now.options.now.least (here_of self.now) (views_of self.now))) }
     {
         let standing = self.all_standing()?;
-        match self.narrowing(engines, &standing) {
-            Some(engine) => self.narrowed(engine, &standing),
+        match self.narrowing_engine(engines, &standing) {
+            Some(engine) => self.narrow_to(engine, &standing),
             None => self.told_or_swept(engines, &standing),
         }
     }

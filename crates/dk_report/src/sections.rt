@@ -45,7 +45,7 @@ pub fn kept_instances(
         parents: views.as_slice(),
         found: &found,
     };
-    asking.listed(engines)
+    asking.list_candidates(engines)
 }
 
 // In how many samples of a point all of no variables are present: how many samples there are, at most 2^64 - 1.

@@ -31,7 +31,7 @@ fn suits(role: Role, infos: &[VarInfo], v: VarId) -> bool
 }
 
 // Those of the variables that suit a role.
-fn suited(
+fn suited_vars(
     alloc: Global,
     role: Role,
     infos: &[VarInfo],
@@ -122,7 +122,7 @@ impl Standing {
 
 impl<'a, 'e> Asking<'a, 'e> {
     // The variables that may stand in an instance of several, or of one.
-    fn standing(&self, several: bool) -> Result<List<VarId>, NoMemory>
+    fn standing_vars(&self, several: bool) -> Result<List<VarId>, NoMemory>
         requires { length self.now.here.now.here.infos < 2 ^ 32 }
         ensures { IfOk result (λ list. list ≡ standing_vars self.now several) }
     {
@@ -142,8 +142,8 @@ impl<'a, 'e> Asking<'a, 'e> {
     {
         Ok(Standing {
             all: all_vars(self.alloc, self.here.vars())?,
-            single: self.standing(false)?,
-            several: self.standing(true)?,
+            single: self.standing_vars(false)?,
+            several: self.standing_vars(true)?,
         })
     }
 
@@ -264,10 +264,10 @@ impl<'a, 'e> Asking<'a, 'e> {
     }
 
     // Those of the variables that suit a role.
-    fn suiting(&self, role: Role, of: &[VarId]) -> Result<List<VarId>, NoMemory>
+    fn vars_of_role(&self, role: Role, of: &[VarId]) -> Result<List<VarId>, NoMemory>
         ensures { IfOk result (λ list. list ≡ suited_vars role self.now.here.now.here.infos of.now) }
     {
-        suited(self.alloc, role, self.here.vars(), of)
+        suited_vars(self.alloc, role, self.here.vars(), of)
     }
 
     // With those of a row of one role.
@@ -282,7 +282,7 @@ impl<'a, 'e> Asking<'a, 'e> {
         requires row { IsRowOf self.now.here.now.here.grammar row }
         ensures { IfOk result (λ more. more ≡ list ++ over_takes (listed_candidates_by self.now row) self.now.here.now.here.infos (Takes.One a) of.now) }
     {
-        let first = self.suiting(a, of)?;
+        let first = self.vars_of_role(a, of)?;
         self.firsts(row, first.as_slice(), list)
     }
 
@@ -299,8 +299,8 @@ impl<'a, 'e> Asking<'a, 'e> {
         requires row { IsRowOf self.now.here.now.here.grammar row }
         ensures { IfOk result (λ more. more ≡ list ++ over_takes (listed_candidates_by self.now row) self.now.here.now.here.infos (Takes.Two a b) of.now) }
     {
-        let first = self.suiting(a, of)?;
-        let second = self.suiting(b, of)?;
+        let first = self.vars_of_role(a, of)?;
+        let second = self.vars_of_role(b, of)?;
         self.pairs(row, first.as_slice(), second.as_slice(), list)
     }
 
@@ -316,9 +316,9 @@ impl<'a, 'e> Asking<'a, 'e> {
         requires row { IsRowOf self.now.here.now.here.grammar row }
         ensures { IfOk result (λ more. more ≡ list ++ over_takes (listed_candidates_by self.now row) self.now.here.now.here.infos (Takes.Three roles.0 roles.1 roles.2) of.now) }
     {
-        let first = self.suiting(roles.0, of)?;
-        let second = self.suiting(roles.1, of)?;
-        let third = self.suiting(roles.2, of)?;
+        let first = self.vars_of_role(roles.0, of)?;
+        let second = self.vars_of_role(roles.1, of)?;
+        let third = self.vars_of_role(roles.2, of)?;
         self.triples(
             row,
             first.as_slice(),
@@ -348,7 +348,7 @@ impl<'a, 'e> Asking<'a, 'e> {
 
     /// The candidates that the options let through, by row and then by variables. Each row is asked about over the variables that suit
     /// its roles and may stand in what is kept.
-    pub(crate) fn swept(&self, standing: &Standing) -> Result<List<Candidate>, NoMemory>
+    pub(crate) fn sweep_all(&self, standing: &Standing) -> Result<List<Candidate>, NoMemory>
         requires asked { CanBeAsked self.now }
         requires standing { AreStanding self.now standing.now }
         ensures { IfOk result (λ list. list ≡ candidates_kept (keeps self.now.options.now) (candidates_of self.now.here.now.here.grammar self.now.options.now.least (here_of self.now) (views_of self.now))) }

@@ -14,7 +14,7 @@ ghost use Rattle.dk_run.specs.Starts.{Begins};
 ghost use Rattle.dk_run.specs.Files.{file_name_at};
 ghost use Rattle.dk_presence.specs.Patterns.{capped};
 ghost use Rattle.dk_run.specs.Telling.{Added, ReportsBy};
-ghost use Rattle.dk_run.specs.WholeFile.{FileGives, IsCalmBut, IsNoBreak, StartedGives, TextGives, trouble_of_fault as faulted_by, trouble_of_halt as halted_by, unstarted_reading};
+ghost use Rattle.dk_run.specs.WholeFile.{FileGives, IsCalmBut, IsNoBreak, StartedGives, TextGives, trouble_of_fault, trouble_of_halt, unstarted_reading};
 
 use crate::choosing::generated_count;
 use crate::reporting::{Halt, tell_by_the_way};
@@ -53,8 +53,8 @@ pub(crate) enum FilesTrouble {
 /// How many bytes of the generated text are taken at once.
 const PIECE: usize = 65_536;
 
-fn halted(halt: Halt) -> Trouble
-    ensures { result ≡ halted_by halt }
+fn trouble_of_halt(halt: Halt) -> Trouble
+    ensures { result ≡ trouble_of_halt halt }
 {
     match halt {
         Halt::Write => Trouble::Write,
@@ -62,8 +62,8 @@ fn halted(halt: Halt) -> Trouble
     }
 }
 
-fn faulted(fault: Fault) -> Trouble
-    ensures { result ≡ faulted_by fault }
+fn trouble_of_fault(fault: Fault) -> Trouble
+    ensures { result ≡ trouble_of_fault fault }
 {
     match fault {
         Fault::Refused { file: _, line, why } => Trouble::Refused { line, why },
@@ -104,10 +104,10 @@ fn read_started<F: Fn(&[u8]) -> bool + Drop, I: Inputs, S: Sinks>(
         match session.block(inputs, lines) {
             Ok(true) => match tell_by_the_way(alloc, command, &session, sinks) {
                 Ok(()) => continue 'steps,
-                Err(halt) => return Err(halted(halt)),
+                Err(halt) => return Err(trouble_of_halt(halt)),
             },
             Ok(false) => return Ok(session.end_file()),
-            Err(fault) => return Err(faulted(fault)),
+            Err(fault) => return Err(trouble_of_fault(fault)),
         }
     }
 }

@@ -3,7 +3,7 @@ ghost use Rattle.std.specs.Prelude.{◌≡◌, ◌≤◌, List, ℕ, IfErr, IfOk
 ghost use Rattle.dk_io.specs.Outside.{HeldFile, Rose};
 ghost use Rattle.dk_core.specs.Selecting.{SelectsBy};
 ghost use Rattle.dk_core.specs.Standing.{select_of};
-ghost use Rattle.dk_run.specs.Beginning.{IsBegun, IsLeft, IsWhole, IsResumed, IsUnloaded, StartTroubleGives, StateTroubleGives, trouble_of_load as unloaded_by, trouble_of_read as unread_by};
+ghost use Rattle.dk_run.specs.Beginning.{IsBegun, IsLeft, IsWhole, IsResumed, IsUnloaded, StartTroubleGives, StateTroubleGives, trouble_of_load, trouble_of_read};
 ghost use Rattle.dk_run.specs.Commands.{is_selected};
 ghost use Rattle.dk_run.specs.Courses.{total_limit};
 
@@ -34,8 +34,8 @@ pub(crate) struct Beginning<F> {
     pub(crate) room: u64,
 }
 
-fn unread(fault: AllFault) -> StartTrouble
-    ensures { result ≡ unread_by fault }
+fn trouble_of_read(fault: AllFault) -> StartTrouble
+    ensures { result ≡ trouble_of_read fault }
 {
     match fault {
         AllFault::Read => StartTrouble::Read,
@@ -44,8 +44,8 @@ fn unread(fault: AllFault) -> StartTrouble
     }
 }
 
-fn unloaded(fault: LoadFault) -> StartTrouble
-    ensures { result ≡ unloaded_by fault }
+fn trouble_of_load(fault: LoadFault) -> StartTrouble
+    ensures { result ≡ trouble_of_load fault }
 {
     match fault {
         LoadFault::BadState => StartTrouble::Refused { why: Why::BadState },
@@ -64,7 +64,7 @@ fn read_state<I: Inputs>(alloc: Global, name: &str, inputs: &mut I) -> Result<Te
         Err(Failed) => Err(StartTrouble::Start),
         Ok(()) => match read_all(alloc, inputs, Limits::STANDARD.total) {
             Ok(text) => Ok(text),
-            Err(fault) => Err(unread(fault)),
+            Err(fault) => Err(trouble_of_read(fault)),
         },
     }
 }
@@ -106,7 +106,7 @@ fn begin_resumed<F: Fn(&[u8]) -> bool + Drop>(
             session,
             room: Limits::STANDARD.total - state.len() as u64,
         }),
-        Err(fault) => Err(unloaded(fault)),
+        Err(fault) => Err(trouble_of_load(fault)),
     }
 }
 

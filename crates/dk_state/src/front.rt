@@ -55,7 +55,7 @@ fn line_len(bytes: &[u8]) -> usize
 }
 
 // The whole number that a text writes.
-fn parsed(text: &[u8]) -> Option<i128>
+fn parse_number(text: &[u8]) -> Option<i128>
     ensures { (z : ℤ) → unsigned_abs z < 2 ^ 127 → text.now ≡ signed_decimal z → result ≡ Some z }
 {
     match str::from_utf8(text) {
@@ -81,7 +81,7 @@ fn whole(text: &[u8]) -> Option<i128>
     ensures read { (z : ℤ) → unsigned_abs z < 2 ^ 127 → text.now ≡ signed_decimal z → result ≡ Some z }
     ensures within { IfSome result (λ z. unsigned_abs z < 2 ^ 127) }
 {
-    in_wide(parsed(text)?)
+    in_wide(parse_number(text)?)
 }
 
 // The number, if it is one of 64 bits with its sign.
@@ -171,7 +171,7 @@ impl<'a> Front<'a> {
     }
 
     // The bytes in front of this place, which are passed.
-    fn taken(&mut self, len: usize) -> &'a [u8]
+    fn take(&mut self, len: usize) -> &'a [u8]
         requires { len ≤ length self.old }
         ensures front { result.now ≡ take len self.old }
         ensures rest { self.new ≡ drop len self.old }
@@ -187,7 +187,7 @@ impl<'a> Front<'a> {
         ensures shorter { length self.new ≤ length self.old - 1 }
     {
         self.pass(b" ");
-        self.taken(field_len(self.left))
+        self.take(field_len(self.left))
     }
 
     /// The last field of the line: what stands behind a blank and in front of the line's end.
@@ -196,7 +196,7 @@ impl<'a> Front<'a> {
         ensures shorter { length self.new ≤ length self.old - 1 }
     {
         self.pass(b" ");
-        self.taken(line_len(self.left))
+        self.take(line_len(self.left))
     }
 
     // What was found, or else this, where the reading ends.
@@ -225,7 +225,7 @@ impl<'a> Front<'a> {
     }
 
     /// A whole number of 64 bits with its sign, as a field.
-    pub(crate) fn signed(&mut self) -> i64
+    pub(crate) fn integer(&mut self) -> i64
         ensures read { (z : ℤ) (rest : List ℕ) → IsTrue (fits_i64 z) → BeginsWith ends_field rest → self.old ≡ behind_blank (signed_decimal z) ++ rest → (result ≡ z) × (self.new ≡ rest) }
         ensures within { IsTrue (fits_i64 result) }
         ensures shorter { length self.new ≤ length self.old - 1 }
@@ -269,11 +269,11 @@ impl<'a> Front<'a> {
         ensures shorter { length self.new ≤ length self.old - 1 }
     {
         let text = self.last_field();
-        self.valued(alloc, kind, text)
+        self.parse_value(alloc, kind, text)
     }
 
     /// The value that a text writes.
-    pub(crate) fn valued(
+    pub(crate) fn parse_value(
         &mut self,
         alloc: Global,
         kind: Kind,

@@ -156,8 +156,8 @@ impl Entry for VarDecl {
     fn read(alloc: Global, vars: &[VarInfo], front: &mut Front<'_>) -> Result<VarDecl, NoMemory> {
         front.pass(b"var");
         let kind = kind_of(front.field());
-        let elem = front.signed();
-        let index = front.signed();
+        let elem = front.integer();
+        let index = front.integer();
         let name = front.name(alloc)?;
         front.pass(b"\n");
         let (constant_line, constant) = constant(alloc, kind, front)?;

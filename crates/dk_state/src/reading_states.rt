@@ -86,7 +86,7 @@ fn items(alloc: Global, kind: Kind, front: &mut Front<'_>) -> Result<Value, NoMe
     text.append(b"[")?;
     text.append(fields)?;
     text.append(b"]")?;
-    front.valued(alloc, kind, text.as_slice())
+    front.parse_value(alloc, kind, text.as_slice())
 }
 
 // The numbers of the value, one to three.
@@ -187,12 +187,12 @@ fn span(front: &mut Front<'_>) -> State
     ensures within { FitsState result }
     ensures shorter { length front.new ≤ length front.old }
 {
-    let x1 = front.signed();
-    let y1 = front.signed();
-    let z1 = front.signed();
-    let x2 = front.signed();
-    let y2 = front.signed();
-    let z2 = front.signed();
+    let x1 = front.integer();
+    let y1 = front.integer();
+    let z1 = front.integer();
+    let x2 = front.integer();
+    let y2 = front.integer();
+    let z2 = front.integer();
     State::Span {
         x1,
         y1,
@@ -241,13 +241,13 @@ fn spot(front: &mut Front<'_>) -> State
     ensures within { FitsState result }
     ensures shorter { length front.new ≤ length front.old }
 {
-    let x = front.signed();
-    let y = front.signed();
+    let x = front.integer();
+    let y = front.integer();
     State::Spot { x, y }
 }
 
 // What the state tells behind its word.
-fn told(alloc: Global, word: Word, front: &mut Front<'_>) -> Result<State, NoMemory>
+fn state_of_word(alloc: Global, word: Word, front: &mut Front<'_>) -> Result<State, NoMemory>
     ensures read { (s : States) (rest : List ℕ) → word ≡ state_word s → FitsState s → front.old ≡ fields_text (told_fields s) ++ 10 ∷ rest → IfOk result (λ own. (own ≡ s) × (front.new ≡ 10 ∷ rest)) }
     ensures within { IfOk result FitsState }
     ensures shorter { length front.new ≤ length front.old }
@@ -255,13 +255,13 @@ fn told(alloc: Global, word: Word, front: &mut Front<'_>) -> Result<State, NoMem
     match word {
         Word::Empty => Ok(State::Empty),
         Word::Holds => Ok(State::Holds),
-        Word::Least => Ok(State::Least(front.signed())),
-        Word::Greatest => Ok(State::Greatest(front.signed())),
+        Word::Least => Ok(State::Least(front.integer())),
+        Word::Greatest => Ok(State::Greatest(front.integer())),
         Word::Ints => ints(alloc, front),
         Word::Truth => truth(alloc, front),
         Word::Code => code(alloc, front),
         Word::Texts => texts(alloc, front),
-        Word::One => Ok(State::One(front.signed())),
+        Word::One => Ok(State::One(front.integer())),
         Word::Modulus => Ok(modulus(front)),
         Word::Spot => Ok(spot(front)),
         Word::Straight => Ok(straight(front)),
@@ -282,5 +282,5 @@ pub(crate) fn state(alloc: Global, front: &mut Front<'_>) -> Result<State, NoMem
     ensures shorter { length front.new ≤ length front.old - 1 }
 {
     let word = word_in(front.field());
-    told(alloc, word, front)
+    state_of_word(alloc, word, front)
 }

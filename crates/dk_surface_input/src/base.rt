@@ -247,7 +247,7 @@ fn names_are_spelled_and_read(rt: HostRuntime) -> Result<(), Fail> {
 
 #[test]
 fn lines_have_words(rt: HostRuntime) -> Result<(), Fail> {
-    let line = trimmed(b" \tparent \t parent\tQ 1 ");
+    let line = trim_blanks(b" \tparent \t parent\tQ 1 ");
     let found = words(rt.alloc(), line)?;
     assert!(rt;
         found.as_slice()

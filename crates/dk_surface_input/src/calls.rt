@@ -1,7 +1,7 @@
 // What no clause says: that the calls succeed with ample memory; and records in turn with what exits get.
 ghost use Rattle.std.specs.Prelude.{◌<◌, length};
 
-use crate::reading::{numbered, show_fault, table};
+use crate::reading::{numbered_lines, show_fault, table};
 use bumpalo::collections::into_bump_slice;
 use dk_base::{Arena, BlockFault, NoMemory, Text, View, parse_integer, spell, words};
 use dk_calls::laws::exit_values_fit;
@@ -183,7 +183,7 @@ fn take_line(
 fn outcome(alloc: Global, points: &Points, records: &[u8]) -> Result<Text, NoMemory> {
     let mut calls = Calls::new(alloc)?;
     let mut shown = Text::new(alloc);
-    for (line, bytes) in numbered(alloc, 1, records)?.as_slice() {
+    for (line, bytes) in numbered_lines(alloc, 1, records)?.as_slice() {
         take_line(alloc, &mut calls, points, *line, bytes, &mut shown)?;
     }
     calls.clear();

@@ -1,5 +1,5 @@
 // What no clause says: that the calls succeed with ample memory, and tables of header lines and of blocks with their outcomes.
-use crate::reading::{declared, numbered, show_fault};
+use crate::reading::{numbered_lines, read_declaration, show_fault};
 use dk_base::{BlockFault, Kind, NoMemory, Text, View, escape, spell};
 use dk_decl::*;
 use std::alloc::Global;
@@ -520,8 +520,8 @@ fn show(alloc: Global, outcome: Result<PointDecl, BlockFault>) -> Result<Text, N
 
 fn check_block(rt: &impl Abort, alloc: Global, case: Case) -> Result<(), Fail> {
     let (implicit, block, expected) = case;
-    let lines = numbered(alloc, 1, block)?;
-    let shown = show(alloc, declared(alloc, implicit, lines.as_slice()))?;
+    let lines = numbered_lines(alloc, 1, block)?;
+    let shown = show(alloc, read_declaration(alloc, implicit, lines.as_slice()))?;
     assert_eq!(rt; shown.as_slice(), expected);
     Ok(())
 }
@@ -546,7 +546,7 @@ fn declare_blocks_have_their_outcomes(rt: HostRuntime) -> Result<(), Fail> {
 fn show_header(alloc: Global, lines: &[u8]) -> Result<Text, NoMemory> {
     let mut header = Header::new();
     let mut shown = Text::new(alloc);
-    for (_, line) in numbered(alloc, 1, lines)?.as_slice() {
+    for (_, line) in numbered_lines(alloc, 1, lines)?.as_slice() {
         shown.push(match header.line(line) {
             Ok(true) => b't',
             Ok(false) => b'f',

@@ -2,7 +2,7 @@
 ghost use Rattle.std.specs.Prelude.{◌<◌, All, IfOk, IfSome, length};
 ghost use Rattle.dk_points.specs.Laws.{IsBaseVar};
 
-use crate::reading::{numbered, table};
+use crate::reading::{numbered_lines, table};
 use bumpalo::collections::into_bump_slice;
 use dk_base::{
     Arena, Compar, Form, Kind, List, NoMemory, PointId, Text, ValueFault, VarId, VarInfo, View,
@@ -176,7 +176,7 @@ static VALUES: [(&'static [u8], &'static [u8], &'static [u8]); 20] = [
     ),
 ];
 
-fn parsed<'a>(arena: &'a Arena, kind: Kind, text: &[u8]) -> Result<View<'a>, NoMemory> {
+fn value_of_text<'a>(arena: &'a Arena, kind: Kind, text: &[u8]) -> Result<View<'a>, NoMemory> {
     match parse_value(arena, kind, text) {
         Ok(value) => Ok(value),
         Err(ValueFault::Bad) => Err(NoMemory),
@@ -200,8 +200,8 @@ fn base_values<'a>(
     text: &[u8],
 ) -> Result<&'a [View<'a>], NoMemory> {
     let mut values: Vec<View<'a>, &'a Arena> = Vec::new(arena);
-    for (var, (_, line)) in base.iter().zip(numbered(alloc, 1, text)?.as_slice()) {
-        values = with_value(values, parsed(arena, var.kind, line)?)?;
+    for (var, (_, line)) in base.iter().zip(numbered_lines(alloc, 1, text)?.as_slice()) {
+        values = with_value(values, value_of_text(arena, var.kind, line)?)?;
     }
     Ok(into_bump_slice(values))
 }

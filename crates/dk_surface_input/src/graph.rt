@@ -1,5 +1,5 @@
 // What no clause says: that the calls succeed with ample memory, and tables of graphs with their edges and depths, and of cycles.
-use crate::reading::numbered;
+use crate::reading::numbered_lines;
 use dk_base::{List, NoMemory, PointId, Text, first_word, rest_of_line, words};
 use dk_graph::*;
 use std::alloc::Global;
@@ -93,7 +93,7 @@ fn with_line(
 
 fn graph_of(rt: &impl Abort, alloc: Global, points: &[u8]) -> Result<Option<Graph>, NoMemory> {
     let mut graph = Graph::new(alloc)?;
-    for (_, line) in numbered(alloc, 1, points)?.as_slice() {
+    for (_, line) in numbered_lines(alloc, 1, points)?.as_slice() {
         match with_line(rt, alloc, graph, line)? {
             Some(more) => graph = more,
             None => return Ok(None),
@@ -116,7 +116,7 @@ fn tell_edges(edges: &[Edge], text: &mut Text) -> Result<(), NoMemory> {
     Ok(())
 }
 
-fn told(alloc: Global, graph: &Graph) -> Result<Text, NoMemory> {
+fn text_of(alloc: Global, graph: &Graph) -> Result<Text, NoMemory> {
     let mut text = Text::new(alloc);
     for place in 0..graph.len() {
         let p = PointId(place);
@@ -136,7 +136,7 @@ fn edges_and_depths(rt: HostRuntime) -> Result<(), Fail> {
     let alloc = rt.alloc();
     for (points, want) in &GRAPHS {
         match graph_of(&rt, alloc, *points)? {
-            Some(graph) => assert_eq!(rt; told(alloc, &graph)?.as_slice(), *want),
+            Some(graph) => assert_eq!(rt; text_of(alloc, &graph)?.as_slice(), *want),
             None => assert!(rt; false, "a cycle"),
         }
     }

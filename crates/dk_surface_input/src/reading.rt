@@ -6,7 +6,7 @@ use dk_points::{Declared, Points};
 use std::alloc::Global;
 
 /// The lines of a text with their numbers, from this one on.
-pub(crate) fn numbered(
+pub(crate) fn numbered_lines(
     alloc: Global,
     from: u64,
     text: &[u8],
@@ -21,7 +21,7 @@ pub(crate) fn numbered(
 }
 
 /// What a block of these lines declares.
-pub(crate) fn declared(
+pub(crate) fn read_declaration(
     alloc: Global,
     implicit: bool,
     block: &[(u64, &[u8])],
@@ -39,7 +39,7 @@ fn with_block(
     block: &[(u64, &[u8])],
     number: u64,
 ) -> Result<(Points, Declared), BlockFault> {
-    points.declare(declared(alloc, true, block)?, number)
+    points.declare(read_declaration(alloc, true, block)?, number)
 }
 
 fn push_line<'a>(
@@ -57,7 +57,7 @@ pub(crate) fn table(alloc: Global, text: &[u8]) -> Result<(Points, Declared), Bl
     let mut points = Points::new(alloc)?;
     let mut block: Vec<(u64, &[u8])> = Vec::new(alloc);
     let mut number = 1u64;
-    for (_, line) in numbered(alloc, 1, text)?.as_slice() {
+    for (_, line) in numbered_lines(alloc, 1, text)?.as_slice() {
         if line.is_empty() {
             points = with_block(alloc, points, block.as_slice(), number)?.0;
             block = Vec::new(alloc);

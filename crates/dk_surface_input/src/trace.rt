@@ -1,5 +1,5 @@
 // What no clause says: that the calls succeed with ample memory; and a table of records with their samples or first faults.
-use crate::reading::{numbered, show_fault, table};
+use crate::reading::{numbered_lines, show_fault, table};
 use dk_base::{Arena, BlockFault, NoMemory, Text, View, spell};
 use dk_points::Points;
 use dk_trace::laws::{no_fault_yet, read_record, values_fit};
@@ -115,7 +115,7 @@ fn show_sample(alloc: Global, sample: &BaseSample<'_>) -> Result<Text, NoMemory>
 
 fn outcome(alloc: Global, points: &Points, record: &[u8]) -> Result<Text, NoMemory> {
     let arena = Arena::new(alloc);
-    let lines = numbered(alloc, 6, record)?;
+    let lines = numbered_lines(alloc, 6, record)?;
     let close = (lines.len() as u64).saturating_add(6);
     match lines.as_slice() {
         [] => Err(NoMemory),

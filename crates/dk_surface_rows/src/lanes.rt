@@ -48,7 +48,7 @@ fn plain_pairwise(rel: Rel, s: &[i64], t: &[i64]) -> bool {
 }
 
 // n numbers from the first on.
-fn rising(alloc: Global, first: i64, n: usize) -> Result<Vec<i64>, AllocError> {
+fn rising_numbers(alloc: Global, first: i64, n: usize) -> Result<Vec<i64>, AllocError> {
     let mut numbers = Vec::new(alloc);
     let mut next = first;
     for _ in 0..n {
@@ -70,8 +70,8 @@ fn one_least(alloc: Global, place: usize, n: usize) -> Result<Vec<i64>, AllocErr
 #[test]
 fn sorts_rising_numbers(rt: HostRuntime) -> Result<(), Fail> {
     for n in 0..LENGTHS {
-        let mut s = rising(rt.alloc(), 1, n)?;
-        let t = rising(rt.alloc(), 4, n)?;
+        let mut s = rising_numbers(rt.alloc(), 1, n)?;
+        let t = rising_numbers(rt.alloc(), 4, n)?;
         assert!(rt; sorted(Rel::Lt, &s) && sorted(Rel::Le, &s));
         let shift = if n == 0 {
             Shift::Empty

@@ -201,7 +201,7 @@ fn check_turned(
     requires row { IsRow (record { 0 = row }) }
     requires few { length tuple.now ≤ 3 }
 {
-    let sorted = written(RowId(row), tuple);
+    let sorted = written_order(RowId(row), tuple);
     assert!(rt; is_written(RowId(row), sorted.as_slice()));
     assert!(rt; proper(RowId(row), &state));
     let found = turn_state(RowId(row), tuple, state);

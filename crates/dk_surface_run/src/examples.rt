@@ -395,7 +395,7 @@ static FIFTH: [Example; 5] = [
 ];
 
 // The report with its lines of `=`.
-pub(crate) fn ruled(alloc: Global, report: &str) -> Result<Text, NoMemory> {
+pub(crate) fn with_rules(alloc: Global, report: &str) -> Result<Text, NoMemory> {
     let mut text = Text::new(alloc);
     for byte in report.as_bytes() {
         if *byte == b'@' {
@@ -410,7 +410,7 @@ pub(crate) fn ruled(alloc: Global, report: &str) -> Result<Text, NoMemory> {
 // What the run of each example comes to, however its bytes are cut.
 fn come_to_their_outputs(rt: &impl Abort, alloc: Global, examples: &[Example]) -> Result<(), Fail> {
     for example in examples {
-        let report = ruled(alloc, example.report)?;
+        let report = with_rules(alloc, example.report)?;
         let wanted = Wanted {
             status: example.status,
             report: report.as_slice(),

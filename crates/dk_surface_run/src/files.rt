@@ -1,5 +1,5 @@
 // Runs over two files, with reports by the way, sizes and selections. The outputs are those of an independent implementation.
-use crate::examples::ruled;
+use crate::examples::with_rules;
 use crate::outcomes::{Wanted, comes_to};
 use dk_run::Status;
 use std::test::Fail;
@@ -140,7 +140,7 @@ static EXAMPLES: [Example; 13] = [
 fn runs_over_two_files_come_to_their_outputs(rt: HostRuntime) -> Result<(), Fail> {
     let alloc = rt.alloc();
     for example in &EXAMPLES {
-        let report = ruled(alloc, example.report)?;
+        let report = with_rules(alloc, example.report)?;
         let wanted = Wanted {
             status: example.status,
             report: report.as_slice(),

@@ -150,7 +150,7 @@ pub(crate) fn comes_to(
 }
 
 /// The status of a run where the file `t` has these bytes, and its sinks.
-pub(crate) fn ran(
+pub(crate) fn run_file(
     alloc: Global,
     bytes: &[u8],
     words: &[&str],

@@ -1,5 +1,5 @@
 // Words that are refused or ask for help, names of no file, and calls that fail.
-use crate::outcomes::{Calls, ran};
+use crate::outcomes::{Calls, run_file};
 use dk_io::Stream;
 use dk_run::Status;
 use dk_words::{help_text, version_text};
@@ -105,7 +105,7 @@ fn words_and_calls_come_to_their_statuses(rt: HostRuntime) -> Result<(), Fail> {
             failing_reads: case.failing_reads,
             failing_writes: case.failing_writes,
         };
-        let (status, sinks) = ran(rt.alloc(), case.text.as_bytes(), case.words, calls)?;
+        let (status, sinks) = run_file(rt.alloc(), case.text.as_bytes(), case.words, calls)?;
         assert_eq!(rt; status, case.status, "at {name}");
         assert!(rt;
             sinks.written(Stream::Report).is_empty(),
@@ -134,7 +134,7 @@ fn help_and_version_read_nothing(rt: HostRuntime) -> Result<(), Fail> {
             failing_reads: &[1],
             failing_writes: &[],
         };
-        let (status, sinks) = ran(rt.alloc(), POINT.as_bytes(), &["t", word], calls)?;
+        let (status, sinks) = run_file(rt.alloc(), POINT.as_bytes(), &["t", word], calls)?;
         assert_eq!(rt; status, Status::Done, "at {word}");
         assert!(rt;
             sinks.written(Stream::Report) == text.as_bytes(),

@@ -1,5 +1,5 @@
 // A parent's section is that of a point that has the same samples by itself, whichever filters are off.
-use crate::outcomes::{ran, steady};
+use crate::outcomes::{run_file, steady};
 use dk_base::{NoMemory, Text};
 use dk_io::Stream;
 use dk_run::Status;
@@ -135,9 +135,14 @@ fn a_parent_lists_what_its_samples_alone_do(rt: HostRuntime) -> Result<(), Fail>
     for chosen in 0..32u32 {
         let words = words(rt.alloc(), chosen)?;
         let words = words.as_slice();
-        let (status, at_parent) = ran(rt.alloc(), of_children.as_slice(), words, steady(4096))?;
+        let (status, at_parent) = run_file(
+            rt.alloc(),
+            of_children.as_slice(),
+            words,
+            steady(4096),
+        )?;
         assert_eq!(rt; status, Status::Done, "at {chosen}");
-        let (_, alone) = ran(rt.alloc(), own.as_slice(), words, steady(4096))?;
+        let (_, alone) = run_file(rt.alloc(), own.as_slice(), words, steady(4096))?;
         let section = alone.written(Stream::Report);
         assert!(rt; section.len() > 80, "at {chosen}");
         assert!(rt;

@@ -1,5 +1,5 @@
 // Points with more variables than a point may have, more points than a table, and lines that are too long.
-use crate::outcomes::{ran, steady};
+use crate::outcomes::{run_file, steady};
 use dk_base::{NoMemory, Text};
 use dk_io::Stream;
 use dk_run::Status;
@@ -42,7 +42,7 @@ static CASES: [(u32, u32, bool); 4] = [
 fn points_with_too_many_variables_are_refused(rt: HostRuntime) -> Result<(), Fail> {
     for (numbers, sequences, too_many) in &CASES {
         let text = declarations(rt.alloc(), *numbers, *sequences)?;
-        let (status, sinks) = ran(rt.alloc(), text.as_slice(), &["t"], steady(4096))?;
+        let (status, sinks) = run_file(rt.alloc(), text.as_slice(), &["t"], steady(4096))?;
         let (wanted, message): (Status, &[u8]) = if *too_many {
             (Status::Refused, b"daikon: t:3: 16 TooManyVariables\n")
         } else {
@@ -69,7 +69,7 @@ fn points(alloc: Global, count: u32) -> Result<Text, NoMemory> {
 #[test]
 fn a_point_too_many_is_refused(rt: HostRuntime) -> Result<(), Fail> {
     let text = points(rt.alloc(), 65_536)?;
-    let (status, sinks) = ran(rt.alloc(), text.as_slice(), &["t"], steady(4096))?;
+    let (status, sinks) = run_file(rt.alloc(), text.as_slice(), &["t"], steady(4096))?;
     assert_eq!(rt; status, Status::Refused);
     assert!(rt;
         sinks.written(Stream::Messages) == b"daikon: t:131071: 15 TooManyPoints\n".as_slice()
@@ -87,7 +87,7 @@ static LENGTHS: [(usize, Status, &[u8]); 2] = [
 fn a_line_too_long_is_refused(rt: HostRuntime) -> Result<(), Fail> {
     for (len, wanted, message) in &LENGTHS {
         let line = Vec::from_elem(rt.alloc(), b'#', *len)?;
-        let (status, sinks) = ran(rt.alloc(), line.as_slice(), &["t"], steady(65_536))?;
+        let (status, sinks) = run_file(rt.alloc(), line.as_slice(), &["t"], steady(65_536))?;
         assert_eq!(rt; status, *wanted, "at {len}");
         assert!(rt; sinks.written(Stream::Messages) == *message, "at {len}");
     }

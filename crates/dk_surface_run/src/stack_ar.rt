@@ -1,7 +1,7 @@
 // The trace of two calls of a stack's method: read whole, cut behind each line, and with each call failing in turn.
 use crate::outcomes::Outcome::{self, Sections};
-use crate::outcomes::{Calls, ran, steady};
-use dk_base::{NoMemory, Text, first_word, trimmed};
+use crate::outcomes::{Calls, run_file, steady};
+use dk_base::{NoMemory, Text, first_word, trim_blanks};
 use dk_io::Stream;
 use dk_run::Status;
 use std::alloc::Global;
@@ -202,7 +202,7 @@ impl Cut {
 fn open_variable(kept: &[&[u8]]) -> Option<usize> {
     let mut open = None;
     for (place, line) in kept.iter().enumerate() {
-        let word = first_word(trimmed(line));
+        let word = first_word(trim_blanks(line));
         if word == b"variable".as_slice() {
             open = Some(place.saturating_add(1));
         } else if word == b"rep-type".as_slice() {
@@ -266,7 +266,7 @@ fn check_cut(
     count: usize,
 ) -> Result<(), Fail> {
     let wanted = message(alloc, cut, count)?;
-    let (status, sinks) = ran(alloc, kept, &WORDS, steady(64))?;
+    let (status, sinks) = run_file(alloc, kept, &WORDS, steady(64))?;
     assert!(rt; status == cut.status(), "behind line {count}");
     assert!(rt;
         sinks.written(Stream::Messages) == wanted.as_slice(),
@@ -302,7 +302,7 @@ fn check_read(rt: &impl Abort, alloc: Global, call: u64, fails: bool) -> Result<
         failing_reads: &[call],
         failing_writes: &[],
     };
-    let (status, sinks) = ran(alloc, trace().as_bytes(), &WORDS, calls)?;
+    let (status, sinks) = run_file(alloc, trace().as_bytes(), &WORDS, calls)?;
     let (wanted, told, message) = if fails {
         (
             Status::Read,
@@ -356,7 +356,7 @@ fn check_write(
         failing_reads: &[],
         failing_writes: &[call],
     };
-    let (status, sinks) = ran(alloc, trace().as_bytes(), &WORDS, calls)?;
+    let (status, sinks) = run_file(alloc, trace().as_bytes(), &WORDS, calls)?;
     let written = sinks.written(Stream::Report);
     let wanted = if fails { Status::Write } else { Status::Done };
     assert!(rt; status == wanted, "at call {call}");

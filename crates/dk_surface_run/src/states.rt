@@ -1,5 +1,5 @@
 // Runs that save a state, and runs that go on from one.
-use crate::examples::ruled;
+use crate::examples::with_rules;
 use crate::outcomes::{ran_over, steady};
 use dk_base::Text;
 use dk_io::Stream;
@@ -118,7 +118,7 @@ fn states_are_resumed(rt: HostRuntime) -> Result<(), Fail> {
         ];
         let (status, sinks) = ran_over(rt.alloc(), &files, example.words, steady(7))?;
         assert_eq!(rt; status, example.status, "{}", example.name);
-        let report = ruled(rt.alloc(), example.report)?;
+        let report = with_rules(rt.alloc(), example.report)?;
         assert!(rt;
             sinks.written(Stream::Report) == report.as_slice(),
             "{}",
@@ -139,7 +139,7 @@ fn states_are_resumed(rt: HostRuntime) -> Result<(), Fail> {
 }
 
 // The state of a run over the first file.
-fn saved(alloc: Global) -> Result<Text, Fail> {
+fn saved_state(alloc: Global) -> Result<Text, Fail> {
     let (_, sinks) = ran_over(
         alloc,
         &[("t", FIRST.as_bytes())],
@@ -151,7 +151,7 @@ fn saved(alloc: Global) -> Result<Text, Fail> {
 
 #[test]
 fn a_run_in_two_parts_is_the_whole_run(rt: HostRuntime) -> Result<(), Fail> {
-    let state = saved(rt.alloc())?;
+    let state = saved_state(rt.alloc())?;
     let (status, parts) = ran_over(
         rt.alloc(),
         &[("daikon.state", state.as_slice()), ("u", SECOND.as_bytes())],
@@ -172,7 +172,7 @@ fn a_run_in_two_parts_is_the_whole_run(rt: HostRuntime) -> Result<(), Fail> {
         &["--min-samples", "1", "--save", "t", "u"],
         steady(64),
     )?;
-    let report = ruled(rt.alloc(), "@\nP  [4]\nx >= 1  [4]\nx <= 7  [4]\n")?;
+    let report = with_rules(rt.alloc(), "@\nP  [4]\nx >= 1  [4]\nx <= 7  [4]\n")?;
     assert!(rt; parts.written(Stream::Report) == report.as_slice());
     assert!(rt; whole.written(Stream::Report) == report.as_slice());
     assert!(rt; parts.written(Stream::State) == whole.written(Stream::State));

@@ -4,7 +4,7 @@ use Rattle.dk_base.specs.declared.kinds.Kind.TheVariants as kind
 use Rattle.dk_base.specs.declared.kinds.VarId.{VarId}
 use Rattle.dk_forms.specs.declared.states.State.TheVariants as state
 use Rattle.dk_template.specs.Admitted.{is_written}
-use Rattle.dk_template.specs.Exchange.{exchanged, span_between, written}
+use Rattle.dk_template.specs.Exchange.{exchanged_state, span_between, written_order}
 use Rattle.dk_template.specs.Fitting.{fits}
 use Rattle.dk_template.specs.Premises.{premise_fits}
 use Rattle.dk_template.specs.Templates.{form_of, info_of, rank_of, role_kinds, rows}
@@ -43,11 +43,11 @@ written-sum : is_written (row 24) (var 2 ∷ var 0 ∷ var 1 ∷ []) ≡ true
 unfolding rows
 written-sum = refl
 
-arguments-in_order : written (row 24) (var 0 ∷ var 2 ∷ var 1 ∷ []) ≡ var 0 ∷ var 1 ∷ var 2 ∷ []
+arguments-in_order : written_order (row 24) (var 0 ∷ var 2 ∷ var 1 ∷ []) ≡ var 0 ∷ var 1 ∷ var 2 ∷ []
 unfolding rows
 arguments-in_order = refl
 
-all-in_order : written (row 67) (var 2 ∷ var 1 ∷ var 0 ∷ []) ≡ var 0 ∷ var 1 ∷ var 2 ∷ []
+all-in_order : written_order (row 67) (var 2 ∷ var 1 ∷ var 0 ∷ []) ≡ var 0 ∷ var 1 ∷ var 2 ∷ []
 unfolding rows
 all-in_order = refl
 
@@ -59,13 +59,13 @@ level-doesnt_fit : fits (state.Straight (pos 0) (pos 1) (pos 5)) ≡ false
 level-doesnt_fit = refl
 
 -- x - 2 * y + 3 = 0 with the two exchanged is 2 * x - y - 3 = 0
-line-exchanged : exchanged First (state.Straight (pos 1) (negsuc 1) (pos 3)) ≡ state.Straight (pos 2) (negsuc 0) (negsuc 2)
+line-exchanged : exchanged_state First (state.Straight (pos 1) (negsuc 1) (pos 3)) ≡ state.Straight (pos 2) (negsuc 0) (negsuc 2)
 line-exchanged = refl
 
-plane-exchanged : exchanged Last (state.Plane (pos 2) (pos 3) (negsuc 0) (pos 1)) ≡ state.Plane (pos 2) (negsuc 0) (pos 3) (pos 1)
+plane-exchanged : exchanged_state Last (state.Plane (pos 2) (pos 3) (negsuc 0) (pos 1)) ≡ state.Plane (pos 2) (negsuc 0) (pos 3) (pos 1)
 plane-exchanged = refl
 
-span-exchanged : exchanged First (state.Span (pos 1) (pos 5) (pos 0) (pos 2) (pos 4) (pos 0)) ≡ state.Span (pos 4) (pos 2) (pos 0) (pos 5) (pos 1) (pos 0)
+span-exchanged : exchanged_state First (state.Span (pos 1) (pos 5) (pos 0) (pos 2) (pos 4) (pos 0)) ≡ state.Span (pos 4) (pos 2) (pos 0) (pos 5) (pos 1) (pos 0)
 unfolding span_between
 span-exchanged = refl
 

@@ -23,7 +23,7 @@ use Rattle.dk_forms.specs.Plane.{Flat, IsPlaneState, plane, plane_known_of, plan
 use Rattle.dk_forms.specs.declared.states.State.{State}
 use Rattle.dk_forms.specs.declared.states.State.TheVariants as state
 use Rattle.dk_template.proofs.PlaneMoves.{fit_moved, plane_exchanged, tells_negative}
-use Rattle.dk_template.specs.Exchange.{IsBounded, descends, disarranged, exchanged, exchanged_back, moved_flat, ordered, signed_line, span_between, swapped}
+use Rattle.dk_template.specs.Exchange.{IsBounded, descends, disarrange_state, exchanged_back, exchanged_state, moved_flat, order_tuple, signed_line, span_between, swapped}
 use Rattle.dk_template.specs.Laws.{LinesExchange, OffsetsExchange, PlanesExchange}
 use Rattle.dk_template.specs.Proper.{IsProper}
 use Rattle.dk_template.specs.declared.exchange.Exchange.{Exchange}
@@ -51,7 +51,7 @@ sign_alike a b f =
 signed_swapped : (l : ℤ × ℤ × ℤ) → IsStraight l → signed_line (l.1, l.0, l.2) ≡ swap_line l
 signed_swapped l f = ap (λ b. if b then (neg_ℤ l.1, neg_ℤ l.0, neg_ℤ l.2) else (l.1, l.0, l.2)) (sign_alike l.0 l.1 f.normal)
 
-line_state_exchanged : (k : Known Line) → IfFact IsLine k → line_state (lift line_turned k) ≡ exchanged First (line_state k)
+line_state_exchanged : (k : Known Line) → IfFact IsLine k → line_state (lift line_turned k) ≡ exchanged_state First (line_state k)
 line_state_exchanged nothing f = refl
 line_state_exchanged broken f = refl
 line_state_exchanged (fact (spot p)) f = refl
@@ -61,7 +61,7 @@ pub lines_exchange : LinesExchange
 lines_exchange points = ap line_state (line_exchanged points) ∙ line_state_exchanged (line_known_of points) (line_known_of_is.fit points)
 
 -- ---- planes
-plane_state_exchanged : (e : Exchange) (k : Known Flat) → plane_state (lift (moved_flat (swapped e)) k) ≡ exchanged e (plane_state k)
+plane_state_exchanged : (e : Exchange) (k : Known Flat) → plane_state (lift (moved_flat (swapped e)) k) ≡ exchanged_state e (plane_state k)
 unfolding span_between
 plane_state_exchanged First nothing = refl
 plane_state_exchanged First broken = refl
@@ -90,12 +90,12 @@ all_flipped : (k : ℤ) (ds : List (Option ℤ)) → list_all (is_difference (ne
 all_flipped k [] = refl
 all_flipped k (d ∷ ds) = ap (λ b. b && list_all (is_difference (neg_ℤ k)) (map flip ds)) (difference_flipped k d) ∙ ap (λ b. is_difference k d && b) (all_flipped k ds)
 
-offset_flipped : (ds : List (Option ℤ)) → offset_of (map flip ds) ≡ exchanged First (offset_of ds)
+offset_flipped : (ds : List (Option ℤ)) → offset_of (map flip ds) ≡ exchanged_state First (offset_of ds)
 offset_flipped [] = refl
 offset_flipped (None ∷ ds) = refl
 offset_flipped (Some k ∷ ds) =
     ap (λ b. offset_state (if b then fact (neg_ℤ k) else broken)) (all_flipped k ds)
-    ∙ elim (list_all (is_difference k) ds) as (λ b. offset_state (if b then fact (neg_ℤ k) else broken) ≡ exchanged First (offset_state (if b then fact k else broken))) [ true ↦ refl | false ↦ refl ]
+    ∙ elim (list_all (is_difference k) ds) as (λ b. offset_state (if b then fact (neg_ℤ k) else broken) ≡ exchanged_state First (offset_state (if b then fact k else broken))) [ true ↦ refl | false ↦ refl ]
 
 zip_flipped : (s t : List ℤ) → map (λ (p : ℤ × ℤ). Some (p.1 -ℤ p.0)) (zip t s) ≡ map flip (map (λ (p : ℤ × ℤ). Some (p.1 -ℤ p.0)) (zip s t))
 zip_flipped [] [] = refl
@@ -183,7 +183,7 @@ still _ (state.Plane a b c d) e p = absurd p
 still _ (state.Offset k) e p = absurd p
 still _ _ e p = tt
 
-unmoved : (e : Exchange) (s : State) → IsUnmoved s → exchanged e s ≡ s
+unmoved : (e : Exchange) (s : State) → IsUnmoved s → exchanged_state e s ≡ s
 unmoved First (state.Spot x y) h = absurd h
 unmoved First (state.Straight a b c) h = absurd h
 unmoved First (state.Span x1 y1 z1 x2 y2 z2) h = absurd h
@@ -194,7 +194,7 @@ unmoved Last (state.Span x1 y1 z1 x2 y2 z2) h = absurd h
 unmoved Last (state.Plane a b c d) h = absurd h
 unmoved Last _ h = refl
 
-line_proper : (e : Exchange) (s : State) → IsLineState s → IsLineState (exchanged e s)
+line_proper : (e : Exchange) (s : State) → IsLineState s → IsLineState (exchanged_state e s)
 line_proper First state.Empty p = tt
 line_proper First state.Broken p = tt
 line_proper First (state.Spot x y) p = record { x = p.y; y = p.x }
@@ -206,7 +206,7 @@ line_proper Last (state.Spot x y) p = p
 line_proper Last (state.Straight a b c) p = p
 line_proper Last _ p = absurd p
 
-plane_proper : (e : Exchange) (s : State) → IsPlaneState s → IsPlaneState (exchanged e s)
+plane_proper : (e : Exchange) (s : State) → IsPlaneState s → IsPlaneState (exchanged_state e s)
 unfolding span_between
 plane_proper First state.Empty p = tt
 plane_proper First state.Broken p = tt
@@ -219,7 +219,7 @@ plane_proper Last (state.Span x1 y1 z1 x2 y2 z2) p = fit_moved Last (span ((x1, 
 plane_proper Last (state.Plane a b c d) p = fit_moved Last (plane (a, b, c, d)) p
 plane_proper Last _ p = absurd p
 
-offset_proper : (e : Exchange) (s : State) → IsProper form.Offset s → IsProper form.Offset (exchanged e s)
+offset_proper : (e : Exchange) (s : State) → IsProper form.Offset s → IsProper form.Offset (exchanged_state e s)
 offset_proper First state.Empty p = p
 offset_proper First state.Broken p = p
 offset_proper First (state.Offset k) p = (tt, subst (λ t. t < 2 ^ 64) (sym (negated_abs k)) p.1)
@@ -229,10 +229,10 @@ offset_proper Last state.Broken p = p
 offset_proper Last (state.Offset k) p = p
 offset_proper Last _ p = absurd p.0
 
-still_proper : (form : StateForm) (e : Exchange) (s : State) → is_still form ≡ true → IsProper form s → IsProper form (exchanged e s)
+still_proper : (form : StateForm) (e : Exchange) (s : State) → is_still form ≡ true → IsProper form s → IsProper form (exchanged_state e s)
 still_proper form e s q p = subst (IsProper form) (sym (unmoved e s (still form s q p))) p
 
-pub proper_exchanged : (form : StateForm) (e : Exchange) (s : State) → IsProper form s → IsProper form (exchanged e s)
+pub proper_exchanged : (form : StateForm) (e : Exchange) (s : State) → IsProper form s → IsProper form (exchanged_state e s)
 proper_exchanged form.Line e s p = line_proper e s p
 proper_exchanged form.Plane e s p = plane_proper e s p
 proper_exchanged form.Offset e s p = offset_proper e s p
@@ -262,12 +262,12 @@ proper_bounds _ _ p = tt
 
 -- from the state over a tuple in order to the state over the tuple
 back_proper : (form : StateForm) (e : Exchange) (tuple : List VarId) (s : State) → IsProper form s → IsProper form (exchanged_back e tuple s)
-back_proper form e tuple s p = elim (descends e tuple) as (λ b. IsProper form (if b then exchanged e s else s)) [ true ↦ proper_exchanged form e s p | false ↦ p ]
+back_proper form e tuple s p = elim (descends e tuple) as (λ b. IsProper form (if b then exchanged_state e s else s)) [ true ↦ proper_exchanged form e s p | false ↦ p ]
 
-pub proper_disarranged : (form : StateForm) (symmetry : Symmetry) (tuple : List VarId) (s : State) → IsProper form s → IsProper form (disarranged symmetry tuple s)
+pub proper_disarranged : (form : StateForm) (symmetry : Symmetry) (tuple : List VarId) (s : State) → IsProper form s → IsProper form (disarrange_state symmetry tuple s)
 proper_disarranged form symmetry.Fixed tuple s p = p
 proper_disarranged form symmetry.All tuple s p =
-    let one = ordered Last tuple in
-    let two = ordered First one in
+    let one = order_tuple Last tuple in
+    let two = order_tuple First one in
     back_proper form Last tuple (exchanged_back First one (exchanged_back Last two s)) (back_proper form First one (exchanged_back Last two s) (back_proper form Last two s p))
 proper_disarranged form symmetry.Arguments tuple s p = back_proper form Last tuple s p

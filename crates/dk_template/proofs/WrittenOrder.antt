@@ -12,7 +12,7 @@ use Rattle.dk_base.specs.declared.kinds.VarId.{VarId}
 use Rattle.dk_base.specs.declared.kinds.VarInfo.{VarInfo}
 use Rattle.dk_template.proofs.Table.{length-rows}
 use Rattle.dk_template.specs.Admitted.{ascend, exchangeable, same_kind, suit, suits}
-use Rattle.dk_template.specs.Exchange.{arranged, descends, ordered}
+use Rattle.dk_template.specs.Exchange.{arrange_tuple, descends, order_tuple}
 use Rattle.dk_template.specs.Laws.{ExchangeableRolesTakeTheSame, TakeTheSame, WrittenTuplesAreAdmitted}
 use Rattle.dk_template.specs.Templates.{roles_of, rows, template_of}
 use Rattle.dk_template.specs.declared.exchange.Exchange.{Exchange}
@@ -32,10 +32,10 @@ tells_lt a b = ((λ h. grind arith), (λ h. grind arith))
 le_true : (a b : ℕ) → a ≤ b → nat_le a b ≡ true
 le_true a b h = grind arith
 
-first_cases : (v w : VarId) (rest : List VarId) → ((w.0 < v.0) × (ordered First (v ∷ w ∷ rest) ≡ w ∷ v ∷ rest)) ⊎ ((w.0 < v.0 → ⊥) × (ordered First (v ∷ w ∷ rest) ≡ v ∷ w ∷ rest))
+first_cases : (v w : VarId) (rest : List VarId) → ((w.0 < v.0) × (order_tuple First (v ∷ w ∷ rest) ≡ w ∷ v ∷ rest)) ⊎ ((w.0 < v.0 → ⊥) × (order_tuple First (v ∷ w ∷ rest) ≡ v ∷ w ∷ rest))
 first_cases v w rest = choice (nat_lt w.0 v.0) (tells_lt w.0 v.0) (w ∷ v ∷ rest) (v ∷ w ∷ rest)
 
-last_cases : (u v w : VarId) (rest : List VarId) → ((w.0 < v.0) × (ordered Last (u ∷ v ∷ w ∷ rest) ≡ u ∷ w ∷ v ∷ rest)) ⊎ ((w.0 < v.0 → ⊥) × (ordered Last (u ∷ v ∷ w ∷ rest) ≡ u ∷ v ∷ w ∷ rest))
+last_cases : (u v w : VarId) (rest : List VarId) → ((w.0 < v.0) × (order_tuple Last (u ∷ v ∷ w ∷ rest) ≡ u ∷ w ∷ v ∷ rest)) ⊎ ((w.0 < v.0 → ⊥) × (order_tuple Last (u ∷ v ∷ w ∷ rest) ≡ u ∷ v ∷ w ∷ rest))
 last_cases u v w rest = choice (nat_lt w.0 v.0) (tells_lt w.0 v.0) (u ∷ w ∷ v ∷ rest) (u ∷ v ∷ w ∷ rest)
 
 not_less : (a b : ℕ) → (a < b → ⊥) → b ≤ a
@@ -46,27 +46,27 @@ not_less a b h = elim (order a b) as (λ _. b ≤ a) [ inl l ↦ absurd (h l) | 
 
 -- ---- what holds in each order that may come out
 module _ (P : List VarId → Type 0) where
-  two_arranged : (v w : VarId) → (v.0 ≤ w.0 → P (v ∷ w ∷ [])) → (w.0 ≤ v.0 → P (w ∷ v ∷ [])) → P (arranged symmetry.All (v ∷ w ∷ []))
+  two_arranged : (v w : VarId) → (v.0 ≤ w.0 → P (v ∷ w ∷ [])) → (w.0 ≤ v.0 → P (w ∷ v ∷ [])) → P (arrange_tuple symmetry.All (v ∷ w ∷ []))
   two_arranged v w keep turn =
-      elim (first_cases v w []) as (λ _. P (ordered Last (ordered First (v ∷ w ∷ [])))) [
-        | inl h ↦ let h0 = h.0 in subst (λ t. P (ordered Last t)) (sym h.1) (turn (omega arith))
-        | inr h ↦ subst (λ t. P (ordered Last t)) (sym h.1) (keep (not_less w.0 v.0 h.0))
+      elim (first_cases v w []) as (λ _. P (order_tuple Last (order_tuple First (v ∷ w ∷ [])))) [
+        | inl h ↦ let h0 = h.0 in subst (λ t. P (order_tuple Last t)) (sym h.1) (turn (omega arith))
+        | inr h ↦ subst (λ t. P (order_tuple Last t)) (sym h.1) (keep (not_less w.0 v.0 h.0))
       ]
 
-  last_arranged : (u v w : VarId) → (v.0 ≤ w.0 → P (u ∷ v ∷ w ∷ [])) → (w.0 ≤ v.0 → P (u ∷ w ∷ v ∷ [])) → P (ordered Last (u ∷ v ∷ w ∷ []))
+  last_arranged : (u v w : VarId) → (v.0 ≤ w.0 → P (u ∷ v ∷ w ∷ [])) → (w.0 ≤ v.0 → P (u ∷ w ∷ v ∷ [])) → P (order_tuple Last (u ∷ v ∷ w ∷ []))
   last_arranged u v w keep turn =
-      elim (last_cases u v w []) as (λ _. P (ordered Last (u ∷ v ∷ w ∷ []))) [
+      elim (last_cases u v w []) as (λ _. P (order_tuple Last (u ∷ v ∷ w ∷ []))) [
         | inl h ↦ let h0 = h.0 in subst P (sym h.1) (turn (omega arith))
         | inr h ↦ subst P (sym h.1) (keep (not_less w.0 v.0 h.0))
       ]
 
   -- the first two, of which the later doesn't descend to the third, and then the last two
   middle_arranged : (a b c : VarId) → b.0 ≤ c.0 → (a.0 ≤ b.0 → b.0 ≤ c.0 → P (a ∷ b ∷ c ∷ [])) → (b.0 ≤ a.0 → a.0 ≤ c.0 → P (b ∷ a ∷ c ∷ [])) → (b.0 ≤ c.0 → c.0 ≤ a.0 → P (b ∷ c ∷ a ∷ []))
-      → P (ordered Last (ordered First (a ∷ b ∷ c ∷ [])))
+      → P (order_tuple Last (order_tuple First (a ∷ b ∷ c ∷ [])))
   middle_arranged a b c bc keep one two =
-      elim (first_cases a b (c ∷ [])) as (λ _. P (ordered Last (ordered First (a ∷ b ∷ c ∷ [])))) [
-        | inl h ↦ let h0 = h.0 in subst (λ t. P (ordered Last t)) (sym h.1) (last_arranged b a c (λ l. one (omega arith) l) (λ l. two bc l))
-        | inr h ↦ let ab = not_less b.0 a.0 h.0 in subst (λ t. P (ordered Last t)) (sym h.1) (elim (last_cases a b c []) as (λ _. P (ordered Last (a ∷ b ∷ c ∷ []))) [
+      elim (first_cases a b (c ∷ [])) as (λ _. P (order_tuple Last (order_tuple First (a ∷ b ∷ c ∷ [])))) [
+        | inl h ↦ let h0 = h.0 in subst (λ t. P (order_tuple Last t)) (sym h.1) (last_arranged b a c (λ l. one (omega arith) l) (λ l. two bc l))
+        | inr h ↦ let ab = not_less b.0 a.0 h.0 in subst (λ t. P (order_tuple Last t)) (sym h.1) (elim (last_cases a b c []) as (λ _. P (order_tuple Last (a ∷ b ∷ c ∷ []))) [
           | inl k ↦ let k0 = k.0 in absurd (omega arith)
           | inr k ↦ subst P (sym k.1) (keep ab bc)
         ])
@@ -79,16 +79,16 @@ ascends_two v w h = ap (λ b. b && true) (le_true v.0 w.0 h)
 ascends_three : (u v w : VarId) → u.0 ≤ v.0 → v.0 ≤ w.0 → ascend (u ∷ v ∷ w ∷ []) ≡ true
 ascends_three u v w h k = ap (λ b. b && (nat_le v.0 w.0 && true)) (le_true u.0 v.0 h) ∙ ap (λ b. b && true) (le_true v.0 w.0 k)
 
-pub arranged_ascends : (s : Symmetry) (tuple : List VarId) → length tuple ≤ 3 → ascend (exchangeable s (arranged s tuple)) ≡ true
+pub arranged_ascends : (s : Symmetry) (tuple : List VarId) → length tuple ≤ 3 → ascend (exchangeable s (arrange_tuple s tuple)) ≡ true
 arranged_ascends symmetry.Fixed tuple h = refl
 arranged_ascends symmetry.All [] h = refl
 arranged_ascends symmetry.All (a ∷ []) h = refl
 arranged_ascends symmetry.All (a ∷ b ∷ []) h = two_arranged (λ t. ascend t ≡ true) a b (λ l. ascends_two a b l) (λ l. ascends_two b a l)
 arranged_ascends symmetry.All (a ∷ b ∷ c ∷ []) h =
     let P : List VarId → Type 0 = λ t. ascend t ≡ true in
-    elim (last_cases a b c []) as (λ _. P (ordered Last (ordered First (ordered Last (a ∷ b ∷ c ∷ []))))) [
-      | inl k ↦ let k0 = k.0 in subst (λ t. P (ordered Last (ordered First t))) (sym k.1) (middle_arranged P a c b (omega arith) (ascends_three a c b) (ascends_three c a b) (ascends_three c b a))
-      | inr k ↦ subst (λ t. P (ordered Last (ordered First t))) (sym k.1) (middle_arranged P a b c (not_less c.0 b.0 k.0) (ascends_three a b c) (ascends_three b a c) (ascends_three b c a))
+    elim (last_cases a b c []) as (λ _. P (order_tuple Last (order_tuple First (order_tuple Last (a ∷ b ∷ c ∷ []))))) [
+      | inl k ↦ let k0 = k.0 in subst (λ t. P (order_tuple Last (order_tuple First t))) (sym k.1) (middle_arranged P a c b (omega arith) (ascends_three a c b) (ascends_three c a b) (ascends_three c b a))
+      | inr k ↦ subst (λ t. P (order_tuple Last (order_tuple First t))) (sym k.1) (middle_arranged P a b c (not_less c.0 b.0 k.0) (ascends_three a b c) (ascends_three b a c) (ascends_three b c a))
     ]
 arranged_ascends symmetry.All (a ∷ b ∷ c ∷ d ∷ rest) h = absurd (omega (arith, h))
 arranged_ascends symmetry.Arguments [] h = refl
@@ -179,7 +179,7 @@ module _ (vars : List VarInfo) where
 
   -- three roles that take the same
   keeps : (a : Role) (e : Exchange) (tuple : List VarId) → length tuple ≡ 3 → suit (a ∷ a ∷ a ∷ []) vars tuple ≡ true
-      → (length (ordered e tuple) ≡ 3) × (suit (a ∷ a ∷ a ∷ []) vars (ordered e tuple) ≡ true)
+      → (length (order_tuple e tuple) ≡ 3) × (suit (a ∷ a ∷ a ∷ []) vars (order_tuple e tuple) ≡ true)
   keeps a e [] l h = absurd (omega (arith, l))
   keeps a e (u ∷ []) l h = absurd (omega (arith, l))
   keeps a e (u ∷ v ∷ []) l h = absurd (omega (arith, l))
@@ -195,41 +195,41 @@ module _ (vars : List VarInfo) where
         | false ↦ (refl, h)
       ]
 
-  one_arranged : (a : Role) (tuple : List VarId) → suit (a ∷ []) vars tuple ≡ true → suit (a ∷ []) vars (arranged symmetry.All tuple) ≡ true
+  one_arranged : (a : Role) (tuple : List VarId) → suit (a ∷ []) vars tuple ≡ true → suit (a ∷ []) vars (arrange_tuple symmetry.All tuple) ≡ true
   one_arranged a [] h = let l = size (a ∷ []) [] h in absurd (omega (arith, l))
   one_arranged a (v ∷ []) h = h
   one_arranged a (v ∷ w ∷ rest) h = let l = size (a ∷ []) (v ∷ w ∷ rest) h in absurd (omega (arith, l))
 
-  pair_arranged : (a : Role) (tuple : List VarId) → suit (a ∷ a ∷ []) vars tuple ≡ true → suit (a ∷ a ∷ []) vars (arranged symmetry.All tuple) ≡ true
+  pair_arranged : (a : Role) (tuple : List VarId) → suit (a ∷ a ∷ []) vars tuple ≡ true → suit (a ∷ a ∷ []) vars (arrange_tuple symmetry.All tuple) ≡ true
   pair_arranged a [] h = let l = size (a ∷ a ∷ []) [] h in absurd (omega (arith, l))
   pair_arranged a (v ∷ []) h = let l = size (a ∷ a ∷ []) (v ∷ []) h in absurd (omega (arith, l))
   pair_arranged a (v ∷ w ∷ []) h = two_arranged (λ t. suit (a ∷ a ∷ []) vars t ≡ true) v w (λ l. h) (λ l. two_suit a v w h)
   pair_arranged a (u ∷ v ∷ w ∷ rest) h = let l = size (a ∷ a ∷ []) (u ∷ v ∷ w ∷ rest) h in absurd (omega (arith, l))
 
-  three_arranged : (a : Role) (tuple : List VarId) → suit (a ∷ a ∷ a ∷ []) vars tuple ≡ true → suit (a ∷ a ∷ a ∷ []) vars (arranged symmetry.All tuple) ≡ true
+  three_arranged : (a : Role) (tuple : List VarId) → suit (a ∷ a ∷ a ∷ []) vars tuple ≡ true → suit (a ∷ a ∷ a ∷ []) vars (arrange_tuple symmetry.All tuple) ≡ true
   three_arranged a tuple h =
       let one = keeps a Last tuple (size (a ∷ a ∷ a ∷ []) tuple h) h in
-      let two = keeps a First (ordered Last tuple) one.0 one.1 in
-      (keeps a Last (ordered First (ordered Last tuple)) two.0 two.1).1
+      let two = keeps a First (order_tuple Last tuple) one.0 one.1 in
+      (keeps a Last (order_tuple First (order_tuple Last tuple)) two.0 two.1).1
 
-  arguments_arranged : (z a : Role) (tuple : List VarId) → suit (z ∷ a ∷ a ∷ []) vars tuple ≡ true → suit (z ∷ a ∷ a ∷ []) vars (arranged symmetry.Arguments tuple) ≡ true
+  arguments_arranged : (z a : Role) (tuple : List VarId) → suit (z ∷ a ∷ a ∷ []) vars tuple ≡ true → suit (z ∷ a ∷ a ∷ []) vars (arrange_tuple symmetry.Arguments tuple) ≡ true
   arguments_arranged z a [] h = let l = size (z ∷ a ∷ a ∷ []) [] h in absurd (omega (arith, l))
   arguments_arranged z a (u ∷ []) h = let l = size (z ∷ a ∷ a ∷ []) (u ∷ []) h in absurd (omega (arith, l))
   arguments_arranged z a (u ∷ v ∷ []) h = let l = size (z ∷ a ∷ a ∷ []) (u ∷ v ∷ []) h in absurd (omega (arith, l))
   arguments_arranged z a (u ∷ v ∷ w ∷ []) h = last_arranged (λ t. suit (z ∷ a ∷ a ∷ []) vars t ≡ true) u v w (λ l. h) (λ l. last_suit z a u v w h)
   arguments_arranged z a (u ∷ v ∷ w ∷ x ∷ rest) h = let l = size (z ∷ a ∷ a ∷ []) (u ∷ v ∷ w ∷ x ∷ rest) h in absurd (omega (arith, l))
 
-  arranged_suits : (s : Symmetry) (takes : Takes) (tuple : List VarId) → TakeTheSame s takes → suit (roles_of takes) vars tuple ≡ true → suit (roles_of takes) vars (arranged s tuple) ≡ true
+  arranged_suits : (s : Symmetry) (takes : Takes) (tuple : List VarId) → TakeTheSame s takes → suit (roles_of takes) vars tuple ≡ true → suit (roles_of takes) vars (arrange_tuple s tuple) ≡ true
   arranged_suits symmetry.Fixed takes tuple same h = h
   arranged_suits symmetry.All (One a) tuple same h = one_arranged a tuple h
   arranged_suits symmetry.All (Two a b) tuple same h =
-      subst (λ r. suit (a ∷ r ∷ []) vars (arranged symmetry.All tuple) ≡ true) same (pair_arranged a tuple (subst (λ r. suit (a ∷ r ∷ []) vars tuple ≡ true) (sym same) h))
+      subst (λ r. suit (a ∷ r ∷ []) vars (arrange_tuple symmetry.All tuple) ≡ true) same (pair_arranged a tuple (subst (λ r. suit (a ∷ r ∷ []) vars tuple ≡ true) (sym same) h))
   arranged_suits symmetry.All (Three a b c) tuple same h =
       let e = same.0 ∙ same.1 in
-      subst (λ r. suit (a ∷ r ∷ c ∷ []) vars (arranged symmetry.All tuple) ≡ true) same.0 (subst (λ r. suit (a ∷ a ∷ r ∷ []) vars (arranged symmetry.All tuple) ≡ true) e
+      subst (λ r. suit (a ∷ r ∷ c ∷ []) vars (arrange_tuple symmetry.All tuple) ≡ true) same.0 (subst (λ r. suit (a ∷ a ∷ r ∷ []) vars (arrange_tuple symmetry.All tuple) ≡ true) e
       (three_arranged a tuple (subst (λ r. suit (a ∷ a ∷ r ∷ []) vars tuple ≡ true) (sym e) (subst (λ r. suit (a ∷ r ∷ c ∷ []) vars tuple ≡ true) (sym same.0) h))))
   arranged_suits symmetry.Arguments (Three z a b) tuple same h =
-      subst (λ r. suit (z ∷ a ∷ r ∷ []) vars (arranged symmetry.Arguments tuple) ≡ true) same (arguments_arranged z a tuple (subst (λ r. suit (z ∷ a ∷ r ∷ []) vars tuple ≡ true) (sym same) h))
+      subst (λ r. suit (z ∷ a ∷ r ∷ []) vars (arrange_tuple symmetry.Arguments tuple) ≡ true) same (arguments_arranged z a tuple (subst (λ r. suit (z ∷ a ∷ r ∷ []) vars tuple ≡ true) (sym same) h))
   arranged_suits symmetry.Arguments (One a) tuple same h = absurd same
   arranged_suits symmetry.Arguments (Two a b) tuple same h = absurd same
 

@@ -9,7 +9,7 @@ use Rattle.dk_base.specs.declared.kinds.VarInfo.{VarInfo}
 use Rattle.dk_template.proofs.Table.{length-rows}
 use Rattle.dk_template.proofs.WrittenOrder.{arranged_ascends}
 use Rattle.dk_template.specs.Admitted.{admits, is_written, suits}
-use Rattle.dk_template.specs.Exchange.{arranged, descends, exchange, ordered, written}
+use Rattle.dk_template.specs.Exchange.{arrange_tuple, descends, exchange, order_tuple, written_order}
 use Rattle.dk_template.specs.Templates.{IsRow, arity_of, rank_of, roles_of, rows, template_of}
 use Rattle.dk_template.specs.declared.exchange.Exchange.{Exchange}
 use Rattle.dk_template.specs.declared.exchange.Exchange.TheVariants.{First, Last}
@@ -37,16 +37,16 @@ module _ (P : VarId → Type 0) where
   exchange_all Last (u ∷ v ∷ []) h = h
   exchange_all Last (u ∷ v ∷ w ∷ rest) h = All-cons P u (w ∷ v ∷ rest) (All-head P u (v ∷ w ∷ rest) h) (swapped_all v w rest (All-tail P u (v ∷ w ∷ rest) h))
 
-  ordered_all : (e : Exchange) (tuple : List VarId) → All P tuple → All P (ordered e tuple)
+  ordered_all : (e : Exchange) (tuple : List VarId) → All P tuple → All P (order_tuple e tuple)
   ordered_all e tuple h = elim (descends e tuple) as (λ b. All P (if b then exchange e tuple else tuple)) [ true ↦ exchange_all e tuple h | false ↦ h ]
 
-  arranged_all : (s : Symmetry) (tuple : List VarId) → All P tuple → All P (arranged s tuple)
+  arranged_all : (s : Symmetry) (tuple : List VarId) → All P tuple → All P (arrange_tuple s tuple)
   arranged_all symmetry.Fixed tuple h = h
-  arranged_all symmetry.All tuple h = ordered_all Last (ordered First (ordered Last tuple)) (ordered_all First (ordered Last tuple) (ordered_all Last tuple h))
+  arranged_all symmetry.All tuple h = ordered_all Last (order_tuple First (order_tuple Last tuple)) (ordered_all First (order_tuple Last tuple) (ordered_all Last tuple h))
   arranged_all symmetry.Arguments tuple h = ordered_all Last tuple h
 
   -- what holds of each variable of a tuple holds of each in written order
-  pub written_all : (row : RowId) (tuple : List VarId) → All P tuple → All P (written row tuple)
+  pub written_all : (row : RowId) (tuple : List VarId) → All P tuple → All P (written_order row tuple)
   written_all row tuple h = arranged_all (template_of row).symmetry tuple h
 
 -- ---- how many there are
@@ -74,7 +74,7 @@ pub admitted_few : (row : RowId) (infos : List VarInfo) (tuple : List VarId) →
 admitted_few row infos tuple h = let long = admitted_arity row infos tuple h in let few = few_roles (template_of row).takes in omega (arith, long, few)
 
 -- ---- a tuple in written order is written
-pub written_is_written : (row : RowId) (tuple : List VarId) → length tuple ≤ 3 → is_written row (written row tuple) ≡ true
+pub written_is_written : (row : RowId) (tuple : List VarId) → length tuple ≤ 3 → is_written row (written_order row tuple) ≡ true
 written_is_written row tuple few = arranged_ascends (template_of row).symmetry tuple few
 
 -- ---- ranks

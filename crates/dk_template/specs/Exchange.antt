@@ -50,13 +50,13 @@ span_between p q = plane_state (fact (span (lesser p q, greater p q)))
 
 -- The state of a row over the same variables with two neighbouring roles exchanged. Where a relation is the same both ways round
 -- the state is, and so are values of one role.
-abbrev pub exchanged : Exchange → State → State
-exchanged First (state.Spot x y) = state.Spot y x
-exchanged First (state.Straight a b c) = line_state (fact (swapped_line (straight (a, b, c))))
-exchanged First (state.Offset k) = state.Offset (neg_ℤ k)
-exchanged e (state.Span x1 y1 z1 x2 y2 z2) = span_between (swapped e (x1, y1, z1)) (swapped e (x2, y2, z2))
-exchanged e (state.Plane a b c d) = plane_state (fact (moved_flat (swapped e) (plane (a, b, c, d))))
-exchanged e s = s
+abbrev pub exchanged_state : Exchange → State → State
+exchanged_state First (state.Spot x y) = state.Spot y x
+exchanged_state First (state.Straight a b c) = line_state (fact (swapped_line (straight (a, b, c))))
+exchanged_state First (state.Offset k) = state.Offset (neg_ℤ k)
+exchanged_state e (state.Span x1 y1 z1 x2 y2 z2) = span_between (swapped e (x1, y1, z1)) (swapped e (x2, y2, z2))
+exchanged_state e (state.Plane a b c d) = plane_state (fact (moved_flat (swapped e) (plane (a, b, c, d))))
+exchanged_state e s = s
 
 -- the numbers of a line, a plane or an offset are within the bounds of a proper state
 abbrev pub IsBounded : State → Type 0
@@ -79,28 +79,28 @@ descends Last (u ∷ v ∷ w ∷ rest) = nat_lt w.0 v.0
 descends e tuple = false
 
 -- the two variables in order
-abbrev pub ordered : Exchange → List VarId → List VarId
-ordered e tuple = if descends e tuple then exchange e tuple else tuple
+abbrev pub order_tuple : Exchange → List VarId → List VarId
+order_tuple e tuple = if descends e tuple then exchange e tuple else tuple
 
 -- a tuple of a row in its written order
-abbrev pub arranged : Symmetry → List VarId → List VarId
-arranged symmetry.Fixed tuple = tuple
-arranged symmetry.All tuple = ordered Last (ordered First (ordered Last tuple))
-arranged symmetry.Arguments tuple = ordered Last tuple
+abbrev pub arrange_tuple : Symmetry → List VarId → List VarId
+arrange_tuple symmetry.Fixed tuple = tuple
+arrange_tuple symmetry.All tuple = order_tuple Last (order_tuple First (order_tuple Last tuple))
+arrange_tuple symmetry.Arguments tuple = order_tuple Last tuple
 
-abbrev pub written : RowId → List VarId → List VarId
-written row tuple = arranged (template_of row).symmetry tuple
+abbrev pub written_order : RowId → List VarId → List VarId
+written_order row tuple = arrange_tuple (template_of row).symmetry tuple
 
 -- from the state of a tuple in which the two variables are in order, the state of the tuple
 abbrev pub exchanged_back : Exchange → List VarId → State → State
-exchanged_back e tuple s = if descends e tuple then exchanged e s else s
+exchanged_back e tuple s = if descends e tuple then exchanged_state e s else s
 
-abbrev pub disarranged : Symmetry → List VarId → State → State
-disarranged symmetry.Fixed tuple s = s
-disarranged symmetry.All tuple s =
-    exchanged_back Last tuple (exchanged_back First (ordered Last tuple) (exchanged_back Last (ordered First (ordered Last tuple)) s))
-disarranged symmetry.Arguments tuple s = exchanged_back Last tuple s
+abbrev pub disarrange_state : Symmetry → List VarId → State → State
+disarrange_state symmetry.Fixed tuple s = s
+disarrange_state symmetry.All tuple s =
+    exchanged_back Last tuple (exchanged_back First (order_tuple Last tuple) (exchanged_back Last (order_tuple First (order_tuple Last tuple)) s))
+disarrange_state symmetry.Arguments tuple s = exchanged_back Last tuple s
 
 -- from the state of a row over a tuple in written order, that over the tuple as it stands
 abbrev pub turned_state : RowId → List VarId → State → State
-turned_state row tuple s = disarranged (template_of row).symmetry tuple s
+turned_state row tuple s = disarrange_state (template_of row).symmetry tuple s

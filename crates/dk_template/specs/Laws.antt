@@ -13,7 +13,7 @@ use Rattle.dk_forms.specs.Plane.{plane_of}
 use Rattle.dk_forms.specs.declared.states.State.{State}
 use Rattle.dk_forms.specs.declared.states.State.TheVariants.{Empty, Broken, Holds}
 use Rattle.dk_template.specs.Admitted.{admits, is_written}
-use Rattle.dk_template.specs.Exchange.{exchanged, swap, swapped, written}
+use Rattle.dk_template.specs.Exchange.{exchanged_state, swap, swapped, written_order}
 use Rattle.dk_template.specs.Fitting.{fits}
 use Rattle.dk_template.specs.Joins.{joined}
 use Rattle.dk_template.specs.Proper.{IsProper}
@@ -41,17 +41,17 @@ PlainStatesFitWhereTheyHold = (form : StateForm) (s : State) → is_plain form �
 
 -- the state of points on a line, with their coordinates exchanged
 abbrev pub LinesExchange : Type 0
-LinesExchange = (points : List (ℤ × ℤ)) → line_of (map swap points) ≡ exchanged First (line_of points)
+LinesExchange = (points : List (ℤ × ℤ)) → line_of (map swap points) ≡ exchanged_state First (line_of points)
 
 -- the state of points in space, with two neighbouring coordinates exchanged
 abbrev pub PlanesExchange : Type 0
-PlanesExchange = (e : Exchange) (points : List (ℤ × ℤ × ℤ)) → plane_of (map (swapped e) points) ≡ exchanged e (plane_of points)
+PlanesExchange = (e : Exchange) (points : List (ℤ × ℤ × ℤ)) → plane_of (map (swapped e) points) ≡ exchanged_state e (plane_of points)
 
 -- the state of pairs of sequences, with the two exchanged
 abbrev pub OffsetsExchange : Type 0
 OffsetsExchange = (pairs : List (List ℤ × List ℤ))
     → offset_of (flat_map (λ (p : List ℤ × List ℤ). differences p.1 p.0) pairs)
-    ≡ exchanged First (offset_of (flat_map (λ (p : List ℤ × List ℤ). differences p.0 p.1) pairs))
+    ≡ exchanged_state First (offset_of (flat_map (λ (p : List ℤ × List ℤ). differences p.0 p.1) pairs))
 
 -- the roles that may be exchanged take the same
 abbrev pub TakeTheSame : Symmetry → Takes → Type 0
@@ -69,15 +69,15 @@ ExchangeableRolesTakeTheSame = (row : RowId) → IsRow row → TakeTheSame (temp
 abbrev pub WrittenTuplesAreAdmitted : Type 0
 WrittenTuplesAreAdmitted =
     (row : RowId) → IsRow row → (vars : List VarInfo) (tuple : List VarId)
-    → admits row vars tuple ≡ true → admits row vars (written row tuple) ≡ true
+    → admits row vars tuple ≡ true → admits row vars (written_order row tuple) ≡ true
 
 -- the written order of at most three variables is written
 abbrev pub WrittenOrdersAreWritten : Type 0
-WrittenOrdersAreWritten = (row : RowId) (tuple : List VarId) → length tuple ≤ 3 → is_written row (written row tuple) ≡ true
+WrittenOrdersAreWritten = (row : RowId) (tuple : List VarId) → length tuple ≤ 3 → is_written row (written_order row tuple) ≡ true
 
 -- the written order has no other variables, so what holds of all variables holds of all in their written order
 abbrev pub WrittenOrdersKeepVariables : Type 0
-WrittenOrdersKeepVariables = (row : RowId) (tuple : List VarId) → All (Contains tuple) (written row tuple)
+WrittenOrdersKeepVariables = (row : RowId) (tuple : List VarId) → All (Contains tuple) (written_order row tuple)
 
 -- Broken joins with any state to Broken, also with one that isn't proper
 abbrev pub BrokenAbsorbs : Type 0

@@ -5,7 +5,7 @@ ghost use Rattle.dk_arith.specs.Directions.{leading};
 ghost use Rattle.dk_forms.specs.Known.{fact};
 ghost use Rattle.dk_forms.specs.Line.{line_state, straight};
 ghost use Rattle.dk_forms.specs.Plane.{plane, plane_state};
-ghost use Rattle.dk_template.specs.Exchange.{IsBounded, arranged, descends, disarranged, exchange as exchange_of, exchanged, exchanged_back, ordered, signed_line, signed_plane, span_between, turned_state, written as written_tuple};
+ghost use Rattle.dk_template.specs.Exchange.{IsBounded, arrange_tuple, descends, disarrange_state, exchange as exchange_of, exchanged_back, exchanged_state, order_tuple, signed_line, signed_plane, span_between, turned_state, written_order};
 ghost use Rattle.dk_template.specs.Proper.{IsProper};
 ghost use Rattle.dk_template.specs.Templates.{IsRow, form_of};
 
@@ -34,7 +34,7 @@ fn leading(p: i128, q: i128, r: i128) -> i128
     }
 }
 
-fn negated(z: i128) -> i128
+fn negate(z: i128) -> i128
     requires { unsigned_abs z ≤ 2 ^ 126 }
     ensures { result ≡ neg_ℤ z }
 {
@@ -50,9 +50,9 @@ fn signed_line(a: i128, b: i128, c: i128) -> State
 {
     if leading(a, b, 0) < 0 {
         State::Straight {
-            a: negated(a),
-            b: negated(b),
-            c: negated(c),
+            a: negate(a),
+            b: negate(b),
+            c: negate(c),
         }
     } else {
         State::Straight { a, b, c }
@@ -69,10 +69,10 @@ fn signed_plane(a: i128, b: i128, c: i128, d: i128) -> State
 {
     if leading(a, b, c) < 0 {
         State::Plane {
-            a: negated(a),
-            b: negated(b),
-            c: negated(c),
-            d: negated(d),
+            a: negate(a),
+            b: negate(b),
+            c: negate(c),
+            d: negate(d),
         }
     } else {
         State::Plane { a, b, c, d }
@@ -108,7 +108,7 @@ fn ordered_span(x1: i64, y1: i64, z1: i64, x2: i64, y2: i64, z2: i64) -> State
 // With the first two roles exchanged.
 fn exchanged_first(state: State) -> State
     requires { IsBounded state }
-    ensures { result ≡ exchanged Exchange.First state }
+    ensures { result ≡ exchanged_state Exchange.First state }
 {
     match state {
         State::Spot { x, y } => State::Spot { x: y, y: x },
@@ -122,7 +122,7 @@ fn exchanged_first(state: State) -> State
             z2,
         } => ordered_span(y1, x1, z1, y2, x2, z2),
         State::Plane { a, b, c, d } => signed_plane(b, a, c, d),
-        State::Offset { k } => State::Offset { k: negated(k) },
+        State::Offset { k } => State::Offset { k: negate(k) },
         other => other,
     }
 }
@@ -130,7 +130,7 @@ fn exchanged_first(state: State) -> State
 // With the last two of three roles exchanged.
 fn exchanged_last(state: State) -> State
     requires { IsBounded state }
-    ensures { result ≡ exchanged Exchange.Last state }
+    ensures { result ≡ exchanged_state Exchange.Last state }
 {
     match state {
         State::Span {
@@ -146,9 +146,9 @@ fn exchanged_last(state: State) -> State
     }
 }
 
-fn exchanged(exchange: Exchange, state: State) -> State
+fn exchanged_state(exchange: Exchange, state: State) -> State
     requires { IsBounded state }
-    ensures { result ≡ exchanged exchange state }
+    ensures { result ≡ exchanged_state exchange state }
 {
     match exchange {
         Exchange::First => exchanged_first(state),
@@ -161,10 +161,10 @@ fn exchanged(exchange: Exchange, state: State) -> State
 /// state stays, also one over two variables where the last two of three are exchanged.
 pub fn exchange_state(form: StateForm, exchange: Exchange, state: State) -> State
     requires { IsProper form state }
-    ensures value { result ≡ exchanged exchange state }
+    ensures value { result ≡ exchanged_state exchange state }
     ensures proper { IsProper form result }
 {
-    exchanged(exchange, state)
+    exchanged_state(exchange, state)
 }
 
 // Whether the later of the two variables stands first.
@@ -201,9 +201,9 @@ fn exchange_tuple(exchange: Exchange, tuple: &[VarId]) -> Tuple
 }
 
 // The two variables in order.
-fn ordered(exchange: Exchange, tuple: &[VarId]) -> Tuple
+fn order_tuple(exchange: Exchange, tuple: &[VarId]) -> Tuple
     requires { length tuple.now ≤ 3 }
-    ensures { result ≡ ordered exchange tuple.now }
+    ensures { result ≡ order_tuple exchange tuple.now }
 {
     if descends(exchange, tuple) {
         exchange_tuple(exchange, tuple)
@@ -213,27 +213,27 @@ fn ordered(exchange: Exchange, tuple: &[VarId]) -> Tuple
 }
 
 /// The tuple in the row's written order: at the roles that may be exchanged the variables don't descend.
-pub fn written(row: RowId, tuple: &[VarId]) -> Tuple
+pub fn written_order(row: RowId, tuple: &[VarId]) -> Tuple
     requires row { IsRow row }
     requires few { length tuple.now ≤ 3 }
-    ensures value { result ≡ written_tuple row tuple.now }
+    ensures value { result ≡ written_order row tuple.now }
     ensures written { IsTrue (is_written row result) }
 {
-    arranged(template_at(row).symmetry, tuple)
+    arrange_tuple(template_at(row).symmetry, tuple)
 }
 
-fn arranged(symmetry: Symmetry, tuple: &[VarId]) -> Tuple
+fn arrange_tuple(symmetry: Symmetry, tuple: &[VarId]) -> Tuple
     requires { length tuple.now ≤ 3 }
-    ensures { result ≡ arranged symmetry tuple.now }
+    ensures { result ≡ arrange_tuple symmetry tuple.now }
 {
     match symmetry {
         Symmetry::Fixed => Tuple::of(tuple),
         Symmetry::All => {
-            let one = ordered(Exchange::Last, tuple);
-            let two = ordered(Exchange::First, one.as_slice());
-            ordered(Exchange::Last, two.as_slice())
+            let one = order_tuple(Exchange::Last, tuple);
+            let two = order_tuple(Exchange::First, one.as_slice());
+            order_tuple(Exchange::Last, two.as_slice())
         }
-        Symmetry::Arguments => ordered(Exchange::Last, tuple),
+        Symmetry::Arguments => order_tuple(Exchange::Last, tuple),
     }
 }
 
@@ -250,17 +250,17 @@ fn exchanged_back(form: StateForm, exchange: Exchange, tuple: &[VarId], state: S
     }
 }
 
-fn disarranged(form: StateForm, symmetry: Symmetry, tuple: &[VarId], state: State) -> State
+fn disarrange_state(form: StateForm, symmetry: Symmetry, tuple: &[VarId], state: State) -> State
     requires few { length tuple.now ≤ 3 }
     requires state { IsProper form state }
-    ensures value { result ≡ disarranged symmetry tuple.now state }
+    ensures value { result ≡ disarrange_state symmetry tuple.now state }
     ensures proper { IsProper form result }
 {
     match symmetry {
         Symmetry::Fixed => state,
         Symmetry::All => {
-            let one = ordered(Exchange::Last, tuple);
-            let two = ordered(Exchange::First, one.as_slice());
+            let one = order_tuple(Exchange::Last, tuple);
+            let two = order_tuple(Exchange::First, one.as_slice());
             let third = exchanged_back(form, Exchange::Last, two.as_slice(), state);
             let second = exchanged_back(form, Exchange::First, one.as_slice(), third);
             exchanged_back(form, Exchange::Last, tuple, second)
@@ -278,5 +278,5 @@ pub fn turn_state(row: RowId, tuple: &[VarId], state: State) -> State
     ensures proper { IsProper (form_of row) result }
 {
     let template = template_at(row);
-    disarranged(template.form, template.symmetry, tuple, state)
+    disarrange_state(template.form, template.symmetry, tuple, state)
 }

@@ -20,7 +20,7 @@ pub use admitting::{admits, is_written};
 pub use answers::{Answers, Premise};
 pub use asking::{asked_row, suffices_for};
 pub use dk_forms::{Few, State};
-pub use exchange::{Exchange, exchange_state, turn_state, written};
+pub use exchange::{Exchange, exchange_state, turn_state, written_order};
 pub use fitting::fits;
 pub use grammar::{Grammar, RowId};
 pub use joining::join_states;

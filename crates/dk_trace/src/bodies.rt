@@ -6,7 +6,7 @@ ghost use Rattle.dk_decl.specs.declared.decls.VarDecl.{VarDecl as Declared};
 ghost use Rattle.dk_trace.specs.Answers.{Shows};
 ghost use Rattle.dk_trace.specs.Bodies.{body_of, from_nonce, is_nonce_line, nonce_of};
 
-use crate::marks::refused;
+use crate::marks::refuse;
 use crate::values::ValueReader;
 use dk_base::{Arena, BlockFault, View, Why, parse_integer, same_bytes};
 use dk_decl::VarDecl;
@@ -35,7 +35,7 @@ fn nonce_of(line: u64, bytes: &[u8]) -> Result<i64, BlockFault>
 {
     match parse_integer(bytes) {
         Some(number) => Ok(number),
-        None => Err(refused(line, Why::BadNonce)),
+        None => Err(refuse(line, Why::BadNonce)),
     }
 }
 
@@ -127,7 +127,7 @@ impl<'a> BodyReader<'a> {
                 let views = values.end(vars, line)?;
                 Ok((None, views))
             }
-            BodyReader::AtNonce => Err(refused(line, Why::Truncated)),
+            BodyReader::AtNonce => Err(refuse(line, Why::Truncated)),
             BodyReader::AtValues(_, values) => {
                 let views = values.end(vars, line)?;
                 Ok((nonce, views))

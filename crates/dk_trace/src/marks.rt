@@ -19,7 +19,7 @@ pub(crate) enum Unmarked<'a> {
 }
 
 /// The block is refused at this line.
-pub(crate) fn refused(line: u64, why: Why) -> BlockFault
+pub(crate) fn refuse(line: u64, why: Why) -> BlockFault
     ensures { result ≡ BlockFault.Refused line why }
 {
     BlockFault::Refused { line, why }
@@ -78,7 +78,7 @@ impl<'a> Unmarked<'a> {
         match self {
             Unmarked::Opaque => Ok(None),
             Unmarked::Value(view) => Ok(Some(view)),
-            Unmarked::NoValue(line) => Err(refused(line, Why::BadValue)),
+            Unmarked::NoValue(line) => Err(refuse(line, Why::BadValue)),
         }
     }
 
@@ -92,7 +92,7 @@ impl<'a> Unmarked<'a> {
         } else if is_byte(mark, b'0') || is_byte(mark, b'1') {
             self.value()
         } else {
-            Err(refused(line, Why::BadMark))
+            Err(refuse(line, Why::BadMark))
         }
     }
 }

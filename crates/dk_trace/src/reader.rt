@@ -7,7 +7,7 @@ ghost use Rattle.dk_trace.specs.Answers.{Shows};
 ghost use Rattle.dk_trace.specs.Records.{declared_place, point_named_by, sample_of, var_decls_at};
 
 use crate::bodies::BodyReader;
-use crate::marks::refused;
+use crate::marks::refuse;
 use crate::sample::BaseSample;
 use dk_base::{Arena, BlockFault, PointId, Why, is_plain, unescape};
 use dk_decl::VarDecl;
@@ -29,9 +29,9 @@ fn named_point(points: &Points, line: u64, name: &[u8]) -> Result<PointId, Block
     ensures within { IfOk result (λ p. p.0 < length points.now) }
 {
     match points.find(name) {
-        None => Err(refused(line, Why::UnknownPoint)),
+        None => Err(refuse(line, Why::UnknownPoint)),
         Some(point) => match points.decl(point) {
-            None => Err(refused(line, Why::UnknownPoint)),
+            None => Err(refuse(line, Why::UnknownPoint)),
             Some(_) => Ok(point),
         },
     }

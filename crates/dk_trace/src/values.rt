@@ -9,7 +9,7 @@ ghost use Rattle.dk_decl.specs.declared.decls.VarDecl.{VarDecl as Declared};
 ghost use Rattle.dk_trace.specs.Answers.{Shows, shown_value};
 ghost use Rattle.dk_trace.specs.Values.{IsTold, from_value, known_values, named_kind, record_values, then_values};
 
-use crate::marks::{Unmarked, refused};
+use crate::marks::{Unmarked, refuse};
 use bumpalo::collections::into_bump_slice;
 use dk_base::{Arena, BlockFault, Kind, NoMemory, Text, Value, View, Why, is_spelling};
 use dk_decl::VarDecl;
@@ -99,7 +99,7 @@ fn named_kind(var: &VarDecl, line: u64, bytes: &[u8]) -> Result<Option<Kind>, Bl
     if is_named(bytes, &var.name) {
         Ok(var.kind)
     } else {
-        Err(refused(line, Why::WrongName))
+        Err(refuse(line, Why::WrongName))
     }
 }
 
@@ -116,14 +116,14 @@ fn kind_at(
     ensures within { OnOk result (index < length vars.now) }
 {
     match vars.get(index) {
-        None => Err(refused(line, Why::ExtraLine)),
+        None => Err(refuse(line, Why::ExtraLine)),
         Some(var) => named_kind(var, line, bytes),
     }
 }
 
 // The values, with the constants that are left, if no other variable is.
 #[tactic(auto, using(crate::proofs::Left::none_left))]
-fn finished<'a>(
+fn finish_values<'a>(
     arena: &'a Arena,
     vars: &[VarDecl],
     index: usize,
@@ -135,7 +135,7 @@ fn finished<'a>(
     let index = past_constants(arena, vars, index, values)?;
     match vars.get(index) {
         None => Ok(into_bump_slice(replace(values, Vec::new(arena)))),
-        Some(_) => Err(refused(line, Why::Truncated)),
+        Some(_) => Err(refuse(line, Why::Truncated)),
     }
 }
 
@@ -220,9 +220,15 @@ impl<'a> ValueReader<'a> {
         ensures { Shows (λ views. shown_by views.now) result (values_resumed vars.now self.old [] (Some line)) }
     {
         match self.place {
-            ValueLine::AtName => finished(self.arena, vars, self.index, &mut self.values, line),
-            ValueLine::AtValue(_) => Err(refused(line, Why::Truncated)),
-            ValueLine::AtMark(_) => Err(refused(line, Why::Truncated)),
+            ValueLine::AtName => finish_values(
+                self.arena,
+                vars,
+                self.index,
+                &mut self.values,
+                line,
+            ),
+            ValueLine::AtValue(_) => Err(refuse(line, Why::Truncated)),
+            ValueLine::AtMark(_) => Err(refuse(line, Why::Truncated)),
         }
     }
 }

@@ -65,7 +65,7 @@ const WORDS: [&str; 16] = [
     "-V, --version",
 ];
 
-fn asked(alloc: Global, texts: &[&str]) -> Result<Result<Request, WordsFault>, AllocError> {
+fn read_request(alloc: Global, texts: &[&str]) -> Result<Result<Request, WordsFault>, AllocError> {
     let mut words = Vec::new(alloc);
     for text in texts {
         words.push(String::from_str(alloc, text)?)?;
@@ -74,7 +74,7 @@ fn asked(alloc: Global, texts: &[&str]) -> Result<Result<Request, WordsFault>, A
 }
 
 fn command(alloc: Global, texts: &[&str]) -> Result<Option<Command>, AllocError> {
-    match asked(alloc, texts)? {
+    match read_request(alloc, texts)? {
         Ok(Request::Run(command)) => Ok(Some(command)),
         _ => Ok(None),
     }
@@ -95,7 +95,7 @@ fn has_files(command: &Command, names: &[&str]) -> bool {
 #[test]
 fn words_are_refused(rt: HostRuntime) -> Result<(), Fail> {
     for words in REFUSED {
-        let fault = asked(rt.alloc(), words)?.err();
+        let fault = read_request(rt.alloc(), words)?.err();
         assert_eq!(rt; fault, Some(WordsFault::Refused), "{words:?}");
     }
     Ok(())
@@ -104,11 +104,11 @@ fn words_are_refused(rt: HostRuntime) -> Result<(), Fail> {
 #[test]
 fn words_ask_for_help_and_version(rt: HostRuntime) -> Result<(), Fail> {
     for words in HELP {
-        let is_help = matches!(asked(rt.alloc(), words)?, Ok(Request::Help));
+        let is_help = matches!(read_request(rt.alloc(), words)?, Ok(Request::Help));
         assert!(rt; is_help, "{words:?}");
     }
     for words in VERSION {
-        let is_version = matches!(asked(rt.alloc(), words)?, Ok(Request::Version));
+        let is_version = matches!(read_request(rt.alloc(), words)?, Ok(Request::Version));
         assert!(rt; is_version, "{words:?}");
     }
     Ok(())

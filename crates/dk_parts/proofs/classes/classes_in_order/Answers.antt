@@ -7,4 +7,4 @@ use Rattle.dk_parts.proofs.classes.classes_in_order.Goals as goal
 pub returns : goal.returns
 returns c =
     subst (λ (all : List (List VarId)). IfOk c.nonempty.result (λ left. left ≡ all))
-    (nonempty_groups c.args.classes.now c.args.count c.in_ok-grouped.field-0.items c.requires c.leaders-leaders.ensures.classes c.in_ok-grouped.ensures) c.nonempty.ensures
+    (nonempty_groups c.args.classes.now c.args.count c.in_ok-group_members.field-0.items c.requires c.leaders-leaders.ensures.classes c.in_ok-group_members.ensures) c.nonempty.ensures

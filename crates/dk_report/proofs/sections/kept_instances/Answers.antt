@@ -44,8 +44,8 @@ of-requires-clause-parents c =
     All-same (λ (view : ParentView Joint). length view.vars.now < 2 ^ 32) c.as_slice-2.result.now c.in_ok-views.views.items c.as_slice-2.ensures.value
     (small_views ps es c.requires.engines c.args.p.0 joint c.in_ok-here.ensures.here c.in_ok-here.ensures.stands c.in_ok-views.views.items c.as_slice.result.now c.in_ok-views.ensures by)
 
-pub listed-requires-clause-asked : goal.listed-requires-clause-asked
-listed-requires-clause-asked c =
+pub list_candidates-requires-clause-asked : goal.list_candidates-requires-clause-asked
+list_candidates-requires-clause-asked c =
     let ps = c.args.points.now in
     let es = c.args.engines.now in
     let p = c.args.p.0 in
@@ -67,13 +67,13 @@ listed-requires-clause-asked c =
           ∙ ap (λ (views : List (ParentView Joint)). found_of (answers_of_joint joint) (map parent_of_view views)) slices);
     }
 
-pub listed-requires-clause-few : goal.listed-requires-clause-few
-listed-requires-clause-few c =
+pub list_candidates-requires-clause-few : goal.list_candidates-requires-clause-few
+list_candidates-requires-clause-few c =
     let joint : Joint = c.in_ok-here.here in
     (c.requires.engines.variables c.args.p.0 joint.here c.in_ok-here.ensures.here).1.few
 
-pub listed-requires-clause-paths : goal.listed-requires-clause-paths
-listed-requires-clause-paths c =
+pub list_candidates-requires-clause-paths : goal.list_candidates-requires-clause-paths
+list_candidates-requires-clause-paths c =
     let joint : Joint = c.in_ok-here.here in
     All-weaker (IsWayDown c.args.points.now c.args.p.0) (λ (way : Way). 0 < way.paths) (λ way is. is.some) joint.ways c.in_ok-here.ensures.ways.done
 
@@ -86,11 +86,11 @@ returns c =
     let joint : Joint = c.in_ok-here.here in
     let by = subst (λ (qs : List MergedParent). AllZip (IsParentBy ps es) qs (edges_from (nodes ps) p)) (sym c.as_slice.ensures.value) c.in_ok-parents.ensures in
     let lists = λ (views : List (ParentView Joint)). candidates_kept (keeps options) (candidates_of joint.here.grammar options.least (answers_of_joint joint) (map parent_of_view views)) in
-    if_ok c.listed.result
+    if_ok c.list_candidates.result
     (λ list. (samples : ℕ → List (List Value)) (parents : List Parent) → EnginesStandFor es samples → AllZip (ShowTheSame joint.here.grammar joint.here.infos) (map parent_of_view c.as_slice-3.result.now) parents → list ≡ lists c.as_slice-3.result.now) _
     (λ list is own stand.
     let shows = views_show ps es c.requires.engines p joint c.in_ok-here.ensures.here c.in_ok-here.ensures.stands c.in_ok-views.views.items c.as_slice.result.now c.in_ok-views.ensures by own stand in
     let show = subst (λ (views : List (ParentView Joint)). AllZip (ShowTheSame joint.here.grammar joint.here.infos) (map parent_of_view views) (parents_of ps own p)) (sym c.as_slice-3.ensures.value) shows in
     reported ps es c.requires.engines p joint c.in_ok-here.ensures.here c.in_ok-here.ensures.stands c.in_ok-views.views.items c.as_slice.result.now c.in_ok-views.ensures by options list
     (is (own_samples_of ps own) (parents_of ps own p) stand show ∙ ap lists c.as_slice-3.ensures.value) own stand)
-    c.listed.ensures
+    c.list_candidates.ensures

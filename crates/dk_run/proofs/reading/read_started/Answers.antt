@@ -66,7 +66,7 @@ returns-in-Err-tell_by_the_way-clause-gives g c =
     record {
       text = c.steps.invariant.goes.text ++ cut.text;
       written = written_behind _ _ _ c.steps.invariant.goes.text cut.text c.steps.invariant.goes.written cut.written;
-      holds = λ h n stands counts. subst (λ (t : Trouble). IfSome (left_of c.args.lines.now (g.I.Inputs.rest c.args.inputs.now)) (λ xs. TroubleGives c.args.command.now n h c.args.lines.now xs (c.steps.invariant.goes.text ++ cut.text) t (left_of c.block.new.lines (g.I.Inputs.rest c.block.new.inputs)))) (sym c.halted.ensures)
+      holds = λ h n stands counts. subst (λ (t : Trouble). IfSome (left_of c.args.lines.now (g.I.Inputs.rest c.args.inputs.now)) (λ xs. TroubleGives c.args.command.now n h c.args.lines.now xs (c.steps.invariant.goes.text ++ cut.text) t (left_of c.block.new.lines (g.I.Inputs.rest c.block.new.inputs)))) (sym c.trouble_of_halt.ensures)
           (short_gives c.args.command.now n h c.args.lines.now _ _ (c.steps.invariant.goes.text ++ cut.text) c.in-Err-tell_by_the_way.halt
           (file_short c.args.command.now n h c.args.lines.now c.steps.lines c.block.new.lines _ _ _ c.steps.invariant.goes.text cut.text c.steps.session c.block.new.self
           (ignores_by c.args.command.now c.steps.session c.steps.invariant.reports) (c.steps.invariant.goes.holds h n stands counts) answers
@@ -92,34 +92,34 @@ returns-in-Err-clause-gives g c =
     record {
       text = c.steps.invariant.goes.text;
       written = c.steps.invariant.goes.written;
-      holds = λ h n stands counts. subst (λ (t : Trouble). IfSome (left_of c.args.lines.now (g.I.Inputs.rest c.args.inputs.now)) (λ xs. TroubleGives c.args.command.now n h c.args.lines.now xs c.steps.invariant.goes.text t (left_of c.block.new.lines (g.I.Inputs.rest c.block.new.inputs)))) (sym c.faulted.ensures)
+      holds = λ h n stands counts. subst (λ (t : Trouble). IfSome (left_of c.args.lines.now (g.I.Inputs.rest c.args.inputs.now)) (λ xs. TroubleGives c.args.command.now n h c.args.lines.now xs c.steps.invariant.goes.text t (left_of c.block.new.lines (g.I.Inputs.rest c.block.new.inputs)))) (sym c.trouble_of_fault.ensures)
           (file_fault c.args.command.now n h c.args.lines.now c.steps.lines c.block.new.lines _ _ _ c.steps.invariant.goes.text c.steps.session c.in-Err.fault
           (ignores_by c.args.command.now c.steps.session c.steps.invariant.reports) (c.steps.invariant.goes.holds h n stands counts) c.in-Err.ensures.gives);
     }
 
 pub returns-in-Err-tell_by_the_way-clause-calm : goal.returns-in-Err-tell_by_the_way-clause-calm
 returns-in-Err-tell_by_the_way-clause-calm g c =
-    halted_calm c.in-Err-tell_by_the_way.halt c.halted.result (g.S.Sinks.faults c.args.sinks.now) (g.S.Sinks.faults c.steps.sinks) (g.S.Sinks.faults c.tell_by_the_way.new.sinks)
-    c.halted.ensures c.steps.invariant.calm c.in-Err-tell_by_the_way.ensures.cause
+    halted_calm c.in-Err-tell_by_the_way.halt c.trouble_of_halt.result (g.S.Sinks.faults c.args.sinks.now) (g.S.Sinks.faults c.steps.sinks) (g.S.Sinks.faults c.tell_by_the_way.new.sinks)
+    c.trouble_of_halt.ensures c.steps.invariant.calm c.in-Err-tell_by_the_way.ensures.cause
 
 pub returns-in-Err-tell_by_the_way-clause-started : goal.returns-in-Err-tell_by_the_way-clause-started
-returns-in-Err-tell_by_the_way-clause-started g c = λ e. halted_started c.in-Err-tell_by_the_way.halt c.halted.result c.halted.ensures (same_trouble c.halted.result t.Start _ refl e)
+returns-in-Err-tell_by_the_way-clause-started g c = λ e. halted_started c.in-Err-tell_by_the_way.halt c.trouble_of_halt.result c.trouble_of_halt.ensures (same_trouble c.trouble_of_halt.result t.Start _ refl e)
 
 pub returns-in-Err-tell_by_the_way-clause-emptied : goal.returns-in-Err-tell_by_the_way-clause-emptied
-returns-in-Err-tell_by_the_way-clause-emptied g c = λ e. absurd (halted_read c.in-Err-tell_by_the_way.halt c.halted.result c.halted.ensures (same_trouble c.halted.result t.Read _ refl e))
+returns-in-Err-tell_by_the_way-clause-emptied g c = λ e. absurd (halted_read c.in-Err-tell_by_the_way.halt c.trouble_of_halt.result c.trouble_of_halt.ensures (same_trouble c.trouble_of_halt.result t.Read _ refl e))
 
 pub returns-in-Err-tell_by_the_way-clause-cause : goal.returns-in-Err-tell_by_the_way-clause-cause
-returns-in-Err-tell_by_the_way-clause-cause g c = λ e. absurd (halted_read c.in-Err-tell_by_the_way.halt c.halted.result c.halted.ensures (same_trouble c.halted.result t.Read _ refl e))
+returns-in-Err-tell_by_the_way-clause-cause g c = λ e. absurd (halted_read c.in-Err-tell_by_the_way.halt c.trouble_of_halt.result c.trouble_of_halt.ensures (same_trouble c.trouble_of_halt.result t.Read _ refl e))
 
 pub returns-in-Err-clause-calm : goal.returns-in-Err-clause-calm
-returns-in-Err-clause-calm g c = faulted_calm c.in-Err.fault c.faulted.result (g.S.Sinks.faults c.args.sinks.now) (g.S.Sinks.faults c.steps.sinks) c.faulted.ensures c.steps.invariant.calm
+returns-in-Err-clause-calm g c = faulted_calm c.in-Err.fault c.trouble_of_fault.result (g.S.Sinks.faults c.args.sinks.now) (g.S.Sinks.faults c.steps.sinks) c.trouble_of_fault.ensures c.steps.invariant.calm
 
 pub returns-in-Err-clause-started : goal.returns-in-Err-clause-started
-returns-in-Err-clause-started g c = λ e. faulted_started c.in-Err.fault c.faulted.result c.faulted.ensures (same_trouble c.faulted.result t.Start _ refl e)
+returns-in-Err-clause-started g c = λ e. faulted_started c.in-Err.fault c.trouble_of_fault.result c.trouble_of_fault.ensures (same_trouble c.trouble_of_fault.result t.Start _ refl e)
 
 pub returns-in-Err-clause-emptied : goal.returns-in-Err-clause-emptied
-returns-in-Err-clause-emptied g c = λ e. let (file, is) = faulted_read c.in-Err.fault c.faulted.result c.faulted.ensures (same_trouble c.faulted.result t.Read _ refl e) in c.in-Err.ensures.emptied file (ap (λ (f : Fault). Err f) is)
+returns-in-Err-clause-emptied g c = λ e. let (file, is) = faulted_read c.in-Err.fault c.trouble_of_fault.result c.trouble_of_fault.ensures (same_trouble c.trouble_of_fault.result t.Read _ refl e) in c.in-Err.ensures.emptied file (ap (λ (f : Fault). Err f) is)
 
 pub returns-in-Err-clause-cause : goal.returns-in-Err-clause-cause
-returns-in-Err-clause-cause g c = λ e. let (file, is) = faulted_read c.in-Err.fault c.faulted.result c.faulted.ensures (same_trouble c.faulted.result t.Read _ refl e) in
+returns-in-Err-clause-cause g c = λ e. let (file, is) = faulted_read c.in-Err.fault c.trouble_of_fault.result c.trouble_of_fault.ensures (same_trouble c.trouble_of_fault.result t.Read _ refl e) in
     rose_since (g.I.Inputs.faults c.args.inputs.now) (g.I.Inputs.faults c.steps.inputs) (g.I.Inputs.faults c.block.new.inputs) c.steps.invariant.later (c.in-Err.ensures.cause file (ap (λ (f : Fault). Err f) is))

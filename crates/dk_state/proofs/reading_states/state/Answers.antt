@@ -11,4 +11,4 @@ returns-clause-read c s rest fits is =
     let told = fields_text (told_fields s) in
     let start = is ∙ ap (λ fs. fields_text fs ++ 10 ∷ rest) first.fields ∙ append_assoc (behind_blank first.text) told (10 ∷ rest) in
     let field = c.field.ensures.read first.text (told ++ 10 ∷ rest) first.plain (told_first (told_fields s) rest) start in
-    c.told.ensures.read s rest (c.word_in-word.ensures ∙ ap state_word_in field.0 ∙ first.word) fits field.1
+    c.state_of_word.ensures.read s rest (c.word_in-word.ensures ∙ ap state_word_in field.0 ∙ first.word) fits field.1

@@ -11,7 +11,7 @@ use Rattle.dk_calls.proofs.calls.Calls.exit.Goals as goal
 
 pub returns-in-None-clause-values : goal.returns-in-None-clause-values
 returns-in-None-clause-values c = λ (earlier : List Call) (s : CallsStandForRecords c.args.self.now earlier).
-    rw c.unmatched.ensures
+    rw c.unmatched_exit.ensures
     (exit_refused c.args.points.now (shown c.args.sample.now) earlier c.in-Some.entry.0 (sym c.in-Some.ensures.entry) (c.in-None.ensures earlier s))
 
 pub returns-clause-values : goal.returns-clause-values

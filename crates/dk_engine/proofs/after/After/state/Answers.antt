@@ -22,5 +22,5 @@ returns-clause-state c =
     let row = c.args.row in
     let vars = c.args.vars.now in
     let before : c.in_ok-before.before ≡ state_read o.whole.kept row vars = search rules in
-    IfOk-weaker c.joined.result (λ s. s ≡ with_sample row vars o.sample c.in_ok-before.before) (λ s. s ≡ with_sample row vars o.sample (state_read o.whole.kept row vars))
-    (λ s e. e ∙ ap (with_sample row vars o.sample) before) c.joined.ensures.state
+    IfOk-weaker c.with_sample.result (λ s. s ≡ with_sample row vars o.sample c.in_ok-before.before) (λ s. s ≡ with_sample row vars o.sample (state_read o.whole.kept row vars))
+    (λ s e. e ∙ ap (with_sample row vars o.sample) before) c.with_sample.ensures.state

@@ -30,8 +30,8 @@ lost_within made slots changes each k d l =
     let f = of_filter (loses_by slots) m.0 changes m.1 in
     subst (λ n. n < length slots) (sym m.2) (All-contains (IsChange made slots) changes m.0 each (contained m.0 changes f.0)).within
 
-pub lost-requires : goal.lost-requires
-lost-requires c =
+pub lost_places-requires : goal.lost_places-requires
+lost_places-requires c =
     let w : Whole = c.args.self.now in
     let sample = values_of c.args.sample.now in
     let made = outcome true (read_after w.kept sample) sample in
@@ -49,8 +49,8 @@ are_many-requires c =
     subst (λ (ss : List Slot). All (λ k. k < length ss) c.as_slice-2.result.now) (sym c.slots.ensures)
     (subst (All (λ k. k < length w.kept.slots)) (sym (c.as_slice-2.ensures ∙ lost)) (lost_within made w.kept.slots changes c.in_ok-changes.ensures.each))
 
-pub opened-requires-clause-within : goal.opened-requires-clause-within
-opened-requires-clause-within c =
+pub opened_slots-requires-clause-within : goal.opened_slots-requires-clause-within
+opened_slots-requires-clause-within c =
     let w : Whole = c.args.self.now in
     let sample = values_of c.args.sample.now in
     let made = outcome true (read_after w.kept sample) sample in

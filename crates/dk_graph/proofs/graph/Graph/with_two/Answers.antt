@@ -31,6 +31,6 @@ with-requires-2-clause-new c =
 
 pub returns : goal.returns
 returns c =
-    subst (λ ns. IfOk c.judged.result (λ g. GraphGrows g ns))
+    subst (λ ns. IfOk c.into_graph.result (λ g. GraphGrows g ns))
     (grown-is c.args.self c.new.result c.in_ok-with.field-0 c.in_ok-with-2.field-0 c.args.first c.args.second c.new.ensures c.in_ok-with.ensures c.in_ok-with-2.ensures)
-    c.judged.ensures
+    c.into_graph.ensures

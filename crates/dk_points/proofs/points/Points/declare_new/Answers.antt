@@ -21,7 +21,7 @@ pub returns-in-None : goal.returns-in-None
 returns-in-None c =
     let told = rw (c.in-None.is) at c.in_ok-with_added.ensures in
     let own = c.in_ok-own.ensures in
-    rw (c.refused.ensures) (ap (at_line c.args.line)
+    rw (c.refuse.ensures) (ap (at_line c.args.line)
     (new-cyclic c.args.self c.args.decl own.2 own.3 (ap (λ d. has_cycle (nodes (c.args.self ++ added_points c.args.self d))) (sym own.0) ∙ told)))
 
 pub returns-in-Some : goal.returns-in-Some

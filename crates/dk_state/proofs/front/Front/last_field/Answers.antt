@@ -7,6 +7,6 @@ use Rattle.dk_state.proofs.front.Front.last_field.Goals as goal
 
 pub returns-clause-read : goal.returns-clause-read
 returns-clause-read c field rest none first is =
-    field_taken ends_line c.pass.new.self c.taken-2.result.now c.taken-2.new.self field rest c.line_len.result
-    (c.pass.ensures.read (field ++ rest) is) none first (c.line_len.ensures.value ∙ ap (position_or_len ends_line) c.taken.view_is)
-    c.taken-2.ensures.front c.taken-2.ensures.rest
+    field_taken ends_line c.pass.new.self c.take-2.result.now c.take-2.new.self field rest c.line_len.result
+    (c.pass.ensures.read (field ++ rest) is) none first (c.line_len.ensures.value ∙ ap (position_or_len ends_line) c.take.view_is)
+    c.take-2.ensures.front c.take-2.ensures.rest

@@ -6,4 +6,4 @@ use Rattle.dk_state.proofs.front.Front.value.Goals as goal
 pub returns-clause-read : goal.returns-clause-read
 returns-clause-read c v rest of written first is =
     let field = c.last_field-text.ensures.read (spelling v) rest (value_plain v written) first is in
-    if_ok_weaker c.valued.result (λ own h. (h.0, h.1 ∙ field.1)) (c.valued.ensures.read v of written field.0)
+    if_ok_weaker c.parse_value.result (λ own h. (h.0, h.1 ∙ field.1)) (c.parse_value.ensures.read v of written field.0)

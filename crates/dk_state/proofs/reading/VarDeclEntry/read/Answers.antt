@@ -23,15 +23,15 @@ returns-clause-read c v rest fits last is =
     let passed = c.pass.ensures.read (fields_onto (rep ∷ elem ∷ index ∷ escaped v.name ∷ []) (10 ∷ behind)) line in
     let field = c.field.ensures.read rep (fields_onto (elem ∷ index ∷ escaped v.name ∷ []) (10 ∷ behind)) (rep_plain v.kind) refl passed in
     let kind = c.kind_of-kind.ensures v.kind field.0 in
-    let first = c.signed-elem.ensures.read v.compar.elem (fields_onto (index ∷ escaped v.name ∷ []) (10 ∷ behind)) fits.elem refl field.1 in
-    let second = c.signed-index.ensures.read v.compar.index (fields_onto (escaped v.name ∷ []) (10 ∷ behind)) fits.index refl first.1 in
+    let first = c.integer-elem.ensures.read v.compar.elem (fields_onto (index ∷ escaped v.name ∷ []) (10 ∷ behind)) fits.elem refl field.1 in
+    let second = c.integer-index.ensures.read v.compar.index (fields_onto (escaped v.name ∷ []) (10 ∷ behind)) fits.index refl first.1 in
     let name = c.in_ok-name.ensures.read v.name (10 ∷ behind) fits.name refl second.1 in
     let ended = c.pass-2.ensures.read behind name.1 in
     let constant = c.in_ok-constant_line.ensures.read v.constant_line v.constant (mapped ++ rest) (subst (λ k. FitsConstant v.constant_line k v.constant) (sym kind) fits.constant)
     (no_constant v.parents rest last.0) ended in
     let parents = c.in_ok-parents.ensures.read v.parents rest fits.parents last.1 tt constant.1 in
-    let own_elem = to_z-of_z w64 c.signed-elem.result (record { sfits = c.signed-elem.type_inv }) ∙ first.0 in
-    let own_index = to_z-of_z w64 c.signed-index.result (record { sfits = c.signed-index.type_inv }) ∙ second.0 in (
+    let own_elem = to_z-of_z w64 c.integer-elem.result (record { sfits = c.integer-elem.type_inv }) ∙ first.0 in
+    let own_index = to_z-of_z w64 c.integer-index.result (record { sfits = c.integer-index.type_inv }) ∙ second.0 in (
       (λ i. record {
         name = name.0 i;
         kind = kind i;
@@ -45,8 +45,8 @@ returns-clause-read c v rest fits last is =
 
 pub returns-clause-within : goal.returns-clause-within
 returns-clause-within c = record {
-  elem = subst (λ z. IsTrue (fits_i64 z)) (sym (to_z-of_z w64 c.signed-elem.result (record { sfits = c.signed-elem.type_inv }))) c.signed-elem.ensures.within;
-  index = subst (λ z. IsTrue (fits_i64 z)) (sym (to_z-of_z w64 c.signed-index.result (record { sfits = c.signed-index.type_inv }))) c.signed-index.ensures.within;
+  elem = subst (λ z. IsTrue (fits_i64 z)) (sym (to_z-of_z w64 c.integer-elem.result (record { sfits = c.integer-elem.type_inv }))) c.integer-elem.ensures.within;
+  index = subst (λ z. IsTrue (fits_i64 z)) (sym (to_z-of_z w64 c.integer-index.result (record { sfits = c.integer-index.type_inv }))) c.integer-index.ensures.within;
   constant = c.in_ok-constant_line.ensures.within;
   parents = c.in_ok-parents.ensures.within;
 }

@@ -1,6 +1,0 @@
-use Rattle.std.proofs.Common.{◌≡◌, ◌++◌, drop}
-use Rattle.dk_base.specs.Names.{escaped}
-use Rattle.dk_base.proofs.names.spelled.Given as goal
-
-abbrev pub invariant-loop-byte : goal.invariant-loop-byte
-invariant-loop-byte l = l.text ++ escaped (drop l.byte-index l.name) ≡ escaped l.name

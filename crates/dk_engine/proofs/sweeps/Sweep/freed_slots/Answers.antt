@@ -1,0 +1,26 @@
+use Rattle.std.specs.Prelude.{◌≤◌, ◌++◌, All, List, flat_map, length}
+use Rattle.std.proofs.Common.{ap, ◌∙◌, arith, subst, sym}
+use Rattle.std.proofs.lemmas.List.{take_all}
+use Rattle.dk_template.specs.Templates.{IsRowOf}
+use Rattle.dk_template.specs.declared.grammar.RowId.{RowId}
+use Rattle.dk_engine.proofs.ReachedRows.{reached_rows}
+use Rattle.dk_engine.specs.Feeding.{read_after}
+use Rattle.dk_engine.specs.Sweeps.{freed_slots, with_both}
+use Rattle.dk_engine.specs.declared.slot.Slot.{Slot}
+use Rattle.dk_engine.proofs.sweeps.Sweep.freed_slots.Goals as goal
+
+pub with_both-requires-clause-row : goal.with_both-requires-clause-row
+with_both-requires-clause-row c =
+    let grammar = c.args.self.now.answers.now.whole.grammar in
+    let test = c.loop-freed-test.true in
+    subst (λ rs. All (IsRowOf grammar) rs) (sym c.rows_reached-freed-items.ensures) (reached_rows grammar c.args.row) c.loop-freed.freed-index (record { 0 = 0 }) (omega (arith, test))
+
+pub returns : goal.returns
+unfolding freed_slots
+returns c =
+    let s = c.args.self.now in
+    let F : RowId → List Slot = λ row. with_both s.infos.now s.known.now (read_after s.answers.now.whole.kept s.answers.now.sample) row c.args.lost.now c.args.leaders.now in
+    let items = c.rows_reached-freed-items.result.now in
+    let test = c.loop-freed-test.false in
+    let past : length items ≤ c.loop-freed.freed-index = omega (arith, test) in
+    c.loop-freed.invariant ∙ ap (λ rs. c.args.slots ++ flat_map F rs) (take_all c.loop-freed.freed-index items past ∙ c.rows_reached-freed-items.ensures)

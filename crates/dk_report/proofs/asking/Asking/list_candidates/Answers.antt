@@ -1,0 +1,28 @@
+use Rattle.std.specs.Prelude.{◌≡◌, List, flat_map}
+use Rattle.std.proofs.Common.{◌∙◌, subst, sym}
+use Rattle.dk_engine.specs.Levels.{Whole}
+use Rattle.dk_filters.specs.Candidates.{candidates_kept, candidates_of}
+use Rattle.dk_fits.specs.Instances.{rows_of}
+use Rattle.dk_hierarchy.specs.Standing.{EnginesStandFor}
+use Rattle.dk_report.proofs.Alone.{narrowed_is}
+use Rattle.dk_report.proofs.Reported.{if_ok}
+use Rattle.dk_report.specs.Asked.{here_of, views_of}
+use Rattle.dk_report.specs.Keeping.{keeps}
+use Rattle.dk_report.specs.Narrowing.{candidates_left}
+use Rattle.dk_report.proofs.asking.Asking.list_candidates.Goals as goal
+
+pub returns-in-Some : goal.returns-in-Some
+returns-in-Some c =
+    let asking = c.args.self.now in
+    let of = c.in_ok-standing.standing in
+    let engine : Whole = c.in-Some.engine.now in
+    if_ok c.narrow_to.result (λ list. list ≡ flat_map (candidates_left engine.kept asking of) (rows_of asking.here.now.here.grammar)) _
+    (λ list is samples parents stand show.
+    is ∙ narrowed_is asking c.requires.asked of c.in_ok-standing.ensures engine c.in-Some.ensures c.requires.paths samples (subst (λ (es : List Whole). EnginesStandFor es samples) (sym c.requires.engines) stand) parents show)
+    c.narrow_to.ensures
+
+pub returns : goal.returns
+returns c =
+    let asking = c.args.self.now in
+    if_ok c.told_or_swept.result (λ list. list ≡ candidates_kept (keeps asking.options.now) (candidates_of asking.here.now.here.grammar asking.options.now.least (here_of asking) (views_of asking))) _
+    (λ list is samples parents stand show. is) c.told_or_swept.ensures
