@@ -239,7 +239,7 @@ impl<'a, 'e> Asking<'a, 'e> {
     }
 
     // The candidates by what one view of the point tells, or else by all tuples.
-    fn told_or_swept(
+    fn list_by_view(
         &self,
         engines: &[Engine],
         standing: &Standing,
@@ -249,9 +249,9 @@ impl<'a, 'e> Asking<'a, 'e> {
         requires standing { AreStanding self.now standing.now }
         ensures { IfOk result (λ list. list ≡ candidates_kept (keeps self.now.options.now) (candidates_of self.now.here.now.here.grammar self.now.options.now.least (here_of self.now) (views_of self.now))) }
     {
-        let told = self.told(engines, standing)?;
+        let told = self.view_table(engines, standing)?;
         match told {
-            Some(table) => self.viewed(table.as_slice(), standing),
+            Some(table) => self.list_in_view(table.as_slice(), standing),
             None => self.sweep_all(standing),
         }
     }
@@ -267,7 +267,7 @@ impl<'a, 'e> Asking<'a, 'e> {
         let standing = self.all_standing()?;
         match self.narrowing_engine(engines, &standing) {
             Some(engine) => self.narrow_to(engine, &standing),
-            None => self.told_or_swept(engines, &standing),
+            None => self.list_by_view(engines, &standing),
         }
     }
 }

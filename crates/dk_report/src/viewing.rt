@@ -420,7 +420,7 @@ fn told_through(
 
 impl<'a, 'e> Asking<'a, 'e> {
     /// For each row the variables of which it may say something, by the view with the fewest slots, if there is one.
-    pub(crate) fn told(
+    pub(crate) fn view_table(
         &self,
         engines: &[Engine],
         standing: &Standing,
@@ -437,7 +437,7 @@ impl<'a, 'e> Asking<'a, 'e> {
     }
 
     // The candidates with those of a row.
-    fn viewed_row(
+    fn list_row_in_view(
         &self,
         table: &[List<VarId>],
         standing: &Standing,
@@ -456,7 +456,7 @@ impl<'a, 'e> Asking<'a, 'e> {
     }
 
     /// The candidates over the variables of such a table.
-    pub(crate) fn viewed(
+    pub(crate) fn list_in_view(
         &self,
         table: &[List<VarId>],
         standing: &Standing,
@@ -466,7 +466,7 @@ impl<'a, 'e> Asking<'a, 'e> {
     {
         let mut list = List::new(self.alloc);
         for n in 0..self.grammar.rows() {
-            list = self.viewed_row(table, standing, RowId(n + 1), list)?;
+            list = self.list_row_in_view(table, standing, RowId(n + 1), list)?;
         }
         Ok(list)
     }

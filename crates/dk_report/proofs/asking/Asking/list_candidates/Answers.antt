@@ -24,5 +24,5 @@ returns-in-Some c =
 pub returns : goal.returns
 returns c =
     let asking = c.args.self.now in
-    if_ok c.told_or_swept.result (λ list. list ≡ candidates_kept (keeps asking.options.now) (candidates_of asking.here.now.here.grammar asking.options.now.least (here_of asking) (views_of asking))) _
-    (λ list is samples parents stand show. is) c.told_or_swept.ensures
+    if_ok c.list_by_view.result (λ list. list ≡ candidates_kept (keeps asking.options.now) (candidates_of asking.here.now.here.grammar asking.options.now.least (here_of asking) (views_of asking))) _
+    (λ list is samples parents stand show. is) c.list_by_view.ensures

@@ -1,6 +1,6 @@
 use Rattle.dk_report.proofs.Reported.{if_ok}
 use Rattle.dk_report.proofs.Rules.{if-some, told-is}
-use Rattle.dk_report.proofs.asking.Asking.told.Goals as goal
+use Rattle.dk_report.proofs.asking.Asking.view_table.Goals as goal
 
 pub returns-in-Some : goal.returns-in-Some
 returns-in-Some c =

@@ -1,7 +1,7 @@
 use Rattle.std.specs.Prelude.{◌≡◌, flat_map, take}
 use Rattle.dk_fits.specs.Instances.{rows_of}
 use Rattle.dk_report.specs.Viewing.{candidates_told}
-use Rattle.dk_report.proofs.asking.Asking.viewed.Given as goal
+use Rattle.dk_report.proofs.asking.Asking.list_in_view.Given as goal
 
 abbrev pub invariant-loop-n : goal.invariant-loop-n
 invariant-loop-n l = l.list ≡ flat_map (candidates_told l.table l.self l.standing) (take l.n (rows_of l.self.grammar))

@@ -7,7 +7,7 @@ use Rattle.dk_template.specs.Templates.{rows_in}
 use Rattle.dk_template.specs.declared.grammar.Grammar.{Grammar}
 use Rattle.dk_template.specs.declared.grammar.RowId.{RowId}
 use Rattle.dk_report.specs.Viewing.{candidates_told}
-use Rattle.dk_report.proofs.asking.Asking.viewed.Goals as goal
+use Rattle.dk_report.proofs.asking.Asking.list_in_view.Goals as goal
 
 pub loop-n-preserved : goal.loop-n-preserved
 loop-n-preserved c =
