@@ -99,7 +99,7 @@ abbrev pub disarrange_state : Symmetry → List VarId → State → State
 disarrange_state symmetry.Fixed tuple s = s
 disarrange_state symmetry.All tuple s =
     exchanged_back Last tuple
-        (exchanged_back First (order_tuple Last tuple) (exchanged_back Last (order_tuple First (order_tuple Last tuple)) s))
+    (exchanged_back First (order_tuple Last tuple) (exchanged_back Last (order_tuple First (order_tuple Last tuple)) s))
 disarrange_state symmetry.Arguments tuple s = exchanged_back Last tuple s
 
 -- from the state of a row over a tuple in written order, that over the tuple as it stands
