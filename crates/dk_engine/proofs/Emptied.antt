@@ -1,5 +1,5 @@
 -- Parts of which patterns or slots were taken out can still be fed.
-use Rattle.std.specs.Prelude.{◌≡◌, ℕ, [], All, Contains, List}
+use Rattle.std.specs.Prelude.{◌≡◌, ◌≢◌, ℕ, [], All, Contains, List}
 use Rattle.std.proofs.Common.{◌∙◌, ap, arith}
 use Rattle.std.proofs.lemmas.List.Elements.{All-nil}
 use Rattle.dk_base.specs.declared.kinds.VarId.{VarId}
@@ -7,6 +7,7 @@ use Rattle.dk_base.specs.declared.kinds.VarInfo.{VarInfo}
 use Rattle.dk_base.specs.declared.values.Value.{Value}
 use Rattle.dk_classes.specs.Leaders.{own_leaders}
 use Rattle.dk_constants.specs.Known.{Entries}
+use Rattle.dk_forms.specs.declared.states.State.TheVariants.{Broken}
 use Rattle.dk_presence.specs.declared.held.Held.{Held}
 use Rattle.dk_template.specs.Proper.{IsProper}
 use Rattle.dk_template.specs.Templates.{form_of}
@@ -28,6 +29,7 @@ patterns_out g infos kept can = record {
   patterns_lead = All-nil (λ (h : Held). All (Contains (own_leaders kept.leaders)) h.leaders);
   placed = can.placed;
   in_order = can.in_order;
+  unbroken = can.unbroken;
 }
 
 pub slots_out : (g : Grammar) (infos : List VarInfo) (kept : Kept) → CanBeFed g infos kept → CanBeFed g infos (parts kept.leaders kept.known kept.samples kept.held [])
@@ -37,6 +39,7 @@ slots_out g infos kept can = record {
   patterns_lead = can.patterns_lead;
   placed = All-nil (λ (slot : Slot). IsPlaced g infos kept.leaders slot.row slot.leaders);
   in_order = λ i j d l m. absurd (omega (arith, m));
+  unbroken = All-nil (λ (slot : Slot). slot.state ≢ Broken);
 }
 
 -- what the sample makes of the other parts doesn't hang on the slots

@@ -136,4 +136,5 @@ left_formed g infos kept can sample sampled asked after =
           subst Proper (sym f.2) (subst (IsProper (form_of old.row)) (sym (outcome_is asked after sample old f.3)) proper);
       placed = λ k d l. let f = from k d l in subst Placed (sym f.2) (placed f.0 f.1);
       in_order = left_ascend made kept.slots can.in_order;
+      unbroken = λ k d l e. let f = from k d l in f.3 (ap (λ (s : Slot). s.state) (sym f.2) ∙ e);
     }

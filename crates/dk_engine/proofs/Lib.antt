@@ -23,6 +23,8 @@ pub mod Spread
 pub mod NumberSamples
 pub mod OfKinds
 pub mod Breaking
+pub mod Stretches
+pub mod Passing
 pub mod Sizes
 pub mod Pushing
 pub mod BegunPremises

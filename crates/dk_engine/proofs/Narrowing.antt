@@ -16,7 +16,8 @@ use Rattle.dk_engine.proofs.Fed.{is_step, kept_now}
 use Rattle.dk_engine.proofs.Stepping.{stepped_slots_are_exact}
 use Rattle.dk_engine.specs.Exact.{AreOfPoint, AreSamples, IsKeptOf}
 use Rattle.dk_engine.specs.Feeding.{IsTurned, parts_after, read_after}
-use Rattle.dk_engine.specs.Narrow.{AreChangesBelow, AreLeft, AreMerged, AreOpened, IsChange, StateStays, StayBetween, slot_in}
+use Rattle.dk_engine.specs.Narrow.{AreChangesBelow, AreLeft, AreMerged, AreOpened, IsChange, StateStays, StayBetween}
+use Rattle.dk_engine.specs.Parts.{slot_in}
 use Rattle.dk_engine.specs.Reading.{state_read}
 use Rattle.dk_engine.specs.Step.{Answer, AreCandidates, IsStepped, IsSteppedSlot}
 use Rattle.dk_engine.specs.declared.changes.Change.{Change}

@@ -37,7 +37,7 @@ use Rattle.dk_engine.proofs.LostPremises.{broken_suffices_not}
 use Rattle.dk_engine.proofs.ReadProper.{read_after_proper}
 use Rattle.dk_engine.proofs.ReachedRows.{reached_listed, reached_rows}
 use Rattle.dk_engine.proofs.Settling.{slot_changes}
-use Rattle.dk_engine.proofs.SlotLists.{has_is_slot, slot_answered, slot_has}
+use Rattle.dk_engine.proofs.SlotLists.{has_is_slot, has_unbroken, slot_answered, slot_has}
 use Rattle.dk_engine.proofs.SlotLookups.{slot_cases}
 use Rattle.dk_engine.proofs.Standing.{leads_on}
 use Rattle.dk_engine.proofs.Stepping.{left_is_slot, long_more, slot_is_left}
@@ -49,8 +49,8 @@ use Rattle.dk_engine.specs.Conditions.{AreFormed, CanBeFed}
 use Rattle.dk_engine.specs.Exact.{AreOfPoint, AreSamples, AreSlots, IsKeptOf, IsSlot, Lead}
 use Rattle.dk_engine.specs.Feeding.{IsTurned, has_slot, read_after}
 use Rattle.dk_engine.specs.Merged.{AreTogether, HasNumber}
-use Rattle.dk_engine.specs.Narrow.{AreChanges, AreLeft, IsChange, IsMergedStep, freed_by_all, slots_left, loses_by, lost_places, opened_slots, outcome, slot_in, no_slot}
-use Rattle.dk_engine.specs.Parts.{slot_at}
+use Rattle.dk_engine.specs.Narrow.{AreChanges, AreLeft, IsChange, IsMergedStep, freed_by_all, slots_left, loses_by, lost_places, opened_slots, outcome}
+use Rattle.dk_engine.specs.Parts.{no_slot, slot_at, slot_in}
 use Rattle.dk_engine.specs.Reached.{rows_reached}
 use Rattle.dk_engine.specs.Step.{Answer, IsFreedBy, IsPlaced, IsStep, Tells, is_touched, touches}
 use Rattle.dk_engine.specs.Sweeps.{freed_slots, touched_slots, with_both, with_one}
@@ -244,6 +244,13 @@ module _ (g : Grammar) (infos : List VarInfo) (point : AreOfPoint infos) (kept :
             | inr b ↦ open_placed (get_or merged k d) (open_in (get_or merged k d) b)
           ];
           in_order = together.ascend;
+          unbroken = λ k d l. elim (from k d l) as (λ _. (get_or merged k d).state ≢ Broken) [
+            | inl a ↦ All-contains (λ s. s.state ≢ Broken) left (get_or merged k d) formed.unbroken a
+            | inr b ↦
+                let s : Slot = get_or merged k d in
+                let is = open_in s b in
+                λ e. has_unbroken infos now.known after_it s.row s.leaders is.there (sym is.state ∙ e)
+          ];
         }
 
 -- ---- by samples

@@ -1,7 +1,9 @@
 -- Runs of slots that a sample leaves as they are.
-use Rattle.std.specs.Prelude.{◌≡◌, ◌<◌, ◌≤◌, ◌+◌, ◌-◌, ◌&&◌, ◌==◌, ℕ, Bool, true, false, not, All, List, IsSomeAnd, drop, length, slice_get, take, refl}
+use Rattle.std.specs.Prelude.{◌≡◌, ◌≢◌, ◌<◌, ◌≤◌, ◌+◌, ◌-◌, ◌&&◌, ◌==◌, ℕ, Bool, true, false, not, All, List, IsSomeAnd, drop, length, slice_get, take, refl}
+use Rattle.std.specs.List.{AllPairs}
+use Rattle.std.specs.List.Sorted.{IsNonDecreasingBy}
 use Rattle.std.proofs.Common.{ap, ◌∙◌, arith, cond, get_or, inl, inr, subst, sym}
-use Rattle.std.proofs.lemmas.Bool.{and_parts, eqb-true, false≢true}
+use Rattle.std.proofs.lemmas.Bool.{and_from, and_parts, cases_lt, eq-eqb, eqb-true, false≢true}
 use Rattle.std.proofs.lemmas.List.{get_or-drop, get_or-take, get_or_default, length-take, length-take-le}
 use Rattle.std.proofs.Common.{length-drop}
 use Rattle.std.proofs.lemmas.Option.{slice_get_cases}
@@ -16,14 +18,21 @@ use Rattle.dk_template.specs.Proper.{IsProper}
 use Rattle.dk_template.specs.Templates.{form_of, role_kinds}
 use Rattle.dk_template.specs.declared.grammar.Grammar.{Grammar}
 use Rattle.dk_template.specs.declared.grammar.RowId.{RowId}
-use Rattle.dk_engine.specs.Feeding.{is_broken, with_sample}
-use Rattle.dk_engine.specs.Narrow.{StateStays, closes, is_in_run, no_slot, outcome, slot_in}
+use Rattle.dk_engine.specs.Exact.{SlotBefore}
+use Rattle.dk_engine.specs.Feeding.{with_sample}
+use Rattle.dk_engine.specs.Idle.{PassesStill, skip_in}
+use Rattle.dk_engine.specs.Narrow.{StateStays, closes, is_in_run, outcome}
+use Rattle.dk_engine.specs.Parts.{no_slot, slot_in}
 use Rattle.dk_engine.specs.Step.{Answer, IsPlaced, can_close}
 use Rattle.dk_engine.specs.declared.slot.Slot.{Slot}
 
 -- the sample leaves a slot's state of the row as it is
 abbrev pub IsStill : RowId → List Value → Slot → Type 0
 IsStill row sample s = with_sample row s.leaders sample s.state ≡ s.state
+
+-- so does the slot at a place, of its own row
+abbrev pub IsStillAt : List Value → List Slot → ℕ → Type 0
+IsStillAt sample slots k = with_sample (slot_in slots k).row (slot_in slots k).leaders sample (slot_in slots k).state ≡ (slot_in slots k).state
 
 -- an item that is found is there
 there : (P : Slot → Type 0) (slots : List Slot) (n : ℕ) → IsSomeAnd (slice_get slots n) P → n < length slots
@@ -43,35 +52,65 @@ no_of_not : (b : Bool) → not b ≡ true → b ≡ false
 no_of_not true h = sym h
 no_of_not false h = refl
 
+pub no_and : (a b : Bool) → b ≡ false → (a && b) ≡ false
+no_and true b h = h
+no_and false b h = refl
+
 no_of_three : (a b c : Bool) → (a && b) ≡ false → (a && (b && c)) ≡ false
 no_of_three false b c h = refl
 no_of_three true false c h = refl
 no_of_three true true c h = absurd (false≢true (sym h))
 
-module _ (asked : Bool) (row : RowId) (slot : Slot) (is : is_in_run asked row slot ≡ true) where
-  parts : (slot.row.0 == row.0 ≡ true) × ((not (is_broken slot.state) && not (asked && can_close slot)) ≡ true)
-  parts = and_parts (slot.row.0 == row.0) (not (is_broken slot.state) && not (asked && can_close slot)) is
+module _ (asked : Bool) (row : RowId) (slot : Slot) where
+  pub in_run : slot.row ≡ row → (asked && can_close slot) ≡ false → is_in_run asked row slot ≡ true
+  in_run e shut = and_from (slot.row.0 == row.0) (not (asked && can_close slot)) (eq-eqb slot.row.0 row.0 (ap (λ (r : RowId). r.0) e)) (ap not shut)
 
-  more_parts : (not (is_broken slot.state) ≡ true) × (not (asked && can_close slot) ≡ true)
-  more_parts = and_parts (not (is_broken slot.state)) (not (asked && can_close slot)) parts.1
+  module _ (is : is_in_run asked row slot ≡ true) where
+    parts : (slot.row.0 == row.0 ≡ true) × (not (asked && can_close slot) ≡ true)
+    parts = and_parts (slot.row.0 == row.0) (not (asked && can_close slot)) is
 
-  pub of_row : slot.row ≡ row
-  of_row = ap (λ (n : ℕ). (let r : RowId = record { 0 = n } in r)) (eqb-true slot.row.0 row.0 parts.0)
+    pub of_row : slot.row ≡ row
+    of_row = ap (λ (n : ℕ). (let r : RowId = record { 0 = n } in r)) (eqb-true slot.row.0 row.0 parts.0)
 
-  unbroken : slot.state ≡ Broken → ⊥
-  unbroken e = false≢true (sym (no_of_not (is_broken slot.state) more_parts.0) ∙ ap is_broken e)
+    stays_open : (after : Answer) → (asked && closes after slot) ≡ false
+    stays_open after = no_of_three asked (can_close slot) _ (no_of_not (asked && can_close slot) parts.1)
 
-  stays_open : (after : Answer) → (asked && closes after slot) ≡ false
-  stays_open after = no_of_three asked (can_close slot) _ (no_of_not (asked && can_close slot) more_parts.1)
+    pub outcome_of_run : (after : Answer) (sample : List Value) → outcome asked after sample slot ≡ with_sample slot.row slot.leaders sample slot.state
+    outcome_of_run after sample = ap (λ b. cond b Broken (with_sample slot.row slot.leaders sample slot.state)) (stays_open after)
 
-  pub outcome_of_run : (after : Answer) (sample : List Value) → outcome asked after sample slot ≡ with_sample slot.row slot.leaders sample slot.state
-  outcome_of_run after sample = ap (λ b. cond b Broken (with_sample slot.row slot.leaders sample slot.state)) (stays_open after)
+    pub stays_of_still : slot.state ≢ Broken → (after : Answer) (sample : List Value) → IsStill row sample slot → StateStays (outcome asked after sample) slot
+    stays_of_still whole after sample still = (
+      outcome_of_run after sample ∙ (ap (λ r. with_sample r slot.leaders sample slot.state) of_row ∙ still),
+      whole,
+    )
 
-  pub stays_of_still : (after : Answer) (sample : List Value) → IsStill row sample slot → StateStays (outcome asked after sample) slot
-  stays_of_still after sample still = (
-    outcome_of_run after sample ∙ (ap (λ r. with_sample r slot.leaders sample slot.state) of_row ∙ still),
-    unbroken,
-  )
+-- ---- slots in order
+-- their rows rise
+pub rows_rise : (slots : List Slot) → AllPairs SlotBefore slots → IsNonDecreasingBy (λ (s : Slot). s.row.0) slots
+rows_rise slots up i j d le within = elim (cases_lt i j) as (λ _. (get_or slots i d).row.0 ≤ (get_or slots j d).row.0) [
+  | inl lt ↦ elim (up i j d lt within) as (λ _. (get_or slots i d).row.0 ≤ (get_or slots j d).row.0) [
+    | inl before ↦ omega (arith, before)
+    | inr same ↦ let e = ap (λ (r : RowId). r.0) same.0 in omega (arith, e)
+  ]
+  | inr ge ↦ let same : i ≡ j = omega (arith, le, ge) in subst (λ k. (get_or slots i d).row.0 ≤ (get_or slots k d).row.0) same (omega arith)
+]
+
+-- the slots from a place up to the end of its row are of the row, and the place is one of them
+module _ (slots : List Slot) (up : AllPairs SlotBefore slots) (place end : ℕ) (within : place < length slots)
+    (in_front : (k : ℕ) → k < end → (slot_in slots k).row.0 ≤ (slot_in slots place).row.0)
+    (behind : (k : ℕ) → end ≤ k → k < length slots → (slot_in slots place).row.0 < (slot_in slots k).row.0) where
+  pub place_in_front : place < end
+  place_in_front = elim (cases_lt place end) [
+    | inl lt ↦ lt
+    | inr ge ↦ let more = behind place ge within in absurd (omega (arith, more))
+  ]
+
+  pub of_one_row : end ≤ length slots → (k : ℕ) → place ≤ k → k < end → (slot_in slots k).row ≡ (slot_in slots place).row
+  of_one_row most k from to =
+      let rise = rows_rise slots up place k no_slot from (omega (arith, to, most)) in
+      let low = in_front k to in
+      let same : (slot_in slots k).row.0 ≡ (slot_in slots place).row.0 = omega (arith, rise, low) in
+      ap (λ (n : ℕ). (let r : RowId = record { 0 = n } in r)) same
 
 -- ---- the slots of a run
 module _ (slots : List Slot) (place n : ℕ) where
@@ -106,3 +145,15 @@ module _ (slots : List Slot) (place n : ℕ) where
         let back : place + j ≡ k = omega (arith, from) in
         let l : j < length (take n (drop place slots)) = omega (arith, from, to, most) in
         subst (λ i. IsStill row sample (slot_in slots i)) back (subst (IsStill row sample) (at_run j no_slot l) (still j (omega (arith, from, to))))
+
+-- ---- planes of which some are passed over
+pub still_more : (sample : List Value) (slots : List Slot) (skips : List ℕ) (from place next : ℕ) → PassesStill sample slots skips
+    → ((k : ℕ) → from ≤ k → k < place → IsStillAt sample slots k) → IsStillAt sample slots place → ((j : ℕ) → place + 1 ≤ j → j < next → j < skip_in skips (place + 1))
+    → (k : ℕ) → from ≤ k → k < next → IsStillAt sample slots k
+still_more sample slots skips from place next passes so_far here passed k a b = elim (cases_lt k place) as (λ _. IsStillAt sample slots k) [
+  | inl lt ↦ so_far k a lt
+  | inr ge ↦ elim (cases_lt place k) as (λ _. IsStillAt sample slots k) [
+    | inl behind ↦ passes (place + 1) k (omega (arith, behind)) (passed k (omega (arith, behind)) b)
+    | inr le ↦ let same : place ≡ k = omega (arith, ge, le) in subst (IsStillAt sample slots) same here
+  ]
+]

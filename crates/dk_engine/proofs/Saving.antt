@@ -93,6 +93,7 @@ module _ (grammar : Grammar) (infos : List VarInfo) (kept : Kept) where
       patterns_lead = shaped.lead;
       placed = λ k d l. let of = met.slots k d l in record { over = of.over; written = of.written };
       in_order = met.in_order;
+      unbroken = λ k d l. (met.slots k d l).state.unbroken;
     }
 
     pub parts_from_open : 1 ≤ kept.samples → AreUnsuppressed kept → AreParts grammar infos kept

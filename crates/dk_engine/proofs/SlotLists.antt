@@ -2,7 +2,7 @@
 use Rattle.std.specs.Prelude.{◌≡◌, ◌≢◌, ◌<◌, Bool, true, false, not, All, Contains, IsTrue, List, filter, flat_map, length, refl}
 use Rattle.std.specs.List.{AllPairs, range_with_len}
 use Rattle.std.proofs.Common.{ap, ◌∙◌, sym, inl, inr, subst}
-use Rattle.std.proofs.lemmas.Bool.{and_from, and_parts, cases_Bool, false≢true}
+use Rattle.std.proofs.lemmas.Bool.{and_from, and_parts, cases_Bool, false≢true, not-true}
 use Rattle.std.proofs.lemmas.List.Elements.{All-weaker}
 use Rattle.dk_base.specs.declared.kinds.VarId.{VarId}
 use Rattle.dk_base.specs.declared.kinds.VarInfo.{VarInfo}
@@ -34,6 +34,16 @@ use Rattle.dk_engine.specs.Parts.{all_known}
 use Rattle.dk_engine.specs.Step.{IsPlaced}
 use Rattle.dk_engine.specs.declared.slot.Slot.{Slot}
 
+-- leaders that have a slot don't have Broken
+pub has_unbroken : (infos : List VarInfo) (known : Entries) (answered : RowId → List VarId → State) (row : RowId) (vars : List VarId)
+    → has_slot infos known answered row vars ≡ true → answered row vars ≢ Broken
+has_unbroken infos known answered row vars h =
+    let h1 = and_parts (admits row infos vars) _ h in
+    let h2 = and_parts (is_written row vars) _ h1.1 in
+    let h3 = and_parts (not (all_known known vars)) _ h2.1 in
+    let h4 = and_parts (not (is_broken (answered row vars))) _ h3.1 in
+    not_broken (answered row vars) (not-true (is_broken (answered row vars)) h4.0)
+
 -- ---- the slots that any answers give
 module _ (g : Grammar) (infos : List VarInfo) (leaders : List VarId) (up : LeadersAscend (own_leaders leaders)) (known : Entries) (answered : RowId → List VarId → State) where
   abbrev own_now : List VarId
@@ -45,8 +55,8 @@ module _ (g : Grammar) (infos : List VarInfo) (leaders : List VarId) (up : Leade
   abbrev all_given : List Slot
   all_given = flat_map (slots_of_row infos own_now known answered) (rows_of g)
 
-  -- each is placed, with the state that is answered
-  pub slot_given : (slot : Slot) → Contains (slots_of g infos own_now known answered) slot → IsPlaced g infos leaders slot.row slot.leaders × (slot.state ≡ answered slot.row slot.leaders)
+  -- each is placed, with the state that is answered, which isn't Broken
+  pub slot_given : (slot : Slot) → Contains (slots_of g infos own_now known answered) slot → IsPlaced g infos leaders slot.row slot.leaders × (slot.state ≡ answered slot.row slot.leaders) × (slot.state ≢ Broken)
   unfolding slots_of
   slot_given slot c =
       let r = of_flat (slots_of_row infos own_now known answered) slot (rows_of g) (is_in slot all_given c.0 c.1 c.2) in
@@ -55,8 +65,8 @@ module _ (g : Grammar) (infos : List VarInfo) (leaders : List VarId) (up : Leade
       let h1 = and_parts (admits r.0 infos v.0) _ f.1 in
       let h2 = and_parts (is_written r.0 v.0) _ h1.1 in
       let lead : All (Contains own_now) v.0 = All-weaker (λ w. IsIn w own_now) (Contains own_now) (λ w j. contained w own_now j) v.0 (of_tuples own_now (arity_of r.0) v.0 f.0).0 in
-      let P : Slot → Type 0 = λ s. IsPlaced g infos leaders s.row s.leaders × (s.state ≡ answered s.row s.leaders) in
-      subst P (sym v.2) (record { over = record { of_grammar = row_of_grammar g r.0 r.1; admitted = h1.0; lead = lead }; written = h2.0 }, refl)
+      let P : Slot → Type 0 = λ s. IsPlaced g infos leaders s.row s.leaders × (s.state ≡ answered s.row s.leaders) × (s.state ≢ Broken) in
+      subst P (sym v.2) (record { over = record { of_grammar = row_of_grammar g r.0 r.1; admitted = h1.0; lead = lead }; written = h2.0 }, refl, has_unbroken infos known answered r.0 v.0 f.1)
 
   -- ---- their order
   of_one_row : (row : RowId) → Ascend SlotBefore (slots_of_row infos own_now known answered row)

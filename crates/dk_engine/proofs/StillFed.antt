@@ -33,6 +33,7 @@ module _ (g : Grammar) (infos : List VarInfo) (point : AreOfPoint infos) (kept :
             subst (IsProper (form_of slot.row)) (sym told.1) (read_after_proper g infos point kept can.readable sample sampled slot.row told.0.over.of_grammar slot.leaders told.0.over.admitted);
         placed = λ k d l. (each (get_or slots k d) (Contains-get_or slots k d l)).0;
         in_order = slots_ascend g infos now.leaders (own_ascend now.leaders) now.known (read_after kept sample);
+        unbroken = λ k d l. (each (get_or slots k d) (Contains-get_or slots k d l)).2;
       }
 
   pub can_be_fed_after : IsTurned kept sample now → (slots : List Slot) → AreFormed g infos now.leaders slots → CanBeFed g infos (parts_after kept.samples kept.held sample now slots)
@@ -46,8 +47,9 @@ module _ (g : Grammar) (infos : List VarInfo) (point : AreOfPoint infos) (kept :
     patterns_lead = patterns_now_lead g infos kept can sample now turned;
     placed = formed.placed;
     in_order = formed.in_order;
+    unbroken = formed.unbroken;
   }
 
 -- the slots as they stand, where nothing turned
 pub kept_formed : (g : Grammar) (infos : List VarInfo) (kept : Kept) → CanBeFed g infos kept → AreFormed g infos kept.leaders kept.slots
-kept_formed g infos kept can = record { states = can.readable.states; placed = can.placed; in_order = can.in_order }
+kept_formed g infos kept can = record { states = can.readable.states; placed = can.placed; in_order = can.in_order; unbroken = can.unbroken }

@@ -36,6 +36,7 @@ parts_can_be_fed grammar infos kept are = record {
   patterns_lead = are.patterns.lead;
   placed = λ k d l. let of = are.slots k d l in record { over = of.over; written = of.written };
   in_order = are.in_order;
+  unbroken = λ k d l. (are.slots k d l).unbroken;
 }
 
 -- ---- new leaders

@@ -42,20 +42,22 @@ pub record CanBeRead (infos : List VarInfo) (kept : Kept) : Type 0 where
   pub values : (v : VarId) (x : Value) → known_at kept.known v ≡ Some x → IsValueOf infos v x
   pub states : All (λ slot. IsProper (form_of slot.row) slot.state) kept.slots
 
--- What is enough to feed parts: they can be read, constants and the variables of patterns lead, and slots ascend and are of leaders
--- in written order.
+-- What is enough to feed parts: they can be read, constants and the variables of patterns lead, and slots ascend, are of leaders
+-- in written order and aren't Broken.
 pub record CanBeFed (grammar : Grammar) (infos : List VarInfo) (kept : Kept) : Type 0 where
   pub readable : CanBeRead infos kept
   pub constants_lead : (v : VarId) (x : Value) → known_at kept.known v ≡ Some x → Contains (own_leaders kept.leaders) v
   pub patterns_lead : All (λ h. All (Contains (own_leaders kept.leaders)) h.leaders) kept.held
   pub placed : All (λ slot. IsPlaced grammar infos kept.leaders slot.row slot.leaders) kept.slots
   pub in_order : AllPairs SlotBefore kept.slots
+  pub unbroken : All (λ slot. slot.state ≢ Broken) kept.slots
 
 -- slots that parts with these leaders can have
 pub record AreFormed (grammar : Grammar) (infos : List VarInfo) (leaders : List VarId) (slots : List Slot) : Type 0 where
   pub states : All (λ slot. IsProper (form_of slot.row) slot.state) slots
   pub placed : All (λ slot. IsPlaced grammar infos leaders slot.row slot.leaders) slots
   pub in_order : AllPairs SlotBefore slots
+  pub unbroken : All (λ slot. slot.state ≢ Broken) slots
 
 -- the patterns are of leaders, and their counts make the number of samples
 pub record ArePatternsOf (kept : Kept) : Type 0 where

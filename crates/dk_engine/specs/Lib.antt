@@ -21,3 +21,4 @@ pub mod Narrow
 pub mod Restored
 pub mod Bitmaps
 pub mod Memory
+pub mod Idle

@@ -1,5 +1,5 @@
 -- The parts of a narrow step: what its functions give, from the slots that are kept, without a sweep.
-use Rattle.std.specs.Prelude.{◌≡◌, ◌≢◌, ◌⊎◌, ◌↔◌, ◌<◌, ◌≤◌, ◌&&◌, ◌==◌, ◌++◌, ℕ, Bool, true, false, All, Contains, List, [], filter, flat_map, length, map, not, slice_index_or, slice_set, if◌then◌else◌}
+use Rattle.std.specs.Prelude.{◌≡◌, ◌≢◌, ◌⊎◌, ◌↔◌, ◌<◌, ◌≤◌, ◌&&◌, ◌==◌, ◌++◌, ℕ, Bool, true, false, All, Contains, List, filter, flat_map, length, map, not, slice_set, if◌then◌else◌}
 use Rattle.std.specs.List.{AllPairs, list_any}
 use Rattle.dk_base.specs.declared.kinds.VarId.{VarId}
 use Rattle.dk_base.specs.declared.kinds.VarInfo.{VarInfo}
@@ -7,7 +7,7 @@ use Rattle.dk_base.specs.declared.values.Value.{Value}
 use Rattle.dk_classes.specs.Leaders.{own_leaders}
 use Rattle.dk_constants.specs.Known.{Entries}
 use Rattle.dk_forms.specs.declared.states.State.{State}
-use Rattle.dk_forms.specs.declared.states.State.TheVariants.{Broken, Empty}
+use Rattle.dk_forms.specs.declared.states.State.TheVariants.{Broken}
 use Rattle.dk_presence.specs.Patterns.{pattern_count, present_in}
 use Rattle.dk_suppress.specs.Rules.{Rule, is_suppressed, rules}
 use Rattle.dk_template.specs.Premises.{row_of, suffices}
@@ -17,19 +17,13 @@ use Rattle.dk_engine.specs.Choices.{other_leaders, touching_leaders}
 use Rattle.dk_engine.specs.Exact.{SlotBefore}
 use Rattle.dk_engine.specs.Feeding.{is_broken, parts_after, read_after, with_sample}
 use Rattle.dk_engine.specs.Merged.{AreTogether}
+use Rattle.dk_engine.specs.Parts.{slot_in}
 use Rattle.dk_engine.specs.Step.{Answer, IsLeftOf, IsOpened, can_close, is_empty_state, is_of_elements}
 use Rattle.dk_engine.specs.declared.changes.Change.{Change}
 use Rattle.dk_engine.specs.Sweeps.{freed_slots, touched_slots}
 use Rattle.dk_engine.specs.declared.kept.Kept.{Kept}
 use Rattle.dk_engine.specs.declared.now.Now.{Now}
 use Rattle.dk_engine.specs.declared.slot.Slot.{Slot}
-
--- what a place outside of the slots is read as
-abbrev pub no_slot : Slot
-no_slot = record { row = record { 0 = 0 }; leaders = []; state = Empty }
-
-abbrev pub slot_in : List Slot → ℕ → Slot
-slot_in slots k = slice_index_or slots k no_slot
 
 -- ---- what the sample makes of the slots
 -- a rule that can begin to suppress the slot does
@@ -57,9 +51,9 @@ StateStays made slot = (made slot ≡ slot.state) × (slot.state ≢ Broken)
 abbrev pub StayBetween : ℕ → ℕ → (Slot → State) → List Slot → Type 0
 StayBetween from to made slots = (k : ℕ) → from ≤ k → k < to → StateStays made (slot_in slots k)
 
--- a slot of the row that isn't Broken and, where it is asked, can't close
+-- a slot of the row that, where it is asked, can't close
 abbrev pub is_in_run : Bool → RowId → Slot → Bool
-is_in_run asked row slot = slot.row.0 == row.0 && (not (is_broken slot.state) && not (asked && can_close slot))
+is_in_run asked row slot = slot.row.0 == row.0 && not (asked && can_close slot)
 
 -- a slot's place with the state that is made of it
 pub record IsChange (made : Slot → State) (slots : List Slot) (change : Change) : Type 0 where

@@ -1,5 +1,5 @@
 -- How the parts that an engine keeps are looked up.
-use Rattle.std.specs.Prelude.{◌&&◌, ◌==◌, Bool, List, [], ◌∷◌, Option, Some, None, is_some, map, slice_index_or, unwrap_or, if◌then◌else◌}
+use Rattle.std.specs.Prelude.{◌&&◌, ◌==◌, ℕ, Bool, List, [], ◌∷◌, Option, Some, None, is_some, map, slice_index_or, unwrap_or, if◌then◌else◌}
 use Rattle.std.specs.List.{list_all}
 use Rattle.dk_base.specs.declared.kinds.VarId.{VarId}
 use Rattle.dk_base.specs.declared.values.Value.{Value}
@@ -7,6 +7,7 @@ use Rattle.dk_base.specs.declared.values.Value.TheVariants as value
 use Rattle.dk_classes.specs.Leaders.{var}
 use Rattle.dk_constants.specs.Known.{Entries, known_at}
 use Rattle.dk_forms.specs.declared.states.State.{State}
+use Rattle.dk_forms.specs.declared.states.State.TheVariants.{Empty}
 use Rattle.dk_presence.specs.Patterns.{same_vars}
 use Rattle.dk_template.specs.declared.grammar.RowId.{RowId}
 use Rattle.dk_engine.specs.declared.slot.Slot.{Slot}
@@ -35,3 +36,11 @@ is_slot_of row vars slot = slot.row.0 == row.0 && same_vars slot.leaders vars
 abbrev pub slot_at : List Slot → RowId → List VarId → Option State
 slot_at [] row vars = None
 slot_at (slot ∷ slots) row vars = if is_slot_of row vars slot then Some slot.state else slot_at slots row vars
+
+-- what a place outside of the slots is read as
+abbrev pub no_slot : Slot
+no_slot = record { row = record { 0 = 0 }; leaders = []; state = Empty }
+
+-- the slot at a place
+abbrev pub slot_in : List Slot → ℕ → Slot
+slot_in slots k = slice_index_or slots k no_slot

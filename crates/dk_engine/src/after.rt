@@ -16,6 +16,7 @@ ghost use Rattle.dk_engine.specs.Memory.{wants_memory};
 ghost use Rattle.dk_engine.specs.Reading.{state_read};
 ghost use Rattle.dk_engine.specs.Step.{IsPlaced};
 
+use crate::growing::grown_with;
 use crate::points::{point, stays};
 use crate::{Engine, Slot};
 use dk_base::{NoMemory, VarId, VarInfo, View, same};
@@ -203,6 +204,9 @@ impl<'a> After<'a> {
         requires proper { IsProper (form_of slot.now.row) slot.now.state }
         ensures { IfOk result (λ s. s ≡ with_sample slot.now.row slot.now.leaders self.now.sample slot.now.state) }
     {
+        if let Some(state) = grown_with(slot, self.sample) {
+            return Ok(state);
+        }
         let before = slot.state.copy(self.alloc)?;
         self.with_sample(slot.row, slot.leaders.as_slice(), before)
     }

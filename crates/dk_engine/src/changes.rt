@@ -1,10 +1,14 @@
 // The slots that a sample changes.
-ghost use Rattle.std.specs.Prelude.{◌≡◌, ◌<◌, ◌≤◌, ◌+◌, ◌++◌, ◌∷◌, ℕ, [], true, All, IfNone, IfOk, IfSome, OnOk, length};
-ghost use Rattle.std.specs.List.{list_any};
+ghost use Rattle.std.specs.Prelude.{◌≡◌, ◌≢◌, ◌<◌, ◌≤◌, ◌+◌, ◌++◌, ◌∷◌, ℕ, [], true, All, IfNone, IfOk, IfSome, OnOk, length};
+ghost use Rattle.std.specs.List.{AllPairs, list_any};
+ghost use Rattle.dk_forms.specs.declared.states.State.TheVariants.{Broken};
 ghost use Rattle.dk_template.specs.Proper.{IsProper};
 ghost use Rattle.dk_template.specs.Templates.{form_of};
+ghost use Rattle.dk_engine.specs.Exact.{SlotBefore};
 ghost use Rattle.dk_engine.specs.Feeding.{read_after, with_sample};
-ghost use Rattle.dk_engine.specs.Narrow.{AreChanges, AreChangesBelow, StateStays, closes, is_in_run, loses, loses_by, lost_places, may_begin, outcome, slot_in};
+ghost use Rattle.dk_engine.specs.Idle.{PassesStill};
+ghost use Rattle.dk_engine.specs.Narrow.{AreChanges, AreChangesBelow, StateStays, closes, is_in_run, loses, loses_by, lost_places, may_begin, outcome};
+ghost use Rattle.dk_engine.specs.Parts.{slot_in};
 ghost use Rattle.dk_engine.specs.Step.{IsPlaced, can_close, is_empty_state, is_of_elements};
 
 use crate::Slot;
@@ -115,13 +119,16 @@ fn push_joined(
 fn add_changes(
     after: &After<'_>,
     asked: bool,
+    skips: &[usize],
     slots: &[Slot],
     from: usize,
     to: usize,
     changes: &mut List<Change>,
 ) -> Result<(), NoMemory>
     requires placed { All (λ slot. IsPlaced after.now.whole.grammar after.now.whole.infos after.now.whole.kept.leaders slot.row slot.leaders) slots.now }
+    requires skips { PassesStill after.now.sample slots.now skips.now }
     requires proper { All (λ slot. IsProper (form_of slot.row) slot.state) slots.now }
+    requires unbroken { All (λ slot. slot.state ≢ Broken) slots.now }
     requires from { from < to }
     requires to { to ≤ length slots.now }
     requires run { (k : ℕ) → from ≤ k → k < to → is_in_run asked (slot_in slots.now from).row (slot_in slots.now k) ≡ true }
@@ -129,10 +136,10 @@ fn add_changes(
     ensures { OnOk result (AreChangesBelow to (outcome asked (read_after after.now.whole.kept after.now.sample) after.now.sample) slots.now changes.new) }
 {
     let row = slots[from].row;
-    let mut place = still_to(after, row, slots, from, to);
+    let mut place = still_to(after, row, skips, slots, from, to);
     while place < to {
         push_joined(after, slots, place, changes)?;
-        place = still_to(after, row, slots, place + 1, to);
+        place = still_to(after, row, skips, slots, place + 1, to);
     }
     Ok(())
 }
@@ -141,12 +148,16 @@ fn add_changes(
 fn add_next(
     after: &After<'_>,
     asked: bool,
+    skips: &[usize],
     slots: &[Slot],
     place: usize,
     changes: &mut List<Change>,
 ) -> Result<usize, NoMemory>
     requires placed { All (λ slot. IsPlaced after.now.whole.grammar after.now.whole.infos after.now.whole.kept.leaders slot.row slot.leaders) slots.now }
+    requires skips { PassesStill after.now.sample slots.now skips.now }
     requires proper { All (λ slot. IsProper (form_of slot.row) slot.state) slots.now }
+    requires in_order { AllPairs SlotBefore slots.now }
+    requires unbroken { All (λ slot. slot.state ≢ Broken) slots.now }
     requires within { place < length slots.now }
     requires below { AreChangesBelow place (outcome asked (read_after after.now.whole.kept after.now.sample) after.now.sample) slots.now changes.old }
     ensures more { IfOk result (λ next. place < next) }
@@ -155,7 +166,7 @@ fn add_next(
 {
     let end = run_end(asked, slots, place);
     if place < end {
-        add_changes(after, asked, slots, place, end, changes)?;
+        add_changes(after, asked, skips, slots, place, end, changes)?;
         Ok(end)
     } else {
         add_change(after, asked, slots, place, changes)?;
@@ -168,16 +179,20 @@ pub(crate) fn changes(
     alloc: Global,
     after: &After<'_>,
     asked: bool,
+    skips: &[usize],
     slots: &[Slot],
 ) -> Result<List<Change>, NoMemory>
     requires placed { All (λ slot. IsPlaced after.now.whole.grammar after.now.whole.infos after.now.whole.kept.leaders slot.row slot.leaders) slots.now }
+    requires skips { PassesStill after.now.sample slots.now skips.now }
     requires proper { All (λ slot. IsProper (form_of slot.row) slot.state) slots.now }
+    requires in_order { AllPairs SlotBefore slots.now }
+    requires unbroken { All (λ slot. slot.state ≢ Broken) slots.now }
     ensures { IfOk result (AreChanges (outcome asked (read_after after.now.whole.kept after.now.sample) after.now.sample) slots.now) }
 {
     let mut changes = List::new(alloc);
     let mut place = 0;
     while place < slots.len() {
-        place = add_next(after, asked, slots, place, &mut changes)?;
+        place = add_next(after, asked, skips, slots, place, &mut changes)?;
     }
     Ok(changes)
 }
@@ -190,10 +205,14 @@ pub(crate) fn few_changes(
     alloc: Global,
     after: &After<'_>,
     asked: bool,
+    skips: &[usize],
     slots: &[Slot],
 ) -> Result<Option<List<Change>>, NoMemory>
     requires placed { All (λ slot. IsPlaced after.now.whole.grammar after.now.whole.infos after.now.whole.kept.leaders slot.row slot.leaders) slots.now }
+    requires skips { PassesStill after.now.sample slots.now skips.now }
     requires proper { All (λ slot. IsProper (form_of slot.row) slot.state) slots.now }
+    requires in_order { AllPairs SlotBefore slots.now }
+    requires unbroken { All (λ slot. slot.state ≢ Broken) slots.now }
     ensures { IfOk result (λ found. IfSome found (AreChanges (outcome asked (read_after after.now.whole.kept after.now.sample) after.now.sample) slots.now)) }
 {
     let mut changes = List::new(alloc);
@@ -202,7 +221,7 @@ pub(crate) fn few_changes(
         if changes.len() > FEW {
             return Ok(None);
         }
-        place = add_next(after, asked, slots, place, &mut changes)?;
+        place = add_next(after, asked, skips, slots, place, &mut changes)?;
     }
     Ok(Some(changes))
 }

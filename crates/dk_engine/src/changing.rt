@@ -1,9 +1,9 @@
 // Changes of kept slots.
-ghost use Rattle.std.specs.Prelude.{◌≡◌, filter, fold, not};
+ghost use Rattle.std.specs.Prelude.{◌≡◌, filter, not};
 ghost use Rattle.std.specs.List.{list_any};
 ghost use Rattle.dk_forms.specs.declared.states.State.{State as SlotState};
 ghost use Rattle.dk_engine.specs.Feeding.{is_broken};
-ghost use Rattle.dk_engine.specs.Narrow.{AreChanges, slots_left, with_change};
+ghost use Rattle.dk_engine.specs.Narrow.{AreChanges, slots_left};
 ghost use Rattle.dk_engine.specs.declared.slot.Slot.{Slot as KeptSlot};
 
 use crate::changes::Change;
@@ -30,29 +30,6 @@ fn break_some(changes: &[Change]) -> bool
     false
 }
 
-// The slots with a change.
-fn with_change(slots: Vec<Slot>, change: Change) -> Vec<Slot>
-    ensures { result.items ≡ with_change slots.items change }
-{
-    let mut slots = slots;
-    let Change { place, state } = change;
-    if let Some(slot) = slots.get_mut(place) {
-        slot.state = state;
-    }
-    slots
-}
-
-// The slots with all changes.
-fn with_changes(slots: Vec<Slot>, changes: Vec<Change>) -> Vec<Slot>
-    ensures { result.items ≡ fold with_change slots.items changes.items }
-{
-    let mut changed = slots;
-    for change in changes {
-        changed = with_change(changed, change);
-    }
-    changed
-}
-
 // Those that aren't Broken.
 fn without_broken(slots: Vec<Slot>) -> Vec<Slot>
     ensures { result.items ≡ filter (λ s. not (is_broken s.state)) slots.items }
@@ -67,9 +44,9 @@ pub(crate) fn apply_changes(slots: Slots, changes: List<Change>) -> Slots
     ensures { (made : KeptSlot → SlotState) → AreChanges made slots changes → result ≡ slots_left made slots }
 {
     let breaks = break_some(changes.as_slice());
-    let all = with_changes(slots.into_vec(), changes.into_vec());
+    let all = slots.with_changes(changes.into_vec());
     if breaks {
-        return Slots::of(without_broken(all));
+        return Slots::of(without_broken(all.into_vec()));
     }
-    Slots::of(all)
+    all
 }

@@ -11,12 +11,14 @@ ghost use Rattle.dk_samples.specs.Leaders.{VarsAscend};
 ghost use Rattle.dk_engine.specs.Conditions.{AreFormed};
 ghost use Rattle.dk_engine.specs.Exact.{AreOfPoint, AreSamples, IsKeptOf};
 ghost use Rattle.dk_engine.specs.Feeding.{IsTurned, parts_after, read_after, slots_of, unchanged_now};
+ghost use Rattle.dk_engine.specs.Idle.{PassesStill};
 ghost use Rattle.dk_engine.specs.Narrow.{AreChanges, IsMergedStep, IsShut, loses_by, lost_places, opened_slots, outcome, slots_left};
 
 use crate::after::After;
 use crate::changes::{Change, changes, few_changes, lose_some, lost_places, some_may_begin};
 use crate::changing::apply_changes;
 use crate::counting::are_many;
+use crate::idle::are_near;
 use crate::merging::merge_slots;
 use crate::sweeps::Sweep;
 use crate::touching::{others, touching_leaders};
@@ -87,6 +89,17 @@ impl Engine {
         })
     }
 
+    // Which slots a search for changed ones may pass over: those of which it is noted, where the sample has near numbers alone.
+    fn skips(&self, sample: &[View<'_>]) -> &[usize]
+        ensures { PassesStill (values_of sample.now) self.now.kept.slots result.now }
+    {
+        if are_near(sample) {
+            self.kept.slots.skips()
+        } else {
+            &[]
+        }
+    }
+
     // What the sample makes of the slots, if that is little: it changes few, no premise is lost by them, and without a new pattern none
     // lets the least or the greatest element begin to be known. With a new pattern it is asked which slots close.
     fn few_changes(&self, sample: &[View<'_>]) -> Result<Option<Changes>, NoMemory>
@@ -99,7 +112,8 @@ impl Engine {
         let new = !self.kept.held.has_sample(leaders, sample)?;
         let after = After::of(self.alloc, self, sample);
         let slots = self.kept.slots.as_slice();
-        match few_changes(self.alloc, &after, new, slots)? {
+        let skips = self.skips(sample);
+        match few_changes(self.alloc, &after, new, skips, slots)? {
             Some(all) => {
                 if lose_some(slots, all.as_slice()) {
                     return Ok(None);
@@ -129,7 +143,7 @@ impl Engine {
         let slots = replace(&mut self.kept.slots, Slots::new(self.alloc));
         self.kept.samples = self.kept.samples.saturating_add(1);
         self.kept.held = held;
-        self.kept.slots = apply_changes(slots, all);
+        self.kept.slots = apply_changes(slots, all).note_skips(self.alloc);
         Ok(())
     }
 
@@ -155,7 +169,8 @@ impl Engine {
         ensures { IfOk result (AreChanges (outcome true (read_after self.now.kept (values_of sample.now)) (values_of sample.now)) self.now.kept.slots) }
     {
         let after = After::of(self.alloc, self, sample);
-        changes(self.alloc, &after, true, self.kept.slots.as_slice())
+        let skips = self.skips(sample);
+        changes(self.alloc, &after, true, skips, self.kept.slots.as_slice())
     }
 
     // The places of the slots by which a premise is lost.

@@ -11,6 +11,8 @@ mod counting;
 mod counts;
 mod engine;
 mod feed;
+mod growing;
+mod idle;
 mod kept;
 pub mod laws;
 mod lending;

@@ -35,9 +35,9 @@ pub(crate) fn operation_of(row: RowId) -> Option<Operation>
     }
 }
 
-// The number that the variable has in the sample, if it has one.
+/// The number that the variable has in the sample, if it has one.
 #[inline(always)]
-fn number_at(sample: &[View<'_>], v: VarId) -> Option<i64>
+pub(crate) fn number_at(sample: &[View<'_>], v: VarId) -> Option<i64>
     ensures { IfSome result (λ z. value_in (values_of sample.now) v ≡ sample_value.Int z) }
 {
     match value_at(sample, v) {

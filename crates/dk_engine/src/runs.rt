@@ -1,10 +1,14 @@
 // Runs of slots that a sample leaves as they are, found without looking at the row of each.
-ghost use Rattle.std.specs.Prelude.{◌≡◌, ◌<◌, ◌≤◌, ℕ, true, All, length};
+ghost use Rattle.std.specs.Prelude.{◌≡◌, ◌<◌, ◌≤◌, ℕ, true, false, All, length};
+ghost use Rattle.std.specs.List.{AllPairs};
 ghost use Rattle.dk_base.specs.Values.{values_of};
 ghost use Rattle.dk_base.specs.declared.kinds.VarId.{VarId};
+ghost use Rattle.dk_engine.specs.Exact.{SlotBefore};
 ghost use Rattle.dk_engine.specs.Feeding.{with_sample};
-ghost use Rattle.dk_engine.specs.Narrow.{is_in_run, slot_in};
-ghost use Rattle.dk_engine.specs.Step.{IsPlaced};
+ghost use Rattle.dk_engine.specs.Idle.{PassesStill, skip_in};
+ghost use Rattle.dk_engine.specs.Narrow.{is_in_run};
+ghost use Rattle.dk_engine.specs.Parts.{slot_in};
+ghost use Rattle.dk_engine.specs.Step.{IsPlaced, can_close};
 ghost use Rattle.dk_engine.specs.declared.slot.Slot.{Slot};
 ghost use Rattle.dk_grammar.specs.Runs.{AreSlots};
 ghost use Rattle.dk_template.specs.Proper.{IsProper};
@@ -13,36 +17,72 @@ ghost use Rattle.dk_template.specs.Templates.{IsRow, form_of};
 use crate::Slot;
 use crate::after::After;
 use crate::changes::can_close;
-use crate::changing::is_broken;
+use crate::growing::plane_stays_with;
+use crate::idle::skip_at;
 use dk_base::View;
 use dk_grammar::first_changed;
 use dk_template::RowId;
 
-// Whether the slot is of the row, isn't Broken and, where it is asked, can't close.
-fn is_in_run(asked: bool, row: RowId, slot: &Slot) -> bool
-    ensures { result ≡ is_in_run asked row slot.now }
+// Where the slots of this row and of earlier ones end, found by halving.
+fn rows_end(slots: &[Slot], row: RowId) -> usize
+    requires { AllPairs SlotBefore slots.now }
+    ensures within { result ≤ length slots.now }
+    ensures in_front { (k : ℕ) → k < result → (slot_in slots.now k).row.0 ≤ row.0 }
+    ensures behind { (k : ℕ) → result ≤ k → k < length slots.now → row.0 < (slot_in slots.now k).row.0 }
 {
-    slot.row.0 == row.0 && (!is_broken(&slot.state) && !(asked && can_close(slot)))
+    slots.partition_point(|slot| slot.row.0 <= row.0)
 }
 
-// How many slots of a run are taken together, so that they are still in the first cache where they are compared with the sample.
-const REACH: usize = 32;
+// How many slots of a row are taken together, so that the changes are counted before there are too many.
+const REACH: usize = 512;
 
-/// Where the run of slots from a place on ends, of as many as are taken together: slots of one row that aren't Broken and, where it is
-/// asked, can't close.
+// Where the slots of one row from a place on end, of as many as are taken together.
+fn row_end(slots: &[Slot], place: usize) -> usize
+    requires in_order { AllPairs SlotBefore slots.now }
+    requires within { place < length slots.now }
+    ensures from { place < result }
+    ensures to { result ≤ length slots.now }
+    ensures of_row { (k : ℕ) → place ≤ k → k < result → (slot_in slots.now k).row ≡ (slot_in slots.now place).row }
+{
+    let end = rows_end(slots, slots[place].row);
+    if end - place <= REACH {
+        end
+    } else {
+        place + REACH
+    }
+}
+
+// Up to where the slots from one place to another can't close.
+fn open_end(slots: &[Slot], from: usize, to: usize) -> usize
+    requires from { from ≤ to }
+    requires to { to ≤ length slots.now }
+    ensures from { from ≤ result }
+    ensures to { result ≤ to }
+    ensures stay_open { (k : ℕ) → from ≤ k → k < result → can_close (slot_in slots.now k) ≡ false }
+{
+    for place in from..to {
+        if can_close(&slots[place]) {
+            return place;
+        }
+    }
+    to
+}
+
+/// Where the run of slots from a place on ends, of as many as are taken together: slots of one row that, where it is asked, can't
+/// close.
 pub(crate) fn run_end(asked: bool, slots: &[Slot], place: usize) -> usize
-    requires { place < length slots.now }
+    requires in_order { AllPairs SlotBefore slots.now }
+    requires within { place < length slots.now }
     ensures from { place ≤ result }
     ensures to { result ≤ length slots.now }
     ensures run { (k : ℕ) → place ≤ k → k < result → is_in_run asked (slot_in slots.now place).row (slot_in slots.now k) ≡ true }
 {
-    let row = slots[place].row;
-    for end in place..slots.len() {
-        if end - place == REACH || !is_in_run(asked, row, &slots[end]) {
-            return end;
-        }
+    let end = row_end(slots, place);
+    if asked {
+        open_end(slots, place, end)
+    } else {
+        end
     }
-    slots.len()
 }
 
 // How many slots of a run of one row come before the first of which the sample changes the state.
@@ -58,14 +98,45 @@ fn still(row: RowId, run: &[Slot], sample: &[View<'_>]) -> usize
     }
 }
 
-/// Up to where the slots of a row from one place to another stay as they are.
-pub(crate) fn still_to(
-    after: &After<'_>,
-    row: RowId,
-    slots: &[Slot],
-    from: usize,
-    to: usize,
-) -> usize
+// The place from one place up to another, in front of which slots are passed over.
+fn passed_to(skips: &[usize], from: usize, to: usize) -> usize
+    requires { from ≤ to }
+    ensures from { from ≤ result }
+    ensures to { result ≤ to }
+    ensures passed { (j : ℕ) → from ≤ j → j < result → j < skip_in skips.now from }
+{
+    let skip = skip_at(skips, from);
+    if skip <= from {
+        from
+    } else if skip <= to {
+        skip
+    } else {
+        to
+    }
+}
+
+// Up to where the planes from one place to another stay as they are. Those that are passed over aren't looked at.
+fn planes_to(sample: &[View<'_>], skips: &[usize], slots: &[Slot], from: usize, to: usize) -> usize
+    requires skips { PassesStill (values_of sample.now) slots.now skips.now }
+    requires proper { All (λ slot. IsProper (form_of slot.row) slot.state) slots.now }
+    requires from { from ≤ to }
+    requires to { to ≤ length slots.now }
+    ensures from { from ≤ result }
+    ensures to { result ≤ to }
+    ensures still { (k : ℕ) → from ≤ k → k < result → with_sample (slot_in slots.now k).row (slot_in slots.now k).leaders (values_of sample.now) (slot_in slots.now k).state ≡ (slot_in slots.now k).state }
+{
+    let mut place = passed_to(skips, from, to);
+    while place < to {
+        if !plane_stays_with(&slots[place], sample) {
+            return place;
+        }
+        place = passed_to(skips, place + 1, to);
+    }
+    place
+}
+
+// Up to where the slots of a row from one place to another stay as they are, by a run of them.
+fn run_to(after: &After<'_>, row: RowId, slots: &[Slot], from: usize, to: usize) -> usize
     requires row { IsRow row }
     requires placed { All (λ slot. IsPlaced after.now.whole.grammar after.now.whole.infos after.now.whole.kept.leaders slot.row slot.leaders) slots.now }
     requires proper { All (λ slot. IsProper (form_of slot.row) slot.state) slots.now }
@@ -77,4 +148,52 @@ pub(crate) fn still_to(
     ensures still { (k : ℕ) → from ≤ k → k < result → with_sample row (slot_in slots.now k).leaders after.now.sample (slot_in slots.now k).state ≡ (slot_in slots.now k).state }
 {
     from + still(row, &slots[from..to], after.sample())
+}
+
+// The same of planes, where some are passed over.
+fn planes_of(
+    after: &After<'_>,
+    row: RowId,
+    skips: &[usize],
+    slots: &[Slot],
+    from: usize,
+    to: usize,
+) -> usize
+    requires skips { PassesStill after.now.sample slots.now skips.now }
+    requires proper { All (λ slot. IsProper (form_of slot.row) slot.state) slots.now }
+    requires from { from ≤ to }
+    requires to { to ≤ length slots.now }
+    requires of_row { (k : ℕ) → from ≤ k → k < to → (slot_in slots.now k).row ≡ row }
+    ensures from { from ≤ result }
+    ensures to { result ≤ to }
+    ensures still { (k : ℕ) → from ≤ k → k < result → with_sample row (slot_in slots.now k).leaders after.now.sample (slot_in slots.now k).state ≡ (slot_in slots.now k).state }
+{
+    planes_to(after.sample(), skips, slots, from, to)
+}
+
+/// Up to where the slots of a row from one place to another stay as they are.
+pub(crate) fn still_to(
+    after: &After<'_>,
+    row: RowId,
+    skips: &[usize],
+    slots: &[Slot],
+    from: usize,
+    to: usize,
+) -> usize
+    requires row { IsRow row }
+    requires skips { PassesStill after.now.sample slots.now skips.now }
+    requires placed { All (λ slot. IsPlaced after.now.whole.grammar after.now.whole.infos after.now.whole.kept.leaders slot.row slot.leaders) slots.now }
+    requires proper { All (λ slot. IsProper (form_of slot.row) slot.state) slots.now }
+    requires from { from ≤ to }
+    requires to { to ≤ length slots.now }
+    requires of_row { (k : ℕ) → from ≤ k → k < to → (slot_in slots.now k).row ≡ row }
+    ensures from { from ≤ result }
+    ensures to { result ≤ to }
+    ensures still { (k : ℕ) → from ≤ k → k < result → with_sample row (slot_in slots.now k).leaders after.now.sample (slot_in slots.now k).state ≡ (slot_in slots.now k).state }
+{
+    if row.0 == 67 && !skips.is_empty() {
+        planes_of(after, row, skips, slots, from, to)
+    } else {
+        run_to(after, row, slots, from, to)
+    }
 }

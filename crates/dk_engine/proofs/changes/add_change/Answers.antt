@@ -6,7 +6,8 @@ use Rattle.dk_forms.specs.declared.states.State.{State}
 use Rattle.dk_engine.proofs.Narrowing.{change_more, stays_more}
 use Rattle.dk_engine.specs.Feeding.{read_after}
 use Rattle.dk_engine.specs.Levels.{OneMore}
-use Rattle.dk_engine.specs.Narrow.{AreChangesBelow, StateStays, no_slot, outcome, slot_in}
+use Rattle.dk_engine.specs.Narrow.{AreChangesBelow, StateStays, outcome}
+use Rattle.dk_engine.specs.Parts.{no_slot, slot_in}
 use Rattle.dk_engine.specs.declared.slot.Slot.{Slot}
 use Rattle.dk_engine.proofs.changes.add_change.Goals as goal
 

@@ -1,13 +1,15 @@
-use Rattle.std.specs.Prelude.{◌≡◌, ◌<◌, ◌≤◌, ◌+◌, ◌++◌, ◌∷◌, ℕ, Bool, [], List, length, slice_index_or, true}
+use Rattle.std.specs.Prelude.{◌≡◌, ◌≢◌, ◌<◌, ◌≤◌, ◌+◌, ◌++◌, ◌∷◌, ℕ, All, Bool, [], List, length, slice_index_or, true}
 use Rattle.std.proofs.Common.{ap, ◌∙◌, arith, refl, subst, sym}
 use Rattle.std.proofs.lemmas.List.{get_or_default}
 use Rattle.dk_base.specs.declared.values.Value.{Value}
+use Rattle.dk_forms.specs.declared.states.State.TheVariants.{Broken}
 use Rattle.dk_template.specs.declared.grammar.RowId.{RowId}
 use Rattle.dk_engine.proofs.Narrowing.{change_more, stay_more}
 use Rattle.dk_engine.proofs.Running.{IsStill, of_row, outcome_of_run, stays_of_still}
 use Rattle.dk_engine.specs.Feeding.{read_after, with_sample}
 use Rattle.dk_engine.specs.Levels.{OneMore}
-use Rattle.dk_engine.specs.Narrow.{AreChangesBelow, StayBetween, is_in_run, no_slot, outcome, slot_in}
+use Rattle.dk_engine.specs.Narrow.{AreChangesBelow, StayBetween, is_in_run, outcome}
+use Rattle.dk_engine.specs.Parts.{no_slot, slot_in}
 use Rattle.dk_engine.specs.Step.{Answer}
 use Rattle.dk_engine.specs.declared.changes.Change.{Change}
 use Rattle.dk_engine.specs.declared.slot.Slot.{Slot}
@@ -23,12 +25,12 @@ module _ (asked : Bool) (slots : List Slot) (from to : ℕ) (item : Slot) (withi
 
   module _ (after : Answer) (sample : List Value) where
     -- those that are still stay
-    stay : (place end : ℕ) → from ≤ place → end ≤ to → ((k : ℕ) → place ≤ k → k < end → IsStill (slice_index_or slots from item).row sample (slot_in slots k))
+    stay : All (λ (s : Slot). s.state ≢ Broken) slots → to ≤ length slots → (place end : ℕ) → from ≤ place → end ≤ to → ((k : ℕ) → place ≤ k → k < end → IsStill (slice_index_or slots from item).row sample (slot_in slots k))
         → StayBetween place end (outcome asked after sample) slots
-    stay place end first most still k a b =
+    stay whole long place end first most still k a b =
         let l : k < to = omega (arith, b, most) in
         let f : from ≤ k = omega (arith, first, a) in
-        stays_of_still asked (slot_in slots from).row (slot_in slots k) (run k f l) after sample (subst (λ (r : RowId). IsStill r sample (slot_in slots k)) row_at_hand (still k a b))
+        stays_of_still asked (slot_in slots from).row (slot_in slots k) (run k f l) (whole k no_slot (omega (arith, l, long))) after sample (subst (λ (r : RowId). IsStill r sample (slot_in slots k)) row_at_hand (still k a b))
 
     -- the change of one that isn't
     joined_more : (place : ℕ) → from ≤ place → place < to → place < length slots → (changes more : List Change) → AreChangesBelow place (outcome asked after sample) slots changes
@@ -60,7 +62,7 @@ loop-place-init c =
     let most = c.requires.to in
     let told = c.still_to-place.ensures in
     let still : StayBetween from c.still_to-place.result (outcome asked after o.sample) slots =
-    stay asked slots from to c.index-slots-from.result (omega (arith, order, most)) c.requires.run after o.sample from c.still_to-place.result (omega arith) told.to told.still in
+    stay asked slots from to c.index-slots-from.result (omega (arith, order, most)) c.requires.run after o.sample c.requires.unbroken most from c.still_to-place.result (omega arith) told.to told.still in
     (stay_more (outcome asked after o.sample) slots from c.args.changes.now c.requires.below c.still_to-place.result still, told.from, told.to)
 
 pub loop-place-preserved : goal.loop-place-preserved
@@ -84,5 +86,5 @@ loop-place-preserved c =
     let joined : AreChangesBelow (place + 1) (outcome asked after o.sample) slots more =
     joined_more asked slots from to c.index-slots-from.result within c.requires.run after o.sample place first test (omega (arith, test, most)) c.loop-place.changes more c.loop-place.invariant.0 c.in_ok-push_joined.ensures in
     let still : StayBetween (place + 1) r (outcome asked after o.sample) slots =
-    stay asked slots from to c.index-slots-from.result within c.requires.run after o.sample (place + 1) r (omega (arith, first)) told.to told.still in
+    stay asked slots from to c.index-slots-from.result within c.requires.run after o.sample c.requires.unbroken most (place + 1) r (omega (arith, first)) told.to told.still in
     (stay_more (outcome asked after o.sample) slots (place + 1) more joined r still, omega (arith, first, behind), told.to)

@@ -10,11 +10,11 @@ use Rattle.dk_engine.proofs.changing.apply_changes.Goals as goal
 
 pub returns-then-breaks : goal.returns-then-breaks
 returns-then-breaks c made are =
-    let all : c.with_changes-all.result.items ≡ fold with_change c.args.slots c.args.changes = c.with_changes-all.ensures ∙ (ap (λ ss. fold with_change ss c.into_vec-2.result.items) c.into_vec.ensures ∙ ap (fold with_change c.args.slots) c.into_vec-2.ensures) in
-    c.of.ensures ∙ (c.without_broken.ensures ∙ (ap (filter (λ (s : Slot). not (is_broken s.state))) all ∙ left_by_changes made c.args.slots c.args.changes are))
+    let all : c.with_changes-all.result ≡ fold with_change c.args.slots c.args.changes = c.with_changes-all.ensures ∙ ap (fold with_change c.args.slots) c.into_vec.ensures in
+    c.of.ensures ∙ (c.without_broken.ensures ∙ (ap (filter (λ (s : Slot). not (is_broken s.state))) (c.into_vec-then-breaks.ensures ∙ all) ∙ left_by_changes made c.args.slots c.args.changes are))
 
 pub returns : goal.returns
 returns c made are =
-    let all : c.with_changes-all.result.items ≡ fold with_change c.args.slots c.args.changes = c.with_changes-all.ensures ∙ (ap (λ ss. fold with_change ss c.into_vec-2.result.items) c.into_vec.ensures ∙ ap (fold with_change c.args.slots) c.into_vec-2.ensures) in
+    let all : c.with_changes-all.result ≡ fold with_change c.args.slots c.args.changes = c.with_changes-all.ensures ∙ ap (fold with_change c.args.slots) c.into_vec.ensures in
     let none : list_any (λ (d : Change). is_broken d.state) c.args.changes ≡ false = sym (c.break_some-breaks.ensures ∙ ap (list_any (λ (d : Change). is_broken d.state)) c.as_slice.ensures) ∙ c.if-breaks.false in
-    c.of-2.ensures ∙ (all ∙ all_left made c.args.slots c.args.changes are none)
+    all ∙ all_left made c.args.slots c.args.changes are none

@@ -40,10 +40,10 @@ invariant_of-self-2 c =
     let counted : c.count_sample.new.self ≡ more c.replace-held.result = search rules in
     let held : c.count_sample.new.self ≡ more (map (refined []) e.kept.held) = counted ∙ ap more (c.replace-held.ensures.value ∙ sym (refined_none e.kept.held)) in
     let was : c.replace-slots.result ≡ e.kept.slots = c.replace-slots.ensures.value in
-    let slots : c.apply_changes.result ≡ left = c.apply_changes.ensures made (subst (λ (ss : List Slot). AreChanges made ss c.args.changes.all) (sym was) changes) ∙ ap (slots_left made) was in (
+    let slots : c.note_skips.result ≡ left = c.note_skips.ensures ∙ (c.apply_changes.ensures made (subst (λ (ss : List Slot). AreChanges made ss c.args.changes.all) (sym was) changes) ∙ ap (slots_left made) was) in (
       c.self.invariant.0,
       subst (CanBeFed e.grammar e.infos)
-          (sym (same_parts e.kept.leaders e.kept.known c.saturating_add-self-inside.result (capped (e.kept.samples + 1)) c.count_sample.new.self (with_sample_of (present_in (own_leaders e.kept.leaders) sample) (map (refined []) e.kept.held)) c.apply_changes.result left number held slots))
+          (sym (same_parts e.kept.leaders e.kept.known c.saturating_add-self-inside.result (capped (e.kept.samples + 1)) c.count_sample.new.self (with_sample_of (present_in (own_leaders e.kept.leaders) sample) (map (refined []) e.kept.held)) c.note_skips.result left number held slots))
           (can_be_fed_after e.grammar e.infos c.self.invariant.0 e.kept c.self.invariant.1 sample sampled now turned left (left_formed e.grammar e.infos e.kept c.self.invariant.1 sample sampled asked (read_after e.kept sample))),
     )
 
@@ -61,6 +61,6 @@ returns-clause-kept c =
     let counted : c.count_sample.new.self ≡ more c.replace-held.result = search rules in
     let held : c.count_sample.new.self ≡ more (map (refined []) e.kept.held) = counted ∙ ap more (c.replace-held.ensures.value ∙ sym (refined_none e.kept.held)) in
     let was : c.replace-slots.result ≡ e.kept.slots = c.replace-slots.ensures.value in
-    let slots : c.apply_changes.result ≡ left = c.apply_changes.ensures made (subst (λ (ss : List Slot). AreChanges made ss c.args.changes.all) (sym was) changes) ∙ ap (slots_left made) was in
-    same_parts e.kept.leaders e.kept.known c.saturating_add-self-inside.result (capped (e.kept.samples + 1)) c.count_sample.new.self (more (map (refined []) e.kept.held)) c.apply_changes.result left number held slots
+    let slots : c.note_skips.result ≡ left = c.note_skips.ensures ∙ (c.apply_changes.ensures made (subst (λ (ss : List Slot). AreChanges made ss c.args.changes.all) (sym was) changes) ∙ ap (slots_left made) was) in
+    same_parts e.kept.leaders e.kept.known c.saturating_add-self-inside.result (capped (e.kept.samples + 1)) c.count_sample.new.self (more (map (refined []) e.kept.held)) c.note_skips.result left number held slots
     ∙ ap (λ (w : Whole). parts_after w.kept.samples w.kept.held sample (unchanged_now w.kept) (slots_left (outcome asked (read_after w.kept sample) sample) w.kept.slots)) c.self.view_is

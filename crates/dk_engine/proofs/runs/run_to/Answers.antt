@@ -3,10 +3,10 @@ use Rattle.std.proofs.Common.{arith, subst, sym}
 use Rattle.dk_base.specs.declared.values.Value.{Value}
 use Rattle.dk_engine.proofs.Running.{IsStill, run_of_slots, still_from}
 use Rattle.dk_engine.specs.Levels.{OneMore}
-use Rattle.dk_engine.specs.Narrow.{slot_in}
+use Rattle.dk_engine.specs.Parts.{slot_in}
 use Rattle.dk_engine.specs.declared.slot.Slot.{Slot}
 use Rattle.dk_grammar.specs.Runs.{AreSlots}
-use Rattle.dk_engine.proofs.runs.still_to.Goals as goal
+use Rattle.dk_engine.proofs.runs.run_to.Goals as goal
 
 pub still-requires-clause-run : goal.still-requires-clause-run
 still-requires-clause-run c =

@@ -1,0 +1,144 @@
+-- A stretch of a line with a point that lies beyond it on the line.
+use Rattle.std.specs.Prelude.{◌≡◌, ℕ, ℤ, ◌-ℤ◌, ◌*ℤ◌, true, false, ◌∷◌, [], List, if◌then◌else◌, ◌&&◌, refl}
+use Rattle.std.specs.Ordering.{int_eq}
+use Rattle.std.proofs.Common.{◌∙◌, ap, arith, inl, inr, subst, sym}
+use Rattle.std.proofs.lemmas.Bool.{and_from, and_parts, false≢true}
+use Rattle.std.proofs.lemmas.Bool.Decides.{Decides-int_eq}
+use Rattle.dk_arith.proofs.Ring.{rep, rep-mul, rep-sub, same_rep}
+use Rattle.dk_arith.specs.Vectors.{minus}
+use Rattle.dk_base.specs.Tuples.{int_of, value_at}
+use Rattle.dk_base.specs.declared.kinds.VarId.{VarId}
+use Rattle.dk_base.specs.declared.values.Value.{Value}
+use Rattle.dk_base.specs.declared.values.Value.TheVariants as value
+use Rattle.dk_fits.specs.Fits.{is_whole, tuple_in}
+use Rattle.dk_forms.proofs.PlaneFacts.{plane_of_point, point_of_limit}
+use Rattle.dk_forms.proofs.PlaneStays.{span_stays}
+use Rattle.dk_forms.proofs.PointOrder.{before_or}
+use Rattle.dk_forms.specs.Known.{broken, fact}
+use Rattle.dk_forms.specs.Plane.{Before, IsPlaneState, IsSpan, are_aligned, first_off, greater, in_space, is_before, lesser, plane_between, plane_from, plane_join, plane_meet, plane_of, plane_of_all, plane_state, plane_through, span}
+use Rattle.dk_forms.specs.declared.states.State.{State}
+use Rattle.dk_forms.specs.declared.states.State.TheVariants.{Span}
+use Rattle.dk_rows.specs.Meanings.{meanings, state_of}
+use Rattle.dk_samples.specs.Samples.{value_in}
+use Rattle.dk_template.specs.Joins.{joined}
+use Rattle.dk_template.specs.Proper.{IsProper}
+use Rattle.dk_template.specs.Templates.{form_of, rows}
+use Rattle.dk_template.specs.declared.grammar.RowId.{RowId}
+use Rattle.dk_template.specs.declared.templates.StateForm.{StateForm}
+use Rattle.dk_template.specs.declared.templates.StateForm.TheVariants as form
+use Rattle.dk_ternary.specs.Rows.{linear_ternary_row}
+use Rattle.dk_engine.specs.Feeding.{with_sample}
+use Rattle.dk_engine.specs.declared.slot.Slot.{Slot}
+
+-- ---- points on one line
+-- the test is right
+pub before_of : (p q : ℤ × ℤ × ℤ) → is_before p q ≡ true → Before p q
+before_of p q e = elim (before_or p q) as (λ _. Before p q) [ inl h ↦ h.0 | inr h ↦ absurd (false≢true (sym h.1 ∙ e)) ]
+
+no_step : (a b x y : ℤ) → int_eq (a *ℤ (y -ℤ y)) ((x -ℤ x) *ℤ b) ≡ true
+no_step a b x y =
+    (Decides-int_eq (a *ℤ (y -ℤ y)) ((x -ℤ x) *ℤ b)).1
+    (same_rep (rep-mul (rep a) (rep-sub (rep y) (rep y))) (rep-mul (rep-sub (rep x) (rep x)) (rep b)) (omega arith))
+
+same_step : (a b : ℤ) → int_eq (a *ℤ b) (a *ℤ b) ≡ true
+same_step a b = (Decides-int_eq (a *ℤ b) (a *ℤ b)).1 refl
+
+-- either end of a line lies on it
+start_on : (p v : ℤ × ℤ × ℤ) → are_aligned p v p ≡ true
+start_on p v =
+    let u = minus v p in
+    and_from (int_eq (u.0 *ℤ (p.1 -ℤ p.1)) ((p.0 -ℤ p.0) *ℤ u.1)) _ (no_step u.0 u.1 p.0 p.1)
+    (and_from (int_eq (u.0 *ℤ (p.2 -ℤ p.2)) ((p.0 -ℤ p.0) *ℤ u.2)) _ (no_step u.0 u.2 p.0 p.2) (no_step u.1 u.2 p.1 p.2))
+
+end_on : (p v : ℤ × ℤ × ℤ) → are_aligned p v v ≡ true
+end_on p v =
+    let u = minus v p in
+    and_from (int_eq (u.0 *ℤ u.1) (u.0 *ℤ u.1)) _ (same_step u.0 u.1) (and_from (int_eq (u.0 *ℤ u.2) (u.0 *ℤ u.2)) _ (same_step u.0 u.2) (same_step u.1 u.2))
+
+-- ---- a point beyond a stretch
+module _ (p q v : ℤ × ℤ × ℤ) (pq : is_before p q ≡ true) (qv : is_before q v ≡ true) (pv : is_before p v ≡ true) (on : are_aligned p v q ≡ true) where
+  abbrev four : List (ℤ × ℤ × ℤ)
+  four = p ∷ q ∷ v ∷ v ∷ []
+
+  low : (w : ℤ × ℤ × ℤ) → is_before p w ≡ true → lesser p w ≡ p
+  low w e = ap (λ b. if b then p else w) e
+
+  high : (w : ℤ × ℤ × ℤ) → is_before w v ≡ true → greater w v ≡ v
+  high w e = ap (λ b. if b then v else w) e
+
+  itself : greater v v ≡ v
+  itself = elim (is_before v v) as (λ b. (if b then v else v) ≡ v) [ true ↦ refl | false ↦ refl ]
+
+  least : lesser (lesser (lesser p q) v) v ≡ p
+  least = ap (λ a. lesser (lesser a v) v) (low q pq) ∙ (ap (λ a. lesser a v) (low v pv) ∙ low v pv)
+
+  greatest : greater (greater (greater p q) v) v ≡ v
+  greatest = ap (λ a. greater (greater a v) v) (ap (λ b. if b then q else p) pq) ∙ (ap (λ a. greater a v) (high q qv) ∙ itself)
+
+  none_off : first_off p v four ≡ p
+  none_off =
+      ap (λ b. if b then first_off p v (q ∷ v ∷ v ∷ []) else p) (start_on p v)
+      ∙ (ap (λ b. if b then first_off p v (v ∷ v ∷ []) else q) on
+      ∙ (ap (λ b. if b then first_off p v (v ∷ []) else v) (end_on p v) ∙ ap (λ b. if b then first_off p v [] else v) (end_on p v)))
+
+  between : plane_between p v four ≡ fact (span (p, v))
+  between =
+      ap (λ o. if are_aligned p v o then fact (span (p, v)) else plane_of_all (plane_through p v o) four) none_off
+      ∙ ap (λ b. if b then fact (span (p, v)) else plane_of_all (plane_through p v p) four) (start_on p v)
+
+  longer : plane_meet (span (p, q)) (span (v, v)) ≡ fact (span (p, v))
+  unfolding plane_from
+  longer = ap (λ a. plane_between a (greater (greater (greater p q) v) v) four) least ∙ (ap (λ a. plane_between p a four) greatest ∙ between)
+
+  pub grows : in_space v ≡ true → plane_join (Span p.0 p.1 p.2 q.0 q.1 q.2) (plane_of (v ∷ [])) ≡ Span p.0 p.1 p.2 v.0 v.1 v.2
+  grows near =
+      ap (plane_join (Span p.0 p.1 p.2 q.0 q.1 q.2)) (ap plane_state (plane_of_point v) ∙ ap (λ b. plane_state (if b then fact (span (v, v)) else broken)) near)
+      ∙ ap plane_state longer
+
+-- the longer stretch, which is left as it is by the last point of the one that it came from
+pub grown_stretch : (p q v : ℤ × ℤ × ℤ) → IsSpan (p, v) → in_space v ≡ true → is_before p v ≡ true
+    → plane_join (Span p.0 p.1 p.2 v.0 v.1 v.2) (plane_of (q ∷ [])) ≡ Span p.0 p.1 p.2 v.0 v.1 v.2
+    → Span p.0 p.1 p.2 v.0 v.1 v.2 ≡ plane_join (Span p.0 p.1 p.2 q.0 q.1 q.2) (plane_of (v ∷ []))
+grown_stretch p q v fit near pv stays =
+    let told = (span_stays (p, v) q fit).1 stays in
+    let a = and_parts (in_space q) (is_before p q && (is_before q v && are_aligned p v q)) told in
+    let b = and_parts (is_before p q) (is_before q v && are_aligned p v q) a.1 in
+    let c = and_parts (is_before q v) (are_aligned p v q) b.1 in
+    sym (grows p q v b.0 c.0 pv c.1 near)
+
+pub is_stretch : (p q v : ℤ × ℤ × ℤ) → IsSpan (p, q) → in_space v ≡ true → is_before p v ≡ true → IsSpan (p, v)
+is_stretch p q v is near pv = record { first = is.first; last = point_of_limit v near; ordered = before_of p v pv }
+
+-- ---- by a sample
+planar_form : form_of linear_ternary_row ≡ form.Plane
+unfolding rows
+planar_form = refl
+
+planar_point : (t : List Value) → state_of linear_ternary_row (t ∷ []) ≡ plane_of ((int_of (value_at t 0), int_of (value_at t 1), int_of (value_at t 2)) ∷ [])
+unfolding state_of meanings
+planar_point t = refl
+
+pub planar_proper : (row : RowId) → row.0 ≡ 67 → (state : State) → IsProper (form_of row) state → IsPlaneState state
+planar_proper row e state p =
+    subst (λ f. IsProper f state) planar_form (subst (λ n. IsProper (form_of (record { 0 = n })) state) e p)
+
+pub planar_sample : (u v w : VarId) (sample : List Value) (x y z : ℤ) → value_in sample u ≡ value.Int x → value_in sample v ≡ value.Int y → value_in sample w ≡ value.Int z
+    → (s : State) → plane_join s (plane_of ((x, y, z) ∷ [])) ≡ with_sample linear_ternary_row (u ∷ v ∷ w ∷ []) sample s
+planar_sample u v w sample x y z at_u at_v at_w s =
+    let row = linear_ternary_row in
+    let joining : List Value → State = λ t. if is_whole t then joined (form_of row) s (state_of row (t ∷ [])) else s in
+    let ints : List Value = value.Int x ∷ value.Int y ∷ value.Int z ∷ [] in
+    let tuple : tuple_in (u ∷ v ∷ w ∷ []) sample ≡ ints = three (value_in sample u) (value_in sample v) (value_in sample w) at_u at_v at_w in
+    sym (ap joining tuple ∙ (ap (joined (form_of row) s) (planar_point ints) ∙ ap (λ f. joined f s (plane_of ((x, y, z) ∷ []))) planar_form))
+  where
+    three : (i j k : Value) → i ≡ value.Int x → j ≡ value.Int y → k ≡ value.Int z → (let l : List Value = i ∷ j ∷ k ∷ [] in l) ≡ value.Int x ∷ value.Int y ∷ value.Int z ∷ []
+    three i j k p q r = cc
+
+-- the same of a slot
+pub planar_slot : (slot : Slot) → slot.row.0 ≡ 67 → (u v w : VarId) → slot.leaders ≡ u ∷ v ∷ w ∷ [] → (sample : List Value) (x y z : ℤ)
+    → value_in sample u ≡ value.Int x → value_in sample v ≡ value.Int y → value_in sample w ≡ value.Int z
+    → plane_join slot.state (plane_of ((x, y, z) ∷ [])) ≡ with_sample slot.row slot.leaders sample slot.state
+planar_slot slot e u v w over sample x y z at_u at_v at_w =
+    let row : slot.row ≡ linear_ternary_row = ap (λ (n : ℕ). (let r : RowId = record { 0 = n } in r)) e in
+    planar_sample u v w sample x y z at_u at_v at_w slot.state
+    ∙ (ap (λ vs. with_sample linear_ternary_row vs sample slot.state) (sym over) ∙ ap (λ r. with_sample r slot.leaders sample slot.state) (sym row))

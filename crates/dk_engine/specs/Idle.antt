@@ -1,0 +1,61 @@
+-- Slots that no sample of near numbers changes, and how a search for changed slots passes over them.
+use Rattle.std.specs.Prelude.{◌≡◌, ◌<◌, ◌≤◌, ◌^◌, ◌&&◌, ◌||◌, ◌==◌, ℕ, ℤ, pos, negsuc, Bool, true, false, List, if◌then◌else◌, length, nat_le, nat_lt, slice_index_or, unsigned_abs}
+use Rattle.std.specs.List.{list_all}
+use Rattle.std.specs.Ordering.{int_eq}
+use Rattle.dk_base.specs.declared.kinds.VarId.{VarId}
+use Rattle.dk_base.specs.declared.values.Value.{Value}
+use Rattle.dk_base.specs.declared.values.Value.TheVariants as value
+use Rattle.dk_forms.specs.declared.states.State.{State}
+use Rattle.dk_forms.specs.declared.states.State.TheVariants.{Plane}
+use Rattle.dk_grammar.specs.Runs.{with_sample}
+use Rattle.dk_engine.specs.Parts.{slot_in}
+use Rattle.dk_engine.specs.declared.slot.Slot.{Slot}
+
+-- a whole number of at most 2^30 in size
+abbrev pub is_near : Value → Bool
+is_near (value.Int z) = nat_le (unsigned_abs z) (2 ^ 30)
+is_near _ = false
+
+-- the sample's values are all such numbers
+abbrev pub are_near : List Value → Bool
+are_near sample = list_all is_near sample
+
+-- the plane of the points whose first two coordinates are one
+abbrev pub is_diagonal : ℤ → ℤ → ℤ → ℤ → Bool
+is_diagonal a b c d = int_eq a (pos 1) && (int_eq b (negsuc 0) && (int_eq c (pos 0) && int_eq d (pos 0)))
+
+-- the plane says no more than that a variable, which stands at two roles, is itself
+abbrev pub is_idle_over : VarId → VarId → VarId → State → Bool
+is_idle_over u v w (Plane a b c d) = (u.0 == v.0 && is_diagonal a b c d) || (v.0 == w.0 && is_diagonal b c a d)
+is_idle_over u v w _ = false
+
+-- no sample of near numbers changes the slot
+abbrev pub IsIdle : Slot → Type 0
+IsIdle slot = (sample : List Value) → are_near sample ≡ true → with_sample slot.row slot.leaders sample slot.state ≡ slot.state
+
+-- ---- places that are passed over
+-- up to which place the slots from this one on are passed over
+abbrev pub skip_in : List ℕ → ℕ → ℕ
+skip_in skips k = slice_index_or skips k 0
+
+-- the later of two places
+abbrev pub later : ℕ → ℕ → ℕ
+later next skip = if nat_lt skip next then next else skip
+
+-- the slot at this place is passed over
+abbrev pub is_passed : List ℕ → ℕ → Bool
+is_passed skips k = nat_lt k (skip_in skips k)
+
+-- Slots that are passed over are idle. Each of them is noted so itself, so that the notes outlast changes of others.
+pub record AreSkips (slots : List Slot) (skips : List ℕ) : Type 0 where
+  pub noted : (k j : ℕ) → k ≤ j → j < skip_in skips k → j < skip_in skips j
+  pub idle : (j : ℕ) → j < skip_in skips j → IsIdle (slot_in slots j)
+
+-- a note for each slot
+abbrev pub AreNotes : List Slot → List ℕ → Type 0
+AreNotes slots skips = (length skips ≡ length slots) × AreSkips slots skips
+
+-- the sample changes none of those that are passed over
+abbrev pub PassesStill : List Value → List Slot → List ℕ → Type 0
+PassesStill sample slots skips = (k j : ℕ) → k ≤ j → j < skip_in skips k
+    → with_sample (slot_in slots j).row (slot_in slots j).leaders sample (slot_in slots j).state ≡ (slot_in slots j).state
