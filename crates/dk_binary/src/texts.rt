@@ -10,7 +10,9 @@ fn same_word(a: &[u8; 8], b: &[u8; 8]) -> bool
     u64::from_le_bytes(*a) == u64::from_le_bytes(*b)
 }
 
-// Whether two texts of any length are equal.
+// Whether two texts of any length are equal. It stands apart so that a loop over pairs of texts, most of which have eight to sixteen
+// bytes, branches at the others.
+#[cold]
 #[inline(never)]
 fn same_bytes(a: &[u8], b: &[u8]) -> bool
     ensures { result ≡ bytes_eq a.now b.now }
@@ -23,7 +25,7 @@ fn same_bytes(a: &[u8], b: &[u8]) -> bool
 pub(crate) fn same_text(a: &[u8], b: &[u8]) -> bool
     ensures { result ≡ bytes_eq a.now b.now }
 {
-    if a.len() != b.len() || 16 < a.len() {
+    if a.len() != b.len() || a.len() < 8 || 16 < a.len() {
         return same_bytes(a, b);
     }
     match (
