@@ -1,0 +1,10 @@
+pub mod Lists
+pub mod Answering
+pub mod Leading
+pub mod Knowing
+pub mod Counting
+pub mod Exact
+pub mod Determined
+pub mod Tallying
+pub mod Splitting
+mod Examples
