@@ -1,7 +1,7 @@
 // What two engines say together.
 ghost use Rattle.std.specs.Prelude.{◌≡◌, IfOk, IsTrue, OnErr};
-ghost use Rattle.dk_join.specs.Joining.{IsOfOnePoint, agree_joined, answer_of, count_joined};
-ghost use Rattle.dk_engine.specs.Reading.{read};
+ghost use Rattle.dk_join.specs.Joining.{AreAlike, agree_joined, answer_of, count_joined};
+ghost use Rattle.dk_engine.specs.Reading.{state_read};
 ghost use Rattle.dk_template.specs.Admitted.{admits};
 ghost use Rattle.dk_template.specs.Joins.{joined};
 ghost use Rattle.dk_template.specs.Premises.{MayWantMemory};
@@ -23,19 +23,19 @@ pub(crate) struct Both<'a> {
 }
 
 impl<'a> Model for Both<'a> {
-    ghost use Rattle.dk_join.specs.Joining.{IsOfOnePoint, Pair};
+    ghost use Rattle.dk_join.specs.Joining.{AreAlike, Pair};
 
     ghost Value = { Pair };
 
     ghost view = { λ b. record { first = b.first.now; second = b.second.now } };
 
-    ghost invariant = { λ b. IsOfOnePoint (record { first = b.first.now; second = b.second.now }) };
+    ghost invariant = { λ b. AreAlike (record { first = b.first.now; second = b.second.now }) };
 }
 
 impl<'a> Both<'a> {
     /// The two engines.
     pub(crate) fn of(alloc: Global, first: &'a Engine, second: &'a Engine) -> Both<'a>
-        requires { IsOfOnePoint (record { first = first.now; second = second.now }) }
+        requires { AreAlike (record { first = first.now; second = second.now }) }
         ensures { result ≡ record { first = first.now; second = second.now } }
     {
         Both {
@@ -57,7 +57,7 @@ impl<'a> Both<'a> {
         requires row { IsRowOf self.now.first.grammar row }
         requires vars { IsTrue (admits row self.now.first.infos vars.now) }
         requires proper { IsProper (form_of row) state }
-        ensures state { IfOk result (λ s. s ≡ joined (form_of row) state (read self.now.second.kept row vars.now)) }
+        ensures state { IfOk result (λ s. s ≡ joined (form_of row) state (state_read self.now.second.kept row vars.now)) }
         ensures proper { IfOk result (λ s. IsProper (form_of row) s) }
         ensures err { OnErr result (MayWantMemory row) }
     {

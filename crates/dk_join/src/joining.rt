@@ -1,21 +1,23 @@
 // The join of two engines.
 ghost use Rattle.std.specs.Prelude.{◌≡◌, ◌≢◌, ◌<◌, ◌≤◌, ◌+◌, ◌^◌, ◌++◌, Err, IfOk, List, length};
 ghost use Rattle.dk_base.specs.declared.values.Value.{Value};
-ghost use Rattle.dk_engine.specs.Exact.{AreOfPoint, IsKeptOf};
+ghost use Rattle.dk_engine.specs.Exact.{IsKeptOf};
+ghost use Rattle.dk_engine.specs.Feeding.{slots_of};
 ghost use Rattle.dk_engine.specs.Saved.{AreSavedParts, parts_of};
 ghost use Rattle.dk_engine.specs.declared.parts.Parts.{Parts as AllParts};
 ghost use Rattle.dk_join.specs.Joined.{AreJoinedParts};
-ghost use Rattle.dk_join.specs.Joining.{IsOfOnePoint};
+ghost use Rattle.dk_join.specs.Joining.{AreAlike, AreOfOnePoint, read_joined};
 ghost use Rattle.dk_join.specs.Laws.{AreKeptOf};
+ghost use Rattle.dk_presence.specs.Patterns.{capped};
 
 use crate::both::Both;
 use crate::constants::joined_known;
 use crate::leaders::joined_leaders;
 use crate::patterns::joined_patterns;
 use crate::sweeps::Sweep;
-use dk_base::{List, NoMemory, Text, VarInfo};
+use dk_base::{List, NoMemory, Text, VarId, VarInfo};
 use dk_constants::Constants;
-use dk_engine::{Engine, Parts, PartsFault};
+use dk_engine::{Engine, Parts, PartsFault, Slot};
 use dk_parts::{classes_in_order, known_in_order, patterns_in_order};
 use std::alloc::Global;
 use thiserror::Error;
@@ -66,42 +68,54 @@ fn copy_vars(alloc: Global, vars: &[VarInfo]) -> Result<List<VarInfo>, NoMemory>
     Ok(copies)
 }
 
-// Equal variables as the engine has.
-fn vars_of(alloc: Global, engine: &Engine) -> Result<List<VarInfo>, NoMemory>
-    ensures vars { IfOk result (λ vars. vars ≡ engine.now.infos) }
-    ensures point { IfOk result AreOfPoint }
+// How many samples both have, at most 2^64 - 1.
+fn number_of_both(first: &Engine, second: &Engine) -> u64
+    ensures { result ≡ capped (first.now.kept.samples + second.now.kept.samples) }
 {
-    let _kept = engine.kept();
-    copy_vars(alloc, engine.vars())
+    let samples = first.counts().samples;
+    samples.saturating_add(second.counts().samples)
 }
 
-// The parts of the join, in the order in which they are saved.
-fn joined_parts(alloc: Global, first: &Engine, second: &Engine) -> Result<Parts, NoMemory>
-    requires { IsOfOnePoint (record { first = first.now; second = second.now }) }
-    ensures { IfOk result (AreJoinedParts first.now.grammar first.now.infos first.now.kept second.now.kept) }
+// The slots of both, over these leaders.
+fn joined_slots(
+    alloc: Global,
+    first: &Engine,
+    second: &Engine,
+    known: &Constants,
+    leaders: &[VarId],
+) -> Result<List<Slot>, NoMemory>
+    requires { AreAlike (record { first = first.now; second = second.now }) }
+    ensures { IfOk result (λ slots. slots ≡ slots_of first.now.grammar first.now.infos leaders.now known.now (read_joined first.now.kept second.now.kept)) }
 {
-    let count = first.vars().len();
-    let one = first.kept();
-    let other = second.kept();
-    let classes = joined_leaders(alloc, &one.leaders, &other.leaders, count)?;
-    let leaders = classes.leaders();
-    let known = Constants::from_known(alloc, joined_known(alloc, one, other, leaders)?)?;
-    let held = joined_patterns(alloc, one, other, leaders)?;
     let both = Both::of(alloc, first, second);
     let sweep = Sweep {
         alloc,
         both: &both,
-        known: &known,
+        known,
     };
-    let slots = sweep.all(first.grammar(), leaders)?;
-    let members = classes_in_order(alloc, &classes, count)?;
+    sweep.all(first.grammar(), leaders)
+}
+
+// The parts of the join, in the order in which they are saved.
+fn joined_parts(alloc: Global, first: &Engine, second: &Engine) -> Result<Parts, NoMemory>
+    requires { AreOfOnePoint (record { first = first.now; second = second.now }) }
+    ensures { IfOk result (AreJoinedParts first.now.grammar first.now.infos first.now.kept second.now.kept) }
+{
+    let count = first.vars().len();
+    let joined = joined_leaders(alloc, first.classes(), second.classes(), count)?;
+    let leaders = joined.leaders();
+    let values = joined_known(alloc, first, second, leaders)?;
+    let known = Constants::from_known(alloc, values)?;
+    let held = joined_patterns(alloc, first, second, leaders)?;
+    let slots = joined_slots(alloc, first, second, &known, leaders)?;
+    let members = classes_in_order(alloc, &joined, count)?;
     let patterns = patterns_in_order(alloc, leaders, held.as_slice())?;
-    let known = known_in_order(alloc, known.entries())?;
+    let constants = known_in_order(alloc, known.entries())?;
     Ok(Parts {
-        samples: one.samples.saturating_add(other.samples),
+        samples: number_of_both(first, second),
         classes: members,
         patterns,
-        known,
+        known: constants,
         slots,
     })
 }
@@ -110,7 +124,7 @@ fn joined_parts(alloc: Global, first: &Engine, second: &Engine) -> Result<Parts,
 /// every two lists that the engines stand for. Joined exactly where its parts are none that can be saved, which is never so for lists
 /// of at most 2^40 samples together.
 pub fn join(alloc: Global, first: &Engine, second: &Engine) -> Result<Engine, JoinFault>
-    requires point { IsOfOnePoint (record { first = first.now; second = second.now }) }
+    requires point { AreOfOnePoint (record { first = first.now; second = second.now }) }
     requires first { 0 < first.now.kept.samples }
     requires second { 0 < second.now.kept.samples }
     ensures grammar { IfOk result (λ e. e.grammar ≡ first.now.grammar) }
@@ -122,7 +136,7 @@ pub fn join(alloc: Global, first: &Engine, second: &Engine) -> Result<Engine, Jo
     ensures few { (samples others : List (List Value)) → AreKeptOf first.now.grammar first.now.infos samples others first.now.kept second.now.kept → length samples + length others ≤ 2 ^ 40 → result ≢ Err JoinFault.Joined }
 {
     let parts = joined_parts(alloc, first, second)?;
-    let vars = vars_of(alloc, first)?;
+    let vars = copy_vars(alloc, first.vars())?;
     match Engine::from_parts(alloc, vars, parts, first.grammar()) {
         Ok(engine) => Ok(engine),
         Err(PartsFault::Bad) => Err(JoinFault::Joined),
