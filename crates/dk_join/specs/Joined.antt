@@ -42,7 +42,9 @@ times_present old leaders held pattern = sum_by (λ h. if same_vars (present_wit
 -- the patterns of both, over the new leaders; the counts of equal ones are added
 pub record AreJoinedPatterns (first second : Kept) (leaders : List VarId) (held : List Held) : Type 0 where
   pub form : AreHeld held
-  pub counted : (pattern : List VarId) → pattern_count held pattern ≡ capped (times_present first.leaders leaders first.held pattern + times_present second.leaders leaders second.held pattern)
+  pub counted : (pattern : List VarId)
+      → pattern_count held pattern
+      ≡ capped (times_present first.leaders leaders first.held pattern + times_present second.leaders leaders second.held pattern)
 
 -- ---- constants
 -- the value that is known in both, if it is one
@@ -53,7 +55,8 @@ common_value None other = None
 
 -- what is known of a leader: the value that the leaders of its classes have in both
 abbrev pub known_in_both : Kept → Kept → VarId → Option Value
-known_in_both first second v = common_value (known_at first.known (leader_of first.leaders v)) (known_at second.known (leader_of second.leaders v))
+known_in_both first second v =
+    common_value (known_at first.known (leader_of first.leaders v)) (known_at second.known (leader_of second.leaders v))
 
 -- the constant leaders, each with its value
 abbrev pub joined_known : Kept → Kept → List VarId → Entries

@@ -33,12 +33,14 @@ OfBoth P =
 
 -- the state of each row over variables that it admits
 abbrev pub ReadJoinedIsFit : Type 0
-ReadJoinedIsFit = OfBoth (λ grammar infos all first second. (row : RowId) → IsRowOf grammar row → (vars : List VarId) → IsTrue (admits row infos vars)
+ReadJoinedIsFit = OfBoth (λ grammar infos all first second. (row : RowId)
+    → IsRowOf grammar row → (vars : List VarId) → IsTrue (admits row infos vars)
     → read_joined first second row vars ≡ fit row vars all)
 
 -- the counts
 abbrev pub CountJoinedIsCount : Type 0
-CountJoinedIsCount = OfBoth (λ grammar infos all first second. (vars : List VarId) → AreThere infos vars → count_joined first second vars ≡ count_of vars all)
+CountJoinedIsCount = OfBoth (λ grammar infos all first second. (vars : List VarId)
+    → AreThere infos vars → count_joined first second vars ≡ count_of vars all)
 
 -- agreement
 abbrev pub AgreeJoinedIsAgreement : Type 0
@@ -47,11 +49,13 @@ AgreeJoinedIsAgreement = OfBoth (λ grammar infos all first second. (v w : VarId
 
 -- all parts, where both lists have samples
 abbrev pub JoinedPartsAreExact : Type 0
-JoinedPartsAreExact = OfBoth (λ grammar infos all first second. 0 < first.samples → 0 < second.samples → (kept : Kept) → IsJoinOf grammar infos first second kept
+JoinedPartsAreExact = OfBoth (λ grammar infos all first second. 0 < first.samples
+    → 0 < second.samples → (kept : Kept) → IsJoinOf grammar infos first second kept
     → IsKeptOf grammar infos all kept)
 
 -- two engines have one join
 abbrev pub JoinedPartsAreDetermined : Type 0
 JoinedPartsAreDetermined =
-    (grammar : Grammar) (infos : List VarInfo) (first second : Kept) (parts others : Parts) → AreJoinedParts grammar infos first second parts → AreJoinedParts grammar infos first second others
+    (grammar : Grammar) (infos : List VarInfo) (first second : Kept) (parts others : Parts)
+    → AreJoinedParts grammar infos first second parts → AreJoinedParts grammar infos first second others
     → parts ≡ others

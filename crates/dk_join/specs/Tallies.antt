@@ -14,7 +14,8 @@ counted_more count h = record { count = capped (h.count + count); leaders = h.le
 -- the patterns with so many samples more in which these leaders are present
 abbrev pub with_samples_of : ℕ → List VarId → List Held → List Held
 with_samples_of count present [] = record { count = capped count; leaders = present } ∷ []
-with_samples_of count present (h ∷ held) = if same_vars h.leaders present then counted_more count h ∷ held else h ∷ with_samples_of count present held
+with_samples_of count present (h ∷ held) =
+    if same_vars h.leaders present then counted_more count h ∷ held else h ∷ with_samples_of count present held
 
 -- With patterns of the old leaders, each over the new ones, the counts of equal ones are added. So far each was counted so often.
 abbrev pub AreAdded : List VarId → List VarId → List Held → List Held → List Held → Type 0
