@@ -1,7 +1,6 @@
 -- cited by public clauses
 pub mod Joined
-pub mod Laws
--- what those are made of, and words for the crates above
 pub mod Joining
+pub mod Laws
 -- inner: cited by the clauses of bodies and in proofs alone
 pub mod Tallies

@@ -1,7 +1,7 @@
 // The join of two engines.
 ghost use Rattle.std.specs.Prelude.{◌≡◌, ◌≢◌, ◌<◌, ◌≤◌, ◌+◌, ◌^◌, ◌++◌, Err, IfOk, List, length};
 ghost use Rattle.dk_base.specs.declared.values.Value.{Value};
-ghost use Rattle.dk_engine.specs.Exact.{IsKeptOf};
+ghost use Rattle.dk_engine.specs.Exact.{AreOfPoint, IsKeptOf};
 ghost use Rattle.dk_engine.specs.Feeding.{slots_of};
 ghost use Rattle.dk_engine.specs.Saved.{AreSavedParts, parts_of};
 ghost use Rattle.dk_engine.specs.declared.parts.Parts.{Parts as AllParts};
@@ -120,11 +120,19 @@ fn joined_parts(alloc: Global, first: &Engine, second: &Engine) -> Result<Parts,
     })
 }
 
+// What is so of every engine: its variables are those of a point, and each has a leader.
+fn tell_leaders(engine: &Engine)
+    ensures point { AreOfPoint engine.now.infos }
+    ensures long { length engine.now.kept.leaders ≡ length engine.now.infos }
+{
+    engine.kept();
+}
+
 /// The join of two engines over the same variables and rows, each of some samples. It stands for both lists of samples together, for
 /// every two lists that the engines stand for. Joined exactly where its parts are none that can be saved, which is never so for lists
 /// of at most 2^40 samples together.
 pub fn join(alloc: Global, first: &Engine, second: &Engine) -> Result<Engine, JoinFault>
-    requires point { AreOfOnePoint (record { first = first.now; second = second.now }) }
+    requires alike { AreAlike (record { first = first.now; second = second.now }) }
     requires first { 0 < first.now.kept.samples }
     requires second { 0 < second.now.kept.samples }
     ensures grammar { IfOk result (λ e. e.grammar ≡ first.now.grammar) }
@@ -135,6 +143,8 @@ pub fn join(alloc: Global, first: &Engine, second: &Engine) -> Result<Engine, Jo
     ensures stands { (samples others : List (List Value)) → AreKeptOf first.now.grammar first.now.infos samples others first.now.kept second.now.kept → IfOk result (λ e. IsKeptOf first.now.grammar first.now.infos (samples ++ others) e.kept) }
     ensures few { (samples others : List (List Value)) → AreKeptOf first.now.grammar first.now.infos samples others first.now.kept second.now.kept → length samples + length others ≤ 2 ^ 40 → result ≢ Err JoinFault.Joined }
 {
+    tell_leaders(first);
+    tell_leaders(second);
     let parts = joined_parts(alloc, first, second)?;
     let vars = copy_vars(alloc, first.vars())?;
     match Engine::from_parts(alloc, vars, parts, first.grammar()) {

@@ -1,4 +1,4 @@
-use Rattle.std.specs.Prelude.{◌≡◌, Err, List}
+use Rattle.std.specs.Prelude.{◌≡◌, Err, List, length}
 use Rattle.std.proofs.Common.{◌∙◌, ap, subst, sym}
 use Rattle.dk_base.specs.declared.kinds.VarInfo.{VarInfo}
 use Rattle.dk_base.specs.declared.values.Value.{Value}
@@ -11,8 +11,16 @@ use Rattle.dk_join.proofs.Joins.{few_are_saved, none_is_saved, stands_for_both}
 use Rattle.dk_join.specs.Joined.{AreJoinedParts}
 use Rattle.dk_join.proofs.joining.join.Goals as goal
 
+pub joined_parts-requires : goal.joined_parts-requires
+joined_parts-requires c = record {
+  alike = c.requires.alike;
+  point = c.tell_leaders.ensures.point;
+  first_leaders = c.tell_leaders.ensures.long;
+  second_leaders = c.tell_leaders-2.ensures.long ∙ ap length c.requires.alike.infos;
+}
+
 pub from_parts-requires : goal.from_parts-requires
-from_parts-requires c = subst AreOfPoint (sym (c.in_ok-vars.ensures ∙ c.vars.ensures)) c.requires.point.point
+from_parts-requires c = subst AreOfPoint (sym (c.in_ok-vars.ensures ∙ c.vars.ensures)) c.tell_leaders.ensures.point
 
 pub returns-in-Ok-clause-parts : goal.returns-in-Ok-clause-parts
 returns-in-Ok-clause-parts c =
@@ -35,7 +43,7 @@ returns-in-Ok-clause-stands c = λ samples others are.
     let Stands : Grammar → List VarInfo → Type 0 = λ g vars. (all : List (List Value)) (kept : Kept) → AreSamples vars all → IsKeptOf g vars all kept
     → parts_of kept ≡ c.in_ok-parts.parts → IsKeptOf g vars all e.kept in
     let stands : Stands first.grammar first.infos = subst (λ g. Stands g first.infos) c.grammar.ensures (subst (Stands c.grammar.result) own c.in-Ok.ensures.stands) in
-    stands_for_both first.grammar first.infos first.kept c.args.second.now.kept c.in_ok-parts.parts c.in_ok-parts.ensures c.requires.point.point c.requires.first c.requires.second samples others are e.kept stands
+    stands_for_both first.grammar first.infos first.kept c.args.second.now.kept c.in_ok-parts.parts c.in_ok-parts.ensures c.tell_leaders.ensures.point c.requires.first c.requires.second samples others are e.kept stands
 
 pub returns-in-Err-Bad-clause-joined : goal.returns-in-Err-Bad-clause-joined
 returns-in-Err-Bad-clause-joined c = λ _ parts joined saved.
@@ -50,6 +58,6 @@ pub returns-in-Err-Bad-clause-few : goal.returns-in-Err-Bad-clause-few
 returns-in-Err-Bad-clause-few c = λ samples others are few _.
     let first = c.args.first.now in
     let own : c.in_ok-vars.vars ≡ first.infos = c.in_ok-vars.ensures ∙ c.vars.ensures in
-    let saved = few_are_saved first.grammar first.infos first.kept c.args.second.now.kept c.in_ok-parts.parts c.in_ok-parts.ensures c.requires.point.point c.requires.first c.requires.second samples others are few in
+    let saved = few_are_saved first.grammar first.infos first.kept c.args.second.now.kept c.in_ok-parts.parts c.in_ok-parts.ensures c.tell_leaders.ensures.point c.requires.first c.requires.second samples others are few in
     c.in-Err-Bad.ensures.bad (ap (λ (e : PartsFault). Err e) c.in-Err-Bad.field-0-is)
     (subst (λ g. AreSavedParts g c.in_ok-vars.vars c.in_ok-parts.parts) (sym c.grammar.ensures) (subst (λ vars. AreSavedParts first.grammar vars c.in_ok-parts.parts) (sym own) saved))
