@@ -1,5 +1,5 @@
 -- The answers of two engines together are those of both lists.
-use Rattle.std.specs.Prelude.{◌≡◌, ◌+◌, ◌++◌, List}
+use Rattle.std.specs.Prelude.{◌≡◌, ◌+◌, List}
 use Rattle.std.proofs.Common.{ap, ◌∙◌, sym}
 use Rattle.std.proofs.lemmas.Bool.{and_from, and_parts}
 use Rattle.std.proofs.lemmas.List.Elements.{All-append}

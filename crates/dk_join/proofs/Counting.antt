@@ -1,13 +1,10 @@
 -- The patterns of both lists, over the joined leaders.
-use Rattle.std.specs.Prelude.{◌≡◌, ◌<◌, ◌+◌, ◌&&◌, ◌^◌, ℕ, suc, true, All, Contains, List, [], ◌∷◌, ◌++◌, count_by, filter, if◌then◌else◌, length, refl}
+use Rattle.std.specs.Prelude.{◌≡◌, ◌+◌, ◌&&◌, ℕ, suc, All, Contains, List, [], ◌∷◌, ◌++◌, count_by, filter, refl}
 use Rattle.std.proofs.Common.{ap, ◌∙◌, arith, cond, get_or, sym}
 use Rattle.std.proofs.lemmas.List.{map-append}
-use Rattle.std.proofs.lemmas.List.Elements.{Contains-get_or}
 use Rattle.std.proofs.lemmas.List.Sums.{sum_by-append, sum_by-cons}
-use Rattle.dk_base.specs.declared.kinds.Kind.{Kind}
 use Rattle.dk_base.specs.declared.kinds.VarId.{VarId}
 use Rattle.dk_base.specs.declared.values.Value.{Value}
-use Rattle.dk_classes.specs.Classes.{AreLeaders}
 use Rattle.dk_classes.specs.Leaders.{own_leaders}
 use Rattle.dk_engine.specs.Exact.{ArePatterns}
 use Rattle.dk_engine.specs.Parts.{leader_of}
@@ -18,7 +15,6 @@ use Rattle.dk_presence.proofs.Sums.{counted_all, has-filter}
 use Rattle.dk_presence.specs.Patterns.{capped, has, patterns_of, present_in, same_vars, times}
 use Rattle.dk_presence.specs.declared.held.Held.{Held}
 use Rattle.dk_samples.specs.Samples.{Agree, is_present, value_in}
-use Rattle.dk_join.proofs.Leading.{agrees_with_leader, leader_leads}
 use Rattle.dk_join.proofs.Lists.{filter_alike}
 use Rattle.dk_join.specs.Joined.{AreJoinedPatterns, present_with, times_present}
 

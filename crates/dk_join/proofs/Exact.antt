@@ -1,6 +1,6 @@
 -- The joined parts are what is kept of both lists.
-use Rattle.std.specs.Prelude.{◌≡◌, ◌<◌, ◌++◌, ◌^◌, Contains, List, length}
-use Rattle.std.proofs.Common.{◌∙◌, arith, get_or, subst, sym}
+use Rattle.std.specs.Prelude.{◌<◌, ◌++◌, ◌^◌, Contains, List, length}
+use Rattle.std.proofs.Common.{arith, get_or, subst, sym}
 use Rattle.std.proofs.lemmas.List.{length-append}
 use Rattle.std.proofs.lemmas.List.Elements.{Contains-get_or}
 use Rattle.dk_base.specs.declared.kinds.VarId.{VarId}

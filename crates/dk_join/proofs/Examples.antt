@@ -1,5 +1,5 @@
 -- Small joins, computed from the definitions.
-use Rattle.std.specs.Prelude.{◌≡◌, ◌<◌, ℕ, pos, true, false, Bool, List, [], ◌∷◌, length, map, refl}
+use Rattle.std.specs.Prelude.{◌≡◌, pos, false, List, [], ◌∷◌, map, refl}
 use Rattle.dk_base.specs.declared.kinds.VarId.{VarId}
 use Rattle.dk_base.specs.declared.values.Value.TheVariants as value
 use Rattle.dk_engine.specs.declared.kept.Kept.{Kept}

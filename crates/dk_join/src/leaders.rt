@@ -1,5 +1,5 @@
 // The classes of the variables that agree in both engines.
-ghost use Rattle.std.specs.Prelude.{◌≡◌, ◌<◌, ◌^◌, IfOk, length, map};
+ghost use Rattle.std.specs.Prelude.{◌≡◌, ◌<◌, IfOk, length, map};
 ghost use Rattle.dk_base.specs.Values.{values_of};
 ghost use Rattle.dk_join.specs.Joined.{AreJoinedLeaders};
 ghost use Rattle.dk_join.specs.Tallies.{leader_value};

@@ -1,6 +1,5 @@
-use Rattle.std.specs.Prelude.{◌≡◌, ◌++◌, [], ◌∷◌, List, Some, option_copied}
+use Rattle.std.specs.Prelude.{◌≡◌, ◌++◌, [], ◌∷◌, Some, option_copied}
 use Rattle.std.proofs.Common.{◌∙◌, ap, sym}
-use Rattle.dk_base.specs.declared.kinds.VarId.{VarId}
 use Rattle.dk_base.specs.declared.values.Value.{Value}
 use Rattle.dk_join.specs.Joined.{known_in_both}
 use Rattle.dk_join.proofs.KnownSteps.{none_more, one_more}

@@ -1,4 +1,4 @@
-use Rattle.std.specs.Prelude.{◌≡◌, ◌<◌, All, List, length}
+use Rattle.std.specs.Prelude.{◌<◌, All, length}
 use Rattle.std.proofs.Common.{◌∙◌, ap, subst, sym}
 use Rattle.dk_base.specs.declared.kinds.VarId.{VarId}
 use Rattle.dk_constants.specs.Known.{EntriesAscend}
