@@ -72,8 +72,9 @@ fn copy_vars(alloc: Global, vars: &[VarInfo]) -> Result<List<VarInfo>, NoMemory>
 fn number_of_both(first: &Engine, second: &Engine) -> u64
     ensures { result ≡ capped (first.now.kept.samples + second.now.kept.samples) }
 {
-    let samples = first.counts().samples;
-    samples.saturating_add(second.counts().samples)
+    let one = first.counts().samples;
+    let other = second.counts().samples;
+    one.saturating_add(other)
 }
 
 // The slots of both, over these leaders.

@@ -6,4 +6,4 @@ use Rattle.dk_join.proofs.joining.number_of_both.Goals as goal
 pub returns : goal.returns
 returns c =
     c.saturating_add.ensures
-    ∙ (ap (λ n. capped (n + c.counts.result.samples)) c.counts-samples.ensures.samples ∙ ap (λ n. capped (c.args.first.now.kept.samples + n)) c.counts.ensures.samples)
+    ∙ (ap (λ n. capped (n + c.counts-other.result.samples)) c.counts-one.ensures.samples ∙ ap (λ n. capped (c.args.first.now.kept.samples + n)) c.counts-other.ensures.samples)
