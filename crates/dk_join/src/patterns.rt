@@ -83,7 +83,13 @@ fn with_engine(
     requires ascend { VarsAscend leaders.now }
     ensures { IfOk result (AreAdded engine.now.kept.leaders leaders.now engine.now.kept.held tally) }
 {
-    with_patterns(alloc, engine.classes(), leaders, engine.presence().held(), tally)
+    with_patterns(
+        alloc,
+        engine.classes(),
+        leaders,
+        engine.presence().held(),
+        tally,
+    )
 }
 
 /// The patterns of both, over these leaders.
