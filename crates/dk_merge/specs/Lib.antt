@@ -1,0 +1,3 @@
+-- cited by public clauses
+pub mod Fronts
+pub mod Merging

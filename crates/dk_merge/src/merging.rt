@@ -1,0 +1,91 @@
+// Two state files as one.
+ghost use Rattle.std.specs.Prelude.{◌≡◌, ◌≢◌, Bool, Err, IfOk, List};
+ghost use Rattle.dk_hierarchy.specs.Samples.{OwnSamples};
+ghost use Rattle.dk_merge.specs.Fronts.{front_of};
+ghost use Rattle.dk_merge.specs.Merging.{CanBeMerged, GivesBoth, IsMerged};
+ghost use Rattle.dk_points.specs.Table.{Point};
+ghost use Rattle.dk_state.specs.Spelling.{IsSpelling};
+ghost use Rattle.dk_state.specs.StateFile.{state_file_of};
+ghost use Rattle.dk_template.specs.declared.grammar.Grammar.{Grammar as Grammars};
+
+use crate::engines::engines_of_both;
+use crate::fronts::front_of;
+use dk_base::{NoMemory, Text, same_bytes};
+use dk_join::JoinFault;
+use dk_state::{LoadFault, Loaded, load, save};
+use std::alloc::Global;
+use thiserror::Error;
+
+/// Why two state files make none.
+#[derive(Clone, Copy, Debug, Drop, PartialEq, Eq, Error)]
+pub enum MergeFault {
+    /// The first bytes are no spelling of a state.
+    #[error("the first is no state")]
+    BadFirst,
+    /// The second bytes are no spelling of a state.
+    #[error("the second is no state")]
+    BadSecond,
+    /// The two differ in front of what is kept of samples.
+    #[error("the states differ in what they declare")]
+    Different,
+    /// The join of a point's engines can't be saved.
+    #[error("the join of the states is no state")]
+    Joined,
+    /// Memory could not be had.
+    #[error("out of memory")]
+    NoMemory,
+}
+
+impl From<NoMemory> for MergeFault {
+    ghost use Rattle.std.specs.Prelude.{◌≡◌};
+    ghost use Rattle.dk_merge.specs.declared.merging.MergeFault.TheVariants as fault;
+
+    ghost from_gives = { λ _ e. e ≡ fault.NoMemory };
+
+    fn from(_: NoMemory) -> Self {
+        MergeFault::NoMemory
+    }
+}
+
+impl From<JoinFault> for MergeFault {
+    fn from(fault: JoinFault) -> Self {
+        match fault {
+            JoinFault::Joined => MergeFault::Joined,
+            JoinFault::NoMemory => MergeFault::NoMemory,
+        }
+    }
+}
+
+// What a state file says, or the fault for bytes that are none.
+fn load_or(alloc: Global, bytes: &[u8], bad: MergeFault) -> Result<Loaded, MergeFault> {
+    match load(alloc, bytes) {
+        Ok(loaded) => Ok(loaded),
+        Err(LoadFault::BadState) => Err(bad),
+        Err(LoadFault::NoMemory) => Err(MergeFault::NoMemory),
+    }
+}
+
+/// The state file of what two state files say together. Of files of histories of one table, comparability word and grammar it is that
+/// of the history with the samples of both. BadFirst and BadSecond come exactly where the bytes are no spelling, Different exactly
+/// where the files differ in front of their first line of `samples`, or of `end-state` where there is none; in this order.
+pub fn merge_two(alloc: Global, first: &[u8], second: &[u8]) -> Result<Text, MergeFault>
+    ensures merged { IfOk result (IsMerged first.now second.now) }
+    ensures both { (g : Grammars) (ps : List Point) (implicit : Bool) (own others : OwnSamples) → CanBeMerged g ps own others → state_file_of g ps implicit own ≡ first.now → state_file_of g ps implicit others ≡ second.now → GivesBoth g ps implicit own others result }
+    ensures bad_first { result ≡ Err MergeFault.BadFirst → IsSpelling first.now → ⊥ }
+    ensures bad_second { result ≡ Err MergeFault.BadSecond → IsSpelling first.now × (IsSpelling second.now → ⊥) }
+    ensures different { result ≡ Err MergeFault.Different → IsSpelling first.now × IsSpelling second.now × (front_of second.now ≢ front_of first.now) }
+{
+    let one = load_or(alloc, first, MergeFault::BadFirst)?;
+    let other = load_or(alloc, second, MergeFault::BadSecond)?;
+    if !same_bytes(front_of(first), front_of(second)) {
+        return Err(MergeFault::Different);
+    }
+    let engines = engines_of_both(alloc, one.engines, other.engines)?;
+    Ok(save(
+        alloc,
+        &one.points,
+        engines.as_slice(),
+        one.implicit,
+        one.grammar,
+    )?)
+}
