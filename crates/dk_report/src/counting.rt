@@ -1,39 +1,30 @@
 // In how many samples of a point each single variable is present, found once.
-ghost use Rattle.std.specs.Prelude.{◌≡◌, ◌==◌, ℕ, [], ◌∷◌, IfOk, IfSome, ◌+◌, None, replicate, slice_index_or};
-ghost use Rattle.dk_base.specs.declared.kinds.VarId.{VarId as Variable};
-ghost use Rattle.dk_classes.specs.Leaders.{own_leaders};
+ghost use Rattle.std.specs.Prelude.{◌≡◌, ◌<◌, ◌+◌, ◌*◌, ℕ, [], ◌∷◌, IfOk, IfSome, None, Some, length, replicate, slice_get, slice_index_or};
 ghost use Rattle.dk_engine.specs.Reading.{count_read};
-ghost use Rattle.dk_hierarchy.specs.Edges.{partner_at};
-ghost use Rattle.dk_hierarchy.specs.Merging.{AreWays, engine_at, merged_agree, merged_count, merged_state};
+ghost use Rattle.dk_hierarchy.specs.Descent.{IsDescent};
+ghost use Rattle.dk_hierarchy.specs.Merging.{AreWays, IsWay, engine_at, merged_agree, merged_count, merged_state};
+ghost use Rattle.dk_hierarchy.specs.Standing.{AreEnginesOf, IsMergedAt};
 ghost use Rattle.dk_presence.specs.Patterns.{capped, counted_by, has};
-ghost use Rattle.dk_report.specs.Counting.{AreAt, AreFound, brought, with_more};
+ghost use Rattle.dk_report.specs.Counting.{AreAt, AreFound, added, brought, partner_count, single_count};
 ghost use Rattle.dk_samples.specs.Leaders.{VarsAscend};
 
-use dk_base::{NoMemory, VarId, VarInfo};
+use dk_base::{NoMemory, PointId, VarId, VarInfo};
 use dk_engine::Engine;
-use dk_hierarchy::{Merged, Way};
-use dk_presence::Held;
+use dk_hierarchy::{Merged, Way, merge};
+use dk_points::Points;
 use dk_template::{Answers, RowId, State};
 use std::alloc::Global;
 use std::marker::Model;
 
-// So many samples more at a variable, if it has a place.
-fn add_count(counts: &mut Vec<u64>, v: VarId, more: u64)
-    ensures { (count : Variable → ℕ) → AreAt count counts.old.items → AreAt (λ w. with_more (v.0 == w.0) more (count w)) counts.new.items }
+// So many samples more at each of the variables that has a place.
+fn add_count(counts: &mut Vec<u64>, vars: &[VarId], more: u64)
+    ensures { counts.new.items ≡ added vars.now more counts.old.items }
 {
-    let place = v.0 as usize;
-    if place < counts.len() {
-        counts[place] = counts[place].saturating_add(more);
-    }
-}
-
-// The samples of a pattern more at each of its leaders.
-fn add_pattern(counts: &mut Vec<u64>, pattern: &Held)
-    requires { VarsAscend pattern.now.leaders }
-    ensures { (count : Variable → ℕ) → AreAt count counts.old.items → AreAt (λ v. with_more (has pattern.now.leaders v) pattern.now.count (count v)) counts.new.items }
-{
-    for leader in pattern.leaders.as_slice() {
-        add_count(counts, *leader, pattern.count);
+    for v in vars {
+        let place = v.0 as usize;
+        if place < counts.len() {
+            counts[place] = counts[place].saturating_add(more);
+        }
     }
 }
 
@@ -49,8 +40,9 @@ fn leader_counts(alloc: Global, engine: &Engine) -> Result<Vec<u64>, NoMemory>
     ensures { IfOk result (λ counts. AreAt (λ v. counted_by engine.now.kept.held (v ∷ [])) counts.items) }
 {
     let mut counts = zeros(alloc, engine.vars().len())?;
-    for pattern in engine.presence().held() {
-        add_pattern(&mut counts, pattern);
+    let held = engine.presence().held();
+    for pattern in held {
+        add_count(&mut counts, pattern.leaders.as_slice(), pattern.count);
     }
     Ok(counts)
 }
@@ -77,36 +69,52 @@ fn leader_count(engine: &Engine, counts: &[u64], v: VarId) -> Option<u64>
     }
 }
 
-// The partner of a variable, if it has one.
-fn partner_at(way: &Way, v: VarId) -> Option<VarId>
-    ensures { result ≡ partner_at way.now.partners v }
+// The partner of the variable at a place, if it has one.
+fn partner_at(way: &Way, place: usize) -> Option<VarId>
+    ensures { result ≡ slice_index_or way.now.partners place None }
 {
-    match way.partners.as_slice().get(v.0 as usize) {
+    match way.partners.as_slice().get(place) {
         None => None,
         Some(partner) => *partner,
     }
 }
 
-// In how many of the samples that a way brings the variable is present, if its partner leads its class or it has none.
-fn brought(engine: &Engine, counts: &[u64], way: &Way, v: VarId) -> Option<u64>
+// The count of a partner, if it leads its class.
+fn partner_count(engine: &Engine, counts: &[u64], partner: Option<VarId>) -> Option<u64>
     requires { AreAt (λ w. counted_by engine.now.kept.held (w ∷ [])) counts.now }
-    ensures { IfSome result (λ n. n ≡ capped (brought engine.now.kept way.now v)) }
+    ensures { IfSome result (λ n. n ≡ partner_count engine.now.kept partner) }
 {
-    match partner_at(way, v) {
+    match partner {
         None => Some(0),
-        Some(w) => match leader_count(engine, counts, w) {
-            None => None,
-            Some(once) => Some(once.saturating_mul(way.paths)),
-        },
+        Some(v) => leader_count(engine, counts, v),
     }
 }
 
-// The sum of both, if both are found.
-fn sum(a: Option<u64>, b: Option<u64>) -> Option<u64>
-    ensures { (n m : ℕ) → IfSome a.entry (λ x. x ≡ capped n) → IfSome b.entry (λ y. y ≡ capped m) → IfSome result (λ z. z ≡ capped (n + m)) }
+// So many times what is found.
+fn times(once: Option<u64>, paths: u64) -> Option<u64>
+    ensures { (n : ℕ) → IfSome once (λ x. x ≡ n) → IfSome result (λ z. z ≡ capped (n * paths)) }
 {
-    match (a, b) {
-        (Some(a), Some(b)) => Some(a.saturating_add(b)),
+    match once {
+        None => None,
+        Some(count) => Some(count.saturating_mul(paths)),
+    }
+}
+
+// In how many of the samples that a way brings the variable at a place is present, if that is found.
+fn brought(engine: &Engine, counts: &[u64], way: &Way, place: usize) -> Option<u64>
+    requires { AreAt (λ w. counted_by engine.now.kept.held (w ∷ [])) counts.now }
+    ensures { IfSome result (λ n. n ≡ capped (brought engine.now.kept way.now place)) }
+{
+    let once = partner_count(engine, counts, partner_at(way, place));
+    times(once, way.paths)
+}
+
+// The sum of both, if both are found.
+fn sum(one: Option<u64>, other: Option<u64>) -> Option<u64>
+    ensures { (n m : ℕ) → IfSome one (λ x. x ≡ capped n) → IfSome other (λ y. y ≡ capped m) → IfSome result (λ z. z ≡ capped (n + m)) }
+{
+    match (one, other) {
+        (Some(count), Some(more)) => Some(count.saturating_add(more)),
         _ => None,
     }
 }
@@ -114,26 +122,43 @@ fn sum(a: Option<u64>, b: Option<u64>) -> Option<u64>
 // The samples more that a way brings.
 fn add_way(found: &mut Vec<Option<u64>>, engine: &Engine, counts: &[u64], way: &Way)
     requires { AreAt (λ w. counted_by engine.now.kept.held (w ∷ [])) counts.now }
-    ensures { (count : Variable → ℕ) → AreFound (λ v. capped (count v)) found.old.items → AreFound (λ v. capped (count v + brought engine.now.kept way.now v)) found.new.items }
+    ensures { (count : ℕ → ℕ) → AreFound (λ v. capped (count v)) found.old.items → AreFound (λ v. capped (count v + brought engine.now.kept way.now v)) found.new.items }
 {
-    for place in 0..found.len() as u32 {
-        let more = brought(engine, counts, way, VarId(place));
-        found[place as usize] = sum(found[place as usize], more);
+    for place in 0..found.len() {
+        let more = brought(engine, counts, way, place);
+        found[place] = sum(found[place], more);
     }
 }
 
-// In how many samples each single variable is present, where that is found by one walk over the patterns of each way.
+// The engine that a way leads to.
+fn engine_at<'n>(merged: &Merged<'_>, engines: &'n [Engine], way: &Way) -> &'n Engine
+    requires engines { merged.now.engines ≡ engines.now }
+    requires way { IsWay merged.now way.now }
+    ensures { result.now ≡ engine_at merged.now way.now }
+{
+    &engines[way.point.0 as usize]
+}
+
+// So many counts of no samples.
+fn none_counted(alloc: Global, count: usize) -> Result<Vec<Option<u64>>, NoMemory>
+    ensures { IfOk result (λ found. found.items ≡ replicate count (Some 0)) }
+{
+    Ok(vec![in alloc; Some(0); count]?)
+}
+
+// In how many samples each single variable is present, where one walk over the patterns of each way tells it.
 fn single_counts(
     alloc: Global,
     merged: &Merged<'_>,
     engines: &[Engine],
 ) -> Result<Vec<Option<u64>>, NoMemory>
     requires { merged.now.engines ≡ engines.now }
-    ensures { IfOk result (λ found. AreFound (λ v. merged_count merged.now (v ∷ [])) found.items) }
+    ensures { IfOk result (λ found. AreFound (single_count merged.now) found.items) }
 {
-    let mut found = vec![in alloc; Some(0); merged.vars().len()]?;
-    for way in merged.ways() {
-        let engine = &engines[way.point.0 as usize];
+    let mut found = none_counted(alloc, merged.vars().len())?;
+    let ways = merged.ways();
+    for way in ways {
+        let engine = engine_at(merged, engines, way);
         let counts = leader_counts(alloc, engine)?;
         add_way(&mut found, engine, counts.as_slice(), way);
     }
@@ -158,20 +183,23 @@ pub(crate) struct Counted<'e> {
 }
 
 impl<'e> Model for Counted<'e> {
-    ghost use Rattle.std.specs.Prelude.{[], ◌∷◌};
-    ghost use Rattle.dk_hierarchy.specs.Merging.{Joint, merged_count};
-    ghost use Rattle.dk_report.specs.Counting.{AreFound};
+    ghost use Rattle.dk_hierarchy.specs.Merging.{Joint};
+    ghost use Rattle.dk_report.specs.Counting.{AreFound, single_count};
 
     ghost Value = { Joint };
 
     ghost view = { λ c. c.merged };
 
-    ghost invariant = { λ c. AreFound (λ v. merged_count c.merged (v ∷ [])) c.found.items };
+    ghost invariant = { λ c. AreFound (single_count c.merged) c.found.items };
 }
 
 impl<'e> Counted<'e> {
-    /// The same with these counts.
-    pub(crate) fn of(alloc: Global, merged: Merged<'e>, engines: &[Engine]) -> Result<Counted<'e>, NoMemory>
+    // The same with these counts.
+    fn of(
+        alloc: Global,
+        merged: Merged<'e>,
+        engines: &[Engine],
+    ) -> Result<Counted<'e>, NoMemory>
         requires { merged.engines ≡ engines.now }
         ensures { IfOk result (λ counted. counted ≡ merged) }
     {
@@ -230,4 +258,23 @@ impl<'e> Answers for Counted<'e> {
     fn agree(&self, v: VarId, w: VarId) -> bool {
         self.merged.agree(v, w)
     }
+}
+
+/// What answers for all samples of a point, with the counts of single variables found once.
+pub(crate) fn merge_counted<'e>(
+    alloc: Global,
+    points: &Points,
+    engines: &'e [Engine],
+    p: PointId,
+) -> Result<Counted<'e>, NoMemory>
+    requires point { p.0 < length points.now }
+    requires engines { AreEnginesOf points.now engines.now }
+    ensures here { IfOk result (λ counted. slice_get engines.now p.0 ≡ Some counted.here) }
+    ensures engines { IfOk result (λ counted. counted.engines ≡ engines.now) }
+    ensures ways { IfOk result (λ counted. IsDescent points.now p.0 counted.ways []) }
+    ensures stands { IfOk result (IsMergedAt points.now engines.now p.0) }
+{
+    let merged = merge(alloc, points, engines, p)?;
+    let counted = Counted::of(alloc, merged, engines)?;
+    Ok(counted)
 }
