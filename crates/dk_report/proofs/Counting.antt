@@ -1,9 +1,9 @@
 -- Counts of single variables, found once for a point, are those of what the engines keep.
-use Rattle.std.specs.Prelude.{◌≡◌, ◌<◌, ◌≤◌, ◌+◌, ◌*◌, ◌&&◌, ◌||◌, ◌==◌, ℕ, suc, Bool, true, false, All, IfSome, List, [], ◌∷◌, cond, length, refl, replicate, slice_index_or, slice_set, sum_by, take, tt, Option, Some, None}
+use Rattle.std.specs.Prelude.{◌≡◌, ◌<◌, ◌≤◌, ◌+◌, ◌*◌, ◌&&◌, ◌||◌, ◌==◌, ℕ, suc, Bool, true, false, All, IfSome, List, [], ◌∷◌, cond, length, refl, replicate, slice_index_or, slice_set, sum_by, take, Option, Some, None}
 use Rattle.std.specs.Prelude.{option_and_then, option_map}
 use Rattle.std.specs.Option.{option_map_or}
 use Rattle.std.proofs.Common.{◌∙◌, ap, arith, get_or, inl, inr, subst, sym}
-use Rattle.std.proofs.lemmas.Bool.{cases_Bool, cases_lt, eqb-false, eqb-true, ne_eqb}
+use Rattle.std.proofs.lemmas.Bool.{cases_Bool, cases_eq, cases_lt, eqb-false, eqb-true, ne_eqb}
 use Rattle.std.proofs.lemmas.Grind.{get_or-set_at}
 use Rattle.std.proofs.lemmas.List.{get_or-replicate, get_or-set_other, get_or_past, length-replicate, length-set, take_more}
 use Rattle.std.proofs.lemmas.List.Folds.{list_any_none}
@@ -82,9 +82,6 @@ pub walked : (held : List Held) → All (λ h. VarsAscend h.leaders) held → (i
 walked held ascend i h within is numbers are =
     subst (λ (k : Held). AreAt (λ v. counted_by (take (i + 1) held) (v ∷ [])) (added k.leaders k.count numbers)) (sym is) at
   where
-    pattern : Held
-    pattern = get_or held i h
-
     at : AreAt (λ v. counted_by (take (i + 1) held) (v ∷ [])) (added (get_or held i h).leaders (get_or held i h).count numbers)
     at v l =
         added-at (get_or held i h).leaders (get_or held i h).count (λ w. counted_by (take i held) (w ∷ [])) numbers (ascend i h within) are v l
@@ -113,28 +110,47 @@ none-found n count none v = elim (cases_lt v n) as (λ _. IfSome (slice_index_or
 through : (joint : Joint) (way : Way) (v : ℕ) → count_through joint (record { 0 = v } ∷ []) way ≡ brought (engine_at joint way).kept way v
 through joint way v = ap (λ n. n * way.paths) (by (slice_index_or way.partners v None))
   where
-    kept : Kept
-    kept = (engine_at joint way).kept
-
     by : (o : Option VarId) → option_map_or (count_read (engine_at joint way).kept) (option_and_then (λ w. option_map (λ rest. w ∷ rest) (Some [])) o) 0 ≡ partner_count (engine_at joint way).kept o
     by None = refl
     by (Some w) = refl
 
 -- one way more
-pub way-more : (joint : Joint) (i : ℕ) (way : Way) → i < length joint.ways → way ≡ get_or joint.ways i way → (engine : Whole) → engine ≡ engine_at joint way → (found : List (Option ℕ))
-    → AreFound (λ v. capped (sum_by (count_through joint (record { 0 = v } ∷ [])) (take i joint.ways) + brought engine.kept way v)) found
-    → AreFound (λ v. capped (sum_by (count_through joint (record { 0 = v } ∷ [])) (take (i + 1) joint.ways))) found
-way-more joint i way within is engine led found are v =
+pub way-more : (joint : Joint) (ways : List Way) (i : ℕ) (way : Way) → i < length ways → way ≡ get_or ways i way → (engine : Whole) → engine ≡ engine_at joint way → (found : List (Option ℕ))
+    → AreFound (λ v. capped (sum_by (count_through joint (record { 0 = v } ∷ [])) (take i ways) + brought engine.kept way v)) found
+    → AreFound (λ v. capped (sum_by (count_through joint (record { 0 = v } ∷ [])) (take (i + 1) ways))) found
+way-more joint ways i way within is engine led found are v =
     subst (λ n. IfSome (slice_index_or found v None) (λ k. k ≡ capped n)) sums (are v)
   where
-    f : Way → ℕ
-    f = count_through joint (record { 0 = v } ∷ [])
-
-    last : f (get_or joint.ways i way) ≡ brought engine.kept way v
+    last : count_through joint (record { 0 = v } ∷ []) (get_or ways i way) ≡ brought engine.kept way v
     last = ap (count_through joint (record { 0 = v } ∷ [])) (sym is) ∙ (through joint way v ∙ ap (λ (e : Whole). brought e.kept way v) (sym led))
 
-    sums : sum_by (count_through joint (record { 0 = v } ∷ [])) (take i joint.ways) + brought engine.kept way v ≡ sum_by (count_through joint (record { 0 = v } ∷ [])) (take (i + 1) joint.ways)
+    sums : sum_by (count_through joint (record { 0 = v } ∷ [])) (take i ways) + brought engine.kept way v ≡ sum_by (count_through joint (record { 0 = v } ∷ [])) (take (i + 1) ways)
     sums =
-        ap (λ n. sum_by (count_through joint (record { 0 = v } ∷ [])) (take i joint.ways) + n) (sym last)
-        ∙ (sym (sum_by_push (count_through joint (record { 0 = v } ∷ [])) (take i joint.ways) (get_or joint.ways i way))
-        ∙ ap (sum_by (count_through joint (record { 0 = v } ∷ []))) (sym (take_more joint.ways i way within)))
+        ap (λ n. sum_by (count_through joint (record { 0 = v } ∷ [])) (take i ways) + n) (sym last)
+        ∙ (sym (sum_by_push (count_through joint (record { 0 = v } ∷ [])) (take i ways) (get_or ways i way))
+        ∙ ap (sum_by (count_through joint (record { 0 = v } ∷ []))) (sym (take_more ways i way within)))
+
+-- ---- one place after another
+module _ (start : List (Option ℕ)) (more : ℕ → ℕ) where
+  -- what is found at the places before has so many more
+  abbrev pub AreDone : ℕ → List (Option ℕ) → Type 0
+  AreDone p found = (count : ℕ → ℕ) → AreFound (λ v. capped (count v)) start → (v : ℕ) → v < p → IfSome (slice_index_or found v None) (λ n. n ≡ capped (count v + more v))
+
+  pub place-done : (found : List (Option ℕ)) (p : ℕ) (put : Option ℕ) → p < length found → slice_index_or found p None ≡ slice_index_or start p None
+      → ((n : ℕ) → IfSome (slice_index_or found p None) (λ x. x ≡ capped n) → IfSome put (λ z. z ≡ capped (n + more p)))
+      → AreDone p found → AreDone (p + 1) (slice_set found p put)
+  place-done found p put within same sums done count are v l = elim (cases_eq v p) as (λ _. IfSome (slice_index_or (slice_set found p put) v None) (λ n. n ≡ capped (count v + more v))) [
+    | inl here ↦
+        (let first : IfSome (slice_index_or found p None) (λ x. x ≡ capped (count p)) = subst (λ (o : Option ℕ). IfSome o (λ x. x ≡ capped (count p))) (sym same) (are p) in
+        subst (λ (o : Option ℕ). IfSome o (λ n. n ≡ capped (count v + more v))) (sym (get_or-set_at found p v put None here within))
+        (subst (λ k. IfSome put (λ n. n ≡ capped (count k + more k))) (sym here) (sums (count p) first)))
+    | inr other ↦
+        (let before : v < p = (omega (arith, l, other)) in
+        subst (λ (o : Option ℕ). IfSome o (λ n. n ≡ capped (count v + more v))) (sym (get_or-set_other found p v put None other)) (done count are v before))
+  ]
+
+  pub all-done : (found : List (Option ℕ)) (p : ℕ) → length found ≤ p → AreDone p found → (count : ℕ → ℕ) → AreFound (λ v. capped (count v)) start → AreFound (λ v. capped (count v + more v)) found
+  all-done found p past done count are v = elim (cases_lt v p) as (λ _. IfSome (slice_index_or found v None) (λ n. n ≡ capped (count v + more v))) [
+    | inl before ↦ done count are v before
+    | inr beyond ↦ subst (λ (o : Option ℕ). IfSome o (λ n. n ≡ capped (count v + more v))) (sym (get_or_past found v None (omega (arith, past, beyond)))) tt
+  ]
