@@ -50,8 +50,8 @@ ascend-tail u vars up i j d lt l = up (suc i) (suc j) d (omega (arith, lt)) (ome
 not-later : (u : VarId) (vars : List VarId) (v : VarId) → VarsAscend (u ∷ vars) → u.0 ≡ v.0 → has vars v ≡ false
 not-later u vars v up same =
     list_any_none (λ w. w.0 == v.0) vars (λ k d l. ne_eqb (get_or vars k d).0 v.0 (λ equal.
-      let less = up 0 (suc k) d (omega arith) (omega (arith, l)) in
-      omega (arith, less, same, equal)))
+    let less = up 0 (suc k) d (omega arith) (omega (arith, l)) in
+    omega (arith, less, same, equal)))
 
 -- so many more at each of ascending variables
 added-at : (vars : List VarId) (more : ℕ) (count : VarId → ℕ) (numbers : List ℕ) → VarsAscend vars → AreAt count numbers → AreAt (λ v. with_more (has vars v) more (count v)) (added vars more numbers)

@@ -195,11 +195,7 @@ impl<'e> Model for Counted<'e> {
 
 impl<'e> Counted<'e> {
     // The same with these counts.
-    fn of(
-        alloc: Global,
-        merged: Merged<'e>,
-        engines: &[Engine],
-    ) -> Result<Counted<'e>, NoMemory>
+    fn of(alloc: Global, merged: Merged<'e>, engines: &[Engine]) -> Result<Counted<'e>, NoMemory>
         requires { merged.engines ≡ engines.now }
         ensures { IfOk result (λ counted. counted ≡ merged) }
     {
