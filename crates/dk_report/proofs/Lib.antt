@@ -25,4 +25,4 @@ pub mod Told
 pub mod Viewed
 pub mod Rules
 pub mod Shown
-pub mod Counting
+pub mod Counts

@@ -1,7 +1,7 @@
 use Rattle.std.specs.Prelude.{◌≡◌, ℕ, None, Option, length, refl, slice_index_or}
 use Rattle.std.proofs.Common.{◌∙◌, ap, arith, subst, sym}
 use Rattle.std.proofs.lemmas.List.{get_or-set_other, length-set}
-use Rattle.dk_report.proofs.Counting.{all-done, place-done}
+use Rattle.dk_report.proofs.Counts.{all-done, place-done}
 use Rattle.dk_report.specs.Counting.{brought}
 use Rattle.dk_report.proofs.counting.add_way.Goals as goal
 

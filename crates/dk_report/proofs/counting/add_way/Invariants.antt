@@ -1,5 +1,5 @@
 use Rattle.std.specs.Prelude.{◌≡◌, ◌≤◌, ℕ, None, length, slice_index_or}
-use Rattle.dk_report.proofs.Counting.{AreDone}
+use Rattle.dk_report.proofs.Counts.{AreDone}
 use Rattle.dk_report.specs.Counting.{brought}
 use Rattle.dk_report.proofs.counting.add_way.Given as goal
 

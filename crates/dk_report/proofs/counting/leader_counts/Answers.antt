@@ -4,7 +4,7 @@ use Rattle.std.proofs.lemmas.List.{take_all}
 use Rattle.dk_base.specs.declared.kinds.VarId.{VarId}
 use Rattle.dk_presence.specs.Patterns.{AreHeld, counted_by}
 use Rattle.dk_presence.specs.declared.held.Held.{Held}
-use Rattle.dk_report.proofs.Counting.{none-walked, walked}
+use Rattle.dk_report.proofs.Counts.{none-walked, walked}
 use Rattle.dk_report.specs.Counting.{AreAt, added}
 use Rattle.dk_report.proofs.counting.leader_counts.Goals as goal
 

@@ -4,7 +4,7 @@ use Rattle.std.proofs.lemmas.List.{take_all}
 use Rattle.dk_hierarchy.specs.Merging.{count_through, merged_count}
 use Rattle.dk_hierarchy.specs.declared.way.Way.{Way}
 use Rattle.dk_presence.specs.Patterns.{capped}
-use Rattle.dk_report.proofs.Counting.{none-found, way-more}
+use Rattle.dk_report.proofs.Counts.{none-found, way-more}
 use Rattle.dk_report.specs.Counting.{AreFound}
 use Rattle.dk_report.proofs.counting.single_counts.Goals as goal
 
