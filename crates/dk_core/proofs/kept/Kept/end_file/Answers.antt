@@ -1,5 +1,5 @@
 use Rattle.std.proofs.Common.{sym, subst}
-use Rattle.dk_core.specs.History.{file_ended}
+use Rattle.dk_blocks.specs.History.{file_ended}
 use Rattle.dk_core.specs.Keeping.{Keeping}
 use Rattle.dk_core.specs.Standing.{Stands}
 use Rattle.dk_core.proofs.kept.Kept.end_file.Goals as goal
