@@ -376,7 +376,11 @@ impl Kept {
     }
 
     /// With a declaration, whose block begins at this line, and what it was to the table.
-    pub(crate) fn with_declaration(self, line: u64, decl: PointDecl) -> Result<(Kept, Declared), BlockFault>
+    pub(crate) fn with_declaration(
+        self,
+        line: u64,
+        decl: PointDecl,
+    ) -> Result<(Kept, Declared), BlockFault>
         requires { HasFittingConstants decl }
         ensures gives { (h : History) → Stands self h → DeclaredAs result (with_declaration h line decl) }
         ensures points { IfOk result (λ r. Extends self.points r.0.points) }

@@ -63,8 +63,16 @@ returns-after-feed-clause-gives c h now were stands =
     let P : Result Unit Fault → Type 0 = λ r. TakenAs h (left_behind (record k { engines = slice_set k.engines p.0 c.feed.new.engine }) r) (outcome_of now (Some c.args.found)) in
     elim c.match-feed.branch [
       | in-Ok w ↦ subst P (sym w.result-is)
-          (subst (λ (f : Found). TakenAs h (Ok (record k { engines = slice_set k.engines p.0 c.feed.new.engine })) (outcome_of now (Some f))) (sym c.in-Sample.is)
-          (now, (Samples p.0 _ (values_of c.in-Sample.values.now), (refl, λ adds grammar.
-          sample_taken k p.0 c.index_mut.result.now c.feed.new.engine (values_of c.in-Sample.values.now) h now own c.self.invariant.engines at there w.in-Ok.ensures.stands adds grammar holds))))
+          (subst (λ (f : Found). TakenAs h (Ok (record k { engines = slice_set k.engines p.0 c.feed.new.engine })) (outcome_of now (Some f))) (sym c.in-Sample.is) (
+            now,
+            (
+              Samples p.0 _ (values_of c.in-Sample.values.now),
+              (
+                refl,
+                λ adds grammar.
+                    sample_taken k p.0 c.index_mut.result.now c.feed.new.engine (values_of c.in-Sample.values.now) h now own c.self.invariant.engines at there w.in-Ok.ensures.stands adds grammar holds,
+              ),
+            ),
+          ))
       | in-Err w ↦ subst P (sym w.result-is) tt
     ]
