@@ -48,7 +48,7 @@ fn blocks_with(blocks: u64, found: bool) -> u64
 impl<F: Fn(&[u8]) -> bool + Drop> Session<F> {
     /// The session of no blocks, by the second grammar. It reports the points whose names the selection answers `true` to. The selection
     /// may be asked of any name, any number of times.
-    #[tactic(auto, unfolding(crate::specs::History::no_history))]
+    #[tactic(auto, unfolding(dk_blocks::specs::History::no_history))]
     pub fn new(alloc: Global, select: F, options: Options) -> Result<Session<F>, NoMemory>
         ensures stands { IfOk result (λ s. SessionStandsFor s no_history) }
         ensures grammar { IfOk result (λ s. grammar_of s ≡ Grammar.Two) }
