@@ -439,12 +439,16 @@ plane_hull = record { same = flat_same; antisymmetric = flat_antisymmetric; tran
 Decides-nat_le : (a b : ℕ) → Decides (nat_le a b) (a ≤ b)
 Decides-nat_le a b = ((λ h. grind arith), (λ h. grind arith))
 
-pub point_of_limit : (p : ℤ × ℤ × ℤ) → in_space p ≡ true → IsPoint p
-point_of_limit p e =
+decides_limit : (p : ℤ × ℤ × ℤ) → Decides (in_space p) ((unsigned_abs p.0 ≤ 2 ^ 30) × ((unsigned_abs p.1 ≤ 2 ^ 30) × (unsigned_abs p.2 ≤ 2 ^ 30)))
+decides_limit p =
     let x = nat_le (unsigned_abs p.0) (2 ^ 30) in let y = nat_le (unsigned_abs p.1) (2 ^ 30) in let z = nat_le (unsigned_abs p.2) (2 ^ 30) in
-    let d = Decides-and x (y && z) (Decides-nat_le (unsigned_abs p.0) (2 ^ 30)) (Decides-and y z (Decides-nat_le (unsigned_abs p.1) (2 ^ 30)) (Decides-nat_le (unsigned_abs p.2) (2 ^ 30))) in
-    let h = d.0 e in
-    record { x = h.0; y = h.1.0; z = h.1.1 }
+    Decides-and x (y && z) (Decides-nat_le (unsigned_abs p.0) (2 ^ 30)) (Decides-and y z (Decides-nat_le (unsigned_abs p.1) (2 ^ 30)) (Decides-nat_le (unsigned_abs p.2) (2 ^ 30)))
+
+pub point_of_limit : (p : ℤ × ℤ × ℤ) → in_space p ≡ true → IsPoint p
+point_of_limit p e = let h = (decides_limit p).0 e in record { x = h.0; y = h.1.0; z = h.1.1 }
+
+pub limit_of_point : (p : ℤ × ℤ × ℤ) → IsPoint p → in_space p ≡ true
+limit_of_point p h = (decides_limit p).1 (h.x, (h.y, h.z))
 
 pub plane_known_of_is : IsHullOf IsPlaneFact PlaneLe (limited_one in_space point) plane_known_of
 plane_known_of_is =

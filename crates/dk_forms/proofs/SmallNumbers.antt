@@ -87,9 +87,3 @@ below_left x y k h = let l = le_or_l x y in let t = ltb-true (bit_or x y) k h in
 
 pub below_right : (x y k : ℕ) → nat_lt (bit_or x y) k ≡ true → y < k
 below_right x y k h = let l = le_or_r x y in let t = ltb-true (bit_or x y) k h in omega (arith, l, t)
-
-pub below_first : (x y z k : ℕ) → nat_lt (bit_or (bit_or x y) z) k ≡ true → x < k
-below_first x y z k h = let l = le_or_l x y in let t = below_left (bit_or x y) z k h in omega (arith, l, t)
-
-pub below_second : (x y z k : ℕ) → nat_lt (bit_or (bit_or x y) z) k ≡ true → y < k
-below_second x y z k h = let l = le_or_r x y in let t = below_left (bit_or x y) z k h in omega (arith, l, t)

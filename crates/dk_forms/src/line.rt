@@ -1,5 +1,5 @@
 // The form line: the point, or the line through all points.
-ghost use Rattle.std.specs.Prelude.{◌≡◌, ◌↔◌, ◌&&◌, false, ◌≤◌, ◌^◌, ℤ, pos, unsigned_abs, [], ◌∷◌, nat_le, IsTrue};
+ghost use Rattle.std.specs.Prelude.{◌≡◌, ◌↔◌, ◌&&◌, false, ◌^◌, ℤ, pos, unsigned_abs, [], ◌∷◌, nat_le, IsTrue};
 ghost use Rattle.dk_forms.specs.Known.{fact};
 ghost use Rattle.dk_forms.specs.Line.{straight, in_limit, same_point, is_on, through, IsSpot, IsStraight, IsLineState, line_state, line_join, line_of};
 
@@ -143,7 +143,6 @@ fn in_limit(x: i64, y: i64) -> bool
 }
 
 // Whether the point lies on the line and isn't beyond the limit.
-#[inline(never)]
 fn wide_meet(a: i128, b: i128, c: i128, x: i64, y: i64) -> bool
     requires { IsStraight (a, b, c) }
     ensures { result ≡ (in_limit (x, y) && is_on (a, b, c) (x, y)) }
@@ -155,35 +154,43 @@ fn wide_meet(a: i128, b: i128, c: i128, x: i64, y: i64) -> bool
     }
 }
 
-#[inline(always)]
-fn is_small(x: i64) -> bool
-    ensures { IsTrue result → unsigned_abs x ≤ 2 ^ 30 }
+// Whether a point leaves a state as it is, with numbers of any size. It stands apart so that a loop over states, which mostly are lines
+// of small numbers, branches at the others.
+#[cold]
+#[inline(never)]
+fn wide_stays(state: &State, x: i64, y: i64) -> bool
+    requires { IsLineState state.now }
+    ensures { IsTrue result ↔ (line_join state.now (line_of ((x, y) ∷ [])) ≡ state.now) }
 {
-    -(1 << 30) <= x && x < 1 << 30
-}
-
-// The same, in 64 bits where the numbers are small, as they mostly are.
-#[inline(always)]
-fn has_point(a: i128, b: i128, c: i128, x: i64, y: i64) -> bool
-    requires { IsStraight (a, b, c) }
-    ensures { result ≡ (in_limit (x, y) && is_on (a, b, c) (x, y)) }
-{
-    if small::are_two_factors(a, b) && is_small(x) && is_small(y) {
-        small::is_level(a as i64, b as i64, c, x, y)
-    } else {
-        wide_meet(a, b, c, x, y)
+    match state {
+        State::Spot { x: u, y: v } => is_same(*u, *v, x, y),
+        State::Straight { a, b, c } => wide_meet(*a, *b, *c, x, y),
+        _ => matches!(state, State::Broken),
     }
 }
 
-/// Whether a point leaves the state as it is.
+// The same of a line: in 64 bits where the numbers are small, as they mostly are.
+#[inline(always)]
+fn straight_stays(state: &State, a: i128, b: i128, c: i128, x: i64, y: i64) -> bool
+    requires line { IsStraight (a, b, c) }
+    requires state { state.now ≡ State.Straight a b c }
+    ensures { IsTrue result ↔ (line_join state.now (line_of ((x, y) ∷ [])) ≡ state.now) }
+{
+    if small::are_four_small(a, b, x, y) {
+        small::is_level(a as i64, b as i64, c, x, y)
+    } else {
+        wide_stays(state, x, y)
+    }
+}
+
+/// Whether a point leaves the state as it is. It looks for a line first, since most states of a run are lines.
 #[inline(always)]
 pub fn line_stays(state: &State, x: i64, y: i64) -> bool
     requires { IsLineState state.now }
     ensures { IsTrue result ↔ (line_join state.now (line_of ((x, y) ∷ [])) ≡ state.now) }
 {
     match state {
-        State::Spot { x: u, y: v } => is_same(*u, *v, x, y),
-        State::Straight { a, b, c } => has_point(*a, *b, *c, x, y),
-        _ => matches!(state, State::Broken),
+        State::Straight { a, b, c } => straight_stays(state, *a, *b, *c, x, y),
+        _ => wide_stays(state, x, y),
     }
 }

@@ -419,38 +419,17 @@ pub fn join_plane(left: State, right: &State) -> State
     joined_plane(left, right)
 }
 
-// Whether the point lies in the plane, in 64 bits where its factors are small, as they mostly are.
-#[inline(always)]
-fn has_point(n: Plane, p: Point) -> bool
-    requires n { IsPlane (quadruple n) }
-    requires p { IsPoint (triple p) }
-    ensures { result ≡ is_in_plane (quadruple n) (triple p) }
-{
-    if small::are_three_factors(n.a, n.b, n.c) {
-        small::is_flat(n.a as i64, n.b as i64, n.c as i64, n.d, p.x, p.y, p.z)
-    } else {
-        wide_meet(n.a, n.b, n.c, n.d, p.x, p.y, p.z)
-    }
-}
-
-// It takes numbers and no structs, so that the common case stores none.
-#[inline(never)]
-fn wide_meet(a: i128, b: i128, c: i128, d: i128, x: i64, y: i64, z: i64) -> bool
-    requires n { IsPlane (a, b, c, d) }
-    requires p { IsPoint (x, y, z) }
-    ensures { result ≡ is_in_plane (a, b, c, d) (x, y, z) }
-{
-    is_in_plane(Plane { a, b, c, d }, Point { x, y, z })
-}
-
-// The same of a point that may be beyond the limit.
-#[inline(always)]
+// Whether the point lies in the plane and isn't beyond the limit.
 #[tactic(auto, using(crate::proofs::PlaneFacts::point_of_limit))]
-fn plane_has(n: Plane, p: Point) -> bool
+fn wide_meet(n: Plane, p: Point) -> bool
     requires n { IsPlane (quadruple n) }
     ensures { result ≡ (in_space (triple p) && is_in_plane (quadruple n) (triple p)) }
 {
-    if is_point(p) { has_point(n, p) } else { false }
+    if is_point(p) {
+        is_in_plane(n, p)
+    } else {
+        false
+    }
 }
 
 // From p to q.
@@ -495,14 +474,12 @@ fn is_between(p: Point, q: Point, v: Point) -> bool
     }
 }
 
-#[inline(always)]
 fn is_near(x: i64) -> bool
     ensures { result ≡ nat_le (unsigned_abs x) (2 ^ 30) }
 {
     -(1 << 30) <= x && x <= 1 << 30
 }
 
-#[inline(always)]
 fn is_point(p: Point) -> bool
     ensures { result ≡ in_space (triple p) }
 {
@@ -522,10 +499,12 @@ fn span_has(p: Point, q: Point, v: Point) -> bool
     }
 }
 
-/// Whether a point leaves the state as it is.
-#[inline(always)]
+// Whether a point leaves a state as it is, with numbers of any size. It stands apart so that a loop over states, which mostly are planes
+// of small numbers, branches at the others.
+#[cold]
+#[inline(never)]
 #[tactic(auto, using(crate::proofs::PlaneStays::empty_moves))]
-pub fn plane_stays(state: &State, x: i64, y: i64, z: i64) -> bool
+fn wide_stays(state: &State, x: i64, y: i64, z: i64) -> bool
     requires { IsPlaneState state.now }
     ensures { IsTrue result ↔ (plane_join state.now (plane_of ((x, y, z) ∷ [])) ≡ state.now) }
 {
@@ -550,7 +529,7 @@ pub fn plane_stays(state: &State, x: i64, y: i64, z: i64) -> bool
             },
             Point { x, y, z },
         ),
-        State::Plane { a, b, c, d } => plane_has(
+        State::Plane { a, b, c, d } => wide_meet(
             Plane {
                 a: *a,
                 b: *b,
@@ -560,5 +539,40 @@ pub fn plane_stays(state: &State, x: i64, y: i64, z: i64) -> bool
             Point { x, y, z },
         ),
         _ => matches!(state, State::Broken),
+    }
+}
+
+// The same of a plane: in 64 bits where the numbers are small, as they mostly are.
+#[inline(always)]
+fn flat_stays(state: &State, n: Plane, p: Point) -> bool
+    requires n { IsPlane (quadruple n) }
+    requires state { state.now ≡ plane_state (fact (plane (quadruple n))) }
+    ensures { IsTrue result ↔ (plane_join state.now (plane_of (triple p ∷ [])) ≡ state.now) }
+{
+    if small::are_six_small(n.a, n.b, n.c, p.x, p.y, p.z) {
+        small::is_flat(n.a as i64, n.b as i64, n.c as i64, n.d, p.x, p.y, p.z)
+    } else {
+        wide_stays(state, p.x, p.y, p.z)
+    }
+}
+
+/// Whether a point leaves the state as it is. It looks for a plane first, since most states of a run are planes.
+#[inline(always)]
+pub fn plane_stays(state: &State, x: i64, y: i64, z: i64) -> bool
+    requires { IsPlaneState state.now }
+    ensures { IsTrue result ↔ (plane_join state.now (plane_of ((x, y, z) ∷ [])) ≡ state.now) }
+{
+    match state {
+        State::Plane { a, b, c, d } => flat_stays(
+            state,
+            Plane {
+                a: *a,
+                b: *b,
+                c: *c,
+                d: *d,
+            },
+            Point { x, y, z },
+        ),
+        _ => wide_stays(state, x, y, z),
     }
 }

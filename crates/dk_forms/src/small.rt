@@ -4,38 +4,68 @@ ghost use Rattle.std.specs.Ordering.{int_eq};
 ghost use Rattle.dk_forms.specs.Plane.{are_parallel};
 ghost use Rattle.dk_forms.specs.Points.{IsGap, step};
 
-// A number of 64 bits that is below 2^32 only where n is small. It takes the low half of n alone, which tells since n isn't wide.
+// A number of 64 bits that is below 2^31 only where n is small: at most 2^30 by its size. It takes the low half of n alone, which tells
+// since n isn't wide.
 #[inline(always)]
 fn spread(n: i128) -> u64
     requires { unsigned_abs n ≤ 2 ^ 63 }
-    ensures { result < 2 ^ 32 → unsigned_abs n ≤ 2 ^ 31 }
+    ensures { result < 2 ^ 31 → unsigned_abs n ≤ 2 ^ 30 }
 {
-    let above_zero = (n + ((1 << 64) + (1 << 31))) as u128;
+    let above_zero = (n + ((1 << 64) + (1 << 30))) as u128;
     (above_zero & 0xffff_ffff_ffff_ffff) as u64
 }
 
-/// Whether both numbers are small factors: at most 2^31 by their size.
+// The same of two numbers.
 #[inline(always)]
-pub(crate) fn are_two_factors(a: i128, b: i128) -> bool
+fn spread_of_two(a: i128, b: i128) -> u64
     requires a { unsigned_abs a ≤ 2 ^ 63 }
     requires b { unsigned_abs b ≤ 2 ^ 63 }
-    ensures a { IsTrue result → unsigned_abs a ≤ 2 ^ 31 }
-    ensures b { IsTrue result → unsigned_abs b ≤ 2 ^ 31 }
+    ensures a { result < 2 ^ 31 → unsigned_abs a ≤ 2 ^ 30 }
+    ensures b { result < 2 ^ 31 → unsigned_abs b ≤ 2 ^ 30 }
 {
-    spread(a) | spread(b) < 1 << 32
+    spread(a) | spread(b)
 }
 
-/// Whether the three numbers are small factors.
+// The same of three.
 #[inline(always)]
-pub(crate) fn are_three_factors(a: i128, b: i128, c: i128) -> bool
+fn spread_of_three(a: i128, b: i128, c: i128) -> u64
     requires a { unsigned_abs a ≤ 2 ^ 63 }
     requires b { unsigned_abs b ≤ 2 ^ 63 }
     requires c { unsigned_abs c ≤ 2 ^ 63 }
-    ensures a { IsTrue result → unsigned_abs a ≤ 2 ^ 31 }
-    ensures b { IsTrue result → unsigned_abs b ≤ 2 ^ 31 }
-    ensures c { IsTrue result → unsigned_abs c ≤ 2 ^ 31 }
+    ensures a { result < 2 ^ 31 → unsigned_abs a ≤ 2 ^ 30 }
+    ensures b { result < 2 ^ 31 → unsigned_abs b ≤ 2 ^ 30 }
+    ensures c { result < 2 ^ 31 → unsigned_abs c ≤ 2 ^ 30 }
 {
-    spread(a) | spread(b) | spread(c) < 1 << 32
+    spread_of_two(a, b) | spread(c)
+}
+
+/// Whether two factors and the coordinates of a point are all small. It jumps once.
+#[inline(always)]
+pub(crate) fn are_four_small(a: i128, b: i128, x: i64, y: i64) -> bool
+    requires a { unsigned_abs a ≤ 2 ^ 63 }
+    requires b { unsigned_abs b ≤ 2 ^ 63 }
+    ensures a { IsTrue result → unsigned_abs a ≤ 2 ^ 30 }
+    ensures b { IsTrue result → unsigned_abs b ≤ 2 ^ 30 }
+    ensures x { IsTrue result → unsigned_abs x ≤ 2 ^ 30 }
+    ensures y { IsTrue result → unsigned_abs y ≤ 2 ^ 30 }
+{
+    spread_of_two(a, b) | spread_of_two(x as i128, y as i128) < 1 << 31
+}
+
+/// Whether three factors and the coordinates of a point are all small. It jumps once.
+#[inline(always)]
+pub(crate) fn are_six_small(a: i128, b: i128, c: i128, x: i64, y: i64, z: i64) -> bool
+    requires a { unsigned_abs a ≤ 2 ^ 63 }
+    requires b { unsigned_abs b ≤ 2 ^ 63 }
+    requires c { unsigned_abs c ≤ 2 ^ 63 }
+    ensures a { IsTrue result → unsigned_abs a ≤ 2 ^ 30 }
+    ensures b { IsTrue result → unsigned_abs b ≤ 2 ^ 30 }
+    ensures c { IsTrue result → unsigned_abs c ≤ 2 ^ 30 }
+    ensures x { IsTrue result → unsigned_abs x ≤ 2 ^ 30 }
+    ensures y { IsTrue result → unsigned_abs y ≤ 2 ^ 30 }
+    ensures z { IsTrue result → unsigned_abs z ≤ 2 ^ 30 }
+{
+    spread_of_three(a, b, c) | spread_of_three(x as i128, y as i128, z as i128) < 1 << 31
 }
 
 /// `a * x`, which is exact.

@@ -1,8 +1,8 @@
-use Rattle.std.proofs.Common.{rules, ◌≡◌, [], ◌∷◌, ap, subst, ◌∙◌, ◌&&◌}
+use Rattle.std.proofs.Common.{rules, ◌≡◌, [], ◌∷◌, subst, ◌&&◌}
 use Rattle.dk_forms.proofs.LineStays.{spot_stays, straight_stays}
 use Rattle.dk_forms.proofs.Stays.{stays_by}
 use Rattle.dk_forms.specs.Line.{IsLineState, in_limit, is_on, line_join, line_of, same_point}
-use Rattle.dk_forms.proofs.line.line_stays.Goals as goal
+use Rattle.dk_forms.proofs.line.wide_stays.Goals as goal
 
 pub returns-in-Spot : goal.returns-in-Spot
 returns-in-Spot c =
@@ -13,5 +13,5 @@ returns-in-Spot c =
 pub returns-in-Straight : goal.returns-in-Straight
 returns-in-Straight c =
     let a = c.in-Straight.a in let b = c.in-Straight.b in let d = c.in-Straight.c in let x = c.args.x in let y = c.args.y in
-    let e : c.has_point.result ≡ (in_limit (x, y) && is_on (a, b, d) (x, y)) = search rules in
+    let e : c.wide_meet.result ≡ (in_limit (x, y) && is_on (a, b, d) (x, y)) = search rules in
     stays_by line_join (line_of ((x, y) ∷ [])) c.in-Straight.is e (straight_stays a b d x y)

@@ -2,7 +2,7 @@ use Rattle.std.proofs.Common.{rules, ◌≡◌, [], ◌∷◌, ◌&&◌, ℤ, su
 use Rattle.dk_forms.proofs.PlaneStays.{plane_stays, span_stays}
 use Rattle.dk_forms.proofs.Stays.{stays_by}
 use Rattle.dk_forms.specs.Plane.{IsPlaneState, are_aligned, in_space, is_before, is_in_plane, plane_join, plane_of}
-use Rattle.dk_forms.proofs.plane.plane_stays.Goals as goal
+use Rattle.dk_forms.proofs.plane.wide_stays.Goals as goal
 
 pub returns-in-Span : goal.returns-in-Span
 returns-in-Span c =
@@ -17,5 +17,5 @@ returns-in-Plane c =
     let k = c.in-Plane in
     let n : ℤ × ℤ × ℤ × ℤ = (k.a, k.b, k.c, k.d) in
     let v : ℤ × ℤ × ℤ = (c.args.x, c.args.y, c.args.z) in
-    let e : c.plane_has.result ≡ (in_space v && is_in_plane n v) = search rules in
+    let e : c.wide_meet.result ≡ (in_space v && is_in_plane n v) = search rules in
     stays_by plane_join (plane_of (v ∷ [])) k.is e (plane_stays n v)
