@@ -137,6 +137,21 @@ engines_still ps engines p old new at grammar infos are = record {
         (λ h. are.grammar i p engine old h.1 at)
         (get_set engines p i new engine is)
 
+-- no engines are those of no points
+none_at : (engines : List Whole) (i : ℕ) (engine : Whole) → engines ≡ [] → slice_get engines i ≡ Some engine → ⊥
+none_at [] i engine none at = cc at
+none_at (e ∷ es) i engine none at = cc none
+
+pub no_engines : (ps : List Point) (grammar : Grammar) (engines : List Whole) → ps ≡ [] → engines ≡ [] → AreEnginesOf ps engines × All (λ (e : Whole). e.grammar ≡ grammar) engines
+no_engines ps grammar engines no_points none = (
+  record {
+    long = ap length none ∙ sym (ap length no_points);
+    variables = λ i engine at. absurd (none_at engines i engine none at);
+    grammar = λ i j engine other at there. absurd (none_at engines i engine none at);
+  },
+  subst (λ (es : List Whole). All (λ (e : Whole). e.grammar ≡ grammar) es) (sym none) (All-nil (λ (e : Whole). e.grammar ≡ grammar)),
+)
+
 -- new ones stand behind the others
 pub engines_grown : (ps ps' : List Point) (grammar : Grammar) (engines all : List Whole) → Extends ps ps' → AreEnginesOf ps engines → All (λ (e : Whole). e.grammar ≡ grammar) engines
     → AreGrown ps' grammar engines all → AreEnginesOf ps' all × All (λ (e : Whole). e.grammar ≡ grammar) all

@@ -1,5 +1,5 @@
 -- The engines behind what a block does.
-use Rattle.std.proofs.Common.{◌≡◌, ◌∙◌, ◌<◌, ◌++◌, ℕ, Bool, true, List, [], ◌∷◌, is_some, length, slice_get, slice_set, Option, Some, None, Result, Ok, Err, IfSome, ap, arith, refl, subst, sym}
+use Rattle.std.proofs.Common.{◌≡◌, ◌∙◌, ◌<◌, ◌++◌, ℕ, Bool, true, false, List, [], ◌∷◌, is_some, length, slice_get, slice_set, Option, Some, None, Result, Ok, Err, IfSome, ap, arith, refl, subst, sym}
 use Rattle.std.proofs.lemmas.List.{append-nil}
 use Rattle.dk_base.specs.Reading.{LineFault}
 use Rattle.dk_base.specs.Shapes.{AreWithDerived}

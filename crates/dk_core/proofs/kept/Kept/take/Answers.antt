@@ -1,4 +1,4 @@
-use Rattle.std.proofs.Common.{◌≡◌, ◌∙◌, arith, refl, slice_get, slice_set, subst, sym, Unit, Some, Result, Ok}
+use Rattle.std.proofs.Common.{◌≡◌, ◌∙◌, ◌<◌, arith, length, refl, slice_get, slice_set, subst, sym, Some, Result, Ok}
 use Rattle.std.proofs.lemmas.List.Elements.{All-set}
 use Rattle.dk_base.specs.Values.{values_of}
 use Rattle.dk_base.specs.declared.faults.Fault.{Fault}
@@ -45,7 +45,7 @@ invariant_of-self c =
 pub returns-in-Nothing-clause-gives : goal.returns-in-Nothing-clause-gives
 returns-in-Nothing-clause-gives c h now were stands =
     subst (λ (f : Found). TakenAs h (Ok c.args.self.now) (outcome_of now (Some f))) (sym c.in-Nothing.is)
-    (now, (Nothing, (refl, λ adds grammar. nothing_taken c.args.self.now h now were adds grammar stands)))
+    (now, (Nothing, refl, λ adds grammar. nothing_taken c.args.self.now h now were adds grammar stands))
 
 pub returns-in-Declaration-clause-gives : goal.returns-in-Declaration-clause-gives
 returns-in-Declaration-clause-gives c h now were stands =
@@ -56,7 +56,7 @@ returns-after-feed-clause-gives c h now were stands =
     let k : Keeping = record { reader = c.self.inside.reader; grammar = c.self.inside.grammar; engines = c.self.inside.engines.items } in
     let p = c.in-Sample.point in
     let fits = subst (λ (f : Found). FoundFits (points_in k.reader) (Some f)) c.in-Sample.is (subst (λ (x : Keeping). FoundFits (points_in x.reader) (Some c.args.found)) (sym c.self.view_is) c.requires) in
-    let there = omega (arith, fits.0, c.self.invariant.engines.long) in
+    let there : p.0 < length k.engines = omega (arith, fits.0, c.self.invariant.engines.long) in
     let at : slice_get k.engines p.0 ≡ Some c.index_mut.result.now = got k.engines p.0 c.index_mut.result.now there c.index_mut.ensures.value in
     let own : EnginesWere k h = subst (λ (x : Keeping). EnginesWere x h) (sym c.self.view_is) were in
     let holds : ReaderStandsFor k.reader now = subst (λ (x : Keeping). ReaderStandsFor x.reader now) (sym c.self.view_is) stands in
@@ -67,11 +67,9 @@ returns-after-feed-clause-gives c h now were stands =
             now,
             (
               Samples p.0 _ (values_of c.in-Sample.values.now),
-              (
-                refl,
-                λ adds grammar.
-                    sample_taken k p.0 c.index_mut.result.now c.feed.new.engine (values_of c.in-Sample.values.now) h now own c.self.invariant.engines at there w.in-Ok.ensures.stands adds grammar holds,
-              ),
+              refl,
+              λ adds grammar.
+                  sample_taken k p.0 c.index_mut.result.now c.feed.new.engine (values_of c.in-Sample.values.now) h now own c.self.invariant.engines at there w.in-Ok.ensures.stands adds grammar holds,
             ),
           ))
       | in-Err w ↦ subst P (sym w.result-is) tt
