@@ -42,29 +42,29 @@ grammar_is k engines p sound same within =
     ap (λ (es : List Whole). grammar_at es p) same ∙ grammar_there k.engines k.grammar p sound.grammar (omega (arith, within, sound.engines.long))
 
 -- the engines stand for the own samples in the table as it is kept
-pub asked : (k : Keeping) (engines : List Whole) (h : History) → Stands k h → engines ≡ k.engines → EnginesStandFor engines (own_samples_of (points_in k.reader) h.samples)
+pub asked : (k : Keeping) (ps : List Point) (engines : List Whole) (h : History) → Stands k h → ps ≡ points_in k.reader → engines ≡ k.engines → EnginesStandFor engines (own_samples_of ps h.samples)
 unfolding Stands
-asked k engines h stands same =
-    subst (λ (es : List Whole). EnginesStandFor es (own_samples_of (points_in k.reader) h.samples)) (sym same)
-    (subst (λ (ps : List Point). EnginesStandFor k.engines (own_samples_of ps h.samples)) (sym (table_of k.reader h stands.reader)) stands.engines)
+asked k ps engines h stands table same =
+    subst (λ (es : List Whole). EnginesStandFor es (own_samples_of ps h.samples)) (sym same)
+    (subst (λ (qs : List Point). EnginesStandFor k.engines (own_samples_of qs h.samples)) (sym (table ∙ table_of k.reader h stands.reader)) stands.engines)
 
-pub has_told : (k : Keeping) (h : History) (p : ℕ) (some : Bool) → Stands k h → some ≡ has_samples_in (points_in k.reader) h.samples p → some ≡ has_samples h p
+pub has_told : (k : Keeping) (ps : List Point) (h : History) (p : ℕ) (some : Bool) → Stands k h → ps ≡ points_in k.reader → some ≡ has_samples_in ps h.samples p → some ≡ has_samples h p
 unfolding Stands
-has_told k h p some stands says = says ∙ ap (λ (ps : List Point). has_samples_in ps h.samples p) (table_of k.reader h stands.reader)
+has_told k ps h p some stands table says = says ∙ ap (λ (qs : List Point). has_samples_in qs h.samples p) (table ∙ table_of k.reader h stands.reader)
 
-pub section_told : (k : Keeping) (h : History) (p : ℕ) (options : Options) (old new : List ℕ) (grammar : Grammar) → Stands k h → grammar ≡ k.grammar
-    → new ≡ old ++ section_in grammar options (points_in k.reader) h.samples p → new ≡ old ++ section_in h.grammar options h.table h.samples p
+pub section_told : (k : Keeping) (ps : List Point) (h : History) (p : ℕ) (options : Options) (old new : List ℕ) (grammar : Grammar) → Stands k h → ps ≡ points_in k.reader → grammar ≡ k.grammar
+    → new ≡ old ++ section_in grammar options ps h.samples p → new ≡ old ++ section_in h.grammar options h.table h.samples p
 unfolding Stands
-section_told k h p options old new grammar stands is says =
-    says ∙ ap (λ (g : Grammar). old ++ section_in g options (points_in k.reader) h.samples p) (is ∙ stands.grammar)
-    ∙ ap (λ (ps : List Point). old ++ section_in h.grammar options ps h.samples p) (table_of k.reader h stands.reader)
+section_told k ps h p options old new grammar stands table is says =
+    says ∙ ap (λ (g : Grammar). old ++ section_in g options ps h.samples p) (is ∙ stands.grammar)
+    ∙ ap (λ (qs : List Point). old ++ section_in h.grammar options qs h.samples p) (table ∙ table_of k.reader h stands.reader)
 
-pub stats_told : (k : Keeping) (h : History) (p : ℕ) (old new : List ℕ) (grammar : Grammar) → Stands k h → grammar ≡ k.grammar
-    → new ≡ old ++ stats_in grammar (points_in k.reader) h.samples p → new ≡ old ++ stats_in h.grammar h.table h.samples p
+pub stats_told : (k : Keeping) (ps : List Point) (h : History) (p : ℕ) (old new : List ℕ) (grammar : Grammar) → Stands k h → ps ≡ points_in k.reader → grammar ≡ k.grammar
+    → new ≡ old ++ stats_in grammar ps h.samples p → new ≡ old ++ stats_in h.grammar h.table h.samples p
 unfolding Stands
-stats_told k h p old new grammar stands is says =
-    says ∙ ap (λ (g : Grammar). old ++ stats_in g (points_in k.reader) h.samples p) (is ∙ stands.grammar)
-    ∙ ap (λ (ps : List Point). old ++ stats_in h.grammar ps h.samples p) (table_of k.reader h stands.reader)
+stats_told k ps h p old new grammar stands table is says =
+    says ∙ ap (λ (g : Grammar). old ++ stats_in g ps h.samples p) (is ∙ stands.grammar)
+    ∙ ap (λ (qs : List Point). old ++ stats_in h.grammar qs h.samples p) (table ∙ table_of k.reader h stands.reader)
 
 -- ---- names
 

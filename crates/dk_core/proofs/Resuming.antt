@@ -46,18 +46,18 @@ unfolding state_file
 loaded_as h bytes Q is f = f is
 
 -- the state of what is kept
-pub state_told : (k : Keeping) (h : History) (engines : List Whole) (implicit : Bool) (old new : List ℕ) → IsSound k → Stands k h → engines ≡ k.engines → implicit ≡ is_implicit h.header
-    → ((own : OwnSamples) → StandForHistory k.grammar (points_in k.reader) engines own → new ≡ old ++ state_file_of k.grammar (points_in k.reader) implicit own) → new ≡ old ++ state_file h
+pub state_told : (k : Keeping) (h : History) (ps : List Point) (engines : List Whole) (implicit : Bool) (old new : List ℕ) → IsSound k → Stands k h → ps ≡ points_in k.reader → engines ≡ k.engines → implicit ≡ is_implicit h.header
+    → ((own : OwnSamples) → StandForHistory k.grammar ps engines own → new ≡ old ++ state_file_of k.grammar ps implicit own) → new ≡ old ++ state_file h
 unfolding Stands state_file
-state_told k h engines implicit old new sound stands same word says =
-    let table : points_in k.reader ≡ h.table = table_of k.reader h stands.reader in
+state_told k h ps engines implicit old new sound stands there same word says =
+    let table : ps ≡ h.table = there ∙ table_of k.reader h stands.reader in
     says h.samples (record {
-      of_table = subst (AreEnginesOf (points_in k.reader)) (sym same) sound.engines;
+      of_table = subst (λ (qs : List Point). AreEnginesOf qs engines) (sym there) (subst (AreEnginesOf (points_in k.reader)) (sym same) sound.engines);
       of_grammar = subst (λ (es : List Whole). All (λ (e : Whole). e.grammar ≡ k.grammar) es) (sym same) sound.grammar;
-      standing = asked k engines h stands same;
+      standing = asked k ps engines h stands there same;
     })
-    ∙ ap (λ (g : Grammar). old ++ state_file_of g (points_in k.reader) implicit h.samples) stands.grammar
-    ∙ ap (λ (ps : List Point). old ++ state_file_of h.grammar ps implicit h.samples) table
+    ∙ ap (λ (g : Grammar). old ++ state_file_of g ps implicit h.samples) stands.grammar
+    ∙ ap (λ (qs : List Point). old ++ state_file_of h.grammar qs implicit h.samples) table
     ∙ ap (λ (b : Bool). old ++ state_file_of h.grammar h.table b h.samples) word
 
 -- the state file of a start is one
