@@ -12,3 +12,4 @@ pub mod Asked
 pub mod Narrowing
 pub mod Viewing
 pub mod Parents
+pub mod Counting

@@ -6,6 +6,7 @@ ghost use Rattle.dk_report.specs.Asked.{CanBeAsked, listed_candidates_by};
 ghost use Rattle.dk_template.specs.Templates.{IsRow, IsRowOf};
 
 use crate::Options;
+use crate::counting::Counted;
 use crate::keeping::keeps;
 use dk_base::{List, NoMemory, VarId, VarInfo};
 use dk_filters::{Candidate, ParentView, PointFacts, judge_with};
@@ -45,7 +46,7 @@ pub(crate) struct Asking<'a, 'e> {
     pub(crate) alloc: Global,
     pub(crate) grammar: Grammar,
     pub(crate) options: &'a Options,
-    pub(crate) here: &'a Merged<'e>,
+    pub(crate) here: &'a Counted<'e>,
     pub(crate) parents: &'a [ParentView<'a, Merged<'e>>],
     pub(crate) found: &'a PointFacts,
 }

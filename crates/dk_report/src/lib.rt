@@ -2,6 +2,7 @@
 #![tactic(auto)]
 
 mod asking;
+mod counting;
 mod keeping;
 pub mod laws;
 mod narrowing;

@@ -8,6 +8,7 @@ ghost use Rattle.dk_report.specs.Reports.{has_samples, kept_instances, section_o
 
 use crate::Options;
 use crate::asking::Asking;
+use crate::counting::merge_counted;
 use crate::parents::{parents_of, views_of};
 use dk_base::{List, NoMemory, PointId, Text};
 use dk_engine::Engine;
@@ -32,7 +33,7 @@ pub fn kept_instances(
     requires engines { AreEnginesOf points.now engines.now }
     ensures { IfOk result (λ list. (own : OwnSamples) → EnginesStandFor engines.now (own_samples_of points.now own) → list ≡ kept_instances (grammar_at engines.now p.0) options.now points.now own p.0) }
 {
-    let here = merge(alloc, points, engines, p)?;
+    let here = merge_counted(alloc, points, engines, p)?;
     let parents = parents_of(alloc, points, engines, p)?;
     let views = views_of(alloc, parents.as_slice())?;
     let engine = &engines[p.0 as usize];

@@ -1,0 +1,275 @@
+// In how many samples of a point each single variable is present, found once.
+ghost use Rattle.std.specs.Prelude.{◌≡◌, ◌<◌, ◌+◌, ◌*◌, ℕ, [], ◌∷◌, IfOk, IfSome, None, Some, length, replicate, slice_get, slice_index_or};
+ghost use Rattle.dk_engine.specs.Reading.{count_read};
+ghost use Rattle.dk_hierarchy.specs.Descent.{IsDescent};
+ghost use Rattle.dk_hierarchy.specs.Merging.{AreWays, IsWay, engine_at, merged_agree, merged_count, merged_state};
+ghost use Rattle.dk_hierarchy.specs.Standing.{AreEnginesOf, IsMergedAt};
+ghost use Rattle.dk_presence.specs.Patterns.{capped, counted_by, has};
+ghost use Rattle.dk_report.specs.Counting.{AreAt, AreFound, added, brought, partner_count, single_count};
+ghost use Rattle.dk_samples.specs.Leaders.{VarsAscend};
+
+use dk_base::{NoMemory, PointId, VarId, VarInfo};
+use dk_engine::Engine;
+use dk_hierarchy::{Merged, Way, merge};
+use dk_points::Points;
+use dk_template::{Answers, RowId, State};
+use std::alloc::Global;
+use std::marker::Model;
+
+// So many samples more at each of the variables that has a place.
+fn add_count(counts: &mut Vec<u64>, vars: &[VarId], more: u64)
+    ensures { counts.new.items ≡ added vars.now more counts.old.items }
+{
+    for v in vars {
+        let place = v.0 as usize;
+        if place < counts.len() {
+            counts[place] = counts[place].saturating_add(more);
+        }
+    }
+}
+
+// So many zeros.
+fn zeros(alloc: Global, count: usize) -> Result<Vec<u64>, NoMemory>
+    ensures { IfOk result (λ zeros. zeros.items ≡ replicate count 0) }
+{
+    Ok(vec![in alloc; 0; count]?)
+}
+
+// In how many samples of an engine each variable is present that leads its class, by one walk over the patterns.
+fn leader_counts(alloc: Global, engine: &Engine) -> Result<Vec<u64>, NoMemory>
+    ensures { IfOk result (λ counts. AreAt (λ v. counted_by engine.now.kept.held (v ∷ [])) counts.items) }
+{
+    let mut counts = zeros(alloc, engine.vars().len())?;
+    let held = engine.presence().held();
+    for pattern in held {
+        add_count(&mut counts, pattern.leaders.as_slice(), pattern.count);
+    }
+    Ok(counts)
+}
+
+// Whether the variable is one of these, which ascend.
+fn contains(vars: &[VarId], v: VarId) -> bool
+    requires { VarsAscend vars.now }
+    ensures { result ≡ has vars.now v }
+{
+    vars.binary_search_by_key(&v.0, |w| w.0).is_ok()
+}
+
+// The count of a variable that leads its class.
+fn leader_count(engine: &Engine, counts: &[u64], v: VarId) -> Option<u64>
+    requires { AreAt (λ w. counted_by engine.now.kept.held (w ∷ [])) counts.now }
+    ensures { IfSome result (λ n. n ≡ count_read engine.now.kept (v ∷ [])) }
+{
+    if !contains(engine.classes().leaders(), v) {
+        return None;
+    }
+    match counts.get(v.0 as usize) {
+        Some(count) => Some(*count),
+        None => None,
+    }
+}
+
+// The partner of the variable at a place, if it has one.
+fn partner_at(way: &Way, place: usize) -> Option<VarId>
+    ensures { result ≡ slice_index_or way.now.partners place None }
+{
+    match way.partners.as_slice().get(place) {
+        None => None,
+        Some(partner) => *partner,
+    }
+}
+
+// The count of a partner, if it leads its class.
+fn partner_count(engine: &Engine, counts: &[u64], partner: Option<VarId>) -> Option<u64>
+    requires { AreAt (λ w. counted_by engine.now.kept.held (w ∷ [])) counts.now }
+    ensures { IfSome result (λ n. n ≡ partner_count engine.now.kept partner) }
+{
+    match partner {
+        None => Some(0),
+        Some(v) => leader_count(engine, counts, v),
+    }
+}
+
+// So many times what is found.
+fn times(once: Option<u64>, paths: u64) -> Option<u64>
+    ensures { (n : ℕ) → IfSome once (λ x. x ≡ n) → IfSome result (λ z. z ≡ capped (n * paths)) }
+{
+    match once {
+        None => None,
+        Some(count) => Some(count.saturating_mul(paths)),
+    }
+}
+
+// In how many of the samples that a way brings the variable at a place is present, if that is found.
+fn count_through(engine: &Engine, counts: &[u64], way: &Way, place: usize) -> Option<u64>
+    requires { AreAt (λ w. counted_by engine.now.kept.held (w ∷ [])) counts.now }
+    ensures { IfSome result (λ n. n ≡ capped (brought engine.now.kept way.now place)) }
+{
+    let once = partner_count(engine, counts, partner_at(way, place));
+    times(once, way.paths)
+}
+
+// The sum of both, if both are found.
+fn sum(one: Option<u64>, other: Option<u64>) -> Option<u64>
+    ensures { (n m : ℕ) → IfSome one (λ x. x ≡ capped n) → IfSome other (λ y. y ≡ capped m) → IfSome result (λ z. z ≡ capped (n + m)) }
+{
+    match (one, other) {
+        (Some(count), Some(more)) => Some(count.saturating_add(more)),
+        _ => None,
+    }
+}
+
+// The samples more that a way brings.
+fn add_way(found: &mut Vec<Option<u64>>, engine: &Engine, counts: &[u64], way: &Way)
+    requires { AreAt (λ w. counted_by engine.now.kept.held (w ∷ [])) counts.now }
+    ensures { (count : ℕ → ℕ) → AreFound (λ v. capped (count v)) found.old.items → AreFound (λ v. capped (count v + brought engine.now.kept way.now v)) found.new.items }
+{
+    for place in 0..found.len() {
+        let more = count_through(engine, counts, way, place);
+        found[place] = sum(found[place], more);
+    }
+}
+
+// The engine that a way leads to.
+fn engine_at<'n>(merged: &Merged<'_>, engines: &'n [Engine], way: &Way) -> &'n Engine
+    requires engines { merged.now.engines ≡ engines.now }
+    requires way { IsWay merged.now way.now }
+    ensures { result.now ≡ engine_at merged.now way.now }
+{
+    &engines[way.point.0 as usize]
+}
+
+// So many counts of no samples.
+fn none_counted(alloc: Global, count: usize) -> Result<Vec<Option<u64>>, NoMemory>
+    ensures { IfOk result (λ found. found.items ≡ replicate count (Some 0)) }
+{
+    Ok(vec![in alloc; Some(0); count]?)
+}
+
+// In how many samples each single variable is present, where one walk over the patterns of each way tells it.
+fn single_counts(
+    alloc: Global,
+    merged: &Merged<'_>,
+    engines: &[Engine],
+) -> Result<Vec<Option<u64>>, NoMemory>
+    requires { merged.now.engines ≡ engines.now }
+    ensures { IfOk result (λ found. AreFound (single_count merged.now) found.items) }
+{
+    let mut found = none_counted(alloc, merged.vars().len())?;
+    let ways = merged.ways();
+    for way in ways {
+        let engine = engine_at(merged, engines, way);
+        let counts = leader_counts(alloc, engine)?;
+        add_way(&mut found, engine, counts.as_slice(), way);
+    }
+    Ok(found)
+}
+
+// What is found of a variable.
+fn found_at(found: &[Option<u64>], v: VarId) -> Option<u64>
+    ensures { result ≡ slice_index_or found.now v.0 None }
+{
+    match found.get(v.0 as usize) {
+        None => None,
+        Some(count) => *count,
+    }
+}
+
+/// What answers for all samples of a point, with the counts of single variables found once.
+#[derive(Drop)]
+pub(crate) struct Counted<'e> {
+    merged: Merged<'e>,
+    found: Vec<Option<u64>>,
+}
+
+impl<'e> Model for Counted<'e> {
+    ghost use Rattle.dk_hierarchy.specs.Merging.{Joint};
+    ghost use Rattle.dk_report.specs.Counting.{AreFound, single_count};
+
+    ghost Value = { Joint };
+
+    ghost view = { λ c. c.merged };
+
+    ghost invariant = { λ c. AreFound (single_count c.merged) c.found.items };
+}
+
+impl<'e> Counted<'e> {
+    // The same with these counts.
+    fn of(alloc: Global, merged: Merged<'e>, engines: &[Engine]) -> Result<Counted<'e>, NoMemory>
+        requires { merged.engines ≡ engines.now }
+        ensures { IfOk result (λ counted. counted ≡ merged.entry) }
+    {
+        let found = single_counts(alloc, &merged, engines)?;
+        Ok(Counted { merged, found })
+    }
+
+    /// The point's variables.
+    pub(crate) fn vars(&self) -> &[VarInfo]
+        ensures { result.now ≡ self.now.here.infos }
+    {
+        self.merged.vars()
+    }
+
+    /// The ways down from the point.
+    pub(crate) fn ways(&self) -> &[Way]
+        ensures ways { result.now ≡ self.now.ways }
+        ensures asked { AreWays self.now }
+    {
+        self.merged.ways()
+    }
+
+    // The count that is found of these variables.
+    fn found_count(&self, vars: &[VarId]) -> Option<u64>
+        ensures { IfSome result (λ n. n ≡ merged_count self.now vars.now) }
+    {
+        match vars {
+            [v] => found_at(self.found.as_slice(), *v),
+            _ => None,
+        }
+    }
+}
+
+impl<'e> Answers for Counted<'e> {
+    ghost grammar = { λ c. c.here.grammar };
+
+    ghost infos = { λ c. c.here.infos };
+
+    ghost answered = { merged_state };
+
+    ghost counted = { merged_count };
+
+    ghost agreeing = { merged_agree };
+
+    fn answer(&self, row: RowId, vars: &[VarId]) -> Result<State, NoMemory> {
+        self.merged.answer(row, vars)
+    }
+
+    fn count(&self, vars: &[VarId]) -> u64 {
+        match self.found_count(vars) {
+            Some(count) => count,
+            None => self.merged.count(vars),
+        }
+    }
+
+    fn agree(&self, v: VarId, w: VarId) -> bool {
+        self.merged.agree(v, w)
+    }
+}
+
+/// What answers for all samples of a point, with the counts of single variables found once.
+pub(crate) fn merge_counted<'e>(
+    alloc: Global,
+    points: &Points,
+    engines: &'e [Engine],
+    p: PointId,
+) -> Result<Counted<'e>, NoMemory>
+    requires point { p.0 < length points.now }
+    requires engines { AreEnginesOf points.now engines.now }
+    ensures here { IfOk result (λ counted. slice_get engines.now p.0 ≡ Some counted.here) }
+    ensures engines { IfOk result (λ counted. counted.engines ≡ engines.now) }
+    ensures ways { IfOk result (λ counted. IsDescent points.now p.0 counted.ways []) }
+    ensures stands { IfOk result (IsMergedAt points.now engines.now p.0) }
+{
+    let merged = merge(alloc, points, engines, p)?;
+    Counted::of(alloc, merged, engines)
+}
