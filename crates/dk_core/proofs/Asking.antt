@@ -5,14 +5,16 @@ use Rattle.std.proofs.lemmas.List.Elements.{All-head, All-tail}
 use Rattle.std.specs.Prelude.{OnOk, slice_index_or}
 use Rattle.dk_engine.specs.Levels.{Whole}
 use Rattle.dk_hierarchy.specs.Samples.{own_samples_of}
-use Rattle.dk_hierarchy.specs.Standing.{EngineStandsFor, EnginesStandFor}
+use Rattle.dk_hierarchy.specs.Standing.{EnginesStandFor}
 use Rattle.dk_points.specs.Table.{Point, names}
 use Rattle.dk_report.specs.Engines.{grammar_at}
 use Rattle.dk_report.specs.Reports.{has_samples as has_samples_in, section_of as section_in}
 use Rattle.dk_report.specs.Sizes.{stats_of as stats_in}
 use Rattle.dk_report.specs.declared.options.Options.{Options}
 use Rattle.dk_template.specs.declared.grammar.Grammar.{Grammar}
-use Rattle.dk_core.specs.History.{History}
+use Rattle.dk_blocks.specs.History.{History}
+use Rattle.dk_blocks.specs.Standing.{points_of as points_in}
+use Rattle.dk_core.proofs.Taking.{table_of}
 use Rattle.dk_core.specs.Keeping.{IsSound, Keeping}
 use Rattle.dk_core.specs.Sections.{has_samples, has_section, name_in_history, section_of, some_if}
 use Rattle.dk_core.specs.Standing.{Stands}
@@ -35,34 +37,34 @@ grammar_there (e ∷ es) grammar zero all there = All-head (λ (x : Whole). x.gr
 grammar_there (e ∷ es) grammar (suc p) all there = grammar_there es grammar p (All-tail (λ (x : Whole). x.grammar ≡ grammar) e es all) (omega arith)
 
 -- the grammar of a point's engine is that of all
-pub grammar_is : (k : Keeping) (engines : List Whole) (p : ℕ) → IsSound k → engines ≡ k.engines → p < length k.points → grammar_at engines p ≡ k.grammar
+pub grammar_is : (k : Keeping) (engines : List Whole) (p : ℕ) → IsSound k → engines ≡ k.engines → p < length (points_in k.reader) → grammar_at engines p ≡ k.grammar
 grammar_is k engines p sound same within =
     ap (λ (es : List Whole). grammar_at es p) same ∙ grammar_there k.engines k.grammar p sound.grammar (omega (arith, within, sound.engines.long))
 
 -- the engines stand for the own samples in the table as it is kept
-pub asked : (k : Keeping) (engines : List Whole) (h : History) → Stands k h → engines ≡ k.engines → EnginesStandFor engines (own_samples_of k.points h.samples)
+pub asked : (k : Keeping) (ps : List Point) (engines : List Whole) (h : History) → Stands k h → ps ≡ points_in k.reader → engines ≡ k.engines → EnginesStandFor engines (own_samples_of ps h.samples)
 unfolding Stands
-asked k engines h stands same =
-    subst (λ (es : List Whole). EnginesStandFor es (own_samples_of k.points h.samples)) (sym same)
-    (subst (λ (ps : List Point). EnginesStandFor k.engines (own_samples_of ps h.samples)) (sym stands.table) stands.engines)
+asked k ps engines h stands table same =
+    subst (λ (es : List Whole). EnginesStandFor es (own_samples_of ps h.samples)) (sym same)
+    (subst (λ (qs : List Point). EnginesStandFor k.engines (own_samples_of qs h.samples)) (sym (table ∙ table_of k.reader h stands.reader)) stands.engines)
 
-pub has_told : (k : Keeping) (h : History) (p : ℕ) (some : Bool) → Stands k h → some ≡ has_samples_in k.points h.samples p → some ≡ has_samples h p
+pub has_told : (k : Keeping) (ps : List Point) (h : History) (p : ℕ) (some : Bool) → Stands k h → ps ≡ points_in k.reader → some ≡ has_samples_in ps h.samples p → some ≡ has_samples h p
 unfolding Stands
-has_told k h p some stands says = says ∙ ap (λ (ps : List Point). has_samples_in ps h.samples p) stands.table
+has_told k ps h p some stands table says = says ∙ ap (λ (qs : List Point). has_samples_in qs h.samples p) (table ∙ table_of k.reader h stands.reader)
 
-pub section_told : (k : Keeping) (h : History) (p : ℕ) (options : Options) (old new : List ℕ) (grammar : Grammar) → Stands k h → grammar ≡ k.grammar
-    → new ≡ old ++ section_in grammar options k.points h.samples p → new ≡ old ++ section_in h.grammar options h.table h.samples p
+pub section_told : (k : Keeping) (ps : List Point) (h : History) (p : ℕ) (options : Options) (old new : List ℕ) (grammar : Grammar) → Stands k h → ps ≡ points_in k.reader → grammar ≡ k.grammar
+    → new ≡ old ++ section_in grammar options ps h.samples p → new ≡ old ++ section_in h.grammar options h.table h.samples p
 unfolding Stands
-section_told k h p options old new grammar stands is says =
-    says ∙ ap (λ (g : Grammar). old ++ section_in g options k.points h.samples p) (is ∙ stands.grammar)
-    ∙ ap (λ (ps : List Point). old ++ section_in h.grammar options ps h.samples p) stands.table
+section_told k ps h p options old new grammar stands table is says =
+    says ∙ ap (λ (g : Grammar). old ++ section_in g options ps h.samples p) (is ∙ stands.grammar)
+    ∙ ap (λ (qs : List Point). old ++ section_in h.grammar options qs h.samples p) (table ∙ table_of k.reader h stands.reader)
 
-pub stats_told : (k : Keeping) (h : History) (p : ℕ) (old new : List ℕ) (grammar : Grammar) → Stands k h → grammar ≡ k.grammar
-    → new ≡ old ++ stats_in grammar k.points h.samples p → new ≡ old ++ stats_in h.grammar h.table h.samples p
+pub stats_told : (k : Keeping) (ps : List Point) (h : History) (p : ℕ) (old new : List ℕ) (grammar : Grammar) → Stands k h → ps ≡ points_in k.reader → grammar ≡ k.grammar
+    → new ≡ old ++ stats_in grammar ps h.samples p → new ≡ old ++ stats_in h.grammar h.table h.samples p
 unfolding Stands
-stats_told k h p old new grammar stands is says =
-    says ∙ ap (λ (g : Grammar). old ++ stats_in g k.points h.samples p) (is ∙ stands.grammar)
-    ∙ ap (λ (ps : List Point). old ++ stats_in h.grammar ps h.samples p) stands.table
+stats_told k ps h p old new grammar stands table is says =
+    says ∙ ap (λ (g : Grammar). old ++ stats_in g ps h.samples p) (is ∙ stands.grammar)
+    ∙ ap (λ (qs : List Point). old ++ stats_in h.grammar qs h.samples p) (table ∙ table_of k.reader h stands.reader)
 
 -- ---- names
 

@@ -41,18 +41,20 @@ use Rattle.dk_state.specs.Spelling.{CanBeSaved, IsOwnTable, compact_form_at}
 use Rattle.dk_trace.specs.Fitting.{FitKinds}
 use Rattle.dk_trace.specs.Records.{Sample, sample_of}
 use Rattle.dk_template.specs.declared.grammar.Grammar.{Grammar}
-use Rattle.dk_core.specs.Fitting.{CallFits, FitAt}
-use Rattle.dk_core.specs.Fronts.{Front, at_header_line, block_front, is_comment}
-use Rattle.dk_core.specs.History.{History, Taken, after_declaration, after_front, after_lines, after_record, after_sample, base_values, block, effect_of, file_ended, is_declaration, is_list_of_implementors, no_block, nothing_by, or_left_out, with_declaration, with_record, with_table, with_values, without_record}
+use Rattle.dk_blocks.specs.Fitting.{CallFits, Extends, FitAt}
+use Rattle.dk_blocks.specs.Fronts.{Front, at_header_line, block_front, is_comment}
+use Rattle.dk_blocks.specs.History.{History, Taken, after_declaration, after_front, after_lines, after_record, after_sample, base_values, block, block_by, declared_effect, effect_of, file_ended, is_declaration, is_list_of_implementors, no_block, nothing_by, or_left_out, with_declaration, with_record, with_table, with_values, without_record}
 use Rattle.dk_core.specs.Resuming.{AreFew, IsStart, NoSamplesAreAStart}
-use Rattle.dk_core.proofs.Feeding.{are_derived, base_among, sample_given}
+use Rattle.dk_core.proofs.Feeding.{sample_given}
 use Rattle.dk_core.proofs.GivenBlocks.{block_gives}
 use Rattle.dk_core.proofs.GivenVars.{IsLineSpelled}
-use Rattle.dk_core.proofs.Growing.{Extends, declared_points, more_points, same_all_vars}
-use Rattle.dk_core.proofs.Keeping.{call_still, get_or_append, get_or_behind, many_samples}
+use Rattle.dk_blocks.proofs.Derived.{are_derived, base_among}
+use Rattle.dk_blocks.proofs.Growing.{declared_points, more_points, same_all_vars}
+use Rattle.dk_core.proofs.Keeping.{get_or_append, get_or_behind}
 use Rattle.dk_core.proofs.OwnTables.{own_constants, own_declared, own_vars}
 use Rattle.dk_core.proofs.Slots.{no_slots, slots_fit}
-use Rattle.dk_core.proofs.Values.{base_fit, call_fits, sample_fits}
+use Rattle.dk_blocks.proofs.Keeping.{call_still, many_samples}
+use Rattle.dk_blocks.proofs.Values.{base_fit, call_fits, sample_fits}
 
 -- ---- derived values
 abbrev IsShort : Value → Type 0
@@ -242,8 +244,8 @@ declaration_going : (h : History) (first : Line) (ls : List Line) (close : ℕ) 
     → after_declaration h first ls (Some close) ≡ Ok t → IsGoing t.history
 declaration_going h first ls close t going own all few e =
     bind_ok (decl_by (is_implicit h.header) first ls (Some close)) _ t e (λ d is rest.
-    bind_ok (at_line first.number (declared h.table d)) (λ r. Ok (block (with_table h r.0))) t rest (λ r told done.
-    let same : block (with_table h r.0) ≡ t = cc done in
+    bind_ok (at_line first.number (declared h.table d)) (λ r. Ok (block_by (declared_effect r.1) (with_table h r.0))) t rest (λ r told done.
+    let same : block_by (declared_effect r.1) (with_table h r.0) ≡ t = cc done in
     subst (λ (v : Taken). IsGoing v.history) same (declared_going h r.0 d first.number r.1 going (block_gives (is_implicit h.header) first ls close d own all few is) told)))
 
 sample_going : (ignores : Bool) (h : History) (first : Line) (ls : List Line) (close : ℕ) (t : Taken) → IsGoing h → after_sample ignores h first ls (Some close) ≡ Ok t → IsGoing t.history

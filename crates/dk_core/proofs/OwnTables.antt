@@ -31,9 +31,9 @@ use Rattle.dk_state.specs.Fitting.{FitsConstant, FitsVar}
 use Rattle.dk_state.specs.Given.{CanBeGiven}
 use Rattle.dk_state.specs.Spelling.{IsOwnTable, if_new, table_behind}
 use Rattle.dk_trace.specs.Fitting.{FitsKind, HasFittingConstant}
-use Rattle.dk_core.specs.Fitting.{ConstantsFit, HasFittingConstants}
-use Rattle.dk_core.proofs.Feeding.{vars_are_base}
-use Rattle.dk_core.proofs.Growing.{Extends, again_points, constants_still, new_points, not_refused, same_vars, taken_if}
+use Rattle.dk_blocks.specs.Fitting.{Extends, ConstantsFit, HasFittingConstants}
+use Rattle.dk_blocks.proofs.Derived.{vars_are_base}
+use Rattle.dk_blocks.proofs.Growing.{again_points, constants_still, new_points, not_refused, same_vars, taken_if}
 
 -- ---- constants
 constant_given : (there : Bool) (kind : Option Kind) (constant : Option Value) → FitsConstant there kind constant → there ≡ true → FitsKind kind constant

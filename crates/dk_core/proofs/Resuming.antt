@@ -1,10 +1,7 @@
 -- What is kept of a state, and what state is saved of it.
 use Rattle.std.proofs.Common.{◌≡◌, ◌∙◌, ◌++◌, All, Bool, false, List, [], ℕ, Result, Ok, Err, refl, sym, ap, subst}
 use Rattle.std.specs.Prelude.{OnOk}
-use Rattle.dk_calls.specs.Standing.{CallsStandForRecords as CallsStandFor}
-use Rattle.dk_calls.specs.Waiting.{Call}
-use Rattle.dk_decl.specs.Headers.{awaits_word, is_implicit, with_word}
-use Rattle.dk_decl.specs.declared.header.Header.{Header}
+use Rattle.dk_decl.specs.Headers.{is_implicit}
 use Rattle.dk_engine.specs.Levels.{Whole}
 use Rattle.dk_hierarchy.specs.Samples.{OwnSamples, own_samples_of}
 use Rattle.dk_hierarchy.specs.Standing.{AreEnginesOf, EnginesStandFor}
@@ -13,12 +10,14 @@ use Rattle.dk_state.proofs.Histories.{content_text, history_meets}
 use Rattle.dk_state.specs.Spelling.{IsSpelling, content_of}
 use Rattle.dk_state.specs.StateFile.{StandForHistory, state_file_of}
 use Rattle.dk_template.specs.declared.grammar.Grammar.{Grammar}
-use Rattle.dk_core.specs.History.{History}
+use Rattle.dk_blocks.specs.History.{History}
+use Rattle.dk_blocks.specs.Standing.{IsBetweenFiles, ReaderStandsFor, points_of as points_in}
 use Rattle.dk_core.specs.Keeping.{IsSound, Keeping}
 use Rattle.dk_core.specs.Resuming.{IsStart, state_file}
 use Rattle.dk_core.specs.Standing.{Stands}
 use Rattle.dk_core.specs.declared.kept.Kept.{Kept}
 use Rattle.dk_core.proofs.Asking.{asked}
+use Rattle.dk_core.proofs.Taking.{table_of}
 
 pub on_ok : {A E : Type 0} (r : Result A E) (P Q : Type 0) → OnOk r P → (P → Q) → OnOk r Q
 on_ok (Ok x) P Q p f = f p
@@ -28,18 +27,15 @@ pub grammar_told : (k : Kept) (h : History) → Stands k h → k.grammar ≡ h.g
 unfolding Stands
 grammar_told k h stands = stands.grammar
 
-word_again : (header : Header) → awaits_word header ≡ false → with_word (is_implicit header) ≡ header
-word_again header none = ap (λ (b : Bool). record { implicit = header.implicit; awaits_word = b }) (sym none)
+-- a history that a state file tells stands between two files
+pub between : (h : History) → IsStart h → IsBetweenFiles h
+between h start = record { no_calls = start.no_calls; no_word = start.no_word; many = start.many }
 
 -- what is kept of a state file stands for what it tells
-pub begins : (k : Keeping) (h : History) (engines : List Whole) (implicit : Bool) → IsStart h → StandForHistory h.grammar h.table engines h.samples → k.engines ≡ engines → k.grammar ≡ h.grammar
-    → k.points ≡ h.table → k.header ≡ with_word implicit → implicit ≡ is_implicit h.header → CallsStandFor k.calls [] → Stands k h
+pub begins : (k : Keeping) (h : History) (engines : List Whole) → StandForHistory h.grammar h.table engines h.samples → k.engines ≡ engines → k.grammar ≡ h.grammar → ReaderStandsFor k.reader h → Stands k h
 unfolding Stands
-begins k h engines implicit start stands same grammar points header word calls = record {
-  table = points;
-  header = header ∙ ap with_word word ∙ word_again h.header start.no_word;
-  calls = subst (λ (cs : List Call). CallsStandFor k.calls cs) (sym start.no_calls) calls;
-  many = start.many;
+begins k h engines stands same grammar reader = record {
+  reader = reader;
   engines = subst (λ (es : List Whole). EnginesStandFor es (own_samples_of h.table h.samples)) (sym same) stands.standing;
   grammar = grammar;
 }
@@ -50,18 +46,19 @@ unfolding state_file
 loaded_as h bytes Q is f = f is
 
 -- the state of what is kept
-pub state_told : (k : Keeping) (h : History) (engines : List Whole) (implicit : Bool) (old new : List ℕ) → IsSound k → Stands k h → engines ≡ k.engines → implicit ≡ is_implicit k.header
-    → ((own : OwnSamples) → StandForHistory k.grammar k.points engines own → new ≡ old ++ state_file_of k.grammar k.points implicit own) → new ≡ old ++ state_file h
+pub state_told : (k : Keeping) (h : History) (ps : List Point) (engines : List Whole) (implicit : Bool) (old new : List ℕ) → IsSound k → Stands k h → ps ≡ points_in k.reader → engines ≡ k.engines → implicit ≡ is_implicit h.header
+    → ((own : OwnSamples) → StandForHistory k.grammar ps engines own → new ≡ old ++ state_file_of k.grammar ps implicit own) → new ≡ old ++ state_file h
 unfolding Stands state_file
-state_told k h engines implicit old new sound stands same word says =
+state_told k h ps engines implicit old new sound stands there same word says =
+    let table : ps ≡ h.table = there ∙ table_of k.reader h stands.reader in
     says h.samples (record {
-      of_table = subst (AreEnginesOf k.points) (sym same) sound.engines;
+      of_table = subst (λ (qs : List Point). AreEnginesOf qs engines) (sym there) (subst (AreEnginesOf (points_in k.reader)) (sym same) sound.engines);
       of_grammar = subst (λ (es : List Whole). All (λ (e : Whole). e.grammar ≡ k.grammar) es) (sym same) sound.grammar;
-      standing = asked k engines h stands same;
+      standing = asked k ps engines h stands there same;
     })
-    ∙ ap (λ (g : Grammar). old ++ state_file_of g k.points implicit h.samples) stands.grammar
-    ∙ ap (λ (ps : List Point). old ++ state_file_of h.grammar ps implicit h.samples) stands.table
-    ∙ ap (λ (b : Bool). old ++ state_file_of h.grammar h.table b h.samples) (word ∙ ap is_implicit stands.header)
+    ∙ ap (λ (g : Grammar). old ++ state_file_of g ps implicit h.samples) stands.grammar
+    ∙ ap (λ (qs : List Point). old ++ state_file_of h.grammar qs implicit h.samples) table
+    ∙ ap (λ (b : Bool). old ++ state_file_of h.grammar h.table b h.samples) word
 
 -- the state file of a start is one
 pub spelled_start : (h : History) → IsStart h → IsSpelling (state_file h)

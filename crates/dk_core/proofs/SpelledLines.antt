@@ -6,7 +6,7 @@ use Rattle.dk_base.specs.Pieces.{is_empty}
 use Rattle.dk_base.specs.Reading.{Line}
 use Rattle.dk_base.specs.Words.{trim_blanks}
 use Rattle.dk_lines.specs.Left.{End, Over, Broken, LongLine, TooLong, Left, Ends, Next, Piece, is_long, is_over, lined, lined_by, onto_first, pieces, size_of, without_cr}
-use Rattle.dk_core.specs.Blocks.{Group, Groups, Last, groups_of, is_blank_line, onto_group, trimmed_line}
+use Rattle.dk_blocks.specs.Blocks.{Group, Groups, Last, groups_of, is_blank_line, onto_group, trimmed_line}
 use Rattle.dk_state.specs.Given.{has_none}
 use Rattle.dk_core.proofs.GivenEdges.{HasNoLf}
 use Rattle.dk_core.proofs.GivenVars.{IsLineSpelled}

@@ -7,7 +7,7 @@ use Rattle.dk_hierarchy.specs.Samples.{OwnSamples}
 use Rattle.dk_state.specs.Spelling.{CanBeSaved}
 use Rattle.dk_state.specs.StateFile.{state_file_of}
 use Rattle.dk_template.specs.declared.grammar.Grammar.{Grammar}
-use Rattle.dk_core.specs.History.{History, nothing_by}
+use Rattle.dk_blocks.specs.History.{History, nothing_by}
 
 -- the state file of a history, in the version of its grammar
 unfoldable pub state_file : History → List ℕ

@@ -4,7 +4,7 @@ use Rattle.std.specs.List.{enumerate_from}
 use Rattle.dk_report.specs.Reports.{has_samples as has_samples_in, name_in_table as name_in, section_of as section_in}
 use Rattle.dk_report.specs.Sizes.{has_own_samples as has_own_samples_in, stats_of as stats_in}
 use Rattle.dk_report.specs.declared.options.Options.{Options}
-use Rattle.dk_core.specs.History.{History}
+use Rattle.dk_blocks.specs.History.{History}
 
 abbrev pub name_in_history : History → ℕ → List ℕ
 name_in_history h p = name_in h.table p

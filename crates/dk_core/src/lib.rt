@@ -1,8 +1,6 @@
 //! The session behind a run: it reads blocks one after another, and reports what held in their samples.
 #![tactic(auto)]
 
-mod block;
-mod first_lines;
 mod kept;
 pub mod laws;
 mod session;

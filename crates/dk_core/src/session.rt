@@ -1,27 +1,22 @@
 // A session.
-ghost use Rattle.std.specs.Prelude.{◌≡◌, ◌≤◌, ◌<◌, ◌+◌, ◌-◌, ◌^◌, min, not, ◌∷◌, ◌++◌, [], Bool, List, ℕ, Option, Some, None, Err, IfOk, OnOk, IfSome, IsErrOf, length, true, false, if◌then◌else◌};
+ghost use Rattle.std.specs.Prelude.{◌≡◌, ◌≤◌, ◌<◌, ◌+◌, ◌-◌, ◌^◌, min, not, ◌++◌, [], Bool, List, ℕ, Err, IfOk, OnOk, IfSome, IsErrOf, Ok, length, true, false, if◌then◌else◌};
+ghost use Rattle.dk_blocks.specs.History.{History, no_history, file_ended};
 ghost use Rattle.dk_hierarchy.specs.Samples.{own_samples_of};
 ghost use Rattle.dk_hierarchy.specs.Standing.{EngineStandsFor};
 ghost use Rattle.dk_io.specs.Outside.{Rose};
 ghost use Rattle.dk_lines.specs.Reading.{left_of};
 ghost use Rattle.dk_state.specs.Spelling.{IsSpelling};
-ghost use Rattle.dk_core.specs.History.{History, effect_of, no_history, file_ended};
-ghost use Rattle.dk_core.specs.LineSteps.{LineGives, EndGives, BlankGives, WordsGive, fault_in_file, BlockGives, BlockCounts, LineShape, EndShape, ShapeAt, ClosesAt, LineStep, LineStepShape, StepShape, StepGives, StepCounts, line_turn, stop_of_fault, stop_of_unread};
 ghost use Rattle.dk_core.specs.Resuming.{IsStart, state_file};
 ghost use Rattle.dk_core.specs.Sections.{has_own_samples, has_section, section_of, some_if, stats_of};
 ghost use Rattle.dk_core.specs.Selecting.{SelectsBy};
-ghost use Rattle.dk_core.specs.Standing.{Fits, ReportsAlike, SessionStandsFor, Stands, block_resumed, blocks_of, file_of, grammar_of, left_behind, left_with_answer, options_of, over_of, points_of, saved_of, select_of};
+ghost use Rattle.dk_core.specs.Standing.{ReportsAlike, SessionStandsFor, blocks_of, file_of, grammar_of, left_with_answer, options_of, over_of, points_of, saved_of, select_of};
 ghost use Rattle.dk_core.specs.Steps.{NextBlock, SessionCounts};
-ghost use Rattle.dk_core.specs.Turns.{turn_of, ending_of};
 
-use crate::block::Block;
 use crate::kept::Kept;
-use bumpalo::Bump;
-use dk_base::{BlockFault, Fault, NoMemory, PointId, Text, Why, trim_blanks};
-use dk_calls::Calls;
+use dk_base::{Fault, NoMemory, PointId, Text};
 use dk_engine::Engine;
 use dk_io::Inputs;
-use dk_lines::{LineFault, Lines};
+use dk_lines::Lines;
 use dk_points::Points;
 use dk_report::Options;
 use dk_state::{LoadFault, load};
@@ -37,244 +32,6 @@ pub struct Session<F> {
     pub(crate) select: F,
     pub(crate) options: Options,
     pub(crate) blocks: u64,
-    pub(crate) file: u32,
-    pub(crate) is_over: bool,
-}
-
-/// Why a block is not read.
-#[derive(Clone, Copy, Debug, PartialEq, Eq)]
-pub(crate) enum Stop {
-    Refused { line: u64, why: Why },
-    Read,
-    NoMemory,
-}
-
-/// The end of a block, or of a file without one.
-#[derive(Clone, Copy, Debug, PartialEq, Eq)]
-pub(crate) struct End {
-    pub(crate) is_over: bool,
-    pub(crate) found: bool,
-}
-
-/// What one line does.
-#[derive(Clone, Copy, Debug, PartialEq, Eq)]
-pub(crate) enum Step {
-    /// The block has a line more.
-    More,
-    /// The block ends: at the blank line of this number, or where the file ends in front of it.
-    Ended { number: u64, is_over: bool },
-}
-
-/// What comes of the end of a block's lines: they are no block, and the next one begins; or a block or the file ends.
-#[derive(Clone, Copy, Debug, PartialEq, Eq)]
-pub(crate) enum After {
-    Goes,
-    Ends(End),
-}
-
-fn stop_of(fault: BlockFault) -> Stop
-    ensures { result ≡ stop_of_fault fault }
-{
-    match fault {
-        BlockFault::Refused { line, why } => Stop::Refused { line, why },
-        BlockFault::NoMemory => Stop::NoMemory,
-    }
-}
-
-fn line_stop(fault: LineFault) -> Stop
-    ensures { result ≡ stop_of_unread fault }
-{
-    match fault {
-        LineFault::Read => Stop::Read,
-        LineFault::LongLine { line } => Stop::Refused {
-            line,
-            why: Why::LongLine,
-        },
-        LineFault::TooLong { line } => Stop::Refused {
-            line,
-            why: Why::TooLong,
-        },
-        LineFault::NoMemory => Stop::NoMemory,
-    }
-}
-
-// The line is blank.
-fn at_blank<'a>(
-    kept: &mut Kept,
-    block: &mut Block<'a>,
-    number: u64,
-    ignores: bool,
-) -> Result<After, Stop>
-    requires { Fits kept.old block.old }
-    ensures shape { LineShape (turn_of kept.new block.new result) }
-    ensures gives { (h : History) → Stands kept.old h → BlankGives ignores (block_resumed ignores h block.old) number (turn_of kept.new block.new result) }
-    ensures grammar { kept.new.grammar ≡ kept.old.grammar }
-{
-    match kept.close(block, number, ignores) {
-        Ok(true) => Ok(After::Ends(End {
-            is_over: false,
-            found: true,
-        })),
-        Ok(false) => {
-            kept.begin_again(block);
-            Ok(After::Goes)
-        }
-        Err(fault) => Err(stop_of(fault)),
-    }
-}
-
-// The file ends in front of the line of this number.
-fn at_end<'a>(
-    kept: &mut Kept,
-    block: &mut Block<'a>,
-    number: u64,
-    ignores: bool,
-) -> Result<After, Stop>
-    requires { Fits kept.old block.old }
-    ensures shape { EndShape (turn_of kept.new block.new result) }
-    ensures gives { (h : History) → Stands kept.old h → EndGives ignores (block_resumed ignores h block.old) number (turn_of kept.new block.new result) }
-    ensures grammar { kept.new.grammar ≡ kept.old.grammar }
-{
-    match kept.close(block, number, ignores) {
-        Ok(found) => Ok(After::Ends(End {
-            is_over: true,
-            found,
-        })),
-        Err(fault) => Err(stop_of(fault)),
-    }
-}
-
-// The end of a block: at a blank line, or where the file ends in front of the line of this number.
-fn close_block<'a>(
-    kept: &mut Kept,
-    block: &mut Block<'a>,
-    number: u64,
-    is_over: bool,
-    ignores: bool,
-) -> Result<After, Stop>
-    requires { Fits kept.old block.old }
-    ensures shape { ShapeAt is_over (turn_of kept.new block.new result) }
-    ensures gives { (h : History) → Stands kept.old h → ClosesAt ignores is_over (block_resumed ignores h block.old) number (turn_of kept.new block.new result) }
-    ensures grammar { kept.new.grammar ≡ kept.old.grammar }
-{
-    if is_over {
-        at_end(kept, block, number, ignores)
-    } else {
-        at_blank(kept, block, number, ignores)
-    }
-}
-
-// A line that is not blank.
-fn at_words<'a>(kept: &Kept, block: &mut Block<'a>, number: u64, bytes: &[u8]) -> Result<(), Stop>
-    requires { Fits kept.now block.old }
-    ensures fits { OnOk result (Fits kept.now block.new) }
-    ensures shape { LineShape (line_turn kept.now (left_behind block.new result)) }
-    ensures gives { (ignores : Bool) (h : History) → Stands kept.now h → WordsGive ignores (block_resumed ignores h block.old) (record { number = number; bytes = bytes.now }) (line_turn kept.now (left_behind block.new result)) }
-{
-    match kept.line(block, number, bytes) {
-        Ok(()) => Ok(()),
-        Err(fault) => Err(stop_of(fault)),
-    }
-}
-
-// A line of the file.
-fn with_line<'a>(
-    kept: &Kept,
-    block: &mut Block<'a>,
-    number: u64,
-    bytes: &[u8],
-) -> Result<Step, Stop>
-    requires { Fits kept.now block.old }
-    ensures shape { LineStepShape kept.now block.old block.new result }
-    ensures gives { (ignores : Bool) (h : History) → Stands kept.now h → LineStep ignores kept.now block.new (block_resumed ignores h block.old) (record { number = number; bytes = bytes.now }) result }
-{
-    let words = trim_blanks(bytes);
-    if words.is_empty() {
-        return Ok(Step::Ended {
-            number,
-            is_over: false,
-        });
-    }
-    match at_words(kept, block, number, words) {
-        Ok(()) => Ok(Step::More),
-        Err(stop) => Err(stop),
-    }
-}
-
-// Reads one line.
-fn take_line<'a, I: Inputs>(
-    kept: &Kept,
-    block: &mut Block<'a>,
-    inputs: &mut I,
-    lines: &mut Lines,
-) -> Result<Step, Stop>
-    requires started { lines.old.is_started ≡ true }
-    requires fits { Fits kept.now block.old }
-    ensures shape { StepShape kept.now block.old block.new result }
-    ensures gives { (ignores : Bool) (h : History) → Stands kept.now h → IfSome (left_of lines.old (I.rest inputs.old))
-        (λ xs. StepGives ignores kept.now block.new (block_resumed ignores h block.old) lines.old xs result lines.new (left_of lines.new (I.rest inputs.new))) }
-    ensures counts { StepCounts lines.old result lines.new }
-    ensures emptied { IsErrOf result Stop.Read → lines.new.ahead ≡ [] }
-    ensures files { I.file inputs.new ≡ I.file inputs.old }
-    ensures later { I.faults inputs.old ≤ I.faults inputs.new }
-    ensures cause { IsErrOf result Stop.Read → Rose (I.faults inputs.old) (I.faults inputs.new) }
-{
-    let next = lines.next_number();
-    match lines.next(inputs) {
-        Ok(Some(line)) => with_line(kept, block, line.number, line.bytes),
-        Ok(None) => Ok(Step::Ended {
-            number: next,
-            is_over: true,
-        }),
-        Err(fault) => Err(line_stop(fault)),
-    }
-}
-
-// Reads up to the end of the next block. The values of its record lie in an arena of its own, which takes no memory before the first of
-// them and goes whole behind the block.
-fn read_block<I: Inputs>(
-    alloc: Global,
-    kept: &mut Kept,
-    inputs: &mut I,
-    lines: &mut Lines,
-    ignores: bool,
-) -> Result<End, Stop>
-    requires { lines.old.is_started ≡ true }
-    ensures gives { (h : History) → Stands kept.old h → IfSome (left_of lines.old (I.rest inputs.old))
-        (λ xs. BlockGives ignores (effect_of ignores h) false lines.old xs (ending_of kept.new result) lines.new (left_of lines.new (I.rest inputs.new))) }
-    ensures grammar { kept.new.grammar ≡ kept.old.grammar }
-    ensures counts { BlockCounts lines.old (ending_of kept.new result) lines.new }
-    ensures emptied { IsErrOf result Stop.Read → lines.new.ahead ≡ [] }
-    ensures files { I.file inputs.new ≡ I.file inputs.old }
-    ensures later { I.faults inputs.old ≤ I.faults inputs.new }
-    ensures cause { IsErrOf result Stop.Read → Rose (I.faults inputs.old) (I.faults inputs.new) }
-{
-    let arena = Bump::new(alloc);
-    let mut block = kept.begin(&arena);
-    'reading: loop {
-        match take_line(kept, &mut block, inputs, lines) {
-            Ok(Step::More) => continue 'reading,
-            Ok(Step::Ended { number, is_over }) => match close_block(
-                kept, &mut block, number, is_over, ignores,
-            ) {
-                Ok(After::Goes) => continue 'reading,
-                Ok(After::Ends(end)) => return Ok(end),
-                Err(stop) => return Err(stop),
-            },
-            Err(stop) => return Err(stop),
-        }
-    }
-}
-
-// The fault with the number of its file.
-fn fault_of(file: u32, stop: Stop) -> Fault
-    ensures { result ≡ fault_in_file file stop }
-{
-    match stop {
-        Stop::Refused { line, why } => Fault::Refused { file, line, why },
-        Stop::Read => Fault::Read { file },
-        Stop::NoMemory => Fault::NoMemory,
-    }
 }
 
 // How many blocks were read, with one more where one was found.
@@ -291,7 +48,7 @@ fn blocks_with(blocks: u64, found: bool) -> u64
 impl<F: Fn(&[u8]) -> bool + Drop> Session<F> {
     /// The session of no blocks, by the second grammar. It reports the points whose names the selection answers `true` to. The selection
     /// may be asked of any name, any number of times.
-    #[tactic(auto, unfolding(crate::specs::History::no_history))]
+    #[tactic(auto, unfolding(dk_blocks::specs::History::no_history))]
     pub fn new(alloc: Global, select: F, options: Options) -> Result<Session<F>, NoMemory>
         ensures stands { IfOk result (λ s. SessionStandsFor s no_history) }
         ensures grammar { IfOk result (λ s. grammar_of s ≡ Grammar.Two) }
@@ -306,8 +63,6 @@ impl<F: Fn(&[u8]) -> bool + Drop> Session<F> {
             select,
             options,
             blocks: 0,
-            file: 0,
-            is_over: false,
         })
     }
 
@@ -328,20 +83,17 @@ impl<F: Fn(&[u8]) -> bool + Drop> Session<F> {
         ensures counts { IfOk result (λ s. (blocks_of s ≡ 0) × (file_of s ≡ 0) × (over_of s ≡ false)) }
     {
         let blocks = 0;
-        let calls = match Calls::new(alloc) {
-            Ok(calls) => calls,
-            Err(NoMemory) => return Err(LoadFault::NoMemory),
-        };
         match load(alloc, state) {
-            Ok(loaded) => Ok(Session {
-                alloc,
-                kept: Kept::of_state(alloc, loaded, calls),
-                select,
-                options,
-                blocks,
-                file: 0,
-                is_over: false,
-            }),
+            Ok(loaded) => match Kept::of_state(alloc, loaded) {
+                Ok(kept) => Ok(Session {
+                    alloc,
+                    kept,
+                    select,
+                    options,
+                    blocks,
+                }),
+                Err(NoMemory) => Err(LoadFault::NoMemory),
+            },
             Err(fault) => Err(fault),
         }
     }
@@ -363,18 +115,10 @@ impl<F: Fn(&[u8]) -> bool + Drop> Session<F> {
         ensures later { I.faults inputs.old ≤ I.faults inputs.new }
         ensures cause { (file : ℕ) → IsErrOf result (Fault.Read file) → Rose (I.faults inputs.old) (I.faults inputs.new) }
     {
-        if self.is_over {
-            return Ok(false);
-        }
         let ignores = self.options.ignore_missing_entry;
-        match read_block(self.alloc, &mut self.kept, inputs, lines, ignores) {
-            Ok(end) => {
-                self.is_over = end.is_over;
-                self.blocks = blocks_with(self.blocks, end.found);
-                Ok(end.found)
-            }
-            Err(stop) => Err(fault_of(self.file, stop)),
-        }
+        let found = self.kept.next(inputs, lines, ignores)?;
+        self.blocks = blocks_with(self.blocks, found);
+        Ok(found)
     }
 
     /// Without what ends with a file. The next block is of the next file.
@@ -385,8 +129,6 @@ impl<F: Fn(&[u8]) -> bool + Drop> Session<F> {
     {
         let mut session = self;
         session.kept.end_file();
-        session.file = session.file.saturating_add(1);
-        session.is_over = false;
         session
     }
 

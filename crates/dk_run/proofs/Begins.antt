@@ -5,7 +5,7 @@ use Rattle.dk_io.specs.Outside.{HeldFile, Absent, DeliversUpTo, Holds, Rose, Sta
 use Rattle.dk_io.specs.declared.whole.AllFault.{AllFault}
 use Rattle.dk_io.specs.declared.whole.AllFault.TheVariants as all
 use Rattle.dk_state.specs.Spelling.{IsSpelling}
-use Rattle.dk_core.specs.History.{History, no_history}
+use Rattle.dk_blocks.specs.History.{History, no_history}
 use Rattle.dk_core.specs.Resuming.{IsStart, state_file}
 use Rattle.dk_core.specs.Standing.{SessionStandsFor, blocks_of, over_of}
 use Rattle.dk_words.specs.declared.command.Command.{Command}

@@ -6,9 +6,9 @@ use Rattle.dk_lines.specs.Left.{End, Over, Broken, LongLine, TooLong, lined}
 use Rattle.dk_core.proofs.Going.{IsGoing, block_going, ended_going, going_start, start_going}
 use Rattle.dk_core.proofs.GivenVars.{IsLineSpelled}
 use Rattle.dk_core.proofs.SpelledLines.{AreSpelled, IsEnded, file_ends, file_spelled}
-use Rattle.dk_core.specs.Blocks.{Group, Groups, Last, groups_of}
-use Rattle.dk_core.specs.History.{History, Taken, effect_of, file_ended}
-use Rattle.dk_core.specs.Reading.{after_last}
+use Rattle.dk_blocks.specs.Blocks.{Group, Groups, Last, groups_of}
+use Rattle.dk_blocks.specs.History.{History, Taken, effect_of, file_ended}
+use Rattle.dk_blocks.specs.Reading.{after_last}
 use Rattle.dk_core.specs.Resuming.{AreFew, IsStart}
 use Rattle.dk_run.specs.Courses.{Course, Outset, behind_histories, course_end, course_of, course_of_file, course_of_files, course_of_groups, goes_on, line_limit, then_files, total_limit}
 use Rattle.dk_run.specs.Files.{File, FileFault, ended_file}

@@ -6,7 +6,7 @@ use Rattle.dk_base.specs.Reading.{LineFault}
 use Rattle.dk_base.specs.declared.why.Why.{Why}
 use Rattle.dk_io.specs.Outside.{HeldFile, Absent, Holds, Rose}
 use Rattle.dk_io.specs.declared.outside.Stream.TheVariants.{Messages}
-use Rattle.dk_core.specs.History.{History, file_ended}
+use Rattle.dk_blocks.specs.History.{History, file_ended}
 use Rattle.dk_core.specs.Resuming.{IsStart, state_file}
 use Rattle.dk_core.proofs.Resuming.{spelled_start}
 use Rattle.dk_words.specs.declared.command.Command.{Command}

@@ -1,5 +1,5 @@
 -- Reading a file block by block, with the reports that fall due.
-use Rattle.std.proofs.Common.{◌≡◌, ◌≤◌, ◌+◌, ◌-◌, ◌^◌, min, ℕ, List, [], ◌∷◌, ◌++◌, length, inl, inr, Bool, true, false, Option, Some, None, IfSome, IsErrOf, Result, Ok, Err, if◌then◌else◌, refl, sym, ◌∙◌, ap, subst, arith, append_assoc, length-append}
+use Rattle.std.proofs.Common.{◌≡◌, ◌≤◌, ◌+◌, ◌-◌, ◌^◌, min, ℕ, List, [], ◌∷◌, ◌++◌, length, inl, inr, Bool, true, false, is_some, Option, Some, None, IfSome, IsErrOf, Result, Ok, Err, if◌then◌else◌, refl, sym, ◌∙◌, ap, subst, arith, append_assoc, length-append}
 use Rattle.std.proofs.lemmas.Grind.{flat_map-append}
 use Rattle.std.proofs.lemmas.List.{append-nil}
 use Rattle.std.specs.Io.{StartsWith}
@@ -16,11 +16,12 @@ use Rattle.dk_io.specs.declared.outside.Stream.TheVariants.{Report}
 use Rattle.dk_lines.proofs.Lined.{at_end}
 use Rattle.dk_lines.specs.Left.{Left, Over}
 use Rattle.dk_lines.specs.Reading.{Reading, room_of, left_of}
-use Rattle.dk_core.specs.Blocks.{Groups, Last, groups_of}
-use Rattle.dk_core.specs.History.{History, Taken, effect_of, file_ended, no_block}
-use Rattle.dk_core.specs.Reading.{Stepped, after_next}
+use Rattle.dk_blocks.specs.Blocks.{Groups, Last, groups_of}
+use Rattle.dk_blocks.specs.History.{Effect, History, Taken, effect_of, file_ended, no_block}
+use Rattle.dk_blocks.specs.Reading.{Stepped, after_next}
 use Rattle.dk_core.specs.Standing.{ReportsAlike, SessionStandsFor, blocks_of, ignores_of, left_with_answer, over_of}
-use Rattle.dk_core.specs.Steps.{FaultAnswers, NextBlock, SessionCounts, Steps, groups_left}
+use Rattle.dk_blocks.specs.Steps.{FaultAnswers, Steps, groups_left}
+use Rattle.dk_core.specs.Steps.{NextBlock, SessionCounts}
 use Rattle.dk_core.specs.declared.session.Session.{Session}
 use Rattle.dk_report.specs.declared.options.Options.{Options}
 use Rattle.dk_words.specs.declared.command.Command.{Command}
@@ -95,12 +96,21 @@ nothing_behind [] zs e = sym e
 nothing_behind (b ∷ bs) zs e = absurd (cc (e))
 
 -- ---- one block
--- what the next block says of the course
-course_on : (ignores : Bool) (h next : History) (gs left : Groups) → after_next ignores (effect_of ignores h) gs ≡ Ok (record { found = true; history = next; left = left })
-    → course_behind ignores h gs ≡ behind_histories (next ∷ []) (course_behind ignores next left)
-course_on ignores h next gs left takes = (subst (Follows ignores (effect_of ignores h) gs) takes (follows ignores (effect_of ignores h) gs)).0
+-- what a block does that was found, and that there is none
+some_effect : (effect : Option Effect) → true ≡ is_some effect → (e : Effect) × (effect ≡ Some e)
+some_effect (Some e) found = (e, refl)
+some_effect None found = absurd (cc found)
 
-course_over : (ignores : Bool) (h next : History) (gs left : Groups) → after_next ignores (effect_of ignores h) gs ≡ Ok (record { found = false; history = next; left = left })
+no_effect : (effect : Option Effect) → false ≡ is_some effect → effect ≡ None
+no_effect (Some e) found = absurd (cc found)
+no_effect None found = refl
+
+-- what the next block says of the course
+course_on : (ignores : Bool) (h next : History) (effect : Effect) (gs left : Groups) → after_next ignores (effect_of ignores h) gs ≡ Ok (record { effect = Some effect; history = next; left = left })
+    → course_behind ignores h gs ≡ behind_histories (next ∷ []) (course_behind ignores next left)
+course_on ignores h next effect gs left takes = (subst (Follows ignores (effect_of ignores h) gs) takes (follows ignores (effect_of ignores h) gs)).0
+
+course_over : (ignores : Bool) (h next : History) (gs left : Groups) → after_next ignores (effect_of ignores h) gs ≡ Ok (record { effect = None; history = next; left = left })
     → course_behind ignores h gs ≡ course_end (Ok next)
 course_over ignores h next gs left takes = (subst (Follows ignores (effect_of ignores h) gs) takes (follows ignores (effect_of ignores h) gs)).1 refl
 
@@ -118,19 +128,19 @@ course_done ignores h false r = ap (λ (l : Left). course_behind ignores h (grou
 onto_end : (a : List History) (e : Result History LineFault) → behind_histories a (course_end e) ≡ record { after = a; end = e }
 onto_end a e = ap (λ (l : List History). record { after = l; end = e }) (append-nil a)
 
-within_on : (ignores : Bool) (h h1 h2 : History) (r new last : Reading) (xs ys zs : List ℕ) (after : List History) (over over2 : Bool)
-    → Within ignores h r xs after h1 over new ys → Steps ignores (effect_of ignores h1) over new ys true h2 over2 last zs → Within ignores h r xs (after ++ h2 ∷ []) h2 over2 last zs
-within_on ignores h h1 h2 r new last xs ys zs after over over2 a b = record {
+within_on : (ignores : Bool) (h h1 h2 : History) (r new last : Reading) (xs ys zs : List ℕ) (after : List History) (effect : Effect) (over over2 : Bool)
+    → Within ignores h r xs after h1 over new ys → Steps ignores (effect_of ignores h1) over new ys (Ok (record { history = h2; effect = Some effect })) over2 last zs → Within ignores h r xs (after ++ h2 ∷ []) h2 over2 last zs
+within_on ignores h h1 h2 r new last xs ys zs after effect over over2 a b = record {
   front = a.front ++ b.front;
   split = split_on xs a.front ys b.front zs a.split b.split;
   room = room_on (room_of r) (room_of new) (room_of last) a.front b.front a.room b.room;
   nothing = b.nothing a.nothing;
-  same = a.same ∙ ap (behind_histories after) (course_on ignores h1 h2 (groups_left over new true ys) (groups_left over2 last true zs) b.takes) ∙ onto_more after (h2 ∷ []) (course_behind ignores h2 (groups_left over2 last true zs));
+  same = a.same ∙ ap (behind_histories after) (course_on ignores h1 h2 effect (groups_left over new true ys) (groups_left over2 last true zs) b.takes) ∙ onto_more after (h2 ∷ []) (course_behind ignores h2 (groups_left over2 last true zs));
   cut = λ d rest e. elim (a.cut (b.front ++ d) rest (split_on ys b.front zs d rest b.split e)) [
     | inl same ↦ elim (b.cut d rest e) [
       | inl more ↦ inl (
           ap (λ (l : List ℕ). course_behind ignores h (groups_left false r false l)) (append_assoc a.front b.front d)
-          ∙ same ∙ ap (behind_histories after) (course_on ignores h1 h2 (groups_left over new false (b.front ++ d)) (groups_left over2 last false d) more)
+          ∙ same ∙ ap (behind_histories after) (course_on ignores h1 h2 effect (groups_left over new false (b.front ++ d)) (groups_left over2 last false d) more)
           ∙ onto_more after (h2 ∷ []) (course_behind ignores h2 (groups_left over2 last false d)))
       | inr none ↦ inr none.0
     ]
@@ -176,7 +186,8 @@ pub file_on : {F : Type 0} (command : Command) (n : ℕ) (h : History) (r new la
     → IfSome o (λ xs. FileGoesOn command n h r xs (text ++ more) (SessionStandsFor next) (blocks_of next) (over_of next) last left)
 file_on command n h r new last None mid left text more s next same goes answers counts told = tt
 file_on command n h r new last (Some xs) mid left text more s next same a answers counts told =
-    let (h2, stands, (zs, is, steps)) = answers_at s command.ignore_missing_entry new last mid left (Ok (next, true)) a.next a.ys a.left_is a.stands answers in
+    let (h2, stands, (effect, found, (zs, is, steps))) = answers_at s command.ignore_missing_entry new last mid left (Ok (next, true)) a.next a.ys a.left_is a.stands answers in
+    let there = some_effect effect found in
     record {
       after = a.after ++ h2 ∷ [];
       next = h2;
@@ -186,8 +197,9 @@ file_on command n h r new last (Some xs) mid left text more s next same a answer
           ∙ sym (due_more command (n + 1) a.after h2 (blocks_of next) (one_next n a.after (blocks_of s) (blocks_of next) a.counts counts));
       ys = zs;
       left_is = is;
-      within = within_on command.ignore_missing_entry h a.next h2 r new last xs a.ys zs a.after (over_of s) (over_of next) a.within
-          (subst (λ (b : Bool). Steps b (effect_of b a.next) (over_of s) new a.ys true h2 (over_of next) last zs) same steps);
+      within = within_on command.ignore_missing_entry h a.next h2 r new last xs a.ys zs a.after there.0 (over_of s) (over_of next) a.within
+          (subst (λ (o : Option Effect). Steps command.ignore_missing_entry (effect_of command.ignore_missing_entry a.next) (over_of s) new a.ys (Ok (record { history = h2; effect = o })) (over_of next) last zs) there.1
+          (subst (λ (b : Bool). Steps b (effect_of b a.next) (over_of s) new a.ys (Ok (record { history = h2; effect = effect })) (over_of next) last zs) same steps));
     }
 
 -- a front of the report by the way behind one block more
@@ -200,9 +212,11 @@ pub file_short : {F : Type 0} (command : Command) (n : ℕ) (h : History) (r new
     → IfSome o (λ xs. IsShort command n h r xs (text ++ more))
 file_short command n h r new last None mid left text more s next same goes answers counts told = tt
 file_short command n h r new last (Some xs) mid left text more s next same a answers counts told =
-    let (h2, stands, (zs, is, steps)) = answers_at s command.ignore_missing_entry new last mid left (Ok (next, true)) a.next a.ys a.left_is a.stands answers in
-    let on = within_on command.ignore_missing_entry h a.next h2 r new last xs a.ys zs a.after (over_of s) (over_of next) a.within
-    (subst (λ (b : Bool). Steps b (effect_of b a.next) (over_of s) new a.ys true h2 (over_of next) last zs) same steps) in
+    let (h2, stands, (effect, found, (zs, is, steps))) = answers_at s command.ignore_missing_entry new last mid left (Ok (next, true)) a.next a.ys a.left_is a.stands answers in
+    let there = some_effect effect found in
+    let on = within_on command.ignore_missing_entry h a.next h2 r new last xs a.ys zs a.after there.0 (over_of s) (over_of next) a.within
+    (subst (λ (o : Option Effect). Steps command.ignore_missing_entry (effect_of command.ignore_missing_entry a.next) (over_of s) new a.ys (Ok (record { history = h2; effect = o })) (over_of next) last zs) there.1
+    (subst (λ (b : Bool). Steps b (effect_of b a.next) (over_of s) new a.ys (Ok (record { history = h2; effect = effect })) (over_of next) last zs) same steps)) in
     record {
       after = a.after ++ h2 ∷ [];
       more = (course_behind command.ignore_missing_entry h2 (groups_left (over_of next) last true zs)).after;
@@ -221,8 +235,9 @@ pub file_end : {F : Type 0} (command : Command) (n : ℕ) (h : History) (r new l
     → IfSome o (λ xs. ComesToEnd command n h r xs text (SessionStandsFor done) (blocks_of done) last left)
 file_end command n h r new last None mid left text s next done same goes answers counts over ended = tt
 file_end command n h r new last (Some xs) mid left text s next done same a answers counts over ended =
-    let (h2, stands, (zs, is, found)) = answers_at s command.ignore_missing_entry new last mid left (Ok (next, false)) a.next a.ys a.left_is a.stands answers in
-    let steps = subst (λ (b : Bool). Steps b (effect_of b a.next) (over_of s) new a.ys false h2 (over_of next) last zs) same found in
+    let (h2, stands, (effect, found, (zs, is, read))) = answers_at s command.ignore_missing_entry new last mid left (Ok (next, false)) a.next a.ys a.left_is a.stands answers in
+    let steps = subst (λ (o : Option Effect). Steps command.ignore_missing_entry (effect_of command.ignore_missing_entry a.next) (over_of s) new a.ys (Ok (record { history = h2; effect = o })) (over_of next) last zs) (no_effect effect found)
+    (subst (λ (b : Bool). Steps b (effect_of b a.next) (over_of s) new a.ys (Ok (record { history = h2; effect = effect })) (over_of next) last zs) same read) in
     let nothing = steps.nothing a.within.nothing over in
     let all : xs ≡ a.within.front ++ steps.front =
     split_on xs a.within.front a.ys steps.front zs a.within.split steps.split ∙ ap (λ (l : List ℕ). (a.within.front ++ steps.front) ++ l) nothing ∙ append-nil (a.within.front ++ steps.front) in

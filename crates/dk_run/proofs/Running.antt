@@ -12,10 +12,10 @@ use Rattle.dk_io.specs.Outside.{HeldFile, Absent, Holds, Rose}
 use Rattle.dk_lines.proofs.Lined.{at_break}
 use Rattle.dk_lines.specs.Left.{Broken, Left, lined}
 use Rattle.dk_lines.specs.Reading.{Reading, room_of}
-use Rattle.dk_core.specs.Blocks.{Last, groups_of}
-use Rattle.dk_core.specs.History.{History, effect_of, file_ended}
+use Rattle.dk_blocks.specs.Blocks.{Last, groups_of}
+use Rattle.dk_blocks.specs.History.{History, effect_of, file_ended}
 use Rattle.dk_core.specs.Standing.{SessionStandsFor, blocks_of}
-use Rattle.dk_core.specs.Steps.{groups_left}
+use Rattle.dk_blocks.specs.Steps.{groups_left}
 use Rattle.dk_core.specs.declared.session.Session.{Session}
 use Rattle.dk_words.specs.declared.command.Command.{Command}
 use Rattle.dk_run.specs.AllFiles.{AreReadTo, FilesTroubleGives, HasBrokenAt, IsRefusedAt, IsShortTo, IsUnreadAt, RunsOn, files_trouble}

@@ -11,7 +11,7 @@ use Rattle.dk_io.specs.Streams.{AddsFront, Texts, with_bytes}
 use Rattle.dk_io.specs.declared.outside.Stream.{Stream}
 use Rattle.dk_io.specs.declared.outside.Stream.TheVariants.{Report, Messages, State}
 use Rattle.dk_lines.specs.Reading.{Reading, room_of}
-use Rattle.dk_core.specs.History.{History}
+use Rattle.dk_blocks.specs.History.{History}
 use Rattle.dk_core.specs.Standing.{SessionStandsFor, blocks_of}
 use Rattle.dk_core.specs.declared.session.Session.{Session}
 use Rattle.dk_words.specs.Texts.{help_text, usage_line, version_text}

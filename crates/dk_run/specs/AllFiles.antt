@@ -4,7 +4,7 @@ use Rattle.std.specs.Io.{StartsWith}
 use Rattle.dk_base.specs.declared.why.Why.{Why}
 use Rattle.dk_io.specs.Outside.{HeldFile, Absent, Holds, Rose}
 use Rattle.dk_lines.specs.Reading.{Reading, room_of}
-use Rattle.dk_core.specs.History.{History}
+use Rattle.dk_blocks.specs.History.{History}
 use Rattle.dk_core.specs.Standing.{SessionStandsFor, blocks_of}
 use Rattle.dk_core.specs.declared.session.Session.{Session}
 use Rattle.dk_words.specs.declared.command.Command.{Command}

@@ -8,7 +8,7 @@ use Rattle.dk_io.specs.declared.whole.AllFault.TheVariants as all
 use Rattle.dk_state.specs.declared.loading.LoadFault.{LoadFault}
 use Rattle.dk_state.specs.declared.loading.LoadFault.TheVariants as load
 use Rattle.dk_state.specs.Spelling.{IsSpelling}
-use Rattle.dk_core.specs.History.{History}
+use Rattle.dk_blocks.specs.History.{History}
 use Rattle.dk_core.specs.Resuming.{IsStart, state_file}
 use Rattle.dk_core.specs.Standing.{SessionStandsFor, blocks_of, over_of}
 use Rattle.dk_words.specs.declared.command.Command.{Command}

@@ -1,9 +1,9 @@
 -- The course of a run: what it comes to after each of its blocks, and at its end.
 use Rattle.std.specs.Prelude.{◌+◌, ◌-◌, ℕ, Bool, List, [], ◌∷◌, ◌++◌, length, Option, Some, None, Result, Ok, Err, if◌then◌else◌}
 use Rattle.dk_base.specs.Reading.{LineFault, Reads}
-use Rattle.dk_core.specs.Blocks.{Group, Groups, Last, groups_of}
-use Rattle.dk_core.specs.History.{History, Taken, effect_of, file_ended, no_history}
-use Rattle.dk_core.specs.Reading.{after_last}
+use Rattle.dk_blocks.specs.Blocks.{Group, Groups, Last, groups_of}
+use Rattle.dk_blocks.specs.History.{History, Taken, counts, effect_of, file_ended, no_history}
+use Rattle.dk_blocks.specs.Reading.{after_last}
 use Rattle.dk_lines.specs.Left.{lined}
 use Rattle.dk_lines.specs.declared.lines.Limits.{Limits}
 use Rattle.dk_run.specs.Files.{File, FileFault}
@@ -43,7 +43,7 @@ behind_histories before course = record { after = before ++ course.after; end = 
 -- ---- a file
 -- the history after a group of lines, if it is a block
 abbrev pub after_block : Taken → List History
-after_block t = if t.counts then t.history ∷ [] else []
+after_block t = if counts t then t.history ∷ [] else []
 
 abbrev pub goes_on : Result Taken LineFault → (History → Course LineFault) → Course LineFault
 goes_on (Err fault) more = course_end (Err fault)

@@ -1,6 +1,6 @@
 -- What the definitions of runs that are saved and resumed come to.
 use Rattle.std.specs.Prelude.{◌≡◌, ◌≤◌, ◌++◌, ℕ, Bool, List, Ok, map}
-use Rattle.dk_core.specs.History.{History}
+use Rattle.dk_blocks.specs.History.{History}
 use Rattle.dk_core.specs.Resuming.{AreFew, IsStart}
 use Rattle.dk_run.specs.Courses.{Outset, course_of, total_limit}
 use Rattle.dk_run.specs.Files.{File, ended_file}

@@ -3,7 +3,7 @@ use Rattle.std.specs.Prelude.{◌≡◌, ◌⊎◌, ℕ, List, [], ◌++◌, len
 use Rattle.std.specs.Io.{StartsWith}
 use Rattle.std.specs.Io.KnownBytes.{append_known}
 use Rattle.std.specs.Option.{option_map_or}
-use Rattle.dk_core.specs.History.{History}
+use Rattle.dk_blocks.specs.History.{History}
 use Rattle.dk_core.specs.Resuming.{state_file}
 use Rattle.dk_generate.specs.Texts.{generated_line}
 use Rattle.dk_io.specs.Streams.{Texts}

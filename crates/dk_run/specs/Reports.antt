@@ -2,7 +2,7 @@
 use Rattle.std.specs.Prelude.{◌==◌, ◌%◌, ◌&&◌, ℕ, Bool, List, [], ◌++◌, flat_map, nat_lt, if◌then◌else◌}
 use Rattle.std.specs.List.{enumerate_from}
 use Rattle.std.specs.Option.{option_map_or}
-use Rattle.dk_core.specs.History.{History}
+use Rattle.dk_blocks.specs.History.{History}
 use Rattle.dk_core.specs.Sections.{all_stats_of, report_of}
 use Rattle.dk_presence.specs.Patterns.{capped}
 use Rattle.dk_words.specs.declared.command.Command.{Command}

@@ -5,7 +5,7 @@ use Rattle.dk_base.specs.declared.why.Why.{Why}
 use Rattle.dk_base.specs.declared.why.Why.TheVariants.{BadState, TooLong}
 use Rattle.dk_io.specs.Outside.{HeldFile, Absent, Holds}
 use Rattle.dk_state.specs.Spelling.{IsSpelling}
-use Rattle.dk_core.specs.History.{History}
+use Rattle.dk_blocks.specs.History.{History}
 use Rattle.dk_core.specs.Resuming.{IsStart, state_file}
 use Rattle.dk_run.specs.Courses.{Outset, first_start, total_limit}
 

@@ -4,10 +4,10 @@ use Rattle.std.specs.Io.{StartsWith}
 use Rattle.dk_base.specs.Reading.{LineFault}
 use Rattle.dk_io.specs.Outside.{HeldFile, Holds, Rose}
 use Rattle.dk_lines.specs.Reading.{Reading, room_of}
-use Rattle.dk_core.specs.Blocks.{Groups}
-use Rattle.dk_core.specs.History.{History, effect_of, file_ended}
+use Rattle.dk_blocks.specs.Blocks.{Groups}
+use Rattle.dk_blocks.specs.History.{History, effect_of, file_ended}
 use Rattle.dk_core.specs.Standing.{SessionStandsFor, blocks_of}
-use Rattle.dk_core.specs.Steps.{groups_left}
+use Rattle.dk_blocks.specs.Steps.{groups_left}
 use Rattle.dk_core.specs.declared.session.Session.{Session}
 use Rattle.dk_words.specs.declared.command.Command.{Command}
 use Rattle.dk_run.specs.Courses.{Course, behind_histories, course_of_groups}

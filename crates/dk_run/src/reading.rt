@@ -4,7 +4,7 @@ ghost use Rattle.dk_generate.specs.Texts.{generated_name};
 ghost use Rattle.dk_io.specs.Outside.{Absent, HeldFile, Holds, Rose};
 ghost use Rattle.dk_io.specs.declared.outside.Stream.TheVariants as stream;
 ghost use Rattle.dk_lines.specs.Reading.{left_of, room_of};
-ghost use Rattle.dk_core.specs.History.{History};
+ghost use Rattle.dk_blocks.specs.History.{History};
 ghost use Rattle.dk_core.specs.Selecting.{SelectsBy};
 ghost use Rattle.dk_core.specs.Standing.{ReportsAlike, SessionStandsFor, blocks_of, over_of, select_of};
 ghost use Rattle.dk_run.specs.AllFiles.{AreCalmBut, AreNoBreak, AreReadTo, FilesGive, IsCaused, files_trouble};

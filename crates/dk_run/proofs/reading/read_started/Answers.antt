@@ -1,6 +1,6 @@
 use Rattle.std.proofs.Common.{rules, subst, sym, ◌∙◌, ◌≡◌, ◌++◌, [], Bool, true, false, IfSome, Result, Ok, Err, refl, ap}
 use Rattle.dk_lines.specs.Reading.{left_of}
-use Rattle.dk_core.specs.History.{History}
+use Rattle.dk_blocks.specs.History.{History}
 use Rattle.dk_core.specs.Selecting.{SelectsBy}
 use Rattle.dk_core.specs.Standing.{SessionStandsFor, left_with_answer}
 use Rattle.dk_core.specs.Steps.{NextBlock}

@@ -1,6 +1,6 @@
 use Rattle.std.proofs.Common.{◌≡◌, ◌≤◌, ◌-◌, ◌+◌, ◌*◌, ℕ, not, IfSome, if◌then◌else◌}
 use Rattle.dk_lines.specs.Reading.{left_of}
-use Rattle.dk_core.specs.History.{History}
+use Rattle.dk_blocks.specs.History.{History}
 use Rattle.dk_core.specs.Selecting.{SelectsBy}
 use Rattle.dk_core.specs.Standing.{ReportsAlike, SessionStandsFor, blocks_of, over_of, select_of}
 use Rattle.dk_io.specs.declared.outside.Stream.TheVariants.{Report}

@@ -1,5 +1,5 @@
 use Rattle.std.proofs.Common.{sym, subst}
-use Rattle.dk_core.specs.History.{file_ended}
+use Rattle.dk_blocks.specs.History.{file_ended}
 use Rattle.dk_core.specs.Keeping.{Keeping}
 use Rattle.dk_core.specs.Standing.{Stands}
 use Rattle.dk_core.proofs.kept.Kept.end_file.Goals as goal
@@ -8,4 +8,4 @@ pub returns-clause-stands : goal.returns-clause-stands
 unfolding Stands file_ended
 returns-clause-stands c h stands =
     let own = subst (λ (k : Keeping). Stands k h) (sym c.self.view_is) stands in
-    record { table = own.table; header = own.header; calls = c.clear.ensures; many = own.many; engines = own.engines; grammar = own.grammar }
+    record { reader = c.end_file.ensures.stands h own.reader; engines = own.engines; grammar = own.grammar }

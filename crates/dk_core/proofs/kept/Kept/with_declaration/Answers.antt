@@ -1,9 +1,36 @@
-use Rattle.std.proofs.Common.{sym, subst}
+use Rattle.std.proofs.Common.{ap, arith, length, subst, sym, List}
+use Rattle.dk_engine.specs.Levels.{Whole}
+use Rattle.dk_points.specs.Table.{Point}
+use Rattle.dk_blocks.proofs.Growing.{more_points}
+use Rattle.dk_blocks.specs.History.{with_declaration}
+use Rattle.dk_blocks.specs.Standing.{ReaderStandsFor, points_of as points_in}
+use Rattle.dk_core.proofs.Keeping.{engines_grown}
+use Rattle.dk_core.proofs.Taking.{declared_taken}
+use Rattle.dk_core.specs.Growing.{AreGrown}
 use Rattle.dk_core.specs.Keeping.{Keeping}
-use Rattle.dk_core.specs.Standing.{Stands}
+use Rattle.dk_core.specs.Taking.{EnginesWere}
 use Rattle.dk_core.proofs.kept.Kept.with_declaration.Goals as goal
 
-pub returns-in-Ok-clause-closes : goal.returns-in-Ok-clause-closes
-returns-in-Ok-clause-closes c h stands =
-    let taken = c.in-Ok.ensures.closes h (subst (λ (k : Keeping). Stands k h) (sym c.replace.ensures.value) stands) in
-    (taken.0, subst (λ (k : Keeping). Stands k taken.0) (sym c.drop-in-Ok.view_is) taken.1, taken.2)
+pub with_new-requires : goal.with_new-requires
+with_new-requires c =
+    let more = more_points (points_in c.self.inside.reader) (points_in c.in-Ok.reader) c.in-Ok.ensures.points in
+    omega (arith, more, c.self.invariant.engines.long, ap length c.points.ensures.points)
+
+pub invariant_of-result : goal.invariant_of-result
+invariant_of-result c =
+    let k : Keeping = record { reader = c.self.inside.reader; grammar = c.self.inside.grammar; engines = c.self.inside.engines.items } in
+    let all : List Whole = c.in-Ok-with_new.engines.items in
+    let grown = subst (λ (ps : List Point). AreGrown ps k.grammar k.engines all) c.points.ensures.points c.in-Ok-with_new.ensures in
+    let sound = engines_grown (points_in k.reader) (points_in c.in-Ok.reader) k.grammar k.engines all c.in-Ok.ensures.points c.self.invariant.engines c.self.invariant.grammar grown in
+    record { engines = sound.0; grammar = sound.1 }
+
+pub returns-in-Ok-with_new-clause-gives : goal.returns-in-Ok-with_new-clause-gives
+returns-in-Ok-with_new-clause-gives c h now were stands =
+    let k : Keeping = record { reader = c.self.inside.reader; grammar = c.self.inside.grammar; engines = c.self.inside.engines.items } in
+    let all : List Whole = c.in-Ok-with_new.engines.items in
+    let grown = subst (λ (ps : List Point). AreGrown ps k.grammar k.engines all) c.points.ensures.points c.in-Ok-with_new.ensures in
+    declared_taken k c.in-Ok.reader _ all h (with_declaration now c.args.line c.args.decl) (subst (λ (x : Keeping). EnginesWere x h) (sym c.self.view_is) were) grown
+    (c.in-Ok.ensures.gives now (subst (λ (x : Keeping). ReaderStandsFor x.reader now) (sym c.self.view_is) stands))
+
+pub returns-in-Err-clause-gives : goal.returns-in-Err-clause-gives
+returns-in-Err-clause-gives c h now were stands = c.in-Err.ensures.gives now (subst (λ (x : Keeping). ReaderStandsFor x.reader now) (sym c.self.view_is) stands)

@@ -1,0 +1,13 @@
+pub mod BlockLaws
+pub mod Grouping
+pub mod Constants
+pub mod Values
+pub mod Growing
+pub mod Fronting
+pub mod Keeping
+pub mod Declaring
+pub mod Recording
+pub mod Stepping
+pub mod FirstLines
+pub mod Added
+pub mod Derived

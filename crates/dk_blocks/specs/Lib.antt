@@ -1,0 +1,17 @@
+-- cited by public clauses
+pub mod Runs
+pub mod History
+pub mod Adding
+pub mod Finding
+pub mod Standing
+pub mod Steps
+-- what those are made of, and words for the crates above
+pub mod Blocks
+pub mod Fronts
+pub mod Fitting
+pub mod Reading
+-- inner: cited by the clauses of bodies and in proofs alone
+pub mod LineSteps
+pub mod Refusing
+pub mod Keeping
+pub mod Turns

@@ -1,0 +1,25 @@
+-- What is made of a block that was found.
+use Rattle.std.specs.Prelude.{◌≡◌, length, Option, Some, Result, Ok, Err}
+use Rattle.dk_base.specs.Reading.{LineFault}
+use Rattle.dk_base.specs.declared.faults.Fault.{Fault}
+use Rattle.dk_hierarchy.specs.Samples.{own_samples_of}
+use Rattle.dk_hierarchy.specs.Standing.{EnginesStandFor}
+use Rattle.dk_blocks.specs.Adding.{Adds}
+use Rattle.dk_blocks.specs.History.{Effect, History, Taken}
+use Rattle.dk_blocks.specs.Steps.{RefusedAs}
+use Rattle.dk_core.specs.Keeping.{Keeping}
+use Rattle.dk_core.specs.Standing.{Stands}
+
+-- the engines stand for the samples of a history, past which the reader has gone
+pub record EnginesWere (kept : Keeping) (h : History) : Type 0 where
+  pub long : length kept.engines ≡ length h.table
+  pub many : length h.samples ≡ length h.table
+  pub engines : EnginesStandFor kept.engines (own_samples_of h.table h.samples)
+  pub grammar : kept.grammar ≡ h.grammar
+
+-- The block comes to this effect, and what is kept behind it stands for the history with it; or it is refused.
+abbrev pub TakenAs : History → Result Keeping Fault → Result Taken LineFault → Type 0
+TakenAs h (Ok kept) outcome =
+    (h' : History) × ((effect : Effect) × (outcome ≡ Ok (record { history = h'; effect = Some effect }))
+    × (Adds h (Some effect) h' → h'.grammar ≡ h.grammar → Stands kept h'))
+TakenAs h (Err fault) outcome = RefusedAs fault outcome

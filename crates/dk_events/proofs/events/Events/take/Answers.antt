@@ -1,0 +1,36 @@
+use Rattle.std.proofs.Common.{◌≡◌, refl, rules, subst, sym, Some, Result, Ok}
+use Rattle.dk_base.specs.declared.faults.Fault.{Fault}
+use Rattle.dk_blocks.specs.Finding.{FoundFits, outcome_of}
+use Rattle.dk_blocks.specs.History.{Nothing}
+use Rattle.dk_blocks.specs.Standing.{left_with_answer}
+use Rattle.dk_blocks.specs.Steps.{DeclareGives}
+use Rattle.dk_blocks.specs.declared.found.Found.{Found}
+use Rattle.dk_points.specs.declared.declared.Declared.{Declared}
+use Rattle.dk_events.proofs.Followed.{declaration_taken, sample_taken}
+use Rattle.dk_events.specs.Standing.{TakenAs, points_of, reader_left}
+use Rattle.dk_events.specs.declared.event.Event.TheVariants as event
+use Rattle.dk_events.proofs.events.Events.take.Goals as goal
+
+pub vars-requires : goal.vars-requires
+vars-requires c = (subst (λ (f : Found). FoundFits (points_of c.args.self.now) (Some f)) c.in-Sample.is c.requires).0
+
+pub returns-in-Nothing-clause-gives : goal.returns-in-Nothing-clause-gives
+returns-in-Nothing-clause-gives c h stands =
+    subst (λ (f : Found). TakenAs (Ok (c.args.self.now, event.Nothing)) (outcome_of h (Some f))) (sym c.in-Nothing.is) (h, (stands, (Some Nothing, (refl, refl))))
+
+pub returns-in-Ok-clause-gives : goal.returns-in-Ok-clause-gives
+returns-in-Ok-clause-gives c h stands =
+    let is : c.declare.result ≡ Ok c.in-Ok.declared = search rules in
+    subst (λ (f : Found). TakenAs (Ok (c.declare.new.self, c.event_of.result)) (outcome_of h (Some f))) (sym c.in-Declaration.is)
+    (declaration_taken c.declare.new.self c.in-Ok.declared c.event_of.result _ c.event_of.ensures.event
+    (subst (λ (r : Result Declared Fault). DeclareGives (reader_left (left_with_answer c.declare.new.self r)) _) is (c.declare.ensures.gives h stands)))
+
+pub returns-in-Ok-sample-clause-gives : goal.returns-in-Ok-sample-clause-gives
+returns-in-Ok-sample-clause-gives c h stands =
+    subst (λ (f : Found). TakenAs (Ok (c.args.self.now, c.in-Ok-sample.event)) (outcome_of h (Some f))) (sym c.in-Sample.is)
+    (sample_taken c.args.self.now h c.in-Sample.point c.in-Sample.line c.in-Sample.values c.vars.result.now c.in-Ok-sample.event stands c.vars.ensures c.in-Ok-sample.ensures.event)
+
+pub returns-in-Ok-sample-clause-fits : goal.returns-in-Ok-sample-clause-fits
+returns-in-Ok-sample-clause-fits c =
+    let fits = subst (λ (f : Found). FoundFits (points_of c.args.self.now) (Some f)) c.in-Sample.is c.requires in
+    c.in-Ok-sample.ensures.fits (points_of c.args.self.now) fits.0 c.vars.ensures fits.1

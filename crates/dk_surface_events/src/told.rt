@@ -1,0 +1,266 @@
+// What the blocks of two files are told to do, one after another, and what is refused.
+ghost use Rattle.std.specs.Prelude.{◌≡◌, not, false, IfOk, IfSome};
+ghost use Rattle.dk_blocks.specs.Standing.{over_of as over_in};
+ghost use Rattle.dk_events.specs.Standing.{over_of};
+
+use dk_base::{Arena, Fault, List, NoMemory, PointId, Text, View, spell};
+use dk_blocks::laws::{effects_are_added, groups_are_longest_runs};
+use dk_blocks::{Found, Reader};
+use dk_events::{Ended, Event, Events};
+use dk_io::{Inputs, MemoryInputs};
+use dk_lines::{Limits, Lines};
+use dk_points::Declared;
+use std::alloc::Global;
+use std::test::Fail;
+
+/// Header lines; a point with a sequence and a number, declared twice; a list of implementors; a record of the point; a comment alone; a
+/// method's entry and exit, and records of them: an exit before its entry, an entry and its exit, and an entry whose exit is missing.
+const FIRST: &str =
+    "var-comparability none\n\nppt P\nvariable a[..]\nrep-type int[]\nvariable n\nrep-type int\n\nppt P\nvariable a[..]\nrep-type int[]\nvariable n\nrep-type int\n\nListImplementors\nP\n\nP\na[..]\n[4 5]\n1\nn\n1\n1\n\n# nothing\n\nppt m:::ENTER\nvariable x\nrep-type int\n\nppt m:::EXIT1\nvariable x\nrep-type int\n\nm:::EXIT1\nx\n7\n1\n\nm:::ENTER\nx\n1\n1\n\nm:::EXIT1\nx\n2\n1\n\nm:::ENTER\nx\n3\n1\n";
+
+const TOLD: &str =
+    "nothing;declared;nothing;nothing;0 at 18: [4 5] 1 2 4 5 5 [4 5] [4] [5] [];declared;declared;nothing;1 at 41: 1;3 at 46: 2 1;1 at 51: 3;end;";
+
+/// The method alone, with an entry that waits.
+const DECLARED: &str =
+    "ppt m:::ENTER\nvariable x\nrep-type int\n\nppt m:::EXIT1\nvariable x\nrep-type int\n\nm:::ENTER\nx\n3\n1\n";
+
+/// An exit, whose entry does not wait in this file.
+const SECOND: &str = "\nm:::EXIT1\nx\n4\n1\n";
+
+fn push_file(
+    alloc: Global,
+    files: &mut List<(Text, Text)>,
+    name: &str,
+    text: &str,
+) -> Result<(), NoMemory> {
+    let name = Text::from_slice(alloc, name.as_bytes())?;
+    let bytes = Text::from_slice(alloc, text.as_bytes())?;
+    files.push((name, bytes))
+}
+
+fn two_files(alloc: Global, first: &str) -> Result<MemoryInputs, NoMemory> {
+    let mut files = List::new(alloc);
+    push_file(alloc, &mut files, "first", first)?;
+    push_file(alloc, &mut files, "second", SECOND)?;
+    Ok(MemoryInputs::new(files, List::new(alloc), 7))
+}
+
+fn show_sample(
+    alloc: Global,
+    shown: &mut Text,
+    point: PointId,
+    line: u64,
+    values: &[View<'_>],
+) -> Result<(), NoMemory> {
+    let place = point.0;
+    shown.append(format!(in alloc; "{place} at {line}:")?.as_bytes())?;
+    for value in values {
+        shown.push(b' ')?;
+        shown.append(spell(alloc, *value)?.as_slice())?;
+    }
+    shown.push(b';')
+}
+
+fn show_event(alloc: Global, shown: &mut Text, event: Event<'_>) -> Result<(), NoMemory> {
+    match event {
+        Event::Nothing => shown.append(b"nothing;"),
+        Event::Declared => shown.append(b"declared;"),
+        Event::Sample {
+            point,
+            line,
+            values,
+        } => show_sample(alloc, shown, point, line, values),
+    }
+}
+
+fn show_fault(alloc: Global, shown: &mut Text, fault: Fault) -> Result<(), NoMemory> {
+    match fault {
+        Fault::Refused { file, line, why } => {
+            shown.append(format!(in alloc; "{file}: {line}: {why};")?.as_bytes())
+        }
+        Fault::Read { file } => shown.append(format!(in alloc; "{file};")?.as_bytes()),
+        Fault::NoMemory => Err(NoMemory),
+    }
+}
+
+// What the blocks of the started file do, up to its end or a fault, or of the first twenty.
+fn show_all<I: Inputs>(
+    alloc: Global,
+    events: &mut Events,
+    inputs: &mut I,
+    lines: &mut Lines,
+) -> Result<Text, NoMemory>
+    requires { lines.old.is_started ≡ not (over_of events.old) }
+{
+    let mut shown = Text::new(alloc);
+    for step in 0..20u32 {
+        let arena = Arena::new(alloc);
+        match events.next(&arena, inputs, lines) {
+            Ok(Some(event)) => show_event(alloc, &mut shown, event)?,
+            Ok(None) => {
+                shown.append(b"end;")?;
+                return Ok(shown);
+            }
+            Err(fault) => {
+                show_fault(alloc, &mut shown, fault)?;
+                return Ok(shown);
+            }
+        }
+    }
+    Ok(shown)
+}
+
+// What is told of the file of this name, by events that are to read the next file.
+fn show_file<I: Inputs>(
+    alloc: Global,
+    events: &mut Events,
+    inputs: &mut I,
+    lines: &mut Lines,
+    name: &str,
+) -> Result<Text, NoMemory>
+    requires { over_of events.old ≡ false }
+{
+    match lines.start(inputs, name) {
+        Ok(()) => show_all(alloc, events, inputs, lines),
+        Err(_) => Err(NoMemory),
+    }
+}
+
+// How many variables the first point has, derived ones included; 0 where there is no point.
+fn first_vars(events: &Events) -> usize {
+    if events.points().len() == 0 {
+        return 0;
+    }
+    events.vars(PointId(0)).len()
+}
+
+#[test]
+fn events_of_two_files(rt: HostRuntime) -> Result<(), Fail> {
+    let alloc = rt.alloc();
+    let mut inputs = two_files(alloc, FIRST)?;
+    let mut lines = Lines::new(alloc, Limits::STANDARD)?;
+    let mut events = Events::new(alloc, true)?;
+    let told = show_file(alloc, &mut events, &mut inputs, &mut lines, "first")?;
+    assert_eq!(&rt; told.as_slice(), TOLD.as_bytes());
+    assert!(rt; !events.implicit());
+    let mut events = events.end_file();
+    let told = show_file(alloc, &mut events, &mut inputs, &mut lines, "second")?;
+    assert_eq!(&rt; told.as_slice(), b"nothing;end;".as_slice());
+    assert!(rt; events.points().len() == 4);
+    assert!(rt; first_vars(&events) == 10);
+    Ok(())
+}
+
+#[test]
+fn an_exit_without_an_entry_is_refused(rt: HostRuntime) -> Result<(), Fail> {
+    let alloc = rt.alloc();
+    let mut inputs = two_files(alloc, DECLARED)?;
+    let mut lines = Lines::new(alloc, Limits::STANDARD)?;
+    let mut events = Events::new(alloc, false)?;
+    let told = show_file(alloc, &mut events, &mut inputs, &mut lines, "first")?;
+    assert_eq!(&rt;
+        told.as_slice(),
+        b"declared;declared;0 at 9: 3;end;".as_slice()
+    );
+    assert!(rt; events.implicit());
+    let mut events = events.end_file();
+    let told = show_file(alloc, &mut events, &mut inputs, &mut lines, "second")?;
+    assert_eq!(&rt; told.as_slice(), b"1: 2: 14 UnmatchedExit;".as_slice());
+    Ok(())
+}
+
+// Whether the next block of the started file is a declaration of a new point, which the reader takes.
+fn takes_declaration<I: Inputs>(
+    alloc: Global,
+    reader: Reader,
+    inputs: &mut I,
+    lines: &mut Lines,
+) -> Result<Option<Reader>, Fault>
+    requires { lines.old.is_started ≡ not (over_in reader) }
+    ensures { IfOk result (λ taken. IfSome taken (λ after. lines.new.is_started ≡ not (over_in after))) }
+{
+    let mut reader = reader;
+    let arena = Arena::new(alloc);
+    match reader.next(&arena, inputs, lines, false)? {
+        Some(Found::Declaration { line, decl }) => match reader.declare(line, decl)? {
+            (reader, Declared::New(_)) => Ok(Some(reader)),
+            (_, Declared::Same(_)) => Ok(None),
+        },
+        _ => Ok(None),
+    }
+}
+
+// Whether the next block is a record of the last point, with one base value, which begins at this line.
+fn reads_record<I: Inputs>(
+    alloc: Global,
+    reader: &mut Reader,
+    inputs: &mut I,
+    lines: &mut Lines,
+    begins: u64,
+) -> bool
+    requires { lines.old.is_started ≡ not (over_in reader.old) }
+{
+    let last = reader.points().len();
+    let arena = Arena::new(alloc);
+    match reader.next(&arena, inputs, lines, false) {
+        Ok(
+            Some(
+                Found::Sample {
+                    point,
+                    line,
+                    values,
+                },
+            ),
+        ) => point.0 < last && line == begins && values.len() == 1,
+        _ => false,
+    }
+}
+
+// Whether a reader finds two new points and a record in the started file, and none of its entries waits in the next one.
+fn reads_by_hand<I: Inputs>(alloc: Global, inputs: &mut I, lines: &mut Lines) -> Result<bool, Fault>
+    requires { lines.old.is_started ≡ true }
+{
+    let Ok(reader) = Reader::new(alloc) else {
+        return Err(Fault::NoMemory);
+    };
+    let Some(reader) = takes_declaration(alloc, reader, inputs, lines)? else {
+        return Ok(false);
+    };
+    let Some(mut reader) = takes_declaration(alloc, reader, inputs, lines)? else {
+        return Ok(false);
+    };
+    if !reads_record(alloc, &mut reader, inputs, lines, 9) {
+        return Ok(false);
+    }
+    reader.end_file();
+    Ok(reader.implicit() && reader.points().len() == 3)
+}
+
+#[test]
+fn a_reader_hands_out_what_it_finds(rt: HostRuntime) -> Result<(), Fail> {
+    groups_are_longest_runs();
+    effects_are_added();
+    let alloc = rt.alloc();
+    let mut inputs = two_files(alloc, DECLARED)?;
+    let mut lines = Lines::new(alloc, Limits::STANDARD)?;
+    assert!(rt; lines.start(&mut inputs, "first").is_ok());
+    assert!(rt; matches!(reads_by_hand(alloc, &mut inputs, &mut lines), Ok(true)));
+    Ok(())
+}
+
+#[test]
+fn statuses_have_numbers(rt: HostRuntime) -> Result<(), Fail> {
+    let all = [
+        Ended::Done,
+        Ended::Refused,
+        Ended::Usage,
+        Ended::Read,
+        Ended::Write,
+        Ended::NoMemory,
+    ];
+    for (number, ended) in all.iter().enumerate() {
+        assert!(rt; ended.code() as usize == number);
+    }
+    Ok(())
+}
