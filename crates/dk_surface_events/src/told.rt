@@ -1,5 +1,5 @@
 // What the blocks of two files are told to do, one after another, and what is refused.
-ghost use Rattle.std.specs.Prelude.{◌≡◌, not, false, IfOk, IfSome};
+ghost use Rattle.std.specs.Prelude.{◌≡◌, not, true, false, IfOk, IfSome};
 ghost use Rattle.dk_blocks.specs.Standing.{over_of as over_in};
 ghost use Rattle.dk_events.specs.Standing.{over_of};
 

@@ -11,7 +11,7 @@ loop-place-preserved c =
     let own : List VarInfo = c.in_ok-derive.field-0 in
     let is : own ≡ all_vars_of c.args.points.now c.loop-place.place = c.in_ok-derive.ensures.vars ∙ ap with_derived_vars c.vars.ensures.vars in
     record {
-      first = subst (AreVarsOfFirst c.args.points.now) (sym c.in_ok-push.ensures.items)
+      first = subst (AreVarsOfFirst c.args.points.now) (sym {A = List (List VarInfo)} c.in_ok-push.ensures.items)
           (one_more c.args.points.now c.loop-place.vars.items own c.loop-place.place c.loop-place.invariant.first c.loop-place.invariant.many is);
       many = ap length c.in_ok-push.ensures.items ∙ omega (arith, length-append c.loop-place.vars.items (own ∷ []), c.loop-place.invariant.many);
     }

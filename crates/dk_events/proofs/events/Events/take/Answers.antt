@@ -1,7 +1,8 @@
 use Rattle.std.proofs.Common.{◌≡◌, refl, rules, subst, sym, Some, Result, Ok}
+use Rattle.dk_base.specs.Reading.{LineFault}
 use Rattle.dk_base.specs.declared.faults.Fault.{Fault}
 use Rattle.dk_blocks.specs.Finding.{FoundFits, outcome_of}
-use Rattle.dk_blocks.specs.History.{Nothing}
+use Rattle.dk_blocks.specs.History.{Nothing, Taken, with_declaration}
 use Rattle.dk_blocks.specs.Standing.{left_with_answer}
 use Rattle.dk_blocks.specs.Steps.{DeclareGives}
 use Rattle.dk_blocks.specs.declared.found.Found.{Found}
@@ -16,14 +17,15 @@ vars-requires c = (subst (λ (f : Found). FoundFits (points_of c.args.self.now) 
 
 pub returns-in-Nothing-clause-gives : goal.returns-in-Nothing-clause-gives
 returns-in-Nothing-clause-gives c h stands =
-    subst (λ (f : Found). TakenAs (Ok (c.args.self.now, event.Nothing)) (outcome_of h (Some f))) (sym c.in-Nothing.is) (h, (stands, (Some Nothing, (refl, refl))))
+    subst (λ (f : Found). TakenAs (Ok (c.args.self.now, event.Nothing)) (outcome_of h (Some f))) (sym c.in-Nothing.is) (h, stands, (Some Nothing, refl, refl))
 
 pub returns-in-Ok-clause-gives : goal.returns-in-Ok-clause-gives
 returns-in-Ok-clause-gives c h stands =
     let is : c.declare.result ≡ Ok c.in-Ok.declared = search rules in
+    let comes : Result Taken LineFault = with_declaration h c.in-Declaration.line c.in-Declaration.decl in
     subst (λ (f : Found). TakenAs (Ok (c.declare.new.self, c.event_of.result)) (outcome_of h (Some f))) (sym c.in-Declaration.is)
-    (declaration_taken c.declare.new.self c.in-Ok.declared c.event_of.result _ c.event_of.ensures.event
-    (subst (λ (r : Result Declared Fault). DeclareGives (reader_left (left_with_answer c.declare.new.self r)) _) is (c.declare.ensures.gives h stands)))
+    (declaration_taken c.declare.new.self c.in-Ok.declared c.event_of.result comes c.event_of.ensures.event
+    (subst (λ (r : Result Declared Fault). DeclareGives (reader_left (left_with_answer c.declare.new.self r)) comes) is (c.declare.ensures.gives h stands)))
 
 pub returns-in-Ok-sample-clause-gives : goal.returns-in-Ok-sample-clause-gives
 returns-in-Ok-sample-clause-gives c h stands =
