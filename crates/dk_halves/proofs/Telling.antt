@@ -1,0 +1,185 @@
+-- What engines that stand for samples and their halves tell of them.
+use Rattle.std.specs.Prelude.{◌≡◌, ◌&&◌, ◌||◌, ◌==◌, ◌<◌, ◌++◌, ℕ, Bool, true, false, not, All, List, [], ◌∷◌, filter, find, flat_map, if◌then◌else◌, length, map, refl, Option, Some, None, option_map}
+use Rattle.std.specs.List.{list_any}
+use Rattle.std.specs.Option.{option_map_or}
+use Rattle.std.proofs.Common.{◌∙◌, ap, append-nil, sym}
+use Rattle.std.proofs.lemmas.List.Concat.{flat_map-append}
+use Rattle.std.proofs.lemmas.List.Elements.{All-cons, All-head, All-nil, All-tail}
+use Rattle.std.proofs.lemmas.List.Folds.{flat_map-map}
+use Rattle.dk_base.specs.declared.kinds.VarId.{VarId}
+use Rattle.dk_base.specs.declared.kinds.VarInfo.{VarInfo}
+use Rattle.dk_base.specs.declared.values.Value.{Value}
+use Rattle.dk_classes.proofs.OfKind.{kind_read}
+use Rattle.dk_classes.specs.Classes.{kind_at, var_kinds}
+use Rattle.dk_engine.proofs.Readings.{agree_read_is_agreement, reading_is_fit}
+use Rattle.dk_engine.specs.Levels.{Whole}
+use Rattle.dk_engine.specs.Reading.{agree_read, read}
+use Rattle.dk_filters.proofs.Agreeing.{agrees_is_agreement}
+use Rattle.dk_filters.proofs.Asked.{admitted-there}
+use Rattle.dk_filters.proofs.Lists.{any-same}
+use Rattle.dk_filters.specs.Candidates.{candidate_of, candidates_of, it_holds, kept_by}
+use Rattle.dk_filters.specs.Facts.{facts_of, info_at, no_info}
+use Rattle.dk_filters.specs.OfSamples.{agrees, told_by}
+use Rattle.dk_filters.specs.Sameness.{same_state}
+use Rattle.dk_filters.specs.declared.candidate.Candidate.{Candidate}
+use Rattle.dk_filters.specs.declared.facts.Facts.{Facts}
+use Rattle.dk_fits.specs.Fits.{fit}
+use Rattle.dk_fits.specs.Instances.{IsInstance, are_distinct, instances_of}
+use Rattle.dk_hierarchy.specs.Standing.{EngineStandsFor}
+use Rattle.dk_report.proofs.FlatMaps.{flat_map-flat_map, flat_map-passing, flat_map-same}
+use Rattle.dk_report.specs.Keeping.{drops, keeps}
+use Rattle.dk_report.specs.declared.options.Options.{Options}
+use Rattle.dk_template.specs.Admitted.{admits, is_written}
+use Rattle.dk_template.specs.Premises.{AreThere}
+use Rattle.dk_template.specs.declared.grammar.Grammar.{Grammar}
+use Rattle.dk_template.specs.declared.grammar.RowId.{RowId}
+use Rattle.std.proofs.lemmas.Bool.{and_parts}
+use Rattle.dk_halves.specs.Conditions.{base_bools, conditions, is_condition}
+use Rattle.dk_halves.specs.Implications.{Implication, implication, implications_of, implied_by, is_dropped, is_told_by, kept_in, told_by_halves}
+use Rattle.dk_halves.specs.Halves.{half_of}
+use Rattle.dk_halves.specs.Reports.{implication_line}
+use Rattle.dk_halves.specs.Telling.{all_on, is_first, is_told, lines_of, told_lines}
+use Rattle.dk_halves.specs.declared.halves.Halves.{Halves}
+
+abbrev Samples : Type 0
+Samples = List (List Value)
+
+-- ---- lists
+same-tests : (b c : Bool) → (b ≡ true → c ≡ true) → (c ≡ true → b ≡ true) → b ≡ c
+same-tests true c to from = sym (to refl)
+same-tests false true to from = from refl
+same-tests false false to from = refl
+
+module _ {A : Type 0} (Q : A → Type 0) (p q : A → Bool) (same : (x : A) → Q x → p x ≡ q x) where
+  filter-step : (x : A) (xs : List A) (b : Bool) → filter p xs ≡ filter q xs → (if b then x ∷ filter p xs else filter p xs) ≡ (if b then x ∷ filter q xs else filter q xs)
+  filter-step x xs b e = ap (λ ys. if b then x ∷ ys else ys) e
+
+  pub filter-same : (xs : List A) → All Q xs → filter p xs ≡ filter q xs
+  filter-same [] all = refl
+  filter-same (x ∷ xs) all =
+      filter-step x xs (p x) (filter-same xs (All-tail Q x xs all)) ∙ ap (λ b. if b then x ∷ filter q xs else filter q xs) (same x (All-head Q x xs all))
+
+  pub find-same : (xs : List A) → All Q xs → find p xs ≡ find q xs
+  find-same [] all = refl
+  find-same (x ∷ xs) all =
+      ap (λ o. if p x then Some x else o) (find-same xs (All-tail Q x xs all)) ∙ ap (λ b. if b then Some x else find q xs) (same x (All-head Q x xs all))
+
+module _ {A B C : Type 0} (f : A → B) (p : B → Bool) (g : B → C) (none : C) where
+  found : (x : A) (xs : List A) (b : Bool) → option_map_or (λ y. g (f y)) (find (λ y. p (f y)) xs) none ≡ option_map_or g (find p (map f xs)) none
+      → option_map_or (λ y. g (f y)) (if b then Some x else find (λ y. p (f y)) xs) none ≡ option_map_or g (if b then Some (f x) else find p (map f xs)) none
+  found x xs true rest = refl
+  found x xs false rest = rest
+
+  pub find-mapped : (xs : List A) → option_map_or (λ y. g (f y)) (find (λ y. p (f y)) xs) none ≡ option_map_or g (find p (map f xs)) none
+  find-mapped [] = refl
+  find-mapped (x ∷ xs) = found x xs (p (f x)) (find-mapped xs)
+
+-- ---- what the engine of all samples tells
+module _ (whole : Whole) (samples : Samples) (stands : EngineStandsFor whole samples) where
+  abbrev Within : VarId → Type 0
+  Within v = v.0 < length whole.infos
+
+  agree_is : (v w : VarId) → Within v → Within w → agree_read whole.kept v w ≡ agrees whole.infos samples v w
+  agree_is v w first second =
+      let says = agree_read_is_agreement whole.grammar whole.infos stands.variables samples stands.samples_are whole.kept stands.kept_is v w first second in
+      let told = agrees_is_agreement whole.infos samples v w in
+      let at-v : kind_at (var_kinds whole.infos) v.0 ≡ (info_at whole.infos v).kind = kind_read whole.infos v.0 no_info first in
+      let at-w : kind_at (var_kinds whole.infos) w.0 ≡ (info_at whole.infos w).kind = kind_read whole.infos w.0 no_info second in
+      same-tests (agree_read whole.kept v w) (agrees whole.infos samples v w)
+      (λ h. told.1 (sym at-v ∙ ((says.0 h).0 ∙ at-w), (says.0 h).1))
+      (λ h. says.1 (at-v ∙ ((told.0 h).0 ∙ sym at-w), (told.0 h).1))
+
+  -- whether a Bool is a condition
+  pub first_is : (all : List Halves) → map (λ (halves : Halves). halves.condition) all ≡ base_bools whole.infos → All (λ (halves : Halves). Within halves.condition) all
+      → (b : VarId) → Within b → is_first whole.kept all b ≡ is_condition whole.infos samples b
+  first_is all conditions within b there =
+      ap (λ (o : Option Halves). option_map_or (λ (halves : Halves). halves.condition.0 == b.0) o false)
+      (find-same (λ (halves : Halves). Within halves.condition) (λ (halves : Halves). agree_read whole.kept halves.condition b) (λ (halves : Halves). agrees whole.infos samples halves.condition b)
+      (λ halves w. agree_is halves.condition b w there) all within)
+      ∙ (find-mapped (λ (halves : Halves). halves.condition) (λ a. agrees whole.infos samples a b) (λ (a : VarId). a.0 == b.0) false all
+      ∙ ap (λ (vs : List VarId). option_map_or (λ (a : VarId). a.0 == b.0) (find (λ a. agrees whole.infos samples a b) vs) false) conditions)
+
+  -- whether an instance says more on a half
+  pub told_is : (b : VarId) → Within b → (c : Candidate) → IsInstance whole.grammar whole.infos c.row c.vars → is_told whole.kept b c ≡ is_told_by whole.infos samples b c
+  told_is b there c is =
+      let admitted = (and_parts (admits c.row whole.infos c.vars) (is_written c.row c.vars && are_distinct c.vars) is.asked).0 in
+      let there_too : AreThere whole.infos c.vars = admitted-there whole.infos c.row c.vars admitted in
+      ap (λ t. not t && not (same_state c.state (read whole.kept c.row c.vars)))
+      (any-same Within (agree_read whole.kept b) (agrees whole.infos samples b) (λ v w. agree_is b v there w) c.vars there_too)
+      ∙ ap (λ s. not (list_any (agrees whole.infos samples b) c.vars) && not (same_state c.state s))
+      (reading_is_fit whole.grammar whole.infos stands.variables samples stands.samples_are whole.kept stands.kept_is c.row is.of_grammar c.vars admitted)
+
+-- ---- what isn't dropped
+and-true : (b : Bool) → (b && true) ≡ b
+and-true true = refl
+and-true false = refl
+
+or-false : (b : Bool) → (b || false) ≡ b
+or-false true = refl
+or-false false = refl
+
+-- where no parent has an instance, all filters drop what is dropped
+drops_is : (least : ℕ) (f : Facts) → f.parent ≡ false → drops (all_on least) f ≡ is_dropped f
+drops_is least f none =
+    ap (λ b. f.few || b || (f.member && true) || (f.implied && true) || (f.constant && true) || (f.parent && true)) (and-true f.incomparable)
+    ∙ (ap (λ b. f.few || f.incomparable || b || (f.implied && true) || (f.constant && true) || (f.parent && true)) (and-true f.member)
+    ∙ (ap (λ b. f.few || f.incomparable || f.member || b || (f.constant && true) || (f.parent && true)) (and-true f.implied)
+    ∙ (ap (λ b. f.few || f.incomparable || f.member || f.implied || b || (f.parent && true)) (and-true f.constant)
+    ∙ (ap (λ b. f.few || f.incomparable || f.member || f.implied || f.constant || b) (and-true f.parent ∙ none)
+    ∙ or-false (f.few || f.incomparable || f.member || f.implied || f.constant)))))
+
+module _ (grammar : Grammar) (least : ℕ) (infos : List VarInfo) (half : Samples) where
+  abbrev HasNoParent : Candidate → Type 0
+  HasNoParent c = c.facts.parent ≡ false
+
+  no_parent : (i : RowId × List VarId) → HasNoParent (candidate_of least (told_by infos half) [] i)
+  unfolding facts_of
+  no_parent i = refl
+
+  all_mapped : (is : List (RowId × List VarId)) → All HasNoParent (map (candidate_of least (told_by infos half) []) is)
+  all_mapped [] = All-nil HasNoParent
+  all_mapped (i ∷ is) = All-cons HasNoParent (candidate_of least (told_by infos half) [] i) (map (candidate_of least (told_by infos half) []) is) (no_parent i) (all_mapped is)
+
+  no_parents : All HasNoParent (candidates_of grammar least (told_by infos half) [])
+  unfolding candidates_of
+  no_parents = all_mapped (filter (it_holds (told_by infos half)) (instances_of grammar infos))
+
+  pub kept_is : kept_by (keeps (all_on least)) (candidates_of grammar least (told_by infos half) []) ≡ kept_in grammar least infos half
+  kept_is =
+      filter-same HasNoParent (keeps (all_on least)) (λ (c : Candidate). not (is_dropped c.facts)) (λ c none. ap not (drops_is least c.facts none))
+      (candidates_of grammar least (told_by infos half) []) no_parents
+
+-- ---- lines
+module _ (whole : Whole) (samples : Samples) (stands : EngineStandsFor whole samples) (b : VarId) (there : b.0 < length whole.infos) (least : ℕ) where
+  -- of a half
+  pub half_lines : (truth : Bool) (list : List Candidate) → All (λ (c : Candidate). IsInstance whole.grammar whole.infos c.row c.vars) list
+      → list ≡ kept_by (keeps (all_on least)) (candidates_of whole.grammar least (told_by whole.infos (half_of samples b truth)) [])
+      → told_lines whole b truth list ≡ flat_map (implication_line whole.infos) (implied_by whole.grammar least whole.infos samples b truth)
+  half_lines truth list instances is =
+      let line : Candidate → List ℕ = λ c. implication_line whole.infos (implication b truth c) in
+      ap (flat_map line)
+      (filter-same (λ (c : Candidate). IsInstance whole.grammar whole.infos c.row c.vars) (is_told whole.kept b) (is_told_by whole.infos samples b) (λ c one. told_is whole samples stands b there c one) list instances)
+      ∙ (ap (λ (cs : List Candidate). flat_map line (filter (is_told_by whole.infos samples b) cs)) (is ∙ kept_is whole.grammar least whole.infos (half_of samples b truth))
+      ∙ sym (flat_map-map (implication_line whole.infos) (implication b truth) (filter (is_told_by whole.infos samples b) (kept_in whole.grammar least whole.infos (half_of samples b truth)))))
+
+-- of both halves
+pub both_lines : (grammar : Grammar) (least : ℕ) (infos : List VarInfo) (samples : Samples) (b : VarId)
+    → flat_map (implication_line infos) (implied_by grammar least infos samples b true) ++ flat_map (implication_line infos) (implied_by grammar least infos samples b false)
+    ≡ flat_map (implication_line infos) (told_by_halves grammar least infos samples b)
+both_lines grammar least infos samples b =
+    let line = implication_line infos in
+    let first = implied_by grammar least infos samples b true in
+    let second = implied_by grammar least infos samples b false in
+    sym (flat_map-append line first (second ++ []) ∙ ap (λ (is : List Implication). flat_map line first ++ flat_map line is) (append-nil second))
+
+-- of all halves
+pub all_lines : (grammar : Grammar) (least : ℕ) (infos : List VarInfo) (samples : Samples) (all : List Halves) → map (λ (halves : Halves). halves.condition) all ≡ base_bools infos
+    → flat_map (λ (halves : Halves). lines_of grammar least infos samples halves.condition) all ≡ flat_map (implication_line infos) (implications_of grammar least infos samples)
+unfolding implications_of
+all_lines grammar least infos samples all conditions_are =
+    let line = implication_line infos in
+    let told = told_by_halves grammar least infos samples in
+    sym (flat_map-map (lines_of grammar least infos samples) (λ (halves : Halves). halves.condition) all)
+    ∙ (ap (flat_map (lines_of grammar least infos samples)) conditions_are
+    ∙ (sym (flat_map-passing (λ b. flat_map line (told b)) (is_condition infos samples) (base_bools infos))
+    ∙ sym (flat_map-flat_map line told (conditions infos samples))))
