@@ -13,13 +13,13 @@ use Rattle.dk_classes.proofs.OfKind.{kind_read}
 use Rattle.dk_classes.specs.Classes.{kind_at, var_kinds}
 use Rattle.dk_engine.proofs.Readings.{agree_read_is_agreement, reading_is_fit}
 use Rattle.dk_engine.specs.Levels.{Whole}
-use Rattle.dk_engine.specs.Reading.{agree_read, read}
+use Rattle.dk_engine.specs.Reading.{agree_read, state_read}
 use Rattle.dk_filters.proofs.Agreeing.{agrees_is_agreement}
 use Rattle.dk_filters.proofs.Asked.{admitted-there}
 use Rattle.dk_filters.proofs.Lists.{any-same}
-use Rattle.dk_filters.specs.Candidates.{candidate_of, candidates_of, it_holds, kept_by}
+use Rattle.dk_filters.specs.Candidates.{candidate_of, candidates_of, it_holds, candidates_kept}
 use Rattle.dk_filters.specs.Facts.{facts_of, info_at, no_info}
-use Rattle.dk_filters.specs.OfSamples.{agrees, told_by}
+use Rattle.dk_filters.specs.OfSamples.{agrees, answers_of}
 use Rattle.dk_filters.specs.Sameness.{same_state}
 use Rattle.dk_filters.specs.declared.candidate.Candidate.{Candidate}
 use Rattle.dk_filters.specs.declared.facts.Facts.{Facts}
@@ -35,7 +35,7 @@ use Rattle.dk_template.specs.declared.grammar.Grammar.{Grammar}
 use Rattle.dk_template.specs.declared.grammar.RowId.{RowId}
 use Rattle.std.proofs.lemmas.Bool.{and_parts}
 use Rattle.dk_halves.specs.Conditions.{base_bools, conditions, is_condition}
-use Rattle.dk_halves.specs.Implications.{Implication, implication, implications_of, implied_by, is_dropped, is_told_by, kept_in, told_by_halves}
+use Rattle.dk_halves.specs.Implications.{Implication, implication, implications_of, implied_by, is_left_out, is_told_by, kept_in, told_by_halves}
 use Rattle.dk_halves.specs.Halves.{half_of}
 use Rattle.dk_halves.specs.Reports.{implication_line}
 use Rattle.dk_halves.specs.Telling.{all_on, is_first, is_told, lines_of, told_lines}
@@ -104,7 +104,7 @@ module _ (whole : Whole) (samples : Samples) (stands : EngineStandsFor whole sam
   told_is b there c is =
       let admitted = (and_parts (admits c.row whole.infos c.vars) (is_written c.row c.vars && are_distinct c.vars) is.asked).0 in
       let there_too : AreThere whole.infos c.vars = admitted-there whole.infos c.row c.vars admitted in
-      ap (λ t. not t && not (same_state c.state (read whole.kept c.row c.vars)))
+      ap (λ t. not t && not (same_state c.state (state_read whole.kept c.row c.vars)))
       (any-same Within (agree_read whole.kept b) (agrees whole.infos samples b) (λ v w. agree_is b v there w) c.vars there_too)
       ∙ ap (λ s. not (list_any (agrees whole.infos samples b) c.vars) && not (same_state c.state s))
       (reading_is_fit whole.grammar whole.infos stands.variables samples stands.samples_are whole.kept stands.kept_is c.row is.of_grammar c.vars admitted)
@@ -119,7 +119,7 @@ or-false true = refl
 or-false false = refl
 
 -- where no parent has an instance, all filters drop what is dropped
-drops_is : (least : ℕ) (f : Facts) → f.parent ≡ false → drops (all_on least) f ≡ is_dropped f
+drops_is : (least : ℕ) (f : Facts) → f.parent ≡ false → drops (all_on least) f ≡ is_left_out f
 drops_is least f none =
     ap (λ b. f.few || b || (f.member && true) || (f.implied && true) || (f.constant && true) || (f.parent && true)) (and-true f.incomparable)
     ∙ (ap (λ b. f.few || f.incomparable || b || (f.implied && true) || (f.constant && true) || (f.parent && true)) (and-true f.member)
@@ -132,28 +132,28 @@ module _ (grammar : Grammar) (least : ℕ) (infos : List VarInfo) (half : Sample
   abbrev HasNoParent : Candidate → Type 0
   HasNoParent c = c.facts.parent ≡ false
 
-  no_parent : (i : RowId × List VarId) → HasNoParent (candidate_of least (told_by infos half) [] i)
+  no_parent : (i : RowId × List VarId) → HasNoParent (candidate_of least (answers_of infos half) [] i)
   unfolding facts_of
   no_parent i = refl
 
-  all_mapped : (is : List (RowId × List VarId)) → All HasNoParent (map (candidate_of least (told_by infos half) []) is)
+  all_mapped : (is : List (RowId × List VarId)) → All HasNoParent (map (candidate_of least (answers_of infos half) []) is)
   all_mapped [] = All-nil HasNoParent
-  all_mapped (i ∷ is) = All-cons HasNoParent (candidate_of least (told_by infos half) [] i) (map (candidate_of least (told_by infos half) []) is) (no_parent i) (all_mapped is)
+  all_mapped (i ∷ is) = All-cons HasNoParent (candidate_of least (answers_of infos half) [] i) (map (candidate_of least (answers_of infos half) []) is) (no_parent i) (all_mapped is)
 
-  no_parents : All HasNoParent (candidates_of grammar least (told_by infos half) [])
+  no_parents : All HasNoParent (candidates_of grammar least (answers_of infos half) [])
   unfolding candidates_of
-  no_parents = all_mapped (filter (it_holds (told_by infos half)) (instances_of grammar infos))
+  no_parents = all_mapped (filter (it_holds (answers_of infos half)) (instances_of grammar infos))
 
-  pub kept_is : kept_by (keeps (all_on least)) (candidates_of grammar least (told_by infos half) []) ≡ kept_in grammar least infos half
+  pub kept_is : candidates_kept (keeps (all_on least)) (candidates_of grammar least (answers_of infos half) []) ≡ kept_in grammar least infos half
   kept_is =
-      filter-same HasNoParent (keeps (all_on least)) (λ (c : Candidate). not (is_dropped c.facts)) (λ c none. ap not (drops_is least c.facts none))
-      (candidates_of grammar least (told_by infos half) []) no_parents
+      filter-same HasNoParent (keeps (all_on least)) (λ (c : Candidate). not (is_left_out c.facts)) (λ c none. ap not (drops_is least c.facts none))
+      (candidates_of grammar least (answers_of infos half) []) no_parents
 
 -- ---- lines
 module _ (whole : Whole) (samples : Samples) (stands : EngineStandsFor whole samples) (b : VarId) (there : b.0 < length whole.infos) (least : ℕ) where
   -- of a half
   pub half_lines : (truth : Bool) (list : List Candidate) → All (λ (c : Candidate). IsInstance whole.grammar whole.infos c.row c.vars) list
-      → list ≡ kept_by (keeps (all_on least)) (candidates_of whole.grammar least (told_by whole.infos (half_of samples b truth)) [])
+      → list ≡ candidates_kept (keeps (all_on least)) (candidates_of whole.grammar least (answers_of whole.infos (half_of samples b truth)) [])
       → told_lines whole b truth list ≡ flat_map (implication_line whole.infos) (implied_by whole.grammar least whole.infos samples b truth)
   half_lines truth list instances is =
       let line : Candidate → List ℕ = λ c. implication_line whole.infos (implication b truth c) in

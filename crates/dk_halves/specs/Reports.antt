@@ -10,7 +10,7 @@ use Rattle.dk_hierarchy.specs.Samples.{OwnSamples, all_vars_of, own_samples_of}
 use Rattle.dk_points.specs.Table.{Point}
 use Rattle.dk_presence.specs.Patterns.{capped}
 use Rattle.dk_print.specs.Sections.{candidate_line, heading}
-use Rattle.dk_report.specs.Reports.{name_of}
+use Rattle.dk_report.specs.Reports.{name_in_table}
 use Rattle.dk_template.specs.declared.grammar.Grammar.{Grammar}
 use Rattle.dk_halves.specs.Implications.{Implication, implications_of}
 
@@ -28,7 +28,7 @@ implications_text grammar least name infos samples =
 unfoldable pub implications_at : Grammar → ℕ → List Point → OwnSamples → ℕ → List ℕ
 implications_at grammar least ps own p =
     if is_empty (slice_index_or own p []) then []
-    else implications_text grammar least (name_of ps p) (all_vars_of ps p) (own_samples_of ps own p)
+    else implications_text grammar least (name_in_table ps p) (all_vars_of ps p) (own_samples_of ps own p)
 
 -- the sections of all points, in the order of the table
 unfoldable pub implications_report : Grammar → ℕ → List Point → OwnSamples → List ℕ

@@ -6,7 +6,7 @@ use Rattle.dk_base.specs.declared.kinds.VarId.{VarId}
 use Rattle.dk_base.specs.declared.kinds.VarInfo.{VarInfo}
 use Rattle.dk_base.specs.declared.values.Value.{Value}
 use Rattle.dk_engine.specs.Levels.{Whole}
-use Rattle.dk_engine.specs.Reading.{agree_read, read}
+use Rattle.dk_engine.specs.Reading.{agree_read, state_read}
 use Rattle.dk_engine.specs.declared.kept.Kept.{Kept}
 use Rattle.dk_filters.specs.Sameness.{same_state}
 use Rattle.dk_filters.specs.declared.candidate.Candidate.{Candidate}
@@ -36,7 +36,7 @@ is_first kept all b =
 
 -- an instance of a half says more there, by what is kept of all samples
 abbrev pub is_told : Kept → VarId → Candidate → Bool
-is_told kept b c = not (list_any (agree_read kept b) c.vars) && not (same_state c.state (read kept c.row c.vars))
+is_told kept b c = not (list_any (agree_read kept b) c.vars) && not (same_state c.state (state_read kept c.row c.vars))
 
 -- the lines of such instances
 abbrev pub told_lines : Whole → VarId → Bool → List Candidate → List ℕ

@@ -15,9 +15,9 @@ use Rattle.dk_hierarchy.proofs.Onward.{all_mapped_own, own_are_partners}
 use Rattle.dk_hierarchy.proofs.Telling.{Samples}
 use Rattle.dk_hierarchy.specs.Descent.{first_way, own_partners}
 use Rattle.dk_hierarchy.specs.Merging.{AreWays, IsWay, Joint}
-use Rattle.dk_hierarchy.specs.Samples.{mapped}
+use Rattle.dk_hierarchy.specs.Samples.{mapped_sample}
 use Rattle.dk_hierarchy.specs.Standing.{EngineStandsFor, EnginesStandFor, JointStandsFor}
-use Rattle.dk_hierarchy.specs.Ways.{all_brought, repeated}
+use Rattle.dk_hierarchy.specs.Ways.{samples_through_all, repeated_samples}
 use Rattle.dk_hierarchy.specs.declared.way.Way.{Way}
 
 module _ (engine : Whole) where
@@ -44,11 +44,11 @@ module _ (engine : Whole) where
     long : All (λ s. length s ≡ length engine.infos) samples
     long = All-weaker (IsSample engine.infos) (λ s. length s ≡ length engine.infos) (λ s is. AllZip-long (λ (info : VarInfo) x. IsOfKind info.kind x) engine.infos s is.kinds) samples stands.samples_are
 
-    brought_are : all_brought (λ i. samples) alone.ways ≡ samples
-    unfolding repeated
+    brought_are : samples_through_all (λ i. samples) alone.ways ≡ samples
+    unfolding repeated_samples
     brought_are =
-        append-nil (map (mapped (own_partners (length engine.infos))) samples ++ [])
-        ∙ (append-nil (map (mapped (own_partners (length engine.infos))) samples)
+        append-nil (map (mapped_sample (own_partners (length engine.infos))) samples ++ [])
+        ∙ (append-nil (map (mapped_sample (own_partners (length engine.infos))) samples)
         ∙ all_mapped_own (length engine.infos) samples long)
 
     pub alone_stands : JointStandsFor alone samples

@@ -25,3 +25,4 @@ pub mod Told
 pub mod Viewed
 pub mod Rules
 pub mod Shown
+pub mod Listable

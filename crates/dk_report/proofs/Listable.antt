@@ -7,7 +7,7 @@ use Rattle.dk_base.specs.declared.kinds.VarId.{VarId}
 use Rattle.dk_base.specs.declared.kinds.VarInfo.{VarInfo}
 use Rattle.dk_filters.proofs.Ascending.{candidates_are}
 use Rattle.dk_filters.specs.Answers.{Answers, Parent}
-use Rattle.dk_filters.specs.Candidates.{candidate_of, candidates_of, it_holds, kept_by}
+use Rattle.dk_filters.specs.Candidates.{candidate_of, candidates_of, it_holds, candidates_kept}
 use Rattle.dk_filters.specs.declared.candidate.Candidate.{Candidate}
 use Rattle.dk_fits.proofs.Listing.{row_of_grammar}
 use Rattle.dk_fits.specs.Instances.{IsInstance, is_asked, rows_of}
@@ -18,11 +18,11 @@ use Rattle.dk_template.specs.declared.grammar.RowId.{RowId}
 use Rattle.dk_template.specs.declared.templates.Takes.{Takes}
 use Rattle.dk_template.specs.declared.templates.Takes.TheVariants.{One, Two, Three}
 use Rattle.dk_engine.specs.declared.kept.Kept.{Kept}
-use Rattle.dk_report.specs.Asked.{here_of, listed_by, standing_of, views_of}
+use Rattle.dk_report.specs.Asked.{here_of, listed_candidates_by, views_of}
 use Rattle.dk_report.specs.Keeping.{keeps}
-use Rattle.dk_report.specs.Listing.{is_listed, listed}
-use Rattle.dk_report.specs.Narrowing.{left_of, narrowed}
-use Rattle.dk_report.specs.Sweeps.{behind, over_takes, pairs, seconds, suited, thirds}
+use Rattle.dk_report.specs.Listing.{is_listed, listed_candidates}
+use Rattle.dk_report.specs.Narrowing.{vars_left, candidates_left}
+use Rattle.dk_report.specs.Sweeps.{behind, over_takes, pairs, seconds, suited_vars, thirds}
 use Rattle.dk_report.specs.declared.asking.Asking.{Asking}
 use Rattle.dk_report.specs.declared.options.Options.{Options}
 use Rattle.dk_report.specs.declared.sweeping.Standing.{Standing}
@@ -44,8 +44,8 @@ module _ (asking : Asking) where
   IsHere = IsOne asking.here.now.here.grammar asking.here.now.here.infos
 
   module _ (row : RowId) (of : IsRowOf asking.here.now.here.grammar row) where
-    all_listed : (vars : List VarId) → All IsHere (listed_by asking row vars)
-    unfolding listed
+    all_listed : (vars : List VarId) → All IsHere (listed_candidates_by asking row vars)
+    unfolding listed_candidates
     all_listed vars = by (is_listed asking.options.now (here_of asking) (views_of asking) row vars) refl
       where
         by : (b : Bool) → is_listed asking.options.now (here_of asking) (views_of asking) row vars ≡ b → All IsHere (if b then candidate_of asking.options.now.least (here_of asking) (views_of asking) (row, vars) ∷ [] else [])
@@ -59,27 +59,27 @@ module _ (asking : Asking) where
             (All-nil IsHere)
         by false h = All-nil IsHere
 
-    all_over : (takes : Takes) (vars : List VarId) → All IsHere (over_takes (listed_by asking row) asking.here.now.here.infos takes vars)
-    all_over (One a) vars = all_flat IsHere (λ v. listed_by asking row (v ∷ [])) (λ v. all_listed (v ∷ [])) (suited a asking.here.now.here.infos vars)
+    all_over : (takes : Takes) (vars : List VarId) → All IsHere (over_takes (listed_candidates_by asking row) asking.here.now.here.infos takes vars)
+    all_over (One a) vars = all_flat IsHere (λ v. listed_candidates_by asking row (v ∷ [])) (λ v. all_listed (v ∷ [])) (suited_vars a asking.here.now.here.infos vars)
     all_over (Two a b) vars =
-        let second = suited b asking.here.now.here.infos vars in
-        all_flat IsHere (λ v. seconds (listed_by asking row) v second)
-        (λ v. all_flat IsHere (λ w. listed_by asking row (v ∷ w ∷ [])) (λ w. all_listed (v ∷ w ∷ [])) second) (suited a asking.here.now.here.infos vars)
+        let second = suited_vars b asking.here.now.here.infos vars in
+        all_flat IsHere (λ v. seconds (listed_candidates_by asking row) v second)
+        (λ v. all_flat IsHere (λ w. listed_candidates_by asking row (v ∷ w ∷ [])) (λ w. all_listed (v ∷ w ∷ [])) second) (suited_vars a asking.here.now.here.infos vars)
     all_over (Three a b c) vars =
-        let second = suited b asking.here.now.here.infos vars in
-        let third = suited c asking.here.now.here.infos vars in
-        all_flat IsHere (λ v. behind (listed_by asking row) v second third)
-        (λ v. all_flat IsHere (λ w. thirds (listed_by asking row) v w third)
-        (λ w. all_flat IsHere (λ x. listed_by asking row (v ∷ w ∷ x ∷ [])) (λ x. all_listed (v ∷ w ∷ x ∷ [])) third) second)
-        (suited a asking.here.now.here.infos vars)
+        let second = suited_vars b asking.here.now.here.infos vars in
+        let third = suited_vars c asking.here.now.here.infos vars in
+        all_flat IsHere (λ v. behind (listed_candidates_by asking row) v second third)
+        (λ v. all_flat IsHere (λ w. thirds (listed_candidates_by asking row) v w third)
+        (λ w. all_flat IsHere (λ x. listed_candidates_by asking row (v ∷ w ∷ x ∷ [])) (λ x. all_listed (v ∷ w ∷ x ∷ [])) third) second)
+        (suited_vars a asking.here.now.here.infos vars)
 
-  pub narrowed_listable : (kept : Kept) (standing : Standing) → All IsHere (flat_map (narrowed kept asking standing) (rows_of asking.here.now.here.grammar))
+  pub narrowed_listable : (kept : Kept) (standing : Standing) → All IsHere (flat_map (candidates_left kept asking standing) (rows_of asking.here.now.here.grammar))
   narrowed_listable kept standing =
-      all_in IsHere (narrowed kept asking standing) (rows_of asking.here.now.here.grammar)
-      (λ row i. all_over row (row_of_grammar asking.here.now.here.grammar row i) (template_of row).takes (left_of kept standing row))
+      all_in IsHere (candidates_left kept asking standing) (rows_of asking.here.now.here.grammar)
+      (λ row i. all_over row (row_of_grammar asking.here.now.here.grammar row i) (template_of row).takes (vars_left kept standing row))
 
 -- ---- the candidates of a point
-pub candidates_listable : (grammar : Grammar) (options : Options) (here : Answers) (parents : List Parent) → All (IsOne grammar here.infos) (kept_by (keeps options) (candidates_of grammar options.least here parents))
+pub candidates_listable : (grammar : Grammar) (options : Options) (here : Answers) (parents : List Parent) → All (IsOne grammar here.infos) (candidates_kept (keeps options) (candidates_of grammar options.least here parents))
 candidates_listable grammar options here parents =
     All-filter (keeps options) (IsOne grammar here.infos) (candidates_of grammar options.least here parents)
     (λ k d l.

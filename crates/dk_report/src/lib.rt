@@ -1,6 +1,7 @@
 //! The section of a point, from what the engines of a table's points keep.
 #![tactic(auto)]
 
+mod alone;
 mod asking;
 mod keeping;
 pub mod laws;
@@ -12,6 +13,7 @@ mod stats;
 mod sweeping;
 mod viewing;
 
+pub use alone::kept_alone;
 pub use options::Options;
 pub use sections::{kept_instances, push_section};
 pub use stats::push_stats;

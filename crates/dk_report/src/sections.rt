@@ -1,15 +1,9 @@
 // The section of a point.
-ghost use Rattle.std.specs.Prelude.{◌≡◌, ◌<◌, ◌++◌, [], All, IfOk, List, OnOk, length};
-ghost use Rattle.dk_base.specs.declared.values.Value.{Value as SampleValue};
-ghost use Rattle.dk_engine.specs.Exact.{AreOfPoint};
-ghost use Rattle.dk_filters.specs.Candidates.{candidates_of, kept_by};
-ghost use Rattle.dk_filters.specs.OfSamples.{told_by};
-ghost use Rattle.dk_fits.specs.Instances.{IsInstance};
+ghost use Rattle.std.specs.Prelude.{◌≡◌, ◌<◌, ◌++◌, [], IfOk, OnOk, length};
 ghost use Rattle.dk_hierarchy.specs.Samples.{OwnSamples, own_samples_of, samples_of};
-ghost use Rattle.dk_hierarchy.specs.Standing.{AreEnginesOf, EngineStandsFor, EnginesStandFor};
+ghost use Rattle.dk_hierarchy.specs.Standing.{AreEnginesOf, EnginesStandFor};
 ghost use Rattle.dk_presence.specs.Patterns.{count_of};
 ghost use Rattle.dk_report.specs.Engines.{grammar_at};
-ghost use Rattle.dk_report.specs.Keeping.{keeps};
 ghost use Rattle.dk_report.specs.Reports.{has_samples, kept_instances, section_of};
 
 use crate::Options;
@@ -17,12 +11,11 @@ use crate::asking::Asking;
 use crate::parents::{parents_of, views_of};
 use dk_base::{List, NoMemory, PointId, Text};
 use dk_engine::Engine;
-use dk_filters::{Candidate, ParentView, PointFacts};
-use dk_hierarchy::{Merged, merge};
+use dk_filters::{Candidate, PointFacts};
+use dk_hierarchy::merge;
 use dk_points::Points;
 use dk_template::Answers;
 use std::alloc::Global;
-use std::slice;
 
 /// The instances that hold at a point and that no filter that is on drops, by row and then by variables, from what the engines of the
 /// table's points keep. An instance that the options drop at once isn't asked about; where all samples come from one
