@@ -1,4 +1,4 @@
 mod Examples
 pub mod Growing
 pub mod Feeding
-pub mod Telling
+pub mod Lines

@@ -1,7 +1,6 @@
 //! The section of a point, from what the engines of a table's points keep.
 #![tactic(auto)]
 
-mod alone;
 mod asking;
 mod keeping;
 pub mod laws;
@@ -9,11 +8,12 @@ mod narrowing;
 mod options;
 mod parents;
 mod sections;
+mod separate;
 mod stats;
 mod sweeping;
 mod viewing;
 
-pub use alone::kept_alone;
 pub use options::Options;
 pub use sections::{kept_instances, push_section};
+pub use separate::kept_alone;
 pub use stats::push_stats;

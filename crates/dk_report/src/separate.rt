@@ -10,9 +10,10 @@ ghost use Rattle.dk_report.specs.Keeping.{keeps};
 
 use crate::Options;
 use crate::asking::Asking;
+use crate::parents::views_of;
 use dk_base::{List, NoMemory};
 use dk_engine::Engine;
-use dk_filters::{Candidate, ParentView, PointFacts};
+use dk_filters::{Candidate, PointFacts};
 use dk_hierarchy::Merged;
 use std::alloc::Global;
 use std::slice;
@@ -29,14 +30,15 @@ pub fn kept_alone(
     ensures kept { IfOk result (λ list. (samples : List (List SampleValue)) → EngineStandsFor engine.now samples → list ≡ candidates_kept (keeps options.now) (candidates_of engine.now.grammar options.now.least (answers_of engine.now.infos samples) [])) }
 {
     let here = Merged::alone(alloc, engine)?;
-    let parents: &[ParentView<'_, Merged<'_>>] = &[];
-    let found = PointFacts::of(alloc, here.vars(), &here, parents)?;
+    let parents = Vec::new(alloc);
+    let views = views_of(alloc, parents.as_slice())?;
+    let found = PointFacts::of(alloc, here.vars(), &here, views.as_slice())?;
     let asking = Asking {
         alloc,
         grammar: engine.grammar(),
         options,
         here: &here,
-        parents,
+        parents: views.as_slice(),
         found: &found,
     };
     asking.list_candidates(slice::from_ref(engine))
