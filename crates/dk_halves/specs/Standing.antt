@@ -1,5 +1,5 @@
 -- Engines of a point's samples and of their halves.
-use Rattle.std.specs.Prelude.{◌≡◌, ◌<◌, ℕ, Bool, true, false, All, List, [], ◌∷◌, ◌++◌, length, map, slice_index_or}
+use Rattle.std.specs.Prelude.{◌≡◌, Bool, true, false, All, List, [], ◌∷◌, ◌++◌, map}
 use Rattle.dk_base.specs.declared.kinds.VarInfo.{VarInfo}
 use Rattle.dk_base.specs.declared.values.Value.{Value}
 use Rattle.dk_engine.specs.Exact.{AreOfPoint}
@@ -45,7 +45,7 @@ pub record AreEngines (engines : Engines) : Type 0 where
   pub conditions : map (λ halves. halves.condition) engines.halves ≡ base_bools engines.whole.infos
   pub over : All (AreOver engines.whole.grammar engines.whole.infos) engines.halves
 
--- ---- item by item
+-- ---- one sample more
 -- halves by the same Bool, whose engines go by the same grammars over the same variables
 pub record AreAlike (halves others : Halves) : Type 0 where
   pub condition : others.condition ≡ halves.condition
@@ -54,10 +54,7 @@ pub record AreAlike (halves others : Halves) : Type 0 where
   pub false_grammar : others.when_false.grammar ≡ halves.when_false.grammar
   pub false_infos : others.when_false.infos ≡ halves.when_false.infos
 
--- with one sample more
+-- halves with one sample more
 pub record AreFed (sample : List Value) (halves others : Halves) : Type 0 where
   pub alike : AreAlike halves others
   pub stand : (samples : List (List Value)) → HalvesStandFor halves samples → HalvesStandFor others (samples ++ sample ∷ [])
-
-abbrev pub ItemByItem : (Halves → Halves → Type 0) → List Halves → List Halves → Type 0
-ItemByItem R all others = (place : ℕ) (d : Halves) → place < length all → R (slice_index_or all place d) (slice_index_or others place d)

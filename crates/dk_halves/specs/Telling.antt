@@ -1,5 +1,5 @@
 -- What engines tell of halves, line by line.
-use Rattle.std.specs.Prelude.{◌&&◌, ◌==◌, ℕ, Bool, false, not, List, [], filter, find, flat_map, if◌then◌else◌}
+use Rattle.std.specs.Prelude.{◌&&◌, ◌==◌, ℕ, Bool, false, not, List, [], find, flat_map, if◌then◌else◌}
 use Rattle.std.specs.List.{list_any}
 use Rattle.std.specs.Option.{option_map_or}
 use Rattle.dk_base.specs.declared.kinds.VarId.{VarId}
@@ -38,9 +38,13 @@ is_first kept all b =
 abbrev pub is_told : Kept → VarId → Candidate → Bool
 is_told kept b c = not (list_any (agree_read kept b) c.vars) && not (same_state c.state (state_read kept c.row c.vars))
 
+-- its line, if so
+abbrev pub told_line : Whole → VarId → Bool → Candidate → List ℕ
+told_line whole b truth c = if is_told whole.kept b c then implication_line whole.infos (implication b truth c) else []
+
 -- the lines of such instances
 abbrev pub told_lines : Whole → VarId → Bool → List Candidate → List ℕ
-told_lines whole b truth list = flat_map (λ c. implication_line whole.infos (implication b truth c)) (filter (is_told whole.kept b) list)
+told_lines whole b truth list = flat_map (told_line whole b truth) list
 
 -- the lines of both halves by a Bool, if it is the first of those that agree with it
 abbrev pub lines_of : Grammar → ℕ → List VarInfo → List (List Value) → VarId → List ℕ

@@ -1,10 +1,11 @@
 // The engines of both halves of a point's samples.
 ghost use Rattle.std.specs.Prelude.{◌≡◌, ◌<◌, [], All, IfOk, length};
+ghost use Rattle.std.specs.List.{AllZip};
 ghost use Rattle.dk_base.specs.Values.{value_of, values_of};
 ghost use Rattle.dk_fits.specs.Laws.{IsSample};
 ghost use Rattle.dk_hierarchy.specs.Samples.{all_vars_of};
 ghost use Rattle.dk_halves.specs.Halves.{is_truth};
-ghost use Rattle.dk_halves.specs.Standing.{AreAlike, AreFed, AreOver, HalvesStandFor, ItemByItem, half_by};
+ghost use Rattle.dk_halves.specs.Standing.{AreAlike, AreFed, AreOver, HalvesStandFor, half_by};
 
 use dk_base::{NoMemory, PointId, VarId, View};
 use dk_engine::Engine;
@@ -85,8 +86,8 @@ impl Halves {
 /// One sample more for all of these.
 pub(crate) fn feed_all(all: &mut [Halves], sample: &[View<'_>]) -> Result<(), NoMemory>
     requires { All (λ halves. IsSample halves.when_true.infos (values_of sample.now) × IsSample halves.when_false.infos (values_of sample.now)) all.old }
-    ensures alike { ItemByItem AreAlike all.old all.new }
-    ensures fed { IfOk result (λ _. ItemByItem (AreFed (values_of sample.now)) all.old all.new) }
+    ensures alike { AllZip AreAlike all.old all.new }
+    ensures fed { IfOk result (λ _. AllZip (AreFed (values_of sample.now)) all.old all.new) }
 {
     for place in 0..all.len() {
         all[place].feed(sample)?;

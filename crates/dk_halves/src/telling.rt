@@ -1,6 +1,7 @@
 // What halves tell that all samples don't.
-ghost use Rattle.std.specs.Prelude.{◌≡◌, ◌<◌, ◌++◌, All, IfOk, List, OnOk, flat_map, length, map};
+ghost use Rattle.std.specs.Prelude.{◌≡◌, ◌<◌, ◌++◌, All, IfOk, List, OnOk, codes, flat_map, length, map};
 ghost use Rattle.std.specs.List.{list_any};
+ghost use Rattle.dk_base.specs.Spelling.{bool_text};
 ghost use Rattle.dk_base.specs.declared.values.Value.{Value as SampleValue};
 ghost use Rattle.dk_engine.specs.Exact.{AreOfPoint};
 ghost use Rattle.dk_engine.specs.Reading.{agree_read};
@@ -11,7 +12,7 @@ ghost use Rattle.dk_halves.specs.Conditions.{base_bools};
 ghost use Rattle.dk_halves.specs.Implications.{implication, implied_by};
 ghost use Rattle.dk_halves.specs.Reports.{implication_line, implications_text};
 ghost use Rattle.dk_halves.specs.Standing.{AreOver, HalvesStandFor, StandFor};
-ghost use Rattle.dk_halves.specs.Telling.{all_on, is_first, is_told, lines_of, told_lines};
+ghost use Rattle.dk_halves.specs.Telling.{all_on, is_first, is_told, lines_of, told_line, told_lines};
 
 use crate::{Halves, Split};
 use dk_base::{NoMemory, Text, VarId, VarInfo};
@@ -80,6 +81,17 @@ fn is_told(whole: &Engine, b: VarId, instance: &Candidate) -> Result<bool, NoMem
     Ok(instance.state != state)
 }
 
+// The text between a Bool of this truth value and what it implies.
+fn condition_text(truth: bool) -> &'static [u8]
+    ensures { result.now ≡ codes " == " ++ bool_text truth ++ codes " ==> " }
+{
+    if truth {
+        b" == true ==> "
+    } else {
+        b" == false ==> "
+    }
+}
+
 // The line of an implication.
 fn push_implication(
     text: &mut Text,
@@ -92,11 +104,7 @@ fn push_implication(
     ensures { OnOk result (text.new ≡ text.old ++ implication_line vars.now (implication b truth instance.now)) }
 {
     text.append(vars[b.0 as usize].name.as_slice())?;
-    if truth {
-        text.append(b" == true ==> ")?;
-    } else {
-        text.append(b" == false ==> ")?;
-    }
+    text.append(condition_text(truth))?;
     push_candidate(text, vars, instance)
 }
 
@@ -109,8 +117,27 @@ struct Telling<'a> {
 }
 
 impl<'a> Telling<'a> {
+    // The line of an instance of a half, if it says more there.
+    fn push_told_line(
+        &self,
+        text: &mut Text,
+        b: VarId,
+        truth: bool,
+        instance: &Candidate,
+    ) -> Result<(), NoMemory>
+        requires b { b.0 < length self.now.whole.now.infos }
+        requires instance { IsInstance self.now.whole.now.grammar self.now.whole.now.infos instance.now.row instance.now.vars }
+        ensures { OnOk result (text.new ≡ text.old ++ told_line self.now.whole.now b truth instance.now) }
+    {
+        let told = is_told(self.whole, b, instance)?;
+        if !told {
+            return Ok(());
+        }
+        push_implication(text, self.whole.vars(), b, truth, instance)
+    }
+
     // The lines of those instances of a half that say more there.
-    fn push_told(
+    fn push_told_lines(
         &self,
         text: &mut Text,
         b: VarId,
@@ -122,9 +149,7 @@ impl<'a> Telling<'a> {
         ensures { OnOk result (text.new ≡ text.old ++ told_lines self.now.whole.now b truth list.now) }
     {
         for instance in list {
-            if is_told(self.whole, b, instance)? {
-                push_implication(text, self.whole.vars(), b, truth, instance)?;
-            }
+            self.push_told_line(text, b, truth, instance)?;
         }
         Ok(())
     }
@@ -139,7 +164,7 @@ impl<'a> Telling<'a> {
     {
         let options = all_filters(self.least);
         let list = kept_alone(self.alloc, &options, halves.half(truth))?;
-        self.push_told(text, halves.condition, truth, list.as_slice())
+        self.push_told_lines(text, halves.condition, truth, list.as_slice())
     }
 
     // The lines of both halves, if the Bool is the first of those that agree with it.

@@ -5,7 +5,8 @@ use Rattle.dk_halves.specs.declared.halves.Halves.{Halves}
 use Rattle.dk_halves.proofs.splits.halves_by.Given as goal
 
 abbrev pub invariant-loop-b : goal.invariant-loop-b
-invariant-loop-b l =
-    (map (λ (halves : Halves). halves.condition) l.all.items ≡ take l.b-index l.bools)
-    × All (AreOver l.grammar (all_vars_of l.points l.p.0)) l.all.items
-    × All (λ (halves : Halves). HalvesStandFor halves []) l.all.items
+invariant-loop-b l = record {
+  conditions : map (λ (halves : Halves). halves.condition) l.all.items ≡ take l.b-index l.bools;
+  over : All (AreOver l.grammar (all_vars_of l.points l.p.0)) l.all.items;
+  stand : All (λ (halves : Halves). HalvesStandFor halves []) l.all.items;
+}

@@ -36,7 +36,7 @@ of-requires-clause-small c =
 
 pub of-requires-clause-parents : goal.of-requires-clause-parents
 of-requires-clause-parents c =
-    let none = no_views c.in_ok-views.views.items c.as_slice.result.now (c.as_slice.ensures.value ∙ c.new-parents.ensures) c.in_ok-views.ensures in
+    let none = no_views c.in_ok-views.views.items c.as_slice.result.now (c.as_slice.ensures.value ∙ c.new-parents.ensures.items) c.in_ok-views.ensures in
     let small = λ (view : ParentView Joint). length view.vars.now < 2 ^ 32 in
     subst (All small) (sym (c.as_slice-2.ensures.value ∙ none)) (All-nil small)
 
@@ -49,7 +49,7 @@ list_candidates-requires-clause-few c =
 pub list_candidates-requires-clause-asked : goal.list_candidates-requires-clause-asked
 list_candidates-requires-clause-asked c =
     let joint : Joint = c.in_ok-here.here in
-    let none = no_views c.in_ok-views.views.items c.as_slice.result.now (c.as_slice.ensures.value ∙ c.new-parents.ensures) c.in_ok-views.ensures in
+    let none = no_views c.in_ok-views.views.items c.as_slice.result.now (c.as_slice.ensures.value ∙ c.new-parents.ensures.items) c.in_ok-views.ensures in
     let slices : c.as_slice-2.result.now ≡ c.as_slice-3.result.now = c.as_slice-2.ensures.value ∙ sym c.as_slice-3.ensures.value in
     let told_is = λ (vs : List VarInfo). answers_by vs (merged_state joint) (merged_count joint) (merged_agree joint) in
     let can_show = λ (view : ParentView Joint). (view.answers.now.here.grammar ≡ joint.here.grammar) × IsViewOf view.answers.now.here.infos joint.here.infos (parent_of_view view) in
@@ -68,7 +68,7 @@ returns c =
     let options = c.args.options.now in
     let joint : Joint = c.in_ok-here.here in
     let same : joint.here ≡ engine = c.in_ok-here.ensures.here in
-    let none = no_views c.in_ok-views.views.items c.as_slice.result.now (c.as_slice.ensures.value ∙ c.new-parents.ensures) c.in_ok-views.ensures in
+    let none = no_views c.in_ok-views.views.items c.as_slice.result.now (c.as_slice.ensures.value ∙ c.new-parents.ensures.items) c.in_ok-views.ensures in
     let views : List (ParentView Joint) = c.as_slice-3.result.now in
     let nothing : views ≡ [] = c.as_slice-3.ensures.value ∙ none in
     let lists = λ (e : Whole) (samples : List (List Value)). candidates_kept (keeps options) (candidates_of e.grammar options.least (answers_of e.infos samples) []) in
