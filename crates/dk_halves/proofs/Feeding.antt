@@ -219,8 +219,8 @@ module _ (sample : List Value) (samples : Samples) where
 -- what is written back into a vector, where there are as many
 written_back : (n : ℕ) (old new : List Halves) → length old ≡ n → length new ≡ length old → take n (new ++ drop (length new) old) ≡ new
 written_back n old new long same =
-    ap (λ (rest : List Halves). take n (new ++ rest)) (drop_all old (length new) (omega (arith, same)))
-    ∙ (ap (take n) (append-nil new) ∙ take_all new n (omega (arith, long, same)))
+    ap (λ (rest : List Halves). take n (new ++ rest)) (drop_all (length new) old (omega (arith, same)))
+    ∙ (ap (take n) (append-nil new) ∙ take_all n new (omega (arith, long, same)))
 
 -- they are a point's with other engines that are alike
 pub engines_alike : (old new : Engines) → new.whole.grammar ≡ old.whole.grammar → new.whole.infos ≡ old.whole.infos → AllZip AreAlike old.halves new.halves → AreEngines old → AreEngines new
