@@ -171,7 +171,8 @@ half_stands : (halves : Halves) (samples : Samples) (truth : Bool) → HalvesSta
 half_stands halves samples true stand = stand.when_true
 half_stands halves samples false stand = stand.when_false
 
-abbrev IsOneOf : Whole → Candidate → Type 0
+-- it is an instance of the engine's variables
+abbrev pub IsOneOf : Whole → Candidate → Type 0
 IsOneOf engine c = IsInstance engine.grammar engine.infos c.row c.vars
 
 module _ (whole : Whole) (halves : Halves) (over : AreOver whole.grammar whole.infos halves) (truth : Bool) (half : Whole) (same : half ≡ half_by halves truth) (list : List Candidate) where

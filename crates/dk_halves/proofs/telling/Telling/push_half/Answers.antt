@@ -23,7 +23,7 @@ pub push_told_lines-requires-clause-list : goal.push_told_lines-requires-clause-
 push_told_lines-requires-clause-list c =
     let whole : Whole = c.args.self.now.whole.now in
     let list : List Candidate = c.in_ok-list.list in
-    subst (All (IsOneOf whole)) (sym c.as_slice.ensures.value)
+    subst (All (IsOneOf whole)) (sym c.as_slice.ensures)
     (half_instances whole c.args.halves.now c.requires.over c.args.truth c.half.result.now c.half.ensures list c.in_ok-list.ensures.instances)
 
 pub returns : goal.returns
@@ -40,7 +40,7 @@ returns c =
     ((samples : List (List Value)) → EngineStandsFor whole samples → HalvesStandFor halves samples
     → new ≡ old ++ flat_map (implication_line whole.infos) (implied_by whole.grammar least whole.infos samples halves.condition truth))
     (λ is samples stands stand.
-    subst Told c.as_slice.ensures.value is
+    subst Told c.as_slice.ensures is
     ∙ ap (λ (t : List ℕ). old ++ t)
     (half_told whole halves c.requires.over truth c.half.result.now c.half.ensures list least c.requires.condition c.in_ok-list.ensures.instances c.all_filters-options.result c.all_filters-options.ensures
     c.in_ok-list.ensures.kept samples stands stand))
