@@ -1,5 +1,5 @@
 -- What engines that stand for samples and their halves tell of them.
-use Rattle.std.specs.Prelude.{◌≡◌, ◌&&◌, ◌||◌, ◌==◌, ◌<◌, ◌++◌, ℕ, Bool, true, false, not, All, List, [], ◌∷◌, filter, find, flat_map, if◌then◌else◌, length, map, refl, Option, Some, None, OnOk, Result, Ok, Err}
+use Rattle.std.specs.Prelude.{◌≡◌, ◌&&◌, ◌||◌, ◌==◌, ◌<◌, ◌++◌, ℕ, Bool, true, false, not, All, List, [], ◌∷◌, filter, find, flat_map, if◌then◌else◌, length, map, refl, Option, Some, OnOk, Result, Ok, Err}
 use Rattle.std.specs.List.{list_any}
 use Rattle.std.specs.Option.{option_map_or}
 use Rattle.std.proofs.Common.{◌∙◌, ap, append-nil, subst, sym}
@@ -24,10 +24,9 @@ use Rattle.dk_filters.specs.OfSamples.{agrees, answers_of}
 use Rattle.dk_filters.specs.Sameness.{same_state}
 use Rattle.dk_filters.specs.declared.candidate.Candidate.{Candidate}
 use Rattle.dk_filters.specs.declared.facts.Facts.{Facts}
-use Rattle.dk_fits.specs.Fits.{fit}
 use Rattle.dk_fits.specs.Instances.{IsInstance, all_vars, are_distinct, instances_of}
 use Rattle.dk_hierarchy.specs.Standing.{EngineStandsFor}
-use Rattle.dk_report.proofs.FlatMaps.{flat_map-flat_map, flat_map-passing, flat_map-same}
+use Rattle.dk_report.proofs.FlatMaps.{flat_map-flat_map, flat_map-passing}
 use Rattle.dk_report.specs.Keeping.{drops, keeps}
 use Rattle.dk_report.specs.declared.options.Options.{Options}
 use Rattle.dk_template.specs.Admitted.{admits, is_written}

@@ -1,5 +1,5 @@
-use Rattle.std.specs.Prelude.{◌≡◌, ◌<◌, length, slice_index_or}
-use Rattle.std.proofs.Common.{◌∙◌, arith, subst, sym}
+use Rattle.std.specs.Prelude.{◌<◌, length}
+use Rattle.std.proofs.Common.{◌∙◌, arith, subst}
 use Rattle.std.proofs.lemmas.List.{get_or_default, length-set}
 use Rattle.dk_base.specs.Values.{values_of}
 use Rattle.dk_halves.proofs.Feeding.{alike_more, all_alike, all_fed, done_more, left_more}

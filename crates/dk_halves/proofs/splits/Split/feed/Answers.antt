@@ -1,9 +1,8 @@
-use Rattle.std.specs.Prelude.{◌++◌, ◌∷◌, [], List}
+use Rattle.std.specs.Prelude.{List}
 use Rattle.std.specs.List.{AllZip}
-use Rattle.std.proofs.Common.{ap, subst, sym, ◌∙◌}
+use Rattle.std.proofs.Common.{ap, subst, sym}
 use Rattle.dk_base.specs.Values.{values_of}
 use Rattle.dk_base.specs.declared.kinds.VarInfo.{VarInfo}
-use Rattle.dk_base.specs.declared.values.Value.{Value}
 use Rattle.dk_fits.specs.Laws.{IsSample}
 use Rattle.dk_report.proofs.Reported.{if_ok}
 use Rattle.dk_halves.proofs.Feeding.{fed_are, fed_stand}

@@ -1,4 +1,4 @@
-use Rattle.std.specs.Prelude.{◌≡◌, ◌<◌, ◌++◌, List, length}
+use Rattle.std.specs.Prelude.{◌<◌, length}
 use Rattle.std.proofs.Common.{subst, sym}
 use Rattle.dk_engine.specs.Levels.{Whole}
 use Rattle.dk_print.proofs.Pieces.{one_more}
