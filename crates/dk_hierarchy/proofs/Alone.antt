@@ -1,12 +1,11 @@
 -- An engine alone, as what is merged at a point without children.
-use Rattle.std.specs.Prelude.{◌≡◌, ◌<◌, ◌++◌, ℕ, zero, suc, All, List, [], ◌∷◌, length, map, refl, slice_get, Some}
+use Rattle.std.specs.Prelude.{◌≡◌, ◌<◌, ◌++◌, zero, suc, All, [], ◌∷◌, length, map, refl}
 use Rattle.std.proofs.Common.{◌∙◌, arith, subst}
 use Rattle.std.proofs.lemmas.List.{append-nil}
 use Rattle.std.proofs.lemmas.List.Elements.{All-cons, All-nil, All-weaker}
 use Rattle.std.proofs.lemmas.Slice.Zip.{AllZip-long}
 use Rattle.dk_base.specs.Values.{IsOfKind}
 use Rattle.dk_base.specs.declared.kinds.VarInfo.{VarInfo}
-use Rattle.dk_base.specs.declared.values.Value.{Value}
 use Rattle.dk_engine.specs.Levels.{Whole}
 use Rattle.dk_fits.specs.Laws.{IsSample}
 use Rattle.dk_graph.proofs.Places.{some-injective}

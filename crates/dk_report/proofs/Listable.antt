@@ -1,5 +1,5 @@
 -- What is listed are instances, whatever the engines keep.
-use Rattle.std.specs.Prelude.{◌≡◌, ◌&&◌, Bool, true, false, All, Contains, List, [], ◌∷◌, ◌++◌, flat_map, if◌then◌else◌, refl}
+use Rattle.std.specs.Prelude.{◌≡◌, ◌&&◌, Bool, true, false, All, List, [], ◌∷◌, flat_map, if◌then◌else◌, refl}
 use Rattle.std.proofs.Common.{get_or, inl, inr, subst, sym}
 use Rattle.std.proofs.lemmas.Bool.{and_parts}
 use Rattle.std.proofs.lemmas.List.Elements.{All-append, All-cons, All-contains_itself, All-filter, All-nil}
@@ -22,7 +22,7 @@ use Rattle.dk_report.specs.Asked.{here_of, listed_candidates_by, views_of}
 use Rattle.dk_report.specs.Keeping.{keeps}
 use Rattle.dk_report.specs.Listing.{is_listed, listed_candidates}
 use Rattle.dk_report.specs.Narrowing.{vars_left, candidates_left}
-use Rattle.dk_report.specs.Sweeps.{behind, over_takes, pairs, seconds, suited_vars, thirds}
+use Rattle.dk_report.specs.Sweeps.{behind, over_takes, seconds, suited_vars, thirds}
 use Rattle.dk_report.specs.declared.asking.Asking.{Asking}
 use Rattle.dk_report.specs.declared.options.Options.{Options}
 use Rattle.dk_report.specs.declared.sweeping.Standing.{Standing}
