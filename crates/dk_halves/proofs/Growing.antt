@@ -1,10 +1,9 @@
 -- Which samples a half has.
-use Rattle.std.specs.Prelude.{◌≡◌, ◌++◌, Bool, true, false, Contains, List, [], ◌∷◌, filter, if◌then◌else◌, refl}
+use Rattle.std.specs.Prelude.{◌≡◌, ◌++◌, Bool, true, false, List, [], ◌∷◌, if◌then◌else◌, refl}
 use Rattle.std.specs.Bool.{beq}
 use Rattle.std.proofs.Common.{◌∙◌, ap, append-nil}
 use Rattle.std.proofs.lemmas.Bool.{false≢true}
 use Rattle.std.proofs.lemmas.List.Elements.{filter-append}
-use Rattle.dk_base.specs.declared.kinds.VarId.{VarId}
 use Rattle.dk_base.specs.declared.values.Value.{Value}
 use Rattle.dk_base.specs.declared.values.Value.TheVariants as value
 use Rattle.dk_fits.proofs.Members.{contained, in_filter, is_in, of_filter}

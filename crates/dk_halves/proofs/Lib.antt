@@ -1,2 +1,4 @@
 mod Examples
 pub mod Growing
+pub mod Feeding
+pub mod Lines

@@ -7,9 +7,10 @@ use Rattle.dk_base.specs.declared.kinds.VarInfo.{VarInfo}
 use Rattle.dk_base.specs.declared.values.Value.{Value}
 use Rattle.dk_filters.specs.Facts.{info_at}
 use Rattle.dk_hierarchy.specs.Samples.{OwnSamples, all_vars_of, own_samples_of}
-use Rattle.dk_points.specs.Table.{Point, names}
+use Rattle.dk_points.specs.Table.{Point}
 use Rattle.dk_presence.specs.Patterns.{capped}
 use Rattle.dk_print.specs.Sections.{candidate_line, heading}
+use Rattle.dk_report.specs.Reports.{name_in_table}
 use Rattle.dk_template.specs.declared.grammar.Grammar.{Grammar}
 use Rattle.dk_halves.specs.Implications.{Implication, implications_of}
 
@@ -27,7 +28,7 @@ implications_text grammar least name infos samples =
 unfoldable pub implications_at : Grammar → ℕ → List Point → OwnSamples → ℕ → List ℕ
 implications_at grammar least ps own p =
     if is_empty (slice_index_or own p []) then []
-    else implications_text grammar least (slice_index_or (names ps) p []) (all_vars_of ps p) (own_samples_of ps own p)
+    else implications_text grammar least (name_in_table ps p) (all_vars_of ps p) (own_samples_of ps own p)
 
 -- the sections of all points, in the order of the table
 unfoldable pub implications_report : Grammar → ℕ → List Point → OwnSamples → List ℕ

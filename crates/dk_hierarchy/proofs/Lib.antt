@@ -19,3 +19,4 @@ pub mod OfPoint
 pub mod Following
 pub mod Answering
 pub mod TableEngines
+pub mod Alone

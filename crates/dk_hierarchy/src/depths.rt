@@ -1,7 +1,7 @@
 // Ways by the depth of the points that they lead to.
 ghost use Rattle.std.specs.Prelude.{◌≡◌, ◌<◌, ◌≤◌, [], IfOk, OnOk, length};
 ghost use Rattle.dk_graph.specs.Graphs.{depth_of};
-ghost use Rattle.dk_hierarchy.specs.Descent.{first_levels, with_way_at};
+ghost use Rattle.dk_hierarchy.specs.Descent.{first_levels, first_way, with_way_at};
 ghost use Rattle.dk_hierarchy.specs.Ways.{same_way, with_way};
 ghost use Rattle.dk_points.specs.Links.{nodes};
 
@@ -51,6 +51,17 @@ pub(crate) fn add_way(
     Ok(())
 }
 
+/// The way from a point to itself, by the path without an edge.
+pub(crate) fn first_way(alloc: Global, p: PointId, number: u32) -> Result<Way, NoMemory>
+    ensures { IfOk result (λ way. way ≡ first_way p.0 number) }
+{
+    Ok(Way {
+        point: p,
+        partners: own_partners(alloc, number)?,
+        paths: 1,
+    })
+}
+
 // The way from a point to itself at its depth, behind levels without ways.
 pub(crate) fn first_levels(
     alloc: Global,
@@ -65,11 +76,7 @@ pub(crate) fn first_levels(
         levels.push(List::new(alloc))?;
     }
     let mut first = List::new(alloc);
-    first.push(Way {
-        point: p,
-        partners: own_partners(alloc, number)?,
-        paths: 1,
-    })?;
+    first.push(first_way(alloc, p, number)?)?;
     levels.push(first)?;
     Ok(levels)
 }

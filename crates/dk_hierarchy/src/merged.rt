@@ -1,8 +1,10 @@
 // What answers for all samples of a point.
-ghost use Rattle.std.specs.Prelude.{◌≡◌, ◌<◌, ◌≤◌, [], IfOk, IsTrue, OnErr, Some, length, slice_get};
+ghost use Rattle.std.specs.Prelude.{◌≡◌, ◌<◌, ◌≤◌, [], ◌∷◌, All, IfOk, IsTrue, List, OnErr, Some, length, slice_get};
+ghost use Rattle.dk_base.specs.declared.values.Value.{Value as SampleValue};
+ghost use Rattle.dk_engine.specs.Exact.{AreOfPoint};
 ghost use Rattle.dk_hierarchy.specs.Descent.{IsDescent};
 ghost use Rattle.dk_hierarchy.specs.Merging.{AreWays, IsWay, agree_through, count_through, engine_at, merged_agree, merged_count, merged_state, same_kinds, state_through};
-ghost use Rattle.dk_hierarchy.specs.Standing.{AreEnginesOf, IsMergedAt};
+ghost use Rattle.dk_hierarchy.specs.Standing.{AreEnginesOf, EngineStandsFor, IsMergedAt, JointStandsFor};
 ghost use Rattle.dk_presence.specs.Patterns.{capped};
 ghost use Rattle.dk_template.specs.Admitted.{admits};
 ghost use Rattle.dk_template.specs.Premises.{AreThere, MayWantMemory};
@@ -10,6 +12,7 @@ ghost use Rattle.dk_template.specs.Proper.{IsProper};
 ghost use Rattle.dk_template.specs.Templates.{IsRowOf, form_of};
 
 use crate::Way;
+use crate::depths::first_way;
 use crate::descent::ways_down;
 use crate::way::{partner_at, partners_at};
 use dk_base::{List, NoMemory, PointId, VarId, VarInfo};
@@ -18,6 +21,7 @@ use dk_points::Points;
 use dk_template::{Answers, RowId, State, join_states, template_at};
 use std::alloc::Global;
 use std::marker::Model;
+use std::slice;
 
 // Whether two variables are of one kind.
 fn same_kinds(vars: &[VarInfo], v: VarId, w: VarId) -> bool
@@ -49,6 +53,25 @@ impl<'e> Model for Merged<'e> {
 }
 
 impl<'e> Merged<'e> {
+    /// What answers for the samples that one engine has, as for a point without children.
+    pub fn alone(alloc: Global, engine: &'e Engine) -> Result<Merged<'e>, NoMemory>
+        requires { AreOfPoint engine.now.infos }
+        ensures here { IfOk result (λ merged. merged.here ≡ engine.now) }
+        ensures engines { IfOk result (λ merged. merged.engines ≡ engine.now ∷ []) }
+        ensures paths { IfOk result (λ merged. All (λ way. 0 < way.paths) merged.ways) }
+        ensures stands { IfOk result (λ merged. (samples : List (List SampleValue)) → EngineStandsFor engine.now samples → JointStandsFor merged samples) }
+    {
+        let number = engine.vars().len() as u32;
+        let mut ways = List::new(alloc);
+        ways.push(first_way(alloc, PointId(0), number)?)?;
+        Ok(Merged {
+            alloc,
+            here: engine,
+            engines: slice::from_ref(engine),
+            ways,
+        })
+    }
+
     /// The point's variables.
     pub fn vars(&self) -> &[VarInfo]
         ensures { result.now ≡ self.now.here.infos }

@@ -11,4 +11,6 @@ mod terms;
 mod values;
 
 pub use instances::{instance, push_instance};
-pub use sections::{fault, push_fault, push_section, push_stats, section, stats};
+pub use sections::{
+    fault, push_candidate, push_fault, push_heading, push_section, push_stats, section, stats,
+};

@@ -24,8 +24,9 @@ fn push_count(text: &mut Text, count: u64) -> Result<(), NoMemory>
     text.append(b"]\n")
 }
 
-// The heading of a point's section.
-fn push_heading(text: &mut Text, name: &[u8], samples: u64) -> Result<(), NoMemory>
+/// The heading of a point's section, behind the text: a line of 75 `=`, and the point's name with the number of its samples. After an
+/// error the text may hold a part of it.
+pub fn push_heading(text: &mut Text, name: &[u8], samples: u64) -> Result<(), NoMemory>
     ensures { OnOk result (text.new ≡ text.old ++ heading name.now samples) }
 {
     text.append(RULE)?;
@@ -33,8 +34,12 @@ fn push_heading(text: &mut Text, name: &[u8], samples: u64) -> Result<(), NoMemo
     push_count(text, samples)
 }
 
-// The line of a candidate.
-fn push_candidate(text: &mut Text, vars: &[VarInfo], candidate: &Candidate) -> Result<(), NoMemory>
+/// The line of a candidate, behind the text: its text and its count. After an error the text may hold a part of it.
+pub fn push_candidate(
+    text: &mut Text,
+    vars: &[VarInfo],
+    candidate: &Candidate,
+) -> Result<(), NoMemory>
     ensures { OnOk result (text.new ≡ text.old ++ candidate_line vars.now candidate.now) }
 {
     let tuple = candidate.vars.as_slice();

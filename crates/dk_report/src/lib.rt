@@ -9,10 +9,12 @@ mod narrowing;
 mod options;
 mod parents;
 mod sections;
+mod separate;
 mod stats;
 mod sweeping;
 mod viewing;
 
 pub use options::Options;
 pub use sections::{kept_instances, push_section};
+pub use separate::kept_alone;
 pub use stats::push_stats;

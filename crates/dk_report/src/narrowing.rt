@@ -4,7 +4,7 @@ ghost use Rattle.std.specs.Prelude.{◌≡◌, ◌<◌, ◌^◌, ◌++◌, ◌||
 ghost use Rattle.std.specs.List.{AllZip, list_any};
 ghost use Rattle.dk_base.specs.Shapes.{var};
 ghost use Rattle.dk_base.specs.declared.values.Value.{Value as SampleValue};
-ghost use Rattle.dk_fits.specs.Instances.{rows_of};
+ghost use Rattle.dk_fits.specs.Instances.{IsInstance, rows_of};
 ghost use Rattle.dk_filters.specs.Answers.{Parent};
 ghost use Rattle.dk_filters.specs.Candidates.{candidates_kept, candidates_of};
 ghost use Rattle.dk_filters.specs.Laws.{ShowTheSame};
@@ -262,7 +262,8 @@ impl<'a, 'e> Asking<'a, 'e> {
         requires few { length self.now.here.now.here.infos < 2 ^ 32 }
         requires paths { All (λ way. 0 < way.paths) self.now.here.now.ways }
         requires asked { CanBeAsked self.now }
-        ensures { IfOk result (λ list. (samples : ℕ → List (List SampleValue)) (parents : List Parent) → EnginesStandFor engines.now samples → AllZip (ShowTheSame self.now.here.now.here.grammar self.now.here.now.here.infos) (views_of self.now) parents → list ≡ candidates_kept (keeps self.now.options.now) (candidates_of self.now.here.now.here.grammar self.now.options.now.least (here_of self.now) (views_of self.now))) }
+        ensures instances { IfOk result (λ list. All (λ c. IsInstance self.now.here.now.here.grammar self.now.here.now.here.infos c.row c.vars) list) }
+        ensures kept { IfOk result (λ list. (samples : ℕ → List (List SampleValue)) (parents : List Parent) → EnginesStandFor engines.now samples → AllZip (ShowTheSame self.now.here.now.here.grammar self.now.here.now.here.infos) (views_of self.now) parents → list ≡ candidates_kept (keeps self.now.options.now) (candidates_of self.now.here.now.here.grammar self.now.options.now.least (here_of self.now) (views_of self.now))) }
     {
         let standing = self.all_standing()?;
         match self.narrowing_engine(engines, &standing) {

@@ -6,3 +6,5 @@
 mod engine;
 #[cfg(test)]
 mod hierarchy;
+#[cfg(test)]
+mod splits;

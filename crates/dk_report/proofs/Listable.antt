@@ -1,0 +1,88 @@
+-- What is listed are instances, whatever the engines keep.
+use Rattle.std.specs.Prelude.{◌≡◌, ◌&&◌, Bool, true, false, All, List, [], ◌∷◌, flat_map, if◌then◌else◌, refl}
+use Rattle.std.proofs.Common.{get_or, inl, inr, subst, sym}
+use Rattle.std.proofs.lemmas.Bool.{and_parts}
+use Rattle.std.proofs.lemmas.List.Elements.{All-append, All-cons, All-contains_itself, All-filter, All-nil}
+use Rattle.dk_base.specs.declared.kinds.VarId.{VarId}
+use Rattle.dk_base.specs.declared.kinds.VarInfo.{VarInfo}
+use Rattle.dk_filters.proofs.Ascending.{candidates_are}
+use Rattle.dk_filters.specs.Answers.{Answers, Parent}
+use Rattle.dk_filters.specs.Candidates.{candidate_of, candidates_of, it_holds, candidates_kept}
+use Rattle.dk_filters.specs.declared.candidate.Candidate.{Candidate}
+use Rattle.dk_fits.proofs.Listing.{row_of_grammar}
+use Rattle.dk_fits.specs.Instances.{IsInstance, is_asked, rows_of}
+use Rattle.dk_forms.specs.Laws.{IsIn}
+use Rattle.dk_template.specs.Templates.{IsRowOf, template_of}
+use Rattle.dk_template.specs.declared.grammar.Grammar.{Grammar}
+use Rattle.dk_template.specs.declared.grammar.RowId.{RowId}
+use Rattle.dk_template.specs.declared.templates.Takes.{Takes}
+use Rattle.dk_template.specs.declared.templates.Takes.TheVariants.{One, Two, Three}
+use Rattle.dk_engine.specs.declared.kept.Kept.{Kept}
+use Rattle.dk_report.specs.Asked.{here_of, listed_candidates_by, views_of}
+use Rattle.dk_report.specs.Keeping.{keeps}
+use Rattle.dk_report.specs.Listing.{is_listed, listed_candidates}
+use Rattle.dk_report.specs.Narrowing.{vars_left, candidates_left}
+use Rattle.dk_report.specs.Sweeps.{behind, over_takes, seconds, suited_vars, thirds}
+use Rattle.dk_report.specs.declared.asking.Asking.{Asking}
+use Rattle.dk_report.specs.declared.options.Options.{Options}
+use Rattle.dk_report.specs.declared.sweeping.Standing.{Standing}
+
+all_flat : {A B : Type 0} (Q : B → Type 0) (f : A → List B) → ((x : A) → All Q (f x)) → (xs : List A) → All Q (flat_map f xs)
+all_flat Q f each [] = All-nil Q
+all_flat Q f each (x ∷ xs) = All-append Q (f x) (flat_map f xs) (each x) (all_flat Q f each xs)
+
+all_in : {A B : Type 0} (Q : B → Type 0) (f : A → List B) (xs : List A) → ((x : A) → IsIn x xs → All Q (f x)) → All Q (flat_map f xs)
+all_in Q f [] each = All-nil Q
+all_in Q f (x ∷ xs) each = All-append Q (f x) (flat_map f xs) (each x (inl refl)) (all_in Q f xs (λ y i. each y (inr i)))
+
+abbrev pub IsOne : Grammar → List VarInfo → Candidate → Type 0
+IsOne grammar infos c = IsInstance grammar infos c.row c.vars
+
+-- ---- those that a row lists
+module _ (asking : Asking) where
+  abbrev IsHere : Candidate → Type 0
+  IsHere = IsOne asking.here.now.here.grammar asking.here.now.here.infos
+
+  module _ (row : RowId) (of : IsRowOf asking.here.now.here.grammar row) where
+    all_listed : (vars : List VarId) → All IsHere (listed_candidates_by asking row vars)
+    unfolding listed_candidates
+    all_listed vars = by (is_listed asking.options.now (here_of asking) (views_of asking) row vars) refl
+      where
+        by : (b : Bool) → is_listed asking.options.now (here_of asking) (views_of asking) row vars ≡ b → All IsHere (if b then candidate_of asking.options.now.least (here_of asking) (views_of asking) (row, vars) ∷ [] else [])
+        by true h =
+            All-cons IsHere (candidate_of asking.options.now.least (here_of asking) (views_of asking) (row, vars)) []
+            (record {
+              of_grammar = of;
+              asked = (and_parts (is_asked asking.here.now.here.infos row vars)
+                  (it_holds (here_of asking) (row, vars) && keeps asking.options.now (candidate_of asking.options.now.least (here_of asking) (views_of asking) (row, vars))) h).0;
+            })
+            (All-nil IsHere)
+        by false h = All-nil IsHere
+
+    all_over : (takes : Takes) (vars : List VarId) → All IsHere (over_takes (listed_candidates_by asking row) asking.here.now.here.infos takes vars)
+    all_over (One a) vars = all_flat IsHere (λ v. listed_candidates_by asking row (v ∷ [])) (λ v. all_listed (v ∷ [])) (suited_vars a asking.here.now.here.infos vars)
+    all_over (Two a b) vars =
+        let second = suited_vars b asking.here.now.here.infos vars in
+        all_flat IsHere (λ v. seconds (listed_candidates_by asking row) v second)
+        (λ v. all_flat IsHere (λ w. listed_candidates_by asking row (v ∷ w ∷ [])) (λ w. all_listed (v ∷ w ∷ [])) second) (suited_vars a asking.here.now.here.infos vars)
+    all_over (Three a b c) vars =
+        let second = suited_vars b asking.here.now.here.infos vars in
+        let third = suited_vars c asking.here.now.here.infos vars in
+        all_flat IsHere (λ v. behind (listed_candidates_by asking row) v second third)
+        (λ v. all_flat IsHere (λ w. thirds (listed_candidates_by asking row) v w third)
+        (λ w. all_flat IsHere (λ x. listed_candidates_by asking row (v ∷ w ∷ x ∷ [])) (λ x. all_listed (v ∷ w ∷ x ∷ [])) third) second)
+        (suited_vars a asking.here.now.here.infos vars)
+
+  pub narrowed_listable : (kept : Kept) (standing : Standing) → All IsHere (flat_map (candidates_left kept asking standing) (rows_of asking.here.now.here.grammar))
+  narrowed_listable kept standing =
+      all_in IsHere (candidates_left kept asking standing) (rows_of asking.here.now.here.grammar)
+      (λ row i. all_over row (row_of_grammar asking.here.now.here.grammar row i) (template_of row).takes (vars_left kept standing row))
+
+-- ---- the candidates of a point
+pub candidates_listable : (grammar : Grammar) (options : Options) (here : Answers) (parents : List Parent) → All (IsOne grammar here.infos) (candidates_kept (keeps options) (candidates_of grammar options.least here parents))
+candidates_listable grammar options here parents =
+    All-filter (keeps options) (IsOne grammar here.infos) (candidates_of grammar options.least here parents)
+    (λ k d l.
+    let c = get_or (candidates_of grammar options.least here parents) k d in
+    let is = (candidates_are grammar options.least here parents c).0 (All-contains_itself (candidates_of grammar options.least here parents) k d l) in
+    subst (IsOne grammar here.infos) (sym is.3) is.1)
