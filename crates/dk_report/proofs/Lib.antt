@@ -25,8 +25,5 @@ pub mod Told
 pub mod Viewed
 pub mod Rules
 pub mod Shown
-<<<<<<< HEAD
 pub mod Counts
-=======
 pub mod Listable
->>>>>>> 57768764e42a2048fee9a0553ba4bec5ca3d9367
