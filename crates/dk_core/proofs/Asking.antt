@@ -1,5 +1,5 @@
 -- What is asked of the engines.
-use Rattle.std.proofs.Common.{◌≡◌, ◌∙◌, ◌<◌, ◌&&◌, ◌++◌, ℕ, zero, suc, All, Bool, true, false, List, [], ◌∷◌, length, slice_get, Option, Some, None, IfOk, Result, Ok, Err, refl, sym, ap, subst, arith, if◌then◌else◌}
+use Rattle.std.proofs.Common.{◌≡◌, ◌∙◌, ◌<◌, ◌&&◌, ◌++◌, ℕ, zero, suc, All, Bool, true, false, List, [], ◌∷◌, length, slice_get, Some, None, IfOk, Result, Ok, Err, sym, ap, subst, arith, if◌then◌else◌}
 use Rattle.std.proofs.lemmas.List.{append-nil}
 use Rattle.std.proofs.lemmas.List.Elements.{All-head, All-tail}
 use Rattle.std.specs.Prelude.{OnOk, slice_index_or}

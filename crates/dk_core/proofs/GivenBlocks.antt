@@ -1,18 +1,18 @@
 -- What a block declares can be given by one.
-use Rattle.std.proofs.Common.{◌≡◌, ◌∙◌, ◌+◌, ◌<◌, ◌≤◌, ◌^◌, ℕ, suc, Bool, true, false, List, [], ◌∷◌, All, length, Option, Some, None, Result, Ok, Err, refl, sym, ap, subst, arith, if◌then◌else◌}
-use Rattle.std.proofs.lemmas.List.Elements.{All-cons, All-head, All-nil, All-tail, All-weaker}
+use Rattle.std.proofs.Common.{◌≡◌, ◌<◌, ◌≤◌, ◌^◌, ℕ, Bool, true, false, List, [], ◌∷◌, All, length, Some, Ok, refl, subst, arith, if◌then◌else◌}
+use Rattle.std.proofs.lemmas.List.Elements.{All-cons, All-head, All-nil, All-tail}
 use Rattle.dk_base.specs.Names.{unescaped}
 use Rattle.dk_base.specs.Pieces.{is_empty}
-use Rattle.dk_base.specs.Reading.{Line, LineFault, ◌>>=◌}
+use Rattle.dk_base.specs.Reading.{Line}
 use Rattle.dk_base.specs.Words.{rest_of_line}
 use Rattle.dk_base.specs.declared.why.Why.TheVariants.{BadPoint}
 use Rattle.dk_decl.proofs.LastLines.{bind_ok}
 use Rattle.dk_decl.specs.Blocks.{block_decl, is_declare}
-use Rattle.dk_decl.specs.DeclareBlock.{declare_lines, from_name, named_point}
+use Rattle.dk_decl.specs.DeclareBlock.{declare_lines, from_name}
 use Rattle.dk_decl.specs.Heads.{head_line}
 use Rattle.dk_decl.specs.LineWords.{each_line, operand}
 use Rattle.dk_decl.specs.Outcomes.{refused}
-use Rattle.dk_decl.specs.PptBlock.{groups, is_variable, point_name, point_with, ppt_lines, ppt_of, vars_after}
+use Rattle.dk_decl.specs.PptBlock.{groups, is_variable, point_name, ppt_lines, ppt_of, vars_after}
 use Rattle.dk_decl.specs.declared.decls.EdgeDecl.{EdgeDecl}
 use Rattle.dk_decl.specs.declared.decls.PointDecl.{PointDecl}
 use Rattle.dk_decl.specs.declared.decls.VarDecl.{VarDecl}

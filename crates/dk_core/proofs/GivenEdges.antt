@@ -1,31 +1,30 @@
 -- The edges that the lines of a block make.
-use Rattle.std.proofs.Common.{◌≡◌, ◌∙◌, ◌+◌, ◌<◌, ◌≤◌, ◌^◌, ◌&&◌, ◌||◌, ◌==◌, ◌++◌, ℕ, zero, suc, Bool, true, false, not, List, [], ◌∷◌, All, get_or, is_none, is_some, length, map, nat_lt, Option, Some, None, Result, Ok, Err, refl, sym, ap, subst, arith, if◌then◌else◌, length-append}
+use Rattle.std.proofs.Common.{◌≡◌, ◌∙◌, ◌+◌, ◌<◌, ◌≤◌, ◌^◌, ◌||◌, ◌==◌, ◌++◌, ℕ, zero, suc, Bool, true, false, not, List, [], ◌∷◌, All, get_or, is_none, is_some, length, map, nat_lt, Option, Some, None, Ok, refl, sym, ap, subst, arith, if◌then◌else◌, length-append}
 use Rattle.std.specs.Fmt.{decimal}
 use Rattle.std.specs.List.{list_all, list_any, position}
 use Rattle.std.specs.Str.{bytes_eq}
 use Rattle.std.specs.Str.Parse.{AllDigits}
-use Rattle.std.specs.Prelude.{codes, option_and_then, option_map}
-use Rattle.std.proofs.lemmas.Bool.{eqb-true, ne_eqb}
+use Rattle.std.specs.Prelude.{codes, option_and_then}
+use Rattle.std.proofs.lemmas.Bool.{ne_eqb}
 use Rattle.std.proofs.lemmas.Fmt.{decimal_injective, decimal_is_IsNumeral_wide}
-use Rattle.std.proofs.lemmas.List.Elements.{All-cons, All-head, All-nil, All-push, All-tail}
+use Rattle.std.proofs.lemmas.List.Elements.{All-head, All-nil, All-push, All-tail}
 use Rattle.std.proofs.lemmas.List.Folds.{list_all-append}
 use Rattle.std.proofs.lemmas.List.Quantifiers.{position-Some}
 use Rattle.std.proofs.lemmas.Slice.Eq.{bytes_eq-Decides}
 use Rattle.std.proofs.lemmas.Str.Parse.{digit_from_value}
 use Rattle.dk_base.specs.Names.{unescaped}
 use Rattle.dk_base.specs.Numbers.{natural_of}
-use Rattle.dk_base.specs.Reading.{Line, LineFault}
+use Rattle.dk_base.specs.Reading.{Line}
 use Rattle.dk_base.specs.Words.{rest_of_line, words}
 use Rattle.dk_base.specs.declared.why.Why.TheVariants.{BadPoint}
 use Rattle.dk_decl.proofs.LastLines.{bind_ok}
-use Rattle.dk_decl.specs.Heads.{head_line, id_of, is_edge as same_edge, is_point_type, parent_line, with_edge, with_relation}
+use Rattle.dk_decl.specs.Heads.{head_line, id_of, is_edge as same_edge, is_point_type, parent_line, with_edge}
 use Rattle.dk_decl.specs.LineWords.{begins, each_line, operand, operands}
 use Rattle.dk_decl.specs.Outcomes.{refused}
 use Rattle.dk_decl.specs.declared.decls.EdgeDecl.{EdgeDecl}
 use Rattle.dk_graph.specs.Names.{place_of}
 use Rattle.dk_state.specs.Fitting.{FitsEdge}
 use Rattle.dk_state.specs.Given.{all_new, edge_key, has_none, is_given_edge}
-use Rattle.dk_state.specs.Lines.{behind_blank}
 use Rattle.dk_core.proofs.Spelled.{IsSpelled, IsWord, are_words, both, is_name_spelled, left, none_rest, right, spelled_undone, spelled_word, unescaped_none}
 
 pub or_none_right : (a b : Bool) → (a || b) ≡ false → b ≡ false

@@ -1,6 +1,6 @@
 -- The variables that the lines of a block declare.
-use Rattle.std.proofs.Common.{◌≡◌, ◌∙◌, ◌+◌, ◌<◌, ◌≤◌, ◌^◌, ◌&&◌, ◌||◌, ◌==◌, ◌++◌, ℕ, ℤ, zero, suc, Bool, true, false, not, List, [], ◌∷◌, All, is_none, is_some, length, map, nat_lt, Option, Some, None, Result, Ok, Err, refl, sym, ap, subst, arith, if◌then◌else◌, take, unwrap_or, ◌-◌, negsuc}
-use Rattle.std.specs.List.{list_all, list_any, position}
+use Rattle.std.proofs.Common.{◌≡◌, ◌∙◌, ◌<◌, ◌^◌, ◌&&◌, ◌||◌, ◌==◌, ◌++◌, ℕ, ℤ, Bool, true, false, not, List, [], ◌∷◌, All, is_some, length, map, nat_lt, Option, Some, None, Ok, refl, sym, ap, subst, arith, if◌then◌else◌, take, unwrap_or, ◌-◌, negsuc}
+use Rattle.std.specs.List.{list_all, position}
 use Rattle.std.specs.Option.{option_map_or}
 use Rattle.std.specs.Str.{bytes_eq}
 use Rattle.std.specs.Prelude.{IsTrue, codes, option_and_then, option_map, slice_index}
@@ -12,7 +12,7 @@ use Rattle.dk_base.proofs.Written.{read_is_written}
 use Rattle.dk_base.specs.Names.{unescaped}
 use Rattle.dk_base.specs.Numbers.{fits_i64, integer_of, whole_of}
 use Rattle.dk_base.specs.Pieces.{is_empty}
-use Rattle.dk_base.specs.Reading.{Line, LineFault, ◌>>=◌}
+use Rattle.dk_base.specs.Reading.{Line, ◌>>=◌}
 use Rattle.dk_base.specs.Values.{value_of_text}
 use Rattle.dk_base.specs.Words.{first_word, rest_of_line, words}
 use Rattle.dk_base.specs.declared.kinds.Compar.{Compar}
@@ -21,11 +21,11 @@ use Rattle.dk_base.specs.declared.values.Value.{Value}
 use Rattle.dk_base.specs.declared.why.Why.TheVariants.{BadVariable}
 use Rattle.dk_decl.proofs.LastLines.{bind_ok}
 use Rattle.dk_decl.specs.Brackets.{bracket_parts, compar_of, first_index, index_number, index_of, is_index, no_compar, numbers_of, with_numbers}
-use Rattle.dk_decl.specs.DeclareBlock.{comparability, constant_text, cut_short, old_form_var, from_comparability, from_name, from_representation, from_type, new_name as new_name_of, represented, representation}
+use Rattle.dk_decl.specs.DeclareBlock.{comparability, constant_text, old_form_var, from_name, new_name as new_name_of, represented, representation}
 use Rattle.dk_decl.specs.Heads.{id_of, is_edge as same_edge}
 use Rattle.dk_decl.specs.LineWords.{begins, each_line, operand, operands}
 use Rattle.dk_decl.specs.Outcomes.{or_refused, refused}
-use Rattle.dk_decl.specs.PptBlock.{groups, has_ended, is_variable, vars_after, with_var}
+use Rattle.dk_decl.specs.PptBlock.{has_ended, vars_after, with_var}
 use Rattle.dk_decl.specs.Types.{constant_at, constant_of, is_missing, known, rep_kind, rep_type_of}
 use Rattle.dk_decl.specs.VarNames.{has_name}
 use Rattle.dk_decl.specs.Variables.{at_edge, counterparts, new_var, open_var, var_decl_of, var_line, var_with, with_counterparts}
@@ -38,9 +38,9 @@ use Rattle.dk_decl.specs.declared.types.RepType.{RepType}
 use Rattle.dk_decl.specs.declared.types.RepType.TheVariants.{Of, Opaque}
 use Rattle.dk_decl.specs.declared.variables.OpenVar.{OpenVar}
 use Rattle.dk_state.specs.Fitting.{FitsConstant, FitsMapped, FitsVar}
-use Rattle.dk_state.specs.Given.{all_new, has_none, is_given_constant, is_given_counterpart, is_given_var, is_name}
+use Rattle.dk_state.specs.Given.{all_new, has_none, is_given_constant, is_given_counterpart, is_given_var}
 use Rattle.dk_core.proofs.GivenEdges.{HasNoLf, all_new_push, new_name, or_none_left, or_none_right}
-use Rattle.dk_core.proofs.Spelled.{IsSpelled, IsWord, are_words, both, is_name_spelled, left, none_rest, right, spelled_rest, spelled_undone, spelled_word, unescaped_none}
+use Rattle.dk_core.proofs.Spelled.{IsSpelled, IsWord, are_words, both, is_name_spelled, none_rest, spelled_rest, spelled_undone, spelled_word, unescaped_none}
 
 -- ---- constants
 -- a constant that is read can be told again

@@ -1,5 +1,5 @@
 -- What blocks leave of a history can be saved, if what it was could.
-use Rattle.std.proofs.Common.{◌≡◌, ◌∙◌, ◌+◌, ◌-◌, ◌<◌, ◌≤◌, ◌^◌, ◌++◌, ℕ, ℤ, pos, zero, suc, nat_lt, All, Bool, true, false, List, [], ◌∷◌, Option, Some, None, Result, Ok, Err, ap, arith, get_or, is_none, is_some, length, length-append, map, option_and_then, inl, inr, refl, replicate, slice_get, slice_set, subst, sym, if◌then◌else◌}
+use Rattle.std.proofs.Common.{◌≡◌, ◌∙◌, ◌-◌, ◌<◌, ◌≤◌, ◌^◌, ◌++◌, ℕ, zero, suc, All, Bool, true, false, List, [], ◌∷◌, Option, Some, None, Result, Ok, Err, ap, arith, get_or, is_none, length, map, option_and_then, inl, inr, refl, replicate, slice_get, slice_set, subst, sym, if◌then◌else◌}
 use Rattle.std.specs.Prelude.{IsTrue, codes}
 use Rattle.std.specs.Str.{bytes_eq}
 use Rattle.std.specs.List.{enumerate_from}
@@ -18,7 +18,6 @@ use Rattle.dk_base.specs.declared.values.Value.TheVariants as value
 use Rattle.dk_base.specs.declared.why.Why.{Why}
 use Rattle.dk_base.specs.declared.why.Why.TheVariants.{BadHeader}
 use Rattle.dk_calls.specs.Records.{call_of}
-use Rattle.dk_calls.specs.Waiting.{Call}
 use Rattle.dk_decl.proofs.LastLines.{bind_ok}
 use Rattle.dk_decl.specs.Blocks.{block_decl as decl_by}
 use Rattle.dk_decl.specs.Headers.{awaits_word, comparability_word, header_line, is_implicit, with_text}
@@ -30,20 +29,19 @@ use Rattle.dk_derive.proofs.Written.{back_written, element_written, front_writte
 use Rattle.dk_derive.specs.Laws.{all_vars_of, base_of, var_kinds}
 use Rattle.dk_derive.specs.Values.{derived_value, next_place, number_of_elements, place, size, value_by_form, values_by_form}
 use Rattle.dk_fits.specs.Laws.{IsSample}
-use Rattle.dk_hierarchy.specs.Samples.{OwnSamples, own_samples_of}
+use Rattle.dk_hierarchy.specs.Samples.{own_samples_of}
 use Rattle.dk_points.specs.Declaring.{at_line, declared}
 use Rattle.dk_points.specs.Table.{Point, decl_at, decl_if_declared}
 use Rattle.dk_points.specs.declared.declared.Declared.{Declared}
 use Rattle.dk_state.specs.Compact.{compact_form_of}
 use Rattle.dk_state.specs.Fitting.{FitsSlot}
 use Rattle.dk_state.specs.Given.{CanBeGiven}
-use Rattle.dk_state.specs.Spelling.{CanBeSaved, IsOwnTable, compact_form_at}
+use Rattle.dk_state.specs.Spelling.{IsOwnTable, compact_form_at}
 use Rattle.dk_trace.specs.Fitting.{FitKinds}
 use Rattle.dk_trace.specs.Records.{Sample, sample_of}
-use Rattle.dk_template.specs.declared.grammar.Grammar.{Grammar}
 use Rattle.dk_blocks.specs.Fitting.{CallFits, Extends, FitAt}
 use Rattle.dk_blocks.specs.Fronts.{Front, at_header_line, block_front, is_comment}
-use Rattle.dk_blocks.specs.History.{History, Taken, after_declaration, after_front, after_lines, after_record, after_sample, base_values, block, block_by, declared_effect, effect_of, file_ended, is_declaration, is_list_of_implementors, no_block, nothing_by, or_left_out, with_declaration, with_record, with_table, with_values, without_record}
+use Rattle.dk_blocks.specs.History.{History, Taken, after_declaration, after_front, after_lines, after_record, after_sample, base_values, block, block_by, declared_effect, effect_of, file_ended, is_declaration, is_list_of_implementors, no_block, nothing_by, or_left_out, with_record, with_table, with_values, without_record}
 use Rattle.dk_core.specs.Resuming.{AreFew, IsStart, NoSamplesAreAStart}
 use Rattle.dk_core.proofs.Feeding.{sample_given}
 use Rattle.dk_core.proofs.GivenBlocks.{block_gives}

@@ -1,5 +1,5 @@
 -- Tables that their own declarations make.
-use Rattle.std.proofs.Common.{◌≡◌, ◌∙◌, ◌+◌, ◌-◌, ◌<◌, ◌≤◌, ◌^◌, ◌||◌, ◌++◌, ℕ, zero, suc, nat_lt, All, Bool, true, false, List, [], ◌∷◌, Option, Some, None, Result, Ok, Err, ap, append_assoc, arith, filter_map, inl, inr, length, length-append, map, option_and_then, refl, slice_get, subst, sym, take, if◌then◌else◌}
+use Rattle.std.proofs.Common.{◌≡◌, ◌∙◌, ◌-◌, ◌<◌, ◌≤◌, ◌||◌, ◌++◌, ℕ, nat_lt, All, Bool, true, false, List, [], ◌∷◌, Option, Some, None, Result, Ok, Err, ap, append_assoc, arith, inl, inr, length, length-append, map, option_and_then, refl, slice_get, subst, sym, take, if◌then◌else◌}
 use Rattle.std.proofs.Math.Seq.{take-append_seam}
 use Rattle.std.proofs.lemmas.Bool.{cases_lt}
 use Rattle.std.proofs.lemmas.List.Elements.{All-head, All-nil, All-push, All-tail, All-weaker, filter_map-append}
@@ -19,7 +19,7 @@ use Rattle.dk_graph.specs.Graphs.{has_cycle}
 use Rattle.dk_graph.specs.Names.{place_of}
 use Rattle.dk_hierarchy.proofs.OfPoint.{of_point}
 use Rattle.dk_points.proofs.Exits.{vars-same}
-use Rattle.dk_points.specs.Declaring.{at_line, declared, declared_again, declared_at, declared_new, grown, has_many_points, has_many_vars}
+use Rattle.dk_points.specs.Declaring.{at_line, declared, declared_again, declared_at, has_many_points, has_many_vars}
 use Rattle.dk_points.specs.Links.{nodes}
 use Rattle.dk_points.specs.Sameness.{same_decl}
 use Rattle.dk_points.specs.Table.{Point, added_points, decl_at, decl_if_declared, declared_point, implicit_exit, makes_exit, names}
@@ -31,7 +31,7 @@ use Rattle.dk_state.specs.Fitting.{FitsConstant, FitsVar}
 use Rattle.dk_state.specs.Given.{CanBeGiven}
 use Rattle.dk_state.specs.Spelling.{IsOwnTable, if_new, table_behind}
 use Rattle.dk_trace.specs.Fitting.{FitsKind, HasFittingConstant}
-use Rattle.dk_blocks.specs.Fitting.{Extends, ConstantsFit, HasFittingConstants}
+use Rattle.dk_blocks.specs.Fitting.{ConstantsFit, HasFittingConstants}
 use Rattle.dk_blocks.proofs.Derived.{vars_are_base}
 use Rattle.dk_blocks.proofs.Growing.{again_points, constants_still, new_points, not_refused, same_vars, taken_if}
 

@@ -1,5 +1,5 @@
 -- What is kept of a state, and what state is saved of it.
-use Rattle.std.proofs.Common.{◌≡◌, ◌∙◌, ◌++◌, All, Bool, false, List, [], ℕ, Result, Ok, Err, refl, sym, ap, subst}
+use Rattle.std.proofs.Common.{◌≡◌, ◌∙◌, ◌++◌, All, Bool, List, ℕ, Result, Ok, Err, sym, ap, subst}
 use Rattle.std.specs.Prelude.{OnOk}
 use Rattle.dk_decl.specs.Headers.{is_implicit}
 use Rattle.dk_engine.specs.Levels.{Whole}

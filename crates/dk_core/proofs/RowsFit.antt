@@ -1,8 +1,7 @@
 -- What each row says of values is within the types of its states' numbers.
-use Rattle.std.proofs.Common.{◌≡◌, ◌∙◌, ◌+◌, ◌-◌, ◌<◌, ◌≤◌, ◌^◌, ℕ, ℤ, zero, suc, Bool, true, false, List, [], ◌∷◌, All, length, map, refl, sym, ap, subst, arith}
-use Rattle.std.specs.Prelude.{IsTrue, slice_index_or}
+use Rattle.std.proofs.Common.{◌≡◌, ◌∙◌, ◌-◌, ◌<◌, ℕ, zero, suc, false, List, [], ◌∷◌, All, length, map, refl, sym, ap, arith}
+use Rattle.std.specs.Prelude.{slice_index_or}
 use Rattle.std.proofs.lemmas.List.Elements.{All-cons, All-nil}
-use Rattle.dk_base.specs.Numbers.{fits_i64}
 use Rattle.dk_base.specs.Spelling.{IsWritten}
 use Rattle.dk_base.specs.Tuples.{hash_of, hashes_of, int_of, ints_of, value_at}
 use Rattle.dk_base.specs.declared.kinds.Kind.{Kind}

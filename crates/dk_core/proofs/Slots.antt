@@ -1,6 +1,6 @@
 -- The slots of samples are within the types of their parts.
-use Rattle.std.proofs.Common.{◌≡◌, ◌∙◌, ◌+◌, ◌-◌, ◌<◌, ◌≤◌, ◌^◌, ◌&&◌, ◌==◌, ℕ, All, Bool, true, false, List, [], ◌∷◌, get_or, length, map, refl, sym, ap, subst, arith}
-use Rattle.std.specs.Prelude.{Contains, IsTrue, slice_get, zip}
+use Rattle.std.proofs.Common.{◌≡◌, ◌∙◌, ◌-◌, ◌<◌, ◌≤◌, ◌&&◌, ◌==◌, All, Bool, true, false, List, [], get_or, length, refl, sym, subst, arith}
+use Rattle.std.specs.Prelude.{slice_get, zip}
 use Rattle.std.specs.List.{list_all}
 use Rattle.std.proofs.lemmas.Bool.{eqb-true}
 use Rattle.std.proofs.lemmas.List.{length-map}
@@ -9,22 +9,19 @@ use Rattle.dk_base.specs.declared.kinds.VarId.{VarId}
 use Rattle.dk_base.specs.declared.kinds.VarInfo.{VarInfo}
 use Rattle.dk_base.specs.declared.values.Value.{Value}
 use Rattle.dk_classes.proofs.OwnLeaders.{leads_from_own}
-use Rattle.dk_classes.specs.Leaders.{own_leaders}
 use Rattle.dk_engine.specs.Exact.{AreOfPoint, AreSamples, IsKeptOf, IsSlot}
 use Rattle.dk_engine.specs.declared.kept.Kept.{Kept}
 use Rattle.dk_engine.specs.declared.slot.Slot.{Slot}
 use Rattle.dk_fits.proofs.Whole.{are_tuples, fit_is_proper}
 use Rattle.dk_fits.specs.Fits.{fit, tuples_of}
-use Rattle.dk_forms.specs.declared.states.State.{State}
 use Rattle.dk_forms.specs.declared.states.State.TheVariants.{Broken}
 use Rattle.dk_rows.specs.Meaning.{Meaning, form_by, relation, state_by}
 use Rattle.dk_rows.specs.Meanings.{meaning_of, state_of}
 use Rattle.dk_state.proofs.CompactParts.{kept_exact}
 use Rattle.dk_state.specs.Compact.{compact_form_of}
-use Rattle.dk_state.specs.Fitting.{FitsPlace, FitsSlot, FitsState}
+use Rattle.dk_state.specs.Fitting.{FitsSlot, FitsState}
 use Rattle.dk_template.specs.Admitted.{admits, suits}
 use Rattle.dk_template.specs.Proper.{IsProper}
-use Rattle.dk_template.specs.Rows.{IsTuple}
 use Rattle.dk_template.specs.Templates.{IsRow, IsRowOf, form_of, role_kinds, roles_of, template_of}
 use Rattle.dk_template.specs.declared.grammar.Grammar.{Grammar}
 use Rattle.dk_template.specs.declared.grammar.Grammar.TheVariants as grammar
@@ -33,7 +30,6 @@ use Rattle.dk_template.specs.declared.templates.Role.{Role}
 use Rattle.dk_template.specs.declared.templates.StateForm.{StateForm}
 use Rattle.dk_template.specs.declared.templates.Takes.{Takes}
 use Rattle.dk_template.specs.declared.templates.Takes.TheVariants.{One, Two, Three}
-use Rattle.dk_template.specs.declared.templates.Template.{Template}
 use Rattle.dk_core.proofs.RowsFit.{row_form, row_within}
 use Rattle.dk_core.proofs.StatesFit.{meant_fits}
 

@@ -1,6 +1,6 @@
 -- Bytes that a line or a part of it has: not empty, without a tab (9) at either end, and without an LF (10).
-use Rattle.std.proofs.Common.{◌≡◌, ◌∙◌, ◌+◌, ◌-◌, ◌&&◌, ◌||◌, ◌==◌, ◌++◌, ℕ, zero, suc, Bool, true, false, not, List, [], ◌∷◌, All, drop, length, nat_lt, reverse, refl, sym, ap, subst, arith, if◌then◌else◌, slice_index_or}
-use Rattle.std.specs.List.{filter, list_all, onto_first, slice_split}
+use Rattle.std.proofs.Common.{◌≡◌, ◌∙◌, ◌-◌, ◌&&◌, ◌||◌, ◌==◌, ◌++◌, ℕ, zero, suc, Bool, true, false, not, List, [], ◌∷◌, All, drop, length, nat_lt, reverse, refl, sym, ap, subst, arith, if◌then◌else◌, slice_index_or}
+use Rattle.std.specs.List.{onto_first, slice_split}
 use Rattle.std.proofs.lemmas.List.{reverse-append, reverse-reverse}
 use Rattle.std.proofs.lemmas.List.Elements.{All-cons, All-head, All-nil, All-tail}
 use Rattle.std.proofs.lemmas.List.Folds.{list_all-append}

@@ -1,11 +1,9 @@
 -- The lines of the groups of a file.
-use Rattle.std.proofs.Common.{◌≡◌, ◌∙◌, ◌+◌, ◌-◌, ◌<◌, ◌≤◌, ◌&&◌, ◌||◌, ◌==◌, ℕ, zero, suc, Bool, true, false, not, List, [], ◌∷◌, All, length, nat_le, nat_lt, refl, sym, ap, subst, arith, take, if◌then◌else◌}
-use Rattle.std.specs.Io.BufRead.{ends_with_byte, strip_last}
+use Rattle.std.proofs.Common.{◌≡◌, ◌+◌, ◌-◌, ◌≤◌, ◌||◌, ◌==◌, ℕ, zero, suc, Bool, true, false, not, List, [], ◌∷◌, All, length, refl, ap, arith, take, if◌then◌else◌}
+use Rattle.std.specs.Io.BufRead.{ends_with_byte}
 use Rattle.std.proofs.lemmas.List.Elements.{All-cons, All-head, All-nil, All-tail}
-use Rattle.dk_base.specs.Pieces.{is_empty}
 use Rattle.dk_base.specs.Reading.{Line}
-use Rattle.dk_base.specs.Words.{trim_blanks}
-use Rattle.dk_lines.specs.Left.{End, Over, Broken, LongLine, TooLong, Left, Ends, Next, Piece, is_long, is_over, lined, lined_by, onto_first, pieces, size_of, without_cr}
+use Rattle.dk_lines.specs.Left.{Over, Broken, LongLine, TooLong, Left, Ends, Next, Piece, is_long, is_over, lined, lined_by, onto_first, pieces, size_of, without_cr}
 use Rattle.dk_blocks.specs.Blocks.{Group, Groups, Last, groups_of, is_blank_line, onto_group, trimmed_line}
 use Rattle.dk_state.specs.Given.{has_none}
 use Rattle.dk_core.proofs.GivenEdges.{HasNoLf}

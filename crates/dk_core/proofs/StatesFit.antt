@@ -1,23 +1,18 @@
 -- The states of values of samples are within the types of their numbers.
-use Rattle.std.proofs.Common.{◌≡◌, ◌∙◌, ◌+◌, ◌-◌, ◌<◌, ◌≤◌, ◌^◌, ◌&&◌, ◌==◌, ℕ, ℤ, pos, negsuc, ◌-ℤ◌, zero, suc, Bool, true, false, List, [], ◌∷◌, All, cond, fold, flat_map, length, map, nat_eq, nat_le, nat_lt, Option, Some, None, refl, sym, ap, subst, arith, if◌then◌else◌}
-use Rattle.std.specs.Prelude.{IsTrue, int_lt, slice_index_or, unsigned_abs}
-use Rattle.std.specs.Cmp.Lexicographic.{slice_cmp}
+use Rattle.std.proofs.Common.{◌≡◌, ◌<◌, ◌≤◌, ◌^◌, ◌==◌, ℕ, ℤ, pos, negsuc, Bool, true, false, List, [], ◌∷◌, All, cond, fold, flat_map, length, map, nat_eq, nat_le, refl, arith, if◌then◌else◌}
+use Rattle.std.specs.Prelude.{IsTrue, int_lt, unsigned_abs}
 use Rattle.std.specs.Int.{int_max, int_min, int_rem_euclid}
 use Rattle.std.specs.List.{list_all}
-use Rattle.std.specs.Ordering.{int_cmp, nat_cmp}
+use Rattle.std.specs.Ordering.{int_cmp}
 use Rattle.std.specs.declared.cmp.Ordering.{Ordering}
 use Rattle.std.specs.declared.cmp.Ordering.TheVariants.{Less, Equal, Greater}
 use Rattle.std.proofs.lemmas.Bool.{ltb-true}
 use Rattle.std.proofs.lemmas.Int.{ints}
 use Rattle.std.proofs.lemmas.List.Elements.{All-append, All-cons, All-head, All-nil, All-tail}
 use Rattle.dk_arith.proofs.GcdLaws.{gcd_small}
-use Rattle.dk_base.specs.Items.{is_text}
 use Rattle.dk_base.specs.Numbers.{fits_i64}
-use Rattle.dk_base.specs.Spelling.{IsWritten}
-use Rattle.dk_base.specs.Tuples.{hash_of, hashes_of, int_of, ints_of, value_at}
 use Rattle.dk_base.specs.declared.kinds.Kind.{Kind}
 use Rattle.dk_base.specs.declared.values.Value.{Value}
-use Rattle.dk_base.specs.declared.values.Value.TheVariants as value
 use Rattle.dk_forms.specs.Code.{code_of, code_state}
 use Rattle.dk_forms.specs.Distinct.{by_order, distinct, put, put_all}
 use Rattle.dk_forms.specs.Greatest.{greatest_of}
@@ -25,7 +20,7 @@ use Rattle.dk_forms.specs.Ints.{IsIntsState, ints_of as ints_state_of, ints_stat
 use Rattle.dk_forms.specs.Known.{broken, fact}
 use Rattle.dk_forms.specs.Least.{least_of}
 use Rattle.dk_forms.specs.Line.{IsLineState}
-use Rattle.dk_forms.specs.Modulus.{IsModulusState, apart, class, class_of, gcd_of_all, modulus_of, modulus_state, remainder}
+use Rattle.dk_forms.specs.Modulus.{IsModulusState, apart, class, gcd_of_all, modulus_of, modulus_state, remainder}
 use Rattle.dk_forms.specs.Offset.{IsOffsetState}
 use Rattle.dk_forms.specs.Plain.{IsPlainState}
 use Rattle.dk_forms.specs.Plane.{IsPlaneState}

@@ -1,5 +1,5 @@
 -- The engines behind what a block does.
-use Rattle.std.proofs.Common.{◌≡◌, ◌∙◌, ◌<◌, ◌++◌, ℕ, Bool, true, false, List, [], ◌∷◌, is_some, length, slice_get, slice_set, Option, Some, None, Result, Ok, Err, IfSome, ap, arith, refl, subst, sym}
+use Rattle.std.proofs.Common.{◌≡◌, ◌∙◌, ◌<◌, ◌++◌, ℕ, Bool, true, false, List, [], ◌∷◌, length, slice_get, slice_set, Option, Some, None, Result, Ok, Err, IfSome, ap, arith, refl, subst, sym}
 use Rattle.std.proofs.lemmas.List.{append-nil}
 use Rattle.dk_base.specs.Reading.{LineFault}
 use Rattle.dk_base.specs.Shapes.{AreWithDerived}
@@ -22,7 +22,7 @@ use Rattle.dk_blocks.proofs.Derived.{are_derived, base_among}
 use Rattle.dk_blocks.proofs.Stepping.{refused_behind}
 use Rattle.dk_blocks.specs.Adding.{AddsNothing, AddsPoints, AddsSample}
 use Rattle.dk_blocks.specs.Finding.{outcome_of}
-use Rattle.dk_blocks.specs.History.{Declares, Effect, History, Nothing, Taken, effect_of, no_block}
+use Rattle.dk_blocks.specs.History.{Declares, History, Nothing, Taken, effect_of, no_block}
 use Rattle.dk_blocks.specs.Reading.{stepped}
 use Rattle.dk_blocks.specs.Standing.{ReaderStandsFor, Stands as ReaderKeeps, over_of as over_in, points_of as points_in}
 use Rattle.dk_blocks.specs.Steps.{DeclareGives, NextBlock, RefusedAs, Steps, groups_left}

@@ -1,5 +1,5 @@
 -- What is made of a block that was found.
-use Rattle.std.specs.Prelude.{◌≡◌, length, Option, Some, Result, Ok, Err}
+use Rattle.std.specs.Prelude.{◌≡◌, length, Some, Result, Ok, Err}
 use Rattle.dk_base.specs.Reading.{LineFault}
 use Rattle.dk_base.specs.declared.faults.Fault.{Fault}
 use Rattle.dk_hierarchy.specs.Samples.{own_samples_of}

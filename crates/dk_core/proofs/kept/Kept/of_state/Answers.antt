@@ -1,4 +1,3 @@
-use Rattle.std.proofs.Common.{refl}
 use Rattle.dk_core.proofs.Resuming.{begins, between}
 use Rattle.dk_core.proofs.kept.Kept.of_state.Goals as goal
 
