@@ -15,10 +15,10 @@ ghost use Rattle.dk_halves.specs.Standing.{AreOver, HalvesStandFor, StandFor};
 ghost use Rattle.dk_halves.specs.Telling.{all_on, is_first, is_told, lines_of, told_line, told_lines};
 
 use crate::{Halves, Split};
-use dk_base::{NoMemory, Text, VarId, VarInfo};
+use dk_base::{NoMemory, Text, VarId};
 use dk_engine::Engine;
 use dk_filters::Candidate;
-use dk_print::{push_candidate, push_heading};
+use dk_print::{push_count, push_heading, push_instance};
 use dk_report::{Options, kept_alone};
 use dk_template::Answers;
 use std::alloc::Global;
@@ -92,22 +92,6 @@ fn condition_text(truth: bool) -> &'static [u8]
     }
 }
 
-// The line of an implication.
-fn push_implication(
-    text: &mut Text,
-    vars: &[VarInfo],
-    b: VarId,
-    truth: bool,
-    instance: &Candidate,
-) -> Result<(), NoMemory>
-    requires { b.0 < length vars.now }
-    ensures { OnOk result (text.new ≡ text.old ++ implication_line vars.now (implication b truth instance.now)) }
-{
-    text.append(vars[b.0 as usize].name.as_slice())?;
-    text.append(condition_text(truth))?;
-    push_candidate(text, vars, instance)
-}
-
 // The engine of all samples of a point, beside which its halves are told of, with the least number.
 #[derive(Clone, Copy)]
 struct Telling<'a> {
@@ -117,6 +101,25 @@ struct Telling<'a> {
 }
 
 impl<'a> Telling<'a> {
+    // The line of an implication.
+    fn push_implication(
+        &self,
+        text: &mut Text,
+        b: VarId,
+        truth: bool,
+        instance: &Candidate,
+    ) -> Result<(), NoMemory>
+        requires { b.0 < length self.now.whole.now.infos }
+        ensures { OnOk result (text.new ≡ text.old ++ implication_line self.now.whole.now.infos (implication b truth instance.now)) }
+    {
+        let vars = self.whole.vars();
+        let tuple = instance.vars.as_slice();
+        text.append(vars[b.0 as usize].name.as_slice())?;
+        text.append(condition_text(truth))?;
+        push_instance(text, instance.row, vars, tuple, &instance.state)?;
+        push_count(text, instance.count)
+    }
+
     // The line of an instance of a half, if it says more there.
     fn push_told_line(
         &self,
@@ -133,7 +136,7 @@ impl<'a> Telling<'a> {
         if !told {
             return Ok(());
         }
-        push_implication(text, self.whole.vars(), b, truth, instance)
+        self.push_implication(text, b, truth, instance)
     }
 
     // The lines of those instances of a half that say more there.

@@ -12,5 +12,5 @@ mod values;
 
 pub use instances::{instance, push_instance};
 pub use sections::{
-    fault, push_candidate, push_fault, push_heading, push_section, push_stats, section, stats,
+    fault, push_count, push_fault, push_heading, push_section, push_stats, section, stats,
 };

@@ -15,8 +15,8 @@ use std::alloc::Global;
 const RULE: &[u8] =
     b"===========================================================================\n";
 
-// A count, at the end of a line.
-fn push_count(text: &mut Text, count: u64) -> Result<(), NoMemory>
+/// A count, at the end of a line, behind the text. After an error the text may hold a part of it.
+pub fn push_count(text: &mut Text, count: u64) -> Result<(), NoMemory>
     ensures { OnOk result (text.new ≡ text.old ++ count_text count) }
 {
     text.append(b"  [")?;
@@ -34,12 +34,8 @@ pub fn push_heading(text: &mut Text, name: &[u8], samples: u64) -> Result<(), No
     push_count(text, samples)
 }
 
-/// The line of a candidate, behind the text: its text and its count. After an error the text may hold a part of it.
-pub fn push_candidate(
-    text: &mut Text,
-    vars: &[VarInfo],
-    candidate: &Candidate,
-) -> Result<(), NoMemory>
+// The line of a candidate.
+fn push_candidate(text: &mut Text, vars: &[VarInfo], candidate: &Candidate) -> Result<(), NoMemory>
     ensures { OnOk result (text.new ≡ text.old ++ candidate_line vars.now candidate.now) }
 {
     let tuple = candidate.vars.as_slice();

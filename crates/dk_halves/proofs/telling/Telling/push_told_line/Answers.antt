@@ -1,7 +1,6 @@
-use Rattle.std.specs.Prelude.{◌≡◌, ◌++◌, [], Bool, List, OnOk, if◌then◌else◌}
+use Rattle.std.specs.Prelude.{◌≡◌, ◌++◌, [], Bool, OnOk, if◌then◌else◌}
 use Rattle.std.proofs.Common.{ap, append-nil, subst, sym, ◌∙◌}
-use Rattle.dk_base.specs.declared.kinds.VarInfo.{VarInfo}
-use Rattle.dk_halves.specs.Implications.{Implication, implication}
+use Rattle.dk_halves.specs.Implications.{implication}
 use Rattle.dk_halves.specs.Reports.{implication_line}
 use Rattle.dk_halves.proofs.telling.Telling.push_told_line.Goals as goal
 
@@ -15,9 +14,6 @@ returns-then-not-told c =
 pub returns : goal.returns
 returns c =
     let whole = c.args.self.now.whole.now in
-    let old = c.args.text.now in
-    let new = c.push_implication.new.text in
-    let told : Implication = implication c.args.b c.args.truth c.args.instance.now in
-    let Given : List VarInfo → Type 0 = λ vars. OnOk c.push_implication.result (new ≡ old ++ implication_line vars told) in
-    let Sought : Bool → Type 0 = λ t. OnOk c.push_implication.result (new ≡ old ++ (if t then implication_line whole.infos told else [])) in
-    subst Sought (sym (sym c.in_ok-told.ensures ∙ c.if-not-told.false)) (subst Given c.vars.ensures c.push_implication.ensures)
+    let line = implication_line whole.infos (implication c.args.b c.args.truth c.args.instance.now) in
+    let Told : Bool → Type 0 = λ t. OnOk c.push_implication.result (c.push_implication.new.text ≡ c.args.text.now ++ (if t then line else [])) in
+    subst Told (sym (sym c.in_ok-told.ensures ∙ c.if-not-told.false)) c.push_implication.ensures
