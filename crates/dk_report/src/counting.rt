@@ -1,9 +1,11 @@
 // In how many samples of a point each single variable is present, found once.
-ghost use Rattle.std.specs.Prelude.{◌≡◌, ◌<◌, ◌+◌, ◌*◌, ℕ, [], ◌∷◌, IfOk, IfSome, None, Some, length, replicate, slice_get, slice_index_or};
+ghost use Rattle.std.specs.Prelude.{◌≡◌, ◌<◌, ◌+◌, ◌*◌, ℕ, [], ◌∷◌, All, IfOk, IfSome, List, None, Some, length, replicate, slice_get, slice_index_or};
+ghost use Rattle.dk_base.specs.declared.values.Value.{Value as SampleValue};
+ghost use Rattle.dk_engine.specs.Exact.{AreOfPoint};
 ghost use Rattle.dk_engine.specs.Reading.{count_read};
 ghost use Rattle.dk_hierarchy.specs.Descent.{IsDescent};
 ghost use Rattle.dk_hierarchy.specs.Merging.{AreWays, IsWay, engine_at, merged_agree, merged_count, merged_state};
-ghost use Rattle.dk_hierarchy.specs.Standing.{AreEnginesOf, IsMergedAt};
+ghost use Rattle.dk_hierarchy.specs.Standing.{AreEnginesOf, EngineStandsFor, IsMergedAt, JointStandsFor};
 ghost use Rattle.dk_presence.specs.Patterns.{capped, counted_by, has};
 ghost use Rattle.dk_report.specs.Counting.{AreAt, AreFound, added, brought, partner_count, single_count};
 ghost use Rattle.dk_samples.specs.Leaders.{VarsAscend};
@@ -15,6 +17,7 @@ use dk_points::Points;
 use dk_template::{Answers, RowId, State};
 use std::alloc::Global;
 use std::marker::Model;
+use std::slice;
 
 // So many samples more at each of the variables that has a place.
 fn add_count(counts: &mut Vec<u64>, vars: &[VarId], more: u64)
@@ -194,6 +197,18 @@ impl<'e> Model for Counted<'e> {
 }
 
 impl<'e> Counted<'e> {
+    /// What answers for the samples that one engine has, as for a point without children.
+    pub(crate) fn alone(alloc: Global, engine: &'e Engine) -> Result<Counted<'e>, NoMemory>
+        requires { AreOfPoint engine.now.infos }
+        ensures here { IfOk result (λ counted. counted.here ≡ engine.now) }
+        ensures engines { IfOk result (λ counted. counted.engines ≡ engine.now ∷ []) }
+        ensures paths { IfOk result (λ counted. All (λ way. 0 < way.paths) counted.ways) }
+        ensures stands { IfOk result (λ counted. (samples : List (List SampleValue)) → EngineStandsFor engine.now samples → JointStandsFor counted samples) }
+    {
+        let merged = Merged::alone(alloc, engine)?;
+        Counted::of(alloc, merged, slice::from_ref(engine))
+    }
+
     // The same with these counts.
     fn of(alloc: Global, merged: Merged<'e>, engines: &[Engine]) -> Result<Counted<'e>, NoMemory>
         requires { merged.engines ≡ engines.now }

@@ -10,11 +10,11 @@ ghost use Rattle.dk_report.specs.Keeping.{keeps};
 
 use crate::Options;
 use crate::asking::Asking;
+use crate::counting::Counted;
 use crate::parents::views_of;
 use dk_base::{List, NoMemory};
 use dk_engine::Engine;
 use dk_filters::{Candidate, PointFacts};
-use dk_hierarchy::Merged;
 use std::alloc::Global;
 use std::slice;
 
@@ -29,7 +29,7 @@ pub fn kept_alone(
     ensures instances { IfOk result (λ list. All (λ c. IsInstance engine.now.grammar engine.now.infos c.row c.vars) list) }
     ensures kept { IfOk result (λ list. (samples : List (List SampleValue)) → EngineStandsFor engine.now samples → list ≡ candidates_kept (keeps options.now) (candidates_of engine.now.grammar options.now.least (answers_of engine.now.infos samples) [])) }
 {
-    let here = Merged::alone(alloc, engine)?;
+    let here = Counted::alone(alloc, engine)?;
     let parents = Vec::new(alloc);
     let views = views_of(alloc, parents.as_slice())?;
     let found = PointFacts::of(alloc, here.vars(), &here, views.as_slice())?;
