@@ -1,15 +1,11 @@
 // What the blocks of two files are told to do, one after another, and what is refused.
-ghost use Rattle.std.specs.Prelude.{◌≡◌, not, true, false, IfOk, IfSome};
-ghost use Rattle.dk_blocks.specs.Standing.{over_of as over_in};
+ghost use Rattle.std.specs.Prelude.{◌≡◌, not, false};
 ghost use Rattle.dk_events.specs.Standing.{over_of};
 
 use dk_base::{Arena, Fault, List, NoMemory, PointId, Text, View, spell};
-use dk_blocks::laws::{effects_are_added, groups_are_longest_runs};
-use dk_blocks::{Found, Reader};
 use dk_events::{Ended, Event, Events};
 use dk_io::{Inputs, MemoryInputs};
 use dk_lines::{Limits, Lines};
-use dk_points::Declared;
 use std::alloc::Global;
 use std::test::Fail;
 
@@ -167,85 +163,6 @@ fn an_exit_without_an_entry_is_refused(rt: HostRuntime) -> Result<(), Fail> {
     let mut events = events.end_file();
     let told = show_file(alloc, &mut events, &mut inputs, &mut lines, "second")?;
     assert_eq!(&rt; told.as_slice(), b"1: 2: 14 UnmatchedExit;".as_slice());
-    Ok(())
-}
-
-// Whether the next block of the started file is a declaration of a new point, which the reader takes.
-fn takes_declaration<I: Inputs>(
-    alloc: Global,
-    reader: Reader,
-    inputs: &mut I,
-    lines: &mut Lines,
-) -> Result<Option<Reader>, Fault>
-    requires { lines.old.is_started ≡ not (over_in reader) }
-    ensures { IfOk result (λ taken. IfSome taken (λ after. lines.new.is_started ≡ not (over_in after))) }
-{
-    let mut reader = reader;
-    let arena = Arena::new(alloc);
-    match reader.next(&arena, inputs, lines, false)? {
-        Some(Found::Declaration { line, decl }) => match reader.declare(line, decl)? {
-            (reader, Declared::New(_)) => Ok(Some(reader)),
-            (_, Declared::Same(_)) => Ok(None),
-        },
-        _ => Ok(None),
-    }
-}
-
-// Whether the next block is a record of the last point, with one base value, which begins at this line.
-fn reads_record<I: Inputs>(
-    alloc: Global,
-    reader: &mut Reader,
-    inputs: &mut I,
-    lines: &mut Lines,
-    begins: u64,
-) -> bool
-    requires { lines.old.is_started ≡ not (over_in reader.old) }
-{
-    let last = reader.points().len();
-    let arena = Arena::new(alloc);
-    match reader.next(&arena, inputs, lines, false) {
-        Ok(
-            Some(
-                Found::Sample {
-                    point,
-                    line,
-                    values,
-                },
-            ),
-        ) => point.0 < last && line == begins && values.len() == 1,
-        _ => false,
-    }
-}
-
-// Whether a reader finds two new points and a record in the started file, and none of its entries waits in the next one.
-fn reads_by_hand<I: Inputs>(alloc: Global, inputs: &mut I, lines: &mut Lines) -> Result<bool, Fault>
-    requires { lines.old.is_started ≡ true }
-{
-    let Ok(reader) = Reader::new(alloc) else {
-        return Err(Fault::NoMemory);
-    };
-    let Some(reader) = takes_declaration(alloc, reader, inputs, lines)? else {
-        return Ok(false);
-    };
-    let Some(mut reader) = takes_declaration(alloc, reader, inputs, lines)? else {
-        return Ok(false);
-    };
-    if !reads_record(alloc, &mut reader, inputs, lines, 9) {
-        return Ok(false);
-    }
-    reader.end_file();
-    Ok(reader.implicit() && reader.points().len() == 3)
-}
-
-#[test]
-fn a_reader_hands_out_what_it_finds(rt: HostRuntime) -> Result<(), Fail> {
-    groups_are_longest_runs();
-    effects_are_added();
-    let alloc = rt.alloc();
-    let mut inputs = two_files(alloc, DECLARED)?;
-    let mut lines = Lines::new(alloc, Limits::STANDARD)?;
-    assert!(rt; lines.start(&mut inputs, "first").is_ok());
-    assert!(rt; matches!(reads_by_hand(alloc, &mut inputs, &mut lines), Ok(true)));
     Ok(())
 }
 
