@@ -1,4 +1,4 @@
-//! Tests of the public calls of events, and of the reader of blocks below them. No call is defined here.
+//! Tests of the public calls of events, and by them of the reader of blocks below. No call is defined here.
 #![tactic(auto)]
 
 #[cfg(test)]

@@ -135,8 +135,9 @@ fn views(alloc: Global, sample: Sample) -> Result<Vec<View<'static>>, NoMemory>
 // Feeds the sample, if it is one of the point's variables.
 fn feed(alloc: Global, split: &mut Split, sample: Sample) -> Result<(), NoMemory> {
     let values = views(alloc, sample)?;
-    if split.whole().takes(values.as_slice()) {
-        split.feed(values.as_slice())?;
+    let sample = values.as_slice();
+    if split.whole().takes(sample) {
+        split.feed(sample)?;
     }
     Ok(())
 }
