@@ -131,38 +131,76 @@ fn first_vars(events: &Events) -> usize {
     events.vars(PointId(0)).len()
 }
 
+// What is told of two files, and what is known behind them.
+#[derive(Drop)]
+struct Told {
+    first: Text,
+    second: Text,
+    implicit: bool,
+    points: usize,
+    vars: usize,
+}
+
+// Behind a file of which this is told: what is told of the second one.
+fn second_told<I: Inputs>(
+    alloc: Global,
+    events: Events,
+    inputs: &mut I,
+    lines: &mut Lines,
+    first: Text,
+) -> Result<Told, NoMemory> {
+    let mut events = events.end_file();
+    let second = show_file(alloc, &mut events, inputs, lines, "second")?;
+    Ok(Told {
+        first,
+        second,
+        implicit: events.implicit(),
+        points: events.points().len() as usize,
+        vars: first_vars(&events),
+    })
+}
+
+// What is told of both files.
+fn both_told<I: Inputs>(
+    alloc: Global,
+    inputs: &mut I,
+    ignore_missing_entry: bool,
+) -> Result<Told, NoMemory> {
+    let mut lines = Lines::new(alloc, Limits::STANDARD)?;
+    let mut events = Events::new(alloc, ignore_missing_entry)?;
+    let first = show_file(alloc, &mut events, inputs, &mut lines, "first")?;
+    second_told(alloc, events, inputs, &mut lines, first)
+}
+
+// What is told of a file of this text and of the second one, one after another.
+fn told_of(alloc: Global, first: &str, ignore_missing_entry: bool) -> Result<Told, NoMemory> {
+    let mut inputs = two_files(alloc, first)?;
+    both_told(alloc, &mut inputs, ignore_missing_entry)
+}
+
 #[test]
 fn events_of_two_files(rt: HostRuntime) -> Result<(), Fail> {
-    let alloc = rt.alloc();
-    let mut inputs = two_files(alloc, FIRST)?;
-    let mut lines = Lines::new(alloc, Limits::STANDARD)?;
-    let mut events = Events::new(alloc, true)?;
-    let told = show_file(alloc, &mut events, &mut inputs, &mut lines, "first")?;
-    assert_eq!(&rt; told.as_slice(), TOLD.as_bytes());
-    assert!(rt; !events.implicit());
-    let mut events = events.end_file();
-    let told = show_file(alloc, &mut events, &mut inputs, &mut lines, "second")?;
-    assert_eq!(&rt; told.as_slice(), b"nothing;end;".as_slice());
-    assert!(rt; events.points().len() == 4);
-    assert!(rt; first_vars(&events) == 10);
+    let told = told_of(rt.alloc(), FIRST, true)?;
+    assert_eq!(&rt; told.first.as_slice(), TOLD.as_bytes());
+    assert_eq!(&rt; told.second.as_slice(), b"nothing;end;".as_slice());
+    assert!(rt; !told.implicit);
+    assert!(rt; told.points == 4);
+    assert!(rt; told.vars == 10);
     Ok(())
 }
 
 #[test]
 fn an_exit_without_an_entry_is_refused(rt: HostRuntime) -> Result<(), Fail> {
-    let alloc = rt.alloc();
-    let mut inputs = two_files(alloc, DECLARED)?;
-    let mut lines = Lines::new(alloc, Limits::STANDARD)?;
-    let mut events = Events::new(alloc, false)?;
-    let told = show_file(alloc, &mut events, &mut inputs, &mut lines, "first")?;
+    let told = told_of(rt.alloc(), DECLARED, false)?;
     assert_eq!(&rt;
-        told.as_slice(),
+        told.first.as_slice(),
         b"declared;declared;0 at 9: 3;end;".as_slice()
     );
-    assert!(rt; events.implicit());
-    let mut events = events.end_file();
-    let told = show_file(alloc, &mut events, &mut inputs, &mut lines, "second")?;
-    assert_eq!(&rt; told.as_slice(), b"1: 2: 14 UnmatchedExit;".as_slice());
+    assert_eq!(&rt;
+        told.second.as_slice(),
+        b"1: 2: 14 UnmatchedExit;".as_slice()
+    );
+    assert!(rt; told.implicit);
     Ok(())
 }
 
