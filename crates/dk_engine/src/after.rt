@@ -102,6 +102,11 @@ impl<'a> After<'a> {
         }
     }
 
+    /// Where memory is taken.
+    pub(crate) fn alloc(&self) -> Global {
+        self.alloc
+    }
+
     /// The variables.
     pub(crate) fn infos(&self) -> &[VarInfo]
         ensures { result.now ≡ self.now.whole.infos }
