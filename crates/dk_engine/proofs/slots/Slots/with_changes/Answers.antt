@@ -11,4 +11,4 @@ invariant_of-result c =
     let s = c.self.inside in
     let same : c.as_slice.result.now ≡ c.args.changes.items = search rules in
     let all : c.with_changes-all.result.items ≡ fold with_change s.all.items c.as_slice.result.now = c.with_changes-all.ensures ∙ ap (fold with_change s.all.items) (sym same) in
-    subst (λ (ss : List Slot). AreSkips ss c.skips_after-skips.result.items) (sym all) (c.skips_after-skips.ensures s.all.items c.self.invariant)
+    subst (λ (ss : List Slot). AreSkips c.notes_after-notes.result.fixed.items ss c.notes_after-notes.result.skips.items) (sym all) (c.notes_after-notes.ensures s.all.items c.self.invariant)
