@@ -26,6 +26,7 @@ mod parts;
 mod places;
 mod points;
 mod reaching;
+mod rising;
 mod runs;
 mod saved;
 mod slot;
