@@ -107,6 +107,12 @@ impl<'a> After<'a> {
         self.alloc
     }
 
+    /// Where rows of kept slots end, as far as it is noted.
+    pub(crate) fn ends(&self) -> &[usize] {
+        let engine = self.engine;
+        engine.kept.slots.ends()
+    }
+
     /// The variables.
     pub(crate) fn infos(&self) -> &[VarInfo]
         ensures { result.now ≡ self.now.whole.infos }

@@ -178,7 +178,7 @@ fn add_next(
     ensures within { IfOk result (λ next. next ≤ length slots.now) }
     ensures below { IfOk result (λ next. AreChangesBelow next (outcome asked (read_after after.now.whole.kept after.now.sample) after.now.sample) slots.now changes.new) }
 {
-    let end = run_end(asked, slots, place);
+    let end = run_end(asked, after.ends(), slots, place);
     if place < end {
         add_changes(after, asked, skips, slots, place, end, changes)?;
         Ok(end)

@@ -7,6 +7,7 @@ ghost use Rattle.dk_base.specs.Values.{value_of, values_of};
 ghost use Rattle.dk_engine.specs.Idle.{AreNotes, AreSkips, IsIdle, agree, are_fixed, are_near, are_same, has_number, is_axis, is_diagonal, is_fixed, is_idle_over, is_listed, is_near, is_passed, later, skip_in};
 
 use crate::Slot;
+use crate::ends::ends_of;
 use dk_base::{NoMemory, VarId, View};
 use dk_samples::value_at;
 use dk_template::State;
@@ -19,11 +20,13 @@ pub(crate) struct Fixed {
     pub(crate) number: i64,
 }
 
-/// What is noted of slots: variables with their numbers, and for each place, up to where the slots from there on are passed over.
+/// What is noted of slots: variables with their numbers, and for each place, up to where the slots from there on are passed over, and
+/// where those of its row end.
 #[derive(Drop)]
 pub(crate) struct Notes {
     pub(crate) fixed: Vec<Fixed>,
     pub(crate) skips: Vec<usize>,
+    pub(crate) ends: Vec<usize>,
 }
 
 // Whether a value is a whole number of at most 2^30 in size.
@@ -329,6 +332,7 @@ impl Notes {
         Notes {
             fixed: Vec::new(alloc),
             skips: Vec::new(alloc),
+            ends: Vec::new(alloc),
         }
     }
 
@@ -338,7 +342,8 @@ impl Notes {
     {
         let fixed = fixed_by(alloc, slots)?;
         let skips = skips_of(alloc, fixed.as_slice(), slots)?;
-        Ok(Notes { fixed, skips })
+        let ends = ends_of(alloc, slots)?;
+        Ok(Notes { fixed, skips, ends })
     }
 }
 

@@ -9,6 +9,7 @@ mod conditions;
 mod constant;
 mod counting;
 mod counts;
+mod ends;
 mod engine;
 mod feed;
 mod growing;

@@ -117,6 +117,11 @@ impl Slots {
         }
     }
 
+    // Where rows end, as far as it is noted.
+    pub(crate) fn ends(&self) -> &[usize] {
+        self.notes.ends.as_slice()
+    }
+
     // These slots.
     pub(crate) fn of(all: Vec<Slot>) -> Slots
         ensures { result ≡ all.items }
