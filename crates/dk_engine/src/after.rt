@@ -210,6 +210,7 @@ impl<'a> After<'a> {
     }
 
     /// A slot's state with the sample.
+    #[inline(always)]
     pub(crate) fn with(&self, slot: &Slot) -> Result<State, NoMemory>
         requires placed { IsPlaced self.now.whole.grammar self.now.whole.infos self.now.whole.kept.leaders slot.now.row slot.now.leaders }
         requires proper { IsProper (form_of slot.now.row) slot.now.state }
