@@ -1,6 +1,6 @@
 // Lines however the bytes are cut, both limits, a failed read, and a second file after each end.
 use dk_base::{List, NoMemory, Text};
-use dk_io::{Inputs, MemoryInputs};
+use dk_io::MemoryInputs;
 use dk_lines::{Limits, LineFault, Lines};
 use std::alloc::Global;
 use std::process::Abort;
@@ -82,10 +82,10 @@ static CASES: [Case; 7] = [
 ];
 
 // The lines of the started file, each with a slash behind it, and how they end.
-fn read_lines<I: Inputs>(
+fn read_lines(
     rt: &impl Abort,
     lines: &mut Lines,
-    inputs: &mut I,
+    inputs: &mut MemoryInputs,
     all: &mut Text,
 ) -> Result<Result<(), LineFault>, NoMemory> {
     for _ in 0..9 {
@@ -102,42 +102,22 @@ fn read_lines<I: Inputs>(
     Ok(Ok(()))
 }
 
-// What a file came to: its lines, each with a slash behind it, how they ended, and whether it was still started then.
-#[derive(Drop)]
-struct Read {
-    lines: Text,
-    end: Result<(), LineFault>,
-    is_started: bool,
-}
-
-fn read_file<I: Inputs>(
+fn check_file(
     rt: &impl Abort,
     alloc: Global,
     lines: &mut Lines,
-    inputs: &mut I,
+    inputs: &mut MemoryInputs,
     name: &str,
-) -> Result<Read, NoMemory> {
+    ends: Ends,
+) -> Result<(), NoMemory> {
     let started = lines.start(inputs, name);
     assert!(rt; started.is_ok());
     let mut all = Text::new(alloc);
     let end = read_lines(rt, lines, inputs, &mut all)?;
-    Ok(Read {
-        lines: all,
-        end,
-        is_started: lines.is_started(),
-    })
-}
-
-// What two files came to, one after another.
-fn read_two<I: Inputs>(
-    rt: &impl Abort,
-    alloc: Global,
-    inputs: &mut I,
-) -> Result<(Read, Read), NoMemory> {
-    let mut lines = Lines::new(alloc, LIMITS)?;
-    let first = read_file(rt, alloc, &mut lines, inputs, "t")?;
-    let second = read_file(rt, alloc, &mut lines, inputs, "u")?;
-    Ok((first, second))
+    assert!(rt; all.as_slice() == ends.0.as_bytes(), "the lines of {name}");
+    assert_eq!(rt; end, ends.1, "the end of {name}");
+    assert!(rt; !lines.is_started());
+    Ok(())
 }
 
 fn inputs_of(
@@ -157,21 +137,11 @@ fn inputs_of(
     Ok(MemoryInputs::new(files, failing, piece))
 }
 
-fn check_read(rt: &impl Abort, read: &Read, name: &str, ends: Ends) {
-    assert!(rt;
-        read.lines.as_slice() == ends.0.as_bytes(),
-        "the lines of {name}"
-    );
-    assert_eq!(rt; read.end, ends.1, "the end of {name}");
-    assert!(rt; !read.is_started);
-}
-
 fn check_case(rt: &impl Abort, alloc: Global, case: &Case, piece: usize) -> Result<(), NoMemory> {
     let mut inputs = inputs_of(rt, alloc, case.bytes, case.failing, piece)?;
-    let (first, second) = read_two(rt, alloc, &mut inputs)?;
-    check_read(rt, &first, "t", case.first);
-    check_read(rt, &second, "u", case.second);
-    Ok(())
+    let mut lines = Lines::new(alloc, LIMITS)?;
+    check_file(rt, alloc, &mut lines, &mut inputs, "t", case.first)?;
+    check_file(rt, alloc, &mut lines, &mut inputs, "u", case.second)
 }
 
 #[test]
