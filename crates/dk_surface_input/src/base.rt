@@ -7,8 +7,8 @@ use std::test::Fail;
 /// A kind, a text, and the one text of the value that it writes, or none where it writes no value of the kind.
 type Case = (Kind, &'static [u8], Option<&'static [u8]>);
 
-static CASES: [Case; 140] = [
-    // the words for a missing value, and no text at all, for every kind
+/// The words for a missing value, and no text at all, for every kind.
+static NO_VALUES: [Case; 20] = [
     (Kind::Bool, b"nonsensical", Some(b"missing")),
     (Kind::Int, b"uninit", Some(b"missing")),
     (Kind::Hash, b"missing", Some(b"missing")),
@@ -29,7 +29,10 @@ static CASES: [Case; 140] = [
     (Kind::IntSeq, b"", None),
     (Kind::HashSeq, b"", None),
     (Kind::StrSeq, b"", None),
-    // truth values
+];
+
+/// Truth values.
+static TRUTH_VALUES: [Case; 10] = [
     (Kind::Bool, b"true", Some(b"true")),
     (Kind::Bool, b"1", Some(b"true")),
     (Kind::Bool, b"false", Some(b"false")),
@@ -40,7 +43,10 @@ static CASES: [Case; 140] = [
     (Kind::Bool, b" true", None),
     (Kind::Bool, b"null", None),
     (Kind::Bool, b"uninit ", None),
-    // whole numbers, at both ends of their range and beyond
+];
+
+/// Whole numbers, at both ends of their range and beyond.
+static WHOLE_NUMBERS: [Case; 22] = [
     (Kind::Int, b"0", Some(b"0")),
     (Kind::Int, b"-0", Some(b"0")),
     (Kind::Int, b"007", Some(b"7")),
@@ -75,7 +81,10 @@ static CASES: [Case; 140] = [
     (Kind::Int, b"1e3", None),
     (Kind::Int, b"100000000000000000000000000000x", None),
     (Kind::Int, b"null", None),
-    // hash codes, at both ends of their range and beyond
+];
+
+/// Hash codes, at both ends of their range and beyond.
+static HASH_CODES: [Case; 22] = [
     (Kind::Hash, b"null", Some(b"null")),
     (Kind::Hash, b"0", Some(b"null")),
     (Kind::Hash, b"-0", Some(b"null")),
@@ -106,7 +115,10 @@ static CASES: [Case; 140] = [
     (Kind::Hash, b"-", None),
     (Kind::Hash, b"+1", None),
     (Kind::Hash, b"true", None),
-    // strings: quotes, backslashes, LF and other bytes
+];
+
+/// Strings: quotes, backslashes, LF and other bytes.
+static STRINGS: [Case; 17] = [
     (Kind::Str, b"null", Some(b"null")),
     (Kind::Str, b"\"\"", Some(b"\"\"")),
     (Kind::Str, b"\"a b\"", Some(b"\"a b\"")),
@@ -124,7 +136,10 @@ static CASES: [Case; 140] = [
     (Kind::Str, b"\"a\nb\"", None),
     (Kind::Str, b"\"a\\\nb\"", None),
     (Kind::Str, b"NULL", None),
-    // sequences: brackets, blanks, tabs, missing items and bad ones
+];
+
+/// Sequences of truth values: brackets, blanks, tabs, missing items and bad ones.
+static TRUTH_SEQUENCES: [Case; 23] = [
     (Kind::BoolSeq, b"[]", Some(b"[]")),
     (Kind::BoolSeq, b"[ ]", Some(b"[]")),
     (Kind::BoolSeq, b"[   ]", Some(b"[]")),
@@ -148,6 +163,10 @@ static CASES: [Case; 140] = [
     (Kind::BoolSeq, b" []", None),
     (Kind::BoolSeq, b"[] ", None),
     (Kind::BoolSeq, b"[truefalse]", None),
+];
+
+/// Sequences of other kinds, likewise.
+static SEQUENCES: [Case; 26] = [
     (Kind::IntSeq, b"[1 -2 true]", Some(b"[1 -2 1]")),
     (
         Kind::IntSeq,
@@ -226,11 +245,23 @@ fn check_case(rt: &impl Abort, alloc: Global, case: Case) -> Result<(), Fail> {
     Ok(())
 }
 
+fn check_cases(rt: &impl Abort, alloc: Global, cases: &[Case]) -> Result<(), Fail> {
+    for case in cases {
+        check_case(rt, alloc, *case)?;
+    }
+    Ok(())
+}
+
 #[test]
 fn texts_write_values(rt: HostRuntime) -> Result<(), Fail> {
-    for case in &CASES {
-        check_case(&rt, rt.alloc(), *case)?;
-    }
+    let alloc = rt.alloc();
+    check_cases(&rt, alloc, &NO_VALUES)?;
+    check_cases(&rt, alloc, &TRUTH_VALUES)?;
+    check_cases(&rt, alloc, &WHOLE_NUMBERS)?;
+    check_cases(&rt, alloc, &HASH_CODES)?;
+    check_cases(&rt, alloc, &STRINGS)?;
+    check_cases(&rt, alloc, &TRUTH_SEQUENCES)?;
+    check_cases(&rt, alloc, &SEQUENCES)?;
     Ok(())
 }
 
