@@ -42,8 +42,8 @@ static HEADERS: [(&'static [u8], &'static [u8]); 22] = [
 /// The comparability word, a block, and its declaration in the words of a saved state, or its first fault.
 type Case = (bool, &'static [u8], &'static [u8]);
 
-static PPT_BLOCKS: [Case; 76] = [
-    // the first line
+/// Blocks by their first lines and the lines in front of the variables.
+static POINTS: [Case; 20] = [
     (true, b"ppt P", b"point P\n"),
     (true, b"ppt", b"1: 3 BadPoint"),
     (
@@ -51,7 +51,6 @@ static PPT_BLOCKS: [Case; 76] = [
         b"ppt \t a\\_b c\\\\d\\e",
         b"point a\\_b\\_c\\\\d\\\\e\n",
     ),
-    // lines in front of the variables
     (
         true,
         b"ppt P\nppt-type point\nppt-type CLASS\nppt-type Object\nppt-type enter\nppt-type EXIT\nppt-type SubExit",
@@ -89,7 +88,10 @@ static PPT_BLOCKS: [Case; 76] = [
     ),
     (true, b"ppt P\nparent user Q x", b"2: 3 BadPoint"),
     (true, b"ppt P\nparent user Q", b"2: 3 BadPoint"),
-    // names of variables
+];
+
+/// Names of variables, and rep-types.
+static NAMES_AND_TYPES: [Case; 18] = [
     (true, b"ppt P\nvariable", b"2: 4 BadVariable"),
     (
         true,
@@ -111,7 +113,6 @@ static PPT_BLOCKS: [Case; 76] = [
         b"ppt P\nvariable x\nrep-type int\nvariable X\nrep-type int",
         b"point P\nvar int -1 -1 x\nvar int -1 -1 X\n",
     ),
-    // rep-types
     (
         true,
         b"ppt P\nvariable a\nrep-type boolean\nvariable b\nrep-type int\nvariable c\nrep-type hashcode\nvariable d\nrep-type String\nvariable e\nrep-type java.lang.String\nvariable f\nrep-type double",
@@ -165,7 +166,10 @@ static PPT_BLOCKS: [Case; 76] = [
         b"ppt P\nvariable x\ndec-type int\nenclosing-var y\n// x\nrep-type int\nppt-type method",
         b"point P\nvar int -1 -1 x\n",
     ),
-    // comparability
+];
+
+/// Comparabilities.
+static COMPARABILITIES: [Case; 16] = [
     (
         true,
         b"ppt P\nvariable x\nrep-type int\ncomparability 7",
@@ -246,7 +250,10 @@ static PPT_BLOCKS: [Case; 76] = [
         b"ppt P\nvariable x\nrep-type int\ncomparability 1\ncomparability x",
         b"point P\nvar int -1 -1 x\n",
     ),
-    // constants
+];
+
+/// Constants.
+static CONSTANTS: [Case; 13] = [
     (
         true,
         b"ppt P\nvariable x\nconstant 007\nrep-type int",
@@ -312,7 +319,10 @@ static PPT_BLOCKS: [Case; 76] = [
         b"ppt P\nvariable x\nrep-type int\nconstant a\nvariable y\nrep-type float",
         b"4: 4 BadVariable",
     ),
-    // counterparts
+];
+
+/// Counterparts.
+static COUNTERPARTS: [Case; 9] = [
     (
         true,
         b"ppt C\nparent parent Q 1\nparent parent Q 2\nvariable a\nrep-type int\nparent Q 1 n\nvariable b\nrep-type int\nparent Q 2 n",
@@ -526,20 +536,27 @@ fn check_block(rt: &impl Abort, alloc: Global, case: Case) -> Result<(), Fail> {
     Ok(())
 }
 
-#[test]
-fn ppt_blocks_have_their_outcomes(rt: HostRuntime) -> Result<(), Fail> {
-    for case in &PPT_BLOCKS {
-        check_block(&rt, rt.alloc(), *case)?;
+fn check_blocks(rt: &impl Abort, alloc: Global, cases: &[Case]) -> Result<(), Fail> {
+    for case in cases {
+        check_block(rt, alloc, *case)?;
     }
     Ok(())
 }
 
 #[test]
-fn declare_blocks_have_their_outcomes(rt: HostRuntime) -> Result<(), Fail> {
-    for case in &DECLARE_BLOCKS {
-        check_block(&rt, rt.alloc(), *case)?;
-    }
+fn ppt_blocks_have_their_outcomes(rt: HostRuntime) -> Result<(), Fail> {
+    let alloc = rt.alloc();
+    check_blocks(&rt, alloc, &POINTS)?;
+    check_blocks(&rt, alloc, &NAMES_AND_TYPES)?;
+    check_blocks(&rt, alloc, &COMPARABILITIES)?;
+    check_blocks(&rt, alloc, &CONSTANTS)?;
+    check_blocks(&rt, alloc, &COUNTERPARTS)?;
     Ok(())
+}
+
+#[test]
+fn declare_blocks_have_their_outcomes(rt: HostRuntime) -> Result<(), Fail> {
+    check_blocks(&rt, rt.alloc(), &DECLARE_BLOCKS)
 }
 
 // What header lines answer, and what they come to.
