@@ -1,5 +1,5 @@
 // Declarations and tables from texts, as the tables of tests have them.
-use dk_base::{BlockFault, NoMemory, Text};
+use dk_base::{BlockFault, NoMemory, PointId, Text};
 use dk_decl::PointDecl;
 use dk_decl::laws::read_block;
 use dk_points::{Declared, Points};
@@ -42,31 +42,18 @@ fn with_block(
     points.declare(read_declaration(alloc, true, block)?, number)
 }
 
-fn push_line<'a>(
-    block: &mut Vec<(u64, &'a [u8])>,
-    number: u64,
-    line: &'a [u8],
-) -> Result<(), NoMemory> {
-    block.push((number, line))?;
-    Ok(())
-}
-
 /// The table behind the blocks of a text, which blank lines separate, and what the last one was. A refusal has the number of its
 /// block as its line.
 pub(crate) fn table(alloc: Global, text: &[u8]) -> Result<(Points, Declared), BlockFault> {
+    let lines = numbered_lines(alloc, 1, text)?;
     let mut points = Points::new(alloc)?;
-    let mut block: Vec<(u64, &[u8])> = Vec::new(alloc);
+    let mut last = Declared::Same(PointId(0));
     let mut number = 1u64;
-    for (_, line) in numbered_lines(alloc, 1, text)?.as_slice() {
-        if line.is_empty() {
-            points = with_block(alloc, points, block.as_slice(), number)?.0;
-            block = Vec::new(alloc);
-            number = number.saturating_add(1);
-        } else {
-            push_line(&mut block, number, line)?;
-        }
+    for block in lines.split(|line| line.1.is_empty()) {
+        (points, last) = with_block(alloc, points, block, number)?;
+        number = number.saturating_add(1);
     }
-    with_block(alloc, points, block.as_slice(), number)
+    Ok((points, last))
 }
 
 /// The line and the reason of a refusal.
