@@ -66,6 +66,34 @@ fn node_of(alloc: Global, line: &[u8]) -> Result<Node, NoMemory> {
     })
 }
 
+fn with_one(
+    rt: &impl Abort,
+    alloc: Global,
+    graph: Graph,
+    line: &[u8],
+) -> Result<Option<Graph>, NoMemory> {
+    let node = node_of(alloc, line)?;
+    assert!(rt; graph.len() < 100);
+    assert!(rt; graph.find(node.name.as_slice()).is_none());
+    graph.with_one(node)
+}
+
+fn with_two(
+    rt: &impl Abort,
+    alloc: Global,
+    graph: Graph,
+    first: &[u8],
+    second: &[u8],
+) -> Result<Option<Graph>, NoMemory> {
+    let first = node_of(alloc, first)?;
+    let second = node_of(alloc, second)?;
+    assert!(rt; graph.len() < 100);
+    assert!(rt; graph.find(first.name.as_slice()).is_none());
+    assert!(rt; graph.find(second.name.as_slice()).is_none());
+    assert!(rt; first.name.as_slice() != second.name.as_slice());
+    graph.with_two(first, second)
+}
+
 // One or two points more.
 fn with_line(
     rt: &impl Abort,
@@ -73,21 +101,9 @@ fn with_line(
     graph: Graph,
     line: &[u8],
 ) -> Result<Option<Graph>, NoMemory> {
-    assert!(rt; graph.len() < 100);
     match line.iter().position(|b| *b == b';') {
-        None => {
-            let node = node_of(alloc, line)?;
-            assert!(rt; graph.find(node.name.as_slice()).is_none());
-            graph.with_one(node)
-        }
-        Some(place) => {
-            let first = node_of(alloc, &line[..place])?;
-            let second = node_of(alloc, &line[place + 1..])?;
-            assert!(rt; graph.find(first.name.as_slice()).is_none());
-            assert!(rt; graph.find(second.name.as_slice()).is_none());
-            assert!(rt; first.name.as_slice() != second.name.as_slice());
-            graph.with_two(first, second)
-        }
+        None => with_one(rt, alloc, graph, line),
+        Some(place) => with_two(rt, alloc, graph, &line[..place], &line[place + 1..]),
     }
 }
 
