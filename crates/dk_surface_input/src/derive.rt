@@ -5,8 +5,8 @@ ghost use Rattle.dk_points.specs.Laws.{IsBaseVar};
 use crate::reading::{numbered_lines, table};
 use bumpalo::collections::into_bump_slice;
 use dk_base::{
-    Arena, Compar, Form, Kind, List, NoMemory, PointId, Text, ValueFault, VarId, VarInfo, View,
-    parse_value, spell,
+    Arena, BlockFault, Compar, Form, Kind, List, NoMemory, PointId, Text, ValueFault, VarId,
+    VarInfo, View, parse_value, spell,
 };
 use dk_derive::laws::{
     derive_gives_derived, derived_are_counted, missing_bases_give_missing, partners_are_alike,
@@ -58,7 +58,7 @@ fn show_var(alloc: Global, shown: &mut Text, var: &VarInfo) -> Result<(), NoMemo
     shown.append(format!(in alloc; " {elem} {index}; ")?.as_bytes())
 }
 
-fn derived_names(alloc: Global, points: &Points) -> Result<Text, NoMemory> {
+fn derived_names(alloc: Global, points: &Points) -> Result<Text, BlockFault> {
     let mut shown = Text::new(alloc);
     let Some(p) = last_point(points) else {
         return Ok(shown);
@@ -71,11 +71,15 @@ fn derived_names(alloc: Global, points: &Points) -> Result<Text, NoMemory> {
     Ok(shown)
 }
 
+fn names_of(alloc: Global, blocks: &[u8]) -> Result<Text, BlockFault> {
+    let (points, _) = table(alloc, blocks)?;
+    derived_names(alloc, &points)
+}
+
 #[test]
 fn derived_variables_have_names(rt: HostRuntime) -> Result<(), Fail> {
     for (blocks, expected) in &NAMES {
-        let (points, _) = table(rt.alloc(), blocks)?;
-        assert_eq!(&rt; derived_names(rt.alloc(), &points)?.as_slice(), *expected);
+        assert_eq!(&rt; names_of(rt.alloc(), blocks)?.as_slice(), *expected);
     }
     Ok(())
 }
@@ -206,7 +210,7 @@ fn base_values<'a>(
     Ok(into_bump_slice(values))
 }
 
-fn derived_values(alloc: Global, points: &Points, text: &[u8]) -> Result<Text, NoMemory> {
+fn derived_values(alloc: Global, points: &Points, text: &[u8]) -> Result<Text, BlockFault> {
     let mut shown = Text::new(alloc);
     let Some(p) = last_point(points) else {
         return Ok(shown);
@@ -230,12 +234,16 @@ fn block_of(alloc: Global, rep_type: &[u8]) -> Result<Text, NoMemory> {
     Ok(text)
 }
 
+fn values_of(alloc: Global, rep_type: &[u8], values: &[u8]) -> Result<Text, BlockFault> {
+    let block = block_of(alloc, rep_type)?;
+    let (points, _) = table(alloc, block.as_slice())?;
+    derived_values(alloc, &points, values)
+}
+
 #[test]
 fn derived_variables_have_values(rt: HostRuntime) -> Result<(), Fail> {
     for (rep_type, values, expected) in &VALUES {
-        let block = block_of(rt.alloc(), rep_type)?;
-        let (points, _) = table(rt.alloc(), block.as_slice())?;
-        let shown = derived_values(rt.alloc(), &points, values)?;
+        let shown = values_of(rt.alloc(), rep_type, values)?;
         assert_eq!(&rt; shown.as_slice(), *expected);
     }
     Ok(())
@@ -298,21 +306,25 @@ fn partners(alloc: Global, points: &Points, edge: Edge) -> Result<Text, NoMemory
     Ok(shown)
 }
 
-fn first_partners(alloc: Global, points: &Points) -> Result<Text, NoMemory> {
+fn first_partners(alloc: Global, points: &Points) -> Result<Text, BlockFault> {
     let Some(p) = last_point(points) else {
         return Ok(Text::new(alloc));
     };
     match points.into(p) {
         [] => Ok(Text::new(alloc)),
-        [edge, ..] => partners(alloc, points, *edge),
+        [edge, ..] => Ok(partners(alloc, points, *edge)?),
     }
+}
+
+fn partners_of(alloc: Global, blocks: &[u8]) -> Result<Text, BlockFault> {
+    let (points, _) = table(alloc, blocks)?;
+    first_partners(alloc, &points)
 }
 
 #[test]
 fn derived_variables_have_partners(rt: HostRuntime) -> Result<(), Fail> {
     for (blocks, expected) in &PARTNERS {
-        let (points, _) = table(rt.alloc(), blocks)?;
-        assert_eq!(&rt; first_partners(rt.alloc(), &points)?.as_slice(), *expected);
+        assert_eq!(&rt; partners_of(rt.alloc(), blocks)?.as_slice(), *expected);
     }
     Ok(())
 }
