@@ -245,6 +245,10 @@ fn point_with(
     })
 }
 
+fn declare_alone(alloc: Global, decl: PointDecl) -> Result<(Points, Declared), BlockFault> {
+    Points::new(alloc)?.declare(decl, 1)
+}
+
 fn refusal(outcome: Result<(Points, Declared), BlockFault>) -> Result<u8, NoMemory> {
     match outcome {
         Ok(_) => Ok(0),
@@ -256,20 +260,23 @@ fn refusal(outcome: Result<(Points, Declared), BlockFault>) -> Result<u8, NoMemo
 #[test]
 fn points_have_few_variables(rt: HostRuntime) -> Result<(), Fail> {
     for (ints, sequences, own_parent, expected) in &LIMITS {
-        let points = Points::new(rt.alloc())?;
         let decl = point_with(rt.alloc(), *ints, *sequences, *own_parent)?;
-        assert_eq!(&rt; refusal(points.declare(decl, 1))?, *expected);
+        assert_eq!(&rt; refusal(declare_alone(rt.alloc(), decl))?, *expected);
     }
     Ok(())
 }
 
+fn check_names(rt: &impl Abort, points: &Points) {
+    assert!(rt; points.find(b"M:::EXIT") == Some(PointId(1)) && points.find(b"B").is_none());
+    assert!(rt; points.len() == 3);
+    assert!(rt; points.decl(PointId(1)).is_none() && points.decl(PointId(2)).is_some());
+}
+
 #[test]
 fn names_are_found(rt: HostRuntime) -> Result<(), Fail> {
-    let (points, _) = table(rt.alloc(), b"ppt A\n\nppt M:::EXIT1")?;
-    assert!(&rt; points.find(b"M:::EXIT") == Some(PointId(1)) && points.find(b"B").is_none());
-    assert!(&rt; points.len() == 3);
-    assert!(&rt; points.decl(PointId(1)).is_none() && points.decl(PointId(2)).is_some());
     same_is_equal();
     full_table_takes_none();
+    let (points, _) = table(rt.alloc(), b"ppt A\n\nppt M:::EXIT1")?;
+    check_names(&rt, &points);
     Ok(())
 }

@@ -113,23 +113,39 @@ fn show_sample(alloc: Global, sample: &BaseSample<'_>) -> Result<Text, NoMemory>
     Ok(shown)
 }
 
-fn outcome(alloc: Global, points: &Points, record: &[u8]) -> Result<Text, NoMemory> {
+fn show_outcome(
+    alloc: Global,
+    outcome: Result<BaseSample<'_>, BlockFault>,
+) -> Result<Text, BlockFault> {
+    match outcome {
+        Ok(sample) => Ok(show_sample(alloc, &sample)?),
+        Err(fault) => Ok(show_fault(alloc, fault)?),
+    }
+}
+
+fn outcome(alloc: Global, points: &Points, record: &[u8]) -> Result<Text, BlockFault> {
     let arena = Arena::new(alloc);
     let lines = numbered_lines(alloc, 6, record)?;
     let close = (lines.len() as u64).saturating_add(6);
     match lines.as_slice() {
-        [] => Err(NoMemory),
-        [first, rest @ ..] => match read_record(alloc, points, &arena, *first, rest, close) {
-            Ok(sample) => show_sample(alloc, &sample),
-            Err(fault) => show_fault(alloc, fault),
-        },
+        [] => Err(BlockFault::NoMemory),
+        [first, rest @ ..] => {
+            show_outcome(
+                alloc,
+                read_record(alloc, points, &arena, *first, rest, close),
+            )
+        }
     }
+}
+
+fn outcome_of(alloc: Global, block: &[u8], record: &[u8]) -> Result<Text, BlockFault> {
+    let (points, _) = table(alloc, block)?;
+    outcome(alloc, &points, record)
 }
 
 fn check_case(rt: &impl Abort, alloc: Global, case: Case) -> Result<(), Fail> {
     let (block, record, expected) = case;
-    let (points, _) = table(alloc, block)?;
-    let shown = outcome(alloc, &points, record)?;
+    let shown = outcome_of(alloc, block, record)?;
     assert_eq!(rt; shown.as_slice(), expected);
     Ok(())
 }
@@ -156,11 +172,15 @@ fn read_by_lines<'a>(
     reader.end(points, 10)
 }
 
+fn check_by_lines(rt: &impl Abort, alloc: Global, points: &Points) -> Result<(), Fail> {
+    let arena = Arena::new(alloc);
+    let sample = read_by_lines(alloc, points, &arena)?;
+    assert!(rt; sample.line == 6 && matches!(sample.values, [View::Int(3)]));
+    Ok(())
+}
+
 #[test]
 fn records_are_read_line_by_line(rt: HostRuntime) -> Result<(), Fail> {
     let (points, _) = table(rt.alloc(), INT)?;
-    let arena = Arena::new(rt.alloc());
-    let sample = read_by_lines(rt.alloc(), &points, &arena)?;
-    assert!(&rt; sample.line == 6 && matches!(sample.values, [View::Int(3)]));
-    Ok(())
+    check_by_lines(&rt, rt.alloc(), &points)
 }
