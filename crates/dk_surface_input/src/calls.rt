@@ -197,12 +197,16 @@ fn check_case(rt: &impl Abort, alloc: Global, points: &Points, case: Case) -> Re
     Ok(())
 }
 
+fn check_cases(rt: &impl Abort, alloc: Global, points: &Points) -> Result<(), Fail> {
+    for case in &CASES {
+        check_case(rt, alloc, points, *case)?;
+    }
+    Ok(())
+}
+
 #[test]
 fn exits_get_the_values_of_their_entries(rt: HostRuntime) -> Result<(), Fail> {
     exit_values_fit();
     let (points, _) = table(rt.alloc(), BLOCKS)?;
-    for case in &CASES {
-        check_case(&rt, rt.alloc(), &points, *case)?;
-    }
-    Ok(())
+    check_cases(&rt, rt.alloc(), &points)
 }

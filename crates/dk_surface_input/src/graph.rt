@@ -66,6 +66,10 @@ fn node_of(alloc: Global, line: &[u8]) -> Result<Node, NoMemory> {
     })
 }
 
+fn two_nodes(alloc: Global, first: &[u8], second: &[u8]) -> Result<(Node, Node), NoMemory> {
+    Ok((node_of(alloc, first)?, node_of(alloc, second)?))
+}
+
 fn with_one(
     rt: &impl Abort,
     alloc: Global,
@@ -85,8 +89,7 @@ fn with_two(
     first: &[u8],
     second: &[u8],
 ) -> Result<Option<Graph>, NoMemory> {
-    let first = node_of(alloc, first)?;
-    let second = node_of(alloc, second)?;
+    let (first, second) = two_nodes(alloc, first, second)?;
     assert!(rt; graph.len() < 100);
     assert!(rt; graph.find(first.name.as_slice()).is_none());
     assert!(rt; graph.find(second.name.as_slice()).is_none());
@@ -147,14 +150,31 @@ fn text_of(alloc: Global, graph: &Graph) -> Result<Text, NoMemory> {
     Ok(text)
 }
 
+fn check_graph(rt: &impl Abort, alloc: Global, graph: &Graph, want: &[u8]) -> Result<(), NoMemory> {
+    assert_eq!(rt; text_of(alloc, graph)?.as_slice(), want);
+    Ok(())
+}
+
+fn check_points(
+    rt: &impl Abort,
+    alloc: Global,
+    points: &[u8],
+    want: &[u8],
+) -> Result<(), NoMemory> {
+    match graph_of(rt, alloc, points)? {
+        Some(graph) => check_graph(rt, alloc, &graph, want),
+        None => {
+            assert!(rt; false, "a cycle");
+            Ok(())
+        }
+    }
+}
+
 #[test]
 fn edges_and_depths(rt: HostRuntime) -> Result<(), Fail> {
     let alloc = rt.alloc();
     for (points, want) in &GRAPHS {
-        match graph_of(&rt, alloc, *points)? {
-            Some(graph) => assert_eq!(rt; text_of(alloc, &graph)?.as_slice(), *want),
-            None => assert!(rt; false, "a cycle"),
-        }
+        check_points(&rt, alloc, points, want)?;
     }
     Ok(())
 }
