@@ -8,6 +8,7 @@ use dk_base::{Compar, Form, Kind, List, NoMemory, Text, VarId, VarInfo, View};
 use dk_engine::{Engine, Parts, PartsFault};
 use dk_template::{Answers, Grammar, Premise, RowId, admits, fits};
 use std::alloc::Global;
+use std::process::Abort;
 use std::test::Fail;
 
 // Numbers, or nothing where one is missing.
@@ -244,24 +245,69 @@ fn is_fit(alloc: Global, engine: &Engine, asked: Asked) -> Result<bool, NoMemory
     Ok(fits(&engine.answer(row, vars.as_slice())?))
 }
 
-#[test]
-fn worked_examples(rt: HostRuntime) -> Result<(), Fail> {
-    let alloc = rt.alloc();
-    for case in CASES {
-        let engine = engine_of(alloc, case.vars, case.samples)?;
-        let counts = engine.counts();
-        assert!(rt; counts.samples == case.samples.len() as u64);
-        assert!(rt; counts.leaders == case.leaders && counts.constants == case.constants);
-        assert!(rt; counts.patterns == case.patterns);
-        assert!(rt; case.slots.is_none() || case.slots == Some(counts.slots));
-        for asked in case.fitting {
-            assert!(rt; is_fit(alloc, &engine, *asked)?);
-        }
-        for asked in case.others {
-            assert!(rt; !is_fit(alloc, &engine, *asked)?);
-        }
+fn check_counts(rt: &impl Abort, engine: &Engine, case: &Case) {
+    let counts = engine.counts();
+    assert!(rt; counts.samples == case.samples.len() as u64);
+    assert!(rt; counts.leaders == case.leaders && counts.constants == case.constants);
+    assert!(rt; counts.patterns == case.patterns);
+    assert!(rt; case.slots.is_none() || case.slots == Some(counts.slots));
+}
+
+// Each of these rows fits, or none does.
+fn check_fitting(
+    rt: &impl Abort,
+    alloc: Global,
+    engine: &Engine,
+    rows: &[Asked],
+    expected: bool,
+) -> Result<(), NoMemory>
+    requires { engine.now.grammar ≡ grammar.One }
+{
+    for asked in rows {
+        assert!(rt; is_fit(alloc, engine, *asked)? == expected);
     }
     Ok(())
+}
+
+fn check_engine(
+    rt: &impl Abort,
+    alloc: Global,
+    engine: &Engine,
+    case: &Case,
+) -> Result<(), NoMemory>
+    requires { engine.now.grammar ≡ grammar.One }
+{
+    check_counts(rt, engine, case);
+    check_fitting(rt, alloc, engine, case.fitting, true)?;
+    check_fitting(rt, alloc, engine, case.others, false)
+}
+
+fn check_case(rt: &impl Abort, alloc: Global, case: &Case) -> Result<(), NoMemory> {
+    let engine = engine_of(alloc, case.vars, case.samples)?;
+    check_engine(rt, alloc, &engine, case)
+}
+
+#[test]
+fn worked_examples(rt: HostRuntime) -> Result<(), Fail> {
+    for case in CASES {
+        check_case(&rt, rt.alloc(), case)?;
+    }
+    Ok(())
+}
+
+// Whether the engine has two numbers, which are then checked.
+fn check_answers(rt: &impl Abort, engine: &Engine) -> bool {
+    let (x, y) = (VarId(0), VarId(1));
+    if engine.vars().len() != 2 || !admits(RowId(2), engine.vars(), &[x]) {
+        return false;
+    }
+    assert!(rt; matches!(engine.grammar(), Grammar::One));
+    assert!(rt; engine.count(&[]) == 3 && engine.count(&[x, y]) == 2);
+    assert!(rt; engine.agree(x, x) && !engine.agree(x, y));
+    let row = RowId(2);
+    assert!(rt; engine.premise(&Premise::LeastAtLeast { row, role: 0, k: 1 }, &[x]));
+    assert!(rt; !engine.premise(&Premise::LeastAtLeast { row, role: 0, k: 2 }, &[x]));
+    true
 }
 
 // Two numbers that agree until one is missing.
@@ -270,14 +316,7 @@ fn answers_beside_states(rt: HostRuntime) -> Result<(), Fail> {
     let alloc = rt.alloc();
     let samples: [Sample; 3] = [&[Some(1), Some(1)], &[Some(2), Some(2)], &[Some(3), None]];
     let engine = engine_of(alloc, 2, &samples)?;
-    let (x, y) = (VarId(0), VarId(1));
-    if engine.vars().len() == 2 && admits(RowId(2), engine.vars(), &[x]) {
-        assert!(rt; matches!(engine.grammar(), Grammar::One));
-        assert!(rt; engine.count(&[]) == 3 && engine.count(&[x, y]) == 2);
-        assert!(rt; engine.agree(x, x) && !engine.agree(x, y));
-        let row = RowId(2);
-        assert!(rt; engine.premise(&Premise::LeastAtLeast { row, role: 0, k: 1 }, &[x]));
-        assert!(rt; !engine.premise(&Premise::LeastAtLeast { row, role: 0, k: 2 }, &[x]));
+    if check_answers(&rt, &engine) {
         return Ok(());
     }
     Err("no numbers".into())
@@ -300,18 +339,29 @@ fn without_class(alloc: Global, parts: Parts) -> Parts {
     parts
 }
 
-#[test]
-fn made_of_parts(rt: HostRuntime) -> Result<(), Fail> {
-    let alloc = rt.alloc();
+fn check_made(rt: &impl Abort, engine: &Engine) {
+    let counts = engine.counts();
+    assert!(rt; counts.samples == 4 && counts.leaders == 1 && counts.constants == 0);
+    assert!(rt; counts.patterns == 1 && counts.slots == 4);
+}
+
+fn check_all_parts(rt: &impl Abort, alloc: Global) -> Result<(), NoMemory> {
     match engine_from(alloc, 1, parts_of_four(alloc)?) {
-        Ok(engine) => {
-            let counts = engine.counts();
-            assert!(rt; counts.samples == 4 && counts.leaders == 1 && counts.constants == 0);
-            assert!(rt; counts.patterns == 1 && counts.slots == 4);
-        }
+        Ok(engine) => check_made(rt, &engine),
         Err(_) => assert!(rt; false),
     }
+    Ok(())
+}
+
+fn check_some_parts(rt: &impl Abort, alloc: Global) -> Result<(), NoMemory> {
     let parts = without_class(alloc, parts_of_four(alloc)?);
     assert!(rt; matches!(engine_from(alloc, 1, parts), Err(PartsFault::Bad)));
+    Ok(())
+}
+
+#[test]
+fn made_of_parts(rt: HostRuntime) -> Result<(), Fail> {
+    check_all_parts(&rt, rt.alloc())?;
+    check_some_parts(&rt, rt.alloc())?;
     Ok(())
 }

@@ -148,24 +148,22 @@ fn declare_block(
     }
 }
 
-fn push_line<'a>(block: &mut Vec<(u64, &'a [u8])>, line: &'a [u8]) -> Result<(), NoMemory> {
-    block.push((1, line))?;
-    Ok(())
+fn lines_of(alloc: Global, text: &[u8]) -> Result<Vec<(u64, &[u8])>, NoMemory> {
+    let mut lines = Vec::new(alloc);
+    for line in text.split(|byte| *byte == b'\n') {
+        lines.push((1, line))?;
+    }
+    Ok(lines)
 }
 
 // The table behind the blocks of a text, which blank lines separate.
 fn declare_all(alloc: Global, text: &[u8]) -> Result<Points, BlockFault> {
+    let lines = lines_of(alloc, text)?;
     let mut points = Points::new(alloc)?;
-    let mut block: Vec<(u64, &[u8])> = Vec::new(alloc);
-    for line in text.split(|byte| *byte == b'\n') {
-        if line.is_empty() {
-            points = declare_block(alloc, points, block.as_slice(), 1)?;
-            block = Vec::new(alloc);
-        } else {
-            push_line(&mut block, line)?;
-        }
+    for block in lines.split(|line| line.1.is_empty()) {
+        points = declare_block(alloc, points, block, 1)?;
     }
-    declare_block(alloc, points, block.as_slice(), 1)
+    Ok(points)
 }
 
 fn view(number: Option<i64>) -> View<'static>

@@ -4,6 +4,7 @@ ghost use Rattle.dk_base.specs.Spelling.{IsWritten};
 ghost use Rattle.dk_base.specs.Values.{value_of, values_of};
 
 use dk_base::{BlockFault, NoMemory, PointId, Text, View};
+use dk_decl::PointDecl;
 use dk_decl::laws::read_block;
 use dk_halves::Split;
 use dk_points::Points;
@@ -104,12 +105,17 @@ fn lines_of<'a>(alloc: Global, lines: &[&'a [u8]]) -> Result<Vec<(u64, &'a [u8])
     Ok(all)
 }
 
+// The table of one point.
+fn table_with(alloc: Global, decl: PointDecl) -> Result<Points, BlockFault> {
+    let (points, _) = Points::new(alloc)?.declare(decl, 1)?;
+    Ok(points)
+}
+
 // The table of the case's one point.
 fn points_of(alloc: Global, case: &Case) -> Result<Points, BlockFault> {
     let lines = lines_of(alloc, case.lines)?;
     let decl = read_block(alloc, true, (1, case.first), lines.as_slice())?;
-    let (points, _) = Points::new(alloc)?.declare(decl, 1)?;
-    Ok(points)
+    table_with(alloc, decl)
 }
 
 fn view(item: Item) -> View<'static>
@@ -142,29 +148,44 @@ fn feed(alloc: Global, split: &mut Split, sample: Sample) -> Result<(), NoMemory
     Ok(())
 }
 
+// The section of a point of this name behind these samples.
+fn fed_section(
+    alloc: Global,
+    split: &mut Split,
+    samples: &[Sample],
+    name: &[u8],
+) -> Result<Text, NoMemory> {
+    for sample in samples {
+        feed(alloc, split, *sample)?;
+    }
+    let mut text = Text::new(alloc);
+    split.push_implications(&mut text, name, 1)?;
+    Ok(text)
+}
+
 // The section of the first point with these samples.
 fn section(alloc: Global, points: &Points, samples: &[Sample]) -> Result<Text, NoMemory>
     requires { 0 < length points.now }
 {
     let mut split = Split::new(alloc, points, PointId(0), Grammar::Two)?;
-    for sample in samples {
-        feed(alloc, &mut split, *sample)?;
+    fed_section(alloc, &mut split, samples, points.name(PointId(0)))
+}
+
+// Whether a case's text is the section of these points.
+fn is_section(alloc: Global, points: &Points, case: &Case) -> Result<bool, NoMemory> {
+    if points.len() == 0 {
+        return Ok(false);
     }
-    let mut text = Text::new(alloc);
-    split.push_implications(&mut text, points.name(PointId(0)), 1)?;
-    Ok(text)
+    let text = section(alloc, points, case.samples)?;
+    Ok(text.as_slice() == case.text)
 }
 
 // Whether a case's text is its section.
 fn is_so(alloc: Global, case: &Case) -> Result<bool, NoMemory> {
-    let Ok(points) = points_of(alloc, case) else {
-        return Ok(false);
-    };
-    if points.len() == 0 {
-        return Ok(false);
+    match points_of(alloc, case) {
+        Ok(points) => is_section(alloc, &points, case),
+        Err(_) => Ok(false),
     }
-    let text = section(alloc, &points, case.samples)?;
-    Ok(text.as_slice() == case.text)
 }
 
 #[test]
