@@ -14,7 +14,7 @@ use dk_derive::laws::{
 };
 use dk_derive::*;
 use dk_graph::Edge;
-use dk_points::Points;
+use dk_points::{Declared, Points};
 use std::alloc::Global;
 use std::process::Abort;
 use std::test::Fail;
@@ -234,9 +234,13 @@ fn block_of(alloc: Global, rep_type: &[u8]) -> Result<Text, NoMemory> {
     Ok(text)
 }
 
-fn values_of(alloc: Global, rep_type: &[u8], values: &[u8]) -> Result<Text, BlockFault> {
+fn table_of(alloc: Global, rep_type: &[u8]) -> Result<(Points, Declared), BlockFault> {
     let block = block_of(alloc, rep_type)?;
-    let (points, _) = table(alloc, block.as_slice())?;
+    table(alloc, block.as_slice())
+}
+
+fn values_of(alloc: Global, rep_type: &[u8], values: &[u8]) -> Result<Text, BlockFault> {
+    let (points, _) = table_of(alloc, rep_type)?;
     derived_values(alloc, &points, values)
 }
 
