@@ -42,6 +42,7 @@ pub mod Choices
 pub mod AllParts
 pub mod Narrowing
 pub mod Running
+pub mod Raising
 pub mod Applying
 pub mod Leaving
 pub mod Settling

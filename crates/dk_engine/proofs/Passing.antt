@@ -1,4 +1,4 @@
--- Slots that no sample of near numbers changes, and notes of them.
+-- Slots that no sample of near numbers changes, in which some variables have the numbers that they had, and notes of them.
 use Rattle.std.specs.Prelude.{◌≡◌, ◌≢◌, ◌<◌, ◌≤◌, ◌+◌, ◌+ℤ◌, ◌*ℤ◌, ◌^◌, ◌&&◌, ◌||◌, ◌==◌, ℕ, zero, suc, ℤ, pos, negsuc, neg_ℤ, true, false, List, [], ◌∷◌, fold, if◌then◌else◌, length, nat_le, nat_lt, refl, replicate, slice_set, unsigned_abs}
 use Rattle.std.specs.List.{list_all, list_any}
 use Rattle.std.specs.Ordering.{int_eq}
@@ -13,7 +13,7 @@ use Rattle.dk_base.specs.declared.values.Value.{Value}
 use Rattle.dk_base.specs.declared.values.Value.TheVariants as value
 use Rattle.dk_fits.specs.Fits.{is_whole, tuple_in}
 use Rattle.dk_forms.proofs.PlaneStays.{plane_stays}
-use Rattle.dk_forms.specs.Plane.{in_space, is_in_plane, plane_join, plane_of}
+use Rattle.dk_forms.specs.Plane.{in_space, is_in_plane}
 use Rattle.dk_forms.specs.declared.states.State.{State}
 use Rattle.dk_forms.specs.declared.states.State.TheVariants.{Plane}
 use Rattle.dk_rows.specs.Meanings.{state_of}
@@ -24,10 +24,11 @@ use Rattle.dk_template.specs.declared.grammar.RowId.{RowId}
 use Rattle.dk_ternary.specs.Rows.{linear_ternary_row}
 use Rattle.dk_engine.proofs.Stretches.{planar_sample}
 use Rattle.dk_engine.specs.Feeding.{with_sample}
-use Rattle.dk_engine.specs.Idle.{AreNotes, AreSkips, IsIdle, PassesStill, are_near, is_diagonal, is_idle_over, is_near, is_passed, later, skip_in}
+use Rattle.dk_engine.specs.Idle.{AreNotes, AreSkips, IsIdle, PassesStill, agree, are_fixed, are_near, are_same, has_number, is_axis, is_diagonal, is_fixed, is_idle_over, is_listed, is_near, is_number, is_passed, later, skip_in}
 use Rattle.dk_engine.specs.Narrow.{with_change, with_state}
 use Rattle.dk_engine.specs.Parts.{no_slot, slot_in}
 use Rattle.dk_engine.specs.declared.changes.Change.{Change}
+use Rattle.dk_engine.specs.declared.idle.Fixed.{Fixed}
 use Rattle.dk_engine.specs.declared.slot.Slot.{Slot}
 
 -- ---- samples of near numbers
@@ -81,9 +82,9 @@ same_number : (sample : List Value) (v w : VarId) (x y : ℤ) → (v.0 == w.0) �
 same_number sample v w x y e at_v at_w = ap int_of (sym at_v ∙ (ap (value_at sample) (eqb-true v.0 w.0 e) ∙ at_w))
 
 -- the point lies in the plane
-lies_in : (u v w : VarId) (a b c d : ℤ) → is_idle_over u v w (Plane a b c d) ≡ true → (sample : List Value) (x y z : ℤ)
+same_lies_in : (u v w : VarId) (a b c d : ℤ) → are_same u v w a b c d ≡ true → (sample : List Value) (x y z : ℤ)
     → value_in sample u ≡ value.Int x → value_in sample v ≡ value.Int y → value_in sample w ≡ value.Int z → is_in_plane (a, b, c, d) (x, y, z) ≡ true
-lies_in u v w a b c d h sample x y z at_u at_v at_w = elim (cases_Bool (u.0 == v.0 && is_diagonal a b c d)) as (λ _. is_in_plane (a, b, c, d) (x, y, z) ≡ true) [
+same_lies_in u v w a b c d h sample x y z at_u at_v at_w = elim (cases_Bool (u.0 == v.0 && is_diagonal a b c d)) as (λ _. is_in_plane (a, b, c, d) (x, y, z) ≡ true) [
   | inl l ↦
       let p = and_parts (u.0 == v.0) (is_diagonal a b c d) l in
       on_diagonal a b c d x y z p.1 (same_number sample u v x y p.0 at_u at_v)
@@ -92,8 +93,93 @@ lies_in u v w a b c d h sample x y z at_u at_v at_w = elim (cases_Bool (u.0 == v
       on_diagonal_behind a b c d x y z q.1 (same_number sample v w y z q.0 at_v at_w)
 ]
 
-idle_plane : (u v w : VarId) (state : State) → is_idle_over u v w state ≡ true → (sample : List Value) → are_near sample ≡ true → with_sample linear_ternary_row (u ∷ v ∷ w ∷ []) sample state ≡ state
-idle_plane u v w (Plane a b c d) h sample near =
+-- ---- planes of a variable that has the number that it had
+axis_first : (x y z : ℤ) → pos 1 *ℤ x +ℤ pos 0 *ℤ y +ℤ pos 0 *ℤ z ≡ neg_ℤ (neg_ℤ x)
+axis_first x y z =
+    same_rep (rep-add (rep-add (rep-mul (rep (pos 1)) (rep x)) (rep-mul (rep (pos 0)) (rep y))) (rep-mul (rep (pos 0)) (rep z))) (rep-neg (rep-neg (rep x))) (omega arith)
+
+axis_second : (x y z : ℤ) → pos 0 *ℤ x +ℤ pos 1 *ℤ y +ℤ pos 0 *ℤ z ≡ neg_ℤ (neg_ℤ y)
+axis_second x y z =
+    same_rep (rep-add (rep-add (rep-mul (rep (pos 0)) (rep x)) (rep-mul (rep (pos 1)) (rep y))) (rep-mul (rep (pos 0)) (rep z))) (rep-neg (rep-neg (rep y))) (omega arith)
+
+axis_third : (x y z : ℤ) → pos 0 *ℤ x +ℤ pos 0 *ℤ y +ℤ pos 1 *ℤ z ≡ neg_ℤ (neg_ℤ z)
+axis_third x y z =
+    same_rep (rep-add (rep-add (rep-mul (rep (pos 0)) (rep x)) (rep-mul (rep (pos 0)) (rep y))) (rep-mul (rep (pos 1)) (rep z))) (rep-neg (rep-neg (rep z))) (omega arith)
+
+axis_factors : (a b c : ℤ) → is_axis a b c ≡ true → (a ≡ pos 1) × (b ≡ pos 0) × (c ≡ pos 0)
+axis_factors a b c h =
+    let h1 = and_parts (int_eq a (pos 1)) (int_eq b (pos 0) && int_eq c (pos 0)) h in
+    let h2 = and_parts (int_eq b (pos 0)) (int_eq c (pos 0)) h1.1 in
+    ((Decides-int_eq a (pos 1)).0 h1.0, (Decides-int_eq b (pos 0)).0 h2.0, (Decides-int_eq c (pos 0)).0 h2.1)
+
+-- a sum of products with other factors
+with_factors : (a b c i j k x y z : ℤ) → a ≡ i → b ≡ j → c ≡ k → a *ℤ x +ℤ b *ℤ y +ℤ c *ℤ z ≡ i *ℤ x +ℤ j *ℤ y +ℤ k *ℤ z
+with_factors a b c i j k x y z e f g =
+    ap (λ t. t *ℤ x +ℤ b *ℤ y +ℤ c *ℤ z) e ∙ (ap (λ t. i *ℤ x +ℤ t *ℤ y +ℤ c *ℤ z) f ∙ ap (λ t. i *ℤ x +ℤ j *ℤ y +ℤ t *ℤ z) g)
+
+on_first : (a b c d x y z : ℤ) → is_axis a b c ≡ true → d ≡ neg_ℤ x → is_in_plane (a, b, c, d) (x, y, z) ≡ true
+on_first a b c d x y z h e =
+    let f = axis_factors a b c h in
+    (Decides-int_eq (a *ℤ x +ℤ b *ℤ y +ℤ c *ℤ z) (neg_ℤ d)).1
+    (with_factors a b c (pos 1) (pos 0) (pos 0) x y z f.0 f.1 f.2 ∙ (axis_first x y z ∙ ap neg_ℤ (sym e)))
+
+on_second : (a b c d x y z : ℤ) → is_axis b c a ≡ true → d ≡ neg_ℤ y → is_in_plane (a, b, c, d) (x, y, z) ≡ true
+on_second a b c d x y z h e =
+    let f = axis_factors b c a h in
+    (Decides-int_eq (a *ℤ x +ℤ b *ℤ y +ℤ c *ℤ z) (neg_ℤ d)).1
+    (with_factors a b c (pos 0) (pos 1) (pos 0) x y z f.2 f.0 f.1 ∙ (axis_second x y z ∙ ap neg_ℤ (sym e)))
+
+on_third : (a b c d x y z : ℤ) → is_axis c a b ≡ true → d ≡ neg_ℤ z → is_in_plane (a, b, c, d) (x, y, z) ≡ true
+on_third a b c d x y z h e =
+    let f = axis_factors c a b h in
+    (Decides-int_eq (a *ℤ x +ℤ b *ℤ y +ℤ c *ℤ z) (neg_ℤ d)).1
+    (with_factors a b c (pos 0) (pos 0) (pos 1) x y z f.1 f.2 f.0 ∙ (axis_third x y z ∙ ap neg_ℤ (sym e)))
+
+-- the variable's number in a sample in which it has its number
+own_number : (sample : List Value) (f : Fixed) (v : VarId) (x : ℤ) → has_number sample f ≡ true → (f.var.0 == v.0) ≡ true → value_in sample v ≡ value.Int x → x ≡ f.number
+own_number sample f v x has e at =
+    let is : value_in sample f.var ≡ value.Int x = ap (value_at sample) (eqb-true f.var.0 v.0 e) ∙ at in
+    (Decides-int_eq x f.number).0 (subst (λ i. is_number f.number i ≡ true) is has)
+
+listed_number : (fixed : List Fixed) (sample : List Value) → agree sample fixed ≡ true → (v : VarId) (d x : ℤ) → is_listed fixed v d ≡ true → value_in sample v ≡ value.Int x → d ≡ neg_ℤ x
+listed_number [] sample agrees v d x h at = absurd (false≢true h)
+listed_number (f ∷ fixed) sample agrees v d x h at =
+    let told = and_parts (has_number sample f) (list_all (has_number sample) fixed) agrees in
+    elim (cases_Bool (f.var.0 == v.0 && int_eq d (neg_ℤ f.number))) as (λ _. d ≡ neg_ℤ x) [
+      | inl l ↦
+          let p = and_parts (f.var.0 == v.0) (int_eq d (neg_ℤ f.number)) l in
+          (Decides-int_eq d (neg_ℤ f.number)).0 p.1 ∙ ap neg_ℤ (sym (own_number sample f v x told.0 p.0 at))
+      | inr n ↦ listed_number fixed sample told.1 v d x (sym (ap (λ t. t || is_listed fixed v d) n) ∙ h) at
+    ]
+
+fixed_lies_in : (fixed : List Fixed) (u v w : VarId) (a b c d : ℤ) → are_fixed fixed u v w a b c d ≡ true → (sample : List Value) → agree sample fixed ≡ true → (x y z : ℤ)
+    → value_in sample u ≡ value.Int x → value_in sample v ≡ value.Int y → value_in sample w ≡ value.Int z → is_in_plane (a, b, c, d) (x, y, z) ≡ true
+fixed_lies_in fixed u v w a b c d h sample agrees x y z at_u at_v at_w = elim (cases_Bool (is_fixed fixed u a b c d)) as (λ _. is_in_plane (a, b, c, d) (x, y, z) ≡ true) [
+  | inl l ↦
+      let p = and_parts (is_axis a b c) (is_listed fixed u d) l in
+      on_first a b c d x y z p.0 (listed_number fixed sample agrees u d x p.1 at_u)
+  | inr n ↦
+      let q : (is_fixed fixed v b c a d || is_fixed fixed w c a b d) ≡ true = sym (ap (λ t. t || (is_fixed fixed v b c a d || is_fixed fixed w c a b d)) n) ∙ h in
+      elim (cases_Bool (is_fixed fixed v b c a d)) as (λ _. is_in_plane (a, b, c, d) (x, y, z) ≡ true) [
+        | inl l ↦
+            let p = and_parts (is_axis b c a) (is_listed fixed v d) l in
+            on_second a b c d x y z p.0 (listed_number fixed sample agrees v d y p.1 at_v)
+        | inr m ↦
+            let p = and_parts (is_axis c a b) (is_listed fixed w d) (sym (ap (λ t. t || is_fixed fixed w c a b d) m) ∙ q) in
+            on_third a b c d x y z p.0 (listed_number fixed sample agrees w d z p.1 at_w)
+      ]
+]
+
+lies_in : (fixed : List Fixed) (u v w : VarId) (a b c d : ℤ) → is_idle_over fixed u v w (Plane a b c d) ≡ true → (sample : List Value) → agree sample fixed ≡ true → (x y z : ℤ)
+    → value_in sample u ≡ value.Int x → value_in sample v ≡ value.Int y → value_in sample w ≡ value.Int z → is_in_plane (a, b, c, d) (x, y, z) ≡ true
+lies_in fixed u v w a b c d h sample agrees x y z at_u at_v at_w = elim (cases_Bool (are_same u v w a b c d)) as (λ _. is_in_plane (a, b, c, d) (x, y, z) ≡ true) [
+  | inl l ↦ same_lies_in u v w a b c d l sample x y z at_u at_v at_w
+  | inr n ↦ fixed_lies_in fixed u v w a b c d (sym (ap (λ t. t || are_fixed fixed u v w a b c d) n) ∙ h) sample agrees x y z at_u at_v at_w
+]
+
+idle_plane : (fixed : List Fixed) (u v w : VarId) (state : State) → is_idle_over fixed u v w state ≡ true → (sample : List Value) → are_near sample ≡ true → agree sample fixed ≡ true
+    → with_sample linear_ternary_row (u ∷ v ∷ w ∷ []) sample state ≡ state
+idle_plane fixed u v w (Plane a b c d) h sample near agrees =
     let row = linear_ternary_row in
     let s = Plane a b c d in
     let t = tuple_in (u ∷ v ∷ w ∷ []) sample in
@@ -109,15 +195,15 @@ idle_plane u v w (Plane a b c d) h sample near =
           let space : in_space (x.0, y.0, z.0) ≡ true =
           and_from (nat_le (unsigned_abs x.0) (2 ^ 30)) _ x.2 (and_from (nat_le (unsigned_abs y.0) (2 ^ 30)) _ y.2 z.2) in
           let stays = (plane_stays (a, b, c, d) (x.0, y.0, z.0)).0
-          (and_from (in_space (x.0, y.0, z.0)) _ space (lies_in u v w a b c d h sample x.0 y.0 z.0 x.1 y.1 z.1)) in
+          (and_from (in_space (x.0, y.0, z.0)) _ space (lies_in fixed u v w a b c d h sample agrees x.0 y.0 z.0 x.1 y.1 z.1)) in
           sym (planar_sample u v w sample x.0 y.0 z.0 x.1 y.1 z.1 s) ∙ stays
     ]
-idle_plane u v w _ h sample near = absurd (false≢true h)
+idle_plane fixed u v w _ h sample near agrees = absurd (false≢true h)
 
-pub idle_slot : (slot : Slot) → slot.row.0 ≡ 67 → (u v w : VarId) → slot.leaders ≡ u ∷ v ∷ w ∷ [] → is_idle_over u v w slot.state ≡ true → IsIdle slot
-idle_slot slot e u v w over h sample near =
+pub idle_slot : (fixed : List Fixed) (slot : Slot) → slot.row.0 ≡ 67 → (u v w : VarId) → slot.leaders ≡ u ∷ v ∷ w ∷ [] → is_idle_over fixed u v w slot.state ≡ true → IsIdle fixed slot
+idle_slot fixed slot e u v w over h sample near agrees =
     let row : slot.row ≡ linear_ternary_row = ap (λ (n : ℕ). (let r : RowId = record { 0 = n } in r)) e in
-    ap (λ r. with_sample r slot.leaders sample slot.state) row ∙ (ap (λ vs. with_sample linear_ternary_row vs sample slot.state) over ∙ idle_plane u v w slot.state h sample near)
+    ap (λ r. with_sample r slot.leaders sample slot.state) row ∙ (ap (λ vs. with_sample linear_ternary_row vs sample slot.state) over ∙ idle_plane fixed u v w slot.state h sample near agrees)
 
 -- ---- notes
 none_in : (n k : ℕ) → skip_in (replicate n 0) k ≡ 0
@@ -126,8 +212,8 @@ none_in (suc n) zero = refl
 none_in (suc n) (suc k) = none_in n k
 
 -- where no place is noted
-pub no_notes : (slots : List Slot) → AreNotes slots (replicate (length slots) 0)
-no_notes slots = (
+pub no_notes : (fixed : List Fixed) (slots : List Slot) → AreNotes fixed slots (replicate (length slots) 0)
+no_notes fixed slots = (
   length-replicate (length slots) 0,
   record {
     noted = λ k j a l. let none = none_in (length slots) k in absurd (omega (arith, none, l));
@@ -135,8 +221,8 @@ no_notes slots = (
   },
 )
 
-pub none_passed : (slots : List Slot) → AreSkips slots []
-none_passed slots = record { noted = λ k j a l. absurd (omega (arith, l)); idle = λ j l. absurd (omega (arith, l)) }
+pub none_passed : (fixed : List Fixed) (slots : List Slot) → AreSkips fixed slots []
+none_passed fixed slots = record { noted = λ k j a l. absurd (omega (arith, l)); idle = λ j l. absurd (omega (arith, l)) }
 
 later_next : (next skip : ℕ) → next ≤ later next skip
 later_next next skip = elim (cases_Bool (nat_lt skip next)) as (λ _. next ≤ later next skip) [
@@ -151,7 +237,7 @@ later_skip next skip j a l = elim (cases_Bool (nat_lt skip next)) as (λ _. j < 
 ]
 
 -- a place that is passed over, with those behind it that are
-module _ (slots : List Slot) (skips : List ℕ) (p : ℕ) (idle : IsIdle (slot_in slots p)) (are : AreNotes slots skips) (within : p < length slots) where
+module _ (fixed : List Fixed) (slots : List Slot) (skips : List ℕ) (p : ℕ) (idle : IsIdle fixed (slot_in slots p)) (are : AreNotes fixed slots skips) (within : p < length slots) where
   abbrev end : ℕ
   end = later (p + 1) (skip_in skips (p + 1))
 
@@ -179,7 +265,7 @@ module _ (slots : List Slot) (skips : List ℕ) (p : ℕ) (idle : IsIdle (slot_i
       let low : p + 1 ≤ j = omega (arith, a, n) in
       are.1.noted (p + 1) j low (later_skip (p + 1) (skip_in skips (p + 1)) j low (subst (λ n. j < n) put_at l))
 
-  pub notes_more : AreNotes slots put
+  pub notes_more : AreNotes fixed slots put
   notes_more = (
     length-set skips p end ∙ are.0,
     record {
@@ -190,33 +276,33 @@ module _ (slots : List Slot) (skips : List ℕ) (p : ℕ) (idle : IsIdle (slot_i
           | inr m ↦ still_noted j (behind_noted j (omega (arith, a, e)) m (subst (λ i. j < skip_in put i) e l))
         ]
       ];
-      idle = λ j l. elim (cases_eq j p) as (λ _. IsIdle (slot_in slots j)) [
-        | inl e ↦ subst (λ i. IsIdle (slot_in slots i)) (sym e) idle
+      idle = λ j l. elim (cases_eq j p) as (λ _. IsIdle fixed (slot_in slots j)) [
+        | inl e ↦ subst (λ i. IsIdle fixed (slot_in slots i)) (sym e) idle
         | inr n ↦ are.1.idle j (let at = else_at j n in omega (arith, at, l))
       ];
     },
   )
 
--- a sample of near numbers changes none that is passed over
-pub passes_still : (slots : List Slot) (skips : List ℕ) → AreSkips slots skips → (sample : List Value) → are_near sample ≡ true → PassesStill sample slots skips
-passes_still slots skips are sample near k j a l = are.idle j (are.noted k j a l) sample near
+-- a sample of near numbers with these changes none that is passed over
+pub passes_still : (fixed : List Fixed) (slots : List Slot) (skips : List ℕ) → AreSkips fixed slots skips → (sample : List Value) → are_near sample ≡ true → agree sample fixed ≡ true → PassesStill sample slots skips
+passes_still fixed slots skips are sample near agrees k j a l = are.idle j (are.noted k j a l) sample near agrees
 
 pub none_passes : (sample : List Value) (slots : List Slot) → PassesStill sample slots []
 none_passes sample slots k j a l = absurd (omega (arith, l))
 
 -- ---- notes after changes
-change_unpassed : (slots : List Slot) (skips : List ℕ) (c : Change) → (c.place < skip_in skips c.place → ⊥) → AreSkips slots skips → AreSkips (with_change slots c) skips
-change_unpassed slots skips c out are = record {
+change_unpassed : (fixed : List Fixed) (slots : List Slot) (skips : List ℕ) (c : Change) → (c.place < skip_in skips c.place → ⊥) → AreSkips fixed slots skips → AreSkips fixed (with_change slots c) skips
+change_unpassed fixed slots skips c out are = record {
   noted = are.noted;
   idle = λ j l.
       let other : j ≢ c.place = λ e. out (subst (λ i. i < skip_in skips i) e l) in
-      subst IsIdle (sym (get_or-set_other slots c.place j (with_state (slot_in slots c.place) c.state) no_slot other)) (are.idle j l);
+      subst (IsIdle fixed) (sym (get_or-set_other slots c.place j (with_state (slot_in slots c.place) c.state) no_slot other)) (are.idle j l);
 }
 
-pub changes_unpassed : (skips : List ℕ) (changes : List Change) → list_any (λ (c : Change). is_passed skips c.place) changes ≡ false
-    → (slots : List Slot) → AreSkips slots skips → AreSkips (fold with_change slots changes) skips
-changes_unpassed skips [] out slots are = are
-changes_unpassed skips (c ∷ changes) out slots are =
+pub changes_unpassed : (fixed : List Fixed) (skips : List ℕ) (changes : List Change) → list_any (λ (c : Change). is_passed skips c.place) changes ≡ false
+    → (slots : List Slot) → AreSkips fixed slots skips → AreSkips fixed (fold with_change slots changes) skips
+changes_unpassed fixed skips [] out slots are = are
+changes_unpassed fixed skips (c ∷ changes) out slots are =
     let parts = or_parts (is_passed skips c.place) (list_any (λ (d : Change). is_passed skips d.place) changes) out in
     let here : c.place < skip_in skips c.place → ⊥ = λ l. true≢false (sym (lt-ltb c.place (skip_in skips c.place) l) ∙ parts.0) in
-    changes_unpassed skips changes parts.1 (with_change slots c) (change_unpassed slots skips c here are)
+    changes_unpassed fixed skips changes parts.1 (with_change slots c) (change_unpassed fixed slots skips c here are)

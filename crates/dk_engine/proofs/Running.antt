@@ -112,6 +112,15 @@ module _ (slots : List Slot) (up : AllPairs SlotBefore slots) (place end : ℕ) 
       let same : (slot_in slots k).row.0 ≡ (slot_in slots place).row.0 = omega (arith, rise, low) in
       ap (λ (n : ℕ). (let r : RowId = record { 0 = n } in r)) same
 
+-- so are those from a place up to another of its row
+pub up_to_row : (slots : List Slot) → AllPairs SlotBefore slots → (place last : ℕ) → last < length slots → (slot_in slots last).row.0 ≡ (slot_in slots place).row.0
+    → (k : ℕ) → place ≤ k → k ≤ last → (slot_in slots k).row ≡ (slot_in slots place).row
+up_to_row slots up place last within same k from to =
+    let low = rows_rise slots up place k no_slot from (omega (arith, to, within)) in
+    let high = rows_rise slots up k last no_slot to within in
+    let e : (slot_in slots k).row.0 ≡ (slot_in slots place).row.0 = omega (arith, low, high, same) in
+    ap (λ (n : ℕ). (let r : RowId = record { 0 = n } in r)) e
+
 -- ---- the slots of a run
 module _ (slots : List Slot) (place n : ℕ) where
   within : (k : ℕ) → k < length (take n (drop place slots)) → (k < n) × (place + k < length slots)

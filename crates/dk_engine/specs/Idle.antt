@@ -1,6 +1,7 @@
--- Slots that no sample of near numbers changes, and how a search for changed slots passes over them.
-use Rattle.std.specs.Prelude.{◌≡◌, ◌<◌, ◌≤◌, ◌^◌, ◌&&◌, ◌||◌, ◌==◌, ℕ, ℤ, pos, negsuc, Bool, true, false, List, if◌then◌else◌, length, nat_le, nat_lt, slice_index_or, unsigned_abs}
-use Rattle.std.specs.List.{list_all}
+-- Slots that no sample of near numbers changes, in which some variables have the numbers that they had, and how a search for changed
+-- slots passes over them.
+use Rattle.std.specs.Prelude.{◌≡◌, ◌<◌, ◌≤◌, ◌^◌, ◌&&◌, ◌||◌, ◌==◌, ℕ, ℤ, pos, negsuc, neg_ℤ, Bool, true, false, List, if◌then◌else◌, length, nat_le, nat_lt, slice_index_or, unsigned_abs}
+use Rattle.std.specs.List.{list_all, list_any}
 use Rattle.std.specs.Ordering.{int_eq}
 use Rattle.dk_base.specs.declared.kinds.VarId.{VarId}
 use Rattle.dk_base.specs.declared.values.Value.{Value}
@@ -8,7 +9,9 @@ use Rattle.dk_base.specs.declared.values.Value.TheVariants as value
 use Rattle.dk_forms.specs.declared.states.State.{State}
 use Rattle.dk_forms.specs.declared.states.State.TheVariants.{Plane}
 use Rattle.dk_grammar.specs.Runs.{with_sample}
+use Rattle.dk_samples.specs.Samples.{value_in}
 use Rattle.dk_engine.specs.Parts.{slot_in}
+use Rattle.dk_engine.specs.declared.idle.Fixed.{Fixed}
 use Rattle.dk_engine.specs.declared.slot.Slot.{Slot}
 
 -- a whole number of at most 2^30 in size
@@ -24,14 +27,46 @@ are_near sample = list_all is_near sample
 abbrev pub is_diagonal : ℤ → ℤ → ℤ → ℤ → Bool
 is_diagonal a b c d = int_eq a (pos 1) && (int_eq b (negsuc 0) && (int_eq c (pos 0) && int_eq d (pos 0)))
 
--- the plane says no more than that a variable, which stands at two roles, is itself
-abbrev pub is_idle_over : VarId → VarId → VarId → State → Bool
-is_idle_over u v w (Plane a b c d) = (u.0 == v.0 && is_diagonal a b c d) || (v.0 == w.0 && is_diagonal b c a d)
-is_idle_over u v w _ = false
+-- ---- variables with the numbers that they had
+abbrev pub is_number : ℤ → Value → Bool
+is_number number (value.Int z) = int_eq z number
+is_number number _ = false
 
--- no sample of near numbers changes the slot
-abbrev pub IsIdle : Slot → Type 0
-IsIdle slot = (sample : List Value) → are_near sample ≡ true → with_sample slot.row slot.leaders sample slot.state ≡ slot.state
+-- the variable has this number in the sample
+abbrev pub has_number : List Value → Fixed → Bool
+has_number sample f = is_number f.number (value_in sample f.var)
+
+abbrev pub agree : List Value → List Fixed → Bool
+agree sample fixed = list_all (has_number sample) fixed
+
+-- one of them says that the variable has the number of which this is the opposite
+abbrev pub is_listed : List Fixed → VarId → ℤ → Bool
+is_listed fixed v d = list_any (λ (f : Fixed). f.var.0 == v.0 && int_eq d (neg_ℤ f.number)) fixed
+
+-- the plane says of its first coordinate alone which number it is
+abbrev pub is_axis : ℤ → ℤ → ℤ → Bool
+is_axis a b c = int_eq a (pos 1) && (int_eq b (pos 0) && int_eq c (pos 0))
+
+abbrev pub is_fixed : List Fixed → VarId → ℤ → ℤ → ℤ → ℤ → Bool
+is_fixed fixed u a b c d = is_axis a b c && is_listed fixed u d
+
+abbrev pub are_fixed : List Fixed → VarId → VarId → VarId → ℤ → ℤ → ℤ → ℤ → Bool
+are_fixed fixed u v w a b c d = is_fixed fixed u a b c d || (is_fixed fixed v b c a d || is_fixed fixed w c a b d)
+
+-- ---- idle slots
+-- the plane says no more than that a variable, which stands at two roles, is itself
+abbrev pub are_same : VarId → VarId → VarId → ℤ → ℤ → ℤ → ℤ → Bool
+are_same u v w a b c d = (u.0 == v.0 && is_diagonal a b c d) || (v.0 == w.0 && is_diagonal b c a d)
+
+-- or that one of the variables has the number that it had
+abbrev pub is_idle_over : List Fixed → VarId → VarId → VarId → State → Bool
+is_idle_over fixed u v w (Plane a b c d) = are_same u v w a b c d || are_fixed fixed u v w a b c d
+is_idle_over fixed u v w _ = false
+
+-- no sample of near numbers with these changes the slot
+abbrev pub IsIdle : List Fixed → Slot → Type 0
+IsIdle fixed slot = (sample : List Value) → are_near sample ≡ true → agree sample fixed ≡ true
+    → with_sample slot.row slot.leaders sample slot.state ≡ slot.state
 
 -- ---- places that are passed over
 -- up to which place the slots from this one on are passed over
@@ -47,13 +82,13 @@ abbrev pub is_passed : List ℕ → ℕ → Bool
 is_passed skips k = nat_lt k (skip_in skips k)
 
 -- Slots that are passed over are idle. Each of them is noted so itself, so that the notes outlast changes of others.
-pub record AreSkips (slots : List Slot) (skips : List ℕ) : Type 0 where
+pub record AreSkips (fixed : List Fixed) (slots : List Slot) (skips : List ℕ) : Type 0 where
   pub noted : (k j : ℕ) → k ≤ j → j < skip_in skips k → j < skip_in skips j
-  pub idle : (j : ℕ) → j < skip_in skips j → IsIdle (slot_in slots j)
+  pub idle : (j : ℕ) → j < skip_in skips j → IsIdle fixed (slot_in slots j)
 
 -- a note for each slot
-abbrev pub AreNotes : List Slot → List ℕ → Type 0
-AreNotes slots skips = (length skips ≡ length slots) × AreSkips slots skips
+abbrev pub AreNotes : List Fixed → List Slot → List ℕ → Type 0
+AreNotes fixed slots skips = (length skips ≡ length slots) × AreSkips fixed slots skips
 
 -- the sample changes none of those that are passed over
 abbrev pub PassesStill : List Value → List Slot → List ℕ → Type 0

@@ -102,6 +102,17 @@ impl<'a> After<'a> {
         }
     }
 
+    /// Where memory is taken.
+    pub(crate) fn alloc(&self) -> Global {
+        self.alloc
+    }
+
+    /// Where rows of kept slots end, as far as it is noted.
+    pub(crate) fn ends(&self) -> &[usize] {
+        let engine = self.engine;
+        engine.kept.slots.ends()
+    }
+
     /// The variables.
     pub(crate) fn infos(&self) -> &[VarInfo]
         ensures { result.now ≡ self.now.whole.infos }
@@ -199,6 +210,7 @@ impl<'a> After<'a> {
     }
 
     /// A slot's state with the sample.
+    #[inline(always)]
     pub(crate) fn with(&self, slot: &Slot) -> Result<State, NoMemory>
         requires placed { IsPlaced self.now.whole.grammar self.now.whole.infos self.now.whole.kept.leaders slot.now.row slot.now.leaders }
         requires proper { IsProper (form_of slot.now.row) slot.now.state }

@@ -98,6 +98,19 @@ fn add_change(
     push_change(changes, place, state)
 }
 
+// How many changes get room with the first of them.
+const ROOM: usize = 32;
+
+// The same changes, with room for more where there are none yet.
+fn make_room(alloc: Global, changes: &mut List<Change>) -> Result<(), NoMemory>
+    ensures { OnOk result (changes.new ≡ changes.old) }
+{
+    if changes.is_empty() {
+        *changes = List::from_vec(Vec::with_capacity(alloc, ROOM)?);
+    }
+    Ok(())
+}
+
 // With the state that the sample makes of the slot at a place.
 fn push_joined(
     after: &After<'_>,
@@ -111,6 +124,7 @@ fn push_joined(
     ensures { OnOk result (changes.new ≡ changes.old ++ record { place = place; state = with_sample (slot_in slots.now place).row (slot_in slots.now place).leaders after.now.sample (slot_in slots.now place).state } ∷ []) }
 {
     let state = after.with(&slots[place])?;
+    make_room(after.alloc(), changes)?;
     changes.push(Change { place, state })?;
     Ok(())
 }
@@ -164,7 +178,7 @@ fn add_next(
     ensures within { IfOk result (λ next. next ≤ length slots.now) }
     ensures below { IfOk result (λ next. AreChangesBelow next (outcome asked (read_after after.now.whole.kept after.now.sample) after.now.sample) slots.now changes.new) }
 {
-    let end = run_end(asked, slots, place);
+    let end = run_end(asked, after.ends(), slots, place);
     if place < end {
         add_changes(after, asked, skips, slots, place, end, changes)?;
         Ok(end)

@@ -9,6 +9,7 @@ ghost use Rattle.dk_template.specs.Premises.{AreThere};
 ghost use Rattle.dk_template.specs.Proper.{IsProper};
 ghost use Rattle.dk_template.specs.Templates.{IsRowOf, form_of};
 ghost use Rattle.dk_template.specs.declared.grammar.Grammar.{Grammar};
+ghost use Rattle.dk_engine.specs.Conditions.{CanBeFed};
 ghost use Rattle.dk_engine.specs.Exact.{AreOfKinds, AreOfPoint, IsKeptOf};
 ghost use Rattle.dk_engine.specs.Memory.{wants_memory};
 ghost use Rattle.dk_engine.specs.Parts.{leaders_of};
@@ -86,6 +87,15 @@ impl Engine {
         ensures { result.now ≡ self.now.infos }
     {
         self.infos.as_slice()
+    }
+
+    /// What it keeps. Its variables are those of a point, and what it keeps can be fed.
+    pub fn kept(&self) -> &Kept
+        ensures kept { result.now ≡ self.now.kept }
+        ensures point { AreOfPoint self.now.infos }
+        ensures fed { CanBeFed self.now.grammar self.now.infos self.now.kept }
+    {
+        &self.kept
     }
 
     /// The sizes of what it keeps.

@@ -18,7 +18,6 @@ use crate::after::After;
 use crate::changes::{Change, changes, few_changes, lose_some, lost_places, some_may_begin};
 use crate::changing::apply_changes;
 use crate::counting::are_many;
-use crate::idle::are_near;
 use crate::merging::merge_slots;
 use crate::sweeps::Sweep;
 use crate::touching::{others, touching_leaders};
@@ -89,15 +88,11 @@ impl Engine {
         })
     }
 
-    // Which slots a search for changed ones may pass over: those of which it is noted, where the sample has near numbers alone.
+    // Which slots a search for changed ones may pass over.
     fn skips(&self, sample: &[View<'_>]) -> &[usize]
         ensures { PassesStill (values_of sample.now) self.now.kept.slots result.now }
     {
-        if are_near(sample) {
-            self.kept.slots.skips()
-        } else {
-            &[]
-        }
+        self.kept.slots.skips(sample)
     }
 
     // What the sample makes of the slots, if that is little: it changes few, no premise is lost by them, and without a new pattern none

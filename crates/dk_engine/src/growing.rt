@@ -10,6 +10,7 @@ ghost use Rattle.dk_engine.specs.Feeding.{with_sample};
 
 use crate::Slot;
 use crate::operations::number_at;
+use crate::rising::raise_with;
 use dk_base::{VarId, View};
 use dk_forms::plane_stays;
 use dk_template::State;
@@ -110,11 +111,14 @@ fn grown_by(slot: &Slot, sample: &[View<'_>], u: VarId, v: VarId, w: VarId) -> O
     }
 }
 
-/// A slot's state with a sample, if it is a stretch of a line that ends at the sample's point then.
+/// A slot's state with a sample, if it is a greatest value, or a stretch of a line that ends at the sample's point then.
 pub(crate) fn grown_with(slot: &Slot, sample: &[View<'_>]) -> Option<State>
     requires { IsProper (form_of slot.now.row) slot.now.state }
     ensures { IfSome result (λ s. s ≡ with_sample slot.now.row slot.now.leaders (values_of sample.now) slot.now.state) }
 {
+    if slot.row.0 == 3 {
+        return raise_with(slot, sample);
+    }
     if slot.row.0 != 67 {
         return None;
     }

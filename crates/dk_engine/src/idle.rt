@@ -1,13 +1,33 @@
-// Slots that no sample of near numbers changes: planes that say of a variable, which stands at two roles, that it is itself. A search for
-// changed slots passes over them.
-ghost use Rattle.std.specs.Prelude.{◌≡◌, ◌<◌, ◌+◌, ◌==◌, ◌&&◌, ◌∷◌, [], IfOk, IsTrue, length, replicate, slice_set};
+// Slots that no sample of near numbers changes: planes that say of a variable, which stands at two roles, that it is itself, and such
+// that say of a variable that it has the number that it had, as a constant has. A search for changed slots passes over them, where the
+// variables have these numbers.
+ghost use Rattle.std.specs.Prelude.{◌≡◌, ◌<◌, ◌+◌, ◌==◌, ◌&&◌, ◌∷◌, [], neg_ℤ, IfOk, IsTrue, length, replicate, slice_set};
+ghost use Rattle.std.specs.Ordering.{int_eq};
 ghost use Rattle.dk_base.specs.Values.{value_of, values_of};
-ghost use Rattle.dk_engine.specs.Idle.{AreNotes, AreSkips, IsIdle, are_near, is_diagonal, is_idle_over, is_near, is_passed, later, skip_in};
+ghost use Rattle.dk_engine.specs.Idle.{AreNotes, AreSkips, IsIdle, agree, are_fixed, are_near, are_same, has_number, is_axis, is_diagonal, is_fixed, is_idle_over, is_listed, is_near, is_passed, later, skip_in};
 
 use crate::Slot;
+use crate::ends::ends_of;
 use dk_base::{NoMemory, VarId, View};
+use dk_samples::value_at;
 use dk_template::State;
 use std::alloc::Global;
+
+/// A variable with the number that it had in all samples, as a plane says.
+#[derive(Clone, Copy, Debug)]
+pub(crate) struct Fixed {
+    pub(crate) var: VarId,
+    pub(crate) number: i64,
+}
+
+/// What is noted of slots: variables with their numbers, and for each place, up to where the slots from there on are passed over, and
+/// where those of its row end.
+#[derive(Drop)]
+pub(crate) struct Notes {
+    pub(crate) fixed: Vec<Fixed>,
+    pub(crate) skips: Vec<usize>,
+    pub(crate) ends: Vec<usize>,
+}
 
 // Whether a value is a whole number of at most 2^30 in size.
 fn is_near(value: View<'_>) -> bool
@@ -19,8 +39,8 @@ fn is_near(value: View<'_>) -> bool
     }
 }
 
-/// Whether all values of a sample are such numbers.
-pub(crate) fn are_near(sample: &[View<'_>]) -> bool
+// Whether all values of a sample are such numbers.
+fn are_near(sample: &[View<'_>]) -> bool
     ensures { result ≡ are_near (values_of sample.now) }
 {
     for value in sample {
@@ -38,6 +58,85 @@ fn is_diagonal(a: i128, b: i128, c: i128, d: i128) -> bool
     a == 1 && (b == -1 && (c == 0 && d == 0))
 }
 
+// Whether a variable has this number in a sample.
+fn has_number(sample: &[View<'_>], fixed: Fixed) -> bool
+    ensures { result ≡ has_number (values_of sample.now) fixed }
+{
+    match value_at(sample, fixed.var) {
+        View::Int(number) => number == fixed.number,
+        _ => false,
+    }
+}
+
+// Whether all these variables have their numbers in a sample.
+fn agree(sample: &[View<'_>], fixed: &[Fixed]) -> bool
+    ensures { result ≡ agree (values_of sample.now) fixed.now }
+{
+    for one in fixed {
+        if !has_number(sample, *one) {
+            return false;
+        }
+    }
+    true
+}
+
+/// Whether all values of a sample are near numbers, and these variables have theirs.
+pub(crate) fn has_numbers(sample: &[View<'_>], fixed: &[Fixed]) -> bool
+    ensures { result ≡ (are_near (values_of sample.now) && agree (values_of sample.now) fixed.now) }
+{
+    are_near(sample) && agree(sample, fixed)
+}
+
+// Whether one number is the opposite of another.
+fn is_opposite(d: i128, number: i64) -> bool
+    ensures { result ≡ int_eq d (neg_ℤ number) }
+{
+    d == -(number as i128)
+}
+
+// Whether the variable is listed with the number of which this is the opposite.
+fn is_listed(fixed: &[Fixed], v: VarId, d: i128) -> bool
+    ensures { result ≡ is_listed fixed.now v d }
+{
+    for one in fixed {
+        if one.var.0 == v.0 && is_opposite(d, one.number) {
+            return true;
+        }
+    }
+    false
+}
+
+// Whether a plane says of its first coordinate alone which number it is.
+fn is_axis(a: i128, b: i128, c: i128) -> bool
+    ensures { result ≡ is_axis a b c }
+{
+    a == 1 && (b == 0 && c == 0)
+}
+
+// Whether it says of a variable at its first coordinate that it has its number.
+fn is_fixed(fixed: &[Fixed], u: VarId, a: i128, b: i128, c: i128, d: i128) -> bool
+    ensures { result ≡ is_fixed fixed.now u a b c d }
+{
+    is_axis(a, b, c) && is_listed(fixed, u, d)
+}
+
+// Whether it says so of one of three variables.
+fn are_fixed(
+    fixed: &[Fixed],
+    u: VarId,
+    v: VarId,
+    w: VarId,
+    a: i128,
+    b: i128,
+    c: i128,
+    d: i128,
+) -> bool
+    ensures { result ≡ are_fixed fixed.now u v w a b c d }
+{
+    is_fixed(fixed, u, a, b, c, d)
+        || (is_fixed(fixed, v, b, c, a, d) || is_fixed(fixed, w, c, a, b, d))
+}
+
 // Whether two variables are one, and the plane says that of their values.
 fn is_itself(u: VarId, v: VarId, a: i128, b: i128, c: i128, d: i128) -> bool
     ensures { result ≡ (u.0 == v.0 && is_diagonal a b c d) }
@@ -46,37 +145,119 @@ fn is_itself(u: VarId, v: VarId, a: i128, b: i128, c: i128, d: i128) -> bool
 }
 
 // Whether the plane says no more than that a variable, which stands at two roles, is itself.
-fn is_idle_over(u: VarId, v: VarId, w: VarId, state: &State) -> bool
-    ensures { result ≡ is_idle_over u v w state.now }
+fn are_same(u: VarId, v: VarId, w: VarId, a: i128, b: i128, c: i128, d: i128) -> bool
+    ensures { result ≡ are_same u v w a b c d }
+{
+    is_itself(u, v, a, b, c, d) || is_itself(v, w, b, c, a, d)
+}
+
+// Whether it says no more than that, or than that one of the variables has its number.
+fn is_idle_over(fixed: &[Fixed], u: VarId, v: VarId, w: VarId, state: &State) -> bool
+    ensures { result ≡ is_idle_over fixed.now u v w state.now }
 {
     match state {
         State::Plane { a, b, c, d } => {
-            is_itself(u, v, *a, *b, *c, *d) || is_itself(v, w, *b, *c, *a, *d)
+            are_same(u, v, w, *a, *b, *c, *d) || are_fixed(fixed, u, v, w, *a, *b, *c, *d)
         }
         _ => false,
     }
 }
 
 // Whether a slot of row 67 over three leaders is seen to be idle.
-fn is_idle_by(slot: &Slot, u: VarId, v: VarId, w: VarId) -> bool
+fn is_idle_by(fixed: &[Fixed], slot: &Slot, u: VarId, v: VarId, w: VarId) -> bool
     requires row { slot.now.row.0 ≡ 67 }
     requires leaders { slot.now.leaders ≡ u ∷ v ∷ w ∷ [] }
-    ensures { IsTrue result → IsIdle slot.now }
+    ensures { IsTrue result → IsIdle fixed.now slot.now }
 {
-    is_idle_over(u, v, w, &slot.state)
+    is_idle_over(fixed, u, v, w, &slot.state)
 }
 
 // Whether the slot is seen to be idle.
-fn is_idle(slot: &Slot) -> bool
-    ensures { IsTrue result → IsIdle slot.now }
+fn is_idle(fixed: &[Fixed], slot: &Slot) -> bool
+    ensures { IsTrue result → IsIdle fixed.now slot.now }
 {
     if slot.row.0 != 67 {
         return false;
     }
     match slot.leaders.as_slice() {
-        [u, v, w] => is_idle_by(slot, *u, *v, *w),
+        [u, v, w] => is_idle_by(fixed, slot, *u, *v, *w),
         _ => false,
     }
+}
+
+// A variable with a number, by the number's opposite.
+fn with_opposite(var: VarId, d: i128) -> Option<Fixed> {
+    match i64::try_from(d) {
+        Ok(opposite) => Some(Fixed {
+            var,
+            number: 0i64.wrapping_sub(opposite),
+        }),
+        Err(_) => None,
+    }
+}
+
+// Which of three variables a plane says to have a number, if it says that of one alone.
+fn fixed_over(u: VarId, v: VarId, w: VarId, state: &State) -> Option<Fixed> {
+    match state {
+        State::Plane { a, b, c, d } => {
+            if is_axis(*a, *b, *c) {
+                with_opposite(u, *d)
+            } else if is_axis(*b, *c, *a) {
+                with_opposite(v, *d)
+            } else if is_axis(*c, *a, *b) {
+                with_opposite(w, *d)
+            } else {
+                None
+            }
+        }
+        _ => None,
+    }
+}
+
+// Which variable a slot says to have a number, if it is a plane that says that of one alone.
+fn fixed_in(slot: &Slot) -> Option<Fixed> {
+    if slot.row.0 != 67 {
+        return None;
+    }
+    match slot.leaders.as_slice() {
+        [u, v, w] => fixed_over(*u, *v, *w, &slot.state),
+        _ => None,
+    }
+}
+
+// Whether the variable is among them.
+fn has_variable(fixed: &[Fixed], v: VarId) -> bool {
+    for one in fixed {
+        if one.var == v {
+            return true;
+        }
+    }
+    false
+}
+
+// How many variables are kept with their numbers: each sample is compared with all of them.
+const MOST: usize = 16;
+
+// With the variable that a slot says to have a number, if it isn't there and they aren't too many.
+fn add_fixed(fixed: &mut Vec<Fixed>, slot: &Slot) -> Result<(), NoMemory> {
+    if fixed.len() == MOST {
+        return Ok(());
+    }
+    if let Some(one) = fixed_in(slot) {
+        if !has_variable(fixed.as_slice(), one.var) {
+            fixed.push(one)?;
+        }
+    }
+    Ok(())
+}
+
+// Variables that some slots say to have a number.
+fn fixed_by(alloc: Global, slots: &[Slot]) -> Result<Vec<Fixed>, NoMemory> {
+    let mut fixed = Vec::new(alloc);
+    for slot in slots {
+        add_fixed(&mut fixed, slot)?;
+    }
+    Ok(fixed)
 }
 
 /// Up to which place the slots from this one on are passed over.
@@ -114,12 +295,12 @@ fn note(skips: &mut [usize], place: usize)
 }
 
 // The slot at the place is passed over, if it is seen to be idle.
-fn note_idle(skips: &mut [usize], slots: &[Slot], place: usize)
+fn note_idle(fixed: &[Fixed], skips: &mut [usize], slots: &[Slot], place: usize)
     requires within { place < length slots.now }
-    requires notes { AreNotes slots.now skips.old }
-    ensures { AreNotes slots.now skips.new }
+    requires notes { AreNotes fixed.now slots.now skips.old }
+    ensures { AreNotes fixed.now slots.now skips.new }
 {
-    if !is_idle(&slots[place]) {
+    if !is_idle(fixed, &slots[place]) {
         return;
     }
     note(skips, place);
@@ -133,26 +314,49 @@ fn none_passed(alloc: Global, count: usize) -> Result<Vec<usize>, NoMemory>
 }
 
 // Which of the slots are passed over.
-fn skips_of(alloc: Global, slots: &[Slot]) -> Result<Vec<usize>, NoMemory>
-    ensures { IfOk result (λ skips. AreSkips slots.now skips.items) }
+fn skips_of(alloc: Global, fixed: &[Fixed], slots: &[Slot]) -> Result<Vec<usize>, NoMemory>
+    ensures { IfOk result (λ skips. AreSkips fixed.now slots.now skips.items) }
 {
     let mut skips = none_passed(alloc, slots.len())?;
     for behind in 0..slots.len() {
-        note_idle(skips.as_mut_slice(), slots, slots.len() - 1 - behind);
+        note_idle(fixed, skips.as_mut_slice(), slots, slots.len() - 1 - behind);
     }
     Ok(skips)
 }
 
-/// Which of the slots are passed over, if nothing is noted and memory can be had.
-pub(crate) fn notes_of(alloc: Global, slots: &[Slot], skips: Vec<usize>) -> Vec<usize>
-    requires { AreSkips slots.now skips.items }
-    ensures { AreSkips slots.now result.items }
-{
-    if !skips.is_empty() {
-        return skips;
+impl Notes {
+    /// Nothing is noted. It takes no memory.
+    pub(crate) fn none(alloc: Global) -> Notes
+        ensures { result.skips.items ≡ [] }
+    {
+        Notes {
+            fixed: Vec::new(alloc),
+            skips: Vec::new(alloc),
+            ends: Vec::new(alloc),
+        }
     }
-    match skips_of(alloc, slots) {
+
+    // What can be noted of slots.
+    fn of(alloc: Global, slots: &[Slot]) -> Result<Notes, NoMemory>
+        ensures { IfOk result (λ notes. AreSkips notes.fixed.items slots.now notes.skips.items) }
+    {
+        let fixed = fixed_by(alloc, slots)?;
+        let skips = skips_of(alloc, fixed.as_slice(), slots)?;
+        let ends = ends_of(alloc, slots)?;
+        Ok(Notes { fixed, skips, ends })
+    }
+}
+
+/// What is noted of slots, and what can be, if nothing is noted and memory can be had.
+pub(crate) fn notes_of(alloc: Global, slots: &[Slot], notes: Notes) -> Notes
+    requires { AreSkips notes.fixed.items slots.now notes.skips.items }
+    ensures { AreSkips result.fixed.items slots.now result.skips.items }
+{
+    if !notes.skips.is_empty() {
+        return notes;
+    }
+    match Notes::of(alloc, slots) {
         Ok(more) => more,
-        Err(_) => skips,
+        Err(_) => notes,
     }
 }

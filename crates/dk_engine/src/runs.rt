@@ -1,5 +1,5 @@
 // Runs of slots that a sample leaves as they are, found without looking at the row of each.
-ghost use Rattle.std.specs.Prelude.{◌≡◌, ◌<◌, ◌≤◌, ℕ, true, false, All, length};
+ghost use Rattle.std.specs.Prelude.{◌≡◌, ◌<◌, ◌≤◌, ℕ, true, false, All, IsTrue, length};
 ghost use Rattle.std.specs.List.{AllPairs};
 ghost use Rattle.dk_base.specs.Values.{values_of};
 ghost use Rattle.dk_base.specs.declared.kinds.VarId.{VarId};
@@ -17,6 +17,7 @@ ghost use Rattle.dk_template.specs.Templates.{IsRow, form_of};
 use crate::Slot;
 use crate::after::After;
 use crate::changes::can_close;
+use crate::ends::REACH;
 use crate::growing::plane_stays_with;
 use crate::idle::skip_at;
 use dk_base::View;
@@ -33,9 +34,6 @@ fn rows_end(slots: &[Slot], row: RowId) -> usize
     slots.partition_point(|slot| slot.row.0 <= row.0)
 }
 
-// How many slots of a row are taken together, so that the changes are counted before there are too many.
-const REACH: usize = 512;
-
 // Where the slots of one row from a place on end, of as many as are taken together.
 fn row_end(slots: &[Slot], place: usize) -> usize
     requires in_order { AllPairs SlotBefore slots.now }
@@ -49,6 +47,49 @@ fn row_end(slots: &[Slot], place: usize) -> usize
         end
     } else {
         place + REACH
+    }
+}
+
+// Whether the slots from a place up to another are of one row.
+fn are_of_row(slots: &[Slot], place: usize, end: usize) -> bool
+    requires in_order { AllPairs SlotBefore slots.now }
+    requires from { place < end }
+    requires to { end ≤ length slots.now }
+    ensures { IsTrue result → (k : ℕ) → place ≤ k → k < end → (slot_in slots.now k).row ≡ (slot_in slots.now place).row }
+{
+    let last = end - 1;
+    slots[last].row.0 == slots[place].row.0
+}
+
+// Whether there are such slots.
+fn is_end(slots: &[Slot], place: usize, end: usize) -> bool
+    requires { AllPairs SlotBefore slots.now }
+    ensures from { IsTrue result → place < end }
+    ensures to { IsTrue result → end ≤ length slots.now }
+    ensures of_row { IsTrue result → (k : ℕ) → place ≤ k → k < end → (slot_in slots.now k).row ≡ (slot_in slots.now place).row }
+{
+    if end <= place {
+        return false;
+    }
+    if slots.len() < end {
+        return false;
+    }
+    are_of_row(slots, place, end)
+}
+
+// Where the slots of one row from a place on end, as it is noted if that is right.
+fn end_of_row(ends: &[usize], slots: &[Slot], place: usize) -> usize
+    requires in_order { AllPairs SlotBefore slots.now }
+    requires within { place < length slots.now }
+    ensures from { place < result }
+    ensures to { result ≤ length slots.now }
+    ensures of_row { (k : ℕ) → place ≤ k → k < result → (slot_in slots.now k).row ≡ (slot_in slots.now place).row }
+{
+    let end = skip_at(ends, place);
+    if is_end(slots, place, end) {
+        end
+    } else {
+        row_end(slots, place)
     }
 }
 
@@ -70,14 +111,14 @@ fn open_end(slots: &[Slot], from: usize, to: usize) -> usize
 
 /// Where the run of slots from a place on ends, of as many as are taken together: slots of one row that, where it is asked, can't
 /// close.
-pub(crate) fn run_end(asked: bool, slots: &[Slot], place: usize) -> usize
+pub(crate) fn run_end(asked: bool, ends: &[usize], slots: &[Slot], place: usize) -> usize
     requires in_order { AllPairs SlotBefore slots.now }
     requires within { place < length slots.now }
     ensures from { place ≤ result }
     ensures to { result ≤ length slots.now }
     ensures run { (k : ℕ) → place ≤ k → k < result → is_in_run asked (slot_in slots.now place).row (slot_in slots.now k) ≡ true }
 {
-    let end = row_end(slots, place);
+    let end = end_of_row(ends, slots, place);
     if asked {
         open_end(slots, place, end)
     } else {

@@ -1,14 +1,15 @@
 // Kept slots.
 ghost use Rattle.std.specs.Prelude.{◌≡◌, [], ◌∷◌, ◌++◌, List, OnErr, OnOk, fold};
 ghost use Rattle.std.specs.List.{list_any};
-ghost use Rattle.dk_engine.specs.Idle.{AreSkips, is_passed};
+ghost use Rattle.dk_base.specs.Values.{values_of};
+ghost use Rattle.dk_engine.specs.Idle.{AreSkips, PassesStill, is_passed};
 ghost use Rattle.dk_engine.specs.Narrow.{with_change};
 ghost use Rattle.dk_engine.specs.declared.slot.Slot.{Slot as KeptSlot};
 
 use crate::Slot;
 use crate::changes::Change;
-use crate::idle::{is_passed, notes_of};
-use dk_base::NoMemory;
+use crate::idle::{Notes, has_numbers, is_passed, notes_of};
+use dk_base::{NoMemory, View};
 use std::alloc::Global;
 use std::marker::Model;
 
@@ -16,7 +17,7 @@ use std::marker::Model;
 #[derive(Drop)]
 pub struct Slots {
     all: Vec<Slot>,
-    skips: Vec<usize>,
+    notes: Notes,
 }
 
 impl Model for Slots {
@@ -28,7 +29,7 @@ impl Model for Slots {
 
     ghost view = { λ s. s.all.items };
 
-    ghost invariant = { λ s. AreSkips s.all.items s.skips.items };
+    ghost invariant = { λ s. AreSkips s.notes.fixed.items s.all.items s.notes.skips.items };
 }
 
 // The slots with a change.
@@ -67,13 +68,13 @@ fn some_passed(skips: &[usize], changes: &[Change]) -> bool
 }
 
 // What is noted of the slots with the changes: nothing, where a place that is passed over is changed.
-fn skips_after(alloc: Global, skips: Vec<usize>, changes: &[Change]) -> Vec<usize>
-    ensures { (slots : List KeptSlot) → AreSkips slots skips.items → AreSkips (fold with_change slots changes.now) result.items }
+fn notes_after(alloc: Global, notes: Notes, changes: &[Change]) -> Notes
+    ensures { (slots : List KeptSlot) → AreSkips notes.fixed.items slots notes.skips.items → AreSkips result.fixed.items (fold with_change slots changes.now) result.skips.items }
 {
-    if some_passed(skips.as_slice(), changes) {
-        return Vec::new(alloc);
+    if some_passed(notes.skips.as_slice(), changes) {
+        return Notes::none(alloc);
     }
-    skips
+    notes
 }
 
 impl Slots {
@@ -83,7 +84,7 @@ impl Slots {
     {
         Slots {
             all: Vec::new(alloc),
-            skips: Vec::new(alloc),
+            notes: Notes::none(alloc),
         }
     }
 
@@ -92,7 +93,7 @@ impl Slots {
         ensures ok { OnOk result (self.new ≡ self.old ++ slot ∷ []) }
         ensures err { OnErr result (self.new ≡ self.old) }
     {
-        self.skips.clear();
+        self.notes.skips.clear();
         self.all.push(slot)?;
         Ok(())
     }
@@ -104,19 +105,29 @@ impl Slots {
         self.all.as_slice()
     }
 
-    // Which slots are passed over, as far as it is noted.
-    pub(crate) fn skips(&self) -> &[usize]
-        ensures { AreSkips self.now result.now }
+    // Which slots a search for those that a sample changes may pass over, as far as it is noted.
+    pub(crate) fn skips(&self, sample: &[View<'_>]) -> &[usize]
+        ensures { PassesStill (values_of sample.now) self.now result.now }
     {
-        self.skips.as_slice()
+        let fixed = self.notes.fixed.as_slice();
+        if has_numbers(sample, fixed) {
+            self.notes.skips.as_slice()
+        } else {
+            &[]
+        }
+    }
+
+    // Where rows end, as far as it is noted.
+    pub(crate) fn ends(&self) -> &[usize] {
+        self.notes.ends.as_slice()
     }
 
     // These slots.
     pub(crate) fn of(all: Vec<Slot>) -> Slots
         ensures { result ≡ all.items }
     {
-        let skips = Vec::new(*all.allocator());
-        Slots { all, skips }
+        let notes = Notes::none(*all.allocator());
+        Slots { all, notes }
     }
 
     // The slots, with the memory that they lie in.
@@ -130,19 +141,19 @@ impl Slots {
     pub(crate) fn with_changes(self, changes: Vec<Change>) -> Slots
         ensures { result ≡ fold with_change self changes.items }
     {
-        let Slots { all, skips } = self;
+        let Slots { all, notes } = self;
         let alloc = *all.allocator();
-        let skips = skips_after(alloc, skips, changes.as_slice());
+        let notes = notes_after(alloc, notes, changes.as_slice());
         let all = with_changes(all, changes);
-        Slots { all, skips }
+        Slots { all, notes }
     }
 
     // The same slots. Which of them are passed over is noted, if that wasn't so and memory can be had.
     pub(crate) fn note_skips(self, alloc: Global) -> Slots
         ensures { result ≡ self }
     {
-        let Slots { all, skips } = self;
-        let skips = notes_of(alloc, all.as_slice(), skips);
-        Slots { all, skips }
+        let Slots { all, notes } = self;
+        let notes = notes_of(alloc, all.as_slice(), notes);
+        Slots { all, notes }
     }
 }

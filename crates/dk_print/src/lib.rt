@@ -11,6 +11,7 @@ mod terms;
 mod values;
 
 pub use instances::{instance, push_instance};
+pub use parts::{Part, parts_of};
 pub use sections::{
     fault, push_count, push_fault, push_heading, push_section, push_stats, section, stats,
 };

@@ -8,7 +8,7 @@ use dk_template::RowId;
 
 /// A part of a text. The roles of a row are counted from 0.
 #[derive(Clone, Copy, Debug)]
-pub(crate) enum Part {
+pub enum Part {
     /// These bytes.
     Word(&'static [u8]),
     /// The name of the variable at this role.
@@ -153,7 +153,7 @@ fn texts() -> &'static [&'static [Part]]
 }
 
 /// The parts of a row's text. There are none for what isn't a row of the table.
-pub(crate) fn parts_of(row: RowId) -> &'static [Part]
+pub fn parts_of(row: RowId) -> &'static [Part]
     ensures { map part_shown result.now ≡ parts_of_row row }
 {
     match texts().get(row.0 as usize) {

@@ -1,10 +1,9 @@
-use Rattle.std.specs.Prelude.{◌≡◌, []}
-use Rattle.std.proofs.Common.{rules, subst, sym}
+use Rattle.std.proofs.Common.{subst, sym}
 use Rattle.dk_engine.proofs.Passing.{none_passed}
 use Rattle.dk_engine.specs.Idle.{AreSkips}
 use Rattle.dk_engine.proofs.slots.Slots.of.Goals as goal
 
 pub invariant_of-result : goal.invariant_of-result
 invariant_of-result c =
-    let none : c.new-skips.result.items ≡ [] = search rules in
-    subst (AreSkips c.args.all.items) (sym none) (none_passed c.args.all.items)
+    let fixed = c.none-notes.result.fixed.items in
+    subst (AreSkips fixed c.args.all.items) (sym c.none-notes.ensures) (none_passed fixed c.args.all.items)

@@ -1,6 +1,6 @@
-use Rattle.std.specs.Prelude.{◌≤◌, ◌++◌, All, List, flat_map, length}
+use Rattle.std.specs.Prelude.{◌<◌, ◌≤◌, ◌++◌, All, List, flat_map, length, slice_index_or, take}
 use Rattle.std.proofs.Common.{ap, ◌∙◌, arith, subst, sym}
-use Rattle.std.proofs.lemmas.List.{take_all}
+use Rattle.std.proofs.lemmas.List.{flat_map_more, take_all, take_more}
 use Rattle.dk_template.specs.Templates.{IsRowOf}
 use Rattle.dk_template.specs.declared.grammar.RowId.{RowId}
 use Rattle.dk_engine.proofs.ReachedRows.{reached_rows}
@@ -14,6 +14,21 @@ with_both-requires-clause-row c =
     let grammar = c.args.self.now.answers.now.whole.grammar in
     let test = c.loop-freed-test.true in
     subst (λ rs. All (IsRowOf grammar) rs) (sym c.rows_reached-freed-items.ensures) (reached_rows grammar c.args.row) c.loop-freed.freed-index (record { 0 = 0 }) (omega (arith, test))
+
+pub loop-freed-preserved : goal.loop-freed-preserved
+loop-freed-preserved c =
+    let s = c.args.self.now in
+    let answered = read_after s.answers.now.whole.kept s.answers.now.sample in
+    let F : RowId → List Slot = λ row. with_both s.infos.now s.known.now answered row c.args.lost.now c.args.leaders.now in
+    let items = c.rows_reached-freed-items.result.now in
+    let i = c.loop-freed.freed-index in
+    let row : RowId = slice_index_or items i (record { 0 = 0 }) in
+    let test = c.loop-freed-test.true in
+    let within : i < length items = omega (arith, test) in
+    c.in_ok-slots.ensures
+    ∙ (ap (λ ss. ss ++ F row) c.loop-freed.invariant
+    ∙ (flat_map_more F c.args.slots (take i items) row
+    ∙ ap (λ rs. c.args.slots ++ flat_map F rs) (sym (take_more items i (record { 0 = 0 }) within))))
 
 pub returns : goal.returns
 unfolding freed_slots
