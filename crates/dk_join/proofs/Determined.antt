@@ -71,7 +71,7 @@ apart_from [] once = tt
 apart_from (h ∷ held) once =
     (λ z i e. true≢false (sym (same_vars-refl h.leaders) ∙ (ap (λ (x : Held). same_vars h.leaders x.leaders) e ∙ differs h z held once.0 i)), apart_from held once.1)
 
-one_order : (leaders : List VarId) (held others : List Held) → AreHeld held → AreHeld others → ((p : List VarId) → pattern_count held p ≡ pattern_count others p) → patterns_of leaders held ≡ patterns_of leaders others
+pub one_order : (leaders : List VarId) (held others : List Held) → AreHeld held → AreHeld others → ((p : List VarId) → pattern_count held p ≡ pattern_count others p) → patterns_of leaders held ≡ patterns_of leaders others
 one_order leaders held others is also same =
     same_patterns leaders held others
     (same_weights held others (apart_from held is.once) (apart_from others also.once)

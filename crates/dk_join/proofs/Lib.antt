@@ -9,4 +9,5 @@ pub mod Determined
 pub mod Tallying
 pub mod Splitting
 pub mod Joins
+pub mod AnyOrder
 mod Examples

@@ -1,5 +1,6 @@
 -- What two engines say together is what both lists of samples say.
 use Rattle.std.specs.Prelude.{◌≡◌, ◌↔◌, ◌<◌, ◌++◌, IsTrue, List, length}
+use Rattle.std.specs.List.Sorted.{IsPermutation}
 use Rattle.dk_base.specs.declared.kinds.VarId.{VarId}
 use Rattle.dk_base.specs.declared.kinds.VarInfo.{VarInfo}
 use Rattle.dk_base.specs.declared.values.Value.{Value}
@@ -13,6 +14,7 @@ use Rattle.dk_template.specs.Templates.{IsRowOf}
 use Rattle.dk_template.specs.declared.grammar.Grammar.{Grammar}
 use Rattle.dk_template.specs.declared.grammar.RowId.{RowId}
 use Rattle.dk_engine.specs.Exact.{AreOfPoint, AreSamples, IsKeptOf}
+use Rattle.dk_engine.specs.Saved.{parts_of}
 use Rattle.dk_engine.specs.declared.kept.Kept.{Kept}
 use Rattle.dk_engine.specs.declared.parts.Parts.{Parts}
 use Rattle.dk_join.specs.Joined.{AreJoinedParts, IsJoinOf}
@@ -59,3 +61,35 @@ JoinedPartsAreDetermined =
     (grammar : Grammar) (infos : List VarInfo) (first second : Kept) (parts others : Parts)
     → AreJoinedParts grammar infos first second parts → AreJoinedParts grammar infos first second others
     → parts ≡ others
+
+-- ---- several engines
+-- what `join` makes of two engines' parts: the joined ones, which stand for both lists wherever these two stand for lists
+pub record IsJoined (grammar : Grammar) (infos : List VarInfo) (first second kept : Kept) : Type 0 where
+  pub parts : AreJoinedParts grammar infos first second (parts_of kept)
+  pub stands : (samples others : List (List Value))
+      → AreKeptOf grammar infos samples others first second → IsKeptOf grammar infos (samples ++ others) kept
+
+-- how several engines are joined: one alone, which stands for samples, or two groups, and what each keeps
+pub data Joins : Type 0 where
+  Alone : (samples : List (List Value)) → (kept : Kept) → Joins
+  Together : (first : Joins) → (second : Joins) → (kept : Kept) → Joins
+
+abbrev pub kept_by : Joins → Kept
+kept_by (Alone samples kept) = kept
+kept_by (Together first second kept) = kept
+
+-- the samples of all, in the order in which they are joined
+abbrev pub all_samples : Joins → List (List Value)
+all_samples (Alone samples kept) = samples
+all_samples (Together first second kept) = all_samples first ++ all_samples second
+
+abbrev pub AreJoins : Grammar → List VarInfo → Joins → Type 0
+AreJoins grammar infos (Alone samples kept) = AreSamples infos samples × IsKeptOf grammar infos samples kept
+AreJoins grammar infos (Together first second kept) =
+    AreJoins grammar infos first × AreJoins grammar infos second × IsJoined grammar infos (kept_by first) (kept_by second) kept
+
+-- engines that are joined in any order and in any groups make the same parts
+abbrev pub OrderOfJoinsDoesNotMatter : Type 0
+OrderOfJoinsDoesNotMatter =
+    (grammar : Grammar) (infos : List VarInfo) (joins others : Joins) → AreJoins grammar infos joins → AreJoins grammar infos others
+    → IsPermutation (all_samples joins) (all_samples others) → parts_of (kept_by joins) ≡ parts_of (kept_by others)

@@ -1,5 +1,5 @@
 //! What two engines say together.
-ghost use Rattle.dk_join.specs.Laws.{AgreeJoinedIsAgreement, CountJoinedIsCount, JoinedPartsAreDetermined, JoinedPartsAreExact, ReadJoinedIsFit};
+ghost use Rattle.dk_join.specs.Laws.{AgreeJoinedIsAgreement, CountJoinedIsCount, JoinedPartsAreDetermined, JoinedPartsAreExact, OrderOfJoinsDoesNotMatter, ReadJoinedIsFit};
 
 /// What is read from the kept parts of two lists of samples, joined, is what both lists say together: the state of each row over
 /// variables that it admits; in how many samples variables are present together; and which variables agree.
@@ -17,4 +17,9 @@ pub fn joined_parts_are_exact()
 /// Two engines have one join.
 pub fn joined_parts_are_determined()
     ensures { JoinedPartsAreDetermined }
+{}
+
+/// Engines that are joined in any order and in any groups make the same parts.
+pub fn order_of_joins_does_not_matter()
+    ensures { OrderOfJoinsDoesNotMatter }
 {}
