@@ -1,4 +1,4 @@
-use Rattle.std.proofs.Common.{◌≡◌, ap, sym, subst, ◌∙◌, [], ◌∷◌, ◌++◌, List, Vec, Global, map, position, Some, None}
+use Rattle.std.proofs.Common.{◌≡◌, ap, arith, sym, subst, ◌∙◌, [], ◌∷◌, ◌++◌, List, Vec, Global, map, position, Some, None}
 use Rattle.dk_base.specs.declared.kinds.VarId.{VarId}
 use Rattle.dk_presence.specs.Patterns.{AreHeld, held_patterns, same_vars}
 use Rattle.dk_presence.specs.declared.held.Held.{Held}
@@ -36,7 +36,7 @@ invariant_of-result-in-None c =
     let count = c.args.count in
     let none : position (same_vars present) (held_patterns held) ≡ None =
     ap (position (same_vars present)) (sym c.self.invariant.1) ∙ (ap (λ (ps : List VarId). position (same_vars ps) (map (λ (k : Vec VarId Global). k.items) c.self.inside.places.keys)) (sym c.as_slice.ensures) ∙ (sym c.place_of.ensures ∙ c.in-None.is)) in
-    let is = c.in_ok-with_pattern-in-None.ensures ∙ (ap (λ (h : Held). held ++ h ∷ []) (sym (first_is count present c.ranges.count)) ∙ sym (tallied_new count present held none)) in (
+    let is = c.in_ok-with_pattern-in-None.ensures ∙ (ap (λ (h : Held). held ++ h ∷ []) (sym (first_is count present (omega (arith, c.ranges.count)))) ∙ sym (tallied_new count present held none)) in (
       subst AreHeld (sym is) (held_tallied count present c.requires.some held c.requires.ascend c.self.invariant.0),
       keys_new (λ (k : Vec VarId Global). k.items) _ (λ a b. pointwise_same a.items b.items) present held none c.self.inside.places.keys c.insert.new.self.keys c.in_ok-from_slice-in-None.field-0
           c.self.invariant.1 (c.in_ok-from_slice-in-None.ensures.items ∙ c.as_slice-in-None.ensures) c.in_ok-insert-in-None.ensures.keys ∙ (sym (patterns_tallied count present held) ∙ sym (ap held_patterns is)),
@@ -49,4 +49,4 @@ returns-in_ok-with_pattern-in-None c =
     let count = c.args.count in
     let none : position (same_vars present) (held_patterns held) ≡ None =
     ap (position (same_vars present)) (sym c.self.invariant.1) ∙ (ap (λ (ps : List VarId). position (same_vars ps) (map (λ (k : Vec VarId Global). k.items) c.self.inside.places.keys)) (sym c.as_slice.ensures) ∙ (sym c.place_of.ensures ∙ c.in-None.is)) in
-    c.in_ok-with_pattern-in-None.ensures ∙ (ap (λ (h : Held). held ++ h ∷ []) (sym (first_is count present c.ranges.count)) ∙ (sym (tallied_new count present held none) ∙ ap (with_samples_of count present) c.self.view_is))
+    c.in_ok-with_pattern-in-None.ensures ∙ (ap (λ (h : Held). held ++ h ∷ []) (sym (first_is count present (omega (arith, c.ranges.count)))) ∙ (sym (tallied_new count present held none) ∙ ap (with_samples_of count present) c.self.view_is))
