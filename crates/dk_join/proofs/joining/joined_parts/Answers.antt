@@ -12,10 +12,10 @@ use Rattle.dk_presence.specs.Patterns.{AreHeld}
 use Rattle.dk_join.proofs.joining.joined_parts.Goals as goal
 
 pub joined_leaders-requires-clause-first : goal.joined_leaders-requires-clause-first
-joined_leaders-requires-clause-first c = ap length c.classes.ensures ∙ (c.requires.first_leaders ∙ sym (c.len-count.ensures ∙ ap length c.vars.ensures))
+joined_leaders-requires-clause-first c = ap length c.classes.ensures ∙ (c.requires.first_leaders ∙ sym (ap length c.vars-count.ensures))
 
 pub joined_leaders-requires-clause-second : goal.joined_leaders-requires-clause-second
-joined_leaders-requires-clause-second c = ap length c.classes-2.ensures ∙ (c.requires.second_leaders ∙ sym (c.len-count.ensures ∙ ap length c.vars.ensures))
+joined_leaders-requires-clause-second c = ap length c.classes-2.ensures ∙ (c.requires.second_leaders ∙ sym (ap length c.vars-count.ensures))
 
 pub joined_known-requires-clause-first : goal.joined_known-requires-clause-first
 joined_known-requires-clause-first c =
@@ -55,7 +55,7 @@ joined_patterns-requires-clause-second c =
 
 pub classes_in_order-requires : goal.classes_in_order-requires
 classes_in_order-requires c =
-    (c.len-count.ensures ∙ ap length c.vars.ensures) ∙ (sym c.requires.first_leaders ∙ (ap length (sym c.classes.ensures) ∙ sym c.in_ok-joined.ensures.long))
+    ap length c.vars-count.ensures ∙ (sym c.requires.first_leaders ∙ (ap length (sym c.classes.ensures) ∙ sym c.in_ok-joined.ensures.long))
 
 pub patterns_in_order-requires-clause-held : goal.patterns_in_order-requires-clause-held
 patterns_in_order-requires-clause-held c = subst AreHeld (sym c.as_slice.ensures) c.in_ok-held.ensures.form
