@@ -1,5 +1,5 @@
 -- Engines that are joined in any order and in any groups make the same parts.
-use Rattle.std.specs.Prelude.{◌≡◌, ◌++◌, ℕ, List}
+use Rattle.std.specs.Prelude.{◌≡◌, ℕ, List}
 use Rattle.std.proofs.Common.{ap, ◌∙◌, sym}
 use Rattle.std.proofs.lemmas.List.Elements.{All-append}
 use Rattle.dk_base.specs.declared.kinds.VarId.{VarId}

@@ -1,5 +1,5 @@
 -- The patterns of both lists, over the joined leaders.
-use Rattle.std.specs.Prelude.{◌≡◌, ◌+◌, ◌&&◌, ℕ, suc, All, Contains, List, [], ◌∷◌, ◌++◌, count_by, filter, refl}
+use Rattle.std.specs.Prelude.{◌≡◌, ◌+◌, ◌&&◌, ℕ, suc, All, Contains, List, [], ◌∷◌, ◌++◌, count_by, refl}
 use Rattle.std.proofs.Common.{ap, ◌∙◌, arith, cond, get_or, sym}
 use Rattle.std.proofs.lemmas.List.{map-append}
 use Rattle.std.proofs.lemmas.List.Sums.{sum_by-append, sum_by-cons}

@@ -12,7 +12,6 @@ use Rattle.dk_constants.specs.Known.{Entries}
 use Rattle.dk_engine.specs.Feeding.{slots_of}
 use Rattle.dk_engine.specs.Saved.{parts_of}
 use Rattle.dk_engine.specs.declared.kept.Kept.{Kept}
-use Rattle.dk_engine.specs.declared.parts.Parts.{Parts}
 use Rattle.dk_parts.proofs.PatternOrder.{same_patterns}
 use Rattle.dk_parts.proofs.Weights.{Apart, In, contains_from, in_from, same_weights}
 use Rattle.dk_parts.specs.Classes.{classes_of}

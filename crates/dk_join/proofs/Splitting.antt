@@ -1,6 +1,6 @@
 -- A class splits by the leaders in the second engine as by a sample.
 use Rattle.std.specs.Prelude.{◌≡◌, ◌<◌, ℕ, pos, List, length, map}
-use Rattle.std.proofs.Common.{ap, ◌∙◌, arith, get_or, sym}
+use Rattle.std.proofs.Common.{ap, ◌∙◌, arith, sym}
 use Rattle.std.proofs.lemmas.List.{get_or-map}
 use Rattle.dk_base.specs.declared.kinds.VarId.{VarId}
 use Rattle.dk_base.specs.declared.values.Value.{Value}
