@@ -1,0 +1,13 @@
+pub mod Lists
+pub mod Answering
+pub mod Leading
+pub mod Knowing
+pub mod KnownSteps
+pub mod Counting
+pub mod Exact
+pub mod Determined
+pub mod Tallying
+pub mod Splitting
+pub mod Joins
+pub mod AnyOrder
+mod Examples

@@ -1,0 +1,15 @@
+use Rattle.std.specs.Prelude.{◌≡◌, IfOk}
+use Rattle.std.proofs.Common.{◌∙◌, ap, subst, sym}
+use Rattle.dk_engine.specs.Feeding.{slots_of}
+use Rattle.dk_template.specs.declared.grammar.Grammar.{Grammar}
+use Rattle.dk_join.specs.Joining.{Pair, answer_of}
+use Rattle.dk_join.proofs.joining.joined_slots.Goals as goal
+
+pub all-requires : goal.all-requires
+all-requires c = ap (λ (p : Pair). p.first.grammar) c.of-both.ensures ∙ sym c.grammar.ensures
+
+pub returns : goal.returns
+returns c =
+    let pair : Pair = record { first = c.args.first.now; second = c.args.second.now } in
+    let Are : Pair → Grammar → Type 0 = λ p g. IfOk c.all.result (λ slots. slots ≡ slots_of g p.first.infos c.args.leaders.now c.args.known.now (answer_of p)) in
+    subst (Are pair) c.grammar.ensures (subst (λ p. Are p c.grammar.result) c.of-both.ensures c.all.ensures)

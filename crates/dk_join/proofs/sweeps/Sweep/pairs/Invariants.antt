@@ -1,0 +1,7 @@
+use Rattle.std.specs.Prelude.{◌≡◌, ◌++◌, take}
+use Rattle.dk_join.specs.Joining.{answer_of}
+use Rattle.dk_engine.specs.Sweeps.{pairs}
+use Rattle.dk_join.proofs.sweeps.Sweep.pairs.Given as goal
+
+abbrev pub invariant-loop-v : goal.invariant-loop-v
+invariant-loop-v l = l.slots ≡ l.initial.slots ++ pairs l.self.both.now.first.infos l.self.known.now (answer_of l.self.both.now) l.row (take l.v-index l.first) l.second

@@ -1,0 +1,6 @@
+-- cited by public clauses
+pub mod Joined
+pub mod Joining
+pub mod Laws
+-- inner: cited by the clauses of bodies and in proofs alone
+pub mod Tallies

@@ -1,0 +1,108 @@
+// What two engines say together.
+ghost use Rattle.std.specs.Prelude.{◌≡◌, IfOk, IsTrue, OnErr};
+ghost use Rattle.dk_join.specs.Joining.{AreAlike, agree_joined, answer_of, count_joined};
+ghost use Rattle.dk_engine.specs.Reading.{state_read};
+ghost use Rattle.dk_template.specs.Admitted.{admits};
+ghost use Rattle.dk_template.specs.Joins.{joined};
+ghost use Rattle.dk_template.specs.Premises.{MayWantMemory};
+ghost use Rattle.dk_template.specs.Proper.{IsProper};
+ghost use Rattle.dk_template.specs.Templates.{IsRowOf, form_of};
+
+use dk_base::{NoMemory, VarId, VarInfo};
+use dk_engine::Engine;
+use dk_template::{Answers, RowId, State, join_states, template_at};
+use std::alloc::Global;
+use std::marker::Model;
+
+/// Two engines over the same variables, which answer together: for both lists of samples.
+#[derive(Drop)]
+pub(crate) struct Both<'a> {
+    alloc: Global,
+    first: &'a Engine,
+    second: &'a Engine,
+}
+
+impl<'a> Model for Both<'a> {
+    ghost use Rattle.dk_join.specs.Joining.{AreAlike, Pair};
+
+    ghost Value = { Pair };
+
+    ghost view = { λ b. record { first = b.first.now; second = b.second.now } };
+
+    ghost invariant = { λ b. AreAlike (record { first = b.first.now; second = b.second.now }) };
+}
+
+impl<'a> Both<'a> {
+    /// The two engines.
+    pub(crate) fn of(alloc: Global, first: &'a Engine, second: &'a Engine) -> Both<'a>
+        requires { AreAlike (record { first = first.now; second = second.now }) }
+        ensures { result ≡ record { first = first.now; second = second.now } }
+    {
+        Both {
+            alloc,
+            first,
+            second,
+        }
+    }
+
+    /// The variables of both.
+    pub(crate) fn infos(&self) -> &[VarInfo]
+        ensures { result.now ≡ self.now.first.infos }
+    {
+        self.first.vars()
+    }
+
+    // The state that the second engine joins to one of the first.
+    fn with_second(&self, row: RowId, vars: &[VarId], state: State) -> Result<State, NoMemory>
+        requires row { IsRowOf self.now.first.grammar row }
+        requires vars { IsTrue (admits row self.now.first.infos vars.now) }
+        requires proper { IsProper (form_of row) state }
+        ensures state { IfOk result (λ s. s ≡ joined (form_of row) state (state_read self.now.second.kept row vars.now)) }
+        ensures proper { IfOk result (λ s. IsProper (form_of row) s) }
+        ensures err { OnErr result (MayWantMemory row) }
+    {
+        let other = self.second.answer(row, vars)?;
+        join_states(template_at(row).form, self.alloc, state, &other)
+    }
+
+    // The state of a row over variables. What is Broken for one is Broken for both, so then the second isn't asked.
+    fn state(&self, row: RowId, vars: &[VarId]) -> Result<State, NoMemory>
+        requires row { IsRowOf self.now.first.grammar row }
+        requires vars { IsTrue (admits row self.now.first.infos vars.now) }
+        ensures state { IfOk result (λ s. s ≡ answer_of self.now row vars.now) }
+        ensures proper { IfOk result (λ s. IsProper (form_of row) s) }
+        ensures err { OnErr result (MayWantMemory row) }
+    {
+        let state = self.first.answer(row, vars)?;
+        if matches!(state, State::Broken) {
+            return Ok(State::Broken);
+        }
+        self.with_second(row, vars, state)
+    }
+}
+
+impl<'a> Answers for Both<'a> {
+    ghost grammar = { λ b. b.first.grammar };
+
+    ghost infos = { λ b. b.first.infos };
+
+    ghost answered = { answer_of };
+
+    ghost counted = { λ b. count_joined b.first.kept b.second.kept };
+
+    ghost agreeing = { λ b. agree_joined b.first.kept b.second.kept };
+
+    fn answer(&self, row: RowId, vars: &[VarId]) -> Result<State, NoMemory> {
+        self.state(row, vars)
+    }
+
+    fn count(&self, vars: &[VarId]) -> u64 {
+        self.first
+            .count(vars)
+            .saturating_add(self.second.count(vars))
+    }
+
+    fn agree(&self, v: VarId, w: VarId) -> bool {
+        self.first.agree(v, w) && self.second.agree(v, w)
+    }
+}

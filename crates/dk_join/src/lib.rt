@@ -1,0 +1,13 @@
+//! The join of two engines: what is kept of both lists of samples, from what each keeps of its own.
+#![tactic(auto)]
+
+mod both;
+mod constants;
+mod joining;
+pub mod laws;
+mod leaders;
+mod patterns;
+mod sweeps;
+mod tally;
+
+pub use joining::{JoinFault, join};
