@@ -1,7 +1,7 @@
 // What `clap` matched.
 ghost use Rattle.std.specs.Prelude.{◌≡◌, [], IfOk, map, codes, unwrap_or};
 ghost use Rattle.clap.specs.Words.{all_of, found_of, rows_of};
-ghost use Rattle.dk_words.specs.Requests.{is_given, number_at};
+ghost use Rattle.dk_words.specs.Requests.{is_given, number_at as number_of};
 ghost use Rattle.dk_split.specs.Requests.{command_of};
 
 use crate::{Command, FileName};
@@ -9,18 +9,18 @@ use clap::ArgMatches;
 use dk_base::{List, NoMemory};
 use std::alloc::Global;
 
-// The least number, which has a default.
-fn least_of(matches: &ArgMatches<'_>) -> u64
-    ensures { result ≡ unwrap_or (number_at (codes "min-samples") (rows_of (found_of matches.now))) 5 }
+// The number that is given under the name, or by default.
+fn number_at(matches: &ArgMatches<'_>, name: &str) -> Option<u64>
+    ensures { result ≡ number_of name.now (rows_of (found_of matches.now)) }
 {
-    matches.get_one::<u64>("min-samples").unwrap_or(5)
+    matches.get_one::<u64>(name)
 }
 
-// Whether exits without an entry are to be left out.
-fn ignores_missing_entry(matches: &ArgMatches<'_>) -> bool
-    ensures { result ≡ is_given (codes "ignore-missing-entry") (rows_of (found_of matches.now)) }
+// Whether the word that stands alone is given.
+fn is_given(matches: &ArgMatches<'_>, name: &str) -> bool
+    ensures { result ≡ is_given name.now (rows_of (found_of matches.now)) }
 {
-    match matches.get_str("ignore-missing-entry") {
+    match matches.get_str(name) {
         Some(text) => text == "true",
         None => false,
     }
@@ -46,6 +46,13 @@ fn files_of(alloc: Global, matches: &ArgMatches<'_>) -> Result<List<FileName>, N
     }
 }
 
+// The least number, which has a default.
+fn least_of(matches: &ArgMatches<'_>) -> u64
+    ensures { result ≡ unwrap_or (number_of (codes "min-samples") (rows_of (found_of matches.now))) 5 }
+{
+    number_at(matches, "min-samples").unwrap_or(5)
+}
+
 /// What the matched words say.
 pub(crate) fn command_of(alloc: Global, matches: &ArgMatches<'_>) -> Result<Command, NoMemory>
     ensures { IfOk result (λ command. command ≡ command_of (rows_of (found_of matches.now))) }
@@ -53,7 +60,7 @@ pub(crate) fn command_of(alloc: Global, matches: &ArgMatches<'_>) -> Result<Comm
     let files = files_of(alloc, matches)?;
     Ok(Command {
         least: least_of(matches),
-        ignore_missing_entry: ignores_missing_entry(matches),
+        ignore_missing_entry: is_given(matches, "ignore-missing-entry"),
         files,
     })
 }
