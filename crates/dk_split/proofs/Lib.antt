@@ -5,6 +5,7 @@ pub mod Keeping
 pub mod Taking
 pub mod Filing
 pub mod Running
+pub mod Sections
 pub mod Writing
 pub mod Saying
 pub mod Complete

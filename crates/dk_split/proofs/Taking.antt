@@ -1,10 +1,11 @@
 -- The splits behind what a block does.
-use Rattle.std.proofs.Common.{◌≡◌, ◌∙◌, ◌<◌, ◌++◌, ℕ, Bool, true, false, List, [], length, Option, Some, None, is_some, Result, Ok, Err, IfSome, ap, arith, refl, subst, sym, length-append}
+use Rattle.std.proofs.Common.{◌≡◌, ◌∙◌, ◌<◌, ◌++◌, ℕ, Bool, true, false, List, [], ◌∷◌, length, slice_get, Option, Some, None, is_some, Result, Ok, Err, IfSome, ap, arith, refl, subst, sym, length-append}
 use Rattle.std.proofs.lemmas.List.{append-nil}
-use Rattle.dk_base.specs.Reading.{LineFault}
-use Rattle.dk_base.specs.Values.{values_of}
+use Rattle.std.specs.List.{AllZip}
+use Rattle.dk_base.specs.Values.{IsOfKind, values_of}
 use Rattle.dk_base.specs.declared.faults.Fault.{Fault}
 use Rattle.dk_base.specs.declared.faults.Fault.TheVariants as f
+use Rattle.dk_base.specs.declared.kinds.VarInfo.{VarInfo}
 use Rattle.dk_base.specs.declared.values.Value.{Value}
 use Rattle.dk_blocks.proofs.Added.{next_added}
 use Rattle.dk_blocks.specs.Adding.{Adds, AddsNothing, AddsPoints}
@@ -14,16 +15,19 @@ use Rattle.dk_blocks.specs.Reading.{stepped}
 use Rattle.dk_blocks.specs.Standing.{ReaderStandsFor, Stands as ReaderKeeps, points_of as points_in}
 use Rattle.dk_blocks.specs.Steps.{Steps, groups_left}
 use Rattle.dk_blocks.specs.declared.reader.Reader.{Reader}
+use Rattle.dk_derive.specs.Laws.{var_kinds}
 use Rattle.dk_derive.specs.Values.{values_by_form}
 use Rattle.dk_events.specs.Following.{Following}
 use Rattle.dk_events.specs.Standing.{EventsStandFor, NextEvent, ignores_of, over_of, points_of}
 use Rattle.dk_events.specs.Telling.{PointsGoOn, derived_effect, told}
 use Rattle.dk_events.specs.declared.event.Event.{Event}
 use Rattle.dk_events.specs.declared.event.Event.TheVariants as event
+use Rattle.dk_fits.specs.Laws.{IsSample}
 use Rattle.dk_halves.specs.Standing.{Engines}
 use Rattle.dk_hierarchy.specs.Samples.{OwnSamples, all_vars_of, own_samples_of}
 use Rattle.dk_lines.specs.Reading.{Reading}
 use Rattle.dk_points.specs.Table.{Point}
+use Rattle.dk_trace.specs.Fitting.{FitKinds}
 use Rattle.dk_split.proofs.Keeping.{get_within, splits_fed, splits_grown, splits_still, stand_grown}
 use Rattle.dk_split.specs.Growing.{AreGrown, AreKeptUp, IsFed, TakesEvent}
 use Rattle.dk_split.specs.Standing.{AreSplitsOf, SplitsStandFor, StandsFor}
@@ -39,13 +43,25 @@ many_of : (r : Reader) (h : History) → ReaderStandsFor r h → length h.sample
 unfolding ReaderKeeps
 many_of r h stands = stands.many
 
+-- ---- a sample
+
+zipped : (vars : List VarInfo) (values : List Value) → AllZip IsOfKind (var_kinds vars) values → AllZip (λ (v : VarInfo) x. IsOfKind v.kind x) vars values
+zipped [] [] h = tt
+zipped [] (x ∷ xs) h = absurd h
+zipped (v ∷ vars) [] h = absurd h
+zipped (v ∷ vars) (x ∷ xs) h = (h.0, zipped vars xs h.1)
+
+-- what an event tells is a sample for the split of its point
+pub sample_fits : (ps : List Point) (splits : List Engines) (p : ℕ) (split : Engines) (values : List Value) → AreSplitsOf ps splits → slice_get splits p ≡ Some split → FitKinds (var_kinds (all_vars_of ps p)) values
+    → IsSample split.whole.infos values
+sample_fits ps splits p split values are at fits =
+    subst (λ (vars : List VarInfo). IsSample vars values) (sym (are.each p split at).infos) (record { kinds = zipped (all_vars_of ps p) values fits.0; written = fits.1 })
+
 -- ---- which splits
 
 -- before the block is taken
 pub kept_up : (ps ps' : List Point) (e : Event) (splits : List Engines) → PointsGoOn ps (Some e) ps' → AreSplitsOf ps splits → AreKeptUp ps' e splits
-kept_up ps ps' event.Nothing splits (more, is) are = fewer ps ps' more splits is are where
-  fewer : (ps ps' more : List Point) (splits : List Engines) → ps' ≡ ps ++ more → AreSplitsOf ps splits → AreKeptUp ps' event.Nothing splits
-  fewer ps ps' more splits is are = omega (arith, ap length is, length-append ps more, are.long)
+kept_up ps ps' event.Nothing splits (more, is) are = omega (arith, ap length is, length-append ps more, are.long)
 kept_up ps ps' event.Declared splits (more, is) are = omega (arith, ap length is, length-append ps more, are.long)
 kept_up ps ps' (event.Sample point line values) splits same are = subst (λ (l : List Point). AreSplitsOf l splits) (sym same) are
 
