@@ -36,7 +36,8 @@ EventFits ps (Some event.Declared) = ⊤
 EventFits ps (Some (event.Sample point line values)) =
     (point.0 < length ps) × FitKinds (var_kinds (all_vars_of ps point.0)) (values_of values.now)
 
--- No block takes points from the table, and a sample leaves it as it is.
+-- Points stand behind the others where a block adds any. A sample adds none, and no block adds none.
 abbrev pub PointsGoOn : List Point → Option Event → List Point → Type 0
-PointsGoOn ps (Some (event.Sample point line values)) ps' = ps' ≡ ps
-PointsGoOn ps event ps' = Extends ps ps'
+PointsGoOn ps (Some event.Nothing) ps' = Extends ps ps'
+PointsGoOn ps (Some event.Declared) ps' = Extends ps ps'
+PointsGoOn ps event ps' = ps' ≡ ps

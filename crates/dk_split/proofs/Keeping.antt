@@ -6,7 +6,6 @@ use Rattle.dk_base.specs.declared.values.Value.{Value}
 use Rattle.dk_blocks.proofs.Growing.{same_all_vars}
 use Rattle.dk_blocks.specs.Fitting.{Extends}
 use Rattle.dk_blocks.specs.History.{own_samples_with}
-use Rattle.dk_core.proofs.Keeping.{get_or_append, get_or_behind}
 use Rattle.dk_derive.specs.Values.{values_by_form}
 use Rattle.dk_halves.specs.Standing.{Engines, StandFor}
 use Rattle.dk_hierarchy.specs.Samples.{OwnSamples, all_vars_of, own_samples_of}
@@ -38,6 +37,21 @@ get_last [] y zero x at = inr (refl, cc at)
 get_last [] y (suc i) x at = absurd (cc at)
 get_last (z ∷ xs) y zero x at = inl at
 get_last (z ∷ xs) y (suc i) x at = ⊎_elim (λ h. inl h) (λ h. inr (ap suc h.0, h.1)) (get_last xs y i x at)
+
+get_or_append : {X : Type 0} (xs ys : List X) (i : ℕ) (d : X) → i < length xs → get_or (xs ++ ys) i d ≡ get_or xs i d
+get_or_append [] ys i d there = absurd (omega arith)
+get_or_append (x ∷ xs) ys zero d there = refl
+get_or_append (x ∷ xs) ys (suc i) d there = get_or_append xs ys i d (omega arith)
+
+get_or_none : {X : Type 0} (n i : ℕ) (d : X) → get_or (replicate n d) i d ≡ d
+get_or_none zero i d = refl
+get_or_none (suc n) zero d = refl
+get_or_none (suc n) (suc i) d = get_or_none n i d
+
+get_or_behind : {X : Type 0} (xs : List X) (n i : ℕ) (d : X) → length xs ≤ i → get_or (xs ++ replicate n d) i d ≡ d
+get_or_behind [] n i d past = get_or_none n i d
+get_or_behind (x ∷ xs) n zero d past = absurd (omega arith)
+get_or_behind (x ∷ xs) n (suc i) d past = get_or_behind xs n i d (omega arith)
 
 -- ---- the samples of a point
 

@@ -1,5 +1,5 @@
 -- The section of a point.
-use Rattle.std.proofs.Common.{◌≡◌, ◌∙◌, ◌++◌, ℕ, Bool, true, false, List, [], ◌∷◌, length, slice_get, slice_index_or, Some, if◌then◌else◌, ap, arith, refl, sym}
+use Rattle.std.proofs.Common.{◌≡◌, ◌∙◌, ◌++◌, ℕ, Bool, true, false, List, [], ◌∷◌, length, slice_get, slice_index_or, Some, Result, Ok, Err, IfOk, OnOk, if◌then◌else◌, ap, arith, refl, sym}
 use Rattle.std.proofs.lemmas.List.{append-nil, length-map}
 use Rattle.dk_base.specs.Pieces.{is_empty}
 use Rattle.dk_base.specs.declared.kinds.VarInfo.{VarInfo}
@@ -16,6 +16,16 @@ use Rattle.dk_report.specs.Reports.{name_in_table}
 use Rattle.dk_template.specs.declared.grammar.Grammar.{Grammar}
 use Rattle.dk_template.specs.declared.grammar.Grammar.TheVariants.{Two}
 
+-- what holds where a call succeeds
+pub on_ok : {A E : Type 0} (r : Result A E) (P Q : Type 0) → (P → Q) → OnOk r P → OnOk r Q
+on_ok (Ok x) P Q f h = f h
+on_ok (Err e) P Q f h = tt
+
+pub if_on : {A E : Type 0} (r : Result A E) (P Q : Type 0) → (P → Q) → IfOk r (λ _. P) → OnOk r Q
+if_on (Ok x) P Q f h = f h
+if_on (Err e) P Q f h = tt
+
+-- ---- samples
 none_of : (own : List (List Value)) (n : ℕ) → n ≡ capped (length own) → n ≡ 0 → is_empty own ≡ true
 none_of [] n number nil = refl
 none_of (x ∷ xs) n number nil = absurd (omega (arith, number, nil))
@@ -25,7 +35,7 @@ some_of [] n number some = absurd (some number)
 some_of (x ∷ xs) n number some = refl
 
 module _ (h : History) (p : ℕ) (split : Engines) (least : ℕ) (stands : StandFor split (own_samples_of h.table h.samples p)) where
-  own : List (List Value)
+  abbrev own : List (List Value)
   own = slice_index_or h.samples p []
 
   number : split.whole.kept.samples ≡ capped (length own)

@@ -147,7 +147,7 @@ taken_on s s' events h r new (Some xs) left e same sound takes stands (h', holds
     some_told ps (Some x) is = refl
 
 -- no block
-pub none_on : (s s' : Splitting) (h : History) (r new : Reading) (o left : Option (List ℕ)) → s'.splits ≡ s.splits → StandsFor s h
+pub none_on : (s s' : Splitting) (h : History) (r new : Reading) (o left : Option (List ℕ)) → s'.splits.items ≡ s.splits.items → StandsFor s h
     → IfSome o (λ xs. NextEvent s.events h r xs (Ok (s'.events, None)) new left) → IfSome o (λ xs. NextBlock s h r xs (Ok (s', false)) new left)
 none_on s s' h r new None left same stands gives = tt
 none_on s s' h r new (Some xs) left same stands (h', holds, (effect, is, (ys, at, steps))) =
@@ -155,7 +155,7 @@ none_on s s' h r new (Some xs) left same stands (h', holds, (effect, is, (ys, at
     let taken : Taken = record { history = h'; effect = effect } in
     let adds = next_added (ignores_of s.events) h (groups_left (over_of s.events) r true xs) (stepped taken (groups_left (over_of s'.events) new true ys)) steps.takes in
     let nothing = subst (λ (o : Option Effect). Adds h o h') none adds.0 in
-    let own = subst (λ (l : List Engines). SplitsStandFor l (own_samples_of h.table h.samples)) (sym (ap (λ v. v.items) same)) stands.splits in
+    let own = subst (λ (l : List Engines). SplitsStandFor l (own_samples_of h.table h.samples)) (sym same) stands.splits in
     (h', record { events = holds; splits = nothing_taken s'.splits.items h h' nothing own }, (effect, sym (ap (λ (o : Option Effect). is_some o) none), (ys, at, steps)))
   where
     nothing_told : (ps : List Point) (effect : Option Effect) → told None ≡ derived_effect ps effect → effect ≡ None

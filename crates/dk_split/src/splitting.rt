@@ -1,5 +1,5 @@
 // What is kept while files are read: the splits of the points.
-ghost use Rattle.std.specs.Prelude.{◌≡◌, ◌≤◌, ◌<◌, ◌++◌, not, [], IfErr, IfOk, IfSome, IsErrOf, OnOk, Some, ℕ, length, true};
+ghost use Rattle.std.specs.Prelude.{◌≡◌, ◌≤◌, ◌<◌, ◌++◌, not, [], IfErr, IfOk, IfSome, IsErrOf, OnOk, Some, ℕ, false, length, true};
 ghost use Rattle.dk_blocks.specs.History.{History, file_ended, no_history};
 ghost use Rattle.dk_blocks.specs.Standing.{left_with_answer};
 ghost use Rattle.dk_events.specs.Standing.{ignores_of, over_of, points_of};
@@ -94,7 +94,7 @@ impl Splitting {
         requires kept { AreKeptUp (points_of self.old.events) event self.old.splits.items }
         requires fits { EventFits (points_of self.old.events) (Some event) }
         ensures events { self.new.events ≡ self.old.events }
-        ensures taken { OnOk result (TakesEvent (points_of self.old.events) event self.old.splits.items self.new.splits.items) }
+        ensures taken { OnOk result (TakesEvent (points_of self.old.events) event.entry self.old.splits.items self.new.splits.items) }
     {
         match event {
             Event::Sample {
