@@ -3,6 +3,7 @@ use Rattle.std.proofs.Common.{◌≡◌, ◌∷◌, [], true, refl, codes, Some,
 use Rattle.clap.proofs.OnLiterals.{clap_on_literals}
 use Rattle.clap.specs.declared.error.kind.ErrorKind.TheVariants as kind
 use Rattle.dk_base.specs.Numbers.{natural_of}
+use Rattle.dk_blocks.specs.History.{no_history}
 use Rattle.dk_events.specs.declared.ended.Ended.TheVariants.{Done}
 use Rattle.dk_halves.specs.Reports.{implications_report}
 use Rattle.dk_io.specs.declared.outside.Stream.TheVariants.{Report}
@@ -45,7 +46,7 @@ too_small = refl
 -- ---- outputs
 -- no files, no report
 none : output_of command [] ≡ only_on Report []
-unfolding output_of course_of implications_report
+unfolding output_of course_of implications_report no_history
 none = refl
 
 -- a run that is asked for help says so
