@@ -36,7 +36,7 @@ EventFits ps (Some event.Declared) = ⊤
 EventFits ps (Some (event.Sample point line values)) =
     (point.0 < length ps) × FitKinds (var_kinds (all_vars_of ps point.0)) (values_of values.now)
 
--- Points stand behind the others where a block adds any. A sample adds none, and no block adds none.
+-- Points that a declaration adds stand behind the others, and nothing else adds any.
 abbrev pub PointsGoOn : List Point → Option Event → List Point → Type 0
 PointsGoOn ps (Some event.Nothing) ps' = Extends ps ps'
 PointsGoOn ps (Some event.Declared) ps' = Extends ps ps'

@@ -134,7 +134,7 @@ impl Events {
             (λ xs. NextEvent self.old h lines.old xs (left_with_answer self.new result) lines.new (left_of lines.new (I.rest inputs.new))) }
         // A sample is of a point of the table, and has values of all its variables.
         ensures fits { IfOk result (λ event. EventFits (points_of self.new) event) }
-        // Points stand behind the others where a block adds any. A sample adds none.
+        // Points that a declaration adds stand behind the others, and nothing else adds any.
         ensures points { IfOk result (λ event. PointsGoOn (points_of self.old) event (points_of self.new)) }
         ensures counts { EventCounts self.old lines.old (left_with_answer self.new result) lines.new }
         // At the file's end nothing is read.

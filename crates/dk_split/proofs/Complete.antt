@@ -1,18 +1,16 @@
 -- A run over files that are held comes to its end.
-use Rattle.std.proofs.Common.{◌≡◌, ◌≤◌, ◌<◌, ◌+◌, ◌-◌, inl, inr, Bool, ℕ, zero, suc, List, [], ◌∷◌, map, take, length, Option, Some, None, Result, Ok, Err, refl, sym, ◌∙◌, ap, subst, arith}
+use Rattle.std.proofs.Common.{◌≡◌, ◌≤◌, ◌<◌, ◌+◌, ◌-◌, inl, inr, Bool, ℕ, zero, suc, List, [], ◌∷◌, map, take, length, Option, Some, Result, Ok, Err, refl, sym, ◌∙◌, ap, subst, arith}
 use Rattle.std.proofs.lemmas.Bool.{cases_lt}
 use Rattle.std.proofs.lemmas.List.{length-take, take-map, take-take, take_all}
 use Rattle.dk_base.specs.Reading.{LineFault}
 use Rattle.dk_blocks.specs.History.{History, file_ended}
 use Rattle.dk_events.specs.declared.ended.Ended.{Ended}
 use Rattle.dk_events.specs.declared.ended.Ended.TheVariants.{Done, Refused, Usage, Read, Write, NoMemory}
-use Rattle.dk_io.specs.Outside.{HeldFile, Absent, Holds, Rose}
-use Rattle.dk_io.specs.declared.outside.Stream.TheVariants.{Messages}
-use Rattle.dk_print.specs.Sections.{fault_line}
+use Rattle.dk_io.specs.Outside.{HeldFile, Holds, Rose}
 use Rattle.dk_run.proofs.Saying.{held-take}
 use Rattle.dk_run.specs.Courses.{Course, course_of, course_of_file, course_of_files, fault_in, first_fault, first_start, then_files}
-use Rattle.dk_run.specs.Files.{AreHeldFiles, File, FileFault, ended_file, file_name_at}
-use Rattle.dk_run.specs.Outputs.{Output, only_on, texts_followed_by}
+use Rattle.dk_run.specs.Files.{AreHeldFiles, File, FileFault, ended_file}
+use Rattle.dk_run.specs.Outputs.{Output, texts_followed_by}
 use Rattle.dk_run.specs.Statuses.{AreCleanBehind, AtStart, Break, HasBroken, IsCalm, OutputIsWritten, Outside, Within, held_file_at}
 use Rattle.dk_split.proofs.Running.{helds_length}
 use Rattle.dk_split.specs.Outputs.{output_at, output_of}

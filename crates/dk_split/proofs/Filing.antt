@@ -1,7 +1,6 @@
 -- Reading a file block by block.
 use Rattle.std.proofs.Common.{◌≡◌, ◌+◌, ◌-◌, ℕ, List, [], ◌∷◌, ◌++◌, length, inl, inr, Bool, true, false, is_some, Option, Some, None, IfSome, IsErrOf, Result, Ok, Err, refl, sym, ◌∙◌, ap, subst, arith, append_assoc, length-append}
 use Rattle.std.proofs.lemmas.List.{append-nil}
-use Rattle.std.specs.Io.KnownBytes.{prepend_known}
 use Rattle.dk_base.specs.Reading.{LineFault}
 use Rattle.dk_base.specs.declared.faults.Fault.{Fault}
 use Rattle.dk_base.specs.declared.faults.Fault.TheVariants as f

@@ -12,7 +12,7 @@ use Rattle.dk_lines.specs.Left.{lined}
 use Rattle.dk_lines.specs.Reading.{Reading, room_of}
 use Rattle.dk_run.proofs.Placing.{rose_since}
 use Rattle.dk_run.specs.Courses.{course_of, course_of_file, course_of_files, fault_in, first_fault, first_start, line_limit, then_files, total_limit}
-use Rattle.dk_run.specs.Files.{AreHeldFiles, File, FileFault, ended_file, file_name_at}
+use Rattle.dk_run.specs.Files.{AreHeldFiles, File, ended_file, file_name_at}
 use Rattle.dk_run.specs.Statuses.{AreCleanBehind, AtStart, Within, held_file_at, rest_behind}
 use Rattle.dk_run.specs.WholeFile.{fresh_reading}
 use Rattle.dk_split.specs.AllFiles.{AreReadTo, HasBrokenBy, IsRefusedAt, IsUnreadAt, RunsOn, TroubleAtGives}

@@ -1,5 +1,5 @@
 -- The splits behind what a block does.
-use Rattle.std.proofs.Common.{◌≡◌, ◌∙◌, ◌<◌, ◌++◌, ℕ, Bool, true, false, List, [], ◌∷◌, length, slice_get, Option, Some, None, is_some, Result, Ok, Err, IfSome, ap, arith, refl, subst, sym, length-append}
+use Rattle.std.proofs.Common.{◌≡◌, ◌∙◌, ℕ, true, false, List, [], ◌∷◌, length, slice_get, Option, Some, None, is_some, Ok, Err, IfSome, ap, arith, refl, subst, sym, length-append}
 use Rattle.std.proofs.lemmas.List.{append-nil}
 use Rattle.std.specs.List.{AllZip}
 use Rattle.dk_base.specs.Values.{IsOfKind, values_of}
@@ -9,7 +9,6 @@ use Rattle.dk_base.specs.declared.kinds.VarInfo.{VarInfo}
 use Rattle.dk_base.specs.declared.values.Value.{Value}
 use Rattle.dk_blocks.proofs.Added.{next_added}
 use Rattle.dk_blocks.specs.Adding.{Adds, AddsNothing, AddsPoints}
-use Rattle.dk_blocks.specs.Fitting.{Extends}
 use Rattle.dk_blocks.specs.History.{Declares, Effect, History, Nothing, Samples, Taken, effect_of}
 use Rattle.dk_blocks.specs.Reading.{stepped}
 use Rattle.dk_blocks.specs.Standing.{ReaderStandsFor, Stands as ReaderKeeps, points_of as points_in}
@@ -127,8 +126,7 @@ taken_on s s' events h r new (Some xs) left e same sound takes stands (h', holds
     let adds = next_added (ignores_of s.events) h (groups_left (over_of s.events) r true xs) (stepped taken (groups_left (over_of events) new true ys)) steps.takes in
     let here : points_of s.events ≡ h.table = table_of s.events.reader h stands.events in
     let now : points_of events ≡ h'.table = table_of events.reader h' holds in
-    let found : true ≡ is_some effect = some_told h'.table effect is in
-    (
+    let found : true ≡ is_some effect = some_told h'.table effect is in (
       h',
       record {
         events = subst (λ (f : Following). EventsStandFor f h') (sym same) holds;

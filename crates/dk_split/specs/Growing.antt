@@ -2,7 +2,6 @@
 use Rattle.std.specs.Prelude.{◌≡◌, ◌≤◌, ◌++◌, ◌∷◌, ℕ, List, [], Some, length, slice_get, slice_set}
 use Rattle.dk_base.specs.Values.{values_of}
 use Rattle.dk_base.specs.declared.values.Value.{Value}
-use Rattle.dk_blocks.specs.Fitting.{Extends}
 use Rattle.dk_events.specs.declared.event.Event.{Event}
 use Rattle.dk_events.specs.declared.event.Event.TheVariants as event
 use Rattle.dk_halves.specs.Standing.{Engines, StandFor}

@@ -36,12 +36,7 @@ fn keep_up(alloc: Global, splits: &mut Vec<Split>, points: &Points) -> Result<()
     ensures { OnOk result (AreGrown points.now splits.old.items splits.new.items) }
 {
     for place in splits.len()..points.len() as usize {
-        splits.push(Split::new(
-            alloc,
-            points,
-            PointId(place as u32),
-            Grammar::Two,
-        )?)?;
+        splits.push(Split::new(alloc, points, PointId(place as u32), Grammar::Two)?)?;
     }
     Ok(())
 }

@@ -94,12 +94,7 @@ fn status_of(halt: Halt) -> Ended
 }
 
 // Writes the report.
-fn tell_report<S: Sinks>(
-    alloc: Global,
-    splitting: &Splitting,
-    least: u64,
-    sinks: &mut S,
-) -> Ended
+fn tell_report<S: Sinks>(alloc: Global, splitting: &Splitting, least: u64, sinks: &mut S) -> Ended
     requires { AreSplitsOf (points_of splitting.now.events) splitting.now.splits.items }
     ensures { ReportEnds (StandsFor splitting.now) (λ h. implications_report Grammar.Two least h.table h.samples) (S.written sinks.old) (S.written sinks.new) (S.faults sinks.old) (S.faults sinks.new) result }
 {

@@ -1,6 +1,4 @@
-use Rattle.std.proofs.Common.{rules, arith, ap, subst, sym, refl, ◌∙◌, ◌≡◌, ◌<◌, ℕ, Bool, List, length, Err}
-use Rattle.dk_blocks.specs.History.{History}
-use Rattle.dk_events.specs.Standing.{ignores_of}
+use Rattle.std.proofs.Common.{rules, arith, ap, subst, refl, ◌∙◌, ◌≡◌, ◌<◌, ℕ, Bool, List, length, Err}
 use Rattle.dk_io.specs.Outside.{HeldFile}
 use Rattle.dk_lines.specs.Reading.{room_of}
 use Rattle.dk_run.specs.Files.{file_name_at}

@@ -1,4 +1,4 @@
-use Rattle.std.proofs.Common.{rules, subst, sym, ◌∙◌, ◌≡◌, Bool, true, false, IfSome, Result, Ok, Err, refl, ap}
+use Rattle.std.proofs.Common.{rules, subst, sym, ◌≡◌, Bool, true, false, IfSome, Result, Ok, Err, refl, ap}
 use Rattle.dk_base.specs.declared.faults.Fault.{Fault}
 use Rattle.dk_blocks.specs.History.{History}
 use Rattle.dk_blocks.specs.Standing.{left_with_answer}

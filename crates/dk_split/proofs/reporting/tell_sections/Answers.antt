@@ -1,4 +1,4 @@
-use Rattle.std.proofs.Common.{◌≡◌, ◌<◌, ◌++◌, ◌∙◌, ℕ, List, length, ap, arith, refl, sym, subst}
+use Rattle.std.proofs.Common.{◌≡◌, ◌<◌, ◌++◌, ◌∙◌, ℕ, List, length, ap, arith, refl, subst}
 use Rattle.dk_blocks.specs.History.{History}
 use Rattle.dk_halves.specs.Reports.{implications_at, implications_report}
 use Rattle.dk_points.specs.Table.{Point}

@@ -24,11 +24,11 @@ returns c =
     let is = c.requires.sound.each p split at in
     on_ok c.push_implications.result _ _
     (λ says h stands.
-        let table : points_of c.args.self.now.events ≡ h.table = table_of c.args.self.now.events.reader h stands.events in
-        says (own_samples_of h.table h.samples p) (stands.splits p split at)
-        ∙ ap (λ (l : List ℕ). c.args.text.now ++ l)
-        (some_written h p split c.args.least (stands.splits p split at) c.name.result.now
-        (λ e. c.if-counts-eq0.false (c.counts.ensures.samples ∙ ap (λ (w : Whole). w.kept.samples) c.whole.ensures ∙ e))
-        (subst (λ (ps : List Point). slice_get (names ps) p ≡ Some c.name.result.now) (c.points.ensures.table h stands.events) c.name.ensures)
-        is.by_grammar (is.infos ∙ ap (λ (ps : List Point). all_vars_of ps p) table)))
+    let table : points_of c.args.self.now.events ≡ h.table = table_of c.args.self.now.events.reader h stands.events in
+    says (own_samples_of h.table h.samples p) (stands.splits p split at)
+    ∙ ap (λ (l : List ℕ). c.args.text.now ++ l)
+    (some_written h p split c.args.least (stands.splits p split at) c.name.result.now
+    (λ e. c.if-counts-eq0.false (c.counts.ensures.samples ∙ ap (λ (w : Whole). w.kept.samples) c.whole.ensures ∙ e))
+    (subst (λ (ps : List Point). slice_get (names ps) p ≡ Some c.name.result.now) (c.points.ensures.table h stands.events) c.name.ensures)
+    is.by_grammar (is.infos ∙ ap (λ (ps : List Point). all_vars_of ps p) table)))
     c.push_implications.ensures
