@@ -1,10 +1,11 @@
 -- What events tell of the effects of blocks.
-use Rattle.std.specs.Prelude.{◌<◌, ⊤, List, length, Option, Some, None, option_map}
+use Rattle.std.specs.Prelude.{◌≡◌, ◌<◌, ⊤, List, length, Option, Some, None, option_map}
 use Rattle.dk_base.specs.Values.{values_of}
 use Rattle.dk_derive.specs.Laws.{all_vars_of, var_kinds}
 use Rattle.dk_derive.specs.Values.{values_by_form}
 use Rattle.dk_points.specs.Table.{Point}
 use Rattle.dk_trace.specs.Fitting.{FitKinds}
+use Rattle.dk_blocks.specs.Fitting.{Extends}
 use Rattle.dk_blocks.specs.History.{Effect, Nothing, Declares, Samples}
 use Rattle.dk_events.specs.declared.event.Event.{Event}
 use Rattle.dk_events.specs.declared.event.Event.TheVariants as event
@@ -34,3 +35,9 @@ EventFits ps (Some event.Nothing) = ⊤
 EventFits ps (Some event.Declared) = ⊤
 EventFits ps (Some (event.Sample point line values)) =
     (point.0 < length ps) × FitKinds (var_kinds (all_vars_of ps point.0)) (values_of values.now)
+
+-- Points that a declaration adds stand behind the others, and nothing else adds any.
+abbrev pub PointsGoOn : List Point → Option Event → List Point → Type 0
+PointsGoOn ps (Some event.Nothing) ps' = Extends ps ps'
+PointsGoOn ps (Some event.Declared) ps' = Extends ps ps'
+PointsGoOn ps event ps' = ps' ≡ ps

@@ -11,13 +11,13 @@ ghost use Rattle.dk_points.specs.Vars.{vars_of};
 ghost use Rattle.dk_template.specs.declared.grammar.Grammar.{Grammar};
 ghost use Rattle.dk_trace.specs.Fitting.{FitKinds};
 ghost use Rattle.dk_blocks.specs.Finding.{FoundFits, outcome_of};
-ghost use Rattle.dk_blocks.specs.Fitting.{HasFittingConstants};
+ghost use Rattle.dk_blocks.specs.Fitting.{Extends, HasFittingConstants};
 ghost use Rattle.dk_blocks.specs.History.{History, Samples, declared_effect, file_ended, nothing_by, with_declaration};
 ghost use Rattle.dk_blocks.specs.Standing.{left_with_answer};
 ghost use Rattle.dk_blocks.specs.Steps.{DeclareGives, IsInFile};
 ghost use Rattle.dk_events.specs.Following.{AreVarsOf, AreVarsOfFirst};
 ghost use Rattle.dk_events.specs.Standing.{EventCounts, EventsStandFor, NextEvent, TakenAs, file_of, ignores_of, over_of, points_of, reader_left};
-ghost use Rattle.dk_events.specs.Telling.{EventFits, effect_told};
+ghost use Rattle.dk_events.specs.Telling.{EventFits, PointsGoOn, effect_told};
 
 use crate::event::Event;
 use bumpalo::Bump;
@@ -96,6 +96,7 @@ fn sample<'a>(
 fn event_of<'a>(declared: Declared) -> Event<'a>
     ensures event { effect_told result ≡ declared_effect declared }
     ensures fits { (ps : List Point) → EventFits ps (Some result) }
+    ensures points { (ps : List Point) (ps2 : List Point) → Extends ps ps2 → PointsGoOn ps (Some result) ps2 }
 {
     match declared {
         Declared::New(_) => Event::Declared,
@@ -133,6 +134,8 @@ impl Events {
             (λ xs. NextEvent self.old h lines.old xs (left_with_answer self.new result) lines.new (left_of lines.new (I.rest inputs.new))) }
         // A sample is of a point of the table, and has values of all its variables.
         ensures fits { IfOk result (λ event. EventFits (points_of self.new) event) }
+        // Points that a declaration adds stand behind the others, and nothing else adds any.
+        ensures points { IfOk result (λ event. PointsGoOn (points_of self.old) event (points_of self.new)) }
         ensures counts { EventCounts self.old lines.old (left_with_answer self.new result) lines.new }
         // At the file's end nothing is read.
         ensures over { over_of self.old ≡ true → (result ≡ Ok None) × (self.new ≡ self.old) × (inputs.new ≡ inputs.old) × (lines.new ≡ lines.old) }
@@ -157,6 +160,7 @@ impl Events {
         requires { FoundFits (points_of self.old) (Some found) }
         ensures gives { (h : History) → EventsStandFor self.old h → TakenAs (left_with_answer self.new result) (outcome_of h (Some found.entry)) }
         ensures fits { IfOk result (λ event. EventFits (points_of self.new) (Some event)) }
+        ensures points { IfOk result (λ event. PointsGoOn (points_of self.old) (Some event) (points_of self.new)) }
         ensures ignores { ignores_of self.new ≡ ignores_of self.old }
         ensures counts { IfOk result (λ _. (file_of self.new ≡ file_of self.old) × (over_of self.new ≡ over_of self.old)) }
         ensures file { IfErr result (IsInFile (file_of self.old)) }
@@ -184,6 +188,7 @@ impl Events {
     fn declare(&mut self, line: u64, decl: PointDecl) -> Result<Declared, Fault>
         requires { HasFittingConstants decl }
         ensures gives { (h : History) → EventsStandFor self.old h → DeclareGives (reader_left (left_with_answer self.new result)) (with_declaration h line decl) }
+        ensures points { IfOk result (λ _. Extends (points_of self.old) (points_of self.new)) }
         ensures ignores { ignores_of self.new ≡ ignores_of self.old }
         ensures counts { IfOk result (λ _. (file_of self.new ≡ file_of self.old) × (over_of self.new ≡ over_of self.old)) }
         ensures file { IfErr result (IsInFile (file_of self.old)) }
@@ -206,6 +211,7 @@ impl Events {
     fn with_declaration(self, line: u64, decl: PointDecl) -> Result<(Events, Declared), Fault>
         requires { HasFittingConstants decl }
         ensures gives { (h : History) → EventsStandFor self h → DeclareGives (reader_left result) (with_declaration h line decl) }
+        ensures points { IfOk result (λ a. Extends (points_of self) (points_of a.0)) }
         ensures counts { IfOk result (λ a. (ignores_of a.0 ≡ ignores_of self) × (file_of a.0 ≡ file_of self) × (over_of a.0 ≡ over_of self)) }
         ensures file { IfErr result (IsInFile (file_of self)) }
         ensures unread { (file : ℕ) → IsErrOf result (Fault.Read file) → ⊥ }
