@@ -36,7 +36,7 @@ EventFits ps (Some event.Declared) = ⊤
 EventFits ps (Some (event.Sample point line values)) =
     (point.0 < length ps) × FitKinds (var_kinds (all_vars_of ps point.0)) (values_of values.now)
 
--- Points that a declaration adds stand behind the others, and nothing else adds any.
+-- No block takes points from the table: those that it adds stand behind the others. A sample, and the end of a file, leave it as it is.
 abbrev pub PointsGoOn : List Point → Option Event → List Point → Type 0
 PointsGoOn ps (Some event.Nothing) ps' = Extends ps ps'
 PointsGoOn ps (Some event.Declared) ps' = Extends ps ps'

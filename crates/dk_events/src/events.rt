@@ -134,7 +134,7 @@ impl Events {
             (λ xs. NextEvent self.old h lines.old xs (left_with_answer self.new result) lines.new (left_of lines.new (I.rest inputs.new))) }
         // A sample is of a point of the table, and has values of all its variables.
         ensures fits { IfOk result (λ event. EventFits (points_of self.new) event) }
-        // Points that a declaration adds stand behind the others, and nothing else adds any.
+        // No block takes points from the table, and a sample leaves it as it is.
         ensures points { IfOk result (λ event. PointsGoOn (points_of self.old) event (points_of self.new)) }
         ensures counts { EventCounts self.old lines.old (left_with_answer self.new result) lines.new }
         // At the file's end nothing is read.
