@@ -30,7 +30,7 @@ pub(crate) struct Splitting {
     pub(crate) splits: Vec<Split>,
 }
 
-// Has splits without samples of the points that have none yet.
+// Adds splits without samples, for the points that have none yet.
 fn keep_up(alloc: Global, splits: &mut Vec<Split>, points: &Points) -> Result<(), NoMemory>
     requires { length splits.old.items ≤ length points.now }
     ensures { OnOk result (AreGrown points.now splits.old.items splits.new.items) }
@@ -42,7 +42,7 @@ fn keep_up(alloc: Global, splits: &mut Vec<Split>, points: &Points) -> Result<()
 }
 
 impl Splitting {
-    /// Of no blocks. Exits without an entry are left out, or refused.
+    /// What is kept of no blocks. Exits without an entry are left out, or refused.
     pub(crate) fn new(alloc: Global, ignore_missing_entry: bool) -> Result<Splitting, NoMemory>
         ensures sound { IfOk result (λ s. AreSplitsOf (points_of s.events) s.splits.items) }
         ensures stands { IfOk result (λ s. StandsFor s no_history) }
