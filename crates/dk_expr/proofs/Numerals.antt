@@ -1,0 +1,68 @@
+-- Numbers in the front of a text.
+use Rattle.std.specs.Prelude.{◌≡◌, ◌<◌, ◌^◌, ◌∷◌, ◌++◌, ◌==◌, [], ℕ, ℤ, pos, negsuc, neg_ℤ, zero, suc, true, false, not, List, Ok, Result, length, take, unsigned_abs, refl}
+use Rattle.std.specs.Fmt.{decimal, signed_decimal}
+use Rattle.std.specs.List.{list_all, position_or_len}
+use Rattle.std.specs.Str.{IsAscii, IsUtf8}
+use Rattle.std.specs.Str.Parse.{AllDigits, ParsesSigned}
+use Rattle.std.proofs.Common.{◌∙◌, ap, arith, subst}
+use Rattle.std.proofs.lemmas.Bool.{and_parts, ne_eqb}
+use Rattle.std.proofs.lemmas.Fmt.{IsAscii-decimal_wide, decimal_is_IsNumeral_wide}
+use Rattle.std.proofs.lemmas.List.{take_at}
+use Rattle.std.proofs.lemmas.Result.{Ok-from_Ok_iff}
+use Rattle.std.proofs.lemmas.Str.{IsUtf8-from_ascii}
+use Rattle.std.proofs.lemmas.Str.Parse.{digit_from_value, numerals_by_value, parse_signed_digits, parse_signed_minus, tells_digits}
+use mir.Syntax.{w128}
+use Rattle.dk_expr.specs.Readable.{begins_behind_number, ends_number}
+
+ascii : (z : ℤ) → unsigned_abs z < 2 ^ 127 → IsAscii (signed_decimal z)
+ascii (pos n) small i = IsAscii-decimal_wide n (omega arith) i
+ascii (negsuc n) small zero = omega arith
+ascii (negsuc n) small (suc i) = IsAscii-decimal_wide (suc n) (omega arith) i
+
+-- the text of a number is one
+pub number_is_text : (z : ℤ) → unsigned_abs z < 2 ^ 127 → IsUtf8 (signed_decimal z)
+number_is_text z small = IsUtf8-from_ascii (signed_decimal z) (ascii z small)
+
+-- and is read as the number
+pub number_back : {E : Type 0} (z : ℤ) (text : List ℕ) (r : Result ℤ E) → unsigned_abs z < 2 ^ 127 → text ≡ signed_decimal z → ParsesSigned w128 10 text r → r ≡ Ok z
+number_back (pos n) text r small is h =
+    let k = decimal_is_IsNumeral_wide n (omega arith) in
+    let read = parse_signed_digits (numerals_by_value _ tells_digits) w128 (decimal n) r (subst (λ l. ParsesSigned w128 10 l r) is h) k.0.1 in
+    Ok-from_Ok_iff r _ _ read (k.0.0, omega (arith, k.1)) ∙ ap (λ m. Ok (pos m)) k.1
+number_back (negsuc n) text r small is h =
+    let k = decimal_is_IsNumeral_wide (suc n) (omega arith) in
+    let read = parse_signed_minus (numerals_by_value _ tells_digits) w128 (45 ∷ decimal (suc n)) r (subst (λ l. ParsesSigned w128 10 l r) is h) refl in
+    Ok-from_Ok_iff r _ _ read (k.0.1, k.0.0, omega (arith, k.1)) ∙ ap (λ m. Ok (neg_ℤ (pos m))) k.1
+
+-- ---- where it ends
+abbrev pub HasNone : List ℕ → Type 0
+HasNone bytes = list_all (λ b. not (ends_number b)) bytes ≡ true
+
+-- no digit ends a number
+digits_plain : (ds : List ℕ) → AllDigits 10 ds → HasNone ds
+digits_plain [] all = refl
+digits_plain (d ∷ ds) all =
+    let range = digit_from_value d all.0 in
+    let blank : (d == 32) ≡ false = ne_eqb d 32 (λ e. absurd (omega (arith, range))) in
+    let comma : (d == 44) ≡ false = ne_eqb d 44 (λ e. absurd (omega (arith, range))) in
+    let closing : (d == 41) ≡ false = ne_eqb d 41 (λ e. absurd (omega (arith, range))) in
+    rw (blank, comma, closing) (digits_plain ds all.1)
+
+pub number_plain : (z : ℤ) → unsigned_abs z < 2 ^ 127 → HasNone (signed_decimal z)
+number_plain (pos n) small = digits_plain (decimal n) (decimal_is_IsNumeral_wide n (omega arith)).0.1
+number_plain (negsuc n) small = digits_plain (decimal (suc n)) (decimal_is_IsNumeral_wide (suc n) (omega arith)).0.1
+
+-- the first byte that ends a number stands behind those that don't
+pub first_behind : (number more : List ℕ) → HasNone number → begins_behind_number more ≡ true → position_or_len ends_number (number ++ more) ≡ length number
+first_behind [] [] none first = refl
+first_behind [] (b ∷ more) none first = rw first refl
+first_behind (b ∷ number) more none first =
+    let both = and_parts (not (ends_number b)) (list_all (λ c. not (ends_number c)) number) none in
+    rw both.0 (omega (arith, first_behind number more both.1 first))
+
+-- so the number is what is in front of it
+pub number_taken : (bytes found : List ℕ) (z : ℤ) (more : List ℕ) (len : ℕ) → unsigned_abs z < 2 ^ 127 → bytes ≡ signed_decimal z ++ more → begins_behind_number more ≡ true
+    → len ≡ position_or_len ends_number bytes → found ≡ take len bytes → (found ≡ signed_decimal z) × (len ≡ length (signed_decimal z))
+number_taken bytes found z more len small is first long front =
+    let own : len ≡ length (signed_decimal z) = long ∙ ap (position_or_len ends_number) is ∙ first_behind (signed_decimal z) more (number_plain z small) first in
+    (front ∙ (λ i. take (own i) (is i)) ∙ take_at (signed_decimal z) more (length (signed_decimal z)) refl, own)

@@ -1,0 +1,314 @@
+// The ways in which a part can be read in the front of what is left of a text.
+ghost use Rattle.std.specs.Prelude.{◌≡◌, ◌++◌, ◌+◌, ◌<◌, ◌≤◌, ◌^◌, ℕ, Contains, List, OnOk, Some, drop, if◌then◌else◌, length, map, pos, take};
+ghost use Rattle.dk_graph.specs.Notes.{noted_under};
+ghost use Rattle.dk_expr.specs.Following.{past, with_var};
+ghost use Rattle.dk_expr.specs.Readable.{begins_blank, may_be};
+ghost use Rattle.dk_expr.specs.Searches.{FindsConstant, FindsName, FindsNumber, FindsPart, FindsProduct, FindsStep, FindsTerm, FindsTimes, KeepsAll};
+ghost use Rattle.dk_print.specs.Shown.{part_shown};
+ghost use Rattle.dk_expr.specs.declared.found.Found.{Found};
+
+use crate::found::Found;
+use crate::names::Names;
+use crate::numbers::{number_at, sign_at, step_at, with_sign};
+use dk_base::{List, NoMemory, VarId};
+use dk_print::Part;
+
+// Whether the bytes are none, or begin with a blank.
+fn begins_blank(bytes: &[u8]) -> bool
+    ensures { result ≡ begins_blank bytes.now }
+{
+    match bytes {
+        [] => true,
+        [byte, ..] => *byte == b' ',
+    }
+}
+
+// Whether the bytes may be what the parts say.
+fn may_be(parts: &[Part], bytes: &[u8]) -> bool
+    ensures { result ≡ may_be (map part_shown parts.now) bytes.now }
+{
+    match parts {
+        [] => bytes.is_empty(),
+        [part, ..] => match *part {
+            Part::Word(word) => bytes.starts_with(word),
+            _ => begins_blank(bytes),
+        },
+    }
+}
+
+// The variables, each at the role, behind what is found.
+fn push_vars(
+    vars: &[VarId],
+    role: usize,
+    found: Found,
+    list: &mut List<Found>,
+) -> Result<(), NoMemory>
+    ensures { OnOk result (list.new ≡ list.old ++ map (λ v. with_var role v found) vars.now) }
+{
+    for v in vars {
+        list.push(found.with_var(role, *v))?;
+    }
+    Ok(())
+}
+
+// The name of a variable, which is at the role, in so many bytes, with the following parts behind it.
+fn push_named_len(
+    names: &Names,
+    rest: &[u8],
+    len: usize,
+    role: usize,
+    following: &[Part],
+    found: Found,
+    list: &mut List<Found>,
+) -> Result<(), NoMemory>
+    requires within { len ≤ length rest.now }
+    requires fits { found.at + len < 2 ^ 64 }
+    ensures { OnOk result (list.new ≡ (if may_be (map part_shown following.now) (drop len rest.now) then list.old ++ map (λ v. with_var role v (past len found)) (noted_under names.now (take len rest.now)) else list.old)) }
+{
+    let (name, behind) = rest.split_at(len);
+    if may_be(following, behind) {
+        push_vars(names.under(name), role, found.past(len), list)
+    } else {
+        Ok(())
+    }
+}
+
+// The name of a variable, which is at the role, with the following parts behind it.
+fn push_named(
+    names: &Names,
+    text: &[u8],
+    role: usize,
+    following: &[Part],
+    found: Found,
+    list: &mut List<Found>,
+) -> Result<(), NoMemory>
+    ensures keeps { OnOk result (KeepsAll list.old list.new) }
+    ensures finds { OnOk result (FindsName names.now text.now role (map part_shown following.now) found list.new) }
+{
+    let rest = found.rest(text);
+    for len in 0..rest.len() + 1 {
+        push_named_len(names, rest, len, role, following, found, list)?;
+    }
+    Ok(())
+}
+
+// A name with a factor of this sign in front of it.
+fn push_product(
+    names: &Names,
+    text: &[u8],
+    role: usize,
+    is_negative: bool,
+    following: &[Part],
+    found: Found,
+    list: &mut List<Found>,
+) -> Result<(), NoMemory>
+    ensures keeps { OnOk result (KeepsAll list.old list.new) }
+    ensures finds { OnOk result (FindsProduct names.now text.now role (map part_shown following.now) found list.new is_negative) }
+{
+    let rest = found.rest(text);
+    let Some(number) = number_at(rest) else {
+        return Ok(());
+    };
+    if !rest[number.len..].starts_with(b" * ") {
+        return Ok(());
+    }
+    let factor = with_sign(is_negative, number.value);
+    let behind = found.past(number.len + 3).with_factor(role, factor);
+    push_named(names, text, role, following, behind, list)
+}
+
+// A name, times a factor of this sign, which is left out where it is 1.
+fn push_times(
+    names: &Names,
+    text: &[u8],
+    role: usize,
+    is_negative: bool,
+    following: &[Part],
+    found: Found,
+    list: &mut List<Found>,
+) -> Result<(), NoMemory>
+    ensures keeps { OnOk result (KeepsAll list.old list.new) }
+    ensures finds { OnOk result (FindsTimes names.now text.now role (map part_shown following.now) found list.new is_negative) }
+{
+    let one = found.with_factor(role, with_sign(is_negative, 1));
+    push_named(names, text, role, following, one, list)?;
+    push_product(names, text, role, is_negative, following, found, list)
+}
+
+// A further term: a sign, and a name with its factor.
+fn push_term(
+    names: &Names,
+    text: &[u8],
+    role: usize,
+    following: &[Part],
+    found: Found,
+    list: &mut List<Found>,
+) -> Result<(), NoMemory>
+    ensures keeps { OnOk result (KeepsAll list.old list.new) }
+    ensures finds { OnOk result (FindsTerm names.now text.now role (map part_shown following.now) found list.new) }
+{
+    match sign_at(found.rest(text)) {
+        Some(is_negative) => {
+            push_times(
+                names,
+                text,
+                role,
+                is_negative,
+                following,
+                found.past(3),
+                list,
+            )
+        }
+        None => Ok(()),
+    }
+}
+
+// What is found, if something is.
+fn push_some(found: Option<Found>, list: &mut List<Found>) -> Result<(), NoMemory>
+    ensures keeps { OnOk result (KeepsAll list.old list.new) }
+    ensures finds { OnOk result ((x : Found) → found ≡ Some x → Contains list.new x) }
+{
+    match found {
+        Some(found) => list.push(found),
+        None => Ok(()),
+    }
+}
+
+// The word behind what is found.
+fn with_word(text: &[u8], word: &[u8], found: Found) -> Option<Found>
+    ensures { (more : List ℕ) → drop found.at text.now ≡ word.now ++ more → result ≡ Some (past (length word.now) found) }
+{
+    if found.rest(text).starts_with(word) {
+        Some(found.past(word.len()))
+    } else {
+        None
+    }
+}
+
+// A bound.
+fn with_bound(text: &[u8], found: Found) -> Option<Found>
+    ensures { FindsNumber text.now found (λ k. record found { bound = k }) result }
+{
+    let number = number_at(found.rest(text))?;
+    let told = Found {
+        bound: number.value,
+        ..found
+    };
+    Some(told.past(number.len))
+}
+
+// A remainder.
+fn with_remainder(text: &[u8], found: Found) -> Option<Found>
+    ensures { FindsNumber text.now found (λ k. record found { remainder = k }) result }
+{
+    let number = number_at(found.rest(text))?;
+    let told = Found {
+        remainder: number.value,
+        ..found
+    };
+    Some(told.past(number.len))
+}
+
+// A modulus.
+fn with_modulus(text: &[u8], found: Found) -> Option<Found>
+    ensures { FindsNumber text.now found (λ k. record found { modulus = k }) result }
+{
+    let number = number_at(found.rest(text))?;
+    let told = Found {
+        modulus: number.value,
+        ..found
+    };
+    Some(told.past(number.len))
+}
+
+// An offset with its sign.
+fn with_step(text: &[u8], found: Found) -> Option<Found>
+    ensures { FindsStep text.now found (λ k. record found { offset = k }) result }
+{
+    let number = step_at(found.rest(text))?;
+    let told = Found {
+        offset: number.value,
+        ..found
+    };
+    Some(told.past(number.len))
+}
+
+// A constant with its sign.
+fn with_constant(text: &[u8], found: Found) -> Option<Found>
+    ensures { FindsStep text.now found (λ k. record found { constant = k }) result }
+{
+    let number = step_at(found.rest(text))?;
+    let told = Found {
+        constant: number.value,
+        ..found
+    };
+    Some(told.past(number.len))
+}
+
+// A constant of 0, which is left out.
+fn without_constant(found: Found) -> Found
+    ensures { result ≡ record found { constant = pos 0 } }
+{
+    Found {
+        constant: 0,
+        ..found
+    }
+}
+
+// A constant with its sign, or 0 where there is none.
+fn push_constant(text: &[u8], found: Found, list: &mut List<Found>) -> Result<(), NoMemory>
+    ensures keeps { OnOk result (KeepsAll list.old list.new) }
+    ensures finds { OnOk result (FindsConstant text.now found (λ k. record found { constant = k }) list.new) }
+{
+    push_some(Some(without_constant(found)), list)?;
+    push_some(with_constant(text, found), list)
+}
+
+// The values, which are all that is left.
+fn with_values(text: &[u8], found: Found) -> Found
+    ensures { result ≡ past (length (drop found.at text.now)) (record found { values = found.at }) }
+{
+    let told = Found {
+        values: found.at,
+        ..found
+    };
+    told.past(found.rest(text).len())
+}
+
+// What is said of a hash code, which is all that is left.
+fn with_code(text: &[u8], found: Found) -> Found
+    ensures { result ≡ past (length (drop found.at text.now)) (record found { code = found.at }) }
+{
+    let told = Found {
+        code: found.at,
+        ..found
+    };
+    told.past(found.rest(text).len())
+}
+
+// The ways in which the part can be read behind what is found, with the following parts behind it.
+pub(crate) fn push_part(
+    names: &Names,
+    text: &[u8],
+    part: Part,
+    following: &[Part],
+    found: Found,
+    list: &mut List<Found>,
+) -> Result<(), NoMemory>
+    ensures keeps { OnOk result (KeepsAll list.old list.new) }
+    ensures finds { OnOk result (FindsPart names.now text.now (part_shown part) (map part_shown following.now) found list.new) }
+{
+    match part {
+        Part::Word(word) => push_some(with_word(text, word, found), list),
+        Part::Named(role) => push_named(names, text, role, following, found, list),
+        Part::Bound => push_some(with_bound(text, found), list),
+        Part::Values => push_some(Some(with_values(text, found)), list),
+        Part::NullOr(_) => push_some(Some(with_code(text, found)), list),
+        Part::Remainder => push_some(with_remainder(text, found), list),
+        Part::Modulus => push_some(with_modulus(text, found), list),
+        Part::Lead(role) => push_times(names, text, role, false, following, found, list),
+        Part::Term(role) => push_term(names, text, role, following, found, list),
+        Part::Constant => push_constant(text, found, list),
+        Part::Step => push_some(with_step(text, found), list),
+    }
+}
