@@ -1,0 +1,4 @@
+mod Examples
+pub mod Counting
+pub mod Claiming
+pub mod Lining

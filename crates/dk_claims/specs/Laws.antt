@@ -1,0 +1,30 @@
+-- What the definitions come to, in the words of the format.
+use Rattle.std.specs.Prelude.{◌≡◌, ◌++◌, ℕ, true, false, List, ◌∷◌, Ok}
+use Rattle.dk_lines.specs.Left.{lined, lines_of}
+use Rattle.dk_claims.specs.Claims.{claims_below, claims_of, is_blank_line, is_ruler, written_lines}
+use Rattle.dk_claims.specs.Counts.{count_of, is_number, without_count}
+use Rattle.dk_claims.specs.Reading.{claims_left}
+use Rattle.dk_claims.specs.declared.claims.Claim.{Claim}
+
+-- A last count is taken off, and it alone: of two counts the first stays.
+abbrev pub LastCountIsTakenOff : Type 0
+LastCountIsTakenOff = (text number : List ℕ) → is_number number ≡ true → without_count (text ++ count_of number) ≡ text
+
+-- a text without a count at its end stays as it is
+abbrev pub OtherTextsStay : Type 0
+OtherTextsStay =
+    (text : List ℕ) → ((front number : List ℕ) → is_number number ≡ true → text ≡ front ++ count_of number → ⊥) → without_count text ≡ text
+
+-- The line behind one of `=`, if it isn't one, is a heading, whatever it says: the claims below it are about the point of its name,
+-- whatever stands above, and what stands above claims what it would alone.
+abbrev pub HeadingsPart : Type 0
+HeadingsPart =
+    (above below : List (List ℕ)) (ruler heading : List ℕ) → is_blank_line ruler ≡ false → is_ruler ruler ≡ true
+    → is_blank_line heading ≡ false → is_ruler heading ≡ false
+    → claims_of (above ++ ruler ∷ heading ∷ below) ≡ claims_of above ++ claims_below false (without_count heading) (written_lines below)
+
+-- an ended file that holds no fault has the claims of its lines
+abbrev pub WholeFileHasItsClaims : Type 0
+WholeFileHasItsClaims =
+    (limit room n : ℕ) (bytes : List ℕ) (claims : List Claim) → claims_left (lined limit room n true bytes) ≡ Ok claims
+    → claims ≡ claims_of (lines_of bytes)

@@ -1,0 +1,22 @@
+//! What the definitions come to, in the words of the format.
+ghost use Rattle.dk_claims.specs.Laws.{HeadingsPart, LastCountIsTakenOff, OtherTextsStay, WholeFileHasItsClaims};
+
+/// A last count is taken off a text, and it alone.
+pub fn last_count_is_taken_off()
+    ensures { LastCountIsTakenOff }
+{}
+
+/// A text without a count at its end stays as it is.
+pub fn other_texts_stay()
+    ensures { OtherTextsStay }
+{}
+
+/// The line behind one of `=` is a heading, whatever it says, and parts what stands above from what stands below.
+pub fn headings_part()
+    ensures { HeadingsPart }
+{}
+
+/// An ended file that holds no fault has the claims of its lines.
+pub fn whole_file()
+    ensures { WholeFileHasItsClaims }
+{}

@@ -1,0 +1,60 @@
+// Reading an assertion file.
+ghost use Rattle.std.specs.Prelude.{◌≡◌, ◌≤◌, [], IfSome, IsErrOf, true};
+ghost use Rattle.dk_io.specs.Outside.{Rose};
+ghost use Rattle.dk_lines.specs.Reading.{left_of};
+ghost use Rattle.dk_claims.specs.Reading.{ClaimsGive};
+ghost use Rattle.dk_claims.specs.Steps.{TakesLine};
+
+use crate::{Claim, Claims};
+use dk_base::{List, NoMemory};
+use dk_io::Inputs;
+use dk_lines::{LineFault, Lines};
+use std::alloc::Global;
+
+// Takes the next line; false where the file ends.
+fn take_line<I: Inputs>(
+    claims: &mut Claims,
+    inputs: &mut I,
+    lines: &mut Lines,
+) -> Result<bool, LineFault>
+    requires { lines.old.is_started ≡ true }
+    ensures takes { TakesLine claims.old lines.old (left_of lines.old (I.rest inputs.old)) result claims.new lines.new (left_of lines.new (I.rest inputs.new)) }
+    ensures files { I.file inputs.new ≡ I.file inputs.old }
+    ensures later { I.faults inputs.old ≤ I.faults inputs.new }
+    ensures cause { IsErrOf result LineFault.Read → Rose (I.faults inputs.old) (I.faults inputs.new) }
+{
+    match lines.next(inputs) {
+        Ok(Some(line)) => match claims.line(line.bytes) {
+            Ok(()) => Ok(true),
+            Err(NoMemory) => Err(LineFault::NoMemory),
+        },
+        Ok(None) => Ok(false),
+        Err(fault) => Err(fault),
+    }
+}
+
+/// Reads what is left of the started file to its end: its claims. Such a file holds no fault but a line that is too long, or bytes that are
+/// too many; then, as after any other fault, no file is started.
+pub fn read_claims<I: Inputs>(
+    alloc: Global,
+    inputs: &mut I,
+    lines: &mut Lines,
+) -> Result<List<Claim>, LineFault>
+    requires { lines.old.is_started ≡ true }
+    ensures gives { IfSome (left_of lines.old (I.rest inputs.old))
+        (λ xs. ClaimsGive lines.old xs result lines.new (left_of lines.new (I.rest inputs.new))) }
+    ensures limits { lines.new.limits ≡ lines.old.limits }
+    ensures emptied { IsErrOf result LineFault.Read → lines.new.ahead ≡ [] }
+    ensures files { I.file inputs.new ≡ I.file inputs.old }
+    ensures later { I.faults inputs.old ≤ I.faults inputs.new }
+    ensures cause { IsErrOf result LineFault.Read → Rose (I.faults inputs.old) (I.faults inputs.new) }
+{
+    let mut claims = Claims::new(alloc);
+    'reading: loop {
+        match take_line(&mut claims, inputs, lines) {
+            Ok(true) => continue 'reading,
+            Ok(false) => return Ok(claims.into_list()),
+            Err(fault) => return Err(fault),
+        }
+    }
+}
