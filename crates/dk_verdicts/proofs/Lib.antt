@@ -1,0 +1,15 @@
+pub mod States
+pub mod Taken
+pub mod Reached
+pub mod Asserted
+pub mod Found
+pub mod Checked
+pub mod Making
+pub mod Growth
+pub mod Recorded
+pub mod Engines
+pub mod Rereading
+pub mod Lines
+pub mod Tested
+pub mod Judged
+pub mod Starting

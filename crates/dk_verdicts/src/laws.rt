@@ -1,0 +1,15 @@
+//! What records and verdicts come to.
+ghost use Rattle.dk_verdicts.specs.Laws.{LaterPointsAreNotReached, RecordsAreOfTheirPoints, RecordsReachOverEdges, ViolatedStays};
+
+/// In a table without a cycle a record reaches a point with what the point has of it itself, and then, over each edge into the point, with
+/// the samples that reach the edge's child, mapped. Its own point has its sample, and a point that is declared behind it has none.
+pub fn records_reach_over_edges()
+    ensures edges { RecordsReachOverEdges }
+    ensures own { RecordsAreOfTheirPoints }
+    ensures later { LaterPointsAreNotReached }
+{}
+
+/// A claim that is violated stays so with more records.
+pub fn violated_stays()
+    ensures { ViolatedStays }
+{}
