@@ -1,0 +1,67 @@
+use Rattle.std.proofs.Common.{rules, subst, sym, ◌≡◌, Bool, List, true, false, IfSome, Result, Ok, Err, refl, ap}
+use Rattle.dk_base.specs.declared.faults.Fault.{Fault}
+use Rattle.dk_blocks.specs.History.{History}
+use Rattle.dk_blocks.specs.Standing.{left_with_answer}
+use Rattle.dk_events.specs.Standing.{ignores_of, over_of}
+use Rattle.dk_lines.specs.Reading.{left_of}
+use Rattle.dk_run.proofs.Placing.{rose_since}
+use Rattle.dk_verdicts.specs.Records.{Record}
+use Rattle.dk_check.proofs.Filing.{faulted_read, faulted_started, file_end, file_fault, file_on, not_begun, same_trouble}
+use Rattle.dk_check.specs.Standing.{StandsFor}
+use Rattle.dk_check.specs.Steps.{NextBlock}
+use Rattle.dk_check.specs.WholeFile.{TroubleGives}
+use Rattle.dk_check.specs.declared.trouble.Trouble.{Trouble}
+use Rattle.dk_check.specs.declared.trouble.Trouble.TheVariants as t
+use Rattle.dk_check.proofs.reading.read_started.Goals as goal
+
+pub steps-init : goal.steps-init
+steps-init g c = record {
+  sound = c.requires.sound;
+  started = search rules;
+  limits = search rules;
+  ignores = search rules;
+  claims = search rules;
+  files = search rules;
+  later = search rules;
+  goes = λ h records stands. not_begun (ignores_of c.args.checking.events) c.args.place h records c.args.lines.now _ (StandsFor c.args.checking) _ c.requires.begins stands;
+}
+
+pub steps-preserved : goal.steps-preserved
+steps-preserved g c =
+    let is : c.next.result ≡ Ok true = search rules in
+    let answers = λ (h : History) (records : List Record) (stands : StandsFor c.steps.checking h records).
+    subst (λ (a : Result Bool Fault). IfSome (left_of c.steps.lines (g.I.Inputs.rest c.steps.inputs)) (λ ys. NextBlock c.steps.checking c.args.place h records c.steps.lines ys (left_with_answer c.next.new.self a) c.next.new.lines (left_of c.next.new.lines (g.I.Inputs.rest c.next.new.inputs)))) is (c.next.ensures.gives h records stands) in
+    record {
+      sound = search rules;
+      started = search rules;
+      limits = search rules;
+      ignores = search rules;
+      claims = search rules;
+      files = search rules;
+      later = search rules;
+      goes = λ h records stands. file_on (ignores_of c.args.checking.events) c.args.place h records c.args.lines.now c.steps.lines c.next.new.lines _ _ _ c.steps.checking c.next.new.self c.steps.invariant.ignores (c.steps.invariant.goes h records stands) answers;
+    }
+
+pub returns-in-Ok-false-clause-gives : goal.returns-in-Ok-false-clause-gives
+returns-in-Ok-false-clause-gives g c h records stands =
+    let is : c.next.result ≡ Ok false = search rules in
+    let answers = λ (h : History) (records : List Record) (stands : StandsFor c.steps.checking h records).
+    subst (λ (a : Result Bool Fault). IfSome (left_of c.steps.lines (g.I.Inputs.rest c.steps.inputs)) (λ ys. NextBlock c.steps.checking c.args.place h records c.steps.lines ys (left_with_answer c.next.new.self a) c.next.new.lines (left_of c.next.new.lines (g.I.Inputs.rest c.next.new.inputs)))) is (c.next.ensures.gives h records stands) in
+    let over : over_of c.next.new.self.events ≡ true = search rules in
+    file_end (ignores_of c.args.checking.events) c.args.place h records c.args.lines.now c.steps.lines c.next.new.lines _ _ _ c.steps.checking c.next.new.self c.end_file.result c.steps.invariant.ignores
+    (c.steps.invariant.goes h records stands) answers over c.end_file.ensures.stands
+
+pub returns-in-Err-clause-gives : goal.returns-in-Err-clause-gives
+returns-in-Err-clause-gives g c h records stands =
+    subst (λ (t : Trouble). IfSome (left_of c.args.lines.now (g.I.Inputs.rest c.args.inputs.now)) (λ xs. TroubleGives (ignores_of c.args.checking.events) c.args.place h c.args.lines.now xs t (left_of c.next.new.lines (g.I.Inputs.rest c.next.new.inputs)))) (sym c.trouble_of_fault.ensures)
+    (file_fault (ignores_of c.args.checking.events) c.args.place h records c.args.lines.now c.steps.lines c.next.new.lines _ _ _ c.steps.checking c.in-Err.fault c.steps.invariant.ignores (c.steps.invariant.goes h records stands) c.in-Err.ensures.gives)
+
+pub returns-in-Err-clause-started : goal.returns-in-Err-clause-started
+returns-in-Err-clause-started g c = λ e. faulted_started c.in-Err.fault c.trouble_of_fault.result c.trouble_of_fault.ensures (same_trouble c.trouble_of_fault.result t.Start _ refl e)
+
+pub returns-in-Err-clause-emptied : goal.returns-in-Err-clause-emptied
+returns-in-Err-clause-emptied g c = λ e. let (file, is) = faulted_read c.in-Err.fault c.trouble_of_fault.result c.trouble_of_fault.ensures (same_trouble c.trouble_of_fault.result t.Read _ refl e) in c.in-Err.ensures.emptied file (ap (λ (f : Fault). Err f) is)
+
+pub returns-in-Err-clause-cause : goal.returns-in-Err-clause-cause
+returns-in-Err-clause-cause g c = λ e. let (file, is) = faulted_read c.in-Err.fault c.trouble_of_fault.result c.trouble_of_fault.ensures (same_trouble c.trouble_of_fault.result t.Read _ refl e) in
+    rose_since (g.I.Inputs.faults c.args.inputs.now) (g.I.Inputs.faults c.steps.inputs) (g.I.Inputs.faults c.next.new.inputs) c.steps.invariant.later (c.in-Err.ensures.cause file (ap (λ (f : Fault). Err f) is))
