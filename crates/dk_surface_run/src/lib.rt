@@ -20,3 +20,5 @@ mod stack_ar;
 mod states;
 #[cfg(test)]
 mod worked;
+#[cfg(test)]
+mod words;

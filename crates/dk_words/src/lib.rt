@@ -17,6 +17,3 @@ pub use reading::read_words;
 pub use request::Request;
 pub use texts::{help_text, usage_line, version_text};
 pub use word::Word;
-
-#[cfg(test)]
-mod tests;

@@ -1,5 +1,5 @@
 // Words that are read, and what the help text tells of them.
-use super::{Command, Request, WordsFault, help_text, read_words, usage_line, version_text};
+use dk_words::{Command, Request, WordsFault, help_text, read_words, usage_line, version_text};
 use std::alloc::{AllocError, Global};
 use std::test::Fail;
 
