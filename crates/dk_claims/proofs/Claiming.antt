@@ -1,10 +1,10 @@
 -- Claims of lines, one after another.
-use Rattle.std.proofs.Common.{◌≡◌, ◌∙◌, ◌&&◌, ◌||◌, ◌++◌, not, sym, ap, refl, ℕ, Bool, true, false, cond, List, [], ◌∷◌, append_assoc}
+use Rattle.std.proofs.Common.{◌≡◌, ◌∙◌, ◌&&◌, ◌||◌, ◌++◌, not, sym, ap, refl, ℕ, Bool, true, false, cond, List, [], ◌∷◌, filter, map, append_assoc}
 use Rattle.std.proofs.lemmas.List.{append-nil}
-use Rattle.std.proofs.lemmas.List.Elements.{filter-append}
+use Rattle.std.proofs.lemmas.List.Elements.{All-head, All-tail, filter-append}
 use Rattle.dk_claims.specs.Claims.{claim_in, claims_below, claims_of, is_blank_line, is_remark, is_ruler, name_below, written_lines}
 use Rattle.dk_claims.specs.Counts.{without_count}
-use Rattle.dk_claims.specs.Laws.{HeadingsPart}
+use Rattle.dk_claims.specs.Laws.{HeadingsPart, LinesBelowAHeadingClaim}
 use Rattle.dk_claims.specs.Standing.{StandsFor}
 use Rattle.dk_claims.specs.Steps.{IsBehind}
 use Rattle.dk_claims.specs.declared.claims.Claim.{Claim}
@@ -93,6 +93,29 @@ headings_part_below behind name ruler heading [] below is_one is_none = at_headi
 headings_part_below behind name ruler heading (line ∷ above) below is_one is_none =
     ap (λ (l : List Claim). claim_in behind name line ++ l) (headings_part_below (is_ruler line) (name_below behind name line) ruler heading above below is_one is_none)
     ∙ sym (append_assoc (claim_in behind name line) (claims_below (is_ruler line) (name_below behind name line) above) (claims_below false (without_count heading) below))
+
+pub lines_below_a_heading_claim : LinesBelowAHeadingClaim
+unfolding claims_below
+lines_below_a_heading_claim name [] none = refl
+lines_below_a_heading_claim name (line ∷ lines) are =
+    ap (λ (b : Bool). cond (b || is_remark line) [] (own ∷ []) ++ claims_below b name lines) (All-head none line lines are)
+    ∙ ap (λ (l : List Claim). cond (is_remark line) [] (own ∷ []) ++ l) (lines_below_a_heading_claim name lines (All-tail none line lines are))
+    ∙ one (is_remark line) where
+      none : List ℕ → Type 0
+      none l = is_ruler l ≡ false
+
+      own : Claim
+      own = record { point = name; text = without_count line }
+
+      others : List (List ℕ)
+      others = filter (λ (l : List ℕ). not (is_remark l)) lines
+
+      claim : List ℕ → Claim
+      claim l = record { point = name; text = without_count l }
+
+      one : (b : Bool) → cond b [] (own ∷ []) ++ map claim others ≡ map claim (cond (not b) (line ∷ others) others)
+      one true = refl
+      one false = refl
 
 pub headings_part : HeadingsPart
 unfolding claims_of

@@ -262,3 +262,31 @@ grew mid new left left' claims claims' t = go t.answer t.is_next.counts t.takes 
   go (Ok (Some line)) counts takes = record { started = counts.2; limits = t.is_next.limits_stay; more = counts.4; within = counts.5 }
   go (Ok None) counts takes = absurd takes
   go (Err e) counts takes = absurd takes
+
+-- ---- behind the last answer
+pub no_more : (mid new : Reading) (left left' : Option (List ℕ)) (claims claims' : Claims) → TakesLine claims mid left (Ok false) claims' new left'
+    → new.is_started ≡ false
+no_more mid new left left' claims claims' t = go t.answer t.is_next.counts t.takes where
+  go : (answer : Result (Option Line) LineFault) → NextCounts mid answer new → Takes claims answer (Ok false) claims' → new.is_started ≡ false
+  go (Ok (Some line)) counts takes = absurd takes
+  go (Ok None) counts takes = counts.0
+  go (Err e) counts takes = absurd takes
+
+ended_by : (mid new : Reading) (e : LineFault) → NextCounts mid (Err e) new → new.is_started ≡ false
+ended_by mid new fault.Read counts = counts.0
+ended_by mid new (fault.LongLine n) counts = counts.1
+ended_by mid new (fault.TooLong n) counts = counts.1
+ended_by mid new fault.NoMemory counts = counts.0
+
+-- only of want of memory it isn't known whether a line was read
+pub no_more_behind : (mid new : Reading) (left left' : Option (List ℕ)) (claims claims' : Claims) (e : LineFault)
+    → TakesLine claims mid left (Err e) claims' new left' → ¬ (e ≡ fault.NoMemory) → new.is_started ≡ false
+no_more_behind mid new left left' claims claims' e t other = go t.answer e t.is_next.counts t.takes other where
+  go : (answer : Result (Option Line) LineFault) (e : LineFault) → NextCounts mid answer new → Takes claims answer (Err e) claims' → ¬ (e ≡ fault.NoMemory)
+      → new.is_started ≡ false
+  go (Ok (Some line)) fault.NoMemory counts takes other = absurd (other refl)
+  go (Ok (Some line)) fault.Read counts takes other = absurd takes
+  go (Ok (Some line)) (fault.LongLine n) counts takes other = absurd takes
+  go (Ok (Some line)) (fault.TooLong n) counts takes other = absurd takes
+  go (Ok None) e counts takes other = absurd takes
+  go (Err f) e counts takes other = ended_by mid new f counts

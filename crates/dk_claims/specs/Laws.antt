@@ -1,7 +1,7 @@
 -- What the definitions come to, in the words of the format.
-use Rattle.std.specs.Prelude.{◌≡◌, ◌++◌, ℕ, true, false, List, ◌∷◌, Ok}
+use Rattle.std.specs.Prelude.{◌≡◌, ◌++◌, not, ℕ, All, true, false, List, ◌∷◌, filter, map, Ok}
 use Rattle.dk_lines.specs.Left.{lined, lines_of}
-use Rattle.dk_claims.specs.Claims.{claims_below, claims_of, is_blank_line, is_ruler, written_lines}
+use Rattle.dk_claims.specs.Claims.{claims_below, claims_of, is_blank_line, is_remark, is_ruler, written_lines}
 use Rattle.dk_claims.specs.Counts.{count_of, is_number, without_count}
 use Rattle.dk_claims.specs.Reading.{claims_left}
 use Rattle.dk_claims.specs.declared.claims.Claim.{Claim}
@@ -22,6 +22,14 @@ HeadingsPart =
     (above below : List (List ℕ)) (ruler heading : List ℕ) → is_blank_line ruler ≡ false → is_ruler ruler ≡ true
     → is_blank_line heading ≡ false → is_ruler heading ≡ false
     → claims_of (above ++ ruler ∷ heading ∷ below) ≡ claims_of above ++ claims_below false (without_count heading) (written_lines below)
+
+-- Below a heading of this name, up to the next line of `=`, each line that isn't a remark is a claim about the point of that name; none of
+-- these lines is blank.
+abbrev pub LinesBelowAHeadingClaim : Type 0
+LinesBelowAHeadingClaim =
+    (name : List ℕ) (lines : List (List ℕ)) → All (λ line. is_ruler line ≡ false) lines
+    → claims_below false name lines
+    ≡ map (λ line. record { point = name; text = without_count line }) (filter (λ line. not (is_remark line)) lines)
 
 -- an ended file that holds no fault has the claims of its lines
 abbrev pub WholeFileHasItsClaims : Type 0

@@ -1,5 +1,5 @@
 // Reading an assertion file.
-ghost use Rattle.std.specs.Prelude.{◌≡◌, ◌≤◌, [], IfSome, IsErrOf, true};
+ghost use Rattle.std.specs.Prelude.{◌≡◌, ◌≤◌, [], IfSome, IsErrOf, false, true};
 ghost use Rattle.dk_io.specs.Outside.{Rose};
 ghost use Rattle.dk_lines.specs.Reading.{left_of};
 ghost use Rattle.dk_claims.specs.Reading.{ClaimsGive};
@@ -34,7 +34,7 @@ fn take_line<I: Inputs>(
 }
 
 /// Reads what is left of the started file to its end: its claims. Such a file holds no fault but a line that is too long, or bytes that are
-/// too many; then, as after any other fault, no file is started.
+/// too many. Then, as at the file's end and where a read failed, no file is started; after want of memory one may be.
 pub fn read_claims<I: Inputs>(
     alloc: Global,
     inputs: &mut I,
@@ -44,6 +44,7 @@ pub fn read_claims<I: Inputs>(
     ensures gives { IfSome (left_of lines.old (I.rest inputs.old))
         (λ xs. ClaimsGive lines.old xs result lines.new (left_of lines.new (I.rest inputs.new))) }
     ensures limits { lines.new.limits ≡ lines.old.limits }
+    ensures ended { ¬ IsErrOf result LineFault.NoMemory → lines.new.is_started ≡ false }
     ensures emptied { IsErrOf result LineFault.Read → lines.new.ahead ≡ [] }
     ensures files { I.file inputs.new ≡ I.file inputs.old }
     ensures later { I.faults inputs.old ≤ I.faults inputs.new }

@@ -1,8 +1,8 @@
-use Rattle.std.proofs.Common.{◌≡◌, ◌∙◌, arith, refl, rules, subst, Bool, true, false, Result, Ok, Err}
+use Rattle.std.proofs.Common.{◌≡◌, ◌∙◌, ap, arith, refl, rules, subst, Bool, true, false, Result, Ok, Err}
 use Rattle.dk_lines.specs.Reading.{left_of}
 use Rattle.dk_lines.specs.declared.lines.LineFault.{LineFault}
 use Rattle.dk_claims.specs.Steps.{TakesLine}
-use Rattle.dk_claims.proofs.Lining.{all_begin, all_end, all_faulty, grew, steps}
+use Rattle.dk_claims.proofs.Lining.{all_begin, all_end, all_faulty, grew, no_more, no_more_behind, steps}
 use Rattle.dk_claims.proofs.reading.read_claims.Goals as goal
 
 pub reading-init : goal.reading-init
@@ -38,3 +38,16 @@ returns-in-Err-clause-gives g c =
     let is : c.take_line.result ≡ Err c.in-Err.fault = search rules in
     let took = subst (λ (r : Result Bool LineFault). TakesLine c.reading.claims c.reading.lines (left_of c.reading.lines (g.I.Inputs.rest c.reading.inputs)) r c.take_line.new.claims c.take_line.new.lines (left_of c.take_line.new.lines (g.I.Inputs.rest c.take_line.new.inputs))) is c.take_line.ensures.takes in
     all_faulty c.args.lines.now c.reading.lines c.take_line.new.lines _ _ _ c.reading.claims c.take_line.new.claims c.in-Err.fault c.reading.invariant.goes took
+
+pub returns-in-Ok-false-clause-ended : goal.returns-in-Ok-false-clause-ended
+returns-in-Ok-false-clause-ended g c other =
+    let is : c.take_line.result ≡ Ok false = search rules in
+    let took = subst (λ (r : Result Bool LineFault). TakesLine c.reading.claims c.reading.lines (left_of c.reading.lines (g.I.Inputs.rest c.reading.inputs)) r c.take_line.new.claims c.take_line.new.lines (left_of c.take_line.new.lines (g.I.Inputs.rest c.take_line.new.inputs))) is c.take_line.ensures.takes in
+    no_more c.reading.lines c.take_line.new.lines _ _ c.reading.claims c.take_line.new.claims took
+
+pub returns-in-Err-clause-ended : goal.returns-in-Err-clause-ended
+returns-in-Err-clause-ended g c other =
+    let is : c.take_line.result ≡ Err c.in-Err.fault = search rules in
+    let took = subst (λ (r : Result Bool LineFault). TakesLine c.reading.claims c.reading.lines (left_of c.reading.lines (g.I.Inputs.rest c.reading.inputs)) r c.take_line.new.claims c.take_line.new.lines (left_of c.take_line.new.lines (g.I.Inputs.rest c.take_line.new.inputs))) is c.take_line.ensures.takes in
+    no_more_behind c.reading.lines c.take_line.new.lines _ _ c.reading.claims c.take_line.new.claims c.in-Err.fault took
+    (λ e. other (ap (λ (f : LineFault). Err f) e))
