@@ -22,6 +22,7 @@ use Rattle.dk_template.specs.Joins.{joined}
 use Rattle.dk_template.specs.Proper.{IsProper}
 use Rattle.dk_template.specs.Templates.{form_of}
 use Rattle.dk_verdicts.proofs.Asserted.{none_reach, read_testable, still_asserted, still_unknown}
+use Rattle.dk_verdicts.proofs.Fronts.{never_with_more, never_without, upheld_by_all}
 use Rattle.dk_verdicts.proofs.States.{kept_behind_both, unviolated_by_both, violated_by_both}
 use Rattle.dk_verdicts.proofs.Taken.{kept_same, still}
 use Rattle.dk_verdicts.specs.Reading.{IsReread}
@@ -82,6 +83,9 @@ module _ (ps : List Point) (rs : List Record) (r : Record) (ts : List (List Valu
       y_proper : IsProper (form_of read.row) y
       y_proper = subst (IsProper (form_of read.row)) (sym tell) proper
 
+      upheld : ¬ Violates read (reaching_all q rs)
+      upheld = upheld_by_all read q rs so_far.holds
+
       fits_behind : fit read.row read.vars (reaching_all q (rs ++ r ∷ [])) ≡ joined (form_of read.row) x y
       fits_behind = ap (fit read.row read.vars) (one_record_more q rs r) ∙ fit_of_both read.row testable.row read.vars (reaching_all q rs) (reaching q r)
 
@@ -94,7 +98,7 @@ module _ (ps : List Point) (rs : List Record) (r : Record) (ts : List (List Valu
       violated : IsViolated now.state (state_behind now ts) → Violates read (reaching_all q (rs ++ r ∷ []))
       violated v =
           subst (IsViolated read.state) behind
-          (violated_by_both (form_of read.row) (laws_of read.row testable.row).joins read.state testable.proper testable.code x y so_far.proper y_proper so_far.holds
+          (violated_by_both (form_of read.row) (laws_of read.row testable.row).joins read.state testable.proper testable.code x y so_far.proper y_proper upheld
           (subst (IsViolated now.state) (sym by_tuples) v))
 
       module _ (not : ¬ IsViolated now.state (state_behind now ts)) where
@@ -103,13 +107,13 @@ module _ (ps : List Point) (rs : List Record) (r : Record) (ts : List (List Valu
 
         unviolated : ¬ Violates read (reaching_all q (rs ++ r ∷ []))
         unviolated v =
-            unviolated_by_both (form_of read.row) (laws_of read.row testable.row).joins read.state testable.proper testable.code x y so_far.proper y_proper so_far.holds none
+            unviolated_by_both (form_of read.row) (laws_of read.row testable.row).joins read.state testable.proper testable.code x y so_far.proper y_proper upheld none
             (subst (IsViolated read.state) (sym behind) v)
 
         kept_on : kept_state now.state (state_behind now ts) ≡ kept_state read.state (state_with read (reaching_all q (rs ++ r ∷ [])))
         kept_on =
             ap (kept_state now.state) (sym by_tuples)
-            ∙ kept_behind_both (form_of read.row) (laws_of read.row testable.row).joins read.state testable.proper testable.code x y so_far.proper y_proper so_far.holds none
+            ∙ kept_behind_both (form_of read.row) (laws_of read.row testable.row).joins read.state testable.proper testable.code x y so_far.proper y_proper upheld none
             ∙ ap (kept_state read.state) behind
 
         counted : capped (n + length ts) ≡ count_of read.vars (reaching_all q (rs ++ r ∷ []))
@@ -123,7 +127,7 @@ module _ (ps : List Point) (rs : List Record) (r : Record) (ts : List (List Valu
         goes_on : HoldsSoFar read q (rs ++ r ∷ []) (with_tuples now ts) (capped (n + length ts))
         goes_on = record {
           is = ap (λ s. record read { state = s }) kept_on;
-          holds = unviolated;
+          holds = never_with_more read q rs r so_far.holds unviolated;
           proper = subst (IsProper (form_of read.row)) (sym fits_behind) ((laws_of read.row testable.row).joins.closed x y so_far.proper y_proper);
           counted = counted;
         }
@@ -174,7 +178,7 @@ module _ (known ps : List Point) (extends : Extends known ps) (rs : List Record)
       ap (joined (form_of a.row) a.state) nothing ∙ laws.joins.comm a.state Empty testable.proper laws.joins.empty_proper ∙ laws.joins.neutral a.state testable.proper in
       record {
         is = ap (λ s. record a { state = s }) (sym (kept_same a.state (state_with a (reaching_all q rs)) same));
-        holds = still a.state (state_with a (reaching_all q rs)) same;
+        holds = never_without a q rs none (subst (λ (s : List (List Value)). ¬ Violates a s) none (still a.state (state_with a (reaching_all q rs)) same));
         proper = subst (IsProper (form_of a.row)) (sym nothing) laws.joins.empty_proper;
         counted = sym (ap (count_of a.vars) none);
       }

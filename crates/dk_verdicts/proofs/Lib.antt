@@ -2,6 +2,7 @@ pub mod States
 pub mod Taken
 pub mod Reached
 pub mod Asserted
+pub mod Fronts
 pub mod Found
 pub mod Checked
 pub mod Making
@@ -13,3 +14,7 @@ pub mod Lines
 pub mod Tested
 pub mod Judged
 pub mod Starting
+pub mod Alone
+pub mod PathLists
+pub mod PathsOnce
+pub mod Along

@@ -1,5 +1,6 @@
 -- cited by public clauses
 pub mod Records
+pub mod Paths
 pub mod Verdicts
 pub mod Reports
 pub mod Standing

@@ -18,7 +18,7 @@ use Rattle.dk_template.specs.declared.grammar.Grammar.TheVariants.{Two}
 use Rattle.dk_verdicts.specs.Records.{Record, reaching_all}
 use Rattle.dk_verdicts.specs.Checks.{AreChecksOf}
 use Rattle.dk_verdicts.specs.Tests.{IsTestable}
-use Rattle.dk_verdicts.specs.Verdicts.{IsAsserted, IsUnknown, IsVerdictOnRead, Violates, state_with}
+use Rattle.dk_verdicts.specs.Verdicts.{IsAsserted, IsNeverViolated, IsUnknown, IsVerdictOnRead, state_with}
 use Rattle.dk_verdicts.specs.declared.checker.Checker.{Checker}
 use Rattle.dk_verdicts.specs.declared.findings.Finding.{Finding}
 use Rattle.dk_verdicts.specs.declared.findings.Finding.TheVariants as finding
@@ -71,7 +71,7 @@ verdict_of (finding.Violated file line) = verdict.Violated file line
 -- The assertion that was read holds of the samples so far. What is kept of it has the state that its tests have left.
 pub record HoldsSoFar (read : Assertion) (q : ℕ) (rs : List Record) (a : Assertion) (tuples : ℕ) : Type 0 where
   pub is : a ≡ record read { state = kept_state read.state (state_with read (reaching_all q rs)) }
-  pub holds : ¬ Violates read (reaching_all q rs)
+  pub holds : IsNeverViolated read q rs
   pub proper : IsProper (form_of read.row) (fit read.row read.vars (reaching_all q rs))
   pub counted : tuples ≡ count_of read.vars (reaching_all q rs)
 

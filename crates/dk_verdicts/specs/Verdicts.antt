@@ -26,13 +26,17 @@ state_with a samples = joined (form_of a.row) a.state (fit a.row a.vars samples)
 abbrev pub Violates : Assertion → List (List Value) → Type 0
 Violates a samples = IsViolated a.state (state_with a samples)
 
+-- up to none of the records the samples that reach the point violate the assertion
+abbrev pub IsNeverViolated : Assertion → ℕ → List Record → Type 0
+IsNeverViolated a q rs = (front behind : List Record) → rs ≡ front ++ behind → ¬ Violates a (reaching_all q front)
+
 -- the first of the records with which the samples that reach the point so far violate the assertion
 pub record IsFirstViolation (a : Assertion) (q : ℕ) (rs : List Record) (r : Record) : Type 0 where
   pub before : List Record
   pub behind : List Record
   pub is_one : rs ≡ before ++ r ∷ behind
   pub violated : Violates a (reaching_all q (before ++ r ∷ []))
-  pub first : ¬ Violates a (reaching_all q before)
+  pub first : IsNeverViolated a q before
 
 -- the record is of this line of this file
 abbrev pub IsAt : ℕ → ℕ → Record → Type 0
@@ -41,7 +45,7 @@ IsAt file line r = (r.file ≡ file) × (r.line ≡ line)
 -- An assertion of the point is violated at the first record that violates it. If there is none it holds, of as many tuples without a
 -- missing value as the records' samples have, at most 2^64 - 1.
 abbrev pub IsVerdictOn : Assertion → ℕ → List Record → Verdict → Type 0
-IsVerdictOn a q rs (Holds tuples) = (¬ Violates a (reaching_all q rs)) × (tuples ≡ count_of a.vars (reaching_all q rs))
+IsVerdictOn a q rs (Holds tuples) = IsNeverViolated a q rs × (tuples ≡ count_of a.vars (reaching_all q rs))
 IsVerdictOn a q rs (Violated file line) = (r : Record) × IsFirstViolation a q rs r × IsAt file line r
 IsVerdictOn a q rs Unknown = ⊥
 

@@ -143,6 +143,8 @@ impl Checker {
     pub fn verdicts(&mut self, points: &Points) -> Result<List<Verdict>, NoMemory>
         requires { IsKeptUp points.now self.old }
         ensures claims { OnOk result (claims_of self.new ≡ claims_of self.old) }
+        ensures kept_up { OnOk result (IsKeptUp points.now self.new) }
+        ensures stands { OnOk result ((rs : List Record) → StandsFor self.old points.now rs → StandsFor self.new points.now rs) }
         ensures verdicts { IfOk result (λ verdicts. (rs : List Record) → StandsFor self.old points.now rs
             → AllZip (IsVerdict points.now rs) (claims_of self.old) verdicts) }
     {
