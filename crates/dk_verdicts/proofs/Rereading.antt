@@ -1,15 +1,20 @@
 -- Reading the claims, one after another.
-use Rattle.std.specs.Prelude.{◌≡◌, ◌≢◌, ◌⊎◌, ◌+◌, ◌<◌, ◌≤◌, ℕ, zero, suc, List, [], ◌∷◌, length, slice_get, slice_set, Some, refl}
+use Rattle.std.specs.Prelude.{◌≡◌, ◌≢◌, ◌⊎◌, ◌+◌, ◌<◌, ◌≤◌, ℕ, zero, suc, List, [], ◌∷◌, length, slice_get, slice_set, IfSome, Option, Some, None, refl}
 use Rattle.std.proofs.Common.{◌∙◌, ⊎_elim, ap, arith, inl, inr, subst, sym}
 use Rattle.std.proofs.lemmas.Bool.{cases_lt}
 use Rattle.std.proofs.lemmas.List.{length-set}
+use Rattle.dk_base.specs.declared.kinds.PointId.{PointId}
+use Rattle.dk_base.specs.declared.kinds.VarInfo.{VarInfo}
 use Rattle.dk_claims.specs.declared.claims.Claim.{Claim}
+use Rattle.dk_expr.specs.Naming.{AreUnderNames}
+use Rattle.dk_hierarchy.specs.Samples.{all_vars_of}
 use Rattle.dk_points.specs.Table.{Point}
 use Rattle.dk_verdicts.proofs.Checked.{get_set, get_within, some_same}
-use Rattle.dk_verdicts.specs.Reading.{AreReread, IsFoundFrom, IsReread}
+use Rattle.dk_verdicts.specs.Reading.{AreListed, AreReread, IsFoundFrom, IsReread}
 use Rattle.dk_verdicts.specs.Standing.{AreFindingsOf, IsFindingOf}
 use Rattle.dk_verdicts.specs.declared.findings.Finding.{Finding}
 use Rattle.dk_verdicts.specs.declared.findings.Finding.TheVariants.{Holds, Violated, Unknown}
+use Rattle.dk_verdicts.specs.declared.reading.Listed.{Listed}
 
 elsewhere : (xs : List Finding) (n i : ℕ) (g : Finding) → n < i → slice_get (slice_set xs n g) i ≡ slice_get xs i
 elsewhere [] n i g less = refl
@@ -80,3 +85,16 @@ still_of ps findings n g are is i f at = ⊎_elim
     (λ (h : (i ≡ n) × (g ≡ f)). subst (IsFindingOf ps) h.1 is)
     (λ (h : (i ≢ n) × (slice_get findings i ≡ Some f)). are i f h.1)
     (get_set findings n i g f at)
+
+-- ---- the last point's names
+-- they serve where the point is the last one's
+pub listed_before : (ps : List Point) (vars : List VarInfo) (point : PointId) (last : Option Listed) → vars ≡ all_vars_of ps point.0
+    → IfSome last (AreListed ps) → IfSome last (λ l. l.point ≡ point → AreUnderNames vars l.names)
+listed_before ps vars point None is are = tt
+listed_before ps vars point (Some l) is are = λ same. subst (λ (infos : List VarInfo). AreUnderNames infos l.names) (ap (λ (p : PointId). all_vars_of ps p.0) same ∙ sym is) are
+
+pub listed_behind : (ps : List Point) (vars : List VarInfo) (point : PointId) (last : Option Listed) → vars ≡ all_vars_of ps point.0
+    → IfSome last (λ l. (l.point ≡ point) × AreUnderNames vars l.names) → IfSome last (AreListed ps)
+listed_behind ps vars point None is are = tt
+listed_behind ps vars point (Some l) is are =
+    subst (λ (infos : List VarInfo). AreUnderNames infos l.names) (is ∙ ap (λ (p : PointId). all_vars_of ps p.0) (sym are.0)) are.1

@@ -1,6 +1,7 @@
 -- What reading claims finds.
 use Rattle.std.specs.Prelude.{◌≡◌, ◌≤◌, ℕ, List, length, slice_get, Some}
 use Rattle.dk_claims.specs.declared.claims.Claim.{Claim}
+use Rattle.dk_expr.specs.Naming.{AreUnderNames}
 use Rattle.dk_expr.specs.Reads.{HasNone}
 use Rattle.dk_graph.specs.Names.{place_of}
 use Rattle.dk_hierarchy.specs.Samples.{all_vars_of}
@@ -8,6 +9,11 @@ use Rattle.dk_points.specs.Table.{Point, names}
 use Rattle.dk_verdicts.specs.Verdicts.{IsAsserted}
 use Rattle.dk_verdicts.specs.declared.findings.Finding.{Finding}
 use Rattle.dk_verdicts.specs.declared.findings.Finding.TheVariants.{Holds, Violated, Unknown}
+use Rattle.dk_verdicts.specs.declared.reading.Listed.{Listed}
+
+-- the names are those of the point's variables
+abbrev pub AreListed : List Point → Listed → Type 0
+AreListed ps listed = AreUnderNames (all_vars_of ps listed.point.0) listed.names
 
 -- no point from this place on has the claim's name and an instance with its text
 abbrev pub IsUnknownFrom : ℕ → List Point → Claim → Type 0

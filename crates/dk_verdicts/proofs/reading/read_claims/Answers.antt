@@ -1,11 +1,14 @@
 use Rattle.std.proofs.Common.{◌≡◌, ◌≢◌, ◌<◌, ◌+◌, ◌∙◌, ap, arith, length, slice_get, slice_set, subst, sym, List, Some}
+use Rattle.std.specs.Prelude.{IfSome, Option}
 use Rattle.std.proofs.lemmas.Bool.{false≢true}
 use Rattle.dk_claims.specs.declared.claims.Claim.{Claim}
 use Rattle.dk_verdicts.proofs.Rereading.{AreRereadTo, all_reread, one_kept, one_read, still_of}
 use Rattle.dk_verdicts.proofs.Tested.{got_value}
+use Rattle.dk_verdicts.specs.Reading.{AreListed}
 use Rattle.dk_verdicts.specs.Standing.{AreFindingsOf}
 use Rattle.dk_verdicts.specs.declared.findings.Finding.{Finding}
 use Rattle.dk_verdicts.specs.declared.findings.Finding.TheVariants.{Unknown}
+use Rattle.dk_verdicts.specs.declared.reading.Listed.{Listed}
 use Rattle.dk_verdicts.proofs.reading.read_claims.Goals as goal
 use Rattle.dk_verdicts.proofs.reading.read_claims.Goals.{then-is_unknown+in_ok-finding, else-is_unknown}
 
@@ -31,6 +34,7 @@ loop-place-preserved c =
             reread = subst (AreRereadTo (n + 1) c.args.known ps claims old) (sym items)
                 (one_read n c.args.known ps claims old mid inv.reread claim g at (here ∙ ap Some nothing) w.in_ok-finding.ensures.found);
             are_of = subst (AreFindingsOf ps) (sym items) (still_of ps mid n g inv.are_of w.in_ok-finding.ensures.is_of);
+            last = subst (λ (o : Option Listed). IfSome o (AreListed ps)) (sym w.last-is) w.in_ok-finding.ensures.last;
           }
       | else-is_unknown w ↦
           let items : c.if-is_unknown.findings.items ≡ mid = ap (λ v. v.items) w.findings-is in
@@ -38,6 +42,7 @@ loop-place-preserved c =
           record {
             reread = subst (AreRereadTo (n + 1) c.args.known ps claims old) (sym items) (one_kept n c.args.known ps claims old mid inv.reread f here some);
             are_of = subst (AreFindingsOf ps) (sym items) inv.are_of;
+            last = subst (λ (o : Option Listed). IfSome o (AreListed ps)) (sym w.last-is) inv.last;
           }
     ]
 
