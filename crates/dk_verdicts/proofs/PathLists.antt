@@ -112,9 +112,9 @@ module _ (ns : List Node) where
     all_listed p q path = (
       λ h. are_paths (depth_of ns q) p q path (has-contained (paths_to ns p q) path h),
       λ is.
-      let long = deepens p path q is in
-      let has = listed (depth_of ns q) p q path (omega (arith, long)) is in
-      contained-has (paths_to ns p q) has.0 path has.1,
+          let long = deepens p path q is in
+          let has = listed (depth_of ns q) p q path (omega (arith, long)) is in
+          contained-has (paths_to ns p q) has.0 path has.1,
     )
 
 pub paths_are_all : PathsAreAll
