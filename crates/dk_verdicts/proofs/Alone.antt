@@ -14,7 +14,7 @@ use Rattle.dk_verdicts.proofs.Fronts.{never_or_first, one_first}
 use Rattle.dk_verdicts.specs.Laws.{ReportsAreOne, VerdictsAreOne}
 use Rattle.dk_verdicts.specs.Records.{Record}
 use Rattle.dk_verdicts.specs.Reports.{verdict_lines}
-use Rattle.dk_verdicts.specs.Verdicts.{IsAsserted, IsUnknown, IsVerdict, IsVerdictOn, IsVerdictOnRead}
+use Rattle.dk_verdicts.specs.Verdicts.{IsUnknown, IsVerdict, IsVerdictOn, IsVerdictOnRead}
 use Rattle.dk_verdicts.specs.declared.verdicts.Verdict.{Verdict}
 use Rattle.dk_verdicts.specs.declared.verdicts.Verdict.TheVariants.{Holds, Violated, Unknown}
 

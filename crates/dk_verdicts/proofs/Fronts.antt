@@ -1,5 +1,5 @@
 -- Fronts of records, and the first of them that violate what is asserted.
-use Rattle.std.specs.Prelude.{◌≡◌, ◌⊎◌, ◌++◌, ◌∷◌, ℕ, List, [], flat_map, refl}
+use Rattle.std.specs.Prelude.{◌≡◌, ◌⊎◌, ◌++◌, ◌∷◌, ℕ, List, [], refl}
 use Rattle.std.proofs.Common.{◌∙◌, ⊎_elim, ap, append_assoc, inl, inr, subst, sym}
 use Rattle.std.proofs.lemmas.Grind.{flat_map-append}
 use Rattle.std.proofs.lemmas.List.{append-nil}

@@ -1,6 +1,6 @@
 -- The paths from a point to another are listed.
-use Rattle.std.specs.Prelude.{◌≡◌, ◌==◌, ◌+◌, ◌≤◌, ◌<◌, ◌++◌, ◌↔◌, ℕ, zero, suc, Bool, true, false, Contains, List, [], ◌∷◌, flat_map, length, map, slice_get, if◌then◌else◌, Some, refl}
-use Rattle.std.proofs.Common.{◌∙◌, ap, arith, inl, inr, length-append, subst, sym}
+use Rattle.std.specs.Prelude.{◌≡◌, ◌==◌, ◌+◌, ◌≤◌, ◌++◌, ◌↔◌, ℕ, zero, suc, Bool, true, false, Contains, List, [], ◌∷◌, flat_map, length, map, if◌then◌else◌, Some, refl}
+use Rattle.std.proofs.Common.{ap, arith, inl, inr, length-append, subst, sym}
 use Rattle.std.proofs.lemmas.Bool.{eq-eqb, eqb-true}
 use Rattle.dk_graph.proofs.Members.{Has, contained-has, filter-has, has-append, has-cons, has-contained, has-filter, has-first, has-later, has-left, has-map, has-none, has-right}
 use Rattle.dk_graph.proofs.Walks.{path-append}

@@ -1,10 +1,10 @@
 -- Each path is listed once.
-use Rattle.std.specs.Prelude.{◌≡◌, ◌==◌, ◌+◌, ◌≤◌, ◌<◌, ◌++◌, ℕ, zero, suc, Bool, true, false, List, [], ◌∷◌, filter, filter_map, flat_map, length, map, slice_get, if◌then◌else◌, Option, Some, None, refl}
+use Rattle.std.specs.Prelude.{◌≡◌, ◌==◌, ◌+◌, ◌≤◌, ◌++◌, ℕ, zero, suc, Bool, true, false, List, [], ◌∷◌, filter, filter_map, flat_map, length, map, slice_get, if◌then◌else◌, Option, Some, None, refl}
 use Rattle.std.specs.List.{cons_option, enumerate_from}
-use Rattle.std.proofs.Common.{◌∙◌, ap, arith, inl, inr, length-append, subst, sym}
+use Rattle.std.proofs.Common.{◌∙◌, ap, arith, inl, inr, length-append, sym}
 use Rattle.dk_graph.proofs.Links.{is-edge-of}
 use Rattle.dk_graph.proofs.Members.{Has, has-append, has-cons, has-filter, has-filter_map, has-first, has-later, has-map, has-none}
-use Rattle.dk_graph.specs.Graphs.{Link, depth_of, edge_of, edges, edges_into, links, links_at, links_to_parents, node_names}
+use Rattle.dk_graph.specs.Graphs.{Link, depth_of, edge_of, edges, edges_into, links, links_at, node_names}
 use Rattle.dk_graph.specs.declared.nodes.Edge.{Edge}
 use Rattle.dk_graph.specs.declared.nodes.Node.{Node}
 use Rattle.dk_verdicts.specs.Laws.{PathsAreOnce}
