@@ -1,5 +1,5 @@
-//! Tests of `run` over files in memory, by worked examples. Files past their limit have too many bytes for a run here: the tests of
-//! `dk_lines` show them, with smaller limits.
+//! Tests of `run` over files in memory, by worked examples, and of the words that it reads. Files past their limit have too many bytes
+//! for a run here: the tests of `dk_lines` show them, with smaller limits.
 #![tactic(auto)]
 
 #[cfg(test)]
@@ -19,6 +19,6 @@ mod stack_ar;
 #[cfg(test)]
 mod states;
 #[cfg(test)]
-mod worked;
-#[cfg(test)]
 mod words;
+#[cfg(test)]
+mod worked;
