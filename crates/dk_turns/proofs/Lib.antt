@@ -1,0 +1,6 @@
+mod Examples
+pub mod Lining
+pub mod Fronting
+pub mod Running
+pub mod Rounding
+pub mod Joining
