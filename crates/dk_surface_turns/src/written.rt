@@ -44,20 +44,76 @@ fn gives(alloc: Global, n: u32, files: &[&str], expected: &str) -> Result<bool, 
 #[test]
 fn samples_follow_in_rounds(rt: HostRuntime) -> Result<(), Fail> {
     let alloc = rt.alloc();
-    assert!(rt; gives(alloc, 1, &[ONE, OTHER], "ppt P\nvariable x\nrep-type int\n\nppt P\nvariable x\nrep-type int\n\nP\nthis_invocation_nonce\n1\nx\n10\n1\n\nP\nthis_invocation_nonce\n3\nx\n20\n1\n\nP\nthis_invocation_nonce\n2\nx\n11\n1\n\nP\nthis_invocation_nonce\n4\nx\n21\n1\n")?);
-    assert!(rt; gives(alloc, 2, &[ONE, OTHER], "ppt P\nvariable x\nrep-type int\n\nppt P\nvariable x\nrep-type int\n\nP\nthis_invocation_nonce\n1\nx\n10\n1\n\nP\nthis_invocation_nonce\n2\nx\n11\n1\n\nP\nthis_invocation_nonce\n3\nx\n20\n1\n\nP\nthis_invocation_nonce\n4\nx\n21\n1\n")?);
-    assert!(rt; gives(alloc, 4000000000, &[ONE, OTHER], "ppt P\nvariable x\nrep-type int\n\nppt P\nvariable x\nrep-type int\n\nP\nthis_invocation_nonce\n1\nx\n10\n1\n\nP\nthis_invocation_nonce\n2\nx\n11\n1\n\nP\nthis_invocation_nonce\n3\nx\n20\n1\n\nP\nthis_invocation_nonce\n4\nx\n21\n1\n")?);
-    assert!(rt; gives(alloc, 1, &[ONE, OTHER, ONE], "ppt P\nvariable x\nrep-type int\n\nppt P\nvariable x\nrep-type int\n\nppt P\nvariable x\nrep-type int\n\nP\nthis_invocation_nonce\n1\nx\n10\n1\n\nP\nthis_invocation_nonce\n3\nx\n20\n1\n\nP\nthis_invocation_nonce\n1\nx\n10\n1\n\nP\nthis_invocation_nonce\n2\nx\n11\n1\n\nP\nthis_invocation_nonce\n4\nx\n21\n1\n\nP\nthis_invocation_nonce\n2\nx\n11\n1\n")?);
+    assert!(rt;
+        gives(
+            alloc,
+            1,
+            &[ONE, OTHER],
+            "ppt P\nvariable x\nrep-type int\n\nppt P\nvariable x\nrep-type int\n\nP\nthis_invocation_nonce\n1\nx\n10\n1\n\nP\nthis_invocation_nonce\n3\nx\n20\n1\n\nP\nthis_invocation_nonce\n2\nx\n11\n1\n\nP\nthis_invocation_nonce\n4\nx\n21\n1\n"
+        )?
+    );
+    assert!(rt;
+        gives(
+            alloc,
+            2,
+            &[ONE, OTHER],
+            "ppt P\nvariable x\nrep-type int\n\nppt P\nvariable x\nrep-type int\n\nP\nthis_invocation_nonce\n1\nx\n10\n1\n\nP\nthis_invocation_nonce\n2\nx\n11\n1\n\nP\nthis_invocation_nonce\n3\nx\n20\n1\n\nP\nthis_invocation_nonce\n4\nx\n21\n1\n"
+        )?
+    );
+    assert!(rt;
+        gives(
+            alloc,
+            4000000000,
+            &[ONE, OTHER],
+            "ppt P\nvariable x\nrep-type int\n\nppt P\nvariable x\nrep-type int\n\nP\nthis_invocation_nonce\n1\nx\n10\n1\n\nP\nthis_invocation_nonce\n2\nx\n11\n1\n\nP\nthis_invocation_nonce\n3\nx\n20\n1\n\nP\nthis_invocation_nonce\n4\nx\n21\n1\n"
+        )?
+    );
+    assert!(rt;
+        gives(
+            alloc,
+            1,
+            &[ONE, OTHER, ONE],
+            "ppt P\nvariable x\nrep-type int\n\nppt P\nvariable x\nrep-type int\n\nppt P\nvariable x\nrep-type int\n\nP\nthis_invocation_nonce\n1\nx\n10\n1\n\nP\nthis_invocation_nonce\n3\nx\n20\n1\n\nP\nthis_invocation_nonce\n1\nx\n10\n1\n\nP\nthis_invocation_nonce\n2\nx\n11\n1\n\nP\nthis_invocation_nonce\n4\nx\n21\n1\n\nP\nthis_invocation_nonce\n2\nx\n11\n1\n"
+        )?
+    );
     Ok(())
 }
 
 #[test]
 fn blocks_keep_headers_and_records(rt: HostRuntime) -> Result<(), Fail> {
     let alloc = rt.alloc();
-    assert!(rt; gives(alloc, 1, &[REMARKS], "decl-version 2.0\nppt P\nvariable x\n# kept\nrep-type int\n\nVarComparability\nnone\nP\nx\n1\n1\n")?);
-    assert!(rt; gives(alloc, 1, &[KINDS], "var-comparability none\n\nListImplementors\nA\n\nDECLARE\nQ\n\nVarComparability\n\nppt\n\nListImplementors x\n\nDECLARE x\n\nP\nx\n\npptx\n")?);
-    assert!(rt; gives(alloc, 1, &[REFUSED], "VarComparability\nDECLARE\nQ\n\ndecl-version 3.0\nvar-comparability\nQ\n#x\n\nVarComparability\nfoo\nbar\n")?);
-    assert!(rt; gives(alloc, 2, &[KINDS, REMARKS, REFUSED], "var-comparability none\n\nListImplementors\nA\n\nDECLARE\nQ\n\nVarComparability\n\nppt\n\ndecl-version 2.0\nppt P\nvariable x\n# kept\nrep-type int\n\nListImplementors x\n\nDECLARE x\n\nVarComparability\nnone\nP\nx\n1\n1\n\nVarComparability\nDECLARE\nQ\n\ndecl-version 3.0\nvar-comparability\nQ\n#x\n\nP\nx\n\npptx\n\nVarComparability\nfoo\nbar\n")?);
+    assert!(rt;
+        gives(
+            alloc,
+            1,
+            &[REMARKS],
+            "decl-version 2.0\nppt P\nvariable x\n# kept\nrep-type int\n\nVarComparability\nnone\nP\nx\n1\n1\n"
+        )?
+    );
+    assert!(rt;
+        gives(
+            alloc,
+            1,
+            &[KINDS],
+            "var-comparability none\n\nListImplementors\nA\n\nDECLARE\nQ\n\nVarComparability\n\nppt\n\nListImplementors x\n\nDECLARE x\n\nP\nx\n\npptx\n"
+        )?
+    );
+    assert!(rt;
+        gives(
+            alloc,
+            1,
+            &[REFUSED],
+            "VarComparability\nDECLARE\nQ\n\ndecl-version 3.0\nvar-comparability\nQ\n#x\n\nVarComparability\nfoo\nbar\n"
+        )?
+    );
+    assert!(rt;
+        gives(
+            alloc,
+            2,
+            &[KINDS, REMARKS, REFUSED],
+            "var-comparability none\n\nListImplementors\nA\n\nDECLARE\nQ\n\nVarComparability\n\nppt\n\ndecl-version 2.0\nppt P\nvariable x\n# kept\nrep-type int\n\nListImplementors x\n\nDECLARE x\n\nVarComparability\nnone\nP\nx\n1\n1\n\nVarComparability\nDECLARE\nQ\n\ndecl-version 3.0\nvar-comparability\nQ\n#x\n\nP\nx\n\npptx\n\nVarComparability\nfoo\nbar\n"
+        )?
+    );
     Ok(())
 }
 
@@ -66,9 +122,27 @@ fn small_files_are_written_whole(rt: HostRuntime) -> Result<(), Fail> {
     let alloc = rt.alloc();
     assert!(rt; gives(alloc, 1, &[""], "")?);
     assert!(rt; gives(alloc, 1, &[], "")?);
-    assert!(rt; gives(alloc, 1, &["ppt P\nvariable x\nrep-type int\n", "", "ppt P\nvariable x\nrep-type int\n"], "ppt P\nvariable x\nrep-type int\n\nppt P\nvariable x\nrep-type int\n")?);
+    assert!(rt;
+        gives(
+            alloc,
+            1,
+            &[
+                "ppt P\nvariable x\nrep-type int\n",
+                "",
+                "ppt P\nvariable x\nrep-type int\n"
+            ],
+            "ppt P\nvariable x\nrep-type int\n\nppt P\nvariable x\nrep-type int\n"
+        )?
+    );
     assert!(rt; gives(alloc, 1, &["\n\n"], "")?);
     assert!(rt; gives(alloc, 1, &["#\n//"], "")?);
-    assert!(rt; gives(alloc, 1, &["P\nthis_invocation_nonce\n1\nx\n2\n1", "x", "y\n\nz"], "P\nthis_invocation_nonce\n1\nx\n2\n1\n\nx\n\ny\n\nz\n")?);
+    assert!(rt;
+        gives(
+            alloc,
+            1,
+            &["P\nthis_invocation_nonce\n1\nx\n2\n1", "x", "y\n\nz"],
+            "P\nthis_invocation_nonce\n1\nx\n2\n1\n\nx\n\ny\n\nz\n"
+        )?
+    );
     Ok(())
 }
