@@ -1,0 +1,4 @@
+//! Tests of merged state files over whole texts, which the crates above read and write.
+#![tactic(auto)]
+
+mod merging;
