@@ -19,7 +19,8 @@ use Rattle.dk_engine.specs.Saved.{parts_of}
 use Rattle.dk_engine.specs.declared.kept.Kept.{Kept}
 use Rattle.dk_template.specs.declared.grammar.Grammar.{Grammar}
 use Rattle.dk_template.specs.declared.grammar.Grammar.TheVariants as grammar
-use Rattle.dk_state.specs.Declarations.{constant_decl_text, constant_line, edge_line, mapped_line, point_lines, rep_text, var_decl_line, var_lines}
+use Rattle.dk_points.specs.Table.{Point}
+use Rattle.dk_state.specs.Declarations.{constant_decl_text, decls_of, constant_line, edge_line, mapped_line, point_lines, rep_text, var_decl_line, var_lines}
 use Rattle.dk_state.specs.Fitting.{FitsConstant, FitsEdge, FitsMapped, FitsPoint, FitsVar}
 use Rattle.dk_merge.specs.Fronts.{begins_kept, front_from, front_of}
 use Rattle.dk_state.specs.Kept.{parts_lines}
@@ -163,10 +164,11 @@ kept_behind n (k ∷ ks) =
     let last = state_line "end-state" [] in
     cond_both (k.samples == 0) [] (parts_lines n (parts_of k)) (λ l. front_from true ((l ++ rest) ++ last) ≡ []) (λ _. kept_behind (n + 1) ks) (λ _. refl)
 
-pub front_of_saved : (g : Grammar) (decls : List PointDecl) (implicit : Bool) (ks : List Kept) → All FitsPoint decls → length decls < 2 ^ 64
-    → front_of (saved_text g decls implicit ks) ≡ head_text g decls implicit
+pub front_of_saved : (g : Grammar) (ps : List Point) (implicit : Bool) (ks : List Kept) → All FitsPoint (decls_of ps) → length (decls_of ps) < 2 ^ 64
+    → front_of (saved_text g ps implicit ks) ≡ head_text g (decls_of ps) implicit
 unfolding saved_text
-front_of_saved g decls implicit ks fit few =
+front_of_saved g ps implicit ks fit few =
+    let decls = decls_of ps in
     let lines = flat_map kept_lines (enumerate_from 0 ks) in
     ap (front_from true) (text_parts g decls implicit lines)
     ∙ head_passed g decls implicit fit few (lines ++ state_line "end-state" [])
@@ -203,8 +205,3 @@ heads_told g h ds es i j fit also few less e =
     let third = ap (drop 6) (sym (line_onto (codes "points") (decimal (length ds) ∷ []) (flat_map point_lines ds)) ∙ ap (drop 1) word.1 ∙ line_onto (codes "points") (decimal (length es) ∷ []) (flat_map point_lines es)) in
     let count = number_told (length ds) (length es) (10 ∷ flat_map point_lines ds) (10 ∷ flat_map point_lines es) (omega (arith, few)) (omega (arith, less)) refl refl third in
     (same_grammar g h version.0, points_are_told ds es fit also (ap (drop 1) count.1), same_word i j word.0)
-
-pub same_fronts : (g h : Grammar) (ds es : List PointDecl) (i j : Bool) (ks ls : List Kept) → All FitsPoint ds → All FitsPoint es → length ds < 2 ^ 64 → length es < 2 ^ 64
-    → front_of (saved_text g ds i ks) ≡ front_of (saved_text h es j ls) → (g ≡ h) × (ds ≡ es) × (i ≡ j)
-same_fronts g h ds es i j ks ls fit also few less e =
-    heads_told g h ds es i j fit also few less (sym (front_of_saved g ds i ks fit few) ∙ e ∙ front_of_saved h es j ls also less)

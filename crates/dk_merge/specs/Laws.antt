@@ -1,5 +1,5 @@
 -- State files merged in any order and in any groups.
-use Rattle.std.specs.Prelude.{◌≡◌, ◌++◌, ◌∷◌, ℕ, Bool, List, [], slice_index_or}
+use Rattle.std.specs.Prelude.{◌≡◌, ℕ, Bool, List, [], slice_index_or}
 use Rattle.std.specs.List.Sorted.{IsPermutation}
 use Rattle.dk_hierarchy.specs.Samples.{OwnSamples}
 use Rattle.dk_points.specs.Table.{Point}
@@ -23,11 +23,6 @@ abbrev pub file_by : Merges → List ℕ
 file_by (Alone own file) = file
 file_by (Together first second file) = file
 
--- the histories, in the order in which they are merged
-abbrev pub histories_of : Merges → List OwnSamples
-histories_of (Alone own file) = own ∷ []
-histories_of (Together first second file) = histories_of first ++ histories_of second
-
 -- the samples of all
 abbrev pub own_by : Merges → OwnSamples
 own_by (Alone own file) = own
@@ -45,9 +40,10 @@ MergesAreStateFiles =
     (g : Grammar) (ps : List Point) (implicit : Bool) (merges : Merges) → AreMerges g ps implicit merges
     → file_by merges ≡ state_file_of g ps implicit (own_by merges)
 
--- the same histories in any order and in any groups give the same bytes
+-- the same samples of each point, merged in any order and in any groups, give the same bytes
 abbrev pub OrderOfMergesDoesNotMatter : Type 0
 OrderOfMergesDoesNotMatter =
     (g : Grammar) (ps : List Point) (implicit : Bool) (merges others : Merges) → AreMerges g ps implicit merges
-    → AreMerges g ps implicit others → IsPermutation (histories_of merges) (histories_of others)
+    → AreMerges g ps implicit others
+    → ((p : ℕ) → IsPermutation (slice_index_or (own_by merges) p []) (slice_index_or (own_by others) p []))
     → file_by merges ≡ file_by others
