@@ -7,9 +7,10 @@ use Rattle.dk_hierarchy.specs.Standing.{AreEnginesOf}
 use Rattle.dk_join.specs.declared.joining.JoinFault.{JoinFault}
 use Rattle.dk_join.specs.declared.joining.JoinFault.TheVariants as join
 use Rattle.dk_points.specs.Table.{Point}
-use Rattle.dk_state.specs.Spelling.{IsSpelling}
+use Rattle.dk_state.specs.Spelling.{CanBeSaved, IsSpelling, content_of}
 use Rattle.dk_state.specs.StateFile.{StandForHistory, state_file_of}
 use Rattle.dk_state.specs.declared.loading.Loaded.{Loaded}
+use Rattle.dk_state.proofs.Histories.{content_text, history_meets}
 use Rattle.dk_template.specs.declared.grammar.Grammar.{Grammar}
 use Rattle.dk_merge.specs.Engines.{AreEnginesOfBoth, HaveNoJoinSomewhere}
 use Rattle.dk_merge.specs.Faults.{IsJoinFault}
@@ -28,6 +29,14 @@ bad_bytes bytes BadSecond none = (refl, none)
 bad_bytes bytes Different none = (refl, none)
 bad_bytes bytes Joined none = (refl, none)
 bad_bytes bytes NoMemory none = tt
+
+-- the state file of a history is one
+pub history_spelled : (g : Grammar) (ps : List Point) (implicit : Bool) (own : OwnSamples) (bytes : List ℕ) → CanBeSaved g ps own → state_file_of g ps implicit own ≡ bytes → IsSpelling bytes
+history_spelled g ps implicit own bytes can is = record {
+  content = content_of g ps implicit own;
+  meets = history_meets g ps implicit own can;
+  text = content_text g ps implicit own ∙ is;
+}
 
 pub first_bad : (first second : List ℕ) (e : MergeFault) → IsBadOr first BadFirst e → AnswersMerge first second (Err e)
 first_bad first second BadFirst h = h.1

@@ -5,7 +5,8 @@ use Rattle.std.proofs.lemmas.Result.{err_from_is_err_and}
 use Rattle.std.proofs.lemmas.Slice.Eq.{bytes_eq-Decides}
 use Rattle.dk_merge.specs.Fronts.{front_of}
 use Rattle.dk_merge.specs.Merging.{file_of_both}
-use Rattle.dk_merge.proofs.MergedStates.{first_bad, history_fronts, history_made, merged_answers, none_bad, of_one_head, second_bad}
+use Rattle.dk_merge.specs.declared.merging.MergeFault.TheVariants.{BadFirst, BadSecond}
+use Rattle.dk_merge.proofs.MergedStates.{first_bad, history_fronts, history_made, history_spelled, merged_answers, none_bad, of_one_head, second_bad}
 use Rattle.dk_merge.proofs.merging.merge_two.Goals as goal
 
 pub merged-requires : goal.merged-requires
@@ -42,13 +43,14 @@ returns-then-not-same_bytes-clause-both c g ps implicit own others can this that
 
 pub returns-in_err-one-clause-answers : goal.returns-in_err-one-clause-answers
 returns-in_err-one-clause-answers c =
-    let fault = err_from_is_err_and c.from_residual-in_err-one.result c.from_residual-in_err-one.ensures.1 in
+    let fault = err_from_is_err_and c.from_residual.result c.from_residual.ensures.1 in
     rw (fault.1, fault.2) (first_bad c.args.first.now c.args.second.now c.in_err-one.field-0.0 c.in_err-one.ensures.bad)
 
 pub returns-in_err-one-clause-both : goal.returns-in_err-one-clause-both
 returns-in_err-one-clause-both c g ps implicit own others can this that =
-    let fault = err_from_is_err_and c.from_residual-in_err-one.result c.from_residual-in_err-one.ensures.1 in
-    ?
+    let fault = err_from_is_err_and c.from_residual.result c.from_residual.ensures.1 in
+    let spelled = history_spelled g ps implicit own c.args.first.now can.first this in
+    rw (fault.1, fault.2) (none_bad (file_of_both g ps implicit own others) c.args.first.now BadFirst c.in_err-one.field-0.0 spelled c.in_err-one.ensures.bad)
 
 pub returns-in_err-other-clause-answers : goal.returns-in_err-other-clause-answers
 returns-in_err-other-clause-answers c =
@@ -58,4 +60,5 @@ returns-in_err-other-clause-answers c =
 pub returns-in_err-other-clause-both : goal.returns-in_err-other-clause-both
 returns-in_err-other-clause-both c g ps implicit own others can this that =
     let fault = err_from_is_err_and c.from_residual-in_err-other.result c.from_residual-in_err-other.ensures.1 in
-    ?
+    let spelled = history_spelled g ps implicit others c.args.second.now can.second that in
+    rw (fault.1, fault.2) (none_bad (file_of_both g ps implicit own others) c.args.second.now BadSecond c.in_err-other.field-0.0 spelled c.in_err-other.ensures.bad)

@@ -1,7 +1,8 @@
-use Rattle.std.specs.Prelude.{List, map}
+use Rattle.std.specs.Prelude.{Err, List, map}
 use Rattle.std.proofs.Common.{◌∙◌, ap, subst, sym}
 use Rattle.std.proofs.lemmas.Result.{err_from_is_err_and}
 use Rattle.dk_engine.specs.Levels.{Whole}
+use Rattle.dk_join.specs.declared.joining.JoinFault.{JoinFault}
 use Rattle.dk_state.specs.Saved.{saved_text}
 use Rattle.dk_state.specs.StateFile.{StandForHistory}
 use Rattle.dk_merge.proofs.MergedStates.{join_fault_made}
@@ -25,5 +26,5 @@ returns c =
 
 pub returns-in_err-engines : goal.returns-in_err-engines
 returns-in_err-engines c =
-    let fault = err_from_is_err_and c.from_residual-in_err-engines.result c.from_residual-in_err-engines.ensures.1 in
-    rw fault.1 (join_fault_made c.args.one c.args.other c.in_err-engines.field-0.0 fault.0 (λ e. c.in_err-engines.ensures.none ?) fault.2)
+    let fault = err_from_is_err_and c.from_residual.result c.from_residual.ensures.1 in
+    rw fault.1 (join_fault_made c.args.one c.args.other c.in_err-engines.field-0.0 fault.0 (λ e. c.in_err-engines.ensures.none (ap (λ (f : JoinFault). Err f) e)) fault.2)
