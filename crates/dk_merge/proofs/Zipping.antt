@@ -16,9 +16,15 @@ any_middle P (y ∷ xs) x ys h =
     let within = later.2 in
     (suc later.0, later.1, omega (arith, within), later.3, later.4)
 
-pub zip_none : {A B : Type 0} (xs : List A) → zip {K = A} {X = B} xs [] ≡ []
-zip_none [] = refl
-zip_none (x ∷ xs) = refl
+-- of no first ones, or no second ones, there are no pairs
+pub no_first : {A B : Type 0} (xs : List A) (ys : List B) → length xs ≡ 0 → zip xs ys ≡ []
+no_first [] ys none = refl
+no_first (x ∷ xs) ys none = absurd (omega (arith, none))
+
+pub no_second : {A B : Type 0} (xs : List A) (ys : List B) → length ys ≡ 0 → zip xs ys ≡ []
+no_second [] ys none = refl
+no_second (x ∷ xs) [] none = refl
+no_second (x ∷ xs) (y ∷ ys) none = absurd (omega (arith, none))
 
 -- each pair at a place
 pub zip_from : {A B : Type 0} (R : A → B → Type 0) (xs : List A) (ys : List B) → length xs ≡ length ys
