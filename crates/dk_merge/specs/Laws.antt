@@ -47,3 +47,14 @@ OrderOfMergesDoesNotMatter =
     → AreMerges g ps implicit others
     → ((p : ℕ) → IsPermutation (slice_index_or (own_by merges) p []) (slice_index_or (own_by others) p []))
     → file_by merges ≡ file_by others
+
+-- two histories in either order, and three in either grouping, give the same bytes
+abbrev pub EitherOrderIsSame : Type 0
+EitherOrderIsSame =
+    (g : Grammar) (ps : List Point) (implicit : Bool) (own others : OwnSamples)
+    → file_of_both g ps implicit own others ≡ file_of_both g ps implicit others own
+
+abbrev pub EitherGroupingIsSame : Type 0
+EitherGroupingIsSame =
+    (g : Grammar) (ps : List Point) (implicit : Bool) (own others more : OwnSamples)
+    → file_of_both g ps implicit (own_of_both own others) more ≡ file_of_both g ps implicit own (own_of_both others more)
