@@ -118,7 +118,7 @@ module _ (one other : Loaded) (first second : List ℕ) (is : IsLoadOf first one
   history_fronts g ps implicit own others this that =
       let grammars : other.grammar ≡ one.grammar = that.grammar ∙ sym this.grammar in
       let points : other.points ≡ one.points = that.points ∙ sym this.points in
-      let words : other.implicit ≡ one.implicit = that.implicit ∙ sym this.implicit in
+      let words : other.implicit ≡ one.implicit = that.word ∙ sym this.word in
       one_front (head_of one) (head_of other) one.engines other.engines first second is.says also.says
       (λ i. record { grammar = grammars i; points = points i; implicit = words i })
 
@@ -131,7 +131,7 @@ history_made one other g ps implicit own others this that can (Ok text) made =
     subst (λ h. StandForHistory h one.points made.both all) (sym this.grammar) (subst (λ qs. StandForHistory g qs made.both all) (sym this.points) stand) in
     let grammars = this.grammar in
     let points = this.points in
-    let words = this.implicit in
+    let words = this.word in
     made.stands all here ∙ (λ i. state_file_of (grammars i) (points i) (words i) all)
 history_made one other g ps implicit own others this that can (Err BadFirst) made = made
 history_made one other g ps implicit own others this that can (Err BadSecond) made = made

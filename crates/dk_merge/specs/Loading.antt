@@ -21,7 +21,7 @@ head_of l = record { grammar = l.grammar; points = l.points; implicit = l.implic
 pub record IsOfHistory (l : Loaded) (g : Grammar) (ps : List Point) (implicit : Bool) (own : OwnSamples) : Type 0 where
   pub grammar : l.grammar ≡ g
   pub points : l.points ≡ ps
-  pub implicit : l.implicit ≡ implicit
+  pub word : l.implicit ≡ implicit
   pub stand : StandForHistory g ps l.engines own
 
 -- It was loaded from these bytes.

@@ -11,7 +11,7 @@ returns-in-Ok-clause-loaded c =
       says = record { table = own.table; of_table = own.engines.0; of_grammar = own.engines.1; text = own.saves };
       stands = λ g ps implicit samples can text.
           let of = own.stands g ps implicit samples can text in
-          record { grammar = of.0; points = of.1; implicit = of.2; stand = of.3 };
+          record { grammar = of.0; points = of.1; word = of.2; stand = of.3 };
     }
 
 pub returns-in-Err-BadState-clause-bad : goal.returns-in-Err-BadState-clause-bad
