@@ -1,0 +1,8 @@
+-- cited by public clauses
+pub mod Fronts
+pub mod Engines
+pub mod Merging
+pub mod Laws
+pub mod Faults
+-- inner: cited by the clauses of bodies alone
+pub mod Loading

@@ -1,0 +1,9 @@
+//! Two states as one: the state file of both histories, from the state file of each.
+#![tactic(auto)]
+
+mod engines;
+mod fronts;
+pub mod laws;
+mod merging;
+
+pub use merging::{MergeFault, merge_two};
