@@ -2,7 +2,7 @@
 use Rattle.std.specs.Prelude.{◌++◌, ℕ, List, codes}
 use Rattle.std.specs.Fmt.{decimal}
 use Rattle.dk_base.specs.declared.why.Why.{Why}
-use Rattle.dk_base.specs.declared.why.Why.TheVariants.{LongLine, BadHeader, BadPoint, BadVariable, DuplicatePoint, CyclicParents, UnknownPoint, BadNonce, WrongName, BadValue, BadMark, Truncated, ExtraLine, UnmatchedExit, TooManyPoints, TooManyVariables, TooLong, BadState}
+use Rattle.dk_base.specs.declared.why.Why.TheVariants.{LongLine, BadHeader, BadPoint, BadVariable, DuplicatePoint, CyclicParents, UnknownPoint, BadNonce, WrongName, BadValue, BadMark, Truncated, ExtraLine, UnmatchedExit, TooManyPoints, TooManyVariables, TooLong, BadState, DifferentState, JoinedState}
 
 abbrev pub why_number : Why → ℕ
 why_number LongLine = 1
@@ -23,6 +23,8 @@ why_number TooManyPoints = 15
 why_number TooManyVariables = 16
 why_number TooLong = 17
 why_number BadState = 18
+why_number DifferentState = 19
+why_number JoinedState = 20
 
 abbrev pub why_name : Why → List ℕ
 why_name LongLine = codes "LongLine"
@@ -43,6 +45,8 @@ why_name TooManyPoints = codes "TooManyPoints"
 why_name TooManyVariables = codes "TooManyVariables"
 why_name TooLong = codes "TooLong"
 why_name BadState = codes "BadState"
+why_name DifferentState = codes "DifferentState"
+why_name JoinedState = codes "JoinedState"
 
 -- number and name, as they are printed
 abbrev pub why_text : Why → List ℕ

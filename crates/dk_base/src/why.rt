@@ -43,10 +43,14 @@ pub enum Why {
     TooLong = 17,
     /// A state file is not one that saving gives.
     BadState = 18,
+    /// A state file to be merged has other declarations, another word or another grammar than the one before it.
+    DifferentState = 19,
+    /// What states come to together is none that can be saved.
+    JoinedState = 20,
 }
 
 impl Why {
-    /// Its number, from 1 to 18.
+    /// Its number, from 1 to 20.
     pub fn number(self) -> u8
         ensures { result ≡ why_number self }
     {
@@ -76,6 +80,8 @@ impl Why {
             Why::TooManyVariables => "TooManyVariables",
             Why::TooLong => "TooLong",
             Why::BadState => "BadState",
+            Why::DifferentState => "DifferentState",
+            Why::JoinedState => "JoinedState",
         }
     }
 }
