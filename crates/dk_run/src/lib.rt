@@ -13,5 +13,5 @@ mod top;
 mod words;
 
 pub use status::Status;
-pub use top::{run, tell_usage};
+pub use top::{run, run_command, tell_usage};
 pub use words::words_of;

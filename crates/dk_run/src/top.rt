@@ -224,7 +224,7 @@ fn run_begun<F: Fn(&[u8]) -> bool + Drop, I: Inputs, S: Sinks>(
 }
 
 // Does what a command says.
-fn run_command<I: Inputs, S: Sinks>(
+fn do_command<I: Inputs, S: Sinks>(
     alloc: Global,
     command: &Command,
     inputs: &mut I,
@@ -244,6 +244,26 @@ fn run_command<I: Inputs, S: Sinks>(
         Ok(beginning) => run_begun(alloc, command, beginning, inputs, sinks),
         Err(trouble) => tell_unbegun(alloc, command, trouble, sinks),
     }
+}
+
+/// Does what a command says, as `run` does for words that ask for this.
+pub fn run_command<I: Inputs, S: Sinks>(
+    alloc: Global,
+    command: &Command,
+    inputs: &mut I,
+    sinks: &mut S,
+) -> Status
+    // What the status says.
+    ensures says { let before : Outside = outside (I.file inputs.old) (I.rest inputs.old) (I.faults inputs.old) (S.written sinks.old) (S.faults sinks.old) in
+        let after : Outside = outside (I.file inputs.new) (I.rest inputs.new) (I.faults inputs.new) (S.written sinks.new) (S.faults sinks.new) in
+        Says result (Some (request.Run command.now)) before after }
+    // Where the files are held and no fault of the outside rises, the run comes to its end.
+    ensures complete { let before : Outside = outside (I.file inputs.old) (I.rest inputs.old) (I.faults inputs.old) (S.written sinks.old) (S.faults sinks.old) in
+        let after : Outside = outside (I.file inputs.new) (I.rest inputs.new) (I.faults inputs.new) (S.written sinks.new) (S.faults sinks.new) in
+        CompletesCalmly (Some (request.Run command.now)) before after result }
+    ensures files { I.file inputs.new ≡ I.file inputs.old }
+{
+    do_command(alloc, command, inputs, sinks)
 }
 
 /// Does what the words of the command say: reads the files that they name, one after another, and writes the reports, or a message. Words

@@ -1,5 +1,6 @@
-use Rattle.dk_run.proofs.Saying.{unbegun_says}
+use Rattle.std.proofs.Common.{refl}
+use Rattle.dk_run.proofs.Complete.{complete_says}
 use Rattle.dk_run.proofs.top.run_command.Goals as goal
 
-pub returns-in-Err-clause-says : goal.returns-in-Err-clause-says
-returns-in-Err-clause-says g c = unbegun_says c.args.command.now _ _ c.in-Err.trouble c.tell_unbegun.result c.in-Err.ensures.trouble c.tell_unbegun.ensures
+pub returns-clause-complete : goal.returns-clause-complete
+returns-clause-complete g c = complete_says _ c.args.command.now _ _ c.do_command.result refl c.do_command.ensures.says

@@ -1,8 +1,0 @@
-use Rattle.dk_merge.proofs.MergedFiles.{either_grouping, either_order}
-use Rattle.dk_merge.proofs.laws.either_order_and_grouping_is_same.Goals as goal
-
-pub returns-clause-order : goal.returns-clause-order
-returns-clause-order c = either_order
-
-pub returns-clause-grouping : goal.returns-clause-grouping
-returns-clause-grouping c = either_grouping
