@@ -1,0 +1,4 @@
+-- cited by public clauses
+pub mod Laws
+-- what those are made of
+pub mod Recorders
