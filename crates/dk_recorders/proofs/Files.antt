@@ -47,19 +47,17 @@ runs_taken file = groups_taken 0 (lines_of file) (lines_have_no_lf file)
 
 block_taken : (h : Header) (run : List (List ℕ)) → All IsTaken run → All IsTaken (block_behind h run).headers × All IsTaken (block_behind h run).body
 block_taken h [] all = (All-nil IsTaken, All-nil IsTaken)
-block_taken h (l ∷ ls) all = by (is_comment l) (behind_header h l)
+block_taken h (l ∷ ls) all = by (is_comment l) (behind_header h l) (λ next. block_taken next ls (All-tail IsTaken l ls all))
   where
-    at : (o : Option Header) → All IsTaken (at_line l ls o (λ next. block_behind next ls)).headers × All IsTaken (at_line l ls o (λ next. block_behind next ls)).body
-    at None = (All-nil IsTaken, all)
-    at (Some next) =
-        let more = block_taken next ls (All-tail IsTaken l ls all) in
-        (All-cons IsTaken l (block_behind next ls).headers (All-head IsTaken l ls all) more.0, more.1)
+    at : (o : Option Header) → ((next : Header) → All IsTaken (block_behind next ls).headers × All IsTaken (block_behind next ls).body)
+        → (let b : Block = at_line l ls o (λ next. block_behind next ls) in All IsTaken b.headers × All IsTaken b.body)
+    at None more = (All-nil IsTaken, all)
+    at (Some next) more = (All-cons IsTaken l (block_behind next ls).headers (All-head IsTaken l ls all) (more next).0, (more next).1)
 
-    by : (b : Bool) (o : Option Header)
-        → All IsTaken (if b then block_behind h ls else at_line l ls o (λ next. block_behind next ls)).headers
-        × All IsTaken (if b then block_behind h ls else at_line l ls o (λ next. block_behind next ls)).body
-    by true o = block_taken h ls (All-tail IsTaken l ls all)
-    by false o = at o
+    by : (b : Bool) (o : Option Header) → ((next : Header) → All IsTaken (block_behind next ls).headers × All IsTaken (block_behind next ls).body)
+        → (let c : Block = if b then block_behind h ls else at_line l ls o (λ next. block_behind next ls) in All IsTaken c.headers × All IsTaken c.body)
+    by true o more = more h
+    by false o more = at o more
 
 abbrev pub LinesTaken : Block → Type 0
 LinesTaken b = All IsTaken (lines_of_block b)
@@ -95,17 +93,18 @@ no_header_line h (Some (Err why)) e = absurd (cc e)
 
 run_begins : (run : List (List ℕ)) → has_sample (block_of run) ≡ true → HasNoHeader (block_of run) → Begins (block_of run)
 run_begins [] sample none = absurd (cc sample)
-run_begins (l ∷ ls) sample none = by (is_comment l) refl sample none
+run_begins (l ∷ ls) sample none = by (is_comment l) refl (run_begins ls) sample none
   where
     at : (o : Option Header) → behind_header first_header l ≡ o → is_comment l ≡ false → (let b : Block = at_line l ls o (λ next. block_behind next ls) in
         has_sample b ≡ true → HasNoHeader b → Begins b)
     at None e comment s n = record { first = l; rest = ls; body = refl; no_comment = comment; no_header = no_header_line first_header (header_line first_header l) e; sample = s }
     at (Some next) e comment s n = absurd (cc n)
 
-    by : (c : Bool) → is_comment l ≡ c → (let b : Block = if c then block_of ls else at_line l ls (behind_header first_header l) (λ next. block_behind next ls) in
+    by : (c : Bool) → is_comment l ≡ c → (has_sample (block_of ls) ≡ true → HasNoHeader (block_of ls) → Begins (block_of ls))
+        → (let b : Block = if c then block_of ls else at_line l ls (behind_header first_header l) (λ next. block_behind next ls) in
         has_sample b ≡ true → HasNoHeader b → Begins b)
-    by true e s n = run_begins ls s n
-    by false e s n = at (behind_header first_header l) refl e s n
+    by true e more s n = more s n
+    by false e more s n = at (behind_header first_header l) refl e s n
 
 abbrev AsRun : Block → Type 0
 AsRun b = (run : List (List ℕ)) × (block_of run ≡ b)
