@@ -98,9 +98,6 @@ fit_if_within limit room n [] within = record { short = All-nil (is_short limit)
 fit_if_within limit room n (l ∷ ls) within =
     by (is_long limit room (ended l)) (is_over room (ended l)) refl refl within (fit_if_within limit (room - (length l + 1)) (n + 1) ls)
   where
-    rest : Left
-    rest = lined_by limit (room - (length l + 1)) true (n + 1) (map ended ls)
-
     by : (a b : Bool) → is_long limit room (ended l) ≡ a → is_over room (ended l) ≡ b
         → is_past_limit (end_of (if a then Ends (LongLine (n + 1)) else if b then Ends (TooLong (n + 1)) else Next (record { number = n + 1; bytes = without_cr l }) (lined_by limit (room - (length l + 1)) true (n + 1) (map ended ls)))) ≡ false
         → (is_past_limit (end_of (lined_by limit (room - (length l + 1)) true (n + 1) (map ended ls))) ≡ false → Fit limit (room - (length l + 1)) ls)

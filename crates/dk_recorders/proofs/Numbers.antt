@@ -87,9 +87,9 @@ same_values (v ∷ vs) ls c = by v.constant_line (λ ms. same_values vs ms c)
     by false more = same_named v vs ls c more
 
 -- ---- records
-same_body_with : (nonce : Option ℤ) (vs : List VarDecl) (ls : List Line) (c : ℕ)
-    → result_ok (body_with nonce (record_values vs ls (Some c))) ≡ result_ok (body_with nonce (record_values vs (plain ls) (Some 0)))
-same_body_with nonce vs ls c = ok_then (record_values vs ls (Some c)) (record_values vs (plain ls) (Some 0)) _ _ (same_values vs ls c) (λ values. refl)
+same_body_with : (number : Option ℤ) (vs : List VarDecl) (ls : List Line) (c : ℕ)
+    → result_ok (body_with number (record_values vs ls (Some c))) ≡ result_ok (body_with number (record_values vs (plain ls) (Some 0)))
+same_body_with number vs ls c = ok_then (record_values vs ls (Some c)) (record_values vs (plain ls) (Some 0)) _ _ (same_values vs ls c) (λ values. refl)
 
 same_nonce : (k : Line) → result_ok (nonce_of k) ≡ result_ok (nonce_of (unnumbered k.bytes))
 unfolding nonce_of
