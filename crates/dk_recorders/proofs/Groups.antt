@@ -26,7 +26,7 @@ onto read l (Last ls (LongLine line)) = refl
 onto read l (Last ls (TooLong line)) = refl
 
 -- ---- how groups end
-abbrev groups_end : Groups → End
+abbrev pub groups_end : Groups → End
 groups_end (Group ls close rest) = groups_end rest
 groups_end (Last ls end) = end
 
@@ -34,7 +34,7 @@ onto_ends : (l : Line) (g : Groups) → groups_end (onto_group l g) ≡ groups_e
 onto_ends l (Group ls close rest) = refl
 onto_ends l (Last ls end) = refl
 
-groups_end_alike : (left : Left) → groups_end (groups_of left) ≡ end_of left
+pub groups_end_alike : (left : Left) → groups_end (groups_of left) ≡ end_of left
 groups_end_alike (Ends end) = refl
 groups_end_alike (Next l rest) = by (is_empty (trim_blanks l.bytes)) (groups_end_alike rest)
   where
@@ -70,7 +70,7 @@ accepted_within read left h e = ap is_past_limit (sym (groups_end_alike left)) �
 
 -- ---- at a blank line
 -- where no lines are left, no block is
-nothing_left : (h : History) (c : ℕ) → effect_of false h [] (Some c) ≡ Ok (no_block h)
+pub nothing_left : (h : History) (c : ℕ) → effect_of false h [] (Some c) ≡ Ok (no_block h)
 unfolding effect_of
 nothing_left h c = refl
 
