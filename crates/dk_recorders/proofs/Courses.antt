@@ -1,0 +1,69 @@
+-- A text as the only file of a run.
+use Rattle.std.proofs.Common.{◌≡◌, ◌+◌, ◌-◌, ◌<◌, ℕ, false, true, List, [], ◌∷◌, length, Some, Result, Ok, Err, refl, sym, ap, ◌∙◌, subst}
+use Rattle.dk_base.specs.Reading.{LineFault, Reads, ◌>>=◌}
+use Rattle.dk_lines.specs.Left.{End, lined}
+use Rattle.dk_points.specs.Table.{Point}
+use Rattle.dk_blocks.specs.Blocks.{Group, Groups, Last, groups_of}
+use Rattle.dk_blocks.specs.History.{History, Taken, effect_of, file_ended, no_history}
+use Rattle.dk_blocks.specs.Reading.{after_all, after_last}
+use Rattle.dk_run.specs.Courses.{Course, after_block, behind_histories, course_end, course_of, course_of_files, course_of_groups, goes_on, line_limit, then_files, total_limit}
+use Rattle.dk_run.specs.Files.{FileFault}
+use Rattle.dk_turns.specs.Turns.{turns_of}
+use Rattle.dk_recorders.specs.Laws.{AreAlike, TellTheSame, TurnsDoNotMatter, history_of}
+use Rattle.dk_recorders.specs.Recorders.{AreRecorders, text_by_file}
+use Rattle.dk_recorders.proofs.Telling.{order_of_own_samples}
+use Rattle.dk_recorders.proofs.Turned.{Alike, read_text, turned_text}
+
+course_ends : (read : Reads Taken) (g : Groups) → (course_of_groups false read g).end ≡ after_all false read g
+course_ends read (Group ls close rest) = by (read ls (Some close)) (λ next. course_ends next rest)
+  where
+    by : (r : Result Taken LineFault) → ((next : Reads Taken) → (course_of_groups false next rest).end ≡ after_all false next rest)
+        → (goes_on r (λ h. course_of_groups false (effect_of false h) rest)).end ≡ (r >>= λ t. after_all false (effect_of false t.history) rest)
+    by (Ok t) more = more (effect_of false t.history)
+    by (Err fault) more = refl
+course_ends read (Last ls end) = by (after_last read ls end)
+  where
+    by : (r : Result Taken LineFault) → (goes_on r (λ h. course_end (Ok h))).end ≡ (r >>= λ t. Ok t.history)
+    by (Ok t) = refl
+    by (Err fault) = refl
+
+-- what a run over one file comes to
+abbrev of_file : Result History LineFault → Result History FileFault
+of_file (Ok h) = Ok (file_ended h)
+of_file (Err fault) = Err (record { file = 0; line = fault.line; why = fault.why })
+
+history_is : (text : List ℕ) → history_of text ≡ of_file (read_text line_limit total_limit text)
+unfolding course_of
+history_is text =
+    ap (λ (r : Result History LineFault). (then_files 0 r after).end) (course_ends (effect_of false no_history) (groups_of (lined line_limit total_limit 0 true text)))
+    ∙ by (read_text line_limit total_limit text)
+  where
+    after : History → Course FileFault
+    after next = course_of_files false (total_limit - length text) (file_ended next) (0 + 1) []
+
+    by : (r : Result History LineFault) → (then_files 0 r (λ next. course_of_files false (total_limit - length text) (file_ended next) (0 + 1) [])).end ≡ of_file r
+    by (Ok h) = refl
+    by (Err fault) = refl
+
+-- between two files
+ended_alike : (h others : History) → Alike h others → AreAlike (file_ended h) (file_ended others)
+unfolding file_ended
+ended_alike h others alike = record { table = alike.table; header = alike.header; grammar = alike.grammar; samples = alike.samples }
+
+ended_table : (j h : History) → file_ended j ≡ h → h.table ≡ j.table
+unfolding file_ended
+ended_table j h same = ap (λ (g : History). g.table) (sym same)
+
+pub turns_do_not_matter : TurnsDoNotMatter
+turns_do_not_matter n files h some e are =
+    by (read_text line_limit total_limit (text_by_file files)) refl (sym (history_is (text_by_file files)) ∙ e)
+  where
+    by : (r : Result History LineFault) → read_text line_limit total_limit (text_by_file files) ≡ r → of_file r ≡ Ok h
+        → (others : History) × (history_of (turns_of n files) ≡ Ok others) × AreAlike h others × TellTheSame h others
+    by (Err fault) is f = absurd (cc f)
+    by (Ok j) is f =
+        let same : file_ended j ≡ h = cc f in
+        let turned = turned_text line_limit total_limit n files j some is (subst (λ (ps : List Point). AreRecorders ps files) (ended_table j h same) are) in
+        let others : History = file_ended turned.0 in
+        let alike : AreAlike h others = subst (λ (g : History). AreAlike g others) same (ended_alike j turned.0 turned.2) in
+        (others, history_is (turns_of n files) ∙ ap of_file turned.1, alike, order_of_own_samples h others alike)
