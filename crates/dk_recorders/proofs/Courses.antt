@@ -1,5 +1,5 @@
 -- A text as the only file of a run.
-use Rattle.std.proofs.Common.{◌≡◌, ◌+◌, ◌-◌, ◌<◌, ℕ, false, true, List, [], ◌∷◌, length, Some, Result, Ok, Err, refl, sym, ap, ◌∙◌, subst}
+use Rattle.std.proofs.Common.{◌≡◌, ◌+◌, ◌-◌, ℕ, false, true, List, [], ◌∷◌, ◌++◌, flat_map, length, map, Some, Result, Ok, Err, refl, sym, ap, ◌∙◌, subst}
 use Rattle.dk_base.specs.Reading.{LineFault, Reads, ◌>>=◌}
 use Rattle.dk_lines.specs.Left.{End, lined}
 use Rattle.dk_points.specs.Table.{Point}
@@ -8,11 +8,14 @@ use Rattle.dk_blocks.specs.History.{History, Taken, effect_of, file_ended, no_hi
 use Rattle.dk_blocks.specs.Reading.{after_all, after_last}
 use Rattle.dk_run.specs.Courses.{Course, after_block, behind_histories, course_end, course_of, course_of_files, course_of_groups, goes_on, line_limit, then_files, total_limit}
 use Rattle.dk_run.specs.Files.{FileFault}
-use Rattle.dk_turns.specs.Turns.{turns_of}
-use Rattle.dk_recorders.specs.Laws.{AreAlike, TellTheSame, TurnsDoNotMatter, history_of}
-use Rattle.dk_recorders.specs.Recorders.{AreRecorders, text_by_file}
+use Rattle.dk_turns.specs.Blocks.{Block, sample_blocks}
+use Rattle.dk_turns.specs.Turns.{in_rounds, turns_of}
+use Rattle.dk_recorders.specs.Laws.{AreAlike, ComesToAlike, OrderOfRecordsDoesNotMatter, TurnsDoNotMatter, history_of}
+use Rattle.dk_recorders.specs.Recorders.{AreRecorders, text_in_order}
+use Rattle.dk_recorders.specs.Interleaving.{IsInterleaved}
 use Rattle.dk_recorders.proofs.Telling.{order_of_own_samples}
-use Rattle.dk_recorders.proofs.Turned.{Alike, read_text, turned_text}
+use Rattle.dk_recorders.proofs.Ordered.{Alike, ordered_text, read_text}
+use Rattle.dk_recorders.proofs.Rounds.{in_rounds_interleave, one_by_one_interleave}
 
 course_ends : (read : Reads Taken) (g : Groups) → (course_of_groups false read g).end ≡ after_all false read g
 course_ends read (Group ls close rest) = by (read ls (Some close)) (λ next. course_ends next rest)
@@ -54,16 +57,35 @@ ended_table : (j h : History) → file_ended j ≡ h → h.table ≡ j.table
 unfolding file_ended
 ended_table j h same = ap (λ (g : History). g.table) (sym same)
 
-pub turns_do_not_matter : TurnsDoNotMatter
-turns_do_not_matter n files h some e are =
-    by (read_text line_limit total_limit (text_by_file files)) refl (sym (history_is (text_by_file files)) ∙ e)
+pub order_of_records : OrderOfRecordsDoesNotMatter
+order_of_records files first second h one two e are =
+    by (read_text line_limit total_limit (text_in_order files first)) refl (sym (history_is (text_in_order files first)) ∙ e)
   where
-    by : (r : Result History LineFault) → read_text line_limit total_limit (text_by_file files) ≡ r → of_file r ≡ Ok h
-        → (others : History) × (history_of (turns_of n files) ≡ Ok others) × AreAlike h others × TellTheSame h others
+    by : (r : Result History LineFault) → read_text line_limit total_limit (text_in_order files first) ≡ r → of_file r ≡ Ok h
+        → ComesToAlike (text_in_order files second) h
     by (Err fault) is f = absurd (cc f)
     by (Ok j) is f =
         let same : file_ended j ≡ h = cc f in
-        let turned = turned_text line_limit total_limit n files j some is (subst (λ (ps : List Point). AreRecorders ps files) (ended_table j h same) are) in
-        let others : History = file_ended turned.0 in
-        let alike : AreAlike h others = subst (λ (g : History). AreAlike g others) same (ended_alike j turned.0 turned.2) in
-        (others, history_is (turns_of n files) ∙ ap of_file turned.1, alike, order_of_own_samples h others alike)
+        let now : AreRecorders j.table files = subst (λ (ps : List Point). AreRecorders ps files) (ended_table j h same) are in
+        let ordered = ordered_text line_limit total_limit files first second j one two is now in
+        let others : History = file_ended ordered.0 in
+        let alike : AreAlike h others = subst (λ (g : History). AreAlike g others) same (ended_alike j ordered.0 ordered.2) in
+        (others, history_is (text_in_order files second) ∙ ap of_file ordered.1, alike, order_of_own_samples h others alike)
+
+-- ---- turns
+by_file : (files : List (List ℕ)) → IsInterleaved (flat_map sample_blocks files) (map sample_blocks files)
+by_file files = subst (λ (bs : List Block). IsInterleaved bs (map sample_blocks files)) (flattened files) (one_by_one_interleave (map sample_blocks files))
+  where
+    flattened : (fs : List (List ℕ)) → flat_map (λ (list : List Block). list) (map sample_blocks fs) ≡ flat_map sample_blocks fs
+    flattened [] = refl
+    flattened (f ∷ fs) = ap (λ (bs : List Block). sample_blocks f ++ bs) (flattened fs)
+
+turns_are : (n : ℕ) (files : List (List ℕ)) → text_in_order files (in_rounds n (map sample_blocks files)) ≡ turns_of n files
+unfolding text_in_order turns_of
+turns_are n files = refl
+
+pub turns_do_not_matter : TurnsDoNotMatter
+turns_do_not_matter n files h some e are =
+    subst (λ (text : List ℕ). ComesToAlike text h) (turns_are n files)
+    (order_of_records files (flat_map sample_blocks files) (in_rounds n (map sample_blocks files)) h (by_file files)
+    (in_rounds_interleave n (map sample_blocks files) some) e are)

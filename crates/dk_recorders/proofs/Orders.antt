@@ -1,9 +1,11 @@
 -- Steps in another order: those of several lists, each of which keeps its order, where steps of two lists may change places.
-use Rattle.std.proofs.Common.{◌≡◌, ◌≤◌, ◌<◌, ◌-◌, ◌++◌, ℕ, zero, suc, All, List, [], ◌∷◌, Option, Some, None, drop, flat_map, length, map, option_and_then, take, refl, sym, subst, ap, ◌∙◌, append_assoc, append-nil, get_or, length-append, length-drop, arith}
-use Rattle.std.proofs.lemmas.List.{get_or-map, length-map, take-append-drop, nil_from_length}
-use Rattle.std.proofs.lemmas.List.Elements.{All-append, All-cons, All-drop, All-head, All-map, All-nil, All-tail, All-take, All-weaker}
+use Rattle.std.proofs.Common.{◌≡◌, ◌<◌, ◌++◌, ℕ, zero, suc, All, List, [], ◌∷◌, Option, Some, None, drop, flat_map, length, option_and_then, refl, sym, subst, ap, ◌∙◌, append_assoc, append-nil, get_or, length-append, arith}
+use Rattle.std.proofs.Math.Seq.{get_or-append_seam}
+use Rattle.std.proofs.lemmas.Grind.{flat_map-append}
+use Rattle.std.proofs.lemmas.List.{get_or_append_left}
+use Rattle.std.proofs.lemmas.List.Elements.{All-append, All-cons, All-drop, All-head, All-nil, All-tail, All-weaker}
 use Rattle.std.specs.List.{AllPairs}
-use Rattle.dk_turns.specs.Turns.{in_rounds, rounds}
+use Rattle.dk_recorders.specs.Interleaving.{IsInterleaved}
 
 -- both fail, or both come to something, and that is related
 abbrev pub Both : {S : Type 0} → (S → S → Type 0) → Option S → Option S → Type 0
@@ -35,6 +37,12 @@ both_trans Like trans (Some s) None c h k = absurd h
 both_trans Like trans (Some s) (Some t) None h k = k
 both_trans Like trans (Some s) (Some t) (Some u) h k = trans s t u h k
 
+both_sym : {S : Type 0} (Like : S → S → Type 0) → ((s t : S) → Like s t → Like t s) → (a b : Option S) → Both Like a b → Both Like b a
+both_sym Like back None None h = h
+both_sym Like back None (Some t) h = absurd h
+both_sym Like back (Some s) None h = absurd h
+both_sym Like back (Some s) (Some t) h = back s t h
+
 then_both : {S : Type 0} (Like : S → S → Type 0) (f g : S → Option S) → ((s t : S) → Like s t → Both Like (f s) (g t))
     → (a b : Option S) → Both Like a b → Both Like (option_and_then f a) (option_and_then g b)
 then_both Like f g more None None h = h
@@ -47,27 +55,31 @@ flat_all P f [] h = All-nil P
 flat_all P f (y ∷ ys) h =
     All-append P (f y) (flat_map f ys) (All-head (λ y. All P (f y)) y ys h) (flat_all P f ys (All-tail (λ y. All P (f y)) y ys h))
 
-pairs_tail : {X : Type 0} (R : X → X → Type 0) (x : X) (xs : List X) → AllPairs R (x ∷ xs) → AllPairs R xs
-pairs_tail R x xs h i j d lt within = h (suc i) (suc j) d (omega arith) (omega arith)
+pub All-parts : {X : Type 0} (P : X → Type 0) (xs ys : List X) → All P (xs ++ ys) → All P xs × All P ys
+All-parts P [] ys all = (All-nil P, all)
+All-parts P (x ∷ xs) ys all =
+    let parts = All-parts P xs ys (All-tail P x (xs ++ ys) all) in
+    (All-cons P x xs (All-head P x (xs ++ ys) all) parts.0, parts.1)
 
-pairs_head : {X : Type 0} (R : X → X → Type 0) (x : X) (xs : List X) → AllPairs R (x ∷ xs) → All (R x) xs
-pairs_head R x xs h k d within = h 0 (suc k) d (omega arith) (omega arith)
+none_left : {X : Type 0} (lists : List (List X)) → All (λ list. list ≡ []) lists → flat_map (λ (list : List X). list) lists ≡ []
+none_left [] none = refl
+none_left {X} (l ∷ ls) none =
+    ap (λ (k : List X). k ++ flat_map (λ (list : List X). list) ls) (All-head (λ list. list ≡ []) l ls none)
+    ∙ none_left ls (All-tail (λ list. list ≡ []) l ls none)
 
--- what is left behind a round: fewer items, if there were any
-dropped_count : {X : Type 0} (n : ℕ) (lists : List (List X)) → 0 < n
-    → length (flat_map (λ (list : List X). list) (map (drop n) lists)) ≤ length (flat_map (λ (list : List X). list) lists) - 1
-dropped_count n [] h = omega arith
-dropped_count {X = X} n (l ∷ ls) h =
-    omega (
-      arith,
-      length-append l (flat_map (λ (list : List X). list) ls),
-      length-append (drop n l) (flat_map (λ (list : List X). list) (map (drop n) ls)),
-      length-drop n l,
-      dropped_count n ls h,
-    )
+-- ---- lists of which one loses its first item
+left_long : {X : Type 0} (front : List (List X)) (x : X) (rest : List X) (back : List (List X)) → length (front ++ rest ∷ back) ≡ length (front ++ (x ∷ rest) ∷ back)
+left_long front x rest back = length-append front (rest ∷ back) ∙ sym (length-append front ((x ∷ rest) ∷ back))
+
+left_at : {X : Type 0} (front : List (List X)) (x : X) (rest : List X) (back : List (List X)) (i : ℕ) (d : List X)
+    → (k : ℕ) × (get_or (front ++ rest ∷ back) i d ≡ drop k (get_or (front ++ (x ∷ rest) ∷ back) i d))
+left_at [] x rest back zero d = (1, refl)
+left_at [] x rest back (suc i) d = (0, refl)
+left_at (l ∷ front) x rest back zero d = (0, refl)
+left_at (l ∷ front) x rest back (suc i) d = left_at front x rest back i d
 
 module _ {S X : Type 0} (step : S → X → Option S) (Like : S → S → Type 0) (Good : X → Type 0) (Apart : X → X → Type 0)
-    (like_refl : (s : S) → Like s s) (like_trans : (s t u : S) → Like s t → Like t u → Like s u)
+    (like_refl : (s : S) → Like s s) (like_sym : (s t : S) → Like s t → Like t s) (like_trans : (s t u : S) → Like s t → Like t u → Like s u)
     (step_alike : (s t : S) (x : X) → Like s t → Good x → Both Like (step s x) (step t x))
     (exchanged : (s : S) (x y : X) → Good x → Good y → Apart x y → Both Like (run step s (x ∷ y ∷ [])) (run step s (y ∷ x ∷ []))) where
   -- the two lists come to the same from all that is alike
@@ -122,73 +134,79 @@ module _ {S X : Type 0} (step : S → X → Option S) (Like : S → S → Type 0
       (subst (λ (l : List X). Same (x ∷ (ys ++ xs)) l) (append_assoc ys (x ∷ []) xs)
       (same_append (x ∷ ys) (ys ++ x ∷ []) xs xs (one_moved x ys gx gys (All-head (λ z. All (Apart z) ys) x xs apart)) (same_refl xs more)))
 
-  -- ---- rounds
+  -- ---- several lists
   abbrev all_of : List (List X) → List X
   all_of lists = flat_map (λ (list : List X). list) lists
 
-  -- a round of the lists, and then what it leaves of them
-  one_round : (n : ℕ) (lists : List (List X)) → All (All Good) lists → AllPairs AreApart lists
-      → Same (all_of lists) (flat_map (take n) lists ++ all_of (map (drop n) lists))
-  one_round n [] good apart = same_refl [] (All-nil Good)
-  one_round n (l ∷ ls) good apart =
-      let own : All Good l = All-head (All Good) l ls good in
-      let others : All (All Good) ls = All-tail (All Good) l ls good in
-      let front : List X = take n l in
-      let back : List X = drop n l in
-      let round : List X = flat_map (take n) ls in
-      let left : List X = all_of (map (drop n) ls) in
-      let good_front : All Good front = All-take Good n l own in
-      let good_back : All Good back = All-drop Good n l own in
-      let good_round : All Good round = flat_all Good (take n) ls (All-weaker (All Good) (λ k. All Good (take n k)) (λ k g. All-take Good n k g) ls others) in
-      let good_left : All Good left = flat_all Good (λ k. k) (map (drop n) ls) (All-map (All Good) (drop n) ls (All-weaker (All Good) (λ k. All Good (drop n k)) (λ k g. All-drop Good n k g) ls others)) in
-      let away : AreApart l round =
-      λ i d within. flat_all (Apart (get_or l i d)) (take n) ls
-      (All-weaker (AreApart l) (λ k. All (Apart (get_or l i d)) (take n k)) (λ k a. All-take (Apart (get_or l i d)) n k (a i d within)) ls (pairs_head AreApart l ls apart)) in
-      let moved : Same (back ++ round) (round ++ back) = all_moved back round good_back good_round (All-drop (λ z. All (Apart z) round) n l away) in
-      let whole : (front ++ back) ++ (round ++ left) ≡ front ++ ((back ++ round) ++ left) =
-      append_assoc front back (round ++ left) ∙ ap (λ (k : List X). front ++ k) (sym (append_assoc back round left)) in
-      let goal : front ++ ((round ++ back) ++ left) ≡ (front ++ round) ++ (back ++ left) =
-      ap (λ (k : List X). front ++ k) (append_assoc round back left) ∙ sym (append_assoc front round (back ++ left)) in
-      same_trans (l ++ all_of ls) ((front ++ back) ++ (round ++ left)) ((front ++ round) ++ (back ++ left))
-      (same_append l (front ++ back) (all_of ls) (round ++ left)
-      (subst (λ (k : List X). Same k (front ++ back)) (take-append-drop n l) (same_refl (front ++ back) (All-append Good front back good_front good_back)))
-      (one_round n ls others (pairs_tail AreApart l ls apart)))
-      (subst (λ (k : List X). Same k ((front ++ round) ++ (back ++ left))) (sym whole)
-      (subst (λ (k : List X). Same (front ++ ((back ++ round) ++ left)) k) goal
-      (same_append front front ((back ++ round) ++ left) ((round ++ back) ++ left) (same_refl front good_front)
-      (same_append (back ++ round) (round ++ back) left left moved (same_refl left good_left)))))
+  apart_less : (k m : ℕ) (xs ys : List X) → AreApart xs ys → AreApart (drop k xs) (drop m ys)
+  apart_less k m xs ys apart =
+      All-drop (λ x. All (Apart x) (drop m ys)) k xs (All-weaker (λ x. All (Apart x) ys) (λ x. All (Apart x) (drop m ys)) (λ x a. All-drop (Apart x) m ys a) xs apart)
 
-  dropped_good : (n : ℕ) (lists : List (List X)) → All (All Good) lists → All (All Good) (map (drop n) lists)
-  dropped_good n lists good = All-map (All Good) (drop n) lists (All-weaker (All Good) (λ k. All Good (drop n k)) (λ k g. All-drop Good n k g) lists good)
+  module _ (front : List (List X)) (x : X) (rest : List X) (back : List (List X)) (good : All (All Good) (front ++ (x ∷ rest) ∷ back))
+      (apart : AllPairs AreApart (front ++ (x ∷ rest) ∷ back)) where
+    good_left : All (All Good) (front ++ rest ∷ back)
+    good_left i d within =
+        let at = left_at front x rest back i d in
+        subst (All Good) (sym at.1)
+        (All-drop Good at.0 (get_or (front ++ (x ∷ rest) ∷ back) i d) (good i d (subst (λ (n : ℕ). i < n) (left_long front x rest back) within)))
 
-  apart_less : (n : ℕ) (xs ys : List X) → AreApart xs ys → AreApart (drop n xs) (drop n ys)
-  apart_less n xs ys apart =
-      All-drop (λ x. All (Apart x) (drop n ys)) n xs (All-weaker (λ x. All (Apart x) ys) (λ x. All (Apart x) (drop n ys)) (λ x a. All-drop (Apart x) n ys a) xs apart)
+    apart_left : AllPairs AreApart (front ++ rest ∷ back)
+    apart_left i j d lt within =
+        let one = left_at front x rest back i d in
+        let two = left_at front x rest back j d in
+        subst (λ (k : List X). AreApart k (get_or (front ++ rest ∷ back) j d)) (sym one.1)
+        (subst (λ (k : List X). AreApart (drop one.0 (get_or (front ++ (x ∷ rest) ∷ back) i d)) k) (sym two.1)
+        (apart_less one.0 two.0 (get_or (front ++ (x ∷ rest) ∷ back) i d) (get_or (front ++ (x ∷ rest) ∷ back) j d)
+        (apart i j d lt (subst (λ (n : ℕ). j < n) (left_long front x rest back) within))))
 
-  dropped_apart : (n : ℕ) (lists : List (List X)) → AllPairs AreApart lists → AllPairs AreApart (map (drop n) lists)
-  dropped_apart n lists apart i j d lt within =
-      let there : j < length lists = subst (λ (k : ℕ). j < k) (length-map lists (drop n)) within in
-      let first : get_or (map (drop n) lists) i d ≡ drop n (get_or lists i []) = get_or-map (drop n) lists i [] d (omega arith) in
-      let second : get_or (map (drop n) lists) j d ≡ drop n (get_or lists j []) = get_or-map (drop n) lists j [] d there in
-      subst (λ (k : List X). AreApart k (get_or (map (drop n) lists) j d)) (sym first)
-      (subst (λ (k : List X). AreApart (drop n (get_or lists i [])) k) (sym second)
-      (apart_less n (get_or lists i []) (get_or lists j []) (apart i j [] lt there)))
+    good_parts : All (All Good) front × All (All Good) ((x ∷ rest) ∷ back)
+    good_parts = All-parts (All Good) front ((x ∷ rest) ∷ back) good
 
-  good_round : (n : ℕ) (lists : List (List X)) → All (All Good) lists → All Good (flat_map (take n) lists)
-  good_round n lists good = flat_all Good (take n) lists (All-weaker (All Good) (λ k. All Good (take n k)) (λ k g. All-take Good n k g) lists good)
+    good_first : Good x
+    good_first = All-head Good x rest (All-head (All Good) (x ∷ rest) back good_parts.1)
 
-  all_rounds : (m n : ℕ) (lists : List (List X)) → 0 < n → length (all_of lists) ≤ m → All (All Good) lists → AllPairs AreApart lists
-      → Same (all_of lists) (rounds m n lists)
-  all_rounds zero n lists some short good apart =
-      let none : all_of lists ≡ [] = nil_from_length (all_of lists) (omega arith) in
-      subst (λ (l : List X). Same l []) (sym none) (same_refl [] (All-nil Good))
-  all_rounds (suc m) n lists some short good apart =
-      same_trans (all_of lists) (flat_map (take n) lists ++ all_of (map (drop n) lists)) (flat_map (take n) lists ++ rounds m n (map (drop n) lists))
-      (one_round n lists good apart)
-      (same_append (flat_map (take n) lists) (flat_map (take n) lists) (all_of (map (drop n) lists)) (rounds m n (map (drop n) lists))
-      (same_refl (flat_map (take n) lists) (good_round n lists good))
-      (all_rounds m n (map (drop n) lists) some (omega (arith, dropped_count n lists some)) (dropped_good n lists good) (dropped_apart n lists apart)))
+    good_front : All Good (all_of front)
+    good_front = flat_all Good (λ l. l) front good_parts.0
 
-  pub same_in_rounds : (n : ℕ) (lists : List (List X)) → 0 < n → All (All Good) lists → AllPairs AreApart lists
-      → Same (all_of lists) (in_rounds n lists)
-  same_in_rounds n lists some good apart = all_rounds (length (all_of lists)) n lists some (omega arith) good apart
+    good_behind : All Good (rest ++ all_of back)
+    good_behind =
+        All-append Good rest (all_of back) (All-tail Good x rest (All-head (All Good) (x ∷ rest) back good_parts.1))
+        (flat_all Good (λ l. l) back (All-tail (All Good) (x ∷ rest) back good_parts.1))
+
+    front_apart : AreApart (all_of front) (x ∷ [])
+    front_apart =
+        flat_all (λ y. All (Apart y) (x ∷ [])) (λ l. l) front
+        (λ i d within.
+        let there : length front < length (front ++ (x ∷ rest) ∷ back) = omega (arith, length-append front ((x ∷ rest) ∷ back)) in
+        let pair : AreApart (get_or front i d) (x ∷ rest) =
+        subst (λ (k : List X). AreApart k (x ∷ rest)) (get_or_append_left front ((x ∷ rest) ∷ back) d i within)
+        (subst (λ (k : List X). AreApart (get_or (front ++ (x ∷ rest) ∷ back) i d) k) (get_or-append_seam front (x ∷ rest) back d) (apart i (length front) d within there)) in
+        All-weaker (λ y. All (Apart y) (x ∷ rest)) (λ y. All (Apart y) (x ∷ []))
+        (λ y all. All-cons (Apart y) x [] (All-head (Apart y) x rest all) (All-nil (Apart y))) (get_or front i d) pair)
+
+    -- the first item comes first
+    first_moved : (xs : List X) → Same (all_of (front ++ rest ∷ back)) xs → Same (all_of (front ++ (x ∷ rest) ∷ back)) (x ∷ xs)
+    first_moved xs more =
+        let behind : List X = rest ++ all_of back in
+        let single : All Good (x ∷ []) = All-cons Good x [] good_first (All-nil Good) in
+        subst (λ (l : List X). Same l (x ∷ xs)) (append_assoc (all_of front) (x ∷ []) behind ∙ sym (flat_map-append (λ (l : List X). l) front ((x ∷ rest) ∷ back)))
+        (same_trans ((all_of front ++ x ∷ []) ++ behind) (x ∷ (all_of front ++ behind)) (x ∷ xs)
+        (same_append (all_of front ++ x ∷ []) (x ∷ all_of front) behind behind (all_moved (all_of front) (x ∷ []) good_front single front_apart) (same_refl behind good_behind))
+        (same_append (x ∷ []) (x ∷ []) (all_of front ++ behind) xs (same_refl (x ∷ []) single)
+        (subst (λ (l : List X). Same l xs) (flat_map-append (λ (l : List X). l) front (rest ∷ back)) more)))
+
+  same_interleaved : (xs : List X) (lists : List (List X)) → IsInterleaved xs lists → All (All Good) lists → AllPairs AreApart lists → Same (all_of lists) xs
+  same_interleaved [] lists none good apart = subst (λ (l : List X). Same l []) (sym (none_left lists none)) (same_refl [] (All-nil Good))
+  same_interleaved (x ∷ xs) lists (front, (rest, (back, is, more))) good apart =
+      let good_now : All (All Good) (front ++ (x ∷ rest) ∷ back) = subst (All (All Good)) is good in
+      let apart_now : AllPairs AreApart (front ++ (x ∷ rest) ∷ back) = subst (AllPairs AreApart) is apart in
+      subst (λ (l : List (List X)). Same (all_of l) (x ∷ xs)) (sym is)
+      (first_moved front x rest back good_now apart_now xs
+      (same_interleaved xs (front ++ rest ∷ back) more (good_left front x rest back good_now apart_now) (apart_left front x rest back good_now apart_now)))
+
+  -- two orders, each of which keeps that of the lists
+  pub same_orders : (xs ys : List X) (lists : List (List X)) → IsInterleaved xs lists → IsInterleaved ys lists → All (All Good) lists → AllPairs AreApart lists → Same xs ys
+  same_orders xs ys lists one two good apart s t like =
+      both_trans Like like_trans (run step s xs) (run step s (all_of lists)) (run step t ys)
+      (both_sym Like like_sym (run step s (all_of lists)) (run step s xs) (same_interleaved xs lists one good apart s s (like_refl s)))
+      (same_interleaved ys lists two good apart s t like)

@@ -1,12 +1,13 @@
 -- Blocks in another order: the same blocks, and a text that is as long.
 use Rattle.std.proofs.Common.{◌≡◌, ◌+◌, ◌-◌, ◌<◌, ◌≤◌, ℕ, suc, All, List, [], ◌∷◌, ◌++◌, IsPermutation, Option, Some, flat_map, length, sum_by, refl, sym, ap, ◌∙◌, subst, append-nil, append_assoc, arith, length-append}
 use Rattle.std.proofs.lemmas.List.Elements.{All-cons, All-head, All-nil, All-tail}
-use Rattle.std.proofs.lemmas.List.Sorted.{All-permutation, IsPermutation-append_comm, IsPermutation-append_left, IsPermutation-append_right, IsPermutation-refl, IsPermutation-trans, sum_by-IsPermutation}
+use Rattle.std.proofs.lemmas.List.Sorted.{All-permutation, IsPermutation-append_comm, IsPermutation-append_left, IsPermutation-append_right, IsPermutation-refl, IsPermutation-sym, IsPermutation-trans, sum_by-IsPermutation}
 use Rattle.std.proofs.lemmas.List.Sums.{sum_by-cons}
 use Rattle.dk_turns.specs.Blocks.{Block, lines_of_block}
-use Rattle.dk_turns.specs.Turns.{block_text, in_rounds, lines_text}
+use Rattle.dk_turns.specs.Turns.{block_text, lines_text}
 use Rattle.dk_recorders.proofs.Lines.{Fit, is_short, spaced, spaced_all, text-append}
-use Rattle.dk_recorders.proofs.Orders.{Both, run, same_in_rounds}
+use Rattle.dk_recorders.specs.Interleaving.{IsInterleaved}
+use Rattle.dk_recorders.proofs.Orders.{All-parts, Both, run, same_orders}
 
 -- ---- the same items
 module _ {X : Type 0} where
@@ -24,22 +25,16 @@ module _ {X : Type 0} where
       (subst (λ (l : List X). IsPermutation (s ++ x ∷ y ∷ []) l) (sym (append_assoc s (y ∷ []) (x ∷ [])))
       (IsPermutation-append_right s (x ∷ y ∷ []) (y ∷ x ∷ []) (IsPermutation-append_comm (x ∷ []) (y ∷ []))))
 
-  pub rounds_permute : (n : ℕ) (lists : List (List X)) → 0 < n → IsPermutation (flat_map (λ (list : List X). list) lists) (in_rounds n lists)
-  rounds_permute n lists some =
-      subst (λ (o : Option (List X)). Both IsPermutation o (Some (in_rounds n lists))) (run_pushed [] (flat_map (λ (list : List X). list) lists))
-      (subst (λ (o : Option (List X)). Both IsPermutation (run pushed [] (flat_map (λ (list : List X). list) lists)) o) (run_pushed [] (in_rounds n lists))
-      (same_in_rounds pushed IsPermutation (λ _. Unit {0}) (λ _ _. Unit {0}) IsPermutation-refl IsPermutation-trans
+  pub orders_permute : (xs ys : List X) (lists : List (List X)) → IsInterleaved xs lists → IsInterleaved ys lists → IsPermutation xs ys
+  orders_permute xs ys lists one two =
+      subst (λ (o : Option (List X)). Both IsPermutation o (Some ys)) (run_pushed [] xs)
+      (subst (λ (o : Option (List X)). Both IsPermutation (run pushed [] xs) o) (run_pushed [] ys)
+      (same_orders pushed IsPermutation (λ _. Unit {0}) (λ _ _. Unit {0}) IsPermutation-refl IsPermutation-sym IsPermutation-trans
       (λ s t x same _. IsPermutation-append_left (x ∷ []) s t same) (λ s x y _ _ _. exchanged s x y)
-      n lists some (λ k d lt i e within. tt) (λ i j d lt within k e less m f small. tt)
+      xs ys lists one two (λ k d lt i e within. tt) (λ i j d lt within k e less m f small. tt)
       [] [] (IsPermutation-refl [])))
 
 -- ---- a text that is as long
-All-parts : {X : Type 0} (P : X → Type 0) (xs ys : List X) → All P (xs ++ ys) → All P xs × All P ys
-All-parts P [] ys all = (All-nil P, all)
-All-parts P (x ∷ xs) ys all =
-    let parts = All-parts P xs ys (All-tail P x (xs ++ ys) all) in
-    (All-cons P x xs (All-head P x (xs ++ ys) all) parts.0, parts.1)
-
 all_spaced : (P : List ℕ → Type 0) (bs : List Block) → All P (spaced bs) → All (λ b. All P (lines_of_block b)) bs
 all_spaced P [] all = All-nil (λ b. All P (lines_of_block b))
 all_spaced P (b ∷ []) all = All-cons (λ c. All P (lines_of_block c)) b [] all (All-nil (λ c. All P (lines_of_block c)))

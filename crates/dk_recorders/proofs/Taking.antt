@@ -4,7 +4,7 @@ use Rattle.std.proofs.lemmas.Bool.{cases_eq, cases_lt}
 use Rattle.std.proofs.lemmas.List.{get_or-set_other, length-set, set_past}
 use Rattle.std.proofs.lemmas.Grind.{get_or-set_at}
 use Rattle.std.proofs.lemmas.Bool.Decides.{nat_tests}
-use Rattle.std.proofs.lemmas.List.Sorted.{IsPermutation-append_comm, IsPermutation-append_left, IsPermutation-append_right, IsPermutation-refl, IsPermutation-trans}
+use Rattle.std.proofs.lemmas.List.Sorted.{IsPermutation-append_comm, IsPermutation-append_left, IsPermutation-append_right, IsPermutation-refl, IsPermutation-sym, IsPermutation-trans}
 use Rattle.std.specs.Option.{option_map_or}
 use Rattle.std.specs.Result.{result_ok}
 use Rattle.dk_base.specs.Reading.{LineFault, ◌>>=◌}
@@ -35,6 +35,13 @@ pub record Like (k j : Kept) : Type 0 where
 
 pub like_refl : (k : Kept) → Like k k
 like_refl k = record { many = refl; own = λ p. IsPermutation-refl (get_or k.own p []); queues = λ p n. refl }
+
+pub like_sym : (k j : Kept) → Like k j → Like j k
+like_sym k j a = record {
+  many = sym a.many;
+  own = λ p. IsPermutation-sym (get_or k.own p []) (get_or j.own p []) (a.own p);
+  queues = λ p n. sym (a.queues p n);
+}
 
 pub like_trans : (k j i : Kept) → Like k j → Like j i → Like k i
 like_trans k j i a b = record {

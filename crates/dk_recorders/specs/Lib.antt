@@ -2,3 +2,4 @@
 pub mod Laws
 -- what those are made of
 pub mod Recorders
+pub mod Interleaving

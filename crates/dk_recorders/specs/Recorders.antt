@@ -12,14 +12,15 @@ use Rattle.dk_trace.specs.Records.{Sample, sample_of}
 use Rattle.dk_turns.specs.Blocks.{Block, plain_blocks, sample_blocks}
 use Rattle.dk_turns.specs.Turns.{block_text}
 
--- ---- without turns
--- the blocks of all files: file by file those without a sample record, and then, file by file, those with one
-abbrev pub blocks_by_file : List (List ℕ) → List Block
-blocks_by_file files = flat_map plain_blocks files ++ flat_map sample_blocks files
+-- ---- texts
+-- The files as one, with their sample blocks in an order: file by file the blocks without a sample record, and then those with one. A blank
+-- line stands between two blocks.
+unfoldable pub text_in_order : List (List ℕ) → List Block → List ℕ
+text_in_order files samples = join_with_byte 10 (map block_text (flat_map plain_blocks files ++ samples))
 
--- The files as one, without turns: a blank line stands between two blocks.
-unfoldable pub text_by_file : List (List ℕ) → List ℕ
-text_by_file files = join_with_byte 10 (map block_text (blocks_by_file files))
+-- the files as one without turns: the sample blocks file by file
+abbrev pub text_by_file : List (List ℕ) → List ℕ
+text_by_file files = text_in_order files (flat_map sample_blocks files)
 
 -- ---- the records of a file
 -- a line whose number doesn't matter

@@ -1,6 +1,6 @@
--- Files of recorders in turns are accepted where they are without turns, and come to an alike history.
+-- Files of recorders in another order are accepted where they are in one, and come to an alike history.
 use Rattle.std.proofs.Common.{◌≡◌, ◌≢◌, ◌<◌, ℕ, Bool, false, true, All, AllPairs, List, [], ◌∷◌, ◌++◌, IsPermutation, Option, Some, None, option_map, Result, Ok, Err, flat_map, get_or, length, map, refl, sym, ap, ◌∙◌, subst, append-nil, append_assoc, arith}
-use Rattle.std.proofs.lemmas.List.{get_or-map, length-map, map-append, nil_from_length}
+use Rattle.std.proofs.lemmas.List.{get_or-map, length-map, map-append}
 use Rattle.std.proofs.lemmas.List.Elements.{All-append, All-cons, All-head, All-nil, All-tail, All-weaker}
 use Rattle.std.proofs.lemmas.List.Sorted.{All-permutation, IsPermutation-append_right, IsPermutation-refl, length_permutation}
 use Rattle.std.specs.List.{join_with_byte}
@@ -12,16 +12,18 @@ use Rattle.dk_blocks.specs.Blocks.{groups_of}
 use Rattle.dk_blocks.specs.History.{History, effect_of, no_history}
 use Rattle.dk_blocks.specs.Reading.{after_all}
 use Rattle.dk_turns.specs.Blocks.{Block, lines_of_block, plain_blocks, sample_blocks}
-use Rattle.dk_turns.specs.Turns.{in_rounds, lines_text, turns_of}
-use Rattle.dk_recorders.specs.Recorders.{AreRecorders, HasNoHeader, HasNoLastCr, HasNonce, ShareNoNonce, blocks_by_file, call_in, calls_in, text_by_file}
+use Rattle.dk_turns.specs.Turns.{block_text, lines_text}
+use Rattle.dk_recorders.specs.Interleaving.{IsInterleaved}
+use Rattle.dk_recorders.specs.Recorders.{AreRecorders, HasNoHeader, HasNoLastCr, HasNonce, ShareNoNonce, call_in, text_in_order}
 use Rattle.dk_recorders.proofs.Awaiting.{NoWord, text_word}
 use Rattle.dk_recorders.proofs.Chains.{IsReady, blocks_taken, kept_of, with_kept}
 use Rattle.dk_recorders.proofs.Files.{IsTaken, LinesTaken, plain_taken, samples_begin, samples_taken}
 use Rattle.dk_recorders.proofs.Groups.{IsKept, accepted_within, behind, cut, read_on}
 use Rattle.dk_recorders.proofs.Lines.{Fit, HasNoLf, end_of, fit_if_within, is_past_limit, pieces_are, spaced, spaced_all, text_of_blocks, whole_lines}
-use Rattle.dk_recorders.proofs.Orders.{Both, run, same_in_rounds}
-use Rattle.dk_recorders.proofs.Permuted.{fit_moved, rounds_permute}
-use Rattle.dk_recorders.proofs.Taking.{Kept, Like, like_refl, like_trans, step, step_alike, step_exchanged}
+use Rattle.dk_recorders.proofs.Orders.{Both, run, same_orders}
+use Rattle.dk_recorders.proofs.Permuted.{fit_moved, orders_permute}
+use Rattle.dk_recorders.proofs.Rounds.{one_by_one_interleave}
+use Rattle.dk_recorders.proofs.Taking.{Kept, Like, like_refl, like_sym, like_trans, step, step_alike, step_exchanged}
 
 -- the same table, comparability word and grammar, and for each point the same own samples in any order
 pub record Alike (h others : History) : Type 0 where
@@ -38,10 +40,6 @@ all_flat : {X Y : Type 0} (P : X → Type 0) (f : Y → List X) (ys : List Y) �
 all_flat P f [] all = All-nil P
 all_flat P f (y ∷ ys) all =
     All-append P (f y) (flat_map f ys) (All-head (λ z. All P (f z)) y ys all) (all_flat P f ys (All-tail (λ z. All P (f z)) y ys all))
-
-flat_mapped : {X Y : Type 0} (f : Y → List X) (ys : List Y) → flat_map (λ (l : List X). l) (map f ys) ≡ flat_map f ys
-flat_mapped f [] = refl
-flat_mapped f (y ∷ ys) = ap (λ l. f y ++ l) (flat_mapped f ys)
 
 all_mapped : {X Y : Type 0} (P : X → Type 0) (f : Y → X) (ys : List Y) → All (λ y. P (f y)) ys → All P (map f ys)
 all_mapped P f [] all = All-nil P
@@ -75,10 +73,15 @@ file_ready file none cr k d lt =
       kept = λ i e within. record { cut = cr k d lt i e within; trimmed = (taken i e within).trimmed; some = (taken i e within).some };
     }
 
-module _ (ps : List Point) (files : List (List ℕ)) (are : AreRecorders ps files) where
-  ready : All IsReady (flat_map sample_blocks files)
-  ready = all_flat IsReady sample_blocks files (λ k d lt. file_ready (get_or files k d) (are.no_headers k d lt) (are.no_last_cr k d lt))
+blocks_ready : (ps : List Point) (files : List (List ℕ)) (xs : List Block) → AreRecorders ps files → IsInterleaved xs (map sample_blocks files) → All IsReady xs
+blocks_ready ps files xs are order =
+    let lists : List (List Block) = map sample_blocks files in
+    All-permutation IsReady (flat_map (λ (list : List Block). list) lists) xs
+    (orders_permute (flat_map (λ (list : List Block). list) lists) xs lists (one_by_one_interleave lists) order)
+    (all_flat IsReady (λ (list : List Block). list) lists
+    (all_mapped (All IsReady) sample_blocks files (λ k d lt. file_ready (get_or files k d) (are.no_headers k d lt) (are.no_last_cr k d lt))))
 
+module _ (ps : List Point) (files : List (List ℕ)) (are : AreRecorders ps files) where
   good : All (All (Good ps)) (map sample_blocks files)
   good =
       all_mapped (All (Good ps)) sample_blocks files
@@ -94,12 +97,11 @@ module _ (ps : List Point) (files : List (List ℕ)) (are : AreRecorders ps file
       (λ b all. unmapped (ShareNoNonce (call_in ps b)) (call_in ps) cs all) bs
       (unmapped (λ a. All (ShareNoNonce a) (map (call_in ps) cs)) (call_in ps) bs (are.apart i j d lt within)))
 
-  runs_alike : (n : ℕ) (k : Kept) → 0 < n
-      → Both Like (run (step ps) k (flat_map sample_blocks files)) (run (step ps) k (in_rounds n (map sample_blocks files)))
-  runs_alike n k some =
-      subst (λ (bs : List Block). Both Like (run (step ps) k bs) (run (step ps) k (in_rounds n (map sample_blocks files)))) (flat_mapped sample_blocks files)
-      (same_in_rounds (step ps) Like (Good ps) (Apart ps) like_refl like_trans (step_alike ps) (step_exchanged ps)
-      n (map sample_blocks files) some good away k k (like_refl k))
+  runs_alike : (first second : List Block) (k : Kept) → IsInterleaved first (map sample_blocks files) → IsInterleaved second (map sample_blocks files)
+      → Both Like (run (step ps) k first) (run (step ps) k second)
+  runs_alike first second k one two =
+      same_orders (step ps) Like (Good ps) (Apart ps) like_refl like_sym like_trans (step_alike ps) (step_exchanged ps)
+      first second (map sample_blocks files) one two good away k k (like_refl k)
 
 -- ---- behind what stands in front of the sample blocks
 some_of : {A : Type 0} (r : Result A LineFault) (x : A) → result_ok r ≡ Some x → r ≡ Ok x
@@ -119,22 +121,25 @@ kept_table : (h j : History) (o : Option Kept) → Some j ≡ option_map (with_k
 kept_table h j None e = absurd (cc e)
 kept_table h j (Some k) e = let same : j ≡ with_kept h k = cc e in ap (λ (g : History). g.table) same
 
-behind_plain : (n m : ℕ) (files : List (List ℕ)) (h j : History) → 0 < n → NoWord h → AreRecorders j.table files
-    → read_on (effect_of false h) m (map without_cr (spaced (flat_map sample_blocks files))) ≡ Ok j
-    → (i : History) × (read_on (effect_of false h) m (map without_cr (spaced (in_rounds n (map sample_blocks files)))) ≡ Ok i) × Alike j i
-behind_plain n m files h j some word are e =
-    let all : List Block = flat_map sample_blocks files in
-    let turned : List Block = in_rounds n (map sample_blocks files) in
-    let ready_all : All IsReady all = ready j.table files are in
-    let moved : IsPermutation all turned =
-    subst (λ (bs : List Block). IsPermutation bs turned) (flat_mapped sample_blocks files) (rounds_permute n (map sample_blocks files) some) in
-    let ready_turned : All IsReady turned = All-permutation IsReady all turned moved ready_all in
-    let is : Some j ≡ option_map (with_kept h) (run (step h.table) (kept_of h) all) = sym (ap result_ok e) ∙ blocks_taken all h m word ready_all in
-    let table : j.table ≡ h.table = kept_table h j (run (step h.table) (kept_of h) all) is in
-    turned_kept h j (run (step h.table) (kept_of h) all) (run (step h.table) (kept_of h) turned)
-    (read_on (effect_of false h) m (map without_cr (spaced turned))) is
-    (runs_alike h.table files (subst (λ (ps : List Point). AreRecorders ps files) table are) n (kept_of h) some)
-    (blocks_taken turned h m word ready_turned)
+-- two orders of the sample blocks of files
+record AreOrders (files : List (List ℕ)) (first second : List Block) : Type 0 where
+  one : IsInterleaved first (map sample_blocks files)
+  two : IsInterleaved second (map sample_blocks files)
+
+orders_moved : (files : List (List ℕ)) (first second : List Block) → AreOrders files first second → IsPermutation first second
+orders_moved files first second orders = orders_permute first second (map sample_blocks files) orders.one orders.two
+
+behind_plain : (m : ℕ) (files : List (List ℕ)) (first second : List Block) (h j : History) → AreOrders files first second → NoWord h → AreRecorders j.table files
+    → read_on (effect_of false h) m (map without_cr (spaced first)) ≡ Ok j
+    → (i : History) × (read_on (effect_of false h) m (map without_cr (spaced second)) ≡ Ok i) × Alike j i
+behind_plain m files first second h j orders word are e =
+    let is : Some j ≡ option_map (with_kept h) (run (step h.table) (kept_of h) first) =
+    sym (ap result_ok e) ∙ blocks_taken first h m word (blocks_ready j.table files first are orders.one) in
+    let table : j.table ≡ h.table = kept_table h j (run (step h.table) (kept_of h) first) is in
+    turned_kept h j (run (step h.table) (kept_of h) first) (run (step h.table) (kept_of h) second)
+    (read_on (effect_of false h) m (map without_cr (spaced second))) is
+    (runs_alike h.table files (subst (λ (ps : List Point). AreRecorders ps files) table are) first second (kept_of h) orders.one orders.two)
+    (blocks_taken second h m word (blocks_ready j.table files second are orders.two))
 
 -- ---- both parts of a text
 spaced-append : (b c : Block) (bs cs : List Block) → spaced ((b ∷ bs) ++ c ∷ cs) ≡ spaced (b ∷ bs) ++ [] ∷ spaced (c ∷ cs)
@@ -156,60 +161,30 @@ no_word_at_first : NoWord no_history
 unfolding no_history
 no_word_at_first = refl
 
-none_turned : (n : ℕ) (files : List (List ℕ)) → 0 < n → flat_map sample_blocks files ≡ [] → in_rounds n (map sample_blocks files) ≡ []
-none_turned n files some none =
-    let moved : IsPermutation (flat_map sample_blocks files) (in_rounds n (map sample_blocks files)) =
-    subst (λ (bs : List Block). IsPermutation bs (in_rounds n (map sample_blocks files))) (flat_mapped sample_blocks files) (rounds_permute n (map sample_blocks files) some) in
-    nil_from_length (in_rounds n (map sample_blocks files)) (length_permutation (flat_map sample_blocks files) (in_rounds n (map sample_blocks files)) moved ∙ ap length none)
-
-some_turned : (n : ℕ) (files : List (List ℕ)) (c : Block) (cs : List Block) → 0 < n → flat_map sample_blocks files ≡ c ∷ cs
-    → (d : Block) × ((ds : List Block) × (in_rounds n (map sample_blocks files) ≡ d ∷ ds))
-some_turned n files c cs some is = by (in_rounds n (map sample_blocks files)) refl
+both_parts : (front : List Block) (files : List (List ℕ)) (first second : List Block) (j : History) → AreOrders files first second → AreRecorders j.table files
+    → read_on (effect_of false no_history) 0 (map without_cr (spaced (front ++ first))) ≡ Ok j
+    → (i : History) × (read_on (effect_of false no_history) 0 (map without_cr (spaced (front ++ second))) ≡ Ok i) × Alike j i
+both_parts [] files first second j orders are e = behind_plain 0 files first second no_history j orders no_word_at_first are e
+both_parts (b ∷ bs) files [] [] j orders are e = (j, e, alike_refl j)
+both_parts (b ∷ bs) files [] (d ∷ ds) j orders are e =
+    let long : length (d ∷ ds) ≡ 0 = length_permutation [] (d ∷ ds) (orders_moved files [] (d ∷ ds) orders) in absurd (omega (arith, long))
+both_parts (b ∷ bs) files (c ∷ cs) [] j orders are e =
+    let long : 0 ≡ length (c ∷ cs) = length_permutation (c ∷ cs) [] (orders_moved files (c ∷ cs) [] orders) in absurd (omega (arith, long))
+both_parts (b ∷ bs) files (c ∷ cs) (d ∷ ds) j orders are e =
+    by (read_on (effect_of false no_history) 0 (map without_cr (spaced (b ∷ bs)) ++ [] ∷ [])) refl (sym (cut_at no_history b c bs cs) ∙ e)
   where
-    moved : IsPermutation (flat_map sample_blocks files) (in_rounds n (map sample_blocks files))
-    moved = subst (λ (bs : List Block). IsPermutation bs (in_rounds n (map sample_blocks files))) (flat_mapped sample_blocks files) (rounds_permute n (map sample_blocks files) some)
-
-    by : (turned : List Block) → in_rounds n (map sample_blocks files) ≡ turned → (d : Block) × ((ds : List Block) × (turned ≡ d ∷ ds))
-    by [] e =
-        let long : 0 ≡ length (c ∷ cs) = sym (ap length e) ∙ length_permutation (flat_map sample_blocks files) (in_rounds n (map sample_blocks files)) moved ∙ ap length is in
-        absurd (omega (arith, long))
-    by (d ∷ ds) e = (d, (ds, refl))
-
-both_parts : (n : ℕ) (front : List Block) (files : List (List ℕ)) (j : History) → 0 < n → AreRecorders j.table files
-    → read_on (effect_of false no_history) 0 (map without_cr (spaced (front ++ flat_map sample_blocks files))) ≡ Ok j
-    → (i : History) × (read_on (effect_of false no_history) 0 (map without_cr (spaced (front ++ in_rounds n (map sample_blocks files)))) ≡ Ok i) × Alike j i
-both_parts n [] files j some are e = behind_plain n 0 files no_history j some no_word_at_first are e
-both_parts n (b ∷ bs) files j some are e = by (flat_map sample_blocks files) refl
-  where
-    none : flat_map sample_blocks files ≡ []
-        → (i : History) × (read_on (effect_of false no_history) 0 (map without_cr (spaced ((b ∷ bs) ++ in_rounds n (map sample_blocks files)))) ≡ Ok i) × Alike j i
-    none is =
-        (j, ap (λ (cs : List Block). read_on (effect_of false no_history) 0 (map without_cr (spaced ((b ∷ bs) ++ cs)))) (none_turned n files some is ∙ sym is) ∙ e, alike_refl j)
-
-    cut_here : (c d : Block) (cs ds : List Block) → flat_map sample_blocks files ≡ c ∷ cs → in_rounds n (map sample_blocks files) ≡ d ∷ ds
-        → (r : Result History LineFault) → read_on (effect_of false no_history) 0 (map without_cr (spaced (b ∷ bs)) ++ [] ∷ []) ≡ r
+    by : (r : Result History LineFault) → read_on (effect_of false no_history) 0 (map without_cr (spaced (b ∷ bs)) ++ [] ∷ []) ≡ r
         → (r >>= λ h. read_on (effect_of false h) (behind 0 (map without_cr (spaced (b ∷ bs)))) (map without_cr (spaced (c ∷ cs)))) ≡ Ok j
-        → (i : History) × (read_on (effect_of false no_history) 0 (map without_cr (spaced ((b ∷ bs) ++ in_rounds n (map sample_blocks files)))) ≡ Ok i) × Alike j i
-    cut_here c d cs ds is turned (Err fault) front f = absurd (cc f)
-    cut_here c d cs ds is turned (Ok h) front f =
+        → (i : History) × (read_on (effect_of false no_history) 0 (map without_cr (spaced ((b ∷ bs) ++ d ∷ ds))) ≡ Ok i) × Alike j i
+    by (Err fault) front f = absurd (cc f)
+    by (Ok h) front f =
         let m : ℕ = behind 0 (map without_cr (spaced (b ∷ bs))) in
         let word : NoWord h = text_word no_history 0 (map without_cr (spaced (b ∷ bs)) ++ [] ∷ []) h no_word_at_first front in
-        let here = behind_plain n m files h j some word are (ap (λ (k : List Block). read_on (effect_of false h) m (map without_cr (spaced k))) is ∙ f) in
+        let here = behind_plain m files (c ∷ cs) (d ∷ ds) h j orders word are f in
         (here.0,
-        ap (λ (k : List Block). read_on (effect_of false no_history) 0 (map without_cr (spaced ((b ∷ bs) ++ k)))) turned
-        ∙ cut_at no_history b d bs ds
+        cut_at no_history b d bs ds
         ∙ ap (λ (r : Result History LineFault). r >>= λ g. read_on (effect_of false g) m (map without_cr (spaced (d ∷ ds)))) front
-        ∙ ap (λ (k : List Block). read_on (effect_of false h) m (map without_cr (spaced k))) (sym turned)
         ∙ here.1, here.2)
-
-    by : (all : List Block) → flat_map sample_blocks files ≡ all
-        → (i : History) × (read_on (effect_of false no_history) 0 (map without_cr (spaced ((b ∷ bs) ++ in_rounds n (map sample_blocks files)))) ≡ Ok i) × Alike j i
-    by [] is = none is
-    by (c ∷ cs) is =
-        let some_too = some_turned n files c cs some is in
-        cut_here c some_too.0 cs some_too.1.0 is some_too.1.1
-        (read_on (effect_of false no_history) 0 (map without_cr (spaced (b ∷ bs)) ++ [] ∷ [])) refl
-        (sym (cut_at no_history b c bs cs) ∙ ap (λ (k : List Block). read_on (effect_of false no_history) 0 (map without_cr (spaced ((b ∷ bs) ++ k)))) (sym is) ∙ e)
 
 -- ---- texts
 -- what a text comes to as the only file, within these limits
@@ -236,26 +211,32 @@ no_lf bs taken =
     spaced_all HasNoLf (All-nil (λ b. b ≢ 10)) bs
     (All-weaker LinesTaken (λ b. All HasNoLf (lines_of_block b)) (λ b all. All-weaker IsTaken HasNoLf (λ l t. t.no_lf) (lines_of_block b) all) bs taken)
 
-pub turned_text : (limit room n : ℕ) (files : List (List ℕ)) (j : History) → 0 < n → read_text limit room (text_by_file files) ≡ Ok j → AreRecorders j.table files
-    → (i : History) × (read_text limit room (turns_of n files) ≡ Ok i) × Alike j i
-unfolding text_by_file turns_of
-turned_text limit room n files j some e are =
+order_taken : (files : List (List ℕ)) (xs : List Block) → IsInterleaved xs (map sample_blocks files) → All LinesTaken xs
+order_taken files xs order =
+    let lists : List (List Block) = map sample_blocks files in
+    All-permutation LinesTaken (flat_map (λ (list : List Block). list) lists) xs
+    (orders_permute (flat_map (λ (list : List Block). list) lists) xs lists (one_by_one_interleave lists) order)
+    (all_flat LinesTaken (λ (list : List Block). list) lists
+    (all_mapped (All LinesTaken) sample_blocks files (λ k d lt. samples_taken (get_or files k d))))
+
+pub ordered_text : (limit room : ℕ) (files : List (List ℕ)) (first second : List Block) (j : History) → IsInterleaved first (map sample_blocks files)
+    → IsInterleaved second (map sample_blocks files) → read_text limit room (text_in_order files first) ≡ Ok j → AreRecorders j.table files
+    → (i : History) × (read_text limit room (text_in_order files second) ≡ Ok i) × Alike j i
+unfolding text_in_order
+ordered_text limit room files first second j one two e are =
+    let orders : AreOrders files first second = record { one = one; two = two } in
     let front : List Block = flat_map plain_blocks files in
-    let all : List Block = flat_map sample_blocks files in
-    let turned : List Block = in_rounds n (map sample_blocks files) in
-    let moved : IsPermutation (front ++ all) (front ++ turned) =
-    IsPermutation-append_right front all turned
-    (subst (λ (bs : List Block). IsPermutation bs turned) (flat_mapped sample_blocks files) (rounds_permute n (map sample_blocks files) some)) in
-    let taken : All LinesTaken (front ++ all) =
-    All-append LinesTaken front all
+    let moved : IsPermutation (front ++ first) (front ++ second) = IsPermutation-append_right front first second (orders_moved files first second orders) in
+    let taken : All LinesTaken (front ++ first) =
+    All-append LinesTaken front first
     (all_flat LinesTaken plain_blocks files (λ k d lt. plain_taken (get_or files k d)))
-    (all_flat LinesTaken sample_blocks files (λ k d lt. samples_taken (get_or files k d))) in
-    let lf : All HasNoLf (spaced (front ++ all)) = no_lf (front ++ all) taken in
-    let lf_turned : All HasNoLf (spaced (front ++ turned)) = no_lf (front ++ turned) (All-permutation LinesTaken (front ++ all) (front ++ turned) moved taken) in
-    let read : read_text limit room (lines_text (spaced (front ++ all))) ≡ Ok j = ap (read_text limit room) (sym (text_of_blocks (front ++ all))) ∙ e in
-    let fit : Fit limit room (spaced (front ++ all)) = fit_text limit room (spaced (front ++ all)) j lf read in
-    let fit_too : Fit limit room (spaced (front ++ turned)) = fit_moved limit room (front ++ all) (front ++ turned) moved fit in
-    let here = both_parts n front files j some are (sym (lines_read limit room (spaced (front ++ all)) lf fit) ∙ read) in
-    (here.0,
-    ap (read_text limit room) (text_of_blocks (front ++ turned))
-    ∙ lines_read limit room (spaced (front ++ turned)) lf_turned fit_too ∙ here.1, here.2)
+    (order_taken files first one) in
+    let lf : All HasNoLf (spaced (front ++ first)) = no_lf (front ++ first) taken in
+    let lf_too : All HasNoLf (spaced (front ++ second)) = no_lf (front ++ second) (All-permutation LinesTaken (front ++ first) (front ++ second) moved taken) in
+    let read : read_text limit room (lines_text (spaced (front ++ first))) ≡ Ok j = ap (read_text limit room) (sym (text_of_blocks (front ++ first))) ∙ e in
+    let fit : Fit limit room (spaced (front ++ first)) = fit_text limit room (spaced (front ++ first)) j lf read in
+    let fit_too : Fit limit room (spaced (front ++ second)) = fit_moved limit room (front ++ first) (front ++ second) moved fit in
+    let here = both_parts front files first second j orders are (sym (lines_read limit room (spaced (front ++ first)) lf fit) ∙ read) in
+    let whole : read_text limit room (join_with_byte 10 (map block_text (front ++ second))) ≡ read_text limit room (lines_text (spaced (front ++ second))) =
+    ap (read_text limit room) (text_of_blocks (front ++ second)) in
+    (here.0, whole ∙ (lines_read limit room (spaced (front ++ second)) lf_too fit_too ∙ here.1), here.2)
