@@ -94,9 +94,6 @@ recorded_word h first ls c t none e = by (is_declaration first.bytes) (is_list_o
 lines_word : (h : History) (front : Front) (c : ℕ) (t : Taken) → NoWord h → IsFront h.header None front → after_front false h front (Some c) ≡ Ok t → NoWord t.history
 lines_word h front c t none is e = by front.lines refl e
   where
-
-
-
     word : (b : Bool) → awaits_word front.header ≡ b → (last : ℕ) → (if b then refused BadHeader last else Ok (block (record h { header = front.header }))) ≡ Ok t → NoWord t.history
     word true is last e = absurd (cc e)
     word false is last e = let same : block (record h { header = front.header }) ≡ t = cc e in subst (λ (v : Taken). NoWord v.history) same is

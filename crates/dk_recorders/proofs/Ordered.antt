@@ -113,9 +113,11 @@ turned_kept : (h j : History) (o u : Option Kept) (r : Result History LineFault)
 turned_kept h j None u r e both f = absurd (cc e)
 turned_kept h j (Some k) None r e both f = absurd both
 turned_kept h j (Some k) (Some l) r e like f =
-    let same : with_kept h k ≡ j = cc e in
-    (with_kept h l, some_of r (with_kept h l) f,
-    subst (λ (g : History). Alike g (with_kept h l)) same (record { table = refl; header = refl; grammar = refl; samples = like.own }))
+    let same : with_kept h k ≡ j = cc e in (
+      with_kept h l,
+      some_of r (with_kept h l) f,
+      subst (λ (g : History). Alike g (with_kept h l)) same (record { table = refl; header = refl; grammar = refl; samples = like.own }),
+    )
 
 kept_table : (h j : History) (o : Option Kept) → Some j ≡ option_map (with_kept h) o → j.table ≡ h.table
 kept_table h j None e = absurd (cc e)
@@ -180,11 +182,13 @@ both_parts (b ∷ bs) files (c ∷ cs) (d ∷ ds) j orders are e =
     by (Ok h) front f =
         let m : ℕ = behind 0 (map without_cr (spaced (b ∷ bs))) in
         let word : NoWord h = text_word no_history 0 (map without_cr (spaced (b ∷ bs)) ++ [] ∷ []) h no_word_at_first front in
-        let here = behind_plain m files (c ∷ cs) (d ∷ ds) h j orders word are f in
-        (here.0,
-        cut_at no_history b d bs ds
-        ∙ ap (λ (r : Result History LineFault). r >>= λ g. read_on (effect_of false g) m (map without_cr (spaced (d ∷ ds)))) front
-        ∙ here.1, here.2)
+        let here = behind_plain m files (c ∷ cs) (d ∷ ds) h j orders word are f in (
+          here.0,
+          cut_at no_history b d bs ds
+              ∙ ap (λ (r : Result History LineFault). r >>= λ g. read_on (effect_of false g) m (map without_cr (spaced (d ∷ ds)))) front
+              ∙ here.1,
+          here.2,
+        )
 
 -- ---- texts
 -- what a text comes to as the only file, within these limits

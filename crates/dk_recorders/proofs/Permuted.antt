@@ -49,8 +49,13 @@ size bs = sum_by (λ (b : Block). length (block_text b) + 1) bs
 text_size : (b : Block) (bs : List Block) → length (lines_text (spaced (b ∷ bs))) + 1 ≡ size (b ∷ bs)
 text_size b [] = omega (arith, sum_by-cons (λ (c : Block). length (block_text c) + 1) b [])
 text_size b (c ∷ bs) =
-    omega (arith, ap length (text-append (lines_of_block b) ([] ∷ spaced (c ∷ bs))), length-append (block_text b) (10 ∷ lines_text (spaced (c ∷ bs))),
-    sum_by-cons (λ (d : Block). length (block_text d) + 1) b (c ∷ bs), text_size c bs)
+    omega (
+      arith,
+      ap length (text-append (lines_of_block b) ([] ∷ spaced (c ∷ bs))),
+      length-append (block_text b) (10 ∷ lines_text (spaced (c ∷ bs))),
+      sum_by-cons (λ (d : Block). length (block_text d) + 1) b (c ∷ bs),
+      text_size c bs,
+    )
 
 sized : (bs : List Block) → length (lines_text (spaced bs)) ≡ size bs - 1
 sized [] = refl

@@ -1,5 +1,5 @@
 -- The order in which the records of several recorders stand doesn't matter.
-use Rattle.std.specs.Prelude.{◌≡◌, ◌<◌, ℕ, Bool, false, List, [], ◌∷◌, map, Ok, Result, slice_index_or}
+use Rattle.std.specs.Prelude.{◌≡◌, ◌<◌, ℕ, Bool, false, List, [], ◌∷◌, map, None, Ok, Result, slice_index_or}
 use Rattle.std.specs.List.Sorted.{IsPermutation}
 use Rattle.dk_blocks.specs.History.{History}
 use Rattle.dk_core.specs.Resuming.{state_file}
@@ -7,26 +7,28 @@ use Rattle.dk_core.specs.Sections.{report_of}
 use Rattle.dk_report.specs.declared.options.Options.{Options}
 use Rattle.dk_run.specs.Courses.{course_of, first_start}
 use Rattle.dk_run.specs.Files.{FileFault, ended_file}
+use Rattle.dk_run.specs.Outputs.{Output, output_of}
 use Rattle.dk_turns.specs.Blocks.{Block, sample_blocks}
 use Rattle.dk_turns.specs.Turns.{turns_of}
+use Rattle.dk_words.specs.declared.command.Command.{Command}
 use Rattle.dk_recorders.specs.Interleaving.{IsInterleaved}
 use Rattle.dk_recorders.specs.Recorders.{AreRecorders, text_by_file, text_in_order}
 
 -- ---- histories
 -- They have the same table, comparability word and grammar and, for each point, the same own samples in any order.
-pub record AreAlike (h others : History) : Type 0 where
-  pub table : others.table ≡ h.table
-  pub header : others.header ≡ h.header
-  pub grammar : others.grammar ≡ h.grammar
-  pub samples : (p : ℕ) → IsPermutation (slice_index_or h.samples p []) (slice_index_or others.samples p [])
+pub record AreAlike (h other : History) : Type 0 where
+  pub table : other.table ≡ h.table
+  pub header : other.header ≡ h.header
+  pub grammar : other.grammar ≡ h.grammar
+  pub samples : (p : ℕ) → IsPermutation (slice_index_or h.samples p []) (slice_index_or other.samples p [])
 
 -- they have the same sections, whatever the options and the selection, and the same state file
-pub record TellTheSame (h others : History) : Type 0 where
-  pub report : (options : Options) (selects : List ℕ → Bool) → report_of options selects others ≡ report_of options selects h
-  pub state : state_file others ≡ state_file h
+pub record TellTheSame (h other : History) : Type 0 where
+  pub report : (options : Options) (selects : List ℕ → Bool) → report_of options selects other ≡ report_of options selects h
+  pub state : state_file other ≡ state_file h
 
 abbrev pub OrderOfOwnSamplesDoesNotMatter : Type 0
-OrderOfOwnSamplesDoesNotMatter = (h others : History) → AreAlike h others → TellTheSame h others
+OrderOfOwnSamplesDoesNotMatter = (h other : History) → AreAlike h other → TellTheSame h other
 
 -- ---- texts
 -- what a text comes to as the only file of a run
@@ -35,7 +37,7 @@ history_of text = (course_of first_start false (ended_file text ∷ [])).end
 
 -- it is accepted, and comes to an alike history, which tells the same
 abbrev pub ComesToAlike : List ℕ → History → Type 0
-ComesToAlike text h = (others : History) × (history_of text ≡ Ok others) × AreAlike h others × TellTheSame h others
+ComesToAlike text h = (other : History) × (history_of text ≡ Ok other) × AreAlike h other × TellTheSame h other
 
 -- Let the sample blocks of recorders stand in two orders, both of which keep the order of each file. If the text in the first order is
 -- accepted, then so is that in the second, and comes to an alike history.
@@ -50,3 +52,21 @@ abbrev pub TurnsDoNotMatter : Type 0
 TurnsDoNotMatter =
     (n : ℕ) (files : List (List ℕ)) (h : History) → 0 < n → history_of (text_by_file files) ≡ Ok h → AreRecorders h.table files
     → ComesToAlike (turns_of n files) h
+
+-- ---- what a run writes
+-- The command asks for the last report alone, without sizes, and exits without an entry are refused.
+pub record TellsAtTheEnd (command : Command) : Type 0 where
+  pub every : command.every ≡ None
+  pub stats : command.stats ≡ false
+  pub ignores : command.ignore_missing_entry ≡ false
+
+-- what a run over a text as its only file writes, from no samples on
+abbrev pub output_over : Command → List ℕ → Output
+output_over command text = output_of first_start command (ended_file text ∷ [])
+
+-- Under the same premises a run over turns writes what one over the files without turns does, to each stream.
+abbrev pub TurnsWriteTheSame : Type 0
+TurnsWriteTheSame =
+    (command : Command) (n : ℕ) (files : List (List ℕ)) (h : History) → TellsAtTheEnd command → 0 < n
+    → history_of (text_by_file files) ≡ Ok h → AreRecorders h.table files
+    → output_over command (turns_of n files) ≡ output_over command (text_by_file files)

@@ -1,5 +1,5 @@
 //! What the order of records comes to.
-ghost use Rattle.dk_recorders.specs.Laws.{OrderOfOwnSamplesDoesNotMatter, OrderOfRecordsDoesNotMatter, TurnsDoNotMatter};
+ghost use Rattle.dk_recorders.specs.Laws.{OrderOfOwnSamplesDoesNotMatter, OrderOfRecordsDoesNotMatter, TurnsDoNotMatter, TurnsWriteTheSame};
 
 /// Two histories with the same table, comparability word and grammar and, for each point, the same own samples in any order have the same
 /// sections and the same state file.
@@ -18,4 +18,9 @@ pub fn order_of_records_does_not_matter()
 /// taken of each at a time, with the same report and the same state.
 pub fn turns_do_not_matter()
     ensures { TurnsDoNotMatter }
+{}
+
+/// A run over such files in turns that tells its last report, and saves its state or not, writes what one over the files without turns does.
+pub fn turns_write_the_same()
+    ensures { TurnsWriteTheSame }
 {}
