@@ -57,6 +57,12 @@ ended_table : (j h : History) → file_ended j ≡ h → h.table ≡ j.table
 unfolding file_ended
 ended_table j h same = ap (λ (g : History). g.table) (sym same)
 
+ended_text : (text : List ℕ) (h j i : History) → file_ended j ≡ h → read_text line_limit total_limit text ≡ Ok i → Alike j i → ComesToAlike text h
+ended_text text h j i same read alike =
+    let others : History = file_ended i in
+    let alike_now : AreAlike h others = subst (λ (g : History). AreAlike g others) same (ended_alike j i alike) in
+    (others, history_is text ∙ ap of_file read, alike_now, order_of_own_samples h others alike_now)
+
 pub order_of_records : OrderOfRecordsDoesNotMatter
 order_of_records files first second h one two e are =
     by (read_text line_limit total_limit (text_in_order files first)) refl (sym (history_is (text_in_order files first)) ∙ e)
@@ -68,9 +74,7 @@ order_of_records files first second h one two e are =
         let same : file_ended j ≡ h = cc f in
         let now : AreRecorders j.table files = subst (λ (ps : List Point). AreRecorders ps files) (ended_table j h same) are in
         let ordered = ordered_text line_limit total_limit files first second j one two is now in
-        let others : History = file_ended ordered.0 in
-        let alike : AreAlike h others = subst (λ (g : History). AreAlike g others) same (ended_alike j ordered.0 ordered.2) in
-        (others, history_is (text_in_order files second) ∙ ap of_file ordered.1, alike, order_of_own_samples h others alike)
+        ended_text (text_in_order files second) h j ordered.0 same ordered.1 ordered.2
 
 -- ---- turns
 by_file : (files : List (List ℕ)) → IsInterleaved (flat_map sample_blocks files) (map sample_blocks files)

@@ -1,24 +1,32 @@
 -- Small files of recorders, byte by byte.
-use Rattle.std.proofs.Common.{◌≡◌, ◌∷◌, [], ℕ, List, Option, Some, codes, option_map, refl}
+use Rattle.std.proofs.Common.{◌≡◌, ◌∷◌, [], ◌++◌, ◌∙◌, ℕ, zero, suc, ℤ, pos, All, AllPairs, List, None, Option, Some, ap, arith, codes, map, nat_abs, option_map, refl, subst, sym}
+use Rattle.std.proofs.lemmas.List.Elements.{All-cons, All-nil}
 use Rattle.std.specs.Result.{result_ok}
 use Rattle.dk_base.specs.Names.{unescaped}
+use Rattle.dk_base.specs.Numbers.{integer_of, whole_of}
 use Rattle.dk_graph.specs.Graphs.{depth_of, edges, has_cycle, links}
 use Rattle.dk_graph.specs.Names.{place_of}
-use Rattle.dk_lines.specs.Left.{lined}
+use Rattle.dk_lines.specs.Left.{lined, without_cr}
 use Rattle.dk_decl.specs.Blocks.{block_decl}
 use Rattle.dk_decl.specs.Comments.{is_comment}
 use Rattle.dk_decl.specs.DeclareBlock.{declare_lines}
 use Rattle.dk_decl.specs.Headers.{header_line}
-use Rattle.dk_decl.specs.LineWords.{begins}
+use Rattle.dk_decl.specs.LineWords.{begins, operand}
+use Rattle.dk_decl.specs.PptBlock.{point_name, ppt_lines, ppt_of}
 use Rattle.dk_points.specs.Declaring.{declared, has_many_vars}
 use Rattle.dk_points.specs.Links.{kept_edges, nodes}
 use Rattle.dk_points.specs.Names.{method_len, role_of}
 use Rattle.dk_points.specs.Sameness.{same_decl}
-use Rattle.dk_points.specs.Table.{names}
-use Rattle.dk_points.specs.Vars.{entry_before, orig_vars, vars_of}
+use Rattle.dk_points.specs.Table.{Point, declared_point, implicit_exit, names}
+use Rattle.dk_points.specs.Vars.{entry_before, entry_of, orig_vars, vars_of}
+use Rattle.dk_trace.specs.Bodies.{body_of, is_nonce_line, nonce_of}
+use Rattle.dk_trace.specs.Records.{point_named_by, sample_of, var_decls_at}
+use Rattle.dk_calls.specs.Records.{call_of, is_entry_at}
+use Rattle.dk_calls.specs.Waiting.{Call, enters, exits}
 use Rattle.dk_blocks.specs.History.{History, effect_of, is_declaration, is_list_of_implementors, no_history}
+use Rattle.dk_turns.specs.Blocks.{Block, sample_blocks}
 use Rattle.dk_turns.specs.Turns.{turns_of}
-use Rattle.dk_recorders.specs.Recorders.{text_by_file, text_in_order}
+use Rattle.dk_recorders.specs.Recorders.{AreRecorders, HasNoHeader, HasNoLastCr, HasNonce, ShareNoNonce, call_in, calls_in, text_by_file, text_in_order}
 use Rattle.dk_recorders.proofs.Ordered.{read_text}
 
 -- ---- a CR in front of blanks
@@ -49,3 +57,116 @@ points_by_file = refl
 points_in_turns : names_in (codes "DECLARE\r\nA\n\nDECLARE\r\nC\n\nDECLARE\r\nB\n") ≡ Some (codes "A" ∷ codes "C" ∷ codes "B" ∷ [])
 unfolding effect_of no_history lined header_line begins is_comment is_declaration is_list_of_implementors block_decl declare_lines declared has_many_vars role_of method_len place_of unescaped vars_of nodes edges has_cycle links same_decl kept_edges orig_vars entry_before depth_of
 points_in_turns = refl
+
+-- ---- two recorders
+-- Each has the same declarations, an entry and an exit of one method, with a nonce of its own.
+abbrev declarations : List ℕ
+declarations = codes "ppt M:::ENTER\n\nppt M:::EXIT1\n\n"
+
+abbrev calls_with : List ℕ → List ℕ
+calls_with nonce = codes "M:::ENTER\nthis_invocation_nonce\n" ++ (nonce ++ (codes "\n\nM:::EXIT1\nthis_invocation_nonce\n" ++ (nonce ++ codes "\n")))
+
+abbrev recorder : List ℕ → List ℕ
+recorder nonce = declarations ++ calls_with nonce
+
+abbrev both : List (List ℕ)
+both = recorder (codes "1") ∷ recorder (codes "2") ∷ []
+
+-- the points that they declare
+abbrev points : List Point
+points =
+    declared_point (record { name = codes "M:::ENTER"; edges = []; vars = [] })
+    ∷ implicit_exit (record { name = codes "M:::EXIT1"; edges = []; vars = [] })
+    ∷ declared_point (record { name = codes "M:::EXIT1"; edges = []; vars = [] }) ∷ []
+
+points_declared : option_map (λ (h : History). h.table) (result_ok (read_text 100 1000 (declarations ++ declarations))) ≡ Some points
+unfolding effect_of no_history lined header_line begins is_comment is_declaration is_list_of_implementors block_decl ppt_of ppt_lines point_name declared has_many_vars role_of method_len place_of unescaped vars_of nodes edges has_cycle links same_decl kept_edges orig_vars entry_before depth_of operand
+points_declared = refl
+
+abbrev entry_block : List ℕ → Block
+entry_block nonce = record { headers = []; body = codes "M:::ENTER" ∷ codes "this_invocation_nonce" ∷ nonce ∷ [] }
+
+abbrev exit_block : List ℕ → Block
+exit_block nonce = record { headers = []; body = codes "M:::EXIT1" ∷ codes "this_invocation_nonce" ∷ nonce ∷ [] }
+
+abbrev Samples : List ℕ → Type 0
+Samples nonce = sample_blocks (recorder nonce) ≡ entry_block nonce ∷ exit_block nonce ∷ []
+
+first_samples : Samples (codes "1")
+unfolding header_line begins is_comment is_declaration is_list_of_implementors
+first_samples = refl
+
+second_samples : Samples (codes "2")
+unfolding header_line begins is_comment is_declaration is_list_of_implementors
+second_samples = refl
+
+abbrev entered : ℤ → Call
+entered n = enters (record { point = 0; nonce = Some n; values = [] })
+
+-- the calls of a recorder
+module _ (nonce : List ℕ) (n : ℤ) where
+  abbrev Calls : Type 0
+  Calls = map (call_in points) (entry_block nonce ∷ exit_block nonce ∷ []) ≡ entered n ∷ exits 0 (Some n) ∷ []
+
+first_calls : Calls (codes "1") (pos 1)
+unfolding place_of unescaped role_of method_len vars_of sample_of point_named_by var_decls_at body_of is_nonce_line nonce_of integer_of whole_of call_of entry_of entry_before is_entry_at
+first_calls = refl
+
+second_calls : Calls (codes "2") (pos 2)
+unfolding place_of unescaped role_of method_len vars_of sample_of point_named_by var_decls_at body_of is_nonce_line nonce_of integer_of whole_of call_of entry_of entry_before is_entry_at
+second_calls = refl
+
+-- they are recorders
+two : {X : Type 0} (P : X → Type 0) (a b : X) → P a → P b → All P (a ∷ b ∷ [])
+two P a b p q = All-cons P a (b ∷ []) p (All-cons P b [] q (All-nil P))
+
+two_apart : {X : Type 0} (R : X → X → Type 0) (a b : X) → R a b → AllPairs R (a ∷ b ∷ [])
+two_apart R a b r zero zero d lt within = absurd (omega (arith, lt))
+two_apart R a b r zero (suc zero) d lt within = r
+two_apart R a b r zero (suc (suc j)) d lt within = absurd (omega (arith, within))
+two_apart R a b r (suc i) j d lt within = absurd (omega (arith, lt, within))
+
+abbrev IsWhole : List ℕ → Type 0
+IsWhole line = without_cr line ≡ line
+
+no_last_cr : (nonce : List ℕ) → IsWhole nonce → All HasNoLastCr (entry_block nonce ∷ exit_block nonce ∷ [])
+no_last_cr nonce e =
+    let behind : All IsWhole (codes "this_invocation_nonce" ∷ nonce ∷ []) = two IsWhole (codes "this_invocation_nonce") nonce refl e in
+    two HasNoLastCr (entry_block nonce) (exit_block nonce)
+    (All-cons IsWhole (codes "M:::ENTER") (codes "this_invocation_nonce" ∷ nonce ∷ []) refl behind)
+    (All-cons IsWhole (codes "M:::EXIT1") (codes "this_invocation_nonce" ∷ nonce ∷ []) refl behind)
+
+abbrev nonce_in : Option (ℕ × ℤ) → ℕ
+nonce_in None = 0
+nonce_in (Some key) = nat_abs key.1
+
+other_nonce : (key : ℕ × ℤ) → Some (0, pos 1) ≡ Some key → Some (0, pos 2) ≡ Some key → ⊥
+other_nonce key p q = let e : 1 ≡ 2 = ap nonce_in (p ∙ sym q) in absurd (omega (arith, e))
+
+apart_calls : All (λ a. All (ShareNoNonce a) (entered (pos 2) ∷ exits 0 (Some (pos 2)) ∷ [])) (entered (pos 1) ∷ exits 0 (Some (pos 1)) ∷ [])
+apart_calls =
+    two (λ a. All (ShareNoNonce a) (entered (pos 2) ∷ exits 0 (Some (pos 2)) ∷ [])) (entered (pos 1)) (exits 0 (Some (pos 1)))
+    (two (ShareNoNonce (entered (pos 1))) (entered (pos 2)) (exits 0 (Some (pos 2))) other_nonce other_nonce)
+    (two (ShareNoNonce (exits 0 (Some (pos 1)))) (entered (pos 2)) (exits 0 (Some (pos 2))) other_nonce other_nonce)
+
+calls_are : (nonce : List ℕ) (n : ℤ) → Samples nonce → Calls nonce n → calls_in points (recorder nonce) ≡ entered n ∷ exits 0 (Some n) ∷ []
+calls_are nonce n samples calls = ap (λ (bs : List Block). map (call_in points) bs) samples ∙ calls
+
+with_nonces : (nonce : List ℕ) (n : ℤ) → Samples nonce → Calls nonce n → All HasNonce (calls_in points (recorder nonce))
+with_nonces nonce n samples calls =
+    subst (All HasNonce) (sym (calls_are nonce n samples calls)) (two HasNonce (entered n) (exits 0 (Some n)) refl refl)
+
+both_are_recorders : AreRecorders points both
+both_are_recorders = record {
+  no_headers = two (λ file. All HasNoHeader (sample_blocks file)) (recorder (codes "1")) (recorder (codes "2"))
+      (subst (All HasNoHeader) (sym first_samples) (two HasNoHeader (entry_block (codes "1")) (exit_block (codes "1")) refl refl))
+      (subst (All HasNoHeader) (sym second_samples) (two HasNoHeader (entry_block (codes "2")) (exit_block (codes "2")) refl refl));
+  no_last_cr = two (λ file. All HasNoLastCr (sample_blocks file)) (recorder (codes "1")) (recorder (codes "2"))
+      (subst (All HasNoLastCr) (sym first_samples) (no_last_cr (codes "1") refl))
+      (subst (All HasNoLastCr) (sym second_samples) (no_last_cr (codes "2") refl));
+  nonces = two (λ file. All HasNonce (calls_in points file)) (recorder (codes "1")) (recorder (codes "2"))
+      (with_nonces (codes "1") (pos 1) first_samples first_calls) (with_nonces (codes "2") (pos 2) second_samples second_calls);
+  apart = two_apart (λ file another. All (λ a. All (ShareNoNonce a) (calls_in points another)) (calls_in points file)) (recorder (codes "1")) (recorder (codes "2"))
+      (subst (λ (cs : List Call). All (λ a. All (ShareNoNonce a) (calls_in points (recorder (codes "2")))) cs) (sym (calls_are (codes "1") (pos 1) first_samples first_calls))
+      (subst (λ (ds : List Call). All (λ a. All (ShareNoNonce a) ds) (entered (pos 1) ∷ exits 0 (Some (pos 1)) ∷ [])) (sym (calls_are (codes "2") (pos 2) second_samples second_calls)) apart_calls));
+}

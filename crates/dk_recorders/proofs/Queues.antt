@@ -1,5 +1,5 @@
 -- The waiting entries of one method with one nonce, and what records do to them.
-use Rattle.std.proofs.Common.{◌≡◌, ◌∙◌, ◌&&◌, ◌==◌, ℕ, ℤ, Bool, true, false, List, [], ◌∷◌, drop, filter, find, nat_eq, IsSome, Option, Some, None, refl, sym, ap, slice_get, subst, if◌then◌else◌}
+use Rattle.std.proofs.Common.{◌≡◌, ◌∙◌, ◌&&◌, ◌==◌, ℕ, ℤ, Bool, true, false, List, [], ◌∷◌, drop, filter, find, nat_eq, IsSome, Option, Some, None, option_map, refl, sym, ap, slice_get, subst, if◌then◌else◌}
 use Rattle.std.proofs.lemmas.Bool.{eqb-true}
 use Rattle.std.proofs.lemmas.Bool.Decides.{Decides-int_eq}
 use Rattle.std.specs.Ordering.{int_eq}
@@ -46,14 +46,14 @@ same_number : (k : Option ℤ) (n : ℤ) → same_nonce k (Some n) ≡ true → 
 same_number None n e = absurd (cc e)
 same_number (Some m) n e = ap (λ (i : ℤ). Some i) ((Decides-int_eq m n).0 e)
 
-key_of : (call : Call) (point : ℕ) (n : ℤ) → touches call point n ≡ true → method_and_nonce call ≡ Some (point, Some n)
+key_of : (call : Call) (point : ℕ) (n : ℤ) → touches call point n ≡ true → method_and_nonce call ≡ Some (point, n)
 key_of (enters w) point n e =
     let parts = both (w.point == point) (same_nonce w.nonce (Some n)) e in
-    ap (λ (p : ℕ). Some (p, w.nonce)) (eqb-true w.point point parts.0) ∙ ap (λ (k : Option ℤ). Some (point, k)) (same_number w.nonce n parts.1)
+    ap (λ (k : Option ℤ). option_map (λ m. (w.point, m)) k) (same_number w.nonce n parts.1) ∙ ap (λ (p : ℕ). Some (p, n)) (eqb-true w.point point parts.0)
 key_of (exits p None) point n e = absurd (cc e)
 key_of (exits p (Some m)) point n e =
     let parts = both (nat_eq p point) (int_eq m n) e in
-    ap (λ (q : ℕ). Some (q, Some m)) (eqb-true p point parts.0) ∙ ap (λ (i : ℤ). Some (point, Some i)) ((Decides-int_eq m n).0 parts.1)
+    ap (λ (q : ℕ). Some (q, m)) (eqb-true p point parts.0) ∙ ap (λ (i : ℤ). Some (point, i)) ((Decides-int_eq m n).0 parts.1)
 key_of other point n e = absurd (cc e)
 
 -- ---- one record behind those that leave the same
@@ -68,7 +68,7 @@ pub exchanged : (a b : Call) (calls : List Call) → HasNonce a → HasNonce b �
 exchanged a b calls has_a has_b apart point n =
     behind b (a ∷ calls) has_b point n
     ∙ ap (λ (ws : List Entry). if touches b point n then changed b ws else ws) (behind a calls has_a point n)
-    ∙ by (touches a point n) (touches b point n) (λ e f. apart (point, Some n) (key_of a point n e) (key_of b point n f))
+    ∙ by (touches a point n) (touches b point n) (λ e f. apart (point, n) (key_of a point n e) (key_of b point n f))
     ∙ sym (ap (λ (ws : List Entry). if touches a point n then changed a ws else ws) (behind b calls has_b point n))
     ∙ sym (behind a (b ∷ calls) has_a point n)
   where
@@ -104,11 +104,11 @@ untouched : (call : Call) (calls : List Call) → HasNonce call → (point : ℕ
 untouched call calls has point n e =
     behind call calls has point n ∙ ap (λ (b : Bool). if b then changed call (queue point n calls) else queue point n calls) e
 
-not_touched : (a b : Call) → ShareNoNonce a b → (point : ℕ) (n : ℤ) → method_and_nonce a ≡ Some (point, Some n) → touches b point n ≡ false
+not_touched : (a b : Call) → ShareNoNonce a b → (point : ℕ) (n : ℤ) → method_and_nonce a ≡ Some (point, n) → touches b point n ≡ false
 not_touched a b apart point n own = by (touches b point n) refl
   where
     by : (t : Bool) → touches b point n ≡ t → t ≡ false
-    by true e = absurd (apart (point, Some n) own (key_of b point n e))
+    by true e = absurd (apart (point, n) own (key_of b point n e))
     by false e = refl
 
 -- what an exit takes isn't changed by a record of another method or nonce

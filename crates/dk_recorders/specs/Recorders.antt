@@ -1,5 +1,5 @@
 -- Files of several recorders: what is asked of them so that the order of their records doesn't matter.
-use Rattle.std.specs.Prelude.{◌≡◌, ⊤, ℕ, ℤ, All, List, [], ◌∷◌, ◌++◌, flat_map, map, IsSome, Option, Some, None}
+use Rattle.std.specs.Prelude.{◌≡◌, ⊤, ℕ, ℤ, All, List, [], ◌∷◌, ◌++◌, flat_map, map, IsSome, option_map, Option, Some, None}
 use Rattle.std.specs.List.{AllPairs, join_with_byte}
 use Rattle.std.specs.Option.{option_map_or}
 use Rattle.std.specs.Result.{result_ok}
@@ -47,14 +47,14 @@ HasNonce (exits point nonce) = IsSome nonce
 HasNonce other = ⊤
 
 -- the method of an entry or an exit, which goes by the place of its entry, with the record's nonce
-abbrev pub method_and_nonce : Call → Option (ℕ × Option ℤ)
-method_and_nonce (enters w) = Some (w.point, w.nonce)
-method_and_nonce (exits point nonce) = Some (point, nonce)
+abbrev pub method_and_nonce : Call → Option (ℕ × ℤ)
+method_and_nonce (enters w) = option_map (λ n. (w.point, n)) w.nonce
+method_and_nonce (exits point nonce) = option_map (λ n. (point, n)) nonce
 method_and_nonce other = None
 
 -- the two are not of one method with one nonce
 abbrev pub ShareNoNonce : Call → Call → Type 0
-ShareNoNonce a b = (key : ℕ × Option ℤ) → method_and_nonce a ≡ Some key → method_and_nonce b ≡ Some key → ⊥
+ShareNoNonce a b = (key : ℕ × ℤ) → method_and_nonce a ≡ Some key → method_and_nonce b ≡ Some key → ⊥
 
 -- ---- recorders
 -- no header line stands in front of its record
