@@ -1,7 +1,7 @@
 -- Behind a block no word is awaited.
-use Rattle.std.proofs.Common.{◌≡◌, ◌+◌, ℕ, Bool, true, false, List, [], ◌∷◌, codes, map, Option, Some, None, Result, Ok, Err, refl, sym, ap, ◌∙◌, subst, if◌then◌else◌}
+use Rattle.std.proofs.Common.{◌≡◌, ◌+◌, ℕ, Bool, true, false, List, [], ◌∷◌, codes, Option, Some, None, Result, Ok, Err, refl, sym, ap, ◌∙◌, subst, if◌then◌else◌}
 use Rattle.std.specs.Str.{bytes_eq}
-use Rattle.dk_base.specs.Reading.{Line, LineFault, Reads, ◌>>=◌}
+use Rattle.dk_base.specs.Reading.{Line, LineFault, ◌>>=◌}
 use Rattle.dk_base.specs.declared.why.Why.{Why}
 use Rattle.dk_base.specs.declared.why.Why.TheVariants.{BadHeader}
 use Rattle.dk_lines.specs.Left.{Broken, End, LongLine, Over, TooLong, numbered}
@@ -11,13 +11,12 @@ use Rattle.dk_decl.specs.Comments.{is_comment}
 use Rattle.dk_decl.specs.Headers.{awaits_word, comparability_word, header_line, is_implicit, with_text}
 use Rattle.dk_decl.specs.LineWords.{begins, operand}
 use Rattle.dk_decl.specs.Outcomes.{refused}
-use Rattle.dk_decl.specs.declared.decls.PointDecl.{PointDecl}
 use Rattle.dk_decl.specs.declared.header.Header.{Header}
 use Rattle.dk_points.specs.Declaring.{at_line, declared}
-use Rattle.dk_trace.specs.Records.{Sample, sample_of}
+use Rattle.dk_trace.specs.Records.{sample_of}
 use Rattle.dk_blocks.specs.Blocks.{Group, Groups, Last, groups_of}
 use Rattle.dk_blocks.specs.Fronts.{Front, at_header_line, block_front}
-use Rattle.dk_blocks.specs.History.{History, Taken, after_declaration, after_front, after_lines, after_record, after_sample, base_values, block, block_by, declared_effect, effect_of, is_declaration, is_list_of_implementors, no_block, or_left_out, with_record, with_table, with_values, without_record}
+use Rattle.dk_blocks.specs.History.{History, Taken, after_declaration, after_front, after_lines, after_record, after_sample, base_values, block, block_by, declared_effect, effect_of, is_declaration, is_list_of_implementors, no_block, with_table, with_values, without_record}
 use Rattle.dk_blocks.specs.Reading.{after_all}
 use Rattle.dk_recorders.proofs.Groups.{groups_end, groups_end_alike, read_on}
 use Rattle.dk_recorders.proofs.Lines.{end_of}

@@ -2,11 +2,9 @@
 use Rattle.std.proofs.Common.{◌≡◌, ◌+◌, ◌&&◌, ℕ, Bool, true, false, not, All, List, [], ◌∷◌, ◌++◌, codes, is_some, map, Option, Some, None, option_and_then, option_map, Result, Ok, Err, refl, sym, ap, ◌∙◌, subst, if◌then◌else◌}
 use Rattle.std.proofs.lemmas.List.{map-append}
 use Rattle.std.proofs.lemmas.List.Elements.{All-head, All-tail}
-use Rattle.std.specs.Option.{option_map_or}
 use Rattle.std.specs.Result.{result_ok}
 use Rattle.std.specs.Str.{bytes_eq}
-use Rattle.dk_base.specs.Reading.{Line, LineFault, Reads, ◌>>=◌}
-use Rattle.dk_base.specs.declared.values.Value.{Value}
+use Rattle.dk_base.specs.Reading.{Line, LineFault, ◌>>=◌}
 use Rattle.dk_base.specs.declared.why.Why.{Why}
 use Rattle.dk_base.specs.declared.why.Why.TheVariants.{BadHeader, UnmatchedExit}
 use Rattle.dk_lines.specs.Left.{without_cr}
@@ -15,13 +13,12 @@ use Rattle.dk_decl.specs.Headers.{awaits_word, comparability_word, first_header,
 use Rattle.dk_decl.specs.LineWords.{begins, operand}
 use Rattle.dk_decl.specs.Outcomes.{or_refused}
 use Rattle.dk_decl.specs.declared.header.Header.{Header}
-use Rattle.dk_points.specs.Table.{Point}
 use Rattle.dk_points.specs.Vars.{entry_of}
 use Rattle.dk_trace.specs.Records.{Sample, sample_of}
 use Rattle.dk_calls.specs.Records.{call_of, values_at_exit, with_entry}
-use Rattle.dk_calls.specs.Waiting.{Call, Entry, entry_of_call}
+use Rattle.dk_calls.specs.Waiting.{Entry, entry_of_call}
 use Rattle.dk_blocks.specs.Fronts.{Front, at_header_line, block_front}
-use Rattle.dk_blocks.specs.History.{History, Taken, after_declaration, after_front, after_record, after_sample, base_values, block, effect_of, is_declaration, is_list_of_implementors, own_samples_with, with_record, with_values}
+use Rattle.dk_blocks.specs.History.{History, Taken, after_declaration, after_front, after_sample, base_values, block, effect_of, is_declaration, is_list_of_implementors, own_samples_with, with_record, with_values}
 use Rattle.dk_turns.specs.Blocks.{Block, begins_sample, lines_of_block}
 use Rattle.dk_recorders.specs.Recorders.{HasNoHeader, sample_in, unnumbered}
 use Rattle.dk_recorders.proofs.Awaiting.{NoWord}

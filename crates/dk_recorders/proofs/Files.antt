@@ -1,16 +1,16 @@
 -- The blocks of a file, as they are written.
-use Rattle.std.proofs.Common.{◌≡◌, ◌+◌, ◌&&◌, ℕ, Bool, true, false, not, All, List, [], ◌∷◌, ◌++◌, filter, flat_map, get_or, map, Option, Some, None, Result, Ok, Err, refl, sym, subst, ap, ◌∙◌, if◌then◌else◌}
+use Rattle.std.proofs.Common.{◌≡◌, ◌+◌, ℕ, Bool, true, false, not, All, List, [], ◌∷◌, get_or, map, Option, Some, None, Result, Ok, Err, refl, subst, ap, ◌∙◌, if◌then◌else◌}
 use Rattle.std.proofs.lemmas.List.Elements.{All-append, All-cons, All-filter, All-head, All-map, All-nil, All-tail, All-weaker, filter_passes}
 use Rattle.dk_base.specs.Reading.{Line}
 use Rattle.dk_base.specs.declared.why.Why.{Why}
 use Rattle.dk_base.specs.Words.{is_empty, trim_blanks}
-use Rattle.dk_lines.specs.Left.{lines_of, numbered, without_cr}
+use Rattle.dk_lines.specs.Left.{lines_of, numbered}
 use Rattle.dk_decl.specs.Comments.{is_comment}
 use Rattle.dk_decl.specs.Headers.{first_header, header_line}
 use Rattle.dk_decl.specs.declared.header.Header.{Header}
 use Rattle.dk_blocks.specs.Blocks.{Group, Groups, Last, groups_of, onto_group}
 use Rattle.dk_turns.specs.Blocks.{Block, at_line, begins_sample, behind_header, block_behind, block_of, blocks_of, has_lines, has_sample, in_force, lines_of_block, lines_of_groups, plain_blocks, runs_of, sample_blocks}
-use Rattle.dk_recorders.specs.Recorders.{HasNoHeader, HasNoLastCr}
+use Rattle.dk_recorders.specs.Recorders.{HasNoHeader}
 use Rattle.dk_recorders.proofs.Lines.{HasNoLf}
 use Rattle.dk_recorders.proofs.Trimming.{lines_have_no_lf, trimmed_no_lf, trimmed_twice}
 

@@ -1,5 +1,5 @@
 -- The numbers of lines tell where a fault is, and nothing else: a record gives the same sample wherever it stands.
-use Rattle.std.proofs.Common.{◌≡◌, ◌||◌, ℕ, ℤ, Bool, true, false, List, [], ◌∷◌, ◌++◌, codes, map, Option, Some, None, option_map, Result, Ok, Err, refl, sym, ap, ◌∙◌, subst, if◌then◌else◌}
+use Rattle.std.proofs.Common.{◌≡◌, ◌||◌, ℕ, ℤ, Bool, true, false, List, [], ◌∷◌, codes, map, Option, Some, None, option_map, Result, Ok, Err, refl, ap, ◌∙◌, if◌then◌else◌}
 use Rattle.std.specs.Result.{result_ok}
 use Rattle.std.specs.Str.{bytes_eq}
 use Rattle.dk_base.specs.Names.{unescaped}
@@ -14,7 +14,7 @@ use Rattle.dk_decl.specs.Outcomes.{or_refused, refused}
 use Rattle.dk_decl.specs.declared.decls.VarDecl.{VarDecl}
 use Rattle.dk_points.specs.Table.{Point}
 use Rattle.dk_trace.specs.Bodies.{Body, body_of, body_with, from_nonce, is_nonce_line, nonce_of}
-use Rattle.dk_trace.specs.Marks.{marked, marked_value, no_value, read_value}
+use Rattle.dk_trace.specs.Marks.{marked_value, no_value, read_value}
 use Rattle.dk_trace.specs.Records.{Sample, declared_place, point_named_by, sample_of, sample_with, var_decls_at}
 use Rattle.dk_trace.specs.Values.{from_name, known_values, named_kind, record_values, then_values}
 use Rattle.dk_recorders.specs.Recorders.{unnumbered}

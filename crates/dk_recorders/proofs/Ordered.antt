@@ -1,5 +1,5 @@
 -- Files of recorders in another order are accepted where they are in one, and come to an alike history.
-use Rattle.std.proofs.Common.{◌≡◌, ◌≢◌, ◌<◌, ℕ, Bool, false, true, All, AllPairs, List, [], ◌∷◌, ◌++◌, IsPermutation, Option, Some, None, option_map, Result, Ok, Err, flat_map, get_or, length, map, refl, sym, ap, ◌∙◌, subst, append-nil, append_assoc, arith}
+use Rattle.std.proofs.Common.{◌≡◌, ◌≢◌, ◌<◌, ℕ, false, true, All, AllPairs, List, [], ◌∷◌, ◌++◌, IsPermutation, Option, Some, None, option_map, Result, Ok, Err, flat_map, get_or, length, map, refl, sym, ap, ◌∙◌, subst, append_assoc, arith}
 use Rattle.std.proofs.lemmas.List.{get_or-map, length-map, map-append}
 use Rattle.std.proofs.lemmas.List.Elements.{All-append, All-cons, All-head, All-nil, All-tail, All-weaker}
 use Rattle.std.proofs.lemmas.List.Sorted.{All-permutation, IsPermutation-append_right, IsPermutation-refl, length_permutation}
@@ -18,7 +18,7 @@ use Rattle.dk_recorders.specs.Recorders.{AreRecorders, HasNoHeader, HasNoLastCr,
 use Rattle.dk_recorders.proofs.Awaiting.{NoWord, text_word}
 use Rattle.dk_recorders.proofs.Chains.{IsReady, blocks_taken, kept_of, with_kept}
 use Rattle.dk_recorders.proofs.Files.{IsTaken, LinesTaken, plain_taken, samples_begin, samples_taken}
-use Rattle.dk_recorders.proofs.Groups.{IsKept, accepted_within, behind, cut, read_on}
+use Rattle.dk_recorders.proofs.Groups.{accepted_within, behind, cut, read_on}
 use Rattle.dk_recorders.proofs.Lines.{Fit, HasNoLf, end_of, fit_if_within, is_past_limit, pieces_are, spaced, spaced_all, text_of_blocks, whole_lines}
 use Rattle.dk_recorders.proofs.Orders.{Both, run, same_orders}
 use Rattle.dk_recorders.proofs.Permuted.{fit_moved, orders_permute}

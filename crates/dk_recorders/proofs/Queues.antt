@@ -1,10 +1,10 @@
 -- The waiting entries of one method with one nonce, and what records do to them.
-use Rattle.std.proofs.Common.{◌≡◌, ◌∙◌, ◌&&◌, ◌==◌, ℕ, ℤ, Bool, true, false, List, [], ◌∷◌, drop, filter, find, nat_eq, IsSome, Option, Some, None, option_map, refl, sym, ap, slice_get, subst, if◌then◌else◌}
+use Rattle.std.proofs.Common.{◌≡◌, ◌∙◌, ◌&&◌, ◌==◌, ℕ, ℤ, Bool, true, false, List, [], ◌∷◌, drop, filter, find, nat_eq, Option, Some, None, option_map, refl, sym, ap, slice_get, if◌then◌else◌}
 use Rattle.std.proofs.lemmas.Bool.{eqb-true}
 use Rattle.std.proofs.lemmas.Bool.Decides.{Decides-int_eq}
 use Rattle.std.specs.Ordering.{int_eq}
 use Rattle.dk_calls.specs.Nonces.{same_key}
-use Rattle.dk_calls.specs.Waiting.{Call, Entry, enters, entry_of_call, exits, is_of, other, same_nonce, taken_by, waiting_of}
+use Rattle.dk_calls.specs.Waiting.{Call, Entry, enters, entry_of_call, exits, is_of, other, same_nonce, waiting_of}
 use Rattle.dk_calls.proofs.Waits.{left_nonce}
 use Rattle.dk_recorders.specs.Recorders.{HasNonce, ShareNoNonce, method_and_nonce}
 

@@ -1,5 +1,5 @@
 -- Rounds, and the lists one behind another, keep the order of each list.
-use Rattle.std.proofs.Common.{◌≡◌, ◌<◌, ◌≤◌, ◌-◌, ◌++◌, ℕ, zero, suc, All, List, [], ◌∷◌, drop, flat_map, length, map, take, refl, sym, subst, ap, ◌∙◌, append-nil, append_assoc, length-append, length-drop, arith}
+use Rattle.std.proofs.Common.{◌≡◌, ◌<◌, ◌≤◌, ◌-◌, ◌++◌, ℕ, zero, suc, All, List, [], ◌∷◌, drop, flat_map, length, map, take, refl, sym, subst, append-nil, append_assoc, length-append, length-drop, arith}
 use Rattle.std.proofs.lemmas.List.{nil_from_length}
 use Rattle.std.proofs.lemmas.List.Elements.{All-append, All-cons, All-nil}
 use Rattle.dk_turns.specs.Turns.{in_rounds, rounds}
