@@ -1,9 +1,8 @@
 -- The section of a point doesn't depend on the order of own samples.
-use Rattle.std.proofs.Common.{◌≡◌, ℕ, zero, suc, Bool, true, false, List, [], ◌∷◌, ◌++◌, IsPermutation, flat_map, get_or, length, map, refl, ap, ◌∙◌, arith, if◌then◌else◌}
+use Rattle.std.proofs.Common.{◌≡◌, ℕ, zero, suc, Bool, List, [], ◌∷◌, IsPermutation, flat_map, get_or, map, refl, ap, ◌∙◌, arith, if◌then◌else◌}
 use Rattle.std.proofs.Math.Path.{fun_ext}
 use Rattle.std.proofs.lemmas.List.Sorted.{IsPermutation-append, IsPermutation-map, IsPermutation-refl, length_permutation}
 use Rattle.dk_base.specs.Pieces.{is_empty}
-use Rattle.dk_base.specs.declared.values.Value.{Value}
 use Rattle.dk_derive.specs.Values.{values_by_form}
 use Rattle.dk_filters.specs.Answers.{Answers}
 use Rattle.dk_filters.specs.Candidates.{candidates_kept, candidates_of}
