@@ -1,12 +1,12 @@
 -- A text as the only file of a run.
 use Rattle.std.proofs.Common.{◌≡◌, ◌+◌, ◌-◌, ℕ, false, true, List, [], ◌∷◌, ◌++◌, flat_map, length, map, Some, Result, Ok, Err, refl, sym, ap, ◌∙◌, subst}
 use Rattle.dk_base.specs.Reading.{LineFault, Reads, ◌>>=◌}
-use Rattle.dk_lines.specs.Left.{End, lined}
+use Rattle.dk_lines.specs.Left.{lined}
 use Rattle.dk_points.specs.Table.{Point}
 use Rattle.dk_blocks.specs.Blocks.{Group, Groups, Last, groups_of}
 use Rattle.dk_blocks.specs.History.{History, Taken, effect_of, file_ended, no_history}
 use Rattle.dk_blocks.specs.Reading.{after_all, after_last}
-use Rattle.dk_run.specs.Courses.{Course, after_block, behind_histories, course_end, course_of, course_of_files, course_of_groups, goes_on, line_limit, then_files, total_limit}
+use Rattle.dk_run.specs.Courses.{Course, course_end, course_of, course_of_files, course_of_groups, goes_on, line_limit, then_files, total_limit}
 use Rattle.dk_run.specs.Files.{FileFault}
 use Rattle.dk_turns.specs.Blocks.{Block, sample_blocks}
 use Rattle.dk_turns.specs.Turns.{in_rounds, turns_of}

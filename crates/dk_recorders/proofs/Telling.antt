@@ -1,12 +1,11 @@
 -- Histories that differ in the order of own samples alone have the same report and the same state file.
-use Rattle.std.proofs.Common.{◌≡◌, ℕ, Bool, List, [], flat_map, refl, sym, ap, ◌∙◌, if◌then◌else◌}
+use Rattle.std.proofs.Common.{◌≡◌, ℕ, Bool, List, [], flat_map, sym, ap, ◌∙◌, if◌then◌else◌}
 use Rattle.std.proofs.Math.Path.{fun_ext}
 use Rattle.std.specs.List.{enumerate_from}
 use Rattle.dk_decl.specs.Headers.{is_implicit}
 use Rattle.dk_decl.specs.declared.header.Header.{Header}
 use Rattle.dk_points.specs.Table.{Point}
 use Rattle.dk_template.specs.declared.grammar.Grammar.{Grammar}
-use Rattle.dk_hierarchy.specs.Samples.{OwnSamples}
 use Rattle.dk_report.specs.Reports.{name_in_table, section_of as section_in}
 use Rattle.dk_report.specs.declared.options.Options.{Options}
 use Rattle.dk_state.proofs.SameTexts.{order_of_samples}
