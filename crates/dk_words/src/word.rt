@@ -21,7 +21,7 @@ impl Model for Word {
 
 impl Word {
     /// This text.
-    pub(crate) fn from_str(alloc: Global, text: &str) -> Result<Word, NoMemory>
+    pub fn from_str(alloc: Global, text: &str) -> Result<Word, NoMemory>
         ensures { IfOk result (λ word. word ≡ text.now) }
     {
         Ok(Word {
