@@ -2,7 +2,6 @@
 //! holds in all their samples.
 #![tactic(auto)]
 
-
 use dk_events::Ended;
 use dk_io::{FileInputs, HostSinks};
 use dk_merge::{run_merge, tell_usage};
