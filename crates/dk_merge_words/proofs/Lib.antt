@@ -1,0 +1,4 @@
+mod Asked
+pub mod Faults
+pub mod Answering
+pub mod Ranges
