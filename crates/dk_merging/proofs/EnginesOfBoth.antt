@@ -1,5 +1,5 @@
 -- The engines of both states, and what they stand for.
-use Rattle.std.specs.Prelude.{◌≡◌, ◌<◌, ◌≤◌, ◌+◌, ◌++◌, ◌∷◌, ◌^◌, [], ℕ, zero, suc, All, IfOk, List, Some, Ok, Err, Result, length, map, max, refl, slice_get, slice_index_or}
+use Rattle.std.specs.Prelude.{◌≡◌, ◌<◌, ◌≤◌, ◌+◌, ◌++◌, ◌∷◌, ◌^◌, ◌==◌, [], ℕ, zero, suc, All, IfOk, List, None, Some, if◌then◌else◌, Ok, Err, Result, length, map, max, refl, slice_get, slice_index_or}
 use Rattle.std.specs.List.{range_with_len, zip}
 use Rattle.std.proofs.Common.{◌∙◌, ap, append-nil, arith, get_or, inl, inr, subst, sym}
 use Rattle.std.proofs.lemmas.Bool.{cases_lt}
@@ -12,6 +12,7 @@ use Rattle.dk_derive.specs.Values.{values_by_form}
 use Rattle.dk_engine.specs.Exact.{AreOfPoint, AreSamples, IsKeptOf}
 use Rattle.dk_engine.specs.Levels.{Whole}
 use Rattle.dk_engine.specs.Saved.{AreSavedParts, parts_of}
+use Rattle.dk_engine.specs.declared.kept.Kept.{Kept}
 use Rattle.dk_fits.specs.Laws.{IsSample}
 use Rattle.dk_graph.proofs.Places.{some-injective}
 use Rattle.dk_hierarchy.specs.Samples.{OwnSamples, all_vars_of, own_samples_of}
@@ -22,10 +23,15 @@ use Rattle.dk_join.specs.Laws.{AreKeptOf}
 use Rattle.dk_join.specs.declared.joining.JoinFault.{JoinFault}
 use Rattle.dk_points.specs.Table.{Point}
 use Rattle.dk_presence.specs.Patterns.{capped}
+use Rattle.dk_state.proofs.Loads.{parts_saved}
+use Rattle.dk_state.specs.Fitting.{FitsSlot}
+use Rattle.dk_state.specs.Loading.{AreSaved}
+use Rattle.dk_state.specs.Spelling.{AreSavedAt, IsSavedAt, saved_parts}
 use Rattle.dk_state.specs.StateFile.{StandForHistory}
 use Rattle.dk_template.specs.declared.grammar.Grammar.{Grammar}
 use Rattle.dk_merging.specs.Engines.{AreEnginesOfBoth, HaveNoJoinSomewhere, IsEngineOfBoth, IsSound}
 use Rattle.dk_merging.specs.Merging.{own_of_both}
+use Rattle.dk_merging.specs.Numbers.{AreWithin}
 use Rattle.dk_merging.proofs.Heads.{all_at}
 
 -- ---- one point
@@ -87,6 +93,15 @@ joined_alone one other sound also some more (Ok e) grammar infos parts saved sta
 }
 joined_alone one other sound also some more (Err f) grammar infos parts saved stands = tt
 
+-- ---- what is saved
+-- of some samples, the parts
+some_saved : (g : Grammar) (ps : List Point) (p : ℕ) (kept : Kept) → 0 < kept.samples → IsSavedAt g ps p (saved_parts kept) → AreSavedAt g ps p (parts_of kept)
+some_saved g ps p kept some saved = by kept.samples some saved
+  where
+    by : (n : ℕ) → 0 < n → IsSavedAt g ps p (if n == 0 then None else Some (parts_of kept)) → AreSavedAt g ps p (parts_of kept)
+    by zero none own = absurd (omega (arith, none))
+    by (suc n) some own = own
+
 -- ---- all points
 length_of_both : (ones others both : List Whole) → length ones ≡ length others → AreEnginesOfBoth ones others both → length both ≡ length ones
 length_of_both [] [] [] long all = refl
@@ -138,6 +153,26 @@ module _ (g : Grammar) (ps : List Point) (ones others both : List Whole) (are : 
 
   pub both_of_grammar : All (λ engine. engine.grammar ≡ g) both
   both_of_grammar = λ k d l. grammar_at k (get_or both k d) (slice_get-get_or both k d l)
+
+  -- what they keep can be saved
+  pub both_saved : AreSaved g ps ones → AreSaved g ps others → AreWithin both → AreSaved g ps both
+  both_saved saved also_saved within i e got =
+      let at = at_both ones others both one_length each i e got in
+      let one = at.0 in
+      let other = at.1 in
+      let Saved : Whole → Type 0 = λ w. IsSavedAt g ps i (saved_parts w.kept) in
+      elim (cases_lt 0 other.kept.samples) as (λ _. Saved e) [
+        | inr none ↦ subst Saved (sym (at.4.first_alone (omega (arith, none)))) (saved i one at.2)
+        | inl more ↦ elim (cases_lt 0 one.kept.samples) as (λ _. Saved e) [
+          | inr none ↦ subst Saved (sym (at.4.second_alone (omega (arith, none)) more)) (also_saved i other at.3)
+          | inl some ↦
+              let grammar : one.grammar ≡ g = all_at (λ (engine : Whole). engine.grammar ≡ g) ones i one by_one at.2 in
+              let infos : one.infos ≡ all_vars_of ps i = (are.variables i one at.2).0 in
+              let meet : AreSavedParts g (all_vars_of ps i) (parts_of e.kept) =
+              subst (λ vars. AreSavedParts g vars (parts_of e.kept)) infos (subst (λ h. AreSavedParts h one.infos (parts_of e.kept)) grammar (at.4.joined some more).saved) in
+              parts_saved g ps i e.kept (some_saved g ps i one.kept some (saved i one at.2)).declared meet (all_at (λ (engine : Whole). All FitsSlot engine.kept.slots) both i e within got)
+        ]
+      ]
 
 -- ---- histories
 -- the own samples of both at a point

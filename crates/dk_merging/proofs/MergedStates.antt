@@ -1,6 +1,7 @@
 -- What is answered of two states.
 use Rattle.std.specs.Prelude.{◌≡◌, ℕ, Bool, List, Result, Ok, Err, refl}
 use Rattle.std.proofs.Common.{◌∙◌, subst, sym}
+use Rattle.dk_engine.specs.Levels.{Whole}
 use Rattle.dk_hierarchy.specs.Samples.{OwnSamples}
 use Rattle.dk_join.specs.declared.joining.JoinFault.{JoinFault}
 use Rattle.dk_join.specs.declared.joining.JoinFault.TheVariants as join
@@ -9,15 +10,16 @@ use Rattle.dk_state.specs.Spelling.{CanBeSaved, IsSpelling, content_of}
 use Rattle.dk_state.specs.StateFile.{StandForHistory, state_file_of}
 use Rattle.dk_state.specs.declared.loading.Loaded.{Loaded}
 use Rattle.dk_state.proofs.Histories.{content_text, history_meets}
+use Rattle.dk_state.proofs.Loads.{content_loaded, loaded_meets, loaded_text}
 use Rattle.dk_template.specs.declared.grammar.Grammar.{Grammar}
 use Rattle.dk_merging.specs.Engines.{HaveNoJoinSomewhere}
 use Rattle.dk_merging.specs.Faults.{IsJoinFault}
 use Rattle.dk_merging.specs.Fronts.{front_of}
 use Rattle.dk_merging.specs.Loading.{AreOfOneHead, IsBadOr, IsLoadOf, IsOfHistory, MakesBoth, head_of}
-use Rattle.dk_merging.specs.Merging.{AnswersMerge, CanBeMerged, GivesBoth, Says, file_of_both, own_of_both}
+use Rattle.dk_merging.specs.Merging.{AnswersMerge, CanBeMerged, GivesBoth, Head, Says, file_of_both, own_of_both}
 use Rattle.dk_merging.specs.declared.merging.MergeFault.{MergeFault}
 use Rattle.dk_merging.specs.declared.merging.MergeFault.TheVariants.{BadFirst, BadSecond, Different, Joined, NoMemory}
-use Rattle.dk_merging.proofs.EnginesOfBoth.{both_of_grammar, both_of_table, both_stand, none_unjoined}
+use Rattle.dk_merging.proofs.EnginesOfBoth.{both_of_grammar, both_of_table, both_saved, both_stand, none_unjoined}
 use Rattle.dk_merging.proofs.Heads.{all_alike, one_front, one_head}
 
 -- ---- one state
@@ -63,6 +65,16 @@ pub join_fault_made : (one other : Loaded) (e : JoinFault) (f : MergeFault) → 
 join_fault_made one other join.Joined f none is = subst (λ (m : MergeFault). MakesBoth one other (Err m)) (sym is) (none refl)
 join_fault_made one other join.NoMemory f none is = subst (λ (m : MergeFault). MakesBoth one other (Err m)) (sym is) tt
 
+-- what is said by engines that can be saved is one
+pub said_spelled : (head : Head) (engines : List Whole) (bytes : List ℕ) → Says head engines bytes → IsSpelling bytes
+said_spelled head engines bytes says =
+    let l : Loaded = record { points = head.points; engines = engines; implicit = head.implicit; grammar = head.grammar } in
+    record {
+      content = content_loaded l;
+      meets = loaded_meets l says.table says.of_table.long says.saved;
+      text = loaded_text l ∙ says.text;
+    }
+
 -- ---- two states
 module _ (one other : Loaded) (first second : List ℕ) (is : IsLoadOf first one) (also : IsLoadOf second other) where
   pub of_one_head : front_of second ≡ front_of first → AreOfOneHead one other
@@ -78,6 +90,10 @@ module _ (one other : Loaded) (first second : List ℕ) (is : IsLoadOf first one
   merged_answers e (Ok text) made =
       let same : head_of other ≡ head_of one = one_head (head_of one) (head_of other) one.engines other.engines first second is.says also.says e in
       let says : Says (head_of one) other.engines second = subst (λ h. Says h other.engines second) same also.says in
+      let of_table = both_of_table one.grammar one.points one.engines other.engines made.both is.says.of_table says.of_table is.says.of_grammar says.of_grammar made.each in
+      let of_grammar = both_of_grammar one.grammar one.points one.engines other.engines made.both is.says.of_table says.of_table is.says.of_grammar says.of_grammar made.each in
+      let saved = both_saved one.grammar one.points one.engines other.engines made.both is.says.of_table says.of_table is.says.of_grammar says.of_grammar made.each is.says.saved says.saved made.within in
+      let text_says : Says (head_of one) made.both text = record { table = is.says.table; of_table = of_table; of_grammar = of_grammar; saved = saved; text = made.saved } in
       record {
         alike = record { first_is = is.spelling; second_is = also.spelling; fronts = e };
         head = head_of one;
@@ -87,12 +103,8 @@ module _ (one other : Loaded) (first second : List ℕ) (is : IsLoadOf first one
         first_says = is.says;
         second_says = says;
         each = made.each;
-        text_says = record {
-          table = is.says.table;
-          of_table = both_of_table one.grammar one.points one.engines other.engines made.both is.says.of_table says.of_table is.says.of_grammar says.of_grammar made.each;
-          of_grammar = both_of_grammar one.grammar one.points one.engines other.engines made.both is.says.of_table says.of_table is.says.of_grammar says.of_grammar made.each;
-          text = made.saved;
-        };
+        text_says = text_says;
+        spelling = said_spelled (head_of one) made.both text text_says;
       }
   merged_answers e (Err BadFirst) made = absurd made
   merged_answers e (Err BadSecond) made = absurd made

@@ -38,7 +38,8 @@ pub record HaveNoJoin (one other : Whole) : Type 0 where
   pub second_sound : IsSound other
   pub first_some : 0 < one.kept.samples
   pub second_some : 0 < other.kept.samples
-  pub none : (parts : Parts) → AreJoinedParts one.grammar one.infos one.kept other.kept parts → AreSavedParts one.grammar one.infos parts → ⊥
+  pub none : (parts : Parts) → AreJoinedParts one.grammar one.infos one.kept other.kept parts
+      → AreSavedParts one.grammar one.infos parts → ⊥
   pub many : (samples others : List (List Value)) → AreKeptOf one.grammar one.infos samples others one.kept other.kept
       → length samples + length others ≤ 2 ^ 40 → ⊥
 

@@ -5,4 +5,5 @@ pub mod Merging
 pub mod Laws
 pub mod Faults
 -- inner: cited by the clauses of bodies alone
+pub mod Numbers
 pub mod Loading

@@ -10,6 +10,7 @@ use Rattle.dk_state.specs.declared.loading.Loaded.{Loaded}
 use Rattle.dk_template.specs.declared.grammar.Grammar.{Grammar}
 use Rattle.dk_merging.specs.Engines.{AreAllAlike, AreEnginesOfBoth, HaveNoJoinSomewhere}
 use Rattle.dk_merging.specs.Merging.{Head, Says}
+use Rattle.dk_merging.specs.Numbers.{AreWithin}
 use Rattle.dk_merging.specs.declared.merging.MergeFault.{MergeFault}
 use Rattle.dk_merging.specs.declared.merging.MergeFault.TheVariants.{Joined, NoMemory}
 
@@ -28,7 +29,8 @@ pub record IsOfHistory (l : Loaded) (g : Grammar) (ps : List Point) (implicit : 
 pub record IsLoadOf (bytes : List ℕ) (l : Loaded) : Type 0 where
   pub spelling : IsSpelling bytes
   pub says : Says (head_of l) l.engines bytes
-  pub stands : (g : Grammar) (ps : List Point) (implicit : Bool) (own : OwnSamples) → CanBeSaved g ps own → state_file_of g ps implicit own ≡ bytes
+  pub stands : (g : Grammar) (ps : List Point) (implicit : Bool) (own : OwnSamples)
+      → CanBeSaved g ps own → state_file_of g ps implicit own ≡ bytes
       → IsOfHistory l g ps implicit own
 
 -- this fault, for bytes that are no spelling, or want of memory
@@ -46,8 +48,10 @@ pub record AreOfOneHead (one other : Loaded) : Type 0 where
 pub record IsTextOfBoth (one other : Loaded) (text : List ℕ) : Type 0 where
   pub both : List Whole
   pub each : AreEnginesOfBoth one.engines other.engines both
+  pub within : AreWithin both
   pub saved : saved_text one.grammar one.points one.implicit (map (λ engine. engine.kept) both) ≡ text
-  pub stands : (own : OwnSamples) → StandForHistory one.grammar one.points both own → text ≡ state_file_of one.grammar one.points one.implicit own
+  pub stands : (own : OwnSamples) → StandForHistory one.grammar one.points both own
+      → text ≡ state_file_of one.grammar one.points one.implicit own
 
 abbrev pub MakesBoth : Loaded → Loaded → Result (List ℕ) MergeFault → Type 0
 MakesBoth one other (Ok text) = IsTextOfBoth one other text

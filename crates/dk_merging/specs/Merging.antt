@@ -5,6 +5,7 @@ use Rattle.dk_engine.specs.Levels.{Whole}
 use Rattle.dk_hierarchy.specs.Samples.{OwnSamples}
 use Rattle.dk_hierarchy.specs.Standing.{AreEnginesOf}
 use Rattle.dk_points.specs.Table.{Point}
+use Rattle.dk_state.specs.Loading.{AreSaved}
 use Rattle.dk_state.specs.Saved.{saved_text}
 use Rattle.dk_state.specs.Spelling.{CanBeSaved, IsOwnTable, IsSpelling}
 use Rattle.dk_state.specs.StateFile.{state_file_of}
@@ -21,11 +22,13 @@ pub record Head : Type 0 where
   pub points : List Point
   pub implicit : Bool
 
--- The bytes are what is saved of these engines, which are those of the table's points.
+-- The bytes are what is saved of these engines, which are those of the table's points. What each keeps can be saved, so that the bytes
+-- are a spelling.
 pub record Says (head : Head) (engines : List Whole) (bytes : List ℕ) : Type 0 where
   pub table : IsOwnTable head.points
   pub of_table : AreEnginesOf head.points engines
   pub of_grammar : All (λ engine. engine.grammar ≡ head.grammar) engines
+  pub saved : AreSaved head.grammar head.points engines
   pub text : saved_text head.grammar head.points head.implicit (map (λ engine. engine.kept) engines) ≡ bytes
 
 -- ---- what two states say together
@@ -35,7 +38,7 @@ pub record AreAlikeStates (first second : List ℕ) : Type 0 where
   pub second_is : IsSpelling second
   pub fronts : front_of second ≡ front_of first
 
--- The text says what both declare and, for each point, the engine of both.
+-- The text says what both declare and, for each point, the engine of both. It is a spelling, too.
 pub record IsMerged (first second text : List ℕ) : Type 0 where
   pub alike : AreAlikeStates first second
   pub head : Head
@@ -46,6 +49,7 @@ pub record IsMerged (first second text : List ℕ) : Type 0 where
   pub second_says : Says head others second
   pub each : AreEnginesOfBoth ones others both
   pub text_says : Says head both text
+  pub spelling : IsSpelling text
 
 -- At some point, at which both have samples, the join can't be saved.
 pub record CannotBeJoined (first second : List ℕ) : Type 0 where

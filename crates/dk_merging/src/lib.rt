@@ -5,5 +5,6 @@ mod engines;
 mod fronts;
 pub mod laws;
 mod merging;
+mod numbers;
 
 pub use merging::{MergeFault, merge_two};

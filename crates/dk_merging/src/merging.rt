@@ -9,6 +9,7 @@ ghost use Rattle.dk_template.specs.declared.grammar.Grammar.{Grammar as Grammars
 
 use crate::engines::engines_of_both;
 use crate::fronts::front_of;
+use crate::numbers::read_engines;
 use dk_base::{NoMemory, Text, same_bytes};
 use dk_join::JoinFault;
 use dk_state::{LoadFault, Loaded, load, save};
@@ -77,13 +78,9 @@ fn merged(alloc: Global, one: Loaded, other: Loaded) -> Result<Text, MergeFault>
     ensures { MakesBoth one other result }
 {
     let engines = engines_of_both(alloc, one.engines, other.engines)?;
-    Ok(save(
-        alloc,
-        &one.points,
-        engines.as_slice(),
-        one.implicit,
-        one.grammar,
-    )?)
+    let both = engines.as_slice();
+    read_engines(both);
+    Ok(save(alloc, &one.points, both, one.implicit, one.grammar)?)
 }
 
 /// The state file of what two state files say together: the common declarations and, for each point, the join of both engines or the

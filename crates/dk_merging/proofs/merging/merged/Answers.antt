@@ -5,6 +5,7 @@ use Rattle.dk_engine.specs.Levels.{Whole}
 use Rattle.dk_join.specs.declared.joining.JoinFault.{JoinFault}
 use Rattle.dk_state.specs.Saved.{saved_text}
 use Rattle.dk_state.specs.StateFile.{StandForHistory}
+use Rattle.dk_merging.specs.Numbers.{AreWithin}
 use Rattle.dk_merging.proofs.MergedStates.{join_fault_made}
 use Rattle.dk_merging.proofs.merging.merged.Goals as goal
 
@@ -16,10 +17,11 @@ returns c =
     let one = c.args.one in
     let both = c.in_ok-engines.engines in
     let own = c.in_ok-save.ensures in
-    let lent = c.as_slice.ensures in
+    let lent = c.as_slice-both.ensures in
     record {
       both = both;
       each = c.in_ok-engines.ensures.both;
+      within = subst AreWithin lent c.read_engines.ensures;
       saved = sym (own.text ∙ ap (λ (es : List Whole). saved_text one.grammar one.points one.implicit (map (λ (engine : Whole). engine.kept) es)) lent);
       stands = λ samples stand. own.stands samples (subst (λ (es : List Whole). StandForHistory one.grammar one.points es samples) (sym lent) stand);
     }
