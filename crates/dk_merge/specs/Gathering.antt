@@ -2,7 +2,7 @@
 use Rattle.std.specs.Prelude.{◌≡◌, ◌≢◌, ◌<◌, ◌⊎◌, ◌+◌, ◌-◌, ◌++◌, ℕ, List, [], ◌∷◌, map, take, length, IfSome, Option, Some, None, Result, Ok, Err}
 use Rattle.dk_base.specs.declared.why.Why.{Why}
 use Rattle.dk_base.specs.declared.why.Why.TheVariants.{BadState, DifferentState, JoinedState}
-use Rattle.dk_io.specs.Outside.{HeldFile, Absent}
+use Rattle.dk_io.specs.Outside.{HeldFile, Absent, Holds}
 use Rattle.dk_merging.specs.declared.merging.MergeFault.{MergeFault}
 use Rattle.dk_merging.specs.declared.merging.MergeFault.TheVariants as merge
 use Rattle.dk_run.specs.Files.{AreHeldFiles}
@@ -85,11 +85,12 @@ pub record AreReadTo (command : Command) (file : List ℕ → HeldFile) (before 
 pub record IsRefusedAt (command : Command) (file : List ℕ → HeldFile) (place : ℕ) (why : Why) : Type 0 where
   pub there : (k : ℕ) → k < place + 1 → held_file_at (helds_of command file) k ≢ Absent
   pub clean : AreClean command file place
-  pub first : (contents : List (List ℕ)) (own : List ℕ)
-      → AreHeldFiles (take (place + 1) (helds_of command file)) (contents ++ own ∷ []) → IsRefusedBehind command.turns contents own why
+  pub first : (contents : List (List ℕ)) (own : List ℕ) → AreHeldFiles (take place (helds_of command file)) contents
+      → held_file_at (helds_of command file) place ≡ Holds own → IsRefusedBehind command.turns contents own why
 
 -- The file at this place could not be read.
-pub record IsUnreadAt (by : Break) (command : Command) (file : List ℕ → HeldFile) (rose : Type 0) (before rest : Option (List ℕ)) (place : ℕ)
+pub record IsUnreadAt (by : Break) (command : Command) (file : List ℕ → HeldFile)
+    (rose : Type 0) (before rest : Option (List ℕ)) (place : ℕ)
     : Type 0 where
   pub cause : HasBroken by (held_file_at (helds_of command file) place) rose
   pub there : (k : ℕ) → k < place → held_file_at (helds_of command file) k ≢ Absent

@@ -50,9 +50,8 @@ pub record IsRefused (command : Command) (before : Outside) (output : Output) : 
   pub why : Why
   pub none_absent : All (λ held. held ≢ Absent) (take (place + 1) (helds_of command before.file))
   pub clean_before : AreClean command before.file place
-  pub first : (contents : List (List ℕ)) (file : List ℕ)
-      → AreHeldFiles (take (place + 1) (helds_of command before.file)) (contents ++ file ∷ [])
-      → IsRefusedBehind command.turns contents file why
+  pub first : (contents : List (List ℕ)) (file : List ℕ) → AreHeldFiles (take place (helds_of command before.file)) contents
+      → held_file_at (helds_of command before.file) place ≡ Holds file → IsRefusedBehind command.turns contents file why
   pub message : output ≡ only_on stream.Messages (fault_line (file_name_at command.files place) 0 why)
 
 -- All files were read, and a line of the one file that they are in turns is refused. That is all that the run says.

@@ -78,12 +78,7 @@ fn ended_of(status: Status) -> Ended
 }
 
 /// Writes the last report of a state.
-pub(crate) fn report_state<S: Sinks>(
-    alloc: Global,
-    least: u64,
-    state: Text,
-    sinks: &mut S,
-) -> Ended
+pub(crate) fn report_state<S: Sinks>(alloc: Global, least: u64, state: Text, sinks: &mut S) -> Ended
     requires spelled { IsSpelling state }
     requires short { length state ≤ total_limit }
     ensures { ReportEnds least state (S.written sinks.old) (S.written sinks.new) (S.faults sinks.old) (S.faults sinks.new) result }

@@ -22,12 +22,7 @@ use dk_turns::turns;
 use std::alloc::Global;
 
 /// Writes a text and answers the status, or that the write failed.
-pub(crate) fn end_with<S: Sinks>(
-    sinks: &mut S,
-    stream: Stream,
-    text: &[u8],
-    status: Ended,
-) -> Ended
+pub(crate) fn end_with<S: Sinks>(sinks: &mut S, stream: Stream, text: &[u8], status: Ended) -> Ended
     ensures { EndsWith status stream text.now (S.written sinks.old) (S.written sinks.new) (S.faults sinks.old) (S.faults sinks.new) result }
 {
     match write_all(sinks, stream, text) {

@@ -50,7 +50,8 @@ M:::ENTER\nthis_invocation_nonce\n2\nx\n20\n1\n\nM:::EXIT1\nthis_invocation_nonc
 const CALLS_REPORT: &str =
     "@\nM:::ENTER  [2]\nx one of { 10, 20 }  [2]\n@\nM:::EXIT  [2]\nx one of { 11, 21 }  [2]\norig(x) one of { 10, 20 }  [2]\norig(x) < x  [2]\nx - orig(x) - 1 == 0  [2]\n@\nM:::EXIT1  [2]\n";
 
-const CALLS_STATE: &str = "";
+const CALLS_STATE: &str =
+    "daikon-state 2\ncomparability implicit\npoints 2\npoint M:::ENTER\nvar int -1 -1 x\nend\npoint M:::EXIT1\nvar int -1 -1 x\nend\nsamples 0 2\nclass 0\npattern 2 1\nslot 1 0 ints 10 20\nslot 2 0 least 10\nslot 3 0 greatest 20\nslot 5 0 modulus 10 0\nslot 11 0 0 holds\nslot 15 0 0 straight 1 -1 0\nslot 67 0 0 0 span 10 10 10 20 20 20\nend\nsamples 2 2\nclass 0\nclass 1\npattern 2 11\nslot 1 0 ints 11 21\nslot 1 1 ints 10 20\nslot 2 0 least 11\nslot 2 1 least 10\nslot 3 0 greatest 21\nslot 3 1 greatest 20\nslot 5 0 modulus 10 1\nslot 5 1 modulus 10 0\nslot 11 0 0 holds\nslot 11 1 1 holds\nslot 13 1 0 holds\nslot 15 0 0 straight 1 -1 0\nslot 15 0 1 straight 1 -1 -1\nslot 15 1 1 straight 1 -1 0\nslot 31 1 0 1 holds\nslot 32 0 0 1 holds\nslot 67 0 0 0 span 11 11 11 21 21 21\nslot 67 0 0 1 span 11 11 10 21 21 20\nslot 67 0 1 1 span 11 10 10 21 20 20\nslot 67 1 1 1 span 10 10 10 20 20 20\nend\nend-state\n";
 
 static STATES: [Example; 7] = [
     Example {
