@@ -1,10 +1,10 @@
-pub mod Reading
+pub mod Wholes
 pub mod Merging
 pub mod Held
 pub mod Taking
 pub mod Ending
-pub mod Turns
-pub mod States
+pub mod TurnsRuns
+pub mod StateRuns
 pub mod Saying
 pub mod Complete
 pub mod Histories

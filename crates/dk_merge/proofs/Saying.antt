@@ -17,7 +17,7 @@ use Rattle.dk_turns.specs.Turns.{turns_of}
 use Rattle.dk_merge.proofs.Ending.{followed_only, only_front}
 use Rattle.dk_merge.proofs.Held.{all_there, front_there, held_whole}
 use Rattle.dk_merge.proofs.Taking.{helds_length}
-use Rattle.dk_merge.proofs.Turns.{no_message, one_message}
+use Rattle.dk_merge.proofs.TurnsRuns.{no_message, one_message}
 use Rattle.dk_merge.specs.Ending.{EndsAmong, EndsBy, EndsWith}
 use Rattle.dk_merge.specs.Gathering.{AreReadTo, HoldsAll, IsRefusedAt, IsUnreadAt, TroubleAtGives, turns_by}
 use Rattle.dk_merge.specs.Merged.{AreMergedTo}

@@ -1,0 +1,18 @@
+use Rattle.std.proofs.Common.{◌≡◌, ◌<◌, ◌∙◌, ap, length, rules, subst, List, ℕ, Result, Ok, Err}
+use Rattle.dk_io.specs.Outside.{Rose}
+use Rattle.dk_run.specs.Files.{file_name_at}
+use Rattle.dk_merge.proofs.Saying.{gathered_says, trouble_says}
+use Rattle.dk_merge.specs.Gathering.{FilesGive}
+use Rattle.dk_merge.specs.declared.gathering.FilesTrouble.{FilesTrouble}
+use Rattle.dk_merge.specs.declared.gathering.Gathering.{Gathering}
+use Rattle.dk_merge.proofs.top.run_command.Goals as goal
+
+pub returns-in-Ok-clause-says : goal.returns-in-Ok-clause-says
+returns-in-Ok-clause-says g c =
+    gathered_says c.args.command.now _ _ c.in-Ok.gathering c.tell_gathered.result c.in-Ok.ensures.gives c.tell_gathered.ensures
+
+pub returns-in-Err-clause-says : goal.returns-in-Err-clause-says
+returns-in-Err-clause-says g c =
+    let named : c.name_at-name.result.now ≡ file_name_at c.args.command.now.files c.in-Err.field-0.place =
+    c.name_at-name.ensures ∙ ap (λ (l : List (List ℕ)). file_name_at l c.in-Err.field-0.place) c.as_slice.ensures in
+    trouble_says c.args.command.now _ _ c.in-Err.field-0.place c.in-Err.field-0.trouble c.name_at-name.result.now c.tell_trouble.result named c.in-Err.ensures.gives.0 c.in-Err.ensures.gives.1 c.tell_trouble.ensures
