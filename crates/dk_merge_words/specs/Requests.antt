@@ -28,12 +28,11 @@ is_in_range n = nat_le 1 n && nat_le n 1000000000
 abbrev pub are_in_range : Option ℕ → Bool
 are_in_range turns = option_map_or is_in_range turns true
 
--- Its numbers lie in their range, and a file is named. `clap` lets no other command through; that is asked again, so that a run can rely on
--- it.
+-- Its numbers lie in their range, and a file is named. The rules of the words ask for this too; here a run can rely on it.
 abbrev pub is_whole : Command → Bool
 is_whole command = are_in_range command.turns && (is_in_range command.least && not (length command.files == 0))
 
--- a run of a command that is whole
+-- a run, where the command is whole
 abbrev pub run_of : Command → Option Request
 run_of command = if is_whole command then Some (Run command) else None
 

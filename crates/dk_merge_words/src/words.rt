@@ -47,8 +47,8 @@ fn read_texts<'a>(alloc: Global, texts: &'a [&'a str]) -> Result<Request, WordsF
     }
 }
 
-/// What the words behind the program's name ask for. They are refused exactly where `clap` finds a fault at the command `dk_merge`, or lets
-/// through a number out of its range or no file; and they ask for help or the version exactly where its only fault is that they ask for it.
+/// What the words behind the program's name ask for. They are refused where `clap` finds a fault at the command `dk_merge`, where a number is
+/// out of its range, and where no file is named. They ask for help or the version exactly where the only fault is that they ask for it.
 pub fn read_words(alloc: Global, words: &[String]) -> Result<Request, WordsFault>
     ensures asked { IfOk result (λ request. request_of (map string_bytes words.now) ≡ Some request) }
     ensures refused { IsErrOf result WordsFault.Refused → request_of (map string_bytes words.now) ≡ None }
