@@ -24,7 +24,11 @@ only_front State n text h = record { report = refl; messages = refl; state = fro
 
 -- nothing was written
 pub followed_nothing : (old : Texts) → old ≡ texts_followed_by old no_output
-followed_nothing old = let r = known_nothing old.report in let m = known_nothing old.messages in let s = known_nothing old.state in cc
+followed_nothing old =
+    let r = sym (known_nothing old.report) in
+    let m = sym (known_nothing old.messages) in
+    let s = sym (known_nothing old.state) in
+    λ i. record { report = r i; messages = m i; state = s i }
 
 pub nothing_front : (output : Output) → IsFront no_output output
 nothing_front output = record { report = refl; messages = refl; state = refl; in_order = inr refl }

@@ -2,7 +2,7 @@
 use Rattle.std.proofs.Common.{◌≡◌, ◌≤◌, ◌<◌, ◌+◌, ◌^◌, ◌⊎◌, inl, inr, ℕ, zero, suc, Bool, List, [], ◌∷◌, ◌++◌, map, length, All, Option, Some, None, Result, Ok, Err, refl, sym, ◌∙◌, ap, subst, arith, append_assoc, length-append}
 use Rattle.std.proofs.lemmas.Bool.{cases_lt}
 use Rattle.std.proofs.lemmas.Grind.{flat_map-append}
-use Rattle.std.proofs.lemmas.List.{append-nil, map-append}
+use Rattle.std.proofs.lemmas.List.{append-nil, length-map, map-append}
 use Rattle.std.proofs.lemmas.List.Elements.{All-append, All-cons, All-head, All-nil, All-tail}
 use Rattle.std.proofs.lemmas.List.Sorted.{length_permutation}
 use Rattle.std.proofs.lemmas.List.Sums.{sum_by-append, sum_by_push}
@@ -19,6 +19,7 @@ use Rattle.dk_engine.specs.Exact.{AreSamples, IsSample}
 use Rattle.dk_events.specs.declared.ended.Ended.{Ended}
 use Rattle.dk_events.specs.declared.ended.Ended.TheVariants.{Done, Refused, NoMemory}
 use Rattle.dk_hierarchy.specs.Samples.{OwnSamples, all_vars_of, own_samples_of}
+use Rattle.dk_io.specs.Outside.{Holds}
 use Rattle.dk_merging.proofs.EnginesOfBoth.{own_at_both}
 use Rattle.dk_merging.proofs.MergedStates.{history_spelled}
 use Rattle.dk_merging.specs.Merging.{CanBeMerged, file_of_both, own_of_both}
@@ -272,8 +273,12 @@ done_output command h hs output none has some done =
     let all : IsStateOutput command.least (state_file h) output = subst (λ (o : Option (List ℕ)). IsMergedOutput command.least o output) is own in
     all.report h has.start refl
 
-pub histories_of : (command : Command) (before after : Outside) (result : Ended) → (IsCalm before after → IsComplete command before after result) → MergesHistories (Some (Run command)) before after result
-histories_of command before after result complete h hs calm none some has held short = by (complete calm (map state_file hs) held) where
+histories_of : (command : Command) (before after : Outside) (result : Ended) → 0 < length command.files → (IsCalm before after → IsComplete command before after result)
+    → MergesHistories (Some (Run command)) before after result
+histories_of command before after result named complete h hs calm none has held short = by (complete calm (map state_file hs) held) where
+  some : 0 < length hs
+  some = omega (arith, named, sym (length-map command.files before.file) ∙ ap length held ∙ length-map (map state_file hs) Holds ∙ length-map hs state_file)
+
   by : EndsAs Done (IsDoneOutput command.turns command.least (map state_file hs)) result before after ⊎ EndsAs Refused (IsRefusedOutput command (map state_file hs)) result before after
       ⊎ EndsAs Refused (IsRefusedInTurns command (map state_file hs)) result before after ⊎ (result ≡ NoMemory)
       → ((result ≡ Done) × (after.written ≡ texts_followed_by before.written (state_output command.least (state_file h) h))) ⊎ (result ≡ NoMemory)
@@ -282,6 +287,6 @@ histories_of command before after result complete h hs calm none some has held s
   by (inr (inr (inl (is, (output, refused, written))))) = let turns = refused.turns in absurd (cc (none, turns))
   by (inr (inr (inr is))) = inr is
 
-pub histories_say : (asked : Option Request) (command : Command) (before after : Outside) (result : Ended) → asked ≡ Some (Run command) → (IsCalm before after → IsComplete command before after result)
-    → MergesHistories asked before after result
-histories_say asked command before after result is complete = subst (λ (r : Option Request). MergesHistories r before after result) (sym is) (histories_of command before after result complete)
+pub histories_say : (asked : Option Request) (command : Command) (before after : Outside) (result : Ended) → asked ≡ Some (Run command) → 0 < length command.files
+    → (IsCalm before after → IsComplete command before after result) → MergesHistories asked before after result
+histories_say asked command before after result is named complete = subst (λ (r : Option Request). MergesHistories r before after result) (sym is) (histories_of command before after result named complete)

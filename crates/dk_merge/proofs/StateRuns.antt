@@ -33,6 +33,10 @@ report_alone : (least : ℕ) (name : List ℕ) (start : Outset) → (output_of s
 unfolding output_of course_of whole_report
 report_alone least name start = refl
 
+take_none : (k : ℕ) → take {A = HeldFile} k [] ≡ []
+take_none zero = refl
+take_none (suc k) = refl
+
 module _ (least : ℕ) (name state : List ℕ) (before after : Outside) (holds : before.file name ≡ Holds state) (begins : before.read_faults ≡ 0) (calm : after.read_faults ≡ 0)
     (spelled : IsSpelling state) (short : length state ≤ total_limit) where
   start_of : (h : History) → IsStart h → state_file h ≡ state → Begins (Some name) before.file (resumed_start h)
@@ -95,15 +99,11 @@ module _ (least : ℕ) (name state : List ℕ) (before after : Outside) (holds :
       messages = front_of_nothing within.front.messages within.messages;
       state = within.no_state;
       report = λ h start is.
-          let none = front_of_nothing within.front.report (within.due (resumed_start h) (start_of h start is) [] (take_nothing within.place) []) in
+          let none = front_of_nothing within.front.report (within.due (resumed_start h) (start_of h start is) [] (take_none within.place) []) in
           subst (λ (l : List ℕ). StartsWith (whole_report (plain_command least) h) l) (sym none) refl;
     },
     within.written,
   )
-    where
-      take_nothing : (k : ℕ) → take k [] ≡ []
-      take_nothing zero = refl
-      take_nothing (suc k) = refl
   cut (inr (inl (inr at_end))) = (
     at_end.front,
     record {
@@ -186,7 +186,7 @@ state_ends least state old mid new a b c result output is between calm (inr (inr
 
 -- the state is not written where its report was cut short
 pub report_ends_state : (least : ℕ) (state : List ℕ) (old new : Texts) (a c : ℕ) (result : Ended) → (result ≡ ended.Done → ⊥) → ReportEnds least state old new a c result → StateEnds least state old new a c result
-report_ends_state least state old new a c result not (inl (is, rest)) = absurd (not is)
+report_ends_state least state old new a c result not (inl (is, told, quiet)) = absurd (not is)
 report_ends_state least state old new a c result not (inr (early, (front, part, e))) = inr (early, (front, report_front least state front part, e))
 
 -- the report of a run that is done

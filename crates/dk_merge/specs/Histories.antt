@@ -1,5 +1,5 @@
 -- States of histories, merged in any order.
-use Rattle.std.specs.Prelude.{◌≡◌, ◌≤◌, ◌<◌, ◌⊎◌, ℕ, All, List, [], flat_map, length, map, slice_index_or, IsPermutation, Option, Some, None}
+use Rattle.std.specs.Prelude.{◌≡◌, ◌≤◌, ◌⊎◌, ℕ, All, List, [], flat_map, map, slice_index_or, IsPermutation, Option, Some, None}
 use Rattle.dk_blocks.specs.History.{History}
 use Rattle.dk_core.specs.Resuming.{IsStart, state_file}
 use Rattle.dk_decl.specs.Headers.{is_implicit}
@@ -33,7 +33,7 @@ pub record HasAllOf (h : History) (hs : List History) : Type 0 where
 -- of the history with the samples of all, and the report is its last one; or memory runs out.
 abbrev pub MergesHistories : Option Request → Outside → Outside → Ended → Type 0
 MergesHistories (Some (Run command)) before after result =
-    (h : History) (hs : List History) → IsCalm before after → command.turns ≡ None → 0 < length hs → HasAllOf h hs
+    (h : History) (hs : List History) → IsCalm before after → command.turns ≡ None → HasAllOf h hs
     → AreHeldFiles (helds_of command before.file) (map state_file hs) → bytes_in (map state_file hs) ≤ whole_limit
     → ((result ≡ Done) × (after.written ≡ texts_followed_by before.written (state_output command.least (state_file h) h)))
     ⊎ (result ≡ NoMemory)

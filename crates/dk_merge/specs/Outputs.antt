@@ -53,20 +53,20 @@ abbrev pub state_output : ℕ → List ℕ → History → Output
 state_output least state h = record { report = whole_report (plain_command least) h; messages = []; state = state }
 
 -- The state is written, and the last report of every history of which it is the state file.
-pub record IsStateOutput (least : ℕ) (state : List ℕ) (output : Output) : Type 0 where
+pub record IsStateOutput (least : ℕ) (text : List ℕ) (output : Output) : Type 0 where
   pub messages : output.messages ≡ []
-  pub state : output.state ≡ state
-  pub report : (h : History) → IsStart h → state_file h ≡ state → output ≡ state_output least state h
+  pub state : output.state ≡ text
+  pub report : (h : History) → IsStart h → state_file h ≡ text → output ≡ state_output least text h
 
 abbrev pub IsMergedOutput : ℕ → Option (List ℕ) → Output → Type 0
 IsMergedOutput least None output = output ≡ no_output
 IsMergedOutput least (Some state) output = IsStateOutput least state output
 
 -- A front of such an output: of the report, and behind it of the state.
-pub record IsStateFront (least : ℕ) (state : List ℕ) (front : Output) : Type 0 where
+pub record IsStateFront (least : ℕ) (text : List ℕ) (front : Output) : Type 0 where
   pub messages : front.messages ≡ []
-  pub state : StartsWith state front.state
-  pub report : (h : History) → IsStart h → state_file h ≡ state → IsFront front (state_output least state h)
+  pub state : StartsWith text front.state
+  pub report : (h : History) → IsStart h → state_file h ≡ text → IsFront front (state_output least text h)
 
 abbrev pub IsMergedFront : ℕ → Option (List ℕ) → Output → Type 0
 IsMergedFront least None front = front ≡ no_output

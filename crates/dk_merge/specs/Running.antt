@@ -33,16 +33,16 @@ ended_of status.NoMemory = ended.NoMemory
 
 -- ---- a state
 -- The last report of every history of which it is the state file.
-pub record IsReportOf (least : ℕ) (state : List ℕ) (output : Output) : Type 0 where
+pub record IsReportOf (least : ℕ) (text : List ℕ) (output : Output) : Type 0 where
   pub messages : output.messages ≡ []
   pub state : output.state ≡ []
-  pub report : (h : History) → IsStart h → state_file h ≡ state → output.report ≡ whole_report (plain_command least) h
+  pub report : (h : History) → IsStart h → state_file h ≡ text → output.report ≡ whole_report (plain_command least) h
 
 -- A front of it.
-pub record IsReportFront (least : ℕ) (state : List ℕ) (front : Output) : Type 0 where
+pub record IsReportFront (least : ℕ) (text : List ℕ) (front : Output) : Type 0 where
   pub messages : front.messages ≡ []
   pub state : front.state ≡ []
-  pub report : (h : History) → IsStart h → state_file h ≡ state → StartsWith (whole_report (plain_command least) h) front.report
+  pub report : (h : History) → IsStart h → state_file h ≡ text → StartsWith (whole_report (plain_command least) h) front.report
 
 abbrev pub ReportEnds : ℕ → List ℕ → Texts → Texts → ℕ → ℕ → Ended → Type 0
 ReportEnds least state = EndsAmong ended.Done (IsReportOf least state) (IsReportFront least state)
