@@ -169,7 +169,7 @@ parted f (x ∷ xs) (b ∷ bs) file behind e =
     let rest : map f xs ≡ bs ++ file ∷ behind = cc e in
     let p = parted f xs bs file behind rest in
     let before_is = p.before_is in
-    record { front = x ∷ p.front; own = p.own; more = p.more; all = ap (λ l. x ∷ l) p.all; before_is = cc (first, before_is); file_is = p.file_is }
+    record { front = x ∷ p.front; own = p.own; more = p.more; all = ap (λ l. x ∷ l) {y = p.front ++ p.own ∷ p.more} p.all; before_is = cc (first, before_is); file_is = p.file_is }
 
 all_front : {X : Type 0} (P : X → Type 0) (xs ys : List X) → All P (xs ++ ys) → All P xs
 all_front P [] ys all = All-nil P

@@ -1,4 +1,3 @@
-pub mod Wholes
 pub mod Merging
 pub mod Held
 pub mod Taking

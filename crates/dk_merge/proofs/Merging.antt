@@ -21,16 +21,6 @@ merged_more : (before : Option (List ℕ)) (files : List (List ℕ)) (mid : Opti
 merged_more before [] mid file state merges behind = (state, subst (λ (o : Option (List ℕ)). IsStateBehind o file state) merges behind, refl)
 merged_more before (f ∷ fs) mid file state (next, first, rest) behind = (next, first, merged_more (Some next) fs mid file state rest behind)
 
--- what `merge_two` answers is what is taken
-pub merge_gives : (before file : List ℕ) (answer : Result (List ℕ) MergeFault) → IsSpelling before → MergeAnswers before file answer → (fault : MergeFault) → answer ≡ Err fault
-    → StateGives (Some before) file (Err (trouble_of_merge fault))
-merge_gives before file answer spelled answers merge.BadFirst is =
-    let says : IsSpelling before → ⊥ = subst (AnswersMerge before file) is answers.says in absurd (says spelled)
-merge_gives before file answer spelled answers merge.BadSecond is = (merge.BadSecond, refl, subst (MergeAnswers before file) is answers)
-merge_gives before file answer spelled answers merge.Different is = (merge.Different, refl, subst (MergeAnswers before file) is answers)
-merge_gives before file answer spelled answers merge.Joined is = (merge.Joined, refl, subst (MergeAnswers before file) is answers)
-merge_gives before file answer spelled answers merge.NoMemory is = tt
-
 -- ---- what is kept
 pub holds_more : (g next : Gathered) (contents : List (List ℕ)) (file : List ℕ) → TakesFile g file (Ok next) → HoldsAll contents g → HoldsAll (contents ++ file ∷ []) next
 holds_more (State before) next contents file (state, behind, is) holds = subst (HoldsAll (contents ++ file ∷ [])) (sym is) (merged_more None contents before file state holds behind)
