@@ -31,7 +31,7 @@ pub(crate) enum State<'a> {
 
 /// Whether a line is a comment: it begins with `#` or `//`.
 #[tactic(auto, unfolding(dk_decl::specs::Comments::is_comment))]
-pub(crate) fn is_comment(bytes: &[u8]) -> bool
+pub fn is_comment(bytes: &[u8]) -> bool
     ensures { result ≡ is_comment bytes.now }
 {
     bytes.starts_with(b"#") || bytes.starts_with(b"//")
@@ -39,7 +39,7 @@ pub(crate) fn is_comment(bytes: &[u8]) -> bool
 
 /// Whether this first line begins a declaration: its first word is `ppt`, or it is `DECLARE`.
 #[tactic(auto, unfolding(crate::specs::History::is_declaration))]
-pub(crate) fn is_declaration(bytes: &[u8]) -> bool
+pub fn is_declaration(bytes: &[u8]) -> bool
     ensures { result ≡ is_declaration bytes.now }
 {
     first_word(bytes) == b"ppt".as_slice() || bytes == b"DECLARE".as_slice()
@@ -47,7 +47,7 @@ pub(crate) fn is_declaration(bytes: &[u8]) -> bool
 
 /// Whether this first line begins a list of implementors.
 #[tactic(auto, unfolding(crate::specs::History::is_list_of_implementors))]
-pub(crate) fn is_list_of_implementors(bytes: &[u8]) -> bool
+pub fn is_list_of_implementors(bytes: &[u8]) -> bool
     ensures { result ≡ is_list_of_implementors bytes.now }
 {
     bytes == b"ListImplementors".as_slice()

@@ -11,5 +11,6 @@ mod kept;
 pub mod laws;
 mod reader;
 
+pub use block::{is_comment, is_declaration, is_list_of_implementors};
 pub use found::Found;
 pub use reader::Reader;

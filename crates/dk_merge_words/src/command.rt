@@ -1,6 +1,6 @@
 // What the words of the command ask for.
-use crate::FileName;
 use dk_base::List;
+use dk_words::Word;
 
 /// What a run is to do.
 #[derive(Debug, Drop)]
@@ -10,7 +10,7 @@ pub struct Command {
     /// How many records of each file are taken in turn, from 1 to 1,000,000,000, of files that are traces; without it the files are states.
     pub turns: Option<u32>,
     /// The names of the files, in order, one at least. One that stands twice counts twice.
-    pub files: List<FileName>,
+    pub files: List<Word>,
 }
 
 /// What the words of the command ask for.

@@ -3,13 +3,11 @@
 
 mod clap_command;
 mod command;
-mod file_name;
 pub mod laws;
 mod matched;
 mod texts;
 mod words;
 
 pub use command::{Command, Request};
-pub use file_name::FileName;
 pub use texts::{help_text, usage_line, version_text};
 pub use words::read_words;

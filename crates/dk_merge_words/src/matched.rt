@@ -5,10 +5,10 @@ ghost use Rattle.dk_words.specs.Requests.{number_at as number_of};
 ghost use Rattle.dk_merge_words.specs.Requests.{RequestAnswers, TurnsAnswer, command_of, is_in_range, run_of};
 
 use crate::clap_command::MOST;
-use crate::{Command, FileName, Request};
+use crate::{Command, Request};
 use clap::ArgMatches;
 use dk_base::{List, NoMemory};
-use dk_words::WordsFault;
+use dk_words::{Word, WordsFault};
 use std::alloc::Global;
 
 // The number that is given under the name, or by default.
@@ -18,18 +18,18 @@ fn number_at(matches: &ArgMatches<'_>, name: &str) -> Option<u64>
     matches.get_one::<u64>(name)
 }
 
-fn names_from(alloc: Global, texts: &[&str]) -> Result<List<FileName>, NoMemory>
+fn names_from(alloc: Global, texts: &[&str]) -> Result<List<Word>, NoMemory>
     ensures { IfOk result (λ names. names ≡ map (λ text. text.now) texts.now) }
 {
     let mut names = List::new(alloc);
     for text in texts {
-        names.push(FileName::from_str(alloc, text)?)?;
+        names.push(Word::from_str(alloc, text)?)?;
     }
     Ok(names)
 }
 
 // The names of the files.
-fn files_of(alloc: Global, matches: &ArgMatches<'_>) -> Result<List<FileName>, NoMemory>
+fn files_of(alloc: Global, matches: &ArgMatches<'_>) -> Result<List<Word>, NoMemory>
     ensures { IfOk result (λ files. files ≡ unwrap_or (all_of (codes "file") (rows_of (found_of matches.now))) []) }
 {
     match matches.get_raw("file") {

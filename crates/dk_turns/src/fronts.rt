@@ -1,21 +1,11 @@
 // What stands in front of a block's record, and where that begins.
 ghost use Rattle.std.specs.Prelude.{◌≡◌, is_some, unwrap_or};
-ghost use Rattle.dk_decl.specs.Comments.{is_comment};
 ghost use Rattle.dk_turns.specs.Blocks.{begins_sample, behind_header, has_lines, has_sample};
-ghost use Rattle.dk_blocks.specs.History.{is_declaration, is_list_of_implementors};
 ghost use Rattle.dk_turns.specs.Reading.{first_block, is_plain, trimmed_lines};
 
 use crate::lines::next_line;
-use dk_base::{first_word, same_bytes};
+use dk_blocks::{is_comment, is_declaration, is_list_of_implementors};
 use dk_decl::Header;
-
-/// Whether a line is a comment: it begins with `#` or `//`.
-#[tactic(auto, unfolding(dk_decl::specs::Comments::is_comment))]
-pub(crate) fn is_comment(line: &[u8]) -> bool
-    ensures { result ≡ is_comment line.now }
-{
-    line.starts_with(b"#") || line.starts_with(b"//")
-}
 
 /// Whether it is a header line, also one that is refused; what it puts in force then holds.
 pub(crate) fn takes_header(header: &mut Header, line: &[u8]) -> bool
@@ -29,22 +19,6 @@ pub(crate) fn takes_header(header: &mut Header, line: &[u8]) -> bool
             true
         }
     }
-}
-
-// Whether a declaration begins at this line: its first word is `ppt`, or it is `DECLARE`.
-#[tactic(auto, unfolding(dk_blocks::specs::History::is_declaration))]
-fn is_declaration(line: &[u8]) -> bool
-    ensures { result ≡ is_declaration line.now }
-{
-    same_bytes(first_word(line), b"ppt") || same_bytes(line, b"DECLARE")
-}
-
-// Whether a list of implementors begins at this line.
-#[tactic(auto, unfolding(dk_blocks::specs::History::is_list_of_implementors))]
-fn is_list_of_implementors(line: &[u8]) -> bool
-    ensures { result ≡ is_list_of_implementors line.now }
-{
-    same_bytes(line, b"ListImplementors")
 }
 
 // Whether a sample record begins at this line.

@@ -3,9 +3,10 @@ ghost use Rattle.std.specs.Prelude.{◌≡◌, [], ◌∷◌, ◌++◌, IfOk, On
 ghost use Rattle.dk_turns.specs.Turns.{block_text, lines_text};
 ghost use Rattle.dk_turns.specs.Reading.{first_block, first_run, trimmed_lines, with_block, with_gap};
 
-use crate::fronts::{is_comment, takes_header};
+use crate::fronts::takes_header;
 use crate::lines::next_line;
 use dk_base::{NoMemory, Text};
+use dk_blocks::is_comment;
 use dk_decl::Header;
 
 // A line and the LF that ends it.
