@@ -1,5 +1,5 @@
 -- Texts that are written last.
-use Rattle.std.proofs.Common.{◌≡◌, ◌≤◌, ℕ, List, [], ◌∷◌, ◌++◌, take, length, inl, inr, Option, Some, None, refl, sym, ◌∙◌, ap, subst}
+use Rattle.std.proofs.Common.{◌≡◌, ◌≤◌, ℕ, List, [], ◌∷◌, take, length, inl, inr, Option, refl, sym, ap}
 use Rattle.std.specs.Io.{StartsWith}
 use Rattle.std.specs.Io.KnownBytes.{append_known}
 use Rattle.dk_events.specs.declared.ended.Ended.{Ended}

@@ -1,11 +1,10 @@
 -- States of histories.
-use Rattle.std.proofs.Common.{◌≡◌, ◌≤◌, ◌<◌, ◌+◌, ◌^◌, ◌⊎◌, inl, inr, ℕ, zero, suc, Bool, List, [], ◌∷◌, ◌++◌, map, length, All, Option, Some, None, Result, Ok, Err, refl, sym, ◌∙◌, ap, subst, arith, append_assoc, length-append}
-use Rattle.std.proofs.lemmas.Bool.{cases_lt}
+use Rattle.std.proofs.Common.{◌≡◌, ◌≤◌, ◌<◌, ◌+◌, ◌^◌, ◌⊎◌, inl, inr, ℕ, zero, suc, Bool, List, [], ◌∷◌, ◌++◌, map, length, All, Option, Some, None, Err, refl, sym, ◌∙◌, ap, subst, arith, append_assoc, length-append}
 use Rattle.std.proofs.lemmas.Grind.{flat_map-append}
 use Rattle.std.proofs.lemmas.List.{append-nil, length-map, map-append}
 use Rattle.std.proofs.lemmas.List.Elements.{All-append, All-cons, All-head, All-nil, All-tail}
 use Rattle.std.proofs.lemmas.List.Sorted.{length_permutation}
-use Rattle.std.proofs.lemmas.List.Sums.{sum_by-append, sum_by_push}
+use Rattle.std.proofs.lemmas.List.Sums.{sum_by-append}
 use Rattle.std.specs.Prelude.{IsPermutation, IsTrue, flat_map, is_none, slice_index_or}
 use Rattle.dk_base.specs.declared.values.Value.{Value}
 use Rattle.dk_base.specs.declared.why.Why.{Why}
@@ -26,7 +25,6 @@ use Rattle.dk_merging.specs.Merging.{CanBeMerged, file_of_both, own_of_both}
 use Rattle.dk_merging.specs.declared.merging.MergeFault.{MergeFault}
 use Rattle.dk_merging.specs.declared.merging.MergeFault.TheVariants as merge
 use Rattle.dk_points.specs.Table.{Point, decl_at}
-use Rattle.dk_run.specs.Files.{AreHeldFiles}
 use Rattle.dk_run.specs.Outputs.{Output, texts_followed_by}
 use Rattle.dk_run.specs.Statuses.{IsCalm, Outside}
 use Rattle.dk_state.proofs.SameTexts.{order_of_samples}
@@ -36,9 +34,9 @@ use Rattle.dk_state.specs.Spelling.{CanBeSaved, compact_form_at}
 use Rattle.dk_state.specs.StateFile.{state_file_of}
 use Rattle.dk_template.specs.declared.grammar.Grammar.{Grammar}
 use Rattle.dk_merge.specs.Histories.{HasAllOf, IsAlike, MergesHistories}
-use Rattle.dk_merge.specs.Merged.{AreMergedTo, IsNoState, IsNoStateOf, IsRefusedBehind, IsStateBehind, MergeAnswers, MergesTo, bytes_in, refusal_by, whole_limit}
+use Rattle.dk_merge.specs.Merged.{AreMergedTo, IsNoState, IsRefusedBehind, MergeAnswers, MergesTo, bytes_in, refusal_by, whole_limit}
 use Rattle.dk_merge.specs.Outputs.{IsDoneOutput, IsMergedOutput, IsRefusedInTurns, IsRefusedOutput, IsStateOutput, state_output}
-use Rattle.dk_merge.specs.Statuses.{EndsAs, IsComplete, helds_of}
+use Rattle.dk_merge.specs.Statuses.{EndsAs, IsComplete}
 use Rattle.dk_merge_words.specs.declared.command.Command.{Command}
 use Rattle.dk_merge_words.specs.declared.command.Request.{Request}
 use Rattle.dk_merge_words.specs.declared.command.Request.TheVariants.{Run}
@@ -275,7 +273,7 @@ done_output command h hs output none has some done =
 
 histories_of : (command : Command) (before after : Outside) (result : Ended) → 0 < length command.files → (IsCalm before after → IsComplete command before after result)
     → MergesHistories (Some (Run command)) before after result
-histories_of command before after result named complete h hs calm none has held short = by (complete calm (map state_file hs) held) where
+histories_of command before after result named complete h hs calm none has held short = by ((complete calm).whole (map state_file hs) held) where
   some : 0 < length hs
   some = omega (arith, named, sym (length-map command.files before.file) ∙ ap length held ∙ length-map (map state_file hs) Holds ∙ length-map hs state_file)
 

@@ -1,16 +1,12 @@
 -- One file more, behind those that were taken.
-use Rattle.std.proofs.Common.{◌≡◌, ◌≤◌, ◌++◌, ℕ, List, [], ◌∷◌, Option, Some, None, Result, Ok, Err, refl, sym, ◌∙◌, ap, subst}
-use Rattle.dk_base.specs.declared.why.Why.{Why}
-use Rattle.dk_merging.specs.Merging.{AnswersMerge, IsMerged}
-use Rattle.dk_merging.specs.declared.merging.MergeFault.{MergeFault}
-use Rattle.dk_merging.specs.declared.merging.MergeFault.TheVariants as merge
+use Rattle.std.proofs.Common.{◌≡◌, ◌≤◌, ◌++◌, ℕ, List, [], ◌∷◌, Option, Some, None, Ok, Err, refl, sym, ap, subst}
+use Rattle.dk_merging.specs.Merging.{IsMerged}
 use Rattle.dk_state.specs.Spelling.{IsSpelling}
-use Rattle.dk_merge.specs.Gathering.{HoldsAll, IsSound, StateGives, TakesFile, trouble_of_merge, turns_by}
-use Rattle.dk_merge.specs.Merged.{AreMergedTo, AreTaken, IsStateBehind, MergeAnswers, MergesTo, bytes_in, whole_limit}
+use Rattle.dk_merge.specs.Gathering.{HoldsAll, IsSound, TakesFile, turns_by}
+use Rattle.dk_merge.specs.Merged.{AreTaken, IsStateBehind, MergesTo, bytes_in, whole_limit}
 use Rattle.dk_merge.specs.declared.gathered.Gathered.{Gathered}
 use Rattle.dk_merge.specs.declared.gathered.Gathered.TheVariants.{State, Traces}
-use Rattle.dk_merge.specs.declared.reading.Trouble.{Trouble}
-use Rattle.dk_merge.specs.declared.reading.Trouble.TheVariants.{Refused, Start, Read, NoMemory}
+use Rattle.dk_merge.specs.declared.reading.Trouble.TheVariants.{Start, Read}
 
 -- ---- states
 pub state_spelled : (before : Option (List ℕ)) (file state : List ℕ) → IsStateBehind before file state → IsSpelling state

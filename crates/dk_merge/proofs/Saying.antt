@@ -1,17 +1,17 @@
 -- What each end of a run says.
-use Rattle.std.proofs.Common.{◌≡◌, ◌≢◌, ◌≤◌, ◌<◌, ◌+◌, ◌⊎◌, inl, inr, ℕ, List, [], ◌∷◌, map, take, length, Option, Some, None, All, refl, sym, ◌∙◌, ap, subst, arith}
+use Rattle.std.proofs.Common.{◌≡◌, ◌<◌, ◌+◌, ◌⊎◌, inl, inr, ℕ, List, [], take, length, Option, Some, None, refl, sym, ◌∙◌, ap, subst, arith}
 use Rattle.std.specs.Option.{option_map_or}
 use Rattle.dk_base.specs.declared.why.Why.{Why}
 use Rattle.dk_events.specs.declared.ended.Ended.{Ended}
 use Rattle.dk_events.specs.declared.ended.Ended.TheVariants.{Done, Refused, Usage, Read, Write, NoMemory}
-use Rattle.dk_io.specs.Outside.{HeldFile, Absent, Rose}
+use Rattle.dk_io.specs.Outside.{Rose}
 use Rattle.dk_io.specs.Streams.{Texts}
 use Rattle.dk_io.specs.declared.outside.Stream.{Stream}
 use Rattle.dk_io.specs.declared.outside.Stream.TheVariants.{Report, Messages}
 use Rattle.dk_print.specs.Sections.{fault_line}
 use Rattle.dk_run.specs.Files.{AreHeldFiles, FileFault, file_name_at}
 use Rattle.dk_run.specs.Messages.{unread_line}
-use Rattle.dk_run.specs.Outputs.{IsFront, Output, only_on, texts_followed_by}
+use Rattle.dk_run.specs.Outputs.{IsFront, Output, only_on}
 use Rattle.dk_run.specs.Statuses.{AtStart, Break, OutputIsWritten, Outside, Within}
 use Rattle.dk_turns.specs.Turns.{turns_of}
 use Rattle.dk_merge.proofs.Ending.{followed_only, only_front}
@@ -22,8 +22,8 @@ use Rattle.dk_merge.specs.Ending.{EndsAmong, EndsBy, EndsWith}
 use Rattle.dk_merge.specs.Gathering.{AreReadTo, HoldsAll, IsRefusedAt, IsUnreadAt, TroubleAtGives, turns_by}
 use Rattle.dk_merge.specs.Merged.{AreMergedTo}
 use Rattle.dk_merge.specs.Outputs.{IsDoneFront, IsDoneOutput, IsMergedFront, IsMergedOutput, IsStateOutput, turns_fault, turns_output}
-use Rattle.dk_merge.specs.Running.{GatheredEnds, TurnsEnd, status_over}
-use Rattle.dk_merge.specs.Statuses.{AreRead, ComesTo, IsCutAtEnd, IsDone, IsRefused, IsRefusedLater, IsUnread, Says, helds_of}
+use Rattle.dk_merge.specs.Running.{GatheredEnds, TurnsEnd}
+use Rattle.dk_merge.specs.Statuses.{AreRead, ComesTo, IsCutAtEnd, IsRefused, IsRefusedLater, IsUnread, Says, helds_of}
 use Rattle.dk_merge.specs.declared.gathered.Gathered.{Gathered}
 use Rattle.dk_merge.specs.declared.gathered.Gathered.TheVariants.{State, Traces}
 use Rattle.dk_merge.specs.declared.gathering.Gathering.{Gathering}

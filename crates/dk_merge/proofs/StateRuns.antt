@@ -1,12 +1,12 @@
 -- A run that resumes a state and reads no files.
-use Rattle.std.proofs.Common.{◌≡◌, ◌≤◌, ◌<◌, ◌++◌, ℕ, zero, suc, List, [], ◌∷◌, take, length, inl, inr, false, Option, Some, None, refl, sym, ◌∙◌, ap, subst, arith}
+use Rattle.std.proofs.Common.{◌≡◌, ◌≤◌, ℕ, zero, suc, List, [], take, length, inl, inr, Some, refl, sym, ◌∙◌, ap, subst, arith}
 use Rattle.std.specs.Io.{StartsWith}
 use Rattle.dk_base.specs.declared.why.Why.{Why}
 use Rattle.dk_blocks.specs.History.{History}
 use Rattle.dk_core.specs.Resuming.{IsStart, state_file}
 use Rattle.dk_events.specs.declared.ended.Ended.{Ended}
 use Rattle.dk_events.specs.declared.ended.Ended.TheVariants as ended
-use Rattle.dk_io.specs.Outside.{HeldFile, Absent, Holds, Rose}
+use Rattle.dk_io.specs.Outside.{HeldFile, Holds, Rose}
 use Rattle.dk_io.specs.Streams.{Texts, with_bytes}
 use Rattle.dk_io.specs.declared.outside.Stream.TheVariants.{State}
 use Rattle.dk_run.proofs.Writing.{front_all, front_take}
@@ -22,7 +22,7 @@ use Rattle.dk_words.specs.declared.command.Command.{Command}
 use Rattle.dk_words.specs.declared.request.Request.TheVariants.{Run}
 use Rattle.dk_merge.proofs.Ending.{ends_early, followed_nothing, followed_state, front_of_nothing, only_report}
 use Rattle.dk_merge.specs.Ending.{EndsWith}
-use Rattle.dk_merge.specs.Outputs.{IsStateFront, IsStateOutput, no_output, plain_command, state_output}
+use Rattle.dk_merge.specs.Outputs.{IsStateFront, IsStateOutput, no_output, plain_command}
 use Rattle.dk_merge.specs.Running.{IsReportFront, IsReportOf, ReportEnds, StateEnds, ended_of}
 
 abbrev pub resumed_command : ℕ → List ℕ → Command

@@ -1,5 +1,5 @@
 -- Reading and taking file after file.
-use Rattle.std.proofs.Common.{◌≡◌, ◌≢◌, ◌≤◌, ◌<◌, ◌⊎◌, ◌+◌, ◌-◌, ◌++◌, ℕ, suc, List, [], ◌∷◌, map, take, length, inl, inr, Option, Some, None, Result, Ok, Err, refl, sym, ◌∙◌, ap, subst, arith}
+use Rattle.std.proofs.Common.{◌≡◌, ◌≢◌, ◌≤◌, ◌<◌, ◌+◌, ◌-◌, ℕ, suc, List, [], take, length, inl, inr, Option, Some, None, Ok, Err, refl, sym, ◌∙◌, ap, subst, arith}
 use Rattle.std.proofs.lemmas.Bool.{cases_lt}
 use Rattle.std.proofs.lemmas.List.{length-map}
 use Rattle.std.proofs.lemmas.List.Sums.{sum_by_push}
@@ -8,11 +8,11 @@ use Rattle.dk_io.specs.Outside.{DeliversUpTo, HeldFile, Absent, Holds, Rose}
 use Rattle.dk_run.proofs.Placing.{rose_since}
 use Rattle.dk_run.specs.Files.{AreHeldFiles, file_name_at}
 use Rattle.dk_run.specs.Statuses.{AtStart, Break, HasBroken, Within, held_file_at, rest_behind}
-use Rattle.dk_merge.proofs.Held.{OneMore, held_map, none_held, one_more, there_more}
+use Rattle.dk_merge.proofs.Held.{held_map, none_held, one_more, there_more}
 use Rattle.dk_merge.proofs.Merging.{holds_more, not_start, not_unread, sound_more, taken_of, turns_kept}
-use Rattle.dk_merge.specs.Gathering.{AreReadTo, HasTaken, HoldsAll, IsRefusedAt, IsSound, IsUnreadAt, NotTaken, TakesFile, TroubleAtGives, turns_by}
-use Rattle.dk_merge.specs.Merged.{AreMergedTo, AreTaken, IsNoStateOf, IsRefusedBehind, bytes_in, whole_limit}
-use Rattle.dk_merge.specs.Statuses.{AreClean, helds_of}
+use Rattle.dk_merge.specs.Gathering.{AreReadTo, HasTaken, HoldsAll, IsRefusedAt, IsSound, NotTaken, TakesFile, TroubleAtGives, turns_by}
+use Rattle.dk_merge.specs.Merged.{AreTaken, IsNoStateOf, IsRefusedBehind, bytes_in, whole_limit}
+use Rattle.dk_merge.specs.Statuses.{helds_of}
 use Rattle.dk_merge.specs.declared.gathered.Gathered.{Gathered}
 use Rattle.dk_merge.specs.declared.gathered.Gathered.TheVariants.{State, Traces}
 use Rattle.dk_merge.specs.declared.gathering.Gathering.{Gathering}

@@ -1,18 +1,17 @@
 -- A run over one file of traces in turns.
-use Rattle.std.proofs.Common.{◌≡◌, ◌≤◌, ◌<◌, ◌+◌, ◌-◌, ℕ, List, [], ◌∷◌, map, take, length, inl, inr, false, Option, Some, None, Result, Ok, Err, refl, sym, ◌∙◌, ap, subst, arith}
+use Rattle.std.proofs.Common.{◌≡◌, ◌+◌, ◌-◌, ℕ, List, [], ◌∷◌, take, length, inl, inr, false, Option, Some, None, Result, Ok, Err, refl, sym, ◌∙◌, ap, subst, arith}
 use Rattle.std.proofs.lemmas.List.{take-map}
 use Rattle.std.specs.Io.{StartsWith}
 use Rattle.std.specs.Option.{option_map_or}
 use Rattle.dk_base.specs.Reading.{LineFault}
 use Rattle.dk_blocks.specs.History.{History, file_ended, no_history}
-use Rattle.dk_events.specs.declared.ended.Ended.{Ended}
 use Rattle.dk_events.specs.declared.ended.Ended.TheVariants as ended
 use Rattle.dk_io.specs.Outside.{HeldFile, Holds, Rose}
 use Rattle.dk_io.specs.Streams.{Texts}
 use Rattle.dk_io.specs.declared.outside.Stream.TheVariants.{Messages}
 use Rattle.dk_print.specs.Sections.{fault_line}
 use Rattle.dk_run.specs.Commands.{helds_of}
-use Rattle.dk_run.specs.Courses.{Course, course_of, course_of_file, course_of_files, fault_in, first_start, then_files, total_limit}
+use Rattle.dk_run.specs.Courses.{course_of, course_of_file, course_of_files, fault_in, first_start, then_files, total_limit}
 use Rattle.dk_run.specs.Files.{AreHeldFiles, FileFault, ended_file, file_name_at}
 use Rattle.dk_run.specs.Outputs.{IsFront, Output, only_on, output_at, output_of, texts_followed_by}
 use Rattle.dk_run.specs.Statuses.{AtStart, Break, ComesTo, HasBroken, IsCutShort, IsUnread, Outside, Says, Within, held_file_at}

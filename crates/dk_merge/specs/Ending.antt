@@ -1,7 +1,7 @@
 -- How a run ends: what it writes last, and its status.
-use Rattle.std.specs.Prelude.{◌≡◌, ◌⊎◌, ℕ, List, Option, Some, None}
+use Rattle.std.specs.Prelude.{◌≡◌, ◌⊎◌, ℕ, List}
 use Rattle.dk_events.specs.declared.ended.Ended.{Ended}
-use Rattle.dk_events.specs.declared.ended.Ended.TheVariants.{Done, Read, Refused, Write, NoMemory}
+use Rattle.dk_events.specs.declared.ended.Ended.TheVariants.{Read, Refused, Write, NoMemory}
 use Rattle.dk_io.specs.Outside.{Rose}
 use Rattle.dk_io.specs.Streams.{AddsFront, Texts, with_bytes}
 use Rattle.dk_io.specs.declared.outside.Stream.{Stream}
@@ -9,7 +9,6 @@ use Rattle.dk_io.specs.declared.outside.Stream.TheVariants.{Messages}
 use Rattle.dk_print.specs.Sections.{fault_line}
 use Rattle.dk_run.specs.Messages.{unread_line}
 use Rattle.dk_run.specs.Outputs.{Output, texts_followed_by}
-use Rattle.dk_run.specs.Statuses.{FollowedByFront}
 use Rattle.dk_merge.specs.declared.reading.Trouble.{Trouble}
 use Rattle.dk_merge.specs.declared.reading.Trouble.TheVariants as t
 

@@ -11,9 +11,8 @@ use Rattle.dk_run.specs.Statuses.{IsCalm, Outside}
 use Rattle.dk_merge.specs.Merged.{bytes_in, whole_limit}
 use Rattle.dk_merge.specs.Outputs.{state_output}
 use Rattle.dk_merge.specs.Statuses.{helds_of}
-use Rattle.dk_merge_words.specs.declared.command.Command.{Command}
 use Rattle.dk_merge_words.specs.declared.command.Request.{Request}
-use Rattle.dk_merge_words.specs.declared.command.Request.TheVariants.{Run, Help, Version}
+use Rattle.dk_merge_words.specs.declared.command.Request.TheVariants.{Run}
 
 -- a history of the same table, comparability word and grammar
 pub record IsAlike (h other : History) : Type 0 where

@@ -1,5 +1,5 @@
 -- What a run writes.
-use Rattle.std.specs.Prelude.{◌≡◌, ◌++◌, ℕ, List, [], ◌∷◌, codes, false, true, length, slice_index_or, Option, Some, None}
+use Rattle.std.specs.Prelude.{◌≡◌, ◌++◌, ℕ, List, [], ◌∷◌, codes, false, true, length, Option, Some, None}
 use Rattle.std.specs.Io.{StartsWith}
 use Rattle.dk_base.specs.declared.why.Why.{Why}
 use Rattle.dk_blocks.specs.History.{History}

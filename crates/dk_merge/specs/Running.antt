@@ -1,5 +1,5 @@
 -- What follows when all files were read: a run of daikon over one text.
-use Rattle.std.specs.Prelude.{◌≡◌, ℕ, List, [], ◌∷◌, Option, Some, None}
+use Rattle.std.specs.Prelude.{◌≡◌, ℕ, List, [], ◌∷◌}
 use Rattle.std.specs.Io.{StartsWith}
 use Rattle.std.specs.Option.{option_map_or}
 use Rattle.dk_blocks.specs.History.{History}

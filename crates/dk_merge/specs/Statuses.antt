@@ -1,5 +1,5 @@
 -- What each status of a run says.
-use Rattle.std.specs.Prelude.{◌≡◌, ◌≢◌, ◌≤◌, ◌<◌, ◌⊎◌, ◌+◌, ◌-◌, ◌++◌, ℕ, List, [], ◌∷◌, map, take, length, All, Option, Some, None}
+use Rattle.std.specs.Prelude.{◌≡◌, ◌≢◌, ◌≤◌, ◌<◌, ◌⊎◌, ◌+◌, ◌-◌, ℕ, List, [], map, take, length, All, Option, Some, None}
 use Rattle.dk_base.specs.declared.why.Why.{Why}
 use Rattle.dk_events.specs.declared.ended.Ended.{Ended}
 use Rattle.dk_events.specs.declared.ended.Ended.TheVariants.{Done, Refused, Usage, Read, Write, NoMemory}
@@ -129,14 +129,17 @@ abbrev pub EndsAs : Ended → (Output → Type 0) → Ended → Outside → Outs
 EndsAs status Is result before after =
     (result ≡ status) × ((output : Output) × Is output × (after.written ≡ texts_followed_by before.written output))
 
--- Where no fault of the outside rises, a run over files that are held comes to its end, or memory runs out.
-abbrev pub IsComplete : Command → Outside → Outside → Ended → Type 0
-IsComplete command before after result =
-    (contents : List (List ℕ)) → AreHeldFiles (helds_of command before.file) contents
-    → EndsAs Done (IsDoneOutput command.turns command.least contents) result before after
-    ⊎ EndsAs Refused (IsRefusedOutput command contents) result before after
-    ⊎ EndsAs Refused (IsRefusedInTurns command contents) result before after
-    ⊎ (result ≡ NoMemory)
+-- Where no fault of the outside rises, a run over files that are held comes to its end, or memory runs out. Files behind a refused one need
+-- not be there: it is enough that the first n files are held, and that not all of them can be taken.
+pub record IsComplete (command : Command) (before after : Outside) (result : Ended) : Type 0 where
+  pub whole : (contents : List (List ℕ)) → AreHeldFiles (helds_of command before.file) contents
+      → EndsAs Done (IsDoneOutput command.turns command.least contents) result before after
+      ⊎ EndsAs Refused (IsRefusedOutput command contents) result before after
+      ⊎ EndsAs Refused (IsRefusedInTurns command contents) result before after
+      ⊎ (result ≡ NoMemory)
+  pub refused : (n : ℕ) (contents : List (List ℕ)) → AreHeldFiles (take n (helds_of command before.file)) contents
+      → (AreTaken command.turns contents → ⊥)
+      → EndsAs Refused (IsRefusedOutput command contents) result before after ⊎ (result ≡ NoMemory)
 
 -- what is asked for is a run
 abbrev pub IsARun : Option Request → Type 0

@@ -8,7 +8,8 @@ use crate::gathered::Gathered;
 use crate::reading::{Trouble, read_whole};
 use dk_base::Text;
 use dk_io::Inputs;
-use dk_merge_words::{Command, FileName};
+use dk_merge_words::Command;
+use dk_words::Word;
 use std::alloc::Global;
 
 /// What is kept of the files that were read, and how many bytes the others may have.
@@ -54,7 +55,7 @@ fn take_file<I: Inputs>(
 }
 
 /// The name at a place.
-pub(crate) fn name_at(names: &[FileName], place: usize) -> &str
+pub(crate) fn name_at(names: &[Word], place: usize) -> &str
     requires { place < length names.now }
     ensures { result.now ≡ file_name_at names.now place }
 {

@@ -1,4 +1,4 @@
-use Rattle.std.proofs.Common.{rules, arith, ap, subst, sym, refl, ◌∙◌, ◌≡◌, ◌<◌, ℕ, List, Option, length}
+use Rattle.std.proofs.Common.{arith, ap, subst, refl, ◌∙◌, ◌≡◌, ◌<◌, ℕ, List, length}
 use Rattle.dk_io.specs.Outside.{HeldFile, Rose}
 use Rattle.dk_run.specs.Files.{file_name_at}
 use Rattle.dk_merge.proofs.Taking.{read_none, read_on, trouble_on}

@@ -1,11 +1,7 @@
-use Rattle.std.proofs.Common.{◌≡◌, ◌<◌, ◌∙◌, ap, length, rules, subst, List, ℕ, Result, Ok, Err}
-use Rattle.dk_io.specs.Outside.{Rose}
+use Rattle.std.proofs.Common.{◌≡◌, ◌∙◌, ap, List, ℕ}
 use Rattle.dk_run.specs.Files.{file_name_at}
 use Rattle.dk_run.specs.Statuses.{Outside, outside}
 use Rattle.dk_merge.proofs.Saying.{gathered_says, trouble_says}
-use Rattle.dk_merge.specs.Gathering.{FilesGive}
-use Rattle.dk_merge.specs.declared.gathering.FilesTrouble.{FilesTrouble}
-use Rattle.dk_merge.specs.declared.gathering.Gathering.{Gathering}
 use Rattle.dk_merge.proofs.top.run_command.Goals as goal
 
 pub returns-in-Ok-clause-says : goal.returns-in-Ok-clause-says
