@@ -1,12 +1,15 @@
 -- One file more, behind those that were taken.
-use Rattle.std.proofs.Common.{◌≡◌, ◌≤◌, ◌++◌, ℕ, List, [], ◌∷◌, Option, Some, None, Ok, Err, refl, sym, ap, subst}
+use Rattle.std.proofs.Common.{◌≡◌, ◌≤◌, ◌++◌, ℕ, List, [], ◌∷◌, inl, inr, Option, Some, None, Ok, Err, refl, sym, ap, subst}
+use Rattle.dk_base.specs.declared.why.Why.{Why}
 use Rattle.dk_merging.specs.Merging.{IsMerged}
+use Rattle.dk_merging.specs.declared.merging.MergeFault.{MergeFault}
+use Rattle.dk_merging.specs.declared.merging.MergeFault.TheVariants as merge
 use Rattle.dk_state.specs.Spelling.{IsSpelling}
 use Rattle.dk_merge.specs.Gathering.{HoldsAll, IsSound, TakesFile, turns_by}
-use Rattle.dk_merge.specs.Merged.{AreTaken, IsStateBehind, MergesTo, bytes_in, whole_limit}
+use Rattle.dk_merge.specs.Merged.{AreTaken, IsNoState, IsReason, IsStateBehind, MergesTo, bytes_in, refusal_by, whole_limit}
 use Rattle.dk_merge.specs.declared.gathered.Gathered.{Gathered}
 use Rattle.dk_merge.specs.declared.gathered.Gathered.TheVariants.{State, Traces}
-use Rattle.dk_merge.specs.declared.reading.Trouble.TheVariants.{Start, Read}
+use Rattle.dk_merge.specs.declared.reading.Trouble.TheVariants.{Read, Refused, Start}
 
 -- ---- states
 pub state_spelled : (before : Option (List ℕ)) (file state : List ℕ) → IsStateBehind before file state → IsSpelling state
@@ -43,3 +46,18 @@ not_start (Traces n files) file takes = takes
 pub not_unread : (g : Gathered) (file : List ℕ) → TakesFile g file (Err Read) → ⊥
 not_unread (State before) file takes = takes
 not_unread (Traces n files) file takes = takes
+
+-- ---- reasons
+no_state_reason : (before : Option (List ℕ)) (file : List ℕ) (why : Why) → IsNoState before file why → IsReason why
+no_state_reason None file why (is, none) = inr (inl is)
+no_state_reason (Some before) file why (fault, refused, answers) = by fault refused where
+  by : (fault : MergeFault) → refusal_by fault ≡ Some why → IsReason why
+  by merge.BadFirst refused = absurd (cc refused)
+  by merge.BadSecond refused = inr (inl (sym (cc refused)))
+  by merge.Different refused = inr (inr (inl (sym (cc refused))))
+  by merge.Joined refused = inr (inr (inr (sym (cc refused))))
+  by merge.NoMemory refused = absurd (cc refused)
+
+pub refused_reason : (g : Gathered) (file : List ℕ) (why : Why) → TakesFile g file (Err (Refused why)) → IsReason why
+refused_reason (State before) file why none = no_state_reason before file why none
+refused_reason (Traces n files) file why none = absurd none

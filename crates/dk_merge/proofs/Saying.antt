@@ -162,6 +162,7 @@ refused_comes command before place why within at = record {
   place = place;
   named = within;
   why = why;
+  reason = at.reason;
   none_absent = front_there (helds_of command before.file) (place + 1) at.there;
   clean_before = at.clean;
   first = at.first;

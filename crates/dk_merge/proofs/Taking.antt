@@ -9,9 +9,9 @@ use Rattle.dk_run.proofs.Placing.{rose_since}
 use Rattle.dk_run.specs.Files.{AreHeldFiles, file_name_at}
 use Rattle.dk_run.specs.Statuses.{AtStart, Break, HasBroken, Within, held_file_at, rest_behind}
 use Rattle.dk_merge.proofs.Held.{held_map, none_held, one_more, there_more}
-use Rattle.dk_merge.proofs.Merging.{holds_more, not_start, not_unread, sound_more, taken_of, turns_kept}
+use Rattle.dk_merge.proofs.Merging.{holds_more, not_start, not_unread, refused_reason, sound_more, taken_of, turns_kept}
 use Rattle.dk_merge.specs.Gathering.{AreReadTo, HasTaken, HoldsAll, IsRefusedAt, IsSound, NotTaken, TakesFile, TroubleAtGives, turns_by}
-use Rattle.dk_merge.specs.Merged.{AreTaken, IsNoStateOf, IsRefusedBehind, bytes_in, whole_limit}
+use Rattle.dk_merge.specs.Merged.{AreTaken, IsNoStateOf, IsReason, IsRefusedBehind, bytes_in, whole_limit}
 use Rattle.dk_merge.specs.Statuses.{helds_of}
 use Rattle.dk_merge.specs.declared.gathered.Gathered.{Gathered}
 use Rattle.dk_merge.specs.declared.gathered.Gathered.TheVariants.{State, Traces}
@@ -79,10 +79,11 @@ module _ (command : Command) (file : List ℕ → HeldFile) (before mid after : 
 
   -- ---- a trouble with it
   -- it is refused for what it holds, or for its length
-  refused_on : (why : Why) → file name ≢ Absent
+  refused_on : (why : Why) → IsReason why → file name ≢ Absent
       → ((contents : List (List ℕ)) (own : List ℕ) → HoldsAll contents g.gathered → bytes_in contents + g.room ≡ whole_limit → file name ≡ Holds own → IsRefusedBehind command.turns contents own why)
       → IsRefusedAt command file place why
-  refused_on why there gives = record {
+  refused_on why reason there gives = record {
+    reason = reason;
     there = there_more (helds_of command file) place read.there (λ absent. there (sym here ∙ absent));
     clean = read.clean;
     first = λ contents own held holds. let old = read.holds contents held in gives contents own old.0 old.1 (sym here ∙ holds);
@@ -101,9 +102,9 @@ module _ (command : Command) (file : List ℕ → HeldFile) (before mid after : 
 
   pub trouble_on : (rest : Option (List ℕ)) (a b c : ℕ) (trouble : Trouble) → a ≤ b → NotTaken g (file name) (Rose b c) mid rest trouble → TroubleAtGives command file (Rose a c) before rest place trouble
   trouble_on rest a b c (Refused why) h (inl (there, is, long)) =
-      refused_on why there (λ contents own holds room held. inl (is, let more = long own held in omega (arith, more, room, sum_by_push length contents own)))
+      refused_on why (inl is) there (λ contents own holds room held. inl (is, let more = long own held in omega (arith, more, room, sum_by_push length contents own)))
   trouble_on rest a b c (Refused why) h (inr (text, whole, none)) =
-      refused_on why whole.there (λ contents own holds room held.
+      refused_on why (refused_reason g.gathered text why none) whole.there (λ contents own holds room held.
       let same = (whole.all own held).0 in
       let short = whole.short in
       let long : length text ≡ length own = ap length same in

@@ -8,7 +8,7 @@ use Rattle.dk_merging.specs.declared.merging.MergeFault.TheVariants as merge
 use Rattle.dk_run.specs.Files.{AreHeldFiles}
 use Rattle.dk_run.specs.Statuses.{AtStart, Break, HasBroken, Within, held_file_at, rest_behind}
 use Rattle.dk_state.specs.Spelling.{IsSpelling}
-use Rattle.dk_merge.specs.Merged.{AreMergedTo, IsNoState, IsRefusedBehind, IsStateBehind, bytes_in, whole_limit}
+use Rattle.dk_merge.specs.Merged.{AreMergedTo, IsNoState, IsReason, IsRefusedBehind, IsStateBehind, bytes_in, whole_limit}
 use Rattle.dk_merge.specs.Reading.{IsWhole, UnreadGives}
 use Rattle.dk_merge.specs.Statuses.{AreClean, UnreadLeaves, helds_of}
 use Rattle.dk_merge.specs.declared.gathered.Gathered.{Gathered}
@@ -83,6 +83,7 @@ pub record AreReadTo (command : Command) (file : List ℕ → HeldFile) (before 
 
 -- The file at this place is the first that is refused.
 pub record IsRefusedAt (command : Command) (file : List ℕ → HeldFile) (place : ℕ) (why : Why) : Type 0 where
+  pub reason : IsReason why
   pub there : (k : ℕ) → k < place + 1 → held_file_at (helds_of command file) k ≢ Absent
   pub clean : AreClean command file place
   pub first : (contents : List (List ℕ)) (own : List ℕ) → AreHeldFiles (take place (helds_of command file)) contents

@@ -19,6 +19,10 @@ whole_limit = 1073741824
 abbrev pub bytes_in : List (List ℕ) → ℕ
 bytes_in contents = sum_by length contents
 
+-- the reasons for which a file is refused as a whole
+abbrev pub IsReason : Why → Type 0
+IsReason why = (why ≡ TooLong) ⊎ (why ≡ BadState) ⊎ (why ≡ DifferentState) ⊎ (why ≡ JoinedState)
+
 -- ---- two states
 -- what `merge_two` answers of two states: its answer says what it says, and of state files of histories it is that of both
 pub record MergeAnswers (first second : List ℕ) (answer : Result (List ℕ) MergeFault) : Type 0 where

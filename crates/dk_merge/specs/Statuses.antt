@@ -11,7 +11,7 @@ use Rattle.dk_run.specs.Messages.{unread_line}
 use Rattle.dk_run.specs.Outputs.{Output, only_on, texts_followed_by}
 use Rattle.dk_run.specs.Statuses.{AtStart, Break, FollowedByFront, HasBroken, IsCalm, Outside, OutputIsWritten, Within, held_file_at, rest_behind}
 use Rattle.dk_turns.specs.Turns.{turns_of}
-use Rattle.dk_merge.specs.Merged.{AreTaken, IsRefusedBehind, bytes_in, whole_limit}
+use Rattle.dk_merge.specs.Merged.{AreTaken, IsReason, IsRefusedBehind, bytes_in, whole_limit}
 use Rattle.dk_merge.specs.Outputs.{IsDoneFront, IsDoneOutput, IsRefusedInTurns, IsRefusedOutput, turns_fault, turns_name, turns_output}
 use Rattle.dk_merge_words.specs.Texts.{help_text, usage_line, version_text}
 use Rattle.dk_merge_words.specs.declared.command.Command.{Command}
@@ -48,6 +48,7 @@ pub record IsRefused (command : Command) (before : Outside) (output : Output) : 
   pub place : ℕ
   pub named : place < length command.files
   pub why : Why
+  pub reason : IsReason why
   pub none_absent : All (λ held. held ≢ Absent) (take (place + 1) (helds_of command before.file))
   pub clean_before : AreClean command before.file place
   pub first : (contents : List (List ℕ)) (file : List ℕ) → AreHeldFiles (take place (helds_of command before.file)) contents
