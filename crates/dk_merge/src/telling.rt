@@ -68,8 +68,8 @@ pub(crate) fn tell_trouble<S: Sinks>(
     }
 }
 
-// Writes the last report of a state, and behind it the state. One that is longer than all files of a run of daikon may be is as good as
-// none: memory does not hold it.
+// Writes the last report of a state, and behind it the state. One of more bytes than a run of daikon reads is answered as want of memory,
+// which would not hold it.
 fn tell_state<S: Sinks>(alloc: Global, least: u64, state: &[u8], sinks: &mut S) -> Ended
     requires { IsSpelling state.now }
     ensures { StateEnds least state.now (S.written sinks.old) (S.written sinks.new) (S.faults sinks.old) (S.faults sinks.new) result }
