@@ -1,0 +1,9 @@
+pub mod Merging
+pub mod Held
+pub mod Taking
+pub mod Ending
+pub mod TurnsRuns
+pub mod StateRuns
+pub mod Saying
+pub mod Complete
+pub mod Histories

@@ -1,0 +1,153 @@
+-- What each status of a run says.
+use Rattle.std.specs.Prelude.{◌≡◌, ◌≢◌, ◌≤◌, ◌<◌, ◌⊎◌, ◌+◌, ◌-◌, ℕ, List, [], map, take, length, All, Option, Some, None}
+use Rattle.dk_base.specs.declared.why.Why.{Why}
+use Rattle.dk_events.specs.declared.ended.Ended.{Ended}
+use Rattle.dk_events.specs.declared.ended.Ended.TheVariants.{Done, Refused, Usage, Read, Write, NoMemory}
+use Rattle.dk_io.specs.Outside.{DeliversUpTo, HeldFile, Absent, Holds, Rose}
+use Rattle.dk_io.specs.declared.outside.Stream.TheVariants as stream
+use Rattle.dk_print.specs.Sections.{fault_line}
+use Rattle.dk_run.specs.Files.{AreHeldFiles, FileFault, file_name_at}
+use Rattle.dk_run.specs.Messages.{unread_line}
+use Rattle.dk_run.specs.Outputs.{Output, only_on, texts_followed_by}
+use Rattle.dk_run.specs.Statuses.{AtStart, Break, FollowedByFront, HasBroken, IsCalm, Outside, OutputIsWritten, Within, held_file_at, rest_behind}
+use Rattle.dk_turns.specs.Turns.{turns_of}
+use Rattle.dk_merge.specs.Merged.{AreTaken, IsReason, IsRefusedBehind, bytes_in, whole_limit}
+use Rattle.dk_merge.specs.Outputs.{IsDoneFront, IsDoneOutput, IsRefusedInTurns, IsRefusedOutput, turns_fault, turns_name, turns_output}
+use Rattle.dk_merge_words.specs.Texts.{help_text, usage_line, version_text}
+use Rattle.dk_merge_words.specs.declared.command.Command.{Command}
+use Rattle.dk_merge_words.specs.declared.command.Request.{Request}
+use Rattle.dk_merge_words.specs.declared.command.Request.TheVariants.{Run, Help, Version}
+
+-- ---- what was read
+-- what is told of the files that the words name, in order
+abbrev pub helds_of : Command → (List ℕ → HeldFile) → List HeldFile
+helds_of command file = map file command.files
+
+-- As far as the first n files are held, from the first on, none of them is refused.
+abbrev pub AreClean : Command → (List ℕ → HeldFile) → ℕ → Type 0
+AreClean command file n =
+    (k : ℕ) (contents : List (List ℕ)) → k ≤ n → AreHeldFiles (take k (helds_of command file)) contents → AreTaken command.turns contents
+
+-- ---- how a run ends
+-- All files were started and read to their ends, and none is refused.
+pub record AreRead (command : Command) (before after : Outside) : Type 0 where
+  pub none_absent : All (λ held. held ≢ Absent) (helds_of command before.file)
+  pub clean : AreClean command before.file (length command.files)
+  pub all_read : (contents : List (List ℕ)) → AreHeldFiles (helds_of command before.file) contents
+      → after.rest ≡ rest_behind (length command.files) before.rest
+
+-- This is the output then.
+pub record IsDone (command : Command) (before after : Outside) (output : Output) : Type 0 where
+  pub read : AreRead command before after
+  pub messages : output.messages ≡ []
+  pub defined : (contents : List (List ℕ)) → AreHeldFiles (helds_of command before.file) contents
+      → IsDoneOutput command.turns command.least contents output
+
+-- The files up to this one are there, and it is the first that is refused, at its line 0. That is all that the run says.
+pub record IsRefused (command : Command) (before : Outside) (output : Output) : Type 0 where
+  pub place : ℕ
+  pub named : place < length command.files
+  pub why : Why
+  pub reason : IsReason why
+  pub none_absent : All (λ held. held ≢ Absent) (take (place + 1) (helds_of command before.file))
+  pub clean_before : AreClean command before.file place
+  pub first : (contents : List (List ℕ)) (file : List ℕ) → AreHeldFiles (take place (helds_of command before.file)) contents
+      → held_file_at (helds_of command before.file) place ≡ Holds file → IsRefusedBehind command.turns contents file why
+  pub message : output ≡ only_on stream.Messages (fault_line (file_name_at command.files place) 0 why)
+
+-- All files were read, and a line of the one file that they are in turns is refused. That is all that the run says.
+pub record IsRefusedLater (command : Command) (before after : Outside) (output : Output) : Type 0 where
+  pub n : ℕ
+  pub turns : command.turns ≡ Some n
+  pub read : AreRead command before after
+  pub fault : FileFault
+  pub first : (contents : List (List ℕ)) → AreHeldFiles (helds_of command before.file) contents
+      → turns_fault (turns_of n contents) ≡ Some fault
+  pub message : output ≡ only_on stream.Messages (fault_line turns_name fault.line fault.why)
+  pub defined : (contents : List (List ℕ)) → AreHeldFiles (helds_of command before.file) contents
+      → output ≡ turns_output command.least (turns_of n contents)
+
+-- What is left of the inputs where a file can't be read, behind files of these contents. A start that fails delivers nothing of it, and no
+-- byte that was delivered is one too many.
+abbrev pub UnreadLeaves : Break → ℕ → HeldFile → Option (List ℕ) → Option (List ℕ) → List (List ℕ) → Type 0
+UnreadLeaves AtStart place held before after contents = after ≡ rest_behind place before
+UnreadLeaves Within place held before after contents =
+    (xs : List ℕ) → held ≡ Holds xs → DeliversUpTo (whole_limit - bytes_in contents) (Some xs) after
+
+-- The file at this place could not be read: its start failed, or a read. None in front of it is absent or refused, and that it can't be
+-- read is all that the run says.
+pub record IsUnread (command : Command) (before after : Outside) (output : Output) : Type 0 where
+  pub place : ℕ
+  pub named : place < length command.files
+  pub by : Break
+  pub cause : HasBroken by (held_file_at (helds_of command before.file) place) (Rose before.read_faults after.read_faults)
+  pub none_absent : All (λ held. held ≢ Absent) (take place (helds_of command before.file))
+  pub clean_before : AreClean command before.file place
+  pub left : (contents : List (List ℕ)) → AreHeldFiles (take place (helds_of command before.file)) contents
+      → UnreadLeaves by place (held_file_at (helds_of command before.file) place) before.rest after.rest contents
+  pub message : output ≡ only_on stream.Messages (unread_line (file_name_at command.files place))
+
+-- A run that is asked for so comes to this status, and has this output, unless a write fails or memory runs out before.
+abbrev pub ComesTo : Ended → Option Request → Outside → Outside → Output → Type 0
+ComesTo Done (Some (Run command)) before after output = IsDone command before after output
+ComesTo Done (Some Help) before after output = output ≡ only_on stream.Report help_text
+ComesTo Done (Some Version) before after output = output ≡ only_on stream.Report version_text
+ComesTo Refused (Some (Run command)) before after output = IsRefused command before output ⊎ IsRefusedLater command before after output
+ComesTo Read (Some (Run command)) before after output = IsUnread command before after output
+ComesTo Usage None before after output = output ≡ only_on stream.Messages usage_line
+ComesTo status request before after output = ⊥
+
+-- ---- runs that are cut short
+-- All files were read, and a front of what follows was written.
+pub record IsCutAtEnd (command : Command) (before after : Outside) : Type 0 where
+  pub read : AreRead command before after
+  pub front : Output
+  pub written : after.written ≡ texts_followed_by before.written front
+  pub of_output : (contents : List (List ℕ)) → AreHeldFiles (helds_of command before.file) contents
+      → IsDoneFront command.turns command.least contents front
+
+abbrev pub IsCutInRun : Option Request → Outside → Outside → Type 0
+IsCutInRun (Some (Run command)) before after = IsCutAtEnd command before after
+IsCutInRun request before after = ⊥
+
+-- Each stream got nothing; or a front of what follows when all files were read; or a front of the output that the run comes to.
+abbrev pub IsCutShort : Option Request → Outside → Outside → Type 0
+IsCutShort request before after =
+    (after.written ≡ before.written)
+    ⊎ IsCutInRun request before after
+    ⊎ ((status : Ended) × (output : Output) × ComesTo status request before after output
+    × FollowedByFront before.written after.written output)
+
+-- ---- what each status says
+abbrev pub Says : Ended → Option Request → Outside → Outside → Type 0
+Says Write request before after = Rose before.write_faults after.write_faults × IsCutShort request before after
+Says NoMemory request before after = (after.write_faults ≡ before.write_faults) × IsCutShort request before after
+Says status request before after = (output : Output) × ComesTo status request before after output × OutputIsWritten before after output
+
+-- ---- completeness
+-- the run has this status and such an output
+abbrev pub EndsAs : Ended → (Output → Type 0) → Ended → Outside → Outside → Type 0
+EndsAs status Is result before after =
+    (result ≡ status) × ((output : Output) × Is output × (after.written ≡ texts_followed_by before.written output))
+
+-- Where no fault of the outside rises, a run over files that are held comes to its end, or memory runs out. Files behind a refused one need
+-- not be there: it is enough that the first n files are held, and that not all of them can be taken.
+pub record IsComplete (command : Command) (before after : Outside) (result : Ended) : Type 0 where
+  pub whole : (contents : List (List ℕ)) → AreHeldFiles (helds_of command before.file) contents
+      → EndsAs Done (IsDoneOutput command.turns command.least contents) result before after
+      ⊎ EndsAs Refused (IsRefusedOutput command contents) result before after
+      ⊎ EndsAs Refused (IsRefusedInTurns command contents) result before after
+      ⊎ (result ≡ NoMemory)
+  pub refused : (n : ℕ) (contents : List (List ℕ)) → AreHeldFiles (take n (helds_of command before.file)) contents
+      → (AreTaken command.turns contents → ⊥)
+      → EndsAs Refused (IsRefusedOutput command contents) result before after ⊎ (result ≡ NoMemory)
+
+-- what is asked for is a run
+abbrev pub IsARun : Option Request → Type 0
+IsARun (Some (Run command)) = Unit {0}
+IsARun request = ⊥
+
+-- The run is complete, where one is asked for.
+abbrev pub CompletesCalmly : Option Request → Outside → Outside → Ended → Type 0
+CompletesCalmly (Some (Run command)) before after result = IsCalm before after → IsComplete command before after result
+CompletesCalmly request before after result = Unit {0}

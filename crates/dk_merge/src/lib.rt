@@ -1,0 +1,16 @@
+//! The program `dk_merge`: states of several runs as one, or the traces of several recorders as one file.
+#![tactic(auto)]
+
+mod gathered;
+mod gathering;
+mod messages;
+mod reading;
+mod running;
+mod telling;
+mod top;
+
+pub use dk_join::{JoinFault, join};
+pub use dk_merge_words::{Command, Request, help_text, read_words, usage_line, version_text};
+pub use dk_merging::{MergeFault, merge_two};
+pub use dk_turns::turns;
+pub use top::{run_merge, tell_usage};

@@ -1,0 +1,110 @@
+// Runs of daikon over one text in memory.
+ghost use Rattle.std.specs.Prelude.{◌≡◌, ◌≤◌, ◌∷◌, [], IfOk, None, Some, false, true, length};
+ghost use Rattle.dk_run.specs.Courses.{total_limit};
+ghost use Rattle.dk_state.specs.Spelling.{IsSpelling};
+ghost use Rattle.dk_merge.specs.Outputs.{plain_command};
+ghost use Rattle.dk_merge.specs.Running.{ReportEnds, TurnsEnd, ended_of, holding};
+
+use dk_base::{List, NoMemory, Text};
+use dk_events::Ended;
+use dk_io::{Sinks, SteadyInputs};
+use dk_run::{Status, run_command};
+use dk_words::{Command, Word};
+use std::alloc::Global;
+
+/// How many bytes a read moves.
+const PIECE: usize = 65_536;
+
+// Inputs that hold the text as a file of this name, and nothing else.
+fn holding(alloc: Global, name: &str, text: Text) -> Result<SteadyInputs, NoMemory>
+    ensures { IfOk result (λ inputs. inputs ≡ holding name.now text) }
+{
+    let name = Text::from_slice(alloc, name.as_bytes())?;
+    let mut files = List::new(alloc);
+    files.push((name, text))?;
+    Ok(SteadyInputs::new(files, PIECE))
+}
+
+// The command with this least number that asks for this, and for nothing else.
+fn command_with(least: u64, save: bool, resume: Option<Word>, files: List<Word>) -> Command
+    ensures { result ≡ record (plain_command least) { save = save; resume = resume; files = files } }
+{
+    Command {
+        least,
+        every: None,
+        select: None,
+        keep_implied: false,
+        keep_incomparable: false,
+        keep_members: false,
+        keep_constant: false,
+        keep_parent: false,
+        ignore_missing_entry: false,
+        stats: false,
+        save,
+        resume,
+        generate: None,
+        files,
+    }
+}
+
+// The command that goes on from the state of this name.
+fn resuming(alloc: Global, least: u64, name: &str) -> Result<Command, NoMemory>
+    ensures { IfOk result (λ command. command ≡ record (plain_command least) { resume = Some name.now }) }
+{
+    let name = Word::from_str(alloc, name)?;
+    Ok(command_with(least, false, Some(name), List::new(alloc)))
+}
+
+// The command that reads the file of this name and saves the state.
+fn saving(alloc: Global, least: u64, name: &str) -> Result<Command, NoMemory>
+    ensures { IfOk result (λ command. command ≡ record (plain_command least) { save = true; files = name.now ∷ [] }) }
+{
+    let mut files = List::new(alloc);
+    files.push(Word::from_str(alloc, name)?)?;
+    Ok(command_with(least, true, None, files))
+}
+
+fn ended_of(status: Status) -> Ended
+    ensures { result ≡ ended_of status }
+{
+    match status {
+        Status::Done => Ended::Done,
+        Status::Refused => Ended::Refused,
+        Status::Usage => Ended::Usage,
+        Status::Read => Ended::Read,
+        Status::Write => Ended::Write,
+        Status::NoMemory => Ended::NoMemory,
+    }
+}
+
+/// Writes the last report of a state.
+pub(crate) fn report_state<S: Sinks>(alloc: Global, least: u64, state: Text, sinks: &mut S) -> Ended
+    requires spelled { IsSpelling state }
+    requires short { length state ≤ total_limit }
+    ensures { ReportEnds least state (S.written sinks.old) (S.written sinks.new) (S.faults sinks.old) (S.faults sinks.new) result }
+{
+    let command = match resuming(alloc, least, "state") {
+        Ok(command) => command,
+        Err(NoMemory) => return Ended::NoMemory,
+    };
+    let mut inputs = match holding(alloc, "state", state) {
+        Ok(inputs) => inputs,
+        Err(NoMemory) => return Ended::NoMemory,
+    };
+    ended_of(run_command(alloc, &command, &mut inputs, sinks))
+}
+
+/// Runs over the text as the one file `turns`: writes its report and its state, or its first fault.
+pub(crate) fn run_over<S: Sinks>(alloc: Global, least: u64, text: Text, sinks: &mut S) -> Ended
+    ensures { TurnsEnd least text (S.written sinks.old) (S.written sinks.new) (S.faults sinks.old) (S.faults sinks.new) result }
+{
+    let command = match saving(alloc, least, "turns") {
+        Ok(command) => command,
+        Err(NoMemory) => return Ended::NoMemory,
+    };
+    let mut inputs = match holding(alloc, "turns", text) {
+        Ok(inputs) => inputs,
+        Err(NoMemory) => return Ended::NoMemory,
+    };
+    ended_of(run_command(alloc, &command, &mut inputs, sinks))
+}
