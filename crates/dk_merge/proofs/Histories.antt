@@ -251,7 +251,7 @@ module _ (h : History) where
       (subst (λ (l : List ℕ). IsNoState mid l why) p.file_is none)
 
 -- ---- the run
-bytes_of_front : (before : List (List ℕ)) (file : List ℕ) (behind : List (List ℕ)) → bytes_in (before ++ file ∷ []) ≤ bytes_in (before ++ file ∷ behind)
+pub bytes_of_front : (before : List (List ℕ)) (file : List ℕ) (behind : List (List ℕ)) → bytes_in (before ++ file ∷ []) ≤ bytes_in (before ++ file ∷ behind)
 bytes_of_front before file behind =
     let whole : bytes_in (before ++ file ∷ behind) ≡ bytes_in (before ++ file ∷ []) + bytes_in behind = ap bytes_in (sym (append_assoc before (file ∷ []) behind)) ∙ sum_by-append length (before ++ file ∷ []) behind in
     omega (arith, whole)

@@ -7,3 +7,4 @@ pub mod StateRuns
 pub mod Saying
 pub mod Complete
 pub mod Histories
+mod Recorders

@@ -2,6 +2,7 @@
 pub mod Statuses
 pub mod Ending
 pub mod Histories
+pub mod Recorders
 -- what those are made of, and words for the crates above
 pub mod Merged
 pub mod Outputs

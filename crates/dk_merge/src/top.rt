@@ -4,6 +4,7 @@ ghost use Rattle.dk_io.specs.declared.outside.Stream.TheVariants as stream;
 ghost use Rattle.dk_run.specs.Statuses.{Outside, outside};
 ghost use Rattle.dk_merge.specs.Ending.{EndsWith};
 ghost use Rattle.dk_merge.specs.Histories.{MergesHistories};
+ghost use Rattle.dk_merge.specs.Recorders.{WritesAsWithoutTurns};
 ghost use Rattle.dk_merge.specs.Statuses.{CompletesCalmly, IsARun, Says};
 ghost use Rattle.dk_merge_words.specs.Requests.{request_of};
 ghost use Rattle.dk_merge_words.specs.Texts.{usage_line as usage_text};
@@ -74,6 +75,10 @@ pub fn run_merge<I: Inputs, S: Sinks>(
     ensures histories { let before : Outside = outside (I.file inputs.old) (I.rest inputs.old) (I.faults inputs.old) (S.written sinks.old) (S.faults sinks.old) in
         let after : Outside = outside (I.file inputs.new) (I.rest inputs.new) (I.faults inputs.new) (S.written sinks.new) (S.faults sinks.new) in
         MergesHistories (request_of (map string_bytes words.now)) before after result }
+    // The traces of recorders in turns come to what they come to without turns.
+    ensures recorders { let before : Outside = outside (I.file inputs.old) (I.rest inputs.old) (I.faults inputs.old) (S.written sinks.old) (S.faults sinks.old) in
+        let after : Outside = outside (I.file inputs.new) (I.rest inputs.new) (I.faults inputs.new) (S.written sinks.new) (S.faults sinks.new) in
+        WritesAsWithoutTurns (request_of (map string_bytes words.now)) before after result }
     ensures files { I.file inputs.new ≡ I.file inputs.old }
 {
     match read_words(alloc, words) {

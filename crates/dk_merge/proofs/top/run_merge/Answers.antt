@@ -2,6 +2,7 @@ use Rattle.std.proofs.Common.{rules, ◌≡◌, ◌≤◌, ◌∙◌, ℕ, map, 
 use Rattle.dk_words.specs.Laws.{IsWithinBounds}
 use Rattle.dk_merge.proofs.Complete.{complete_of, complete_says}
 use Rattle.dk_merge.proofs.Histories.{histories_say}
+use Rattle.dk_merge.proofs.Recorders.{recorders_say}
 use Rattle.dk_merge.proofs.Saying.{help_says, usage_says, version_says}
 use Rattle.dk_merge_words.proofs.Ranges.{file_named, numbers_within}
 use Rattle.dk_merge_words.specs.Requests.{request_of}
@@ -26,6 +27,11 @@ pub returns-in-Ok-Run-clause-histories : goal.returns-in-Ok-Run-clause-histories
 returns-in-Ok-Run-clause-histories g c =
     let is : request_of (map string_bytes c.args.words.now) ≡ Some (Run c.in-Ok-Run.command) = search rules in
     histories_say _ c.in-Ok-Run.command _ _ c.run_command.result is (file_named (map string_bytes c.args.words.now) c.in-Ok-Run.command is) (complete_of c.in-Ok-Run.command _ _ c.run_command.result c.run_command.ensures.says)
+
+pub returns-in-Ok-Run-clause-recorders : goal.returns-in-Ok-Run-clause-recorders
+returns-in-Ok-Run-clause-recorders g c =
+    let is : request_of (map string_bytes c.args.words.now) ≡ Some (Run c.in-Ok-Run.command) = search rules in
+    recorders_say _ c.in-Ok-Run.command _ _ c.run_command.result is (one_at_least c.in-Ok-Run.command.turns (numbers_within (map string_bytes c.args.words.now) c.in-Ok-Run.command is).1) (complete_of c.in-Ok-Run.command _ _ c.run_command.result c.run_command.ensures.says)
 
 pub returns-in-Ok-Help-clause-says : goal.returns-in-Ok-Help-clause-says
 returns-in-Ok-Help-clause-says g c =
