@@ -11,9 +11,8 @@ use Rattle.dk_run.specs.Statuses.{IsCalm, Outside}
 use Rattle.dk_merge.specs.Merged.{bytes_in, whole_limit}
 use Rattle.dk_merge.specs.Outputs.{turns_output}
 use Rattle.dk_merge.specs.Statuses.{helds_of}
-use Rattle.dk_merge_words.specs.declared.command.Command.{Command}
 use Rattle.dk_merge_words.specs.declared.command.Request.{Request}
-use Rattle.dk_merge_words.specs.declared.command.Request.TheVariants.{Run, Help, Version}
+use Rattle.dk_merge_words.specs.declared.command.Request.TheVariants.{Run}
 
 -- With turns, let the files be those of recorders that are accepted as one file without turns, and let no fault of the outside rise. Then
 -- each stream gets what daikon writes of that file, whatever the number of turns; or memory runs out.
