@@ -4,3 +4,4 @@ pub mod Joining
 pub mod Laws
 -- inner: cited by the clauses of bodies and in proofs alone
 pub mod Tallies
+pub mod Beside

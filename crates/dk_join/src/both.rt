@@ -45,6 +45,13 @@ impl<'a> Both<'a> {
         }
     }
 
+    /// The first of them.
+    pub(crate) fn first(&self) -> &Engine
+        ensures { result.now ≡ self.now.first }
+    {
+        self.first
+    }
+
     /// The variables of both.
     pub(crate) fn infos(&self) -> &[VarInfo]
         ensures { result.now ≡ self.now.first.infos }

@@ -1,5 +1,6 @@
 // The join of two engines.
-ghost use Rattle.std.specs.Prelude.{◌≡◌, ◌≢◌, ◌<◌, ◌≤◌, ◌+◌, ◌^◌, ◌++◌, Err, IfOk, List, length};
+ghost use Rattle.std.specs.Prelude.{◌≡◌, ◌≢◌, ◌<◌, ◌≤◌, ◌+◌, ◌^◌, ◌++◌, All, Err, IfOk, List, length};
+ghost use Rattle.dk_base.specs.declared.kinds.VarId.{VarId};
 ghost use Rattle.dk_base.specs.declared.values.Value.{Value};
 ghost use Rattle.dk_engine.specs.Exact.{AreOfPoint, IsKeptOf};
 ghost use Rattle.dk_engine.specs.Feeding.{slots_of};
@@ -85,7 +86,9 @@ fn joined_slots(
     known: &Constants,
     leaders: &[VarId],
 ) -> Result<List<Slot>, NoMemory>
-    requires { AreAlike (record { first = first.now; second = second.now }) }
+    requires alike { AreAlike (record { first = first.now; second = second.now }) }
+    requires some { 0 < first.now.kept.samples }
+    requires within { All (λ (v : VarId). v.0 < length first.now.kept.leaders) leaders.now }
     ensures { IfOk result (λ slots. slots ≡ slots_of first.now.grammar first.now.infos leaders.now known.now (read_joined first.now.kept second.now.kept)) }
 {
     let both = Both::of(alloc, first, second);
@@ -99,7 +102,8 @@ fn joined_slots(
 
 // The parts of the join, in the order in which they are saved.
 fn joined_parts(alloc: Global, first: &Engine, second: &Engine) -> Result<Parts, NoMemory>
-    requires { AreOfOnePoint (record { first = first.now; second = second.now }) }
+    requires one { AreOfOnePoint (record { first = first.now; second = second.now }) }
+    requires some { 0 < first.now.kept.samples }
     ensures { IfOk result (AreJoinedParts first.now.grammar first.now.infos first.now.kept second.now.kept) }
 {
     let count = first.vars().len();

@@ -1,6 +1,7 @@
 //! The join of two engines: what is kept of both lists of samples, from what each keeps of its own.
 #![tactic(auto)]
 
+mod beside;
 mod both;
 mod constants;
 mod joining;

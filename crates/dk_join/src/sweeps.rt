@@ -1,10 +1,13 @@
-// The slots that both engines give, over all tuples of leaders.
-ghost use Rattle.std.specs.Prelude.{◌≡◌, ◌≤◌, ◌++◌, IfOk, length};
+// The slots that both engines give, over all tuples of leaders. A tuple of three of which the first engine keeps nothing is passed over.
+ghost use Rattle.std.specs.Prelude.{◌≡◌, ◌<◌, ◌≤◌, ◌++◌, All, IfOk, filter, length, map};
+ghost use Rattle.dk_base.specs.declared.kinds.VarId.{VarId};
 ghost use Rattle.dk_engine.specs.Feeding.{slots_of, slots_of_row};
 ghost use Rattle.dk_engine.specs.Sweeps.{behind, considered, firsts, pairs, seconds, thirds, triples};
+ghost use Rattle.dk_join.specs.Beside.{is_at_hand, stands_beside};
 ghost use Rattle.dk_join.specs.Joining.{answer_of};
-ghost use Rattle.dk_template.specs.Templates.{IsRowOf};
+ghost use Rattle.dk_template.specs.Templates.{IsRowOf, arity_of};
 
+use crate::beside::{all_beside, is_free, slots_at_hand, slots_with, stands_beside};
 use crate::both::Both;
 use crate::constants::are_known;
 use dk_base::{List, NoMemory, VarId};
@@ -14,7 +17,7 @@ use dk_suppress::suppressed;
 use dk_template::{Answers, Grammar, RowId, State, Tuple, admits, info, is_written};
 use std::alloc::Global;
 
-/// What a sweep goes by: the two engines, and the constants of both.
+/// What a sweep goes by: the two engines, and the constants of both. The first engine has some samples.
 #[derive(Drop)]
 pub(crate) struct Sweep<'a> {
     pub(crate) alloc: Global,
@@ -120,40 +123,79 @@ impl<'a> Sweep<'a> {
         Ok(slots)
     }
 
-    // Those of a leader and two more, one of each list.
+    // Those of two leaders and one of the list, of which these stand beside the first. Where neither the second does nor the third, the
+    // first engine keeps nothing of the tuple.
+    fn thirds_beside(
+        &self,
+        row: RowId,
+        v: VarId,
+        w: VarId,
+        is_beside: bool,
+        beside: &[VarId],
+        third: &[VarId],
+        slots: List<Slot>,
+    ) -> Result<List<Slot>, NoMemory>
+        requires some { 0 < self.now.both.now.first.kept.samples }
+        requires row { IsRowOf self.now.both.now.first.grammar row }
+        requires three { arity_of row ≡ 3 }
+        requires is_beside { is_beside ≡ stands_beside self.now.both.now.first.kept row v w }
+        requires beside { beside.now ≡ filter (stands_beside self.now.both.now.first.kept row v) third.now }
+        ensures { IfOk result (λ more. more ≡ slots ++ thirds self.now.both.now.first.infos self.now.known.now (answer_of self.now.both.now) row v w third.now) }
+    {
+        if is_beside {
+            self.thirds(row, v, w, third, slots)
+        } else {
+            self.thirds(row, v, w, beside, slots)
+        }
+    }
+
+    // Those of a leader and two more.
     fn behind(
         &self,
         row: RowId,
         v: VarId,
-        second: &[VarId],
-        third: &[VarId],
+        leaders: &[VarId],
+        hand: &[&Slot],
         slots: List<Slot>,
     ) -> Result<List<Slot>, NoMemory>
-        requires { IsRowOf self.now.both.now.first.grammar row }
-        ensures { IfOk result (λ more. more ≡ slots ++ behind self.now.both.now.first.infos self.now.known.now (answer_of self.now.both.now) row v second.now third.now) }
+        requires some { 0 < self.now.both.now.first.kept.samples }
+        requires row { IsRowOf self.now.both.now.first.grammar row }
+        requires three { arity_of row ≡ 3 }
+        requires first { v.0 < length self.now.both.now.first.kept.leaders }
+        requires within { All (λ (w : VarId). w.0 < length self.now.both.now.first.kept.leaders) leaders.now }
+        requires hand { map (λ slot. slot.now) hand.now ≡ filter (is_at_hand row) self.now.both.now.first.kept.slots }
+        ensures { IfOk result (λ more. more ≡ slots ++ behind self.now.both.now.first.infos self.now.known.now (answer_of self.now.both.now) row v leaders.now leaders.now) }
     {
+        let engine = self.both.first();
+        let leader = engine.classes().leader(v);
+        let around = slots_with(self.alloc, hand, leader)?;
+        let free = is_free(engine, around.as_slice(), leader);
+        let beside = all_beside(self.alloc, engine, free, around.as_slice(), leaders)?;
         let mut slots = slots;
-        for w in second {
-            slots = self.thirds(row, v, *w, third, slots)?;
+        for w in leaders {
+            let is_beside = stands_beside(engine, free, around.as_slice(), *w);
+            slots = self.thirds_beside(row, v, *w, is_beside, beside.as_slice(), leaders, slots)?;
         }
         Ok(slots)
     }
 
-    // Those of three leaders, one of each list.
+    // Those of three leaders.
     fn triples(
         &self,
         row: RowId,
-        first: &[VarId],
-        second: &[VarId],
-        third: &[VarId],
+        leaders: &[VarId],
         slots: List<Slot>,
     ) -> Result<List<Slot>, NoMemory>
-        requires { IsRowOf self.now.both.now.first.grammar row }
-        ensures { IfOk result (λ more. more ≡ slots ++ triples self.now.both.now.first.infos self.now.known.now (answer_of self.now.both.now) row first.now second.now third.now) }
+        requires some { 0 < self.now.both.now.first.kept.samples }
+        requires row { IsRowOf self.now.both.now.first.grammar row }
+        requires three { arity_of row ≡ 3 }
+        requires within { All (λ (v : VarId). v.0 < length self.now.both.now.first.kept.leaders) leaders.now }
+        ensures { IfOk result (λ more. more ≡ slots ++ triples self.now.both.now.first.infos self.now.known.now (answer_of self.now.both.now) row leaders.now leaders.now leaders.now) }
     {
+        let hand = slots_at_hand(self.alloc, self.both.first().slots(), row)?;
         let mut slots = slots;
-        for v in first {
-            slots = self.behind(row, *v, second, third, slots)?;
+        for v in leaders {
+            slots = self.behind(row, *v, leaders, hand.as_slice(), slots)?;
         }
         Ok(slots)
     }
@@ -165,7 +207,9 @@ impl<'a> Sweep<'a> {
         leaders: &[VarId],
         slots: List<Slot>,
     ) -> Result<List<Slot>, NoMemory>
-        requires { IsRowOf self.now.both.now.first.grammar row }
+        requires some { 0 < self.now.both.now.first.kept.samples }
+        requires row { IsRowOf self.now.both.now.first.grammar row }
+        requires within { All (λ (v : VarId). v.0 < length self.now.both.now.first.kept.leaders) leaders.now }
         ensures { IfOk result (λ more. more ≡ slots ++ slots_of_row self.now.both.now.first.infos leaders.now self.now.known.now (answer_of self.now.both.now) row) }
     {
         let arity = info(row).arity;
@@ -174,13 +218,15 @@ impl<'a> Sweep<'a> {
         } else if arity == 2 {
             self.pairs(row, leaders, leaders, slots)
         } else {
-            self.triples(row, leaders, leaders, leaders, slots)
+            self.triples(row, leaders, slots)
         }
     }
 
     /// All slots over these leaders, by row and then by leaders.
     pub(crate) fn all(&self, grammar: Grammar, leaders: &[VarId]) -> Result<List<Slot>, NoMemory>
-        requires { self.now.both.now.first.grammar ≡ grammar }
+        requires some { 0 < self.now.both.now.first.kept.samples }
+        requires grammar { self.now.both.now.first.grammar ≡ grammar }
+        requires within { All (λ (v : VarId). v.0 < length self.now.both.now.first.kept.leaders) leaders.now }
         ensures { IfOk result (λ slots. slots ≡ slots_of grammar self.now.both.now.first.infos leaders.now self.now.known.now (answer_of self.now.both.now)) }
     {
         let mut slots = List::new(self.alloc);

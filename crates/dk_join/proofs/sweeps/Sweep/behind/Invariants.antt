@@ -4,4 +4,4 @@ use Rattle.dk_engine.specs.Sweeps.{behind}
 use Rattle.dk_join.proofs.sweeps.Sweep.behind.Given as goal
 
 abbrev pub invariant-loop-w : goal.invariant-loop-w
-invariant-loop-w l = l.slots ≡ l.initial.slots ++ behind l.self.both.now.first.infos l.self.known.now (answer_of l.self.both.now) l.row l.v (take l.w-index l.second) l.third
+invariant-loop-w l = l.slots ≡ l.initial.slots ++ behind l.self.both.now.first.infos l.self.known.now (answer_of l.self.both.now) l.row l.v (take l.w-index l.leaders) l.leaders
