@@ -1,7 +1,8 @@
 -- A tuple of three leaders is Broken where the first stands beside neither of the others.
 use Rattle.std.specs.Prelude.{◌≡◌, ◌&&◌, ◌||◌, ◌==◌, ℕ, zero, suc, Bool, true, false, All, Contains, List, [], ◌∷◌, None, Some, Option, filter, if◌then◌else◌, is_some, map, refl}
+use Rattle.std.specs.Borrow.{Bor}
 use Rattle.std.specs.List.{list_any}
-use Rattle.std.proofs.Common.{◌∙◌, ap, inl, inr, subst, sym}
+use Rattle.std.proofs.Common.{◌∙◌, ap, get_or, inl, inr, subst, sym}
 use Rattle.std.proofs.lemmas.Bool.{and_from, and_right, cases_Bool, eq-eqb, eqb-true, false≢true, or_left, or_right, true≢false}
 use Rattle.std.proofs.lemmas.List.Elements.{All-cons, All-nil}
 use Rattle.dk_base.specs.declared.kinds.VarId.{VarId}
@@ -30,6 +31,7 @@ use Rattle.dk_template.specs.declared.exchange.Exchange.TheVariants.{First, Last
 use Rattle.dk_template.specs.declared.grammar.RowId.{RowId}
 use Rattle.dk_template.specs.declared.templates.Symmetry.{Symmetry}
 use Rattle.dk_template.specs.declared.templates.Symmetry.TheVariants as symmetry
+use Rattle.dk_join.proofs.Lists.{any_lent, filter_alike, filter_lent}
 use Rattle.dk_join.proofs.Refuted.{by_first, by_second, by_third, exchanges_all, is_broken_over, is_of_any, is_of_three, is_row, none_of_any, no_rules_of_equal, no_rules_of_few, sums_by_second, sums_by_third, threes_by_first, unsuppressed}
 use Rattle.dk_join.specs.Beside.{is_at_hand, is_free, is_row_at_hand, slots_around, stands_beside}
 use Rattle.dk_join.specs.Joining.{Pair, answer_of, read_joined}
@@ -277,3 +279,31 @@ out_beside pair infos known row three some v w x apart also =
     let first : state_read kept row vars ≡ Broken = sym (read_some kept row vars some) ∙ read in
     let broken : answer_of pair row vars ≡ Broken = ap (λ s. joined (form_of row) s (state_read pair.second.kept row vars)) first ∙ broken_absorbs (form_of row) (state_read pair.second.kept row vars) in
     not_considered infos known (answer_of pair) row vars (broken_out infos known (answer_of pair) row vars broken)
+
+-- ---- as the code tells it
+module _ (kept : Kept) (row : RowId) (v : VarId) (hand around : List (Bor Slot)) (leader : VarId) (free : Bool)
+    (hand_is : map (λ slot. slot.now) hand ≡ filter (is_at_hand row) kept.slots) (leads : leader ≡ leader_of kept.leaders v)
+    (around_is : around ≡ filter (λ slot. has slot.now.leaders leader) hand)
+    (free_is : free ≡ (is_some (known_at kept.known leader) || list_any (λ slot. slot.now.row.0 == 1) around)) where
+  slots_are : map (λ slot. slot.now) around ≡ slots_around row kept.slots (leader_of kept.leaders v)
+  slots_are =
+      ap (map (λ (slot : Bor Slot). slot.now)) around_is
+      ∙ (filter_lent (λ (slot : Slot). has slot.leaders leader) hand
+      ∙ (ap (filter (λ (slot : Slot). has slot.leaders leader)) hand_is ∙ ap (slots_around row kept.slots) leads))
+
+  any_are : (test : Slot → Bool) → list_any (λ slot. test slot.now) around ≡ list_any test (slots_around row kept.slots (leader_of kept.leaders v))
+  any_are test = any_lent test around ∙ ap (list_any test) slots_are
+
+  pub told_beside : (x : VarId) → (free || list_any (λ slot. has slot.now.leaders (leader_of kept.leaders x)) around) ≡ stands_beside kept row v x
+  told_beside x =
+      let own = leader_of kept.leaders v in
+      let slots = slots_around row kept.slots own in
+      let is : free ≡ is_free kept.known slots own =
+      free_is
+      ∙ (ap (λ l. is_some (known_at kept.known l) || list_any (λ (slot : Bor Slot). slot.now.row.0 == 1) around) leads
+      ∙ ap (λ b. is_some (known_at kept.known own) || b) (any_are (λ (slot : Slot). slot.row.0 == 1))) in
+      ap (λ b. b || list_any (λ (slot : Bor Slot). has slot.now.leaders (leader_of kept.leaders x)) around) is
+      ∙ ap (λ b. is_free kept.known slots own || b) (any_are (λ (slot : Slot). has slot.leaders (leader_of kept.leaders x)))
+
+  pub all_told : (of : List VarId) → filter (λ x. free || list_any (λ slot. has slot.now.leaders (leader_of kept.leaders x)) around) of ≡ filter (stands_beside kept row v) of
+  all_told of = filter_alike (λ x. free || list_any (λ (slot : Bor Slot). has slot.now.leaders (leader_of kept.leaders x)) around) (stands_beside kept row v) of (λ k d l. told_beside (get_or of k d))

@@ -1,5 +1,7 @@
 -- What is so of all items of two lists.
-use Rattle.std.specs.Prelude.{◌≡◌, ◌<◌, ◌+◌, ℕ, Bool, All, List, [], ◌∷◌, ◌++◌, filter, if◌then◌else◌, length, refl, take}
+use Rattle.std.specs.Prelude.{◌≡◌, ◌<◌, ◌+◌, ◌||◌, ℕ, Bool, true, false, All, List, [], ◌∷◌, ◌++◌, filter, flat_map, if◌then◌else◌, length, map, refl, take}
+use Rattle.std.specs.Borrow.{Bor}
+use Rattle.std.specs.List.{list_any}
 use Rattle.std.proofs.Common.{ap, ◌∙◌, get_or, sym}
 use Rattle.std.proofs.lemmas.List.Elements.{All-cons, All-head, All-nil, All-tail, filter_more}
 
@@ -23,3 +25,25 @@ pub filter_step : {X : Type 0} (p : X → Bool) (xs : List X) (i : ℕ) (x : X) 
 filter_step p xs i x l is b e =
     filter_more p xs i x l
     ∙ (ap (λ y. filter p (take i xs) ++ (if p y then y ∷ [] else [])) (sym is) ∙ ap (λ t. filter p (take i xs) ++ (if t then x ∷ [] else [])) e)
+
+-- what gives nothing may be left out
+without : {X Y : Type 0} (f : X → List Y) (x : X) (xs kept : List X) → (b : Bool) → (b ≡ false → f x ≡ []) → flat_map f kept ≡ flat_map f xs → flat_map f (if b then x ∷ kept else kept) ≡ f x ++ flat_map f xs
+without f x xs kept true none rest = ap (λ r. f x ++ r) rest
+without f x xs kept false none rest = rest ∙ ap (λ r. r ++ flat_map f xs) (sym (none refl))
+
+pub flat_map_filter : {X Y : Type 0} (f : X → List Y) (q : X → Bool) → ((x : X) → q x ≡ false → f x ≡ []) → (xs : List X) → flat_map f (filter q xs) ≡ flat_map f xs
+flat_map_filter f q none [] = refl
+flat_map_filter f q none (x ∷ xs) = without f x xs (filter q xs) (q x) (none x) (flat_map_filter f q none xs)
+
+-- ---- items that are lent
+pub any_lent : {X : Type 0} (test : X → Bool) (xs : List (Bor X)) → list_any (λ x. test x.now) xs ≡ list_any test (map (λ x. x.now) xs)
+any_lent test [] = refl
+any_lent test (x ∷ xs) = ap (λ b. test x.now || b) (any_lent test xs)
+
+pub filter_lent : {X : Type 0} (test : X → Bool) (xs : List (Bor X)) → map (λ x. x.now) (filter (λ x. test x.now) xs) ≡ filter test (map (λ x. x.now) xs)
+filter_lent test [] = refl
+filter_lent {X} test (x ∷ xs) = by (test x.now)
+  where
+    by : (b : Bool) → map (λ (y : Bor X). y.now) (if b then x ∷ filter (λ y. test y.now) xs else filter (λ y. test y.now) xs) ≡ (if b then x.now ∷ filter test (map (λ y. y.now) xs) else filter test (map (λ y. y.now) xs))
+    by true = ap (λ r. x.now ∷ r) (filter_lent test xs)
+    by false = filter_lent test xs

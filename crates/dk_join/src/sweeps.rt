@@ -168,12 +168,13 @@ impl<'a> Sweep<'a> {
     {
         let engine = self.both.first();
         let leader = engine.classes().leader(v);
-        let around = slots_with(self.alloc, hand, leader)?;
-        let free = is_free(engine, around.as_slice(), leader);
-        let beside = all_beside(self.alloc, engine, free, around.as_slice(), leaders)?;
+        let own = slots_with(self.alloc, hand, leader)?;
+        let around = own.as_slice();
+        let free = is_free(engine, around, leader);
+        let beside = all_beside(self.alloc, engine, free, around, leaders)?;
         let mut slots = slots;
         for w in leaders {
-            let is_beside = stands_beside(engine, free, around.as_slice(), *w);
+            let is_beside = stands_beside(engine, free, around, *w);
             slots = self.thirds_beside(row, v, *w, is_beside, beside.as_slice(), leaders, slots)?;
         }
         Ok(slots)

@@ -33,6 +33,14 @@ joined_known-requires-clause-second c =
     let are : AreJoinedLeaders first second joined = subst (λ ls. AreJoinedLeaders first ls joined) c.classes-2.ensures (subst (λ ls. AreJoinedLeaders ls c.classes-2.result.now joined) c.classes.ensures c.in_ok-joined.ensures) in
     subst (λ ls. All (λ (v : VarId). v.0 < length second) ls) (sym c.leaders-leaders.ensures.all) (all_within_second first second joined (c.requires.one.second_leaders ∙ sym c.requires.one.first_leaders) are)
 
+pub joined_slots-requires-clause-within : goal.joined_slots-requires-clause-within
+joined_slots-requires-clause-within c =
+    let first = c.args.first.now.kept.leaders in
+    let second = c.args.second.now.kept.leaders in
+    let joined = c.in_ok-joined.joined in
+    let are : AreJoinedLeaders first second joined = subst (λ ls. AreJoinedLeaders first ls joined) c.classes-2.ensures (subst (λ ls. AreJoinedLeaders ls c.classes-2.result.now joined) c.classes.ensures c.in_ok-joined.ensures) in
+    subst (λ ls. All (λ (v : VarId). v.0 < length first) ls) (sym c.leaders-leaders.ensures.all) (all_within_first first second joined are)
+
 pub from_known-requires : goal.from_known-requires
 from_known-requires c =
     subst EntriesAscend (sym c.in_ok-values.ensures) (known_ascend c.args.first.now.kept c.args.second.now.kept c.leaders-leaders.result.now c.leaders-leaders.ensures.ascend)
