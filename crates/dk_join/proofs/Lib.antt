@@ -1,6 +1,6 @@
 pub mod Lists
 pub mod Refuted
-pub mod Beside
+pub mod Apart
 pub mod Answering
 pub mod Leading
 pub mod Knowing

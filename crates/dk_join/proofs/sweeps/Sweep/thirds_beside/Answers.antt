@@ -4,7 +4,7 @@ use Rattle.std.proofs.lemmas.Result.{IfOk-weaker}
 use Rattle.dk_base.specs.declared.kinds.VarId.{VarId}
 use Rattle.dk_engine.specs.Sweeps.{considered, thirds}
 use Rattle.dk_engine.specs.declared.slot.Slot.{Slot}
-use Rattle.dk_join.proofs.Beside.{out_beside}
+use Rattle.dk_join.proofs.Apart.{out_beside}
 use Rattle.dk_join.proofs.Lists.{flat_map_filter}
 use Rattle.dk_join.specs.Beside.{stands_beside}
 use Rattle.dk_join.specs.Joining.{answer_of}
