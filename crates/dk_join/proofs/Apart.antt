@@ -1,5 +1,5 @@
 -- A tuple of three leaders is Broken where the first stands beside neither of the others.
-use Rattle.std.specs.Prelude.{◌≡◌, ◌&&◌, ◌||◌, ◌==◌, ℕ, zero, suc, Bool, true, false, All, Contains, List, [], ◌∷◌, None, Some, Option, filter, if◌then◌else◌, is_some, map, refl}
+use Rattle.std.specs.Prelude.{◌≡◌, ◌&&◌, ◌||◌, ◌==◌, ℕ, zero, suc, Bool, true, false, All, Contains, List, [], ◌∷◌, None, Some, Option, cond, filter, if◌then◌else◌, is_some, map, not, refl}
 use Rattle.std.specs.Borrow.{Bor}
 use Rattle.std.specs.List.{list_any}
 use Rattle.std.proofs.Common.{◌∙◌, ap, get_or, inl, inr, subst, sym}
@@ -10,7 +10,7 @@ use Rattle.dk_base.specs.declared.kinds.VarInfo.{VarInfo}
 use Rattle.dk_constants.specs.Known.{Entries, known_at}
 use Rattle.dk_engine.proofs.LevelFacts.{read_some}
 use Rattle.dk_engine.proofs.SlotLookups.{slot_cases}
-use Rattle.dk_engine.proofs.Slotless.{broken_out, not_considered}
+use Rattle.dk_engine.specs.Feeding.{has_slot, is_broken}
 use Rattle.dk_engine.specs.Parts.{all_known, known_tuple, leader_of, slot_at}
 use Rattle.dk_engine.specs.Reading.{read_leaders, read_slot, read_turned, read_written, state_of_one, state_read}
 use Rattle.dk_engine.specs.Sweeps.{considered}
@@ -23,6 +23,7 @@ use Rattle.dk_forms.specs.declared.states.State.TheVariants.{Broken}
 use Rattle.dk_presence.specs.Patterns.{counted_by, has}
 use Rattle.dk_suppress.specs.Rules.{is_suppressed}
 use Rattle.dk_template.proofs.Absorbing.{broken_absorbs}
+use Rattle.dk_template.specs.Admitted.{admits, is_written}
 use Rattle.dk_template.specs.Exchange.{arrange_tuple, descends, disarrange_state, exchange, exchanged_back, exchanged_state, order_tuple, turned_state, written_order}
 use Rattle.dk_template.specs.Joins.{joined}
 use Rattle.dk_template.specs.Templates.{arity_of, form_of, rows, template_of}
@@ -252,6 +253,19 @@ module _ (kept : Kept) (row : RowId) (a : VarId) where
         (arranged_free n three b c apart also (template_of row).symmetry refl)
 
 -- ---- in both engines
+-- leaders that are Broken have no slot
+fourth_false : (a b c d e : Bool) → d ≡ false → (a && (b && (c && (d && e)))) ≡ false
+fourth_false true true true d e f = ap (λ x. x && e) f
+fourth_false true true false d e f = refl
+fourth_false true false c d e f = refl
+fourth_false false b c d e f = refl
+
+broken_out : (infos : List VarInfo) (known : Entries) (answered : RowId → List VarId → State) (row : RowId) (vars : List VarId) → answered row vars ≡ Broken → considered infos known answered row vars ≡ []
+broken_out infos known answered row vars broken =
+    let out : has_slot infos known answered row vars ≡ false =
+    fourth_false (admits row infos vars) (is_written row vars) (not (all_known known vars)) (not (is_broken (answered row vars))) (not (is_suppressed answered row vars)) (ap (λ s. not (is_broken s)) broken) in
+    ap (λ b. map (λ (vs : List VarId). (let s : Slot = record { row = row; leaders = vs; state = answered row vs } in s)) (cond b (vars ∷ []) [])) out
+
 first_false : (x y : Bool) → (x || y) ≡ false → x ≡ false
 first_false true y h = h
 first_false false y h = refl
@@ -278,7 +292,7 @@ out_beside pair infos known row three some v w x apart also =
     let vars = v ∷ w ∷ x ∷ [] in
     let first : state_read kept row vars ≡ Broken = sym (read_some kept row vars some) ∙ read in
     let broken : answer_of pair row vars ≡ Broken = ap (λ s. joined (form_of row) s (state_read pair.second.kept row vars)) first ∙ broken_absorbs (form_of row) (state_read pair.second.kept row vars) in
-    not_considered infos known (answer_of pair) row vars (broken_out infos known (answer_of pair) row vars broken)
+    broken_out infos known (answer_of pair) row vars broken
 
 -- ---- as the code tells it
 module _ (kept : Kept) (row : RowId) (v : VarId) (hand around : List (Bor Slot)) (leader : VarId) (free : Bool)

@@ -2,7 +2,9 @@
 use Rattle.std.specs.Prelude.{◌≡◌, ◌<◌, ◌+◌, ◌||◌, ℕ, Bool, true, false, All, List, [], ◌∷◌, ◌++◌, filter, flat_map, if◌then◌else◌, length, map, refl, take}
 use Rattle.std.specs.Borrow.{Bor}
 use Rattle.std.specs.List.{list_any}
-use Rattle.std.proofs.Common.{ap, ◌∙◌, get_or, sym}
+use Rattle.std.proofs.Common.{ap, ◌∙◌, append-nil, append_assoc, get_or, sym}
+use Rattle.std.proofs.lemmas.List.{take_more}
+use Rattle.std.proofs.lemmas.List.Concat.{flat_map-append}
 use Rattle.std.proofs.lemmas.List.Elements.{All-cons, All-head, All-nil, All-tail, filter_more}
 
 -- of all items of both is so of all of each
@@ -40,10 +42,18 @@ pub any_lent : {X : Type 0} (test : X → Bool) (xs : List (Bor X)) → list_any
 any_lent test [] = refl
 any_lent test (x ∷ xs) = ap (λ b. test x.now || b) (any_lent test xs)
 
+lent_one : {X : Type 0} (x : Bor X) (kept : List (Bor X)) (those : List X) → map (λ y. y.now) kept ≡ those → (b : Bool)
+    → map (λ y. y.now) (if b then x ∷ kept else kept) ≡ (if b then x.now ∷ those else those)
+lent_one x kept those rest true = ap (λ r. x.now ∷ r) rest
+lent_one x kept those rest false = rest
+
 pub filter_lent : {X : Type 0} (test : X → Bool) (xs : List (Bor X)) → map (λ x. x.now) (filter (λ x. test x.now) xs) ≡ filter test (map (λ x. x.now) xs)
 filter_lent test [] = refl
-filter_lent {X} test (x ∷ xs) = by (test x.now)
-  where
-    by : (b : Bool) → map (λ (y : Bor X). y.now) (if b then x ∷ filter (λ y. test y.now) xs else filter (λ y. test y.now) xs) ≡ (if b then x.now ∷ filter test (map (λ y. y.now) xs) else filter test (map (λ y. y.now) xs))
-    by true = ap (λ r. x.now ∷ r) (filter_lent test xs)
-    by false = filter_lent test xs
+filter_lent test (x ∷ xs) = lent_one x (filter (λ y. test y.now) xs) (filter test (map (λ y. y.now) xs)) (filter_lent test xs) (test x.now)
+
+-- ---- a list that is made one after another
+pub flat_map_more : {X Y : Type 0} (f : X → List Y) (before : List Y) (xs : List X) (i : ℕ) (d : X) → i < length xs
+    → (before ++ flat_map f (take i xs)) ++ f (get_or xs i d) ≡ before ++ flat_map f (take (i + 1) xs)
+flat_map_more f before xs i d l =
+    append_assoc before (flat_map f (take i xs)) (f (get_or xs i d))
+    ∙ ap (λ ys. before ++ ys) (sym (ap (flat_map f) (take_more xs i d l) ∙ flat_map-append f (take i xs) (get_or xs i d ∷ []) ∙ ap (λ ys. flat_map f (take i xs) ++ ys) (append-nil (f (get_or xs i d)))))

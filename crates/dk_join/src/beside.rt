@@ -1,5 +1,5 @@
 // Which leaders may stand beside another in a slot of three, by what an engine keeps.
-ghost use Rattle.std.specs.Prelude.{◌≡◌, ◌<◌, ◌||◌, All, IfOk, filter, is_some, length, map};
+ghost use Rattle.std.specs.Prelude.{◌≡◌, ◌<◌, ◌==◌, ◌||◌, All, IfOk, filter, is_some, length, map};
 ghost use Rattle.std.specs.List.{list_any};
 ghost use Rattle.dk_base.specs.declared.kinds.VarId.{VarId};
 ghost use Rattle.dk_constants.specs.Known.{known_at};
@@ -62,22 +62,35 @@ pub(crate) fn slots_with<'s>(
     Ok(list)
 }
 
+// Whether one of the slots says that a number is one of few.
+fn say_few(slots: &[&Slot]) -> bool
+    ensures { result ≡ list_any (λ slot. slot.now.row.0 == 1) slots.now }
+{
+    slots.iter().any(|slot| slot.row.0 == 1)
+}
+
 /// Whether a leader is constant in an engine, or one of its slots says that it is one of few numbers.
 pub(crate) fn is_free(engine: &Engine, around: &[&Slot], leader: VarId) -> bool
     ensures { result ≡ (is_some (known_at engine.now.kept.known leader) || list_any (λ slot. slot.now.row.0 == 1) around.now) }
 {
-    engine.constants().value(leader).is_some() || around.iter().any(|slot| slot.row.0 == 1)
+    engine.constants().value(leader).is_some() || say_few(around)
 }
 
-/// Whether a leader is free, or the slots around it are over a variable's leader, too.
+// Whether one of the slots is over a leader.
+fn stands_in(slots: &[&Slot], leader: VarId) -> bool
+    ensures { result ≡ list_any (λ slot. has slot.now.leaders leader) slots.now }
+{
+    slots
+        .iter()
+        .any(|slot| has(slot.leaders.as_slice(), leader))
+}
+
+/// Whether a leader is free, or one of the slots around it is over a variable's leader, too.
 pub(crate) fn stands_beside(engine: &Engine, free: bool, around: &[&Slot], v: VarId) -> bool
     requires { v.0 < length engine.now.kept.leaders }
     ensures { result ≡ (free || list_any (λ slot. has slot.now.leaders (leader_of engine.now.kept.leaders v)) around.now) }
 {
-    let leader = engine.classes().leader(v);
-    free || around
-        .iter()
-        .any(|slot| has(slot.leaders.as_slice(), leader))
+    free || stands_in(around, engine.classes().leader(v))
 }
 
 /// Such variables of these.

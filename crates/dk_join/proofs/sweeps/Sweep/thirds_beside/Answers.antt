@@ -26,5 +26,5 @@ returns-else-is_beside c =
     let same : thirds infos known (answer_of pair) row v w c.args.beside.now ≡ thirds infos known (answer_of pair) row v w third =
     ap (thirds infos known (answer_of pair) row v w) c.requires.beside
     ∙ flat_map_filter Of (stands_beside pair.first.kept row v) (λ x h. out_beside pair infos known row c.requires.three (λ e. omega (arith, some, e)) v w x out h) third in
-    IfOk-weaker c.thirds.result (λ more. more ≡ c.args.slots ++ thirds infos known (answer_of pair) row v w c.args.beside.now) (λ more. more ≡ c.args.slots ++ thirds infos known (answer_of pair) row v w third)
-    (λ more e. e ∙ ap (λ ss. c.args.slots ++ ss) same) c.thirds.ensures
+    IfOk-weaker c.thirds-else-is_beside.result (λ more. more ≡ c.args.slots ++ thirds infos known (answer_of pair) row v w c.args.beside.now) (λ more. more ≡ c.args.slots ++ thirds infos known (answer_of pair) row v w third)
+    (λ more e. e ∙ ap (λ ss. c.args.slots ++ ss) same) c.thirds-else-is_beside.ensures
