@@ -1,8 +1,8 @@
 -- A tuple of three leaders is Broken where the first stands beside neither of the others.
-use Rattle.std.specs.Prelude.{◌≡◌, ◌&&◌, ◌||◌, ◌==◌, ℕ, zero, suc, Bool, true, false, All, Contains, List, [], ◌∷◌, None, Some, Option, cond, filter, if◌then◌else◌, is_some, map, not, refl}
+use Rattle.std.specs.Prelude.{◌≡◌, ◌&&◌, ◌||◌, ◌==◌, ℕ, zero, suc, Bool, true, false, Contains, List, [], ◌∷◌, None, cond, filter, if◌then◌else◌, is_some, map, not, refl}
 use Rattle.std.specs.Borrow.{Bor}
 use Rattle.std.specs.List.{list_any}
-use Rattle.std.proofs.Common.{◌∙◌, ap, get_or, inl, inr, subst, sym}
+use Rattle.std.proofs.Common.{◌∙◌, ap, get_or, inl, inr, sym}
 use Rattle.std.proofs.lemmas.Bool.{and_from, and_right, cases_Bool, eq-eqb, eqb-true, false≢true, or_left, or_right, true≢false}
 use Rattle.std.proofs.lemmas.List.Elements.{All-cons, All-nil}
 use Rattle.dk_base.specs.declared.kinds.VarId.{VarId}
@@ -12,7 +12,7 @@ use Rattle.dk_engine.proofs.LevelFacts.{read_some}
 use Rattle.dk_engine.proofs.SlotLookups.{slot_cases}
 use Rattle.dk_engine.specs.Feeding.{has_slot, is_broken}
 use Rattle.dk_engine.specs.Parts.{all_known, known_tuple, leader_of, slot_at}
-use Rattle.dk_engine.specs.Reading.{read_leaders, read_slot, read_turned, read_written, state_of_one, state_read}
+use Rattle.dk_engine.specs.Reading.{read_leaders, read_slot, state_of_one, state_read}
 use Rattle.dk_engine.specs.Sweeps.{considered}
 use Rattle.dk_engine.specs.declared.kept.Kept.{Kept}
 use Rattle.dk_engine.specs.declared.slot.Slot.{Slot}

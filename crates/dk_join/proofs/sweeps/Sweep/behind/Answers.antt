@@ -1,4 +1,4 @@
-use Rattle.std.specs.Prelude.{◌≡◌, ◌<◌, ◌||◌, ◌==◌, ◌++◌, ◌∷◌, [], Bool, List, filter, is_some, length, map, slice_index_or, take}
+use Rattle.std.specs.Prelude.{◌≡◌, ◌||◌, ◌==◌, ◌++◌, List, filter, is_some, slice_index_or}
 use Rattle.std.specs.Borrow.{Bor}
 use Rattle.std.specs.List.{list_any}
 use Rattle.std.proofs.Common.{◌∙◌, ap, arith}
@@ -12,7 +12,6 @@ use Rattle.dk_engine.specs.declared.slot.Slot.{Slot}
 use Rattle.dk_presence.specs.Patterns.{has}
 use Rattle.dk_join.proofs.Apart.{all_told, told_beside}
 use Rattle.dk_join.proofs.Lists.{flat_map_more}
-use Rattle.dk_join.specs.Beside.{is_at_hand, stands_beside}
 use Rattle.dk_join.specs.Joining.{answer_of}
 use Rattle.dk_join.proofs.sweeps.Sweep.behind.Goals as goal
 
