@@ -2,7 +2,7 @@
 use Rattle.std.specs.Prelude.{◌≡◌, ◌<◌, ◌≤◌, ◌+◌, ◌++◌, ◌∷◌, ◌^◌, ◌==◌, [], ℕ, zero, suc, All, IfOk, List, None, Some, if◌then◌else◌, Ok, Err, Result, length, map, max, refl, slice_get, slice_index_or}
 use Rattle.std.specs.List.{range_with_len, zip}
 use Rattle.std.proofs.Common.{◌∙◌, ap, append-nil, arith, get_or, inl, inr, subst, sym}
-use Rattle.std.proofs.lemmas.Bool.{cases_lt}
+use Rattle.std.proofs.lemmas.Bool.{cases_lt, ne_eqb}
 use Rattle.std.proofs.lemmas.List.{get_or_past, length-map, map-append}
 use Rattle.std.proofs.lemmas.List.FromFn.{get_or-map-range_with_len, length-map-range_with_len}
 use Rattle.std.proofs.lemmas.List.Elements.{All-append}
@@ -96,11 +96,7 @@ joined_alone one other sound also some more (Err f) grammar infos parts saved st
 -- ---- what is saved
 -- of some samples, the parts
 some_saved : (g : Grammar) (ps : List Point) (p : ℕ) (kept : Kept) → 0 < kept.samples → IsSavedAt g ps p (saved_parts kept) → AreSavedAt g ps p (parts_of kept)
-some_saved g ps p kept some saved = by kept.samples some saved
-  where
-    by : (n : ℕ) → 0 < n → IsSavedAt g ps p (if n == 0 then None else Some (parts_of kept)) → AreSavedAt g ps p (parts_of kept)
-    by zero none own = absurd (omega (arith, none))
-    by (suc n) some own = own
+some_saved g ps p kept some saved = subst (λ b. IsSavedAt g ps p (if b then None else Some (parts_of kept))) (ne_eqb kept.samples 0 (λ e. omega (arith, e, some))) saved
 
 -- ---- all points
 length_of_both : (ones others both : List Whole) → length ones ≡ length others → AreEnginesOfBoth ones others both → length both ≡ length ones
