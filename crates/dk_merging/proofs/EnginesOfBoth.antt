@@ -1,5 +1,5 @@
 -- The engines of both states, and what they stand for.
-use Rattle.std.specs.Prelude.{◌≡◌, ◌<◌, ◌≤◌, ◌+◌, ◌++◌, ◌∷◌, ◌^◌, ◌==◌, [], ℕ, zero, suc, All, IfOk, List, None, Some, if◌then◌else◌, Ok, Err, Result, length, map, max, refl, slice_get, slice_index_or}
+use Rattle.std.specs.Prelude.{◌≡◌, ◌<◌, ◌≤◌, ◌+◌, ◌++◌, ◌∷◌, ◌^◌, [], ℕ, zero, suc, All, IfOk, List, None, Some, if◌then◌else◌, Ok, Err, Result, length, map, max, refl, slice_get, slice_index_or}
 use Rattle.std.specs.List.{range_with_len, zip}
 use Rattle.std.proofs.Common.{◌∙◌, ap, append-nil, arith, get_or, inl, inr, subst, sym}
 use Rattle.std.proofs.lemmas.Bool.{cases_lt, ne_eqb}

@@ -1,4 +1,4 @@
-use Rattle.std.specs.Prelude.{All, List}
+use Rattle.std.specs.Prelude.{All}
 use Rattle.std.proofs.Common.{subst}
 use Rattle.dk_engine.specs.declared.slot.Slot.{Slot}
 use Rattle.dk_merging.specs.Numbers.{AreNumbersWithin}
