@@ -1,10 +1,10 @@
 -- Stretches of a line that grow, as changes.
-use Rattle.std.specs.Prelude.{◌≡◌, ◌≢◌, ◌⊎◌, ◌<◌, ◌+◌, ◌&&◌, ◌||◌, ◌==◌, ◌++◌, ◌∷◌, ℕ, ℤ, Bool, false, not, All, Contains, List, [], cond, filter, fold, length, map, refl, slice_set}
+use Rattle.std.specs.Prelude.{◌≡◌, ◌≢◌, ◌⊎◌, ◌<◌, ◌+◌, ◌&&◌, ◌||◌, ◌==◌, ◌++◌, ◌∷◌, ℕ, ℤ, Bool, false, not, All, Contains, IfSome, List, Option, Some, [], cond, filter, fold, length, map, refl, slice_set}
 use Rattle.std.specs.List.{list_any}
 use Rattle.std.proofs.Common.{◌∙◌, ap, arith, get_or, inl, inr, subst, sym}
 use Rattle.std.proofs.lemmas.Bool.{cases_eq, cases_lt}
 use Rattle.std.proofs.lemmas.List.{append_assoc, get_or-set_other, get_or-set_same, map-append, set_past}
-use Rattle.std.proofs.lemmas.List.Elements.{All-append, All-contains, All-head, All-nil, All-push, All-tail, Contains-append_cases, Contains-append_left, Contains-append_right, Contains-get_or, Contains-push, filter-append}
+use Rattle.std.proofs.lemmas.List.Elements.{All-append, All-contains, All-head, All-nil, All-push, All-tail, All-weaker, Contains-append_cases, Contains-append_left, Contains-append_right, Contains-get_or, Contains-push, filter-append}
 use Rattle.std.proofs.lemmas.List.Folds.{list_any-append}
 use Rattle.std.proofs.lemmas.List.Sums.{fold-append}
 use Rattle.dk_forms.specs.declared.states.State.{State}
@@ -132,6 +132,16 @@ all_front P xs ys all k d l = All-contains P (xs ++ ys) (get_or xs k d) all (Con
 pub all_behind : {X : Type 0} (P : X → Type 0) (xs ys : List X) → All P (xs ++ ys) → All P ys
 all_behind P xs ys all k d l = All-contains P (xs ++ ys) (get_or ys k d) all (Contains-append_right xs ys (get_or ys k d) (Contains-get_or ys k d l))
 
+-- what holds of a value if there is one holds of the one that is there
+pub of_some : (A : Type 0) (P : A → Type 0) (o : Option A) (x : A) → o ≡ Some x → IfSome o P → P x
+of_some A P o x is h = subst (λ (p : Option A). IfSome p P) is h
+
+-- the changes that are found beside growths are of slots
+pub found_within : {made : Slot → State} {slots : List Slot} {found : Found} → AreFoundBelow (length slots) made slots found → All (λ (c : Change). c.place < length slots) found.changes
+found_within {made} {slots} {found} are =
+    All-weaker (IsChange made slots) (λ (c : Change). c.place < length slots) (λ c is. is.within) found.changes
+    (all_behind (IsChange made slots) (map (change_by slots) found.growths) found.changes are.changes.each)
+
 module _ (made : Slot → State) (slots : List Slot) where
   -- with a change between others
   put_between : (n : ℕ) (front behind : List Change) → AreChangesBelow n made slots (front ++ behind) → (change : Change) → change.place ≡ n → IsChange made slots change
@@ -158,7 +168,7 @@ module _ (made : Slot → State) (slots : List Slot) where
   pub nothing_found : (found : Found) → found.growths ≡ [] → found.changes ≡ [] → AreFoundBelow 0 made slots found
   nothing_found found e h = record {
     growths = subst (All (IsGrowth slots)) (sym e) (All-nil (IsGrowth slots));
-    changes = subst (AreChangesBelow 0 made slots) (sym (ap (λ gs. map (change_by slots) gs ++ found.changes) e ∙ h)) no_changes;
+    changes = subst (AreChangesBelow 0 made slots) (sym (ap (λ gs. map (change_by slots) gs ++ found.changes) e ∙ h)) (no_changes made slots);
   }
 
   module _ (n : ℕ) (found : Found) (are : AreFoundBelow n made slots found) where

@@ -1,11 +1,11 @@
-use Rattle.std.specs.Prelude.{◌≡◌, ◌≢◌, ◌<◌, ◌+◌, ◌++◌, ◌∷◌, ◌&&◌, [], false, IfSome, OnOk, Option, Some, length}
+use Rattle.std.specs.Prelude.{◌≡◌, ◌≢◌, ◌<◌, ◌+◌, ◌++◌, ◌∷◌, ◌&&◌, [], false, OnOk, length}
 use Rattle.std.proofs.Common.{◌∙◌, ap, refl, rules, subst, sym}
 use Rattle.std.proofs.lemmas.List.{get_or_default}
 use Rattle.std.proofs.lemmas.Result.{on_ok_weaker}
 use Rattle.dk_base.specs.Values.{values_of}
 use Rattle.dk_forms.specs.declared.states.State.{State}
 use Rattle.dk_forms.specs.declared.states.State.TheVariants.{Broken}
-use Rattle.dk_engine.proofs.Grown.{found_change, found_growth}
+use Rattle.dk_engine.proofs.Grown.{found_change, found_growth, of_some}
 use Rattle.dk_engine.proofs.Running.{outcome_of_shut}
 use Rattle.dk_engine.specs.Feeding.{read_after, with_sample}
 use Rattle.dk_engine.specs.Levels.{OneMore}
@@ -17,10 +17,6 @@ use Rattle.dk_engine.specs.declared.changes.Found.{Found}
 use Rattle.dk_engine.specs.declared.growing.Growth.{Growth}
 use Rattle.dk_engine.specs.declared.slot.Slot.{Slot}
 use Rattle.dk_engine.proofs.changes.push_found.Goals as goal
-
--- what holds of a growth if there is one holds of the one that is there
-of_growth : (P : Growth → Type 0) (o : Option Growth) (g : Growth) → o ≡ Some g → IfSome o P → P g
-of_growth P o g is h = subst (λ (p : Option Growth). IfSome p P) is h
 
 pub returns-in-Some : goal.returns-in-Some
 returns-in-Some c =
@@ -35,10 +31,10 @@ returns-in-Some c =
     let growth = c.in-Some.growth in
     let sample = values_of c.sample.result.now in
     let state : grown_state item growth ≡ with_sample item.row item.leaders sample item.state =
-    of_growth (λ g. grown_state item g ≡ with_sample item.row item.leaders sample item.state) c.growth_of.result growth c.in-Some.is c.growth_of.ensures.state in
-    let put : growth.place ≡ place = of_growth (λ g. g.place ≡ place) c.growth_of.result growth c.in-Some.is c.growth_of.ensures.place in
-    let row : item.row.0 ≡ 67 = of_growth (λ g. item.row.0 ≡ 67) c.growth_of.result growth c.in-Some.is c.growth_of.ensures.row in
-    let whole : item.state ≢ Broken = of_growth (λ g. item.state ≢ Broken) c.growth_of.result growth c.in-Some.is c.growth_of.ensures.unbroken in
+    of_some Growth (λ g. grown_state item g ≡ with_sample item.row item.leaders sample item.state) c.growth_of.result growth c.in-Some.is c.growth_of.ensures.state in
+    let put : growth.place ≡ place = of_some Growth (λ g. g.place ≡ place) c.growth_of.result growth c.in-Some.is c.growth_of.ensures.place in
+    let row : item.row.0 ≡ 67 = of_some Growth (λ g. item.row.0 ≡ 67) c.growth_of.result growth c.in-Some.is c.growth_of.ensures.row in
+    let whole : item.state ≢ Broken = of_some Growth (λ g. item.state ≢ Broken) c.growth_of.result growth c.in-Some.is c.growth_of.ensures.unbroken in
     let there : slot_in slots growth.place ≡ item = ap (slot_in slots) put ∙ sym at in
     let grows : IsGrowth slots growth = record {
       row = ap (λ (s : Slot). s.row.0) there ∙ row;

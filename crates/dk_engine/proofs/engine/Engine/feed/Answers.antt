@@ -7,7 +7,7 @@ use Rattle.dk_base.specs.declared.values.Value.{Value}
 use Rattle.dk_fits.proofs.Members.{contained, is_in, of_filter, of_map}
 use Rattle.dk_forms.specs.declared.states.State.{State}
 use Rattle.dk_engine.proofs.Fed.{fed_parts_exact, first_parts_exact}
-use Rattle.dk_engine.proofs.Grown.{all_behind, found_begin, found_lose, found_lost}
+use Rattle.dk_engine.proofs.Grown.{all_behind, found_begin, found_lose, found_lost, found_within, of_some}
 use Rattle.dk_engine.proofs.Opened.{merged_parts_exact}
 use Rattle.dk_engine.proofs.Settling.{settled_parts_exact}
 use Rattle.dk_engine.specs.Exact.{AreSamples, IsKeptOf}
@@ -45,7 +45,7 @@ lost_places-requires c =
     let found = c.in_ok-found.found in
     let changes = found.changes in
     let P : Change → Type 0 = λ d. d.place < length w.kept.slots in
-    subst (λ (ds : List Change). All P ds) (sym c.as_slice.ensures) (All-weaker (IsChange made w.kept.slots) P (λ d is. is.within) changes (of_found made w.kept.slots found c.in_ok-found.ensures))
+    subst (λ (ds : List Change). All P ds) (sym c.as_slice.ensures) (found_within c.in_ok-found.ensures)
 
 pub are_many-requires : goal.are_many-requires
 are_many-requires c =
@@ -111,10 +111,6 @@ returns-clause-stands c =
     IfOk-weaker c.step.result (λ (u : Unit {0}). IsMergedStep w.grammar w.infos w.kept sample now asked after) (λ (u : Unit {0}). With w sample after)
     (λ u h samples all is. merged_parts_exact w.grammar w.infos c.is_settled.ensures.point samples all w.kept is sample c.requires some now c.in_ok-now.ensures (found_changes w.kept.slots found) c.in_ok-found.ensures.changes after (subst (λ ls. IsMergedStep w.grammar w.infos w.kept sample now ls after) is_lost h)) c.step.ensures.kept
 
--- what holds of a value if there is one holds of the one that is there
-from_some : (A : Type 0) (P : A → Type 0) (o : Option A) (x : A) → o ≡ Some x → IfSome o P → P x
-from_some A P o x is h = subst (λ (p : Option A). IfSome p P) is h
-
 -- growths let no rule begin to suppress a slot
 shut_with : (sample : List Value) (kept : Kept) (found : Found) → All (IsGrowth kept.slots) found.growths → IsShut sample kept found.changes → IsShut sample kept (found_changes kept.slots found)
 shut_with sample kept found are shut = record { seen = shut.seen; bounds = found_begin kept.slots found are ∙ shut.bounds }
@@ -128,15 +124,15 @@ returns-in-Some-clause-stands c =
     let turned : IsTurned w.kept sample (unchanged_now w.kept) = c.is_settled.ensures.turned c.if-is_settled.true in
     let found = changes.all in
     let made = outcome changes.asked (read_after w.kept sample) sample in
-    let are : AreFound made w.kept.slots found = from_some _ _ _ changes c.in-Some.is c.in_ok-few.ensures.changes in
+    let are : AreFound made w.kept.slots found = of_some _ _ _ changes c.in-Some.is c.in_ok-few.ensures.changes in
     let left = slots_left made w.kept.slots in
     let after = c.change.new.self.kept in
     IfOk-weaker c.change.result (λ (u : Unit {0}). after ≡ parts_after w.kept.samples w.kept.held sample (unchanged_now w.kept) left) (λ (u : Unit {0}). With w sample after)
     (λ u h samples all is.
     subst (IsKeptOf w.grammar w.infos (samples ++ sample ∷ [])) (sym h)
     (settled_parts_exact w.grammar w.infos c.is_settled.ensures.point samples all w.kept is sample c.requires some turned changes.asked (found_changes w.kept.slots found) are.changes
-    (λ e. shut_with sample w.kept found are.growths (from_some _ _ _ changes c.in-Some.is c.in_ok-few.ensures.unasked e))
-    (found_lose w.kept.slots found are.growths ∙ from_some _ _ _ changes c.in-Some.is c.in_ok-few.ensures.premises))) c.change.ensures.kept
+    (λ e. shut_with sample w.kept found are.growths (of_some _ _ _ changes c.in-Some.is c.in_ok-few.ensures.unasked e))
+    (found_lose w.kept.slots found are.growths ∙ of_some _ _ _ changes c.in-Some.is c.in_ok-few.ensures.premises))) c.change.ensures.kept
 
 pub returns-then-self-eq0-clause-stands : goal.returns-then-self-eq0-clause-stands
 returns-then-self-eq0-clause-stands c =
