@@ -21,7 +21,7 @@ use Rattle.dk_template.specs.declared.grammar.RowId.{RowId}
 use Rattle.dk_engine.specs.Exact.{SlotBefore}
 use Rattle.dk_engine.specs.Feeding.{with_sample}
 use Rattle.dk_engine.specs.Idle.{PassesStill, skip_in}
-use Rattle.dk_engine.specs.Narrow.{StateStays, closes, is_in_run, outcome}
+use Rattle.dk_engine.specs.Narrow.{StateStays, is_in_run, outcome}
 use Rattle.dk_engine.specs.Parts.{no_slot, slot_in}
 use Rattle.dk_engine.specs.Step.{Answer, IsPlaced, can_close}
 use Rattle.dk_engine.specs.declared.slot.Slot.{Slot}

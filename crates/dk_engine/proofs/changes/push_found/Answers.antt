@@ -1,5 +1,5 @@
-use Rattle.std.specs.Prelude.{◌≡◌, ◌≢◌, ◌<◌, ◌+◌, ◌++◌, ◌∷◌, ◌&&◌, [], false, OnOk, length}
-use Rattle.std.proofs.Common.{◌∙◌, ap, refl, rules, subst, sym}
+use Rattle.std.specs.Prelude.{◌≡◌, ◌≢◌, ◌<◌, ◌++◌, ◌∷◌, ◌&&◌, [], false, length}
+use Rattle.std.proofs.Common.{◌∙◌, ap, refl, subst, sym}
 use Rattle.std.proofs.lemmas.List.{get_or_default}
 use Rattle.std.proofs.lemmas.Result.{on_ok_weaker}
 use Rattle.dk_base.specs.Values.{values_of}
@@ -9,7 +9,7 @@ use Rattle.dk_engine.proofs.Grown.{found_change, found_growth, of_some}
 use Rattle.dk_engine.proofs.Running.{outcome_of_shut}
 use Rattle.dk_engine.specs.Feeding.{read_after, with_sample}
 use Rattle.dk_engine.specs.Levels.{OneMore}
-use Rattle.dk_engine.specs.Narrow.{AreFoundBelow, IsChange, IsGrowth, change_by, grown_state, outcome}
+use Rattle.dk_engine.specs.Narrow.{IsChange, IsGrowth, change_by, grown_state, outcome}
 use Rattle.dk_engine.specs.Parts.{no_slot, slot_in}
 use Rattle.dk_engine.specs.Step.{Answer, can_close}
 use Rattle.dk_engine.specs.declared.changes.Change.{Change}

@@ -1,5 +1,5 @@
-use Rattle.std.specs.Prelude.{◌≡◌, ◌∷◌, [], IsTrue}
-use Rattle.std.proofs.Common.{◌∙◌, ap, rules, subst, sym}
+use Rattle.std.specs.Prelude.{◌≡◌, ◌∷◌, []}
+use Rattle.std.proofs.Common.{rules, subst, sym}
 use Rattle.dk_forms.specs.Plane.{IsPlaneState, IsSpan, plane_join, plane_of}
 use Rattle.dk_forms.specs.declared.states.State.{State}
 use Rattle.dk_forms.specs.declared.states.State.TheVariants.{Span}

@@ -1,5 +1,5 @@
 use Rattle.std.specs.Prelude.{◌≡◌, List, fold}
-use Rattle.std.proofs.Common.{ap, rules, subst, sym, ◌∙◌}
+use Rattle.std.proofs.Common.{rules, subst, sym}
 use Rattle.dk_engine.specs.Idle.{AreSkips}
 use Rattle.dk_engine.specs.Narrow.{with_change, with_growth}
 use Rattle.dk_engine.specs.declared.changes.Found.{Found}
