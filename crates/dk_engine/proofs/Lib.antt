@@ -45,6 +45,7 @@ pub mod Running
 pub mod Raising
 pub mod Applying
 pub mod Leaving
+pub mod Grown
 pub mod Settling
 pub mod ReachedRows
 pub mod Losing

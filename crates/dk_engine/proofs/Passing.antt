@@ -25,9 +25,10 @@ use Rattle.dk_ternary.specs.Rows.{linear_ternary_row}
 use Rattle.dk_engine.proofs.Stretches.{planar_sample}
 use Rattle.dk_engine.specs.Feeding.{with_sample}
 use Rattle.dk_engine.specs.Idle.{AreNotes, AreSkips, IsIdle, PassesStill, agree, are_fixed, are_near, are_same, has_number, is_axis, is_diagonal, is_fixed, is_idle_over, is_listed, is_near, is_number, is_passed, later, skip_in}
-use Rattle.dk_engine.specs.Narrow.{with_change, with_state}
+use Rattle.dk_engine.specs.Narrow.{change_by, with_change, with_growth, with_state}
 use Rattle.dk_engine.specs.Parts.{no_slot, slot_in}
 use Rattle.dk_engine.specs.declared.changes.Change.{Change}
+use Rattle.dk_engine.specs.declared.growing.Growth.{Growth}
 use Rattle.dk_engine.specs.declared.idle.Fixed.{Fixed}
 use Rattle.dk_engine.specs.declared.slot.Slot.{Slot}
 
@@ -298,6 +299,14 @@ change_unpassed fixed slots skips c out are = record {
       let other : j ≢ c.place = λ e. out (subst (λ i. i < skip_in skips i) e l) in
       subst (IsIdle fixed) (sym (get_or-set_other slots c.place j (with_state (slot_in slots c.place) c.state) no_slot other)) (are.idle j l);
 }
+
+pub growths_unpassed : (fixed : List Fixed) (skips : List ℕ) (growths : List Growth) → list_any (λ (g : Growth). is_passed skips g.place) growths ≡ false
+    → (slots : List Slot) → AreSkips fixed slots skips → AreSkips fixed (fold with_growth slots growths) skips
+growths_unpassed fixed skips [] out slots are = are
+growths_unpassed fixed skips (g ∷ growths) out slots are =
+    let parts = or_parts (is_passed skips g.place) (list_any (λ (h : Growth). is_passed skips h.place) growths) out in
+    let here : g.place < skip_in skips g.place → ⊥ = λ l. true≢false (sym (lt-ltb g.place (skip_in skips g.place) l) ∙ parts.0) in
+    growths_unpassed fixed skips growths parts.1 (with_growth slots g) (change_unpassed fixed slots skips (change_by slots g) here are)
 
 pub changes_unpassed : (fixed : List Fixed) (skips : List ℕ) (changes : List Change) → list_any (λ (c : Change). is_passed skips c.place) changes ≡ false
     → (slots : List Slot) → AreSkips fixed slots skips → AreSkips fixed (fold with_change slots changes) skips

@@ -21,7 +21,7 @@ use Rattle.dk_template.specs.declared.grammar.RowId.{RowId}
 use Rattle.dk_engine.specs.Exact.{SlotBefore}
 use Rattle.dk_engine.specs.Feeding.{with_sample}
 use Rattle.dk_engine.specs.Idle.{PassesStill, skip_in}
-use Rattle.dk_engine.specs.Narrow.{StateStays, closes, is_in_run, outcome}
+use Rattle.dk_engine.specs.Narrow.{StateStays, is_in_run, outcome}
 use Rattle.dk_engine.specs.Parts.{no_slot, slot_in}
 use Rattle.dk_engine.specs.Step.{Answer, IsPlaced, can_close}
 use Rattle.dk_engine.specs.declared.slot.Slot.{Slot}
@@ -61,6 +61,10 @@ no_of_three false b c h = refl
 no_of_three true false c h = refl
 no_of_three true true c h = absurd (false≢true (sym h))
 
+-- a slot that can't close where it is asked gets its state with the sample
+pub outcome_of_shut : (asked : Bool) (slot : Slot) → (asked && can_close slot) ≡ false → (after : Answer) (sample : List Value) → outcome asked after sample slot ≡ with_sample slot.row slot.leaders sample slot.state
+outcome_of_shut asked slot shut after sample = ap (λ b. cond b Broken (with_sample slot.row slot.leaders sample slot.state)) (no_of_three asked (can_close slot) _ shut)
+
 module _ (asked : Bool) (row : RowId) (slot : Slot) where
   pub in_run : slot.row ≡ row → (asked && can_close slot) ≡ false → is_in_run asked row slot ≡ true
   in_run e shut = and_from (slot.row.0 == row.0) (not (asked && can_close slot)) (eq-eqb slot.row.0 row.0 (ap (λ (r : RowId). r.0) e)) (ap not shut)
@@ -72,15 +76,12 @@ module _ (asked : Bool) (row : RowId) (slot : Slot) where
     pub of_row : slot.row ≡ row
     of_row = ap (λ (n : ℕ). (let r : RowId = record { 0 = n } in r)) (eqb-true slot.row.0 row.0 parts.0)
 
-    stays_open : (after : Answer) → (asked && closes after slot) ≡ false
-    stays_open after = no_of_three asked (can_close slot) _ (no_of_not (asked && can_close slot) parts.1)
-
-    pub outcome_of_run : (after : Answer) (sample : List Value) → outcome asked after sample slot ≡ with_sample slot.row slot.leaders sample slot.state
-    outcome_of_run after sample = ap (λ b. cond b Broken (with_sample slot.row slot.leaders sample slot.state)) (stays_open after)
+    pub shut_of_run : (asked && can_close slot) ≡ false
+    shut_of_run = no_of_not (asked && can_close slot) parts.1
 
     pub stays_of_still : slot.state ≢ Broken → (after : Answer) (sample : List Value) → IsStill row sample slot → StateStays (outcome asked after sample) slot
     stays_of_still whole after sample still = (
-      outcome_of_run after sample ∙ (ap (λ r. with_sample r slot.leaders sample slot.state) of_row ∙ still),
+      outcome_of_shut asked slot shut_of_run after sample ∙ (ap (λ r. with_sample r slot.leaders sample slot.state) of_row ∙ still),
       whole,
     )
 

@@ -1,13 +1,14 @@
 -- The parts of a narrow step: what its functions give, from the slots that are kept, without a sweep.
-use Rattle.std.specs.Prelude.{◌≡◌, ◌≢◌, ◌⊎◌, ◌↔◌, ◌<◌, ◌≤◌, ◌&&◌, ◌==◌, ◌++◌, ℕ, Bool, true, false, All, Contains, List, filter, flat_map, length, map, not, slice_set, if◌then◌else◌}
+use Rattle.std.specs.Prelude.{◌≡◌, ◌≢◌, ◌⊎◌, ◌↔◌, ◌<◌, ◌≤◌, ◌&&◌, ◌==◌, ◌++◌, ℕ, ℤ, Bool, true, false, All, Contains, List, filter, flat_map, length, map, not, slice_set, if◌then◌else◌}
 use Rattle.std.specs.List.{AllPairs, list_any}
 use Rattle.dk_base.specs.declared.kinds.VarId.{VarId}
 use Rattle.dk_base.specs.declared.kinds.VarInfo.{VarInfo}
 use Rattle.dk_base.specs.declared.values.Value.{Value}
 use Rattle.dk_classes.specs.Leaders.{own_leaders}
 use Rattle.dk_constants.specs.Known.{Entries}
+use Rattle.dk_forms.specs.Plane.{is_before}
 use Rattle.dk_forms.specs.declared.states.State.{State}
-use Rattle.dk_forms.specs.declared.states.State.TheVariants.{Broken}
+use Rattle.dk_forms.specs.declared.states.State.TheVariants.{Broken, Span}
 use Rattle.dk_presence.specs.Patterns.{pattern_count, present_in}
 use Rattle.dk_suppress.specs.Rules.{Rule, is_suppressed, rules}
 use Rattle.dk_template.specs.Premises.{row_of, suffices}
@@ -20,6 +21,8 @@ use Rattle.dk_engine.specs.Merged.{AreTogether}
 use Rattle.dk_engine.specs.Parts.{slot_in}
 use Rattle.dk_engine.specs.Step.{Answer, IsLeftOf, IsOpened, can_close, is_empty_state, is_of_elements}
 use Rattle.dk_engine.specs.declared.changes.Change.{Change}
+use Rattle.dk_engine.specs.declared.changes.Found.{Found}
+use Rattle.dk_engine.specs.declared.growing.Growth.{Growth}
 use Rattle.dk_engine.specs.Sweeps.{freed_slots, touched_slots}
 use Rattle.dk_engine.specs.declared.kept.Kept.{Kept}
 use Rattle.dk_engine.specs.declared.now.Now.{Now}
@@ -72,6 +75,47 @@ AreChanges made slots changes = AreChangesBelow (length slots) made slots change
 -- the slots with a change
 abbrev pub with_change : List Slot → Change → List Slot
 with_change slots change = slice_set slots change.place (with_state (slot_in slots change.place) change.state)
+
+-- ---- stretches of a line that grow
+-- a stretch of a line, with another last point
+abbrev pub prolonged : State → ℤ → ℤ → ℤ → State
+prolonged (Span x1 y1 z1 x2 y2 z2) x y z = Span x1 y1 z1 x y z
+prolonged state x y z = state
+
+-- the state isn't a stretch of a line that ends before the point
+abbrev pub may_stay : State → ℤ → ℤ → ℤ → Bool
+may_stay (Span x1 y1 z1 x2 y2 z2) x y z = is_before (x, y, z) (x2, y2, z2)
+may_stay state x y z = true
+
+-- the state that a growth makes of a slot's
+abbrev pub grown_state : Slot → Growth → State
+grown_state slot growth = prolonged slot.state growth.x growth.y growth.z
+
+-- the change that it is
+abbrev pub change_by : List Slot → Growth → Change
+change_by slots growth = record { place = growth.place; state = grown_state (slot_in slots growth.place) growth }
+
+-- the slots with a growth
+abbrev pub with_growth : List Slot → Growth → List Slot
+with_growth slots growth = with_change slots (change_by slots growth)
+
+-- its slot isn't Broken, and of the row of planes, about which no rule asks
+pub record IsGrowth (slots : List Slot) (growth : Growth) : Type 0 where
+  pub row : (slot_in slots growth.place).row.0 ≡ 67
+  pub unbroken : (slot_in slots growth.place).state ≢ Broken
+
+-- the growths that are found as changes, and the changes
+abbrev pub found_changes : List Slot → Found → List Change
+found_changes slots found = map (change_by slots) found.growths ++ found.changes
+
+-- the growths and the changes of the slots below a place
+pub record AreFoundBelow (n : ℕ) (made : Slot → State) (slots : List Slot) (found : Found) : Type 0 where
+  pub growths : All (IsGrowth slots) found.growths
+  pub changes : AreChangesBelow n made slots (found_changes slots found)
+
+-- all growths and changes
+abbrev pub AreFound : (Slot → State) → List Slot → Found → Type 0
+AreFound made slots found = AreFoundBelow (length slots) made slots found
 
 -- ---- what a change can bring
 -- a premise of some rule is content with the old state of the row, and not with the new one

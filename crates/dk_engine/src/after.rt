@@ -16,8 +16,8 @@ ghost use Rattle.dk_engine.specs.Memory.{wants_memory};
 ghost use Rattle.dk_engine.specs.Reading.{state_read};
 ghost use Rattle.dk_engine.specs.Step.{IsPlaced};
 
-use crate::growing::grown_with;
 use crate::points::{point, stays};
+use crate::rising::raised_with;
 use crate::{Engine, Slot};
 use dk_base::{NoMemory, VarId, VarInfo, View, same};
 use dk_samples::{is_present, value_at};
@@ -216,7 +216,7 @@ impl<'a> After<'a> {
         requires proper { IsProper (form_of slot.now.row) slot.now.state }
         ensures { IfOk result (λ s. s ≡ with_sample slot.now.row slot.now.leaders self.now.sample slot.now.state) }
     {
-        if let Some(state) = grown_with(slot, self.sample) {
+        if let Some(state) = raised_with(slot, self.sample) {
             return Ok(state);
         }
         let before = slot.state.copy(self.alloc)?;

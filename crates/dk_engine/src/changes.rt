@@ -1,5 +1,5 @@
 // The slots that a sample changes.
-ghost use Rattle.std.specs.Prelude.{◌≡◌, ◌≢◌, ◌<◌, ◌≤◌, ◌+◌, ◌++◌, ◌∷◌, ℕ, [], true, All, IfNone, IfOk, IfSome, OnOk, length};
+ghost use Rattle.std.specs.Prelude.{◌≡◌, ◌≢◌, ◌<◌, ◌≤◌, ◌+◌, ◌++◌, ◌∷◌, ◌&&◌, ℕ, [], true, false, All, IfNone, IfOk, IfSome, OnOk, length};
 ghost use Rattle.std.specs.List.{AllPairs, list_any};
 ghost use Rattle.dk_forms.specs.declared.states.State.TheVariants.{Broken};
 ghost use Rattle.dk_template.specs.Proper.{IsProper};
@@ -7,12 +7,13 @@ ghost use Rattle.dk_template.specs.Templates.{form_of};
 ghost use Rattle.dk_engine.specs.Exact.{SlotBefore};
 ghost use Rattle.dk_engine.specs.Feeding.{read_after, with_sample};
 ghost use Rattle.dk_engine.specs.Idle.{PassesStill};
-ghost use Rattle.dk_engine.specs.Narrow.{AreChanges, AreChangesBelow, StateStays, closes, is_in_run, loses, loses_by, lost_places, may_begin, outcome};
+ghost use Rattle.dk_engine.specs.Narrow.{AreFound, AreFoundBelow, StateStays, closes, is_in_run, loses, loses_by, lost_places, may_begin, outcome};
 ghost use Rattle.dk_engine.specs.Parts.{slot_in};
 ghost use Rattle.dk_engine.specs.Step.{IsPlaced, can_close, is_empty_state, is_of_elements};
 
 use crate::Slot;
 use crate::after::After;
+use crate::growing::{Growth, growth_of};
 use crate::runs::{run_end, still_to};
 use dk_base::{List, NoMemory};
 use dk_suppress::{asked_of, suppressed};
@@ -24,6 +25,13 @@ use std::alloc::Global;
 pub struct Change {
     pub place: usize,
     pub state: State,
+}
+
+/// What a sample makes of the slots that it doesn't leave as they are: stretches of a line that grow, and the changes of the others.
+#[derive(Drop)]
+pub struct Found {
+    pub growths: List<Growth>,
+    pub changes: List<Change>,
 }
 
 // Whether the state is Empty.
@@ -86,28 +94,37 @@ fn add_change(
     asked: bool,
     slots: &[Slot],
     place: usize,
-    changes: &mut List<Change>,
+    found: &mut Found,
 ) -> Result<(), NoMemory>
     requires placed { All (λ slot. IsPlaced after.now.whole.grammar after.now.whole.infos after.now.whole.kept.leaders slot.row slot.leaders) slots.now }
     requires proper { All (λ slot. IsProper (form_of slot.row) slot.state) slots.now }
     requires within { place < length slots.now }
-    requires below { AreChangesBelow place (outcome asked (read_after after.now.whole.kept after.now.sample) after.now.sample) slots.now changes.old }
-    ensures { OnOk result (AreChangesBelow (place + 1) (outcome asked (read_after after.now.whole.kept after.now.sample) after.now.sample) slots.now changes.new) }
+    requires below { AreFoundBelow place (outcome asked (read_after after.now.whole.kept after.now.sample) after.now.sample) slots.now found.old }
+    ensures { OnOk result (AreFoundBelow (place + 1) (outcome asked (read_after after.now.whole.kept after.now.sample) after.now.sample) slots.now found.new) }
 {
     let state = change_of(after, asked, &slots[place])?;
-    push_change(changes, place, state)
+    push_change(&mut found.changes, place, state)
 }
 
-// How many changes get room with the first of them.
+// How many growths, or changes, get room with the first of them.
 const ROOM: usize = 32;
 
-// The same changes, with room for more where there are none yet.
-fn make_room(alloc: Global, changes: &mut List<Change>) -> Result<(), NoMemory>
-    ensures { OnOk result (changes.new ≡ changes.old) }
+// The same list, with room for more where there is nothing yet.
+fn make_room<T: Drop>(alloc: Global, list: &mut List<T>) -> Result<(), NoMemory>
+    ensures { OnOk result (list.new ≡ list.old) }
 {
-    if changes.is_empty() {
-        *changes = List::from_vec(Vec::with_capacity(alloc, ROOM)?);
+    if list.is_empty() {
+        *list = List::from_vec(Vec::with_capacity(alloc, ROOM)?);
     }
+    Ok(())
+}
+
+// With a growth.
+fn push_growth(alloc: Global, growth: Growth, growths: &mut List<Growth>) -> Result<(), NoMemory>
+    ensures { OnOk result (growths.new ≡ growths.old ++ growth ∷ []) }
+{
+    make_room(alloc, growths)?;
+    growths.push(growth)?;
     Ok(())
 }
 
@@ -129,6 +146,28 @@ fn push_joined(
     Ok(())
 }
 
+// With the growth of the slot at a place, which can't close where it is asked, or with its change, behind those of the slots in front of
+// it.
+fn push_found(
+    after: &After<'_>,
+    asked: bool,
+    slots: &[Slot],
+    place: usize,
+    found: &mut Found,
+) -> Result<(), NoMemory>
+    requires placed { All (λ slot. IsPlaced after.now.whole.grammar after.now.whole.infos after.now.whole.kept.leaders slot.row slot.leaders) slots.now }
+    requires proper { All (λ slot. IsProper (form_of slot.row) slot.state) slots.now }
+    requires within { place < length slots.now }
+    requires stays_open { (asked && can_close (slot_in slots.now place)) ≡ false }
+    requires below { AreFoundBelow place (outcome asked (read_after after.now.whole.kept after.now.sample) after.now.sample) slots.now found.old }
+    ensures { OnOk result (AreFoundBelow (place + 1) (outcome asked (read_after after.now.whole.kept after.now.sample) after.now.sample) slots.now found.new) }
+{
+    match growth_of(&slots[place], after.sample(), place) {
+        Some(growth) => push_growth(after.alloc(), growth, &mut found.growths),
+        None => push_joined(after, slots, place, &mut found.changes),
+    }
+}
+
 // With the changes of a run of slots, from a place up to another, behind those of the slots in front of it.
 fn add_changes(
     after: &After<'_>,
@@ -137,7 +176,7 @@ fn add_changes(
     slots: &[Slot],
     from: usize,
     to: usize,
-    changes: &mut List<Change>,
+    found: &mut Found,
 ) -> Result<(), NoMemory>
     requires placed { All (λ slot. IsPlaced after.now.whole.grammar after.now.whole.infos after.now.whole.kept.leaders slot.row slot.leaders) slots.now }
     requires skips { PassesStill after.now.sample slots.now skips.now }
@@ -146,13 +185,13 @@ fn add_changes(
     requires from { from < to }
     requires to { to ≤ length slots.now }
     requires run { (k : ℕ) → from ≤ k → k < to → is_in_run asked (slot_in slots.now from).row (slot_in slots.now k) ≡ true }
-    requires below { AreChangesBelow from (outcome asked (read_after after.now.whole.kept after.now.sample) after.now.sample) slots.now changes.old }
-    ensures { OnOk result (AreChangesBelow to (outcome asked (read_after after.now.whole.kept after.now.sample) after.now.sample) slots.now changes.new) }
+    requires below { AreFoundBelow from (outcome asked (read_after after.now.whole.kept after.now.sample) after.now.sample) slots.now found.old }
+    ensures { OnOk result (AreFoundBelow to (outcome asked (read_after after.now.whole.kept after.now.sample) after.now.sample) slots.now found.new) }
 {
     let row = slots[from].row;
     let mut place = still_to(after, row, skips, slots, from, to);
     while place < to {
-        push_joined(after, slots, place, changes)?;
+        push_found(after, asked, slots, place, found)?;
         place = still_to(after, row, skips, slots, place + 1, to);
     }
     Ok(())
@@ -165,7 +204,7 @@ fn add_next(
     skips: &[usize],
     slots: &[Slot],
     place: usize,
-    changes: &mut List<Change>,
+    found: &mut Found,
 ) -> Result<usize, NoMemory>
     requires placed { All (λ slot. IsPlaced after.now.whole.grammar after.now.whole.infos after.now.whole.kept.leaders slot.row slot.leaders) slots.now }
     requires skips { PassesStill after.now.sample slots.now skips.now }
@@ -173,71 +212,90 @@ fn add_next(
     requires in_order { AllPairs SlotBefore slots.now }
     requires unbroken { All (λ slot. slot.state ≢ Broken) slots.now }
     requires within { place < length slots.now }
-    requires below { AreChangesBelow place (outcome asked (read_after after.now.whole.kept after.now.sample) after.now.sample) slots.now changes.old }
+    requires below { AreFoundBelow place (outcome asked (read_after after.now.whole.kept after.now.sample) after.now.sample) slots.now found.old }
     ensures more { IfOk result (λ next. place < next) }
     ensures within { IfOk result (λ next. next ≤ length slots.now) }
-    ensures below { IfOk result (λ next. AreChangesBelow next (outcome asked (read_after after.now.whole.kept after.now.sample) after.now.sample) slots.now changes.new) }
+    ensures below { IfOk result (λ next. AreFoundBelow next (outcome asked (read_after after.now.whole.kept after.now.sample) after.now.sample) slots.now found.new) }
 {
     let end = run_end(asked, after.ends(), slots, place);
     if place < end {
-        add_changes(after, asked, skips, slots, place, end, changes)?;
+        add_changes(after, asked, skips, slots, place, end, found)?;
         Ok(end)
     } else {
-        add_change(after, asked, slots, place, changes)?;
+        add_change(after, asked, slots, place, found)?;
         Ok(place + 1)
     }
 }
 
-/// The changes of the slots that the sample doesn't leave as they are. Where it is asked, those that close go too.
+/// The growths and changes of the slots that the sample doesn't leave as they are. Where it is asked, those that close go too.
 pub(crate) fn changes(
     alloc: Global,
     after: &After<'_>,
     asked: bool,
     skips: &[usize],
     slots: &[Slot],
-) -> Result<List<Change>, NoMemory>
+) -> Result<Found, NoMemory>
     requires placed { All (λ slot. IsPlaced after.now.whole.grammar after.now.whole.infos after.now.whole.kept.leaders slot.row slot.leaders) slots.now }
     requires skips { PassesStill after.now.sample slots.now skips.now }
     requires proper { All (λ slot. IsProper (form_of slot.row) slot.state) slots.now }
     requires in_order { AllPairs SlotBefore slots.now }
     requires unbroken { All (λ slot. slot.state ≢ Broken) slots.now }
-    ensures { IfOk result (AreChanges (outcome asked (read_after after.now.whole.kept after.now.sample) after.now.sample) slots.now) }
+    ensures { IfOk result (AreFound (outcome asked (read_after after.now.whole.kept after.now.sample) after.now.sample) slots.now) }
 {
-    let mut changes = List::new(alloc);
+    let mut found = Found::none(alloc);
     let mut place = 0;
     while place < slots.len() {
-        place = add_next(after, asked, skips, slots, place, &mut changes)?;
+        place = add_next(after, asked, skips, slots, place, &mut found)?;
     }
-    Ok(changes)
+    Ok(found)
 }
 
-// How many changes are few. A sample that changes many slots mostly loses a premise too, and then all its changes are found again.
+// How many growths, or changes, are few. A sample that changes many slots mostly loses a premise too, and then all its changes are found
+// again.
 const FEW: usize = 64;
 
-/// The same changes, if they are few.
+impl Found {
+    // Nothing. It takes no memory.
+    fn none(alloc: Global) -> Found
+        ensures growths { result.growths ≡ [] }
+        ensures changes { result.changes ≡ [] }
+    {
+        Found {
+            growths: List::new(alloc),
+            changes: List::new(alloc),
+        }
+    }
+
+    // Whether more than few are found.
+    fn are_many(&self) -> bool {
+        self.growths.len() > FEW || self.changes.len() > FEW
+    }
+}
+
+/// The same, if they are few.
 pub(crate) fn few_changes(
     alloc: Global,
     after: &After<'_>,
     asked: bool,
     skips: &[usize],
     slots: &[Slot],
-) -> Result<Option<List<Change>>, NoMemory>
+) -> Result<Option<Found>, NoMemory>
     requires placed { All (λ slot. IsPlaced after.now.whole.grammar after.now.whole.infos after.now.whole.kept.leaders slot.row slot.leaders) slots.now }
     requires skips { PassesStill after.now.sample slots.now skips.now }
     requires proper { All (λ slot. IsProper (form_of slot.row) slot.state) slots.now }
     requires in_order { AllPairs SlotBefore slots.now }
     requires unbroken { All (λ slot. slot.state ≢ Broken) slots.now }
-    ensures { IfOk result (λ found. IfSome found (AreChanges (outcome asked (read_after after.now.whole.kept after.now.sample) after.now.sample) slots.now)) }
+    ensures { IfOk result (λ few. IfSome few (AreFound (outcome asked (read_after after.now.whole.kept after.now.sample) after.now.sample) slots.now)) }
 {
-    let mut changes = List::new(alloc);
+    let mut found = Found::none(alloc);
     let mut place = 0;
     while place < slots.len() {
-        if changes.len() > FEW {
+        if found.are_many() {
             return Ok(None);
         }
-        place = add_next(after, asked, skips, slots, place, &mut changes)?;
+        place = add_next(after, asked, skips, slots, place, &mut found)?;
     }
-    Ok(Some(changes))
+    Ok(Some(found))
 }
 
 // Whether a premise about the row is content with the old state and not with the new one.

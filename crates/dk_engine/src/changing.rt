@@ -3,12 +3,11 @@ ghost use Rattle.std.specs.Prelude.{◌≡◌, filter, not};
 ghost use Rattle.std.specs.List.{list_any};
 ghost use Rattle.dk_forms.specs.declared.states.State.{State as SlotState};
 ghost use Rattle.dk_engine.specs.Feeding.{is_broken};
-ghost use Rattle.dk_engine.specs.Narrow.{AreChanges, slots_left};
+ghost use Rattle.dk_engine.specs.Narrow.{AreFound, slots_left};
 ghost use Rattle.dk_engine.specs.declared.slot.Slot.{Slot as KeptSlot};
 
-use crate::changes::Change;
+use crate::changes::{Change, Found};
 use crate::{Slot, Slots};
-use dk_base::List;
 use dk_template::State;
 
 // Whether the slot's state is Broken.
@@ -39,12 +38,12 @@ fn without_broken(slots: Vec<Slot>) -> Vec<Slot>
     left
 }
 
-/// The slots with all changes, without those that are Broken then.
-pub(crate) fn apply_changes(slots: Slots, changes: List<Change>) -> Slots
-    ensures { (made : KeptSlot → SlotState) → AreChanges made slots changes → result ≡ slots_left made slots }
+/// The slots with all growths and changes, without those that are Broken then.
+pub(crate) fn apply_changes(slots: Slots, found: Found) -> Slots
+    ensures { (made : KeptSlot → SlotState) → AreFound made slots found → result ≡ slots_left made slots }
 {
-    let breaks = break_some(changes.as_slice());
-    let all = slots.with_changes(changes.into_vec());
+    let breaks = break_some(found.changes.as_slice());
+    let all = slots.with_found(found);
     if breaks {
         return Slots::of(without_broken(all.into_vec()));
     }

@@ -12,10 +12,10 @@ ghost use Rattle.dk_engine.specs.Conditions.{AreFormed};
 ghost use Rattle.dk_engine.specs.Exact.{AreOfPoint, AreSamples, IsKeptOf};
 ghost use Rattle.dk_engine.specs.Feeding.{IsTurned, parts_after, read_after, slots_of, unchanged_now};
 ghost use Rattle.dk_engine.specs.Idle.{PassesStill};
-ghost use Rattle.dk_engine.specs.Narrow.{AreChanges, IsMergedStep, IsShut, loses_by, lost_places, opened_slots, outcome, slots_left};
+ghost use Rattle.dk_engine.specs.Narrow.{AreFound, IsMergedStep, IsShut, loses_by, lost_places, opened_slots, outcome, slots_left};
 
 use crate::after::After;
-use crate::changes::{Change, changes, few_changes, lose_some, lost_places, some_may_begin};
+use crate::changes::{Change, Found, changes, few_changes, lose_some, lost_places, some_may_begin};
 use crate::changing::apply_changes;
 use crate::counting::are_many;
 use crate::merging::merge_slots;
@@ -46,11 +46,11 @@ fn held_after(
     refined.add(present.as_slice())
 }
 
-/// What a sample changes of the slots, and whether it was asked which of them close.
+/// What is found that a sample changes of the slots, and whether it was asked which of them close.
 #[derive(Drop)]
 pub(crate) struct Changes {
     asked: bool,
-    all: List<Change>,
+    all: Found,
 }
 
 impl Engine {
@@ -99,9 +99,9 @@ impl Engine {
     // lets the least or the greatest element begin to be known. With a new pattern it is asked which slots close.
     fn few_changes(&self, sample: &[View<'_>]) -> Result<Option<Changes>, NoMemory>
         requires { IsSample self.now.infos (values_of sample.now) }
-        ensures changes { IfOk result (λ o. IfSome o (λ c. AreChanges (outcome c.asked (read_after self.now.kept (values_of sample.now)) (values_of sample.now)) self.now.kept.slots c.all)) }
-        ensures unasked { IfOk result (λ o. IfSome o (λ c. c.asked ≡ false → IsShut (values_of sample.now) self.now.kept c.all)) }
-        ensures premises { IfOk result (λ o. IfSome o (λ c. list_any (loses_by self.now.kept.slots) c.all ≡ false)) }
+        ensures changes { IfOk result (λ o. IfSome o (λ c. AreFound (outcome c.asked (read_after self.now.kept (values_of sample.now)) (values_of sample.now)) self.now.kept.slots c.all)) }
+        ensures unasked { IfOk result (λ o. IfSome o (λ c. c.asked ≡ false → IsShut (values_of sample.now) self.now.kept c.all.changes)) }
+        ensures premises { IfOk result (λ o. IfSome o (λ c. list_any (loses_by self.now.kept.slots) c.all.changes ≡ false)) }
     {
         let leaders = self.kept.leaders.leaders();
         let new = !self.kept.held.has_sample(leaders, sample)?;
@@ -110,10 +110,10 @@ impl Engine {
         let skips = self.skips(sample);
         match few_changes(self.alloc, &after, new, skips, slots)? {
             Some(all) => {
-                if lose_some(slots, all.as_slice()) {
+                if lose_some(slots, all.changes.as_slice()) {
                     return Ok(None);
                 }
-                if !new && some_may_begin(slots, all.as_slice()) {
+                if !new && some_may_begin(slots, all.changes.as_slice()) {
                     return Ok(None);
                 }
                 Ok(Some(Changes { asked: new, all }))
@@ -126,7 +126,7 @@ impl Engine {
     fn change(&mut self, sample: &[View<'_>], changes: Changes) -> Result<(), NoMemory>
         requires sampled { IsSample self.old.infos (values_of sample.now) }
         requires turned { IsTurned self.old.kept (values_of sample.now) (unchanged_now self.old.kept) }
-        requires changes { AreChanges (outcome changes.asked (read_after self.old.kept (values_of sample.now)) (values_of sample.now)) self.old.kept.slots changes.all }
+        requires changes { AreFound (outcome changes.asked (read_after self.old.kept (values_of sample.now)) (values_of sample.now)) self.old.kept.slots changes.all }
         ensures grammar { self.new.grammar ≡ self.old.grammar }
         ensures infos { self.new.infos ≡ self.old.infos }
         ensures kept { IfOk result (λ _. self.new.kept ≡ parts_after self.old.kept.samples self.old.kept.held (values_of sample.now) (unchanged_now self.old.kept) (slots_left (outcome changes.asked (read_after self.old.kept (values_of sample.now)) (values_of sample.now)) self.old.kept.slots)) }
@@ -159,9 +159,9 @@ impl Engine {
     }
 
     // What the sample makes of the slots, where it is asked of all that can close whether they do.
-    fn all_changes(&self, sample: &[View<'_>]) -> Result<List<Change>, NoMemory>
+    fn all_changes(&self, sample: &[View<'_>]) -> Result<Found, NoMemory>
         requires { IsSample self.now.infos (values_of sample.now) }
-        ensures { IfOk result (AreChanges (outcome true (read_after self.now.kept (values_of sample.now)) (values_of sample.now)) self.now.kept.slots) }
+        ensures { IfOk result (AreFound (outcome true (read_after self.now.kept (values_of sample.now)) (values_of sample.now)) self.now.kept.slots) }
     {
         let after = After::of(self.alloc, self, sample);
         let skips = self.skips(sample);
@@ -211,13 +211,13 @@ impl Engine {
         &mut self,
         sample: &[View<'_>],
         now: Now,
-        changes: List<Change>,
+        found: Found,
         lost: &[usize],
         opened: Slots,
     ) -> Result<(), NoMemory>
         requires sampled { IsSample self.old.infos (values_of sample.now) }
         requires turned { IsTurned self.old.kept (values_of sample.now) now }
-        requires changes { AreChanges (outcome true (read_after self.old.kept (values_of sample.now)) (values_of sample.now)) self.old.kept.slots changes }
+        requires found { AreFound (outcome true (read_after self.old.kept (values_of sample.now)) (values_of sample.now)) self.old.kept.slots found }
         requires opened { opened ≡ opened_slots self.old.grammar self.old.infos (read_after self.old.kept (values_of sample.now)) self.old.kept.slots now lost.now }
         requires within { All (λ k. k < length self.old.kept.slots) lost.now }
         ensures grammar { self.new.grammar ≡ self.old.grammar }
@@ -225,7 +225,7 @@ impl Engine {
         ensures kept { IfOk result (λ _. IsMergedStep self.old.grammar self.old.infos self.old.kept (values_of sample.now) now lost.now self.new.kept) }
     {
         let slots = replace(&mut self.kept.slots, Slots::new(self.alloc));
-        let slots = merge_slots(apply_changes(slots, changes), opened)?;
+        let slots = merge_slots(apply_changes(slots, found), opened)?;
         self.set_parts(sample, now, slots)
     }
 
@@ -275,13 +275,13 @@ impl Engine {
             let none = Slots::new(self.alloc);
             return self.set_parts(sample, now, none);
         }
-        let changes = self.all_changes(sample)?;
-        let lost = self.lost_places(changes.as_slice())?;
+        let found = self.all_changes(sample)?;
+        let lost = self.lost_places(found.changes.as_slice())?;
         if are_many(&now, self.slots(), lost.as_slice()) {
             let slots = self.sweep_all(sample, &now)?;
             return self.set_parts(sample, now, slots);
         }
         let opened = self.opened_slots(sample, &now, lost.as_slice())?;
-        self.step(sample, now, changes, lost.as_slice(), opened)
+        self.step(sample, now, found, lost.as_slice(), opened)
     }
 }

@@ -1,19 +1,28 @@
 // Planes and stretches of a line with a sample: whether they stay as they are, and stretches that grow, as the sample's point lies on the
 // line, beyond the last one.
-ghost use Rattle.std.specs.Prelude.{◌≡◌, ◌∷◌, [], ◌^◌, unsigned_abs, nat_le, IfSome, IsTrue};
+ghost use Rattle.std.specs.Prelude.{◌≡◌, ◌≢◌, ◌∷◌, [], ◌^◌, unsigned_abs, nat_le, IfSome, IsTrue};
 ghost use Rattle.dk_base.specs.Values.{values_of};
 ghost use Rattle.dk_forms.specs.Plane.{IsPlaneState, IsSpan, in_space, is_before, plane_join, plane_of};
-ghost use Rattle.dk_forms.specs.declared.states.State.TheVariants.{Span};
+ghost use Rattle.dk_forms.specs.declared.states.State.TheVariants.{Broken, Span};
 ghost use Rattle.dk_template.specs.Proper.{IsProper};
 ghost use Rattle.dk_template.specs.Templates.{form_of};
 ghost use Rattle.dk_engine.specs.Feeding.{with_sample};
+ghost use Rattle.dk_engine.specs.Narrow.{grown_state, may_stay, prolonged, with_state};
 
 use crate::Slot;
 use crate::operations::number_at;
-use crate::rising::raise_with;
 use dk_base::{VarId, View};
 use dk_forms::plane_stays;
 use dk_template::State;
+
+/// A stretch of a line in the slot at a place, with the point at which it ends then.
+#[derive(Clone, Copy, Debug)]
+pub struct Growth {
+    pub place: usize,
+    pub x: i64,
+    pub y: i64,
+    pub z: i64,
+}
 
 // Whether a coordinate is within the limit.
 fn is_near(x: i64) -> bool
@@ -40,26 +49,16 @@ fn is_before(x1: i64, y1: i64, z1: i64, x: i64, y: i64, z: i64) -> bool
     }
 }
 
-// A stretch with a point more, if it ends at the point then.
-fn prolong_stretch(
-    x1: i64,
-    y1: i64,
-    z1: i64,
-    x2: i64,
-    y2: i64,
-    z2: i64,
-    x: i64,
-    y: i64,
-    z: i64,
-) -> Option<State>
+// Whether a stretch with a point more ends at the point.
+fn reaches(x1: i64, y1: i64, z1: i64, x2: i64, y2: i64, z2: i64, x: i64, y: i64, z: i64) -> bool
     requires { IsSpan ((x1, y1, z1), (x2, y2, z2)) }
-    ensures { IfSome result (λ s. s ≡ plane_join (Span x1 y1 z1 x2 y2 z2) (plane_of ((x, y, z) ∷ []))) }
+    ensures { IsTrue result → Span x1 y1 z1 x y z ≡ plane_join (Span x1 y1 z1 x2 y2 z2) (plane_of ((x, y, z) ∷ [])) }
 {
     if !is_in_space(x, y, z) {
-        return None;
+        return false;
     }
     if !is_before(x1, y1, z1, x, y, z) {
-        return None;
+        return false;
     }
     let stretch = State::Span {
         x1,
@@ -69,17 +68,14 @@ fn prolong_stretch(
         y2: y,
         z2: z,
     };
-    if plane_stays(&stretch, x2, y2, z2) {
-        Some(stretch)
-    } else {
-        None
-    }
+    plane_stays(&stretch, x2, y2, z2)
 }
 
-// The state with a point more, if it is a stretch of a line that ends at the point then.
-fn grow_state(state: &State, x: i64, y: i64, z: i64) -> Option<State>
+// Whether the state is a stretch of a line that ends at the point, with the point.
+fn grows(state: &State, x: i64, y: i64, z: i64) -> bool
     requires { IsPlaneState state.now }
-    ensures { IfSome result (λ s. s ≡ plane_join state.now (plane_of ((x, y, z) ∷ []))) }
+    ensures state { IsTrue result → prolonged state.now x y z ≡ plane_join state.now (plane_of ((x, y, z) ∷ [])) }
+    ensures unbroken { IsTrue result → state.now ≢ Broken }
 {
     match state {
         State::Span {
@@ -89,42 +85,90 @@ fn grow_state(state: &State, x: i64, y: i64, z: i64) -> Option<State>
             x2,
             y2,
             z2,
-        } => prolong_stretch(*x1, *y1, *z1, *x2, *y2, *z2, x, y, z),
-        _ => None,
+        } => reaches(*x1, *y1, *z1, *x2, *y2, *z2, x, y, z),
+        _ => false,
     }
 }
 
-// The state of a slot of row 67 over three leaders with a sample, if it is a stretch of a line that ends at the sample's point then.
-fn grown_by(slot: &Slot, sample: &[View<'_>], u: VarId, v: VarId, w: VarId) -> Option<State>
+// The growth of a slot of row 67 over three leaders by a sample, if it is a stretch of a line that ends at the sample's point then.
+fn growth_by(
+    slot: &Slot,
+    sample: &[View<'_>],
+    place: usize,
+    u: VarId,
+    v: VarId,
+    w: VarId,
+) -> Option<Growth>
     requires row { slot.now.row.0 ≡ 67 }
     requires leaders { slot.now.leaders ≡ u ∷ v ∷ w ∷ [] }
     requires proper { IsProper (form_of slot.now.row) slot.now.state }
-    ensures { IfSome result (λ s. s ≡ with_sample slot.now.row slot.now.leaders (values_of sample.now) slot.now.state) }
+    ensures state { IfSome result (λ g. grown_state slot.now g ≡ with_sample slot.now.row slot.now.leaders (values_of sample.now) slot.now.state) }
+    ensures place { IfSome result (λ g. g.place ≡ place) }
+    ensures unbroken { IfSome result (λ g. slot.now.state ≢ Broken) }
 {
     match (
         number_at(sample, u),
         number_at(sample, v),
         number_at(sample, w),
     ) {
-        (Some(x), Some(y), Some(z)) => grow_state(&slot.state, x, y, z),
+        (Some(x), Some(y), Some(z)) => {
+            if grows(&slot.state, x, y, z) {
+                Some(Growth { place, x, y, z })
+            } else {
+                None
+            }
+        }
         _ => None,
     }
 }
 
-/// A slot's state with a sample, if it is a greatest value, or a stretch of a line that ends at the sample's point then.
-pub(crate) fn grown_with(slot: &Slot, sample: &[View<'_>]) -> Option<State>
+/// The growth of the slot at a place by a sample, if it is a stretch of a line that ends at the sample's point then.
+pub(crate) fn growth_of(slot: &Slot, sample: &[View<'_>], place: usize) -> Option<Growth>
     requires { IsProper (form_of slot.now.row) slot.now.state }
-    ensures { IfSome result (λ s. s ≡ with_sample slot.now.row slot.now.leaders (values_of sample.now) slot.now.state) }
+    ensures state { IfSome result (λ g. grown_state slot.now g ≡ with_sample slot.now.row slot.now.leaders (values_of sample.now) slot.now.state) }
+    ensures place { IfSome result (λ g. g.place ≡ place) }
+    ensures row { IfSome result (λ g. slot.now.row.0 ≡ 67) }
+    ensures unbroken { IfSome result (λ g. slot.now.state ≢ Broken) }
 {
-    if slot.row.0 == 3 {
-        return raise_with(slot, sample);
-    }
     if slot.row.0 != 67 {
         return None;
     }
     match slot.leaders.as_slice() {
-        [u, v, w] => grown_by(slot, sample, *u, *v, *w),
+        [u, v, w] => growth_by(slot, sample, place, *u, *v, *w),
         _ => None,
+    }
+}
+
+// A stretch of a line gets another last point.
+fn prolong(state: &mut State, x: i64, y: i64, z: i64)
+    ensures { state.new ≡ prolonged state.old x y z }
+{
+    if let State::Span { x2, .. } = state {
+        *x2 = x;
+    }
+    if let State::Span { y2, .. } = state {
+        *y2 = y;
+    }
+    if let State::Span { z2, .. } = state {
+        *z2 = z;
+    }
+}
+
+/// The slot's stretch of a line grows.
+pub(crate) fn grow(slot: &mut Slot, growth: Growth)
+    ensures { slot.new ≡ with_state slot.old (grown_state slot.old growth) }
+{
+    prolong(&mut slot.state, growth.x, growth.y, growth.z);
+}
+
+// Whether the state isn't a stretch of a line that ends before the point. One that does moves.
+#[inline(always)]
+fn may_stay(state: &State, x: i64, y: i64, z: i64) -> bool
+    ensures { result ≡ may_stay state.now x y z }
+{
+    match state {
+        State::Span { x2, y2, z2, .. } => is_before(x, y, z, *x2, *y2, *z2),
+        _ => true,
     }
 }
 
@@ -141,7 +185,9 @@ fn stays_by(slot: &Slot, sample: &[View<'_>], u: VarId, v: VarId, w: VarId) -> b
         number_at(sample, v),
         number_at(sample, w),
     ) {
-        (Some(x), Some(y), Some(z)) => plane_stays(&slot.state, x, y, z),
+        (Some(x), Some(y), Some(z)) => {
+            may_stay(&slot.state, x, y, z) && plane_stays(&slot.state, x, y, z)
+        }
         _ => false,
     }
 }

@@ -31,13 +31,24 @@ fn raise_by(slot: &Slot, sample: &[View<'_>], v: VarId) -> Option<State>
     }
 }
 
-/// The state of a slot of row 3 with a sample, if both have a number.
-pub(crate) fn raise_with(slot: &Slot, sample: &[View<'_>]) -> Option<State>
+// The state of a slot of row 3 with a sample, if both have a number.
+fn raise_with(slot: &Slot, sample: &[View<'_>]) -> Option<State>
     requires { slot.now.row.0 ≡ 3 }
     ensures { IfSome result (λ s. s ≡ with_sample slot.now.row slot.now.leaders (values_of sample.now) slot.now.state) }
 {
     match slot.leaders.as_slice() {
         [v] => raise_by(slot, sample, *v),
         _ => None,
+    }
+}
+
+/// A slot's state with a sample, if it is a greatest value, and the sample has a number for it.
+pub(crate) fn raised_with(slot: &Slot, sample: &[View<'_>]) -> Option<State>
+    ensures { IfSome result (λ s. s ≡ with_sample slot.now.row slot.now.leaders (values_of sample.now) slot.now.state) }
+{
+    if slot.row.0 == 3 {
+        raise_with(slot, sample)
+    } else {
+        None
     }
 }

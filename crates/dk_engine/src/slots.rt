@@ -1,13 +1,14 @@
 // Kept slots.
-ghost use Rattle.std.specs.Prelude.{◌≡◌, [], ◌∷◌, ◌++◌, List, OnErr, OnOk, fold};
+ghost use Rattle.std.specs.Prelude.{◌≡◌, [], ◌∷◌, ◌++◌, false, List, OnErr, OnOk, fold};
 ghost use Rattle.std.specs.List.{list_any};
 ghost use Rattle.dk_base.specs.Values.{values_of};
 ghost use Rattle.dk_engine.specs.Idle.{AreSkips, PassesStill, is_passed};
-ghost use Rattle.dk_engine.specs.Narrow.{with_change};
+ghost use Rattle.dk_engine.specs.Narrow.{with_change, with_growth};
 ghost use Rattle.dk_engine.specs.declared.slot.Slot.{Slot as KeptSlot};
 
 use crate::Slot;
-use crate::changes::Change;
+use crate::changes::{Change, Found};
+use crate::growing::{Growth, grow};
 use crate::idle::{Notes, has_numbers, is_passed, notes_of};
 use dk_base::{NoMemory, View};
 use std::alloc::Global;
@@ -55,6 +56,31 @@ fn with_changes(slots: Vec<Slot>, changes: Vec<Change>) -> Vec<Slot>
     changed
 }
 
+// The slots with all growths.
+fn with_growths(slots: Vec<Slot>, growths: &[Growth]) -> Vec<Slot>
+    ensures { result.items ≡ fold with_growth slots.items growths.now }
+{
+    let mut grown = slots;
+    for growth in growths {
+        if let Some(slot) = grown.get_mut(growth.place) {
+            grow(slot, *growth);
+        }
+    }
+    grown
+}
+
+// Whether one that grows is passed over.
+fn some_grown_passed(skips: &[usize], growths: &[Growth]) -> bool
+    ensures { result ≡ list_any (λ g. is_passed skips.now g.place) growths.now }
+{
+    for growth in growths {
+        if is_passed(skips, growth.place) {
+            return true;
+        }
+    }
+    false
+}
+
 // Whether one of the changed places is passed over.
 fn some_passed(skips: &[usize], changes: &[Change]) -> bool
     ensures { result ≡ list_any (λ c. is_passed skips.now c.place) changes.now }
@@ -67,11 +93,20 @@ fn some_passed(skips: &[usize], changes: &[Change]) -> bool
     false
 }
 
-// What is noted of the slots with the changes: nothing, where a place that is passed over is changed.
-fn notes_after(alloc: Global, notes: Notes, changes: &[Change]) -> Notes
-    ensures { (slots : List KeptSlot) → AreSkips notes.fixed.items slots notes.skips.items → AreSkips result.fixed.items (fold with_change slots changes.now) result.skips.items }
+// Whether a place that is passed over grows or is changed.
+fn some_found_passed(skips: &[usize], found: &Found) -> bool
+    ensures growths { result ≡ false → list_any (λ g. is_passed skips.now g.place) found.now.growths ≡ false }
+    ensures changes { result ≡ false → list_any (λ c. is_passed skips.now c.place) found.now.changes ≡ false }
 {
-    if some_passed(notes.skips.as_slice(), changes) {
+    some_grown_passed(skips, found.growths.as_slice())
+        || some_passed(skips, found.changes.as_slice())
+}
+
+// What is noted of the slots with all growths and changes: nothing, where one is passed over.
+fn notes_after(alloc: Global, notes: Notes, found: &Found) -> Notes
+    ensures { (slots : List KeptSlot) → AreSkips notes.fixed.items slots notes.skips.items → AreSkips result.fixed.items (fold with_change (fold with_growth slots found.now.growths) found.now.changes) result.skips.items }
+{
+    if some_found_passed(notes.skips.as_slice(), found) {
         return Notes::none(alloc);
     }
     notes
@@ -137,14 +172,16 @@ impl Slots {
         self.all
     }
 
-    // The slots with all changes.
-    pub(crate) fn with_changes(self, changes: Vec<Change>) -> Slots
-        ensures { result ≡ fold with_change self changes.items }
+    // The slots with all growths, and then with all changes.
+    pub(crate) fn with_found(self, found: Found) -> Slots
+        ensures { result ≡ fold with_change (fold with_growth self found.growths) found.changes }
     {
         let Slots { all, notes } = self;
         let alloc = *all.allocator();
-        let notes = notes_after(alloc, notes, changes.as_slice());
-        let all = with_changes(all, changes);
+        let notes = notes_after(alloc, notes, &found);
+        let Found { growths, changes } = found;
+        let all = with_growths(all, growths.as_slice());
+        let all = with_changes(all, changes.into_vec());
         Slots { all, notes }
     }
 

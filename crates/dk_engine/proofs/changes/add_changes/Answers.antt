@@ -1,17 +1,16 @@
-use Rattle.std.specs.Prelude.{◌≡◌, ◌≢◌, ◌<◌, ◌≤◌, ◌+◌, ◌++◌, ◌∷◌, ℕ, All, Bool, [], List, length, slice_index_or, true}
-use Rattle.std.proofs.Common.{ap, ◌∙◌, arith, refl, subst, sym}
+use Rattle.std.specs.Prelude.{◌≡◌, ◌≢◌, ◌<◌, ◌≤◌, ◌+◌, ℕ, All, Bool, List, length, slice_index_or, true}
+use Rattle.std.proofs.Common.{ap, ◌∙◌, arith, subst, sym}
 use Rattle.std.proofs.lemmas.List.{get_or_default}
 use Rattle.dk_base.specs.declared.values.Value.{Value}
 use Rattle.dk_forms.specs.declared.states.State.TheVariants.{Broken}
 use Rattle.dk_template.specs.declared.grammar.RowId.{RowId}
-use Rattle.dk_engine.proofs.Narrowing.{change_more, stay_more}
-use Rattle.dk_engine.proofs.Running.{IsStill, of_row, outcome_of_run, stays_of_still}
-use Rattle.dk_engine.specs.Feeding.{read_after, with_sample}
+use Rattle.dk_engine.proofs.Grown.{found_stay}
+use Rattle.dk_engine.proofs.Running.{IsStill, of_row, shut_of_run, stays_of_still}
+use Rattle.dk_engine.specs.Feeding.{read_after}
 use Rattle.dk_engine.specs.Levels.{OneMore}
-use Rattle.dk_engine.specs.Narrow.{AreChangesBelow, StayBetween, is_in_run, outcome}
+use Rattle.dk_engine.specs.Narrow.{StayBetween, is_in_run, outcome}
 use Rattle.dk_engine.specs.Parts.{no_slot, slot_in}
 use Rattle.dk_engine.specs.Step.{Answer}
-use Rattle.dk_engine.specs.declared.changes.Change.{Change}
 use Rattle.dk_engine.specs.declared.slot.Slot.{Slot}
 use Rattle.dk_engine.proofs.changes.add_changes.Goals as goal
 
@@ -32,18 +31,6 @@ module _ (asked : Bool) (slots : List Slot) (from to : ℕ) (item : Slot) (withi
         let f : from ≤ k = omega (arith, first, a) in
         stays_of_still asked (slot_in slots from).row (slot_in slots k) (run k f l) (whole k no_slot (omega (arith, l, long))) after sample (subst (λ (r : RowId). IsStill r sample (slot_in slots k)) row_at_hand (still k a b))
 
-    -- the change of one that isn't
-    joined_more : (place : ℕ) → from ≤ place → place < to → place < length slots → (changes more : List Change) → AreChangesBelow place (outcome asked after sample) slots changes
-        → more ≡ changes ++ record { place = place; state = with_sample (slot_in slots place).row (slot_in slots place).leaders sample (slot_in slots place).state } ∷ []
-        → AreChangesBelow (place + 1) (outcome asked after sample) slots more
-    joined_more place a b l changes more are is =
-        let made = outcome asked after sample in
-        let slot = slot_in slots place in
-        let state = with_sample slot.row slot.leaders sample slot.state in
-        let change : Change = record { place = place; state = state } in
-        subst (AreChangesBelow (place + 1) made slots) (sym is)
-        (change_more made slots place changes are change refl (record { within = l; state = sym (outcome_of_run asked (slot_in slots from).row slot (run place a b) after sample) }))
-
 pub still_to-place-requires-clause-of_row : goal.still_to-place-requires-clause-of_row
 still_to-place-requires-clause-of_row c =
     let order = c.requires.from in
@@ -63,7 +50,7 @@ loop-place-init c =
     let told = c.still_to-place.ensures in
     let still : StayBetween from c.still_to-place.result (outcome asked after o.sample) slots =
     stay asked slots from to c.index-slots-from.result (omega (arith, order, most)) c.requires.run after o.sample c.requires.unbroken most from c.still_to-place.result (omega arith) told.to told.still in
-    (stay_more (outcome asked after o.sample) slots from c.args.changes.now c.requires.below c.still_to-place.result still, told.from, told.to)
+    (found_stay (outcome asked after o.sample) slots from c.args.found.now c.requires.below c.still_to-place.result still, told.from, told.to)
 
 pub loop-place-preserved : goal.loop-place-preserved
 loop-place-preserved c =
@@ -81,10 +68,13 @@ loop-place-preserved c =
     let told = c.still_to-place-in-loop-place.ensures in
     let behind = told.from in
     let r = c.still_to-place-in-loop-place.result in
-    let more = c.push_joined.new.changes in
     let within : from < length slots = omega (arith, order, most) in
-    let joined : AreChangesBelow (place + 1) (outcome asked after o.sample) slots more =
-    joined_more asked slots from to c.index-slots-from.result within c.requires.run after o.sample place first test (omega (arith, test, most)) c.loop-place.changes more c.loop-place.invariant.0 c.in_ok-push_joined.ensures in
     let still : StayBetween (place + 1) r (outcome asked after o.sample) slots =
     stay asked slots from to c.index-slots-from.result within c.requires.run after o.sample c.requires.unbroken most (place + 1) r (omega (arith, first)) told.to told.still in
-    (stay_more (outcome asked after o.sample) slots (place + 1) more joined r still, omega (arith, first, behind), told.to)
+    (found_stay (outcome asked after o.sample) slots (place + 1) c.push_found.new.found c.in_ok-push_found.ensures r still, omega (arith, first, behind), told.to)
+
+pub push_found-requires-clause-stays_open : goal.push_found-requires-clause-stays_open
+push_found-requires-clause-stays_open c =
+    let slots = c.args.slots.now in
+    let place = c.loop-place.place in
+    shut_of_run c.args.asked (slot_in slots c.args.from).row (slot_in slots place) (c.requires.run place c.loop-place.invariant.1 c.loop-place-test.true)

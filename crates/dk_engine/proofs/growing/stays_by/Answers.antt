@@ -10,8 +10,8 @@ use Rattle.dk_engine.proofs.growing.stays_by.Goals as goal
 pub plane_stays-requires : goal.plane_stays-requires
 plane_stays-requires c = planar_proper c.args.slot.now.row c.requires.row c.args.slot.now.state c.requires.proper
 
-pub returns-in-Some-Some-Some : goal.returns-in-Some-Some-Some
-returns-in-Some-Some-Some c stays =
+pub returns-then-may_stay : goal.returns-then-may_stay
+returns-then-may_stay c stays =
     let sample = values_of c.args.sample.now in
     let n = c.in-Some-Some-Some in
     let at_u : value_in sample c.args.u ≡ value.Int n.x = search rules in

@@ -13,7 +13,7 @@ use Rattle.dk_engine.proofs.StillFed.{can_be_fed_after}
 use Rattle.dk_engine.specs.Conditions.{CanBeFed}
 use Rattle.dk_engine.specs.Feeding.{IsTurned, parts_after, read_after, unchanged_now}
 use Rattle.dk_engine.specs.Levels.{Whole}
-use Rattle.dk_engine.specs.Narrow.{AreChanges, outcome, slots_left}
+use Rattle.dk_engine.specs.Narrow.{AreFound, outcome, slots_left}
 use Rattle.dk_engine.specs.declared.slot.Slot.{Slot}
 use Rattle.dk_engine.proofs.engine.Engine.change.Goals as goal
 
@@ -33,14 +33,14 @@ invariant_of-self-2 c =
     let left = slots_left made e.kept.slots in
     let turned : IsTurned e.kept sample now = subst (λ (w : Whole). IsTurned w.kept sample (unchanged_now w.kept)) (sym c.self.view_is) c.requires.turned in
     let sampled : IsSample e.infos sample = subst (λ (w : Whole). IsSample w.infos sample) (sym c.self.view_is) c.requires.sampled in
-    let changes : AreChanges made e.kept.slots c.args.changes.all =
-    subst (λ (w : Whole). AreChanges (outcome asked (read_after w.kept sample) sample) w.kept.slots c.args.changes.all) (sym c.self.view_is) c.requires.changes in
+    let changes : AreFound made e.kept.slots c.args.changes.all =
+    subst (λ (w : Whole). AreFound (outcome asked (read_after w.kept sample) sample) w.kept.slots c.args.changes.all) (sym c.self.view_is) c.requires.changes in
     let number : c.saturating_add-self-inside.result ≡ capped (e.kept.samples + 1) = search rules in
     let more = with_sample_of (present_in (own_leaders e.kept.leaders) sample) in
     let counted : c.count_sample.new.self ≡ more c.replace-held.result = search rules in
     let held : c.count_sample.new.self ≡ more (map (refined []) e.kept.held) = counted ∙ ap more (c.replace-held.ensures.value ∙ sym (refined_none e.kept.held)) in
     let was : c.replace-slots.result ≡ e.kept.slots = c.replace-slots.ensures.value in
-    let slots : c.note_skips.result ≡ left = c.note_skips.ensures ∙ (c.apply_changes.ensures made (subst (λ (ss : List Slot). AreChanges made ss c.args.changes.all) (sym was) changes) ∙ ap (slots_left made) was) in (
+    let slots : c.note_skips.result ≡ left = c.note_skips.ensures ∙ (c.apply_changes.ensures made (subst (λ (ss : List Slot). AreFound made ss c.args.changes.all) (sym was) changes) ∙ ap (slots_left made) was) in (
       c.self.invariant.0,
       subst (CanBeFed e.grammar e.infos)
           (sym (same_parts e.kept.leaders e.kept.known c.saturating_add-self-inside.result (capped (e.kept.samples + 1)) c.count_sample.new.self (with_sample_of (present_in (own_leaders e.kept.leaders) sample) (map (refined []) e.kept.held)) c.note_skips.result left number held slots))
@@ -54,13 +54,13 @@ returns-clause-kept c =
     let asked = c.args.changes.asked in
     let made = outcome asked (read_after e.kept sample) sample in
     let left = slots_left made e.kept.slots in
-    let changes : AreChanges made e.kept.slots c.args.changes.all =
-    subst (λ (w : Whole). AreChanges (outcome asked (read_after w.kept sample) sample) w.kept.slots c.args.changes.all) (sym c.self.view_is) c.requires.changes in
+    let changes : AreFound made e.kept.slots c.args.changes.all =
+    subst (λ (w : Whole). AreFound (outcome asked (read_after w.kept sample) sample) w.kept.slots c.args.changes.all) (sym c.self.view_is) c.requires.changes in
     let number : c.saturating_add-self-inside.result ≡ capped (e.kept.samples + 1) = search rules in
     let more = with_sample_of (present_in (own_leaders e.kept.leaders) sample) in
     let counted : c.count_sample.new.self ≡ more c.replace-held.result = search rules in
     let held : c.count_sample.new.self ≡ more (map (refined []) e.kept.held) = counted ∙ ap more (c.replace-held.ensures.value ∙ sym (refined_none e.kept.held)) in
     let was : c.replace-slots.result ≡ e.kept.slots = c.replace-slots.ensures.value in
-    let slots : c.note_skips.result ≡ left = c.note_skips.ensures ∙ (c.apply_changes.ensures made (subst (λ (ss : List Slot). AreChanges made ss c.args.changes.all) (sym was) changes) ∙ ap (slots_left made) was) in
+    let slots : c.note_skips.result ≡ left = c.note_skips.ensures ∙ (c.apply_changes.ensures made (subst (λ (ss : List Slot). AreFound made ss c.args.changes.all) (sym was) changes) ∙ ap (slots_left made) was) in
     same_parts e.kept.leaders e.kept.known c.saturating_add-self-inside.result (capped (e.kept.samples + 1)) c.count_sample.new.self (more (map (refined []) e.kept.held)) c.note_skips.result left number held slots
     ∙ ap (λ (w : Whole). parts_after w.kept.samples w.kept.held sample (unchanged_now w.kept) (slots_left (outcome asked (read_after w.kept sample) sample) w.kept.slots)) c.self.view_is

@@ -1,19 +1,21 @@
-use Rattle.std.specs.Prelude.{◌≡◌, ◌<◌, ◌++◌, ◌∷◌, ℕ, [], All, IfSome, List, Option, Some, true, filter, length}
+use Rattle.std.specs.Prelude.{◌≡◌, ◌<◌, ◌++◌, ◌∷◌, ℕ, [], All, List, true, filter, length, map}
 use Rattle.std.proofs.Common.{get_or, subst, sym, ◌∙◌, ap, arith}
-use Rattle.std.proofs.lemmas.List.Elements.{All-contains, All-weaker, Contains-get_or}
+use Rattle.std.proofs.lemmas.List.Elements.{All-contains, Contains-get_or}
 use Rattle.std.proofs.lemmas.Result.{IfOk-weaker}
 use Rattle.dk_base.specs.Values.{values_of}
 use Rattle.dk_base.specs.declared.values.Value.{Value}
 use Rattle.dk_fits.proofs.Members.{contained, is_in, of_filter, of_map}
 use Rattle.dk_forms.specs.declared.states.State.{State}
 use Rattle.dk_engine.proofs.Fed.{fed_parts_exact, first_parts_exact}
+use Rattle.dk_engine.proofs.Grown.{all_behind, found_begin, found_lose, found_lost, found_within, of_some}
 use Rattle.dk_engine.proofs.Opened.{merged_parts_exact}
 use Rattle.dk_engine.proofs.Settling.{settled_parts_exact}
 use Rattle.dk_engine.specs.Exact.{AreSamples, IsKeptOf}
 use Rattle.dk_engine.specs.Feeding.{IsTurned, parts_after, read_after, unchanged_now}
-use Rattle.dk_engine.specs.Narrow.{IsChange, IsMergedStep, loses_by, lost_places, outcome, slots_left}
+use Rattle.dk_engine.specs.Narrow.{AreFound, IsChange, IsGrowth, IsMergedStep, IsShut, change_by, found_changes, loses_by, lost_places, outcome, slots_left}
 use Rattle.dk_engine.specs.Levels.{Whole}
 use Rattle.dk_engine.specs.declared.changes.Change.{Change}
+use Rattle.dk_engine.specs.declared.changes.Found.{Found}
 use Rattle.dk_engine.specs.declared.kept.Kept.{Kept}
 use Rattle.dk_engine.specs.declared.slot.Slot.{Slot}
 use Rattle.dk_engine.proofs.engine.Engine.feed.Goals as goal
@@ -22,50 +24,59 @@ use Rattle.dk_engine.proofs.engine.Engine.feed.Goals as goal
 lost_of : (slots : List Slot) (changes more : List Change) (lost : List ℕ) → changes ≡ more → lost ≡ lost_places slots changes → lost ≡ lost_places slots more
 lost_of slots changes more lost f g = g ∙ ap (lost_places slots) f
 
-lost_within : (made : Slot → State) (slots : List Slot) (changes : List Change) → All (IsChange made slots) changes → All (λ k. k < length slots) (lost_places slots changes)
-lost_within made slots changes each k d l =
+-- the changes that are found beside growths
+of_found : (made : Slot → State) (slots : List Slot) (found : Found) → AreFound made slots found → All (IsChange made slots) found.changes
+of_found made slots found are = all_behind (IsChange made slots) (map (change_by slots) found.growths) found.changes are.changes.each
+
+lost_within : (made : Slot → State) (slots : List Slot) (found : Found) → AreFound made slots found → All (λ k. k < length slots) (lost_places slots found.changes)
+lost_within made slots found are k d l =
+    let changes = found.changes in
     let lost = lost_places slots changes in
     let c = Contains-get_or lost k d l in
     let m = of_map {X = Change} {Y = ℕ} (λ (e : Change). e.place) (get_or lost k d) (filter (loses_by slots) changes) (is_in (get_or lost k d) lost c.0 c.1 c.2) in
     let f = of_filter (loses_by slots) m.0 changes m.1 in
-    subst (λ n. n < length slots) (sym m.2) (All-contains (IsChange made slots) changes m.0 each (contained m.0 changes f.0)).within
+    subst (λ n. n < length slots) (sym m.2) (All-contains (IsChange made slots) changes m.0 (of_found made slots found are) (contained m.0 changes f.0)).within
 
 pub lost_places-requires : goal.lost_places-requires
 lost_places-requires c =
     let w : Whole = c.args.self.now in
     let sample = values_of c.args.sample.now in
     let made = outcome true (read_after w.kept sample) sample in
-    let changes = c.in_ok-changes.changes in
+    let found = c.in_ok-found.found in
+    let changes = found.changes in
     let P : Change → Type 0 = λ d. d.place < length w.kept.slots in
-    subst (λ (ds : List Change). All P ds) (sym c.as_slice.ensures) (All-weaker (IsChange made w.kept.slots) P (λ d is. is.within) changes c.in_ok-changes.ensures.each)
+    subst (λ (ds : List Change). All P ds) (sym c.as_slice.ensures) (found_within c.in_ok-found.ensures)
 
 pub are_many-requires : goal.are_many-requires
 are_many-requires c =
     let w : Whole = c.args.self.now in
     let sample = values_of c.args.sample.now in
     let made = outcome true (read_after w.kept sample) sample in
-    let changes = c.in_ok-changes.changes in
+    let found = c.in_ok-found.found in
+    let changes = found.changes in
     let lost : c.in_ok-lost.lost ≡ lost_places w.kept.slots changes = lost_of w.kept.slots c.as_slice.result.now changes c.in_ok-lost.lost c.as_slice.ensures c.in_ok-lost.ensures in
     subst (λ (ss : List Slot). All (λ k. k < length ss) c.as_slice-2.result.now) (sym c.slots.ensures)
-    (subst (All (λ k. k < length w.kept.slots)) (sym (c.as_slice-2.ensures ∙ lost)) (lost_within made w.kept.slots changes c.in_ok-changes.ensures.each))
+    (subst (All (λ k. k < length w.kept.slots)) (sym (c.as_slice-2.ensures ∙ lost)) (lost_within made w.kept.slots found c.in_ok-found.ensures))
 
 pub opened_slots-requires-clause-within : goal.opened_slots-requires-clause-within
 opened_slots-requires-clause-within c =
     let w : Whole = c.args.self.now in
     let sample = values_of c.args.sample.now in
     let made = outcome true (read_after w.kept sample) sample in
-    let changes = c.in_ok-changes.changes in
+    let found = c.in_ok-found.found in
+    let changes = found.changes in
     let lost : c.in_ok-lost.lost ≡ lost_places w.kept.slots changes = lost_of w.kept.slots c.as_slice.result.now changes c.in_ok-lost.lost c.as_slice.ensures c.in_ok-lost.ensures in
-    subst (All (λ k. k < length w.kept.slots)) (sym (c.as_slice-3.ensures ∙ lost)) (lost_within made w.kept.slots changes c.in_ok-changes.ensures.each)
+    subst (All (λ k. k < length w.kept.slots)) (sym (c.as_slice-3.ensures ∙ lost)) (lost_within made w.kept.slots found c.in_ok-found.ensures)
 
 pub step-requires-clause-within : goal.step-requires-clause-within
 step-requires-clause-within c =
     let w : Whole = c.args.self.now in
     let sample = values_of c.args.sample.now in
     let made = outcome true (read_after w.kept sample) sample in
-    let changes = c.in_ok-changes.changes in
+    let found = c.in_ok-found.found in
+    let changes = found.changes in
     let lost : c.in_ok-lost.lost ≡ lost_places w.kept.slots changes = lost_of w.kept.slots c.as_slice.result.now changes c.in_ok-lost.lost c.as_slice.ensures c.in_ok-lost.ensures in
-    subst (All (λ k. k < length w.kept.slots)) (sym (c.as_slice-4.ensures ∙ lost)) (lost_within made w.kept.slots changes c.in_ok-changes.ensures.each)
+    subst (All (λ k. k < length w.kept.slots)) (sym (c.as_slice-4.ensures ∙ lost)) (lost_within made w.kept.slots found c.in_ok-found.ensures)
 
 -- with the sample the parts are those of one sample more
 abbrev With : Whole → List Value → Kept → Type 0
@@ -87,21 +98,22 @@ pub returns-clause-stands : goal.returns-clause-stands
 returns-clause-stands c =
     let w : Whole = c.args.self.now in
     let sample = values_of c.args.sample.now in
-    let changes = c.in_ok-changes.changes in
+    let found = c.in_ok-found.found in
+    let changes = found.changes in
     let lost : c.in_ok-lost.lost ≡ lost_places w.kept.slots changes = lost_of w.kept.slots c.as_slice.result.now changes c.in_ok-lost.lost c.as_slice.ensures c.in_ok-lost.ensures in
     let now = c.in_ok-now.now in
     let same : c.self.inside.kept.samples ≡ w.kept.samples = ap (λ (v : Whole). v.kept.samples) c.self.view_is in
     let later : w.kept.samples ≡ 0 → ⊥ = λ e. c.if-self-eq0.false (same ∙ e) in
     let some : 0 < w.kept.samples = omega (arith, later) in
     let asked = c.as_slice-4.result.now in
-    let is_lost : asked ≡ lost_places w.kept.slots changes = c.as_slice-4.ensures ∙ lost in
+    let is_lost : asked ≡ lost_places w.kept.slots (found_changes w.kept.slots found) = c.as_slice-4.ensures ∙ (lost ∙ sym (found_lost w.kept.slots found c.in_ok-found.ensures.growths)) in
     let after = c.step.new.self.kept in
     IfOk-weaker c.step.result (λ (u : Unit {0}). IsMergedStep w.grammar w.infos w.kept sample now asked after) (λ (u : Unit {0}). With w sample after)
-    (λ u h samples all is. merged_parts_exact w.grammar w.infos c.is_settled.ensures.point samples all w.kept is sample c.requires some now c.in_ok-now.ensures changes c.in_ok-changes.ensures after (subst (λ ls. IsMergedStep w.grammar w.infos w.kept sample now ls after) is_lost h)) c.step.ensures.kept
+    (λ u h samples all is. merged_parts_exact w.grammar w.infos c.is_settled.ensures.point samples all w.kept is sample c.requires some now c.in_ok-now.ensures (found_changes w.kept.slots found) c.in_ok-found.ensures.changes after (subst (λ ls. IsMergedStep w.grammar w.infos w.kept sample now ls after) is_lost h)) c.step.ensures.kept
 
--- what holds of a value if there is one holds of the one that is there
-from_some : (A : Type 0) (P : A → Type 0) (o : Option A) (x : A) → o ≡ Some x → IfSome o P → P x
-from_some A P o x is h = subst (λ (p : Option A). IfSome p P) is h
+-- growths let no rule begin to suppress a slot
+shut_with : (sample : List Value) (kept : Kept) (found : Found) → All (IsGrowth kept.slots) found.growths → IsShut sample kept found.changes → IsShut sample kept (found_changes kept.slots found)
+shut_with sample kept found are shut = record { seen = shut.seen; bounds = found_begin kept.slots found are ∙ shut.bounds }
 
 pub returns-in-Some-clause-stands : goal.returns-in-Some-clause-stands
 returns-in-Some-clause-stands c =
@@ -110,12 +122,17 @@ returns-in-Some-clause-stands c =
     let changes = c.in-Some.changes in
     let some : 0 < w.kept.samples = c.is_settled.ensures.some c.if-is_settled.true in
     let turned : IsTurned w.kept sample (unchanged_now w.kept) = c.is_settled.ensures.turned c.if-is_settled.true in
-    let left = slots_left (outcome changes.asked (read_after w.kept sample) sample) w.kept.slots in
+    let found = changes.all in
+    let made = outcome changes.asked (read_after w.kept sample) sample in
+    let are : AreFound made w.kept.slots found = of_some _ _ _ changes c.in-Some.is c.in_ok-few.ensures.changes in
+    let left = slots_left made w.kept.slots in
     let after = c.change.new.self.kept in
     IfOk-weaker c.change.result (λ (u : Unit {0}). after ≡ parts_after w.kept.samples w.kept.held sample (unchanged_now w.kept) left) (λ (u : Unit {0}). With w sample after)
     (λ u h samples all is.
     subst (IsKeptOf w.grammar w.infos (samples ++ sample ∷ [])) (sym h)
-    (settled_parts_exact w.grammar w.infos c.is_settled.ensures.point samples all w.kept is sample c.requires some turned changes.asked changes.all (from_some _ _ _ changes c.in-Some.is c.in_ok-few.ensures.changes) (from_some _ _ _ changes c.in-Some.is c.in_ok-few.ensures.unasked) (from_some _ _ _ changes c.in-Some.is c.in_ok-few.ensures.premises))) c.change.ensures.kept
+    (settled_parts_exact w.grammar w.infos c.is_settled.ensures.point samples all w.kept is sample c.requires some turned changes.asked (found_changes w.kept.slots found) are.changes
+    (λ e. shut_with sample w.kept found are.growths (of_some _ _ _ changes c.in-Some.is c.in_ok-few.ensures.unasked e))
+    (found_lose w.kept.slots found are.growths ∙ of_some _ _ _ changes c.in-Some.is c.in_ok-few.ensures.premises))) c.change.ensures.kept
 
 pub returns-then-self-eq0-clause-stands : goal.returns-then-self-eq0-clause-stands
 returns-then-self-eq0-clause-stands c =

@@ -1,9 +1,11 @@
-use Rattle.std.specs.Prelude.{List}
+use Rattle.std.specs.Prelude.{◌<◌, All, List, length}
 use Rattle.std.proofs.Common.{ap, subst, sym}
 use Rattle.dk_base.specs.Values.{values_of}
 use Rattle.dk_base.specs.declared.values.Value.{Value}
+use Rattle.dk_engine.proofs.Grown.{found_within, of_some}
 use Rattle.dk_engine.specs.Idle.{PassesStill}
 use Rattle.dk_engine.specs.Levels.{OneMore, Whole}
+use Rattle.dk_engine.specs.declared.changes.Change.{Change}
 use Rattle.dk_engine.specs.declared.slot.Slot.{Slot}
 use Rattle.dk_engine.proofs.engine.Engine.few_changes.Goals as goal
 
@@ -15,3 +17,11 @@ few_changes-requires-clause-skips c =
     subst (λ (w : Whole). PassesStill (values_of c.args.sample.now) w.kept.slots skips) (sym c.self.view_is) c.skips-skips.ensures in
     subst (λ (ss : List Slot). PassesStill c.of-after.result.sample ss skips) (sym c.as_slice-slots.ensures)
     (subst (λ (sample : List Value). PassesStill sample slots skips) (sym (ap (λ (o : OneMore). o.sample) c.of-after.ensures)) told)
+
+pub lose_some-requires : goal.lose_some-requires
+lose_some-requires c =
+    subst (All (λ (d : Change). d.place < length c.as_slice-slots.result.now)) (sym c.as_slice.ensures) (found_within (of_some _ _ _ c.in-Some.all c.in-Some.is c.in_ok-all.ensures))
+
+pub some_may_begin-requires : goal.some_may_begin-requires
+some_may_begin-requires c =
+    subst (All (λ (d : Change). d.place < length c.as_slice-slots.result.now)) (sym c.as_slice-then-not-new.ensures) (found_within (of_some _ _ _ c.in-Some.all c.in-Some.is c.in_ok-all.ensures))

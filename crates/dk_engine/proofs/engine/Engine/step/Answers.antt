@@ -12,7 +12,7 @@ use Rattle.dk_engine.specs.Exact.{SlotBefore}
 use Rattle.dk_engine.specs.Feeding.{IsTurned, parts_after, read_after}
 use Rattle.dk_engine.specs.Levels.{Whole}
 use Rattle.dk_engine.specs.Merged.{AreTogether, HasNumber}
-use Rattle.dk_engine.specs.Narrow.{AreChanges, IsMergedStep, opened_slots, outcome, slots_left}
+use Rattle.dk_engine.specs.Narrow.{AreFound, IsMergedStep, opened_slots, outcome, slots_left}
 use Rattle.dk_engine.specs.declared.slot.Slot.{Slot}
 use Rattle.dk_engine.proofs.engine.Engine.step.Goals as goal
 
@@ -22,9 +22,9 @@ merge_slots-requires-clause-ascend c =
     let sample = values_of c.args.sample.now in
     let made = outcome true (read_after e.kept sample) sample in
     let sampled : IsSample e.infos sample = subst (λ (w : Whole). IsSample w.infos sample) (sym c.self.view_is) c.requires.sampled in
-    let changes : AreChanges made e.kept.slots c.args.changes = subst (λ (w : Whole). AreChanges (outcome true (read_after w.kept sample) sample) w.kept.slots c.args.changes) (sym c.self.view_is) c.requires.changes in
+    let found : AreFound made e.kept.slots c.args.found = subst (λ (w : Whole). AreFound (outcome true (read_after w.kept sample) sample) w.kept.slots c.args.found) (sym c.self.view_is) c.requires.found in
     let was : c.replace-slots.result ≡ e.kept.slots = c.replace-slots.ensures.value in
-    let left : c.apply_changes.result ≡ slots_left made e.kept.slots = c.apply_changes.ensures made (subst (λ (ss : List Slot). AreChanges made ss c.args.changes) (sym was) changes) ∙ ap (slots_left made) was in
+    let left : c.apply_changes.result ≡ slots_left made e.kept.slots = c.apply_changes.ensures made (subst (λ (ss : List Slot). AreFound made ss c.args.found) (sym was) found) ∙ ap (slots_left made) was in
     let formed = left_formed e.grammar e.infos e.kept c.self.invariant.1 sample sampled true (read_after e.kept sample) in
     subst (AllPairs SlotBefore) (sym left) formed.in_order
 
@@ -36,9 +36,9 @@ merge_slots-requires-clause-left c =
     let made = outcome true (read_after e.kept sample) sample in
     let turned : IsTurned e.kept sample now = subst (λ (w : Whole). IsTurned w.kept sample now) (sym c.self.view_is) c.requires.turned in
     let sampled : IsSample e.infos sample = subst (λ (w : Whole). IsSample w.infos sample) (sym c.self.view_is) c.requires.sampled in
-    let changes : AreChanges made e.kept.slots c.args.changes = subst (λ (w : Whole). AreChanges (outcome true (read_after w.kept sample) sample) w.kept.slots c.args.changes) (sym c.self.view_is) c.requires.changes in
+    let found : AreFound made e.kept.slots c.args.found = subst (λ (w : Whole). AreFound (outcome true (read_after w.kept sample) sample) w.kept.slots c.args.found) (sym c.self.view_is) c.requires.found in
     let was : c.replace-slots.result ≡ e.kept.slots = c.replace-slots.ensures.value in
-    let left : c.apply_changes.result ≡ slots_left made e.kept.slots = c.apply_changes.ensures made (subst (λ (ss : List Slot). AreChanges made ss c.args.changes) (sym was) changes) ∙ ap (slots_left made) was in
+    let left : c.apply_changes.result ≡ slots_left made e.kept.slots = c.apply_changes.ensures made (subst (λ (ss : List Slot). AreFound made ss c.args.found) (sym was) found) ∙ ap (slots_left made) was in
     let formed = left_formed e.grammar e.infos e.kept c.self.invariant.1 sample sampled true (read_after e.kept sample) in
     subst (All HasNumber) (sym left) (left_numbered e.grammar e.infos c.self.invariant.0 e.kept c.self.invariant.1 sample sampled now turned (slots_left made e.kept.slots) formed)
 
@@ -82,10 +82,10 @@ set_parts-requires-clause-formed c =
     let within : All (λ k. k < length e.kept.slots) lost = subst (λ (w : Whole). All (λ k. k < length w.kept.slots) lost) (sym c.self.view_is) c.requires.within in
     let opened : c.args.opened ≡ opened_slots e.grammar e.infos (read_after e.kept sample) e.kept.slots now lost =
     subst (λ (w : Whole). c.args.opened ≡ opened_slots w.grammar w.infos (read_after w.kept sample) w.kept.slots now lost) (sym c.self.view_is) c.requires.opened in
-    let changes : AreChanges made e.kept.slots c.args.changes = subst (λ (w : Whole). AreChanges (outcome true (read_after w.kept sample) sample) w.kept.slots c.args.changes) (sym c.self.view_is) c.requires.changes in
+    let found : AreFound made e.kept.slots c.args.found = subst (λ (w : Whole). AreFound (outcome true (read_after w.kept sample) sample) w.kept.slots c.args.found) (sym c.self.view_is) c.requires.found in
     let was : c.replace-slots.result ≡ e.kept.slots = c.replace-slots.ensures.value in
     let left = slots_left made e.kept.slots in
-    let left_is : c.apply_changes.result ≡ left = c.apply_changes.ensures made (subst (λ (ss : List Slot). AreChanges made ss c.args.changes) (sym was) changes) ∙ ap (slots_left made) was in
+    let left_is : c.apply_changes.result ≡ left = c.apply_changes.ensures made (subst (λ (ss : List Slot). AreFound made ss c.args.found) (sym was) found) ∙ ap (slots_left made) was in
     let formed = left_formed e.grammar e.infos e.kept c.self.invariant.1 sample sampled true (read_after e.kept sample) in
     let merged = c.in_ok-slots.slots in
     let are : AreTogether (left ++ opened_slots e.grammar e.infos (read_after e.kept sample) e.kept.slots now lost) merged =
@@ -107,10 +107,10 @@ returns-clause-kept c =
     let made = outcome true (read_after e.kept sample) sample in
     let opened : c.args.opened ≡ opened_slots e.grammar e.infos (read_after e.kept sample) e.kept.slots now lost =
     subst (λ (w : Whole). c.args.opened ≡ opened_slots w.grammar w.infos (read_after w.kept sample) w.kept.slots now lost) (sym c.self.view_is) c.requires.opened in
-    let changes : AreChanges made e.kept.slots c.args.changes = subst (λ (w : Whole). AreChanges (outcome true (read_after w.kept sample) sample) w.kept.slots c.args.changes) (sym c.self.view_is) c.requires.changes in
+    let found : AreFound made e.kept.slots c.args.found = subst (λ (w : Whole). AreFound (outcome true (read_after w.kept sample) sample) w.kept.slots c.args.found) (sym c.self.view_is) c.requires.found in
     let was : c.replace-slots.result ≡ e.kept.slots = c.replace-slots.ensures.value in
     let left = slots_left made e.kept.slots in
-    let left_is : c.apply_changes.result ≡ left = c.apply_changes.ensures made (subst (λ (ss : List Slot). AreChanges made ss c.args.changes) (sym was) changes) ∙ ap (slots_left made) was in
+    let left_is : c.apply_changes.result ≡ left = c.apply_changes.ensures made (subst (λ (ss : List Slot). AreFound made ss c.args.found) (sym was) found) ∙ ap (slots_left made) was in
     let merged = c.in_ok-slots.slots in
     let after = c.set_parts.new.self.kept in
     let are : AreTogether (left ++ opened_slots e.grammar e.infos (read_after e.kept sample) e.kept.slots now lost) merged =
