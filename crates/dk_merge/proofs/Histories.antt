@@ -71,7 +71,7 @@ module _ (g : Grammar) (ps : List Point) (own others : OwnSamples) (can : CanBeS
         subst (λ (l : List (List Value)). All FitsSlot (compact_form_of g (all_vars_of ps p) (map (values_by_form (all_vars_of ps p)) l)).slots) (sym nothing) (no_slots g (all_vars_of ps p))
     by (Some d) some = slots_fit g (all_vars_of ps p) (own_samples_of ps (own_of_both own others) p) (can.variables p (decl_there ps p d some)) (samples_both p)
 
-  saved_both : ((p : ℕ) → length (slice_index_or own p []) + length (slice_index_or others p []) ≤ 2 ^ 40) → CanBeSaved g ps (own_of_both own others)
+  pub saved_both : ((p : ℕ) → length (slice_index_or own p []) + length (slice_index_or others p []) ≤ 2 ^ 40) → CanBeSaved g ps (own_of_both own others)
   saved_both few = record {
     table = can.table;
     variables = can.variables;

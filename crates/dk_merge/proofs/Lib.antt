@@ -7,4 +7,5 @@ pub mod StateRuns
 pub mod Saying
 pub mod Complete
 pub mod Histories
+mod Groups
 mod Recorders

@@ -21,7 +21,7 @@ use Rattle.dk_merge.proofs.TurnsRuns.{no_message, one_message}
 use Rattle.dk_merge.specs.Ending.{EndsAmong, EndsBy, EndsWith}
 use Rattle.dk_merge.specs.Gathering.{AreReadTo, HoldsAll, IsRefusedAt, IsUnreadAt, TroubleAtGives, turns_by}
 use Rattle.dk_merge.specs.Merged.{AreMergedTo}
-use Rattle.dk_merge.specs.Outputs.{IsDoneFront, IsDoneOutput, IsMergedFront, IsMergedOutput, IsStateOutput, turns_fault, turns_output}
+use Rattle.dk_merge.specs.Outputs.{IsDoneFront, IsDoneOutput, IsMergedFront, IsMergedOutput, IsStateFront, IsStateOutput, turns_fault, turns_output}
 use Rattle.dk_merge.specs.Running.{GatheredEnds, TurnsEnd}
 use Rattle.dk_merge.specs.Statuses.{AreRead, ComesTo, IsCutAtEnd, IsRefused, IsRefusedLater, IsUnread, Says, helds_of}
 use Rattle.dk_merge.specs.declared.gathered.Gathered.{Gathered}
@@ -83,6 +83,10 @@ no_messages : (least : ℕ) (state : Option (List ℕ)) (output : Output) → Is
 no_messages least None output is = ap (λ (o : Output). o.messages) is
 no_messages least (Some state) output is = let own : IsStateOutput least state output = is in own.messages
 
+no_front_messages : (least : ℕ) (state : Option (List ℕ)) (front : Output) → IsMergedFront least state front → front.messages ≡ []
+no_front_messages least None front is = ap (λ (o : Output). o.messages) is
+no_front_messages least (Some state) front is = let own : IsStateFront least state front = is in own.messages
+
 module _ (command : Command) (before after : Outside) (result : Ended) (read : AreRead command before after) where
   state_says : (state : Option (List ℕ)) → command.turns ≡ None → ((contents : List (List ℕ)) → AreHeldFiles (helds_of command before.file) contents → AreMergedTo contents state)
       → EndsAmong Done (IsMergedOutput command.least state) (IsMergedFront command.least state) before.written after.written before.write_faults after.write_faults result
@@ -101,6 +105,7 @@ module _ (command : Command) (before after : Outside) (result : Ended) (read : A
     read = read;
     front = front;
     written = e;
+    messages = λ none_too. no_front_messages command.least state front own;
     of_output = λ contents held. subst (λ (n : Option ℕ). IsDoneFront n command.least contents front) (sym none) (state, merged contents held, own);
   })
 
@@ -111,6 +116,7 @@ module _ (command : Command) (before after : Outside) (result : Ended) (read : A
     read = read;
     front = front;
     written = e;
+    messages = λ none. absurd (cc (none, some));
     of_output = λ contents held. subst (λ (m : Option ℕ). IsDoneFront m command.least contents front) (sym some)
         (subst (λ (l : List (List ℕ)). IsFront front (turns_output command.least (turns_of n l))) (same contents held) own);
   })

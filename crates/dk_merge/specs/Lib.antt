@@ -3,6 +3,7 @@ pub mod Statuses
 pub mod Ending
 pub mod Histories
 pub mod Recorders
+pub mod Laws
 -- what those are made of, and words for the crates above
 pub mod Merged
 pub mod Outputs

@@ -98,11 +98,12 @@ ComesTo Usage None before after output = output ≡ only_on stream.Messages usag
 ComesTo status request before after output = ⊥
 
 -- ---- runs that are cut short
--- All files were read, and a front of what follows was written.
+-- All files were read, and a front of what follows was written; of states no message does.
 pub record IsCutAtEnd (command : Command) (before after : Outside) : Type 0 where
   pub read : AreRead command before after
   pub front : Output
   pub written : after.written ≡ texts_followed_by before.written front
+  pub messages : command.turns ≡ None → front.messages ≡ []
   pub of_output : (contents : List (List ℕ)) → AreHeldFiles (helds_of command before.file) contents
       → IsDoneFront command.turns command.least contents front
 

@@ -3,6 +3,7 @@
 
 mod gathered;
 mod gathering;
+pub mod laws;
 mod messages;
 mod reading;
 mod running;

@@ -1,6 +1,7 @@
 -- A text as the only file of a run.
 use Rattle.std.proofs.Common.{◌≡◌, ◌+◌, ◌-◌, ℕ, false, true, List, [], ◌∷◌, ◌++◌, flat_map, length, map, Some, Result, Ok, Err, refl, sym, ap, ◌∙◌, subst}
 use Rattle.dk_base.specs.Reading.{LineFault, Reads, ◌>>=◌}
+use Rattle.dk_decl.specs.Headers.{is_implicit}
 use Rattle.dk_lines.specs.Left.{lined}
 use Rattle.dk_points.specs.Table.{Point}
 use Rattle.dk_blocks.specs.Blocks.{Group, Groups, Last, groups_of}
@@ -51,7 +52,7 @@ history_is text =
 -- between two files
 ended_alike : (h others : History) → Alike h others → AreAlike (file_ended h) (file_ended others)
 unfolding file_ended
-ended_alike h others alike = record { table = alike.table; header = alike.header; grammar = alike.grammar; samples = alike.samples }
+ended_alike h others alike = record { table = alike.table; word = ap is_implicit alike.header; grammar = alike.grammar; samples = alike.samples }
 
 ended_table : (j h : History) → file_ended j ≡ h → h.table ≡ j.table
 unfolding file_ended

@@ -3,7 +3,6 @@ use Rattle.std.proofs.Common.{◌≡◌, ℕ, Bool, List, [], flat_map, sym, ap,
 use Rattle.std.proofs.Math.Path.{fun_ext}
 use Rattle.std.specs.List.{enumerate_from}
 use Rattle.dk_decl.specs.Headers.{is_implicit}
-use Rattle.dk_decl.specs.declared.header.Header.{Header}
 use Rattle.dk_points.specs.Table.{Point}
 use Rattle.dk_template.specs.declared.grammar.Grammar.{Grammar}
 use Rattle.dk_report.specs.Reports.{name_in_table, section_of as section_in}
@@ -32,7 +31,7 @@ unfolding state_file
 state_alike h others alike =
     ap (λ (g : Grammar). state_file_of g others.table (is_implicit others.header) others.samples) alike.grammar
     ∙ ap (λ (ps : List Point). state_file_of h.grammar ps (is_implicit others.header) others.samples) alike.table
-    ∙ ap (λ (header : Header). state_file_of h.grammar h.table (is_implicit header) others.samples) alike.header
+    ∙ ap (λ (implicit : Bool). state_file_of h.grammar h.table implicit others.samples) alike.word
     ∙ sym (order_of_samples h.grammar h.table (is_implicit h.header) h.samples others.samples alike.samples)
 
 pub order_of_own_samples : OrderOfOwnSamplesDoesNotMatter

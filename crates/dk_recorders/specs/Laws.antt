@@ -4,6 +4,7 @@ use Rattle.std.specs.List.Sorted.{IsPermutation}
 use Rattle.dk_blocks.specs.History.{History}
 use Rattle.dk_core.specs.Resuming.{state_file}
 use Rattle.dk_core.specs.Sections.{report_of}
+use Rattle.dk_decl.specs.Headers.{is_implicit}
 use Rattle.dk_report.specs.declared.options.Options.{Options}
 use Rattle.dk_run.specs.Courses.{course_of, first_start}
 use Rattle.dk_run.specs.Files.{FileFault, ended_file}
@@ -18,7 +19,7 @@ use Rattle.dk_recorders.specs.Recorders.{AreRecorders, text_by_file, text_in_ord
 -- They have the same table, comparability word and grammar and, for each point, the same own samples in any order.
 pub record AreAlike (h other : History) : Type 0 where
   pub table : other.table ≡ h.table
-  pub header : other.header ≡ h.header
+  pub word : is_implicit other.header ≡ is_implicit h.header
   pub grammar : other.grammar ≡ h.grammar
   pub samples : (p : ℕ) → IsPermutation (slice_index_or h.samples p []) (slice_index_or other.samples p [])
 

@@ -39,6 +39,10 @@ const BOTH_REPORT: &str = "@\nP  [4]\nx >= 1  [4]\nx <= 7  [4]\n";
 const OTHER: &str =
     "daikon-state 2\ncomparability implicit\npoints 1\npoint Q\nvar int -1 -1 x\nend\nsamples 0 1\nclass 0\npattern 1 1\nknown 0 1\nend\nend-state\n";
 
+// One value in as many samples as a state may have.
+const FULL: &str =
+    "daikon-state 2\ncomparability implicit\npoints 1\npoint P\nvar int -1 -1 x\nend\nsamples 0 1099511627776\nclass 0\npattern 1099511627776 1\nknown 0 1\nend\nend-state\n";
+
 const FIRST_CALL: &str = "\
 ppt M:::ENTER\nppt-type point\nvariable x\nrep-type int\n\nppt M:::EXIT1\nppt-type point\nvariable x\nrep-type int\n\n\
 M:::ENTER\nthis_invocation_nonce\n1\nx\n10\n1\n\nM:::EXIT1\nthis_invocation_nonce\n1\nx\n11\n1\n";
@@ -53,7 +57,7 @@ const CALLS_REPORT: &str =
 const CALLS_STATE: &str =
     "daikon-state 2\ncomparability implicit\npoints 2\npoint M:::ENTER\nvar int -1 -1 x\nend\npoint M:::EXIT1\nvar int -1 -1 x\nend\nsamples 0 2\nclass 0\npattern 2 1\nslot 1 0 ints 10 20\nslot 2 0 least 10\nslot 3 0 greatest 20\nslot 5 0 modulus 10 0\nslot 11 0 0 holds\nslot 15 0 0 straight 1 -1 0\nslot 67 0 0 0 span 10 10 10 20 20 20\nend\nsamples 2 2\nclass 0\nclass 1\npattern 2 11\nslot 1 0 ints 11 21\nslot 1 1 ints 10 20\nslot 2 0 least 11\nslot 2 1 least 10\nslot 3 0 greatest 21\nslot 3 1 greatest 20\nslot 5 0 modulus 10 1\nslot 5 1 modulus 10 0\nslot 11 0 0 holds\nslot 11 1 1 holds\nslot 13 1 0 holds\nslot 15 0 0 straight 1 -1 0\nslot 15 0 1 straight 1 -1 -1\nslot 15 1 1 straight 1 -1 0\nslot 31 1 0 1 holds\nslot 32 0 0 1 holds\nslot 67 0 0 0 span 11 11 11 21 21 21\nslot 67 0 0 1 span 11 11 10 21 21 20\nslot 67 0 1 1 span 11 10 10 21 20 20\nslot 67 1 1 1 span 10 10 10 20 20 20\nend\nend-state\n";
 
-static STATES: [Example; 7] = [
+static STATES: [Example; 8] = [
     Example {
         name: "two states",
         words: &["--min-samples", "1", "a", "b"],
@@ -88,6 +92,15 @@ static STATES: [Example; 7] = [
         ended: Ended::Refused,
         report: "",
         messages: "daikon: c:0: 19 DifferentState\n",
+        state: "",
+    },
+    Example {
+        name: "a second state that has samples, behind one that is full",
+        words: &["a", "b", "d"],
+        files: [FULL, LOW, ""],
+        ended: Ended::Refused,
+        report: "",
+        messages: "daikon: b:0: 20 JoinedState\n",
         state: "",
     },
     Example {
