@@ -1,4 +1,8 @@
 pub mod Lists
+pub mod Lone
+pub mod Rules
+pub mod Apart
+pub mod Companions
 pub mod Answering
 pub mod Leading
 pub mod Knowing

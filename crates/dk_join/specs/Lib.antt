@@ -4,3 +4,5 @@ pub mod Joining
 pub mod Laws
 -- inner: cited by the clauses of bodies and in proofs alone
 pub mod Tallies
+pub mod Watched
+pub mod Beside

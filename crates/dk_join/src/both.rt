@@ -45,6 +45,20 @@ impl<'a> Both<'a> {
         }
     }
 
+    /// The first of them.
+    pub(crate) fn first(&self) -> &'a Engine
+        ensures { result.now ≡ self.now.first }
+    {
+        self.first
+    }
+
+    /// The second of them.
+    pub(crate) fn second(&self) -> &'a Engine
+        ensures { result.now ≡ self.now.second }
+    {
+        self.second
+    }
+
     /// The variables of both.
     pub(crate) fn infos(&self) -> &[VarInfo]
         ensures { result.now ≡ self.now.first.infos }

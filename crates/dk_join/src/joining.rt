@@ -5,6 +5,7 @@ ghost use Rattle.dk_engine.specs.Exact.{AreOfPoint, IsKeptOf};
 ghost use Rattle.dk_engine.specs.Feeding.{slots_of};
 ghost use Rattle.dk_engine.specs.Saved.{AreSavedParts, parts_of};
 ghost use Rattle.dk_engine.specs.declared.parts.Parts.{Parts as AllParts};
+ghost use Rattle.dk_join.specs.Beside.{AreLed, HaveSamples};
 ghost use Rattle.dk_join.specs.Joined.{AreJoinedParts};
 ghost use Rattle.dk_join.specs.Joining.{AreAlike, AreOfOnePoint, read_joined};
 ghost use Rattle.dk_join.specs.Laws.{AreKeptOf};
@@ -85,7 +86,9 @@ fn joined_slots(
     known: &Constants,
     leaders: &[VarId],
 ) -> Result<List<Slot>, NoMemory>
-    requires { AreAlike (record { first = first.now; second = second.now }) }
+    requires alike { AreAlike (record { first = first.now; second = second.now }) }
+    requires some { HaveSamples (record { first = first.now; second = second.now }) }
+    requires leaders { AreLed (record { first = first.now; second = second.now }) leaders.now }
     ensures { IfOk result (λ slots. slots ≡ slots_of first.now.grammar first.now.infos leaders.now known.now (read_joined first.now.kept second.now.kept)) }
 {
     let both = Both::of(alloc, first, second);
@@ -99,7 +102,8 @@ fn joined_slots(
 
 // The parts of the join, in the order in which they are saved.
 fn joined_parts(alloc: Global, first: &Engine, second: &Engine) -> Result<Parts, NoMemory>
-    requires { AreOfOnePoint (record { first = first.now; second = second.now }) }
+    requires one { AreOfOnePoint (record { first = first.now; second = second.now }) }
+    requires some { HaveSamples (record { first = first.now; second = second.now }) }
     ensures { IfOk result (AreJoinedParts first.now.grammar first.now.infos first.now.kept second.now.kept) }
 {
     let count = first.vars().len();

@@ -1,6 +1,7 @@
 //! The join of two engines: what is kept of both lists of samples, from what each keeps of its own.
 #![tactic(auto)]
 
+mod beside;
 mod both;
 mod constants;
 mod joining;
@@ -9,5 +10,6 @@ mod leaders;
 mod patterns;
 mod sweeps;
 mod tally;
+mod watching;
 
 pub use joining::{JoinFault, join};

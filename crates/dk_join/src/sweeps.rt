@@ -1,10 +1,13 @@
-// The slots that both engines give, over all tuples of leaders.
-ghost use Rattle.std.specs.Prelude.{◌≡◌, ◌≤◌, ◌++◌, IfOk, length};
+// The slots that both engines give, over the tuples of leaders. A tuple of three is passed over where what an engine keeps leaves no
+// room for it.
+ghost use Rattle.std.specs.Prelude.{◌≡◌, ◌≤◌, ◌++◌, [], ◌∷◌, All, IfOk, length, map};
 ghost use Rattle.dk_engine.specs.Feeding.{slots_of, slots_of_row};
 ghost use Rattle.dk_engine.specs.Sweeps.{behind, considered, firsts, pairs, seconds, thirds, triples};
+ghost use Rattle.dk_join.specs.Beside.{AreAtHand, AreLed, HaveSamples, IsCompanion};
 ghost use Rattle.dk_join.specs.Joining.{answer_of};
-ghost use Rattle.dk_template.specs.Templates.{IsRowOf};
+ghost use Rattle.dk_template.specs.Templates.{IsRowOf, arity_of};
 
+use crate::beside::{Around, Companion, Hands, companions, may_stand};
 use crate::both::Both;
 use crate::constants::are_known;
 use dk_base::{List, NoMemory, VarId};
@@ -83,21 +86,28 @@ impl<'a> Sweep<'a> {
         Ok(slots)
     }
 
-    // Those of two leaders and one of the list.
+    // Those of two leaders and one of these. Where by what an engine keeps neither the second nor the third may stand beside the first,
+    // the row is Broken there, and so in both.
     fn thirds(
         &self,
         row: RowId,
         v: VarId,
-        w: VarId,
-        third: &[VarId],
+        w: Companion,
+        third: &[Companion],
         slots: List<Slot>,
     ) -> Result<List<Slot>, NoMemory>
-        requires { IsRowOf self.now.both.now.first.grammar row }
-        ensures { IfOk result (λ more. more ≡ slots ++ thirds self.now.both.now.first.infos self.now.known.now (answer_of self.now.both.now) row v w third.now) }
+        requires some { HaveSamples self.now.both.now }
+        requires row { IsRowOf self.now.both.now.first.grammar row }
+        requires three { arity_of row ≡ 3 }
+        requires w { IsCompanion self.now.both.now row v w }
+        requires third { All (IsCompanion self.now.both.now row v) third.now }
+        ensures { IfOk result (λ more. more ≡ slots ++ thirds self.now.both.now.first.infos self.now.known.now (answer_of self.now.both.now) row v w.leader (map (λ x. x.leader) third.now)) }
     {
         let mut slots = slots;
         for x in third {
-            slots = self.consider(row, &[v, w, *x], slots)?;
+            if may_stand(w, *x) {
+                slots = self.consider(row, &[v, w.leader, x.leader], slots)?;
+            }
         }
         Ok(slots)
     }
@@ -120,40 +130,67 @@ impl<'a> Sweep<'a> {
         Ok(slots)
     }
 
-    // Those of a leader and two more, one of each list.
+    // The leaders, each with whether it may stand beside a leader, by what both engines have at hand for a row.
+    fn companions(
+        &self,
+        row: RowId,
+        hands: &Hands<'_>,
+        v: VarId,
+        leaders: &[VarId],
+    ) -> Result<Vec<Companion>, NoMemory>
+        requires hands { AreAtHand self.now.both.now row hands.now }
+        requires v { AreLed self.now.both.now (v ∷ []) }
+        requires leaders { AreLed self.now.both.now leaders.now }
+        ensures leaders { IfOk result (λ list. map (λ w. w.leader) list.items ≡ leaders.now) }
+        ensures each { IfOk result (λ list. All (IsCompanion self.now.both.now row v) list.items) }
+    {
+        let first = Around::of(self.alloc, self.both.first(), hands.first.as_slice(), v)?;
+        let second = Around::of(self.alloc, self.both.second(), hands.second.as_slice(), v)?;
+        companions(self.alloc, &first, &second, leaders)
+    }
+
+    // Those of a leader and two more.
     fn behind(
         &self,
         row: RowId,
+        hands: &Hands<'_>,
         v: VarId,
-        second: &[VarId],
-        third: &[VarId],
+        leaders: &[VarId],
         slots: List<Slot>,
     ) -> Result<List<Slot>, NoMemory>
-        requires { IsRowOf self.now.both.now.first.grammar row }
-        ensures { IfOk result (λ more. more ≡ slots ++ behind self.now.both.now.first.infos self.now.known.now (answer_of self.now.both.now) row v second.now third.now) }
+        requires some { HaveSamples self.now.both.now }
+        requires row { IsRowOf self.now.both.now.first.grammar row }
+        requires three { arity_of row ≡ 3 }
+        requires hands { AreAtHand self.now.both.now row hands.now }
+        requires v { AreLed self.now.both.now (v ∷ []) }
+        requires leaders { AreLed self.now.both.now leaders.now }
+        ensures { IfOk result (λ more. more ≡ slots ++ behind self.now.both.now.first.infos self.now.known.now (answer_of self.now.both.now) row v leaders.now leaders.now) }
     {
+        let beside = self.companions(row, hands, v, leaders)?;
         let mut slots = slots;
-        for w in second {
-            slots = self.thirds(row, v, *w, third, slots)?;
+        for w in &beside {
+            slots = self.thirds(row, v, *w, beside.as_slice(), slots)?;
         }
         Ok(slots)
     }
 
-    // Those of three leaders, one of each list.
+    // Those of three leaders.
     fn triples(
         &self,
         row: RowId,
-        first: &[VarId],
-        second: &[VarId],
-        third: &[VarId],
+        leaders: &[VarId],
         slots: List<Slot>,
     ) -> Result<List<Slot>, NoMemory>
-        requires { IsRowOf self.now.both.now.first.grammar row }
-        ensures { IfOk result (λ more. more ≡ slots ++ triples self.now.both.now.first.infos self.now.known.now (answer_of self.now.both.now) row first.now second.now third.now) }
+        requires some { HaveSamples self.now.both.now }
+        requires row { IsRowOf self.now.both.now.first.grammar row }
+        requires three { arity_of row ≡ 3 }
+        requires leaders { AreLed self.now.both.now leaders.now }
+        ensures { IfOk result (λ more. more ≡ slots ++ triples self.now.both.now.first.infos self.now.known.now (answer_of self.now.both.now) row leaders.now leaders.now leaders.now) }
     {
+        let hands = Hands::of(self.alloc, self.both.first(), self.both.second(), row)?;
         let mut slots = slots;
-        for v in first {
-            slots = self.behind(row, *v, second, third, slots)?;
+        for v in leaders {
+            slots = self.behind(row, &hands, *v, leaders, slots)?;
         }
         Ok(slots)
     }
@@ -165,7 +202,9 @@ impl<'a> Sweep<'a> {
         leaders: &[VarId],
         slots: List<Slot>,
     ) -> Result<List<Slot>, NoMemory>
-        requires { IsRowOf self.now.both.now.first.grammar row }
+        requires some { HaveSamples self.now.both.now }
+        requires row { IsRowOf self.now.both.now.first.grammar row }
+        requires leaders { AreLed self.now.both.now leaders.now }
         ensures { IfOk result (λ more. more ≡ slots ++ slots_of_row self.now.both.now.first.infos leaders.now self.now.known.now (answer_of self.now.both.now) row) }
     {
         let arity = info(row).arity;
@@ -174,13 +213,15 @@ impl<'a> Sweep<'a> {
         } else if arity == 2 {
             self.pairs(row, leaders, leaders, slots)
         } else {
-            self.triples(row, leaders, leaders, leaders, slots)
+            self.triples(row, leaders, slots)
         }
     }
 
     /// All slots over these leaders, by row and then by leaders.
     pub(crate) fn all(&self, grammar: Grammar, leaders: &[VarId]) -> Result<List<Slot>, NoMemory>
-        requires { self.now.both.now.first.grammar ≡ grammar }
+        requires some { HaveSamples self.now.both.now }
+        requires grammar { self.now.both.now.first.grammar ≡ grammar }
+        requires leaders { AreLed self.now.both.now leaders.now }
         ensures { IfOk result (λ slots. slots ≡ slots_of grammar self.now.both.now.first.infos leaders.now self.now.known.now (answer_of self.now.both.now)) }
     {
         let mut slots = List::new(self.alloc);

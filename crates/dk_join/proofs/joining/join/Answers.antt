@@ -11,8 +11,8 @@ use Rattle.dk_join.proofs.Joins.{few_are_saved, none_is_saved, stands_for_both}
 use Rattle.dk_join.specs.Joined.{AreJoinedParts}
 use Rattle.dk_join.proofs.joining.join.Goals as goal
 
-pub joined_parts-requires : goal.joined_parts-requires
-joined_parts-requires c = record {
+pub joined_parts-requires-clause-one : goal.joined_parts-requires-clause-one
+joined_parts-requires-clause-one c = record {
   alike = c.requires.alike;
   point = c.tell_leaders.ensures.point;
   first_leaders = c.tell_leaders.ensures.long;

@@ -12,10 +12,10 @@ use Rattle.dk_presence.specs.Patterns.{AreHeld}
 use Rattle.dk_join.proofs.joining.joined_parts.Goals as goal
 
 pub joined_leaders-requires-clause-first : goal.joined_leaders-requires-clause-first
-joined_leaders-requires-clause-first c = ap length c.classes.ensures ∙ (c.requires.first_leaders ∙ sym (ap length c.vars-count.ensures))
+joined_leaders-requires-clause-first c = ap length c.classes.ensures ∙ (c.requires.one.first_leaders ∙ sym (ap length c.vars-count.ensures))
 
 pub joined_leaders-requires-clause-second : goal.joined_leaders-requires-clause-second
-joined_leaders-requires-clause-second c = ap length c.classes-2.ensures ∙ (c.requires.second_leaders ∙ sym (ap length c.vars-count.ensures))
+joined_leaders-requires-clause-second c = ap length c.classes-2.ensures ∙ (c.requires.one.second_leaders ∙ sym (ap length c.vars-count.ensures))
 
 pub joined_known-requires-clause-first : goal.joined_known-requires-clause-first
 joined_known-requires-clause-first c =
@@ -31,7 +31,18 @@ joined_known-requires-clause-second c =
     let second = c.args.second.now.kept.leaders in
     let joined = c.in_ok-joined.joined in
     let are : AreJoinedLeaders first second joined = subst (λ ls. AreJoinedLeaders first ls joined) c.classes-2.ensures (subst (λ ls. AreJoinedLeaders ls c.classes-2.result.now joined) c.classes.ensures c.in_ok-joined.ensures) in
-    subst (λ ls. All (λ (v : VarId). v.0 < length second) ls) (sym c.leaders-leaders.ensures.all) (all_within_second first second joined (c.requires.second_leaders ∙ sym c.requires.first_leaders) are)
+    subst (λ ls. All (λ (v : VarId). v.0 < length second) ls) (sym c.leaders-leaders.ensures.all) (all_within_second first second joined (c.requires.one.second_leaders ∙ sym c.requires.one.first_leaders) are)
+
+pub joined_slots-requires-clause-leaders : goal.joined_slots-requires-clause-leaders
+joined_slots-requires-clause-leaders c =
+    let first = c.args.first.now.kept.leaders in
+    let second = c.args.second.now.kept.leaders in
+    let joined = c.in_ok-joined.joined in
+    let are : AreJoinedLeaders first second joined = subst (λ ls. AreJoinedLeaders first ls joined) c.classes-2.ensures (subst (λ ls. AreJoinedLeaders ls c.classes-2.result.now joined) c.classes.ensures c.in_ok-joined.ensures) in
+    record {
+      first = subst (λ ls. All (λ (v : VarId). v.0 < length first) ls) (sym c.leaders-leaders.ensures.all) (all_within_first first second joined are);
+      second = subst (λ ls. All (λ (v : VarId). v.0 < length second) ls) (sym c.leaders-leaders.ensures.all) (all_within_second first second joined (c.requires.one.second_leaders ∙ sym c.requires.one.first_leaders) are);
+    }
 
 pub from_known-requires : goal.from_known-requires
 from_known-requires c =
@@ -51,11 +62,11 @@ joined_patterns-requires-clause-second c =
     let second = c.args.second.now.kept.leaders in
     let joined = c.in_ok-joined.joined in
     let are : AreJoinedLeaders first second joined = subst (λ ls. AreJoinedLeaders first ls joined) c.classes-2.ensures (subst (λ ls. AreJoinedLeaders ls c.classes-2.result.now joined) c.classes.ensures c.in_ok-joined.ensures) in
-    subst (λ ls. All (λ (v : VarId). v.0 < length second) ls) (sym c.leaders-leaders.ensures.all) (all_within_second first second joined (c.requires.second_leaders ∙ sym c.requires.first_leaders) are)
+    subst (λ ls. All (λ (v : VarId). v.0 < length second) ls) (sym c.leaders-leaders.ensures.all) (all_within_second first second joined (c.requires.one.second_leaders ∙ sym c.requires.one.first_leaders) are)
 
 pub classes_in_order-requires : goal.classes_in_order-requires
 classes_in_order-requires c =
-    ap length c.vars-count.ensures ∙ (sym c.requires.first_leaders ∙ (ap length (sym c.classes.ensures) ∙ sym c.in_ok-joined.ensures.long))
+    ap length c.vars-count.ensures ∙ (sym c.requires.one.first_leaders ∙ (ap length (sym c.classes.ensures) ∙ sym c.in_ok-joined.ensures.long))
 
 pub patterns_in_order-requires-clause-held : goal.patterns_in_order-requires-clause-held
 patterns_in_order-requires-clause-held c = subst AreHeld (sym c.as_slice.ensures) c.in_ok-held.ensures.form

@@ -28,6 +28,11 @@ returns-then-arity-eq2 c =
     IfOk-weaker c.pairs.result (λ more. more ≡ c.args.slots ++ pairs s.both.now.first.infos s.known.now answered c.args.row c.args.leaders.now c.args.leaders.now) (λ more. more ≡ c.args.slots ++ slots_of_row s.both.now.first.infos c.args.leaders.now s.known.now answered c.args.row)
     (λ more e. e ∙ ap (λ ss. c.args.slots ++ ss) told) c.pairs.ensures
 
+pub triples-requires-clause-three : goal.triples-requires-clause-three
+triples-requires-clause-three c =
+    let arity : c.info-arity.result.arity ≡ arity_of c.args.row = ap (λ (i : RowInfo). i.arity) c.info-arity.ensures in
+    arity_three c.args.row (λ e. c.if-arity-eq1.false (arity ∙ e)) (λ e. c.if-arity-eq2.false (arity ∙ e))
+
 pub returns-else-arity-eq2 : goal.returns-else-arity-eq2
 returns-else-arity-eq2 c =
     let s = c.args.self.now in

@@ -1,0 +1,85 @@
+-- Which leaders may stand beside another in a slot of three, by what is kept of two lists of samples.
+use Rattle.std.specs.Prelude.{◌≡◌, ◌<◌, ◌&&◌, ◌||◌, ◌==◌, Bool, true, false, All, List, filter, is_some, length, map}
+use Rattle.std.specs.List.{list_any}
+use Rattle.dk_base.specs.declared.kinds.VarId.{VarId}
+use Rattle.dk_constants.specs.Known.{known_at}
+use Rattle.dk_presence.specs.Patterns.{has}
+use Rattle.dk_template.specs.Premises.{row_of, suffices}
+use Rattle.dk_template.specs.declared.answers.Premise.{Premise}
+use Rattle.dk_template.specs.declared.answers.Premise.TheVariants.{Holds, LeastAtLeast, GreatestAtMost, Only}
+use Rattle.dk_template.specs.declared.grammar.RowId.{RowId}
+use Rattle.dk_engine.specs.Parts.{leader_of}
+use Rattle.dk_engine.specs.declared.kept.Kept.{Kept}
+use Rattle.dk_engine.specs.declared.slot.Slot.{Slot}
+use Rattle.dk_join.specs.Joining.{Pair}
+use Rattle.dk_join.specs.Watched.{watched}
+use Rattle.dk_join.specs.declared.beside.Around.{Around}
+use Rattle.dk_join.specs.declared.beside.Companion.{Companion}
+use Rattle.dk_join.specs.declared.beside.Hands.{Hands}
+
+-- ---- slots at hand
+-- the premise is that a row holds
+abbrev pub is_relation : Premise → Bool
+is_relation (Holds row roles) = true
+is_relation (LeastAtLeast row role k) = false
+is_relation (GreatestAtMost row role k) = false
+is_relation (Only role k) = false
+
+-- The slot may meet the premise: it is of the premise's row, and what it says of numbers is as the premise wants it.
+unfoldable pub may_meet : Premise → Slot → Bool
+may_meet p slot = (row_of p).0 == slot.row.0 && (is_relation p || suffices p slot.state)
+
+-- it is of the row, or may meet one of the premises
+abbrev pub is_at_hand : RowId → List Premise → Slot → Bool
+is_at_hand row premises slot = slot.row.0 == row.0 || list_any (λ p. may_meet p slot) premises
+
+-- those that may tell of a row of three leaders: its own, and those that may meet a watched premise
+abbrev pub slots_at_hand : RowId → List Slot → List Slot
+slots_at_hand row slots = filter (is_at_hand row (watched row)) slots
+
+-- ---- slots around a leader
+abbrev pub slots_around : RowId → List Slot → VarId → List Slot
+slots_around row slots leader = filter (λ slot. has slot.leaders leader) (slots_at_hand row slots)
+
+-- the slot is over one leader alone
+abbrev pub is_alone : Slot → Bool
+is_alone slot = length slot.leaders == 1
+
+-- the leader is constant, or a slot around it is over it alone
+abbrev pub is_free : Kept → RowId → VarId → Bool
+is_free kept row leader = is_some (known_at kept.known leader) || list_any is_alone (slots_around row kept.slots leader)
+
+-- The variable's leader may stand beside that of v: this is free, or a slot around it is over both.
+abbrev pub stands_beside : Kept → RowId → VarId → VarId → Bool
+stands_beside kept row v w =
+    is_free kept row (leader_of kept.leaders v)
+    || list_any (λ slot. has slot.leaders (leader_of kept.leaders w)) (slots_around row kept.slots (leader_of kept.leaders v))
+
+-- ---- as the code tells it
+-- the slots at hand of two engines for a row
+pub record AreAtHand (pair : Pair) (row : RowId) (hands : Hands) : Type 0 where
+  pub first : map (λ slot. slot.now) hands.first.items ≡ slots_at_hand row pair.first.kept.slots
+  pub second : map (λ slot. slot.now) hands.second.items ≡ slots_at_hand row pair.second.kept.slots
+
+-- a variable's leader may stand beside the one that these slots are around
+abbrev pub is_beside : Around → VarId → Bool
+is_beside around v = around.free || list_any (λ slot. has slot.now.leaders (leader_of around.engine.now.kept.leaders v)) around.slots.items
+
+-- a leader, with whether it may stand beside another by what is kept of each of two lists of samples
+pub record IsCompanion (pair : Pair) (row : RowId) (v : VarId) (w : Companion) : Type 0 where
+  pub by_first : w.by_first ≡ stands_beside pair.first.kept row v w.leader
+  pub by_second : w.by_second ≡ stands_beside pair.second.kept row v w.leader
+
+-- by what is kept of each, one of two leaders may stand beside a third
+abbrev pub may_stand : Companion → Companion → Bool
+may_stand w x = (w.by_first || x.by_first) && (w.by_second || x.by_second)
+
+-- ---- two lists of samples
+pub record HaveSamples (pair : Pair) : Type 0 where
+  pub first : 0 < pair.first.kept.samples
+  pub second : 0 < pair.second.kept.samples
+
+-- each of the variables has a leader in both
+pub record AreLed (pair : Pair) (vars : List VarId) : Type 0 where
+  pub first : All (λ (v : VarId). v.0 < length pair.first.kept.leaders) vars
+  pub second : All (λ (v : VarId). v.0 < length pair.second.kept.leaders) vars
