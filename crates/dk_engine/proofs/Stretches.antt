@@ -1,5 +1,5 @@
 -- A stretch of a line with a point that lies beyond it on the line.
-use Rattle.std.specs.Prelude.{◌≡◌, ℕ, ℤ, ◌-ℤ◌, ◌*ℤ◌, true, false, ◌∷◌, [], List, if◌then◌else◌, ◌&&◌, refl}
+use Rattle.std.specs.Prelude.{◌≡◌, ℕ, ℤ, ◌-ℤ◌, ◌*ℤ◌, true, false, ◌∷◌, [], List, if◌then◌else◌, refl}
 use Rattle.std.specs.Ordering.{int_eq}
 use Rattle.std.proofs.Common.{◌∙◌, ap, arith, inl, inr, subst, sym}
 use Rattle.std.proofs.lemmas.Bool.{and_from, false≢true}
@@ -23,7 +23,6 @@ use Rattle.dk_template.specs.Joins.{joined}
 use Rattle.dk_template.specs.Proper.{IsProper}
 use Rattle.dk_template.specs.Templates.{form_of, rows}
 use Rattle.dk_template.specs.declared.grammar.RowId.{RowId}
-use Rattle.dk_template.specs.declared.templates.StateForm.{StateForm}
 use Rattle.dk_template.specs.declared.templates.StateForm.TheVariants as form
 use Rattle.dk_ternary.specs.Rows.{linear_ternary_row}
 use Rattle.dk_engine.specs.Feeding.{with_sample}
