@@ -1,8 +1,8 @@
 -- A stretch of a line with a point that lies beyond it on the line.
-use Rattle.std.specs.Prelude.{◌≡◌, ℕ, ℤ, ◌-ℤ◌, ◌*ℤ◌, true, false, ◌∷◌, [], List, if◌then◌else◌, ◌&&◌, refl}
+use Rattle.std.specs.Prelude.{◌≡◌, ℕ, ℤ, ◌-ℤ◌, ◌*ℤ◌, true, false, ◌∷◌, [], List, if◌then◌else◌, refl}
 use Rattle.std.specs.Ordering.{int_eq}
 use Rattle.std.proofs.Common.{◌∙◌, ap, arith, inl, inr, subst, sym}
-use Rattle.std.proofs.lemmas.Bool.{and_from, and_parts, false≢true}
+use Rattle.std.proofs.lemmas.Bool.{and_from, false≢true}
 use Rattle.std.proofs.lemmas.Bool.Decides.{Decides-int_eq}
 use Rattle.dk_arith.proofs.Ring.{rep, rep-mul, rep-sub, same_rep}
 use Rattle.dk_arith.specs.Vectors.{minus}
@@ -11,9 +11,8 @@ use Rattle.dk_base.specs.declared.kinds.VarId.{VarId}
 use Rattle.dk_base.specs.declared.values.Value.{Value}
 use Rattle.dk_base.specs.declared.values.Value.TheVariants as value
 use Rattle.dk_fits.specs.Fits.{is_whole, tuple_in}
-use Rattle.dk_forms.proofs.PlaneFacts.{plane_of_point, point_of_limit}
-use Rattle.dk_forms.proofs.PlaneStays.{span_stays}
-use Rattle.dk_forms.proofs.PointOrder.{before_or}
+use Rattle.dk_forms.proofs.PlaneFacts.{plane_of_point}
+use Rattle.dk_forms.proofs.PointOrder.{before_antisymmetric, before_or, before_transitive}
 use Rattle.dk_forms.specs.Known.{broken, fact}
 use Rattle.dk_forms.specs.Plane.{Before, IsPlaneState, IsSpan, are_aligned, first_off, greater, in_space, is_before, lesser, plane_between, plane_from, plane_join, plane_meet, plane_of, plane_of_all, plane_state, plane_through, span}
 use Rattle.dk_forms.specs.declared.states.State.{State}
@@ -24,7 +23,6 @@ use Rattle.dk_template.specs.Joins.{joined}
 use Rattle.dk_template.specs.Proper.{IsProper}
 use Rattle.dk_template.specs.Templates.{form_of, rows}
 use Rattle.dk_template.specs.declared.grammar.RowId.{RowId}
-use Rattle.dk_template.specs.declared.templates.StateForm.{StateForm}
 use Rattle.dk_template.specs.declared.templates.StateForm.TheVariants as form
 use Rattle.dk_ternary.specs.Rows.{linear_ternary_row}
 use Rattle.dk_engine.specs.Feeding.{with_sample}
@@ -34,6 +32,12 @@ use Rattle.dk_engine.specs.declared.slot.Slot.{Slot}
 -- the test is right
 pub before_of : (p q : ℤ × ℤ × ℤ) → is_before p q ≡ true → Before p q
 before_of p q e = elim (before_or p q) as (λ _. Before p q) [ inl h ↦ h.0 | inr h ↦ absurd (false≢true (sym h.1 ∙ e)) ]
+
+before_itself : (p : ℤ × ℤ × ℤ) → is_before p p ≡ true
+before_itself p = grind arith
+
+is_before_of : (p q : ℤ × ℤ × ℤ) → Before p q → is_before p q ≡ true
+is_before_of p q h = elim (before_or p q) as (λ _. is_before p q ≡ true) [ inl k ↦ k.1 | inr k ↦ subst (λ t. is_before p t ≡ true) (before_antisymmetric p q h k.0) (before_itself p) ]
 
 no_step : (a b x y : ℤ) → int_eq (a *ℤ (y -ℤ y)) ((x -ℤ x) *ℤ b) ≡ true
 no_step a b x y =
@@ -95,19 +99,12 @@ module _ (p q v : ℤ × ℤ × ℤ) (pq : is_before p q ≡ true) (qv : is_befo
       ap (plane_join (Span p.0 p.1 p.2 q.0 q.1 q.2)) (ap plane_state (plane_of_point v) ∙ ap (λ b. plane_state (if b then fact (span (v, v)) else broken)) near)
       ∙ ap plane_state longer
 
--- the longer stretch, which is left as it is by the last point of the one that it came from
-pub grown_stretch : (p q v : ℤ × ℤ × ℤ) → IsSpan (p, v) → in_space v ≡ true → is_before p v ≡ true
-    → plane_join (Span p.0 p.1 p.2 v.0 v.1 v.2) (plane_of (q ∷ [])) ≡ Span p.0 p.1 p.2 v.0 v.1 v.2
+-- the ends of a stretch and a point on its line, not before the last one
+pub grown_stretch : (p q v : ℤ × ℤ × ℤ) → IsSpan (p, q) → in_space v ≡ true → is_before q v ≡ true → are_aligned p v q ≡ true
     → Span p.0 p.1 p.2 v.0 v.1 v.2 ≡ plane_join (Span p.0 p.1 p.2 q.0 q.1 q.2) (plane_of (v ∷ []))
-grown_stretch p q v fit near pv stays =
-    let told = (span_stays (p, v) q fit).1 stays in
-    let a = and_parts (in_space q) (is_before p q && (is_before q v && are_aligned p v q)) told in
-    let b = and_parts (is_before p q) (is_before q v && are_aligned p v q) a.1 in
-    let c = and_parts (is_before q v) (are_aligned p v q) b.1 in
-    sym (grows p q v b.0 c.0 pv c.1 near)
-
-pub is_stretch : (p q v : ℤ × ℤ × ℤ) → IsSpan (p, q) → in_space v ≡ true → is_before p v ≡ true → IsSpan (p, v)
-is_stretch p q v is near pv = record { first = is.first; last = point_of_limit v near; ordered = before_of p v pv }
+grown_stretch p q v is near qv on =
+    let pv = before_transitive p q v is.ordered (before_of q v qv) in
+    sym (grows p q v (is_before_of p q is.ordered) qv (is_before_of p v pv) on near)
 
 -- ---- by a sample
 planar_form : form_of linear_ternary_row ≡ form.Plane

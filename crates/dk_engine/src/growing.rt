@@ -1,8 +1,10 @@
 // Planes and stretches of a line with a sample: whether they stay as they are, and stretches that grow, as the sample's point lies on the
 // line, beyond the last one.
-ghost use Rattle.std.specs.Prelude.{◌≡◌, ◌≢◌, ◌∷◌, [], ◌^◌, unsigned_abs, nat_le, IfSome, IsTrue};
+ghost use Rattle.std.specs.Prelude.{◌≡◌, ◌≢◌, ◌≤◌, ◌∷◌, [], ◌^◌, ◌*ℤ◌, ◌-ℤ◌, unsigned_abs, nat_le, IfSome, IsTrue};
+ghost use Rattle.std.specs.Ordering.{int_eq};
 ghost use Rattle.dk_base.specs.Values.{values_of};
-ghost use Rattle.dk_forms.specs.Plane.{IsPlaneState, IsSpan, in_space, is_before, plane_join, plane_of};
+ghost use Rattle.dk_forms.specs.Plane.{IsPlaneState, IsPoint, IsSpan, are_aligned, are_parallel, in_space, is_before, plane_join, plane_of};
+ghost use Rattle.dk_forms.specs.Points.{IsGap};
 ghost use Rattle.dk_forms.specs.declared.states.State.TheVariants.{Broken, Span};
 ghost use Rattle.dk_template.specs.Proper.{IsProper};
 ghost use Rattle.dk_template.specs.Templates.{form_of};
@@ -25,6 +27,7 @@ pub struct Growth {
 }
 
 // Whether a coordinate is within the limit.
+#[inline(always)]
 fn is_near(x: i64) -> bool
     ensures { result ≡ nat_le (unsigned_abs x) (2 ^ 30) }
 {
@@ -32,6 +35,7 @@ fn is_near(x: i64) -> bool
 }
 
 // Whether all coordinates of a point are.
+#[inline(always)]
 fn is_in_space(x: i64, y: i64, z: i64) -> bool
     ensures { result ≡ in_space (x, y, z) }
 {
@@ -39,6 +43,7 @@ fn is_in_space(x: i64, y: i64, z: i64) -> bool
 }
 
 // Whether the first of two points isn't after the second: by x, then y, then z.
+#[inline(always)]
 fn is_before(x1: i64, y1: i64, z1: i64, x: i64, y: i64, z: i64) -> bool
     ensures { result ≡ is_before (x1, y1, z1) (x, y, z) }
 {
@@ -49,7 +54,66 @@ fn is_before(x1: i64, y1: i64, z1: i64, x: i64, y: i64, z: i64) -> bool
     }
 }
 
+// `x - u`, of coordinates within the limit. It is exact.
+#[inline(always)]
+fn distance(x: i64, u: i64) -> i64
+    requires x { unsigned_abs x ≤ 2 ^ 30 }
+    requires u { unsigned_abs u ≤ 2 ^ 30 }
+    ensures value { result ≡ x -ℤ u }
+    ensures small { unsigned_abs result ≤ 2 ^ 31 }
+{
+    x - u
+}
+
+// Whether `a * b` and `c * d` are equal, of distances. It is exact.
+#[inline(always)]
+fn same_products(a: i64, b: i64, c: i64, d: i64) -> bool
+    requires a { unsigned_abs a ≤ 2 ^ 31 }
+    requires b { unsigned_abs b ≤ 2 ^ 31 }
+    requires c { unsigned_abs c ≤ 2 ^ 31 }
+    requires d { unsigned_abs d ≤ 2 ^ 31 }
+    ensures { result ≡ int_eq (a *ℤ b) (c *ℤ d) }
+{
+    a * b == c * d
+}
+
+// Whether two steps in space have the same or opposite directions.
+#[inline(always)]
+fn are_parallel(a: i64, b: i64, c: i64, d: i64, e: i64, f: i64) -> bool
+    requires first { IsGap (a, b, c) }
+    requires second { IsGap (d, e, f) }
+    ensures { result ≡ are_parallel (a, b, c) (d, e, f) }
+{
+    if same_products(a, e, d, b) {
+        if same_products(a, f, d, c) {
+            same_products(b, f, e, c)
+        } else {
+            false
+        }
+    } else {
+        false
+    }
+}
+
+// Whether a point and the ends of a stretch lie on one line.
+#[inline(always)]
+fn is_on_line(x1: i64, y1: i64, z1: i64, x2: i64, y2: i64, z2: i64, x: i64, y: i64, z: i64) -> bool
+    requires stretch { IsSpan ((x1, y1, z1), (x2, y2, z2)) }
+    requires point { IsPoint (x, y, z) }
+    ensures { result ≡ are_aligned (x1, y1, z1) (x, y, z) (x2, y2, z2) }
+{
+    are_parallel(
+        distance(x, x1),
+        distance(y, y1),
+        distance(z, z1),
+        distance(x2, x1),
+        distance(y2, y1),
+        distance(z2, z1),
+    )
+}
+
 // Whether a stretch with a point more ends at the point.
+#[inline(always)]
 fn reaches(x1: i64, y1: i64, z1: i64, x2: i64, y2: i64, z2: i64, x: i64, y: i64, z: i64) -> bool
     requires { IsSpan ((x1, y1, z1), (x2, y2, z2)) }
     ensures { IsTrue result → Span x1 y1 z1 x y z ≡ plane_join (Span x1 y1 z1 x2 y2 z2) (plane_of ((x, y, z) ∷ [])) }
@@ -57,21 +121,14 @@ fn reaches(x1: i64, y1: i64, z1: i64, x2: i64, y2: i64, z2: i64, x: i64, y: i64,
     if !is_in_space(x, y, z) {
         return false;
     }
-    if !is_before(x1, y1, z1, x, y, z) {
+    if !is_before(x2, y2, z2, x, y, z) {
         return false;
     }
-    let stretch = State::Span {
-        x1,
-        y1,
-        z1,
-        x2: x,
-        y2: y,
-        z2: z,
-    };
-    plane_stays(&stretch, x2, y2, z2)
+    is_on_line(x1, y1, z1, x2, y2, z2, x, y, z)
 }
 
 // Whether the state is a stretch of a line that ends at the point, with the point.
+#[inline(always)]
 fn grows(state: &State, x: i64, y: i64, z: i64) -> bool
     requires { IsPlaneState state.now }
     ensures state { IsTrue result → prolonged state.now x y z ≡ plane_join state.now (plane_of ((x, y, z) ∷ [])) }
@@ -91,6 +148,7 @@ fn grows(state: &State, x: i64, y: i64, z: i64) -> bool
 }
 
 // The growth of a slot of row 67 over three leaders by a sample, if it is a stretch of a line that ends at the sample's point then.
+#[inline(always)]
 fn growth_by(
     slot: &Slot,
     sample: &[View<'_>],
@@ -123,6 +181,7 @@ fn growth_by(
 }
 
 /// The growth of the slot at a place by a sample, if it is a stretch of a line that ends at the sample's point then.
+#[inline(always)]
 pub(crate) fn growth_of(slot: &Slot, sample: &[View<'_>], place: usize) -> Option<Growth>
     requires { IsProper (form_of slot.now.row) slot.now.state }
     ensures state { IfSome result (λ g. grown_state slot.now g ≡ with_sample slot.now.row slot.now.leaders (values_of sample.now) slot.now.state) }
