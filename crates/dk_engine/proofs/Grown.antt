@@ -7,6 +7,7 @@ use Rattle.std.proofs.lemmas.List.{append_assoc, get_or-set_other, get_or-set_sa
 use Rattle.std.proofs.lemmas.List.Elements.{All-append, All-contains, All-head, All-nil, All-push, All-tail, All-weaker, Contains-append_cases, Contains-append_left, Contains-append_right, Contains-get_or, Contains-push, filter-append}
 use Rattle.std.proofs.lemmas.List.Folds.{list_any-append}
 use Rattle.std.proofs.lemmas.List.Sums.{fold-append}
+use Rattle.dk_base.specs.declared.values.Value.{Value}
 use Rattle.dk_forms.specs.declared.states.State.{State}
 use Rattle.dk_forms.specs.declared.states.State.TheVariants.{Broken, Span}
 use Rattle.dk_suppress.specs.Rules.{asked_of, rules}
@@ -15,11 +16,11 @@ use Rattle.dk_template.specs.declared.grammar.RowId.{RowId}
 use Rattle.dk_ternary.specs.Rows.{linear_ternary_row}
 use Rattle.dk_engine.proofs.Losing.{asked_lose}
 use Rattle.dk_engine.proofs.Narrowing.{change_more, no_changes, stay_more, stays_more}
-use Rattle.dk_engine.proofs.Running.{no_and}
-use Rattle.dk_engine.specs.Feeding.{is_broken}
-use Rattle.dk_engine.specs.Narrow.{AreChangesBelow, AreFoundBelow, IsChange, IsGrowth, StateStays, StayBetween, change_by, found_changes, grown_state, loses, loses_by, lost_places, may_begin, prolonged, with_change, with_growth, with_state}
+use Rattle.dk_engine.proofs.Running.{no_and, outcome_of_shut}
+use Rattle.dk_engine.specs.Feeding.{is_broken, with_sample}
+use Rattle.dk_engine.specs.Narrow.{AreChangesBelow, AreFoundBelow, IsChange, IsGrown, IsGrowth, StateStays, StayBetween, change_by, found_changes, grown_state, loses, loses_by, lost_places, may_begin, outcome, prolonged, with_change, with_growth, with_state}
 use Rattle.dk_engine.specs.Parts.{no_slot, slot_in}
-use Rattle.dk_engine.specs.Step.{is_empty_state}
+use Rattle.dk_engine.specs.Step.{Answer, can_close, is_empty_state}
 use Rattle.dk_engine.specs.declared.changes.Change.{Change}
 use Rattle.dk_engine.specs.declared.changes.Found.{Found}
 use Rattle.dk_engine.specs.declared.growing.Growth.{Growth}
@@ -201,3 +202,39 @@ module _ (made : Slot → State) (slots : List Slot) where
             growths = subst (All (IsGrowth slots)) (sym e) (All-push (IsGrowth slots) found.growths growth are.growths grows);
             changes = subst (AreChangesBelow (n + 1) made slots) (sym same) (put_between n grown found.changes are.changes change at is);
           }
+
+-- ---- what a sample makes of a slot that can't close where it is asked
+module _ (asked : Bool) (after : Answer) (sample : List Value) (slots : List Slot) (place : ℕ) (within : place < length slots) (shut : (asked && can_close (slot_in slots place)) ≡ false)
+    (found : Found) (are : AreFoundBelow place (outcome asked after sample) slots found) where
+  abbrev slot : Slot
+  slot = slot_in slots place
+
+  -- the state that the sample makes of it
+  abbrev new_state : State
+  new_state = with_sample slot.row slot.leaders sample slot.state
+
+  made : outcome asked after sample slot ≡ new_state
+  made = outcome_of_shut asked slot shut after sample
+
+  pub found_still : new_state ≡ slot.state → slot.state ≢ Broken → AreFoundBelow (place + 1) (outcome asked after sample) slots found
+  found_still still whole = found_stays (outcome asked after sample) slots place found are (made ∙ still, whole)
+
+  pub found_grown : (growth : Growth) → IsGrown slot new_state place growth → (more : Found) → more.growths ≡ found.growths ++ growth ∷ [] → more.changes ≡ found.changes
+      → AreFoundBelow (place + 1) (outcome asked after sample) slots more
+  found_grown growth is more e h =
+      let there : slot_in slots growth.place ≡ slot = ap (slot_in slots) is.at in
+      let grows : IsGrowth slots growth = record {
+        row = ap (λ (s : Slot). s.row.0) there ∙ is.row;
+        unbroken = λ b. is.unbroken (ap (λ (s : Slot). s.state) (sym there) ∙ b);
+      } in
+      let change : IsChange (outcome asked after sample) slots (change_by slots growth) = record {
+        within = subst (λ k. k < length slots) (sym is.at) within;
+        state = ap (λ (s : Slot). grown_state s growth) there ∙ (is.state ∙ (sym made ∙ ap (outcome asked after sample) (sym there)));
+      } in
+      found_growth (outcome asked after sample) slots place found are more growth e h is.at grows change
+
+  pub found_joined : (more : Found) → more.growths ≡ found.growths → more.changes ≡ found.changes ++ record { place = place; state = new_state } ∷ []
+      → AreFoundBelow (place + 1) (outcome asked after sample) slots more
+  found_joined more e h =
+      let change : Change = record { place = place; state = new_state } in
+      found_change (outcome asked after sample) slots place found are more e change h refl (record { within = within; state = sym made })

@@ -1,4 +1,5 @@
--- Slots that no sample of near numbers changes, in which some variables have the numbers that they had, and notes of them.
+-- Slots that no sample of near numbers changes, in which some variables have the numbers that they had or are missing, and notes of
+-- them.
 use Rattle.std.specs.Prelude.{◌≡◌, ◌≢◌, ◌<◌, ◌≤◌, ◌+◌, ◌+ℤ◌, ◌*ℤ◌, ◌^◌, ◌&&◌, ◌||◌, ◌==◌, ℕ, zero, suc, ℤ, pos, negsuc, neg_ℤ, true, false, List, [], ◌∷◌, fold, if◌then◌else◌, length, nat_le, nat_lt, refl, replicate, slice_set, unsigned_abs}
 use Rattle.std.specs.List.{list_all, list_any}
 use Rattle.std.specs.Ordering.{int_eq}
@@ -34,14 +35,15 @@ use Rattle.dk_engine.specs.declared.slot.Slot.{Slot}
 
 -- ---- samples of near numbers
 -- a value there is a near number
-one_near : (x : Value) → is_near x ≡ true → (z : ℤ) × (x ≡ value.Int z) × (nat_le (unsigned_abs z) (2 ^ 30) ≡ true)
-one_near (value.Int z) h = (z, refl, h)
-one_near _ h = absurd (false≢true h)
+one_near : (x : Value) → is_near x ≡ true → is_present x ≡ true → (z : ℤ) × (x ≡ value.Int z) × (nat_le (unsigned_abs z) (2 ^ 30) ≡ true)
+one_near (value.Int z) h there = (z, refl, h)
+one_near value.Missing h there = absurd (false≢true there)
+one_near _ h there = absurd (false≢true h)
 
 near_at : (sample : List Value) → are_near sample ≡ true → (n : ℕ) → is_present (value_at sample n) ≡ true
     → (z : ℤ) × (value_at sample n ≡ value.Int z) × (nat_le (unsigned_abs z) (2 ^ 30) ≡ true)
 near_at [] near n there = absurd (false≢true there)
-near_at (x ∷ sample) near zero there = one_near x (and_parts (is_near x) (list_all is_near sample) near).0
+near_at (x ∷ sample) near zero there = one_near x (and_parts (is_near x) (list_all is_near sample) near).0 there
 near_at (x ∷ sample) near (suc n) there = near_at sample (and_parts (is_near x) (list_all is_near sample) near).1 n there
 
 -- ---- planes that are idle

@@ -21,7 +21,7 @@ use Rattle.dk_template.specs.declared.grammar.RowId.{RowId}
 use Rattle.dk_engine.specs.Exact.{SlotBefore}
 use Rattle.dk_engine.specs.Feeding.{with_sample}
 use Rattle.dk_engine.specs.Idle.{PassesStill, skip_in}
-use Rattle.dk_engine.specs.Narrow.{StateStays, is_in_run, outcome}
+use Rattle.dk_engine.specs.Narrow.{StateStays, StayBetween, is_in_run, outcome}
 use Rattle.dk_engine.specs.Parts.{no_slot, slot_in}
 use Rattle.dk_engine.specs.Step.{Answer, IsPlaced, can_close}
 use Rattle.dk_engine.specs.declared.slot.Slot.{Slot}
@@ -29,10 +29,6 @@ use Rattle.dk_engine.specs.declared.slot.Slot.{Slot}
 -- the sample leaves a slot's state of the row as it is
 abbrev pub IsStill : RowId → List Value → Slot → Type 0
 IsStill row sample s = with_sample row s.leaders sample s.state ≡ s.state
-
--- so does the slot at a place, of its own row
-abbrev pub IsStillAt : List Value → List Slot → ℕ → Type 0
-IsStillAt sample slots k = with_sample (slot_in slots k).row (slot_in slots k).leaders sample (slot_in slots k).state ≡ (slot_in slots k).state
 
 -- an item that is found is there
 there : (P : Slot → Type 0) (slots : List Slot) (n : ℕ) → IsSomeAnd (slice_get slots n) P → n < length slots
@@ -156,14 +152,13 @@ module _ (slots : List Slot) (place n : ℕ) where
         let l : j < length (take n (drop place slots)) = omega (arith, from, to, most) in
         subst (λ i. IsStill row sample (slot_in slots i)) back (subst (IsStill row sample) (at_run j no_slot l) (still j (omega (arith, from, to))))
 
--- ---- planes of which some are passed over
-pub still_more : (sample : List Value) (slots : List Slot) (skips : List ℕ) (from place next : ℕ) → PassesStill sample slots skips
-    → ((k : ℕ) → from ≤ k → k < place → IsStillAt sample slots k) → IsStillAt sample slots place → ((j : ℕ) → place + 1 ≤ j → j < next → j < skip_in skips (place + 1))
-    → (k : ℕ) → from ≤ k → k < next → IsStillAt sample slots k
-still_more sample slots skips from place next passes so_far here passed k a b = elim (cases_lt k place) as (λ _. IsStillAt sample slots k) [
-  | inl lt ↦ so_far k a lt
-  | inr ge ↦ elim (cases_lt place k) as (λ _. IsStillAt sample slots k) [
-    | inl behind ↦ passes (place + 1) k (omega (arith, behind)) (passed k (omega (arith, behind)) b)
-    | inr le ↦ let same : place ≡ k = omega (arith, ge, le) in subst (IsStillAt sample slots) same here
-  ]
-]
+-- ---- slots of which some are passed over
+-- those that can't close where it is asked stay
+module _ (asked : Bool) (after : Answer) (sample : List Value) (slots : List Slot) (whole : All (λ (s : Slot). s.state ≢ Broken) slots)
+    (from to : ℕ) (most : to ≤ length slots) (shut : (k : ℕ) → from ≤ k → k < to → (asked && can_close (slot_in slots k)) ≡ false) where
+  pub passed_stay : (skips : List ℕ) → PassesStill sample slots skips → (place next : ℕ) → from ≤ place → next ≤ to → ((j : ℕ) → place ≤ j → j < next → j < skip_in skips place)
+      → StayBetween place next (outcome asked after sample) slots
+  passed_stay skips passes place next first last passed k a b = (
+    outcome_of_shut asked (slot_in slots k) (shut k (omega (arith, first, a)) (omega (arith, b, last))) after sample ∙ passes place k a (passed k a b),
+    whole k no_slot (omega (arith, b, last, most)),
+  )

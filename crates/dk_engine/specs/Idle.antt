@@ -1,5 +1,5 @@
--- Slots that no sample of near numbers changes, in which some variables have the numbers that they had, and how a search for changed
--- slots passes over them.
+-- Slots that no sample of near numbers changes, in which some variables have the numbers that they had or are missing, and how a search
+-- for changed slots passes over them.
 use Rattle.std.specs.Prelude.{◌≡◌, ◌<◌, ◌≤◌, ◌^◌, ◌&&◌, ◌||◌, ◌==◌, ℕ, ℤ, pos, negsuc, neg_ℤ, Bool, true, false, List, if◌then◌else◌, length, nat_le, nat_lt, slice_index_or, unsigned_abs}
 use Rattle.std.specs.List.{list_all, list_any}
 use Rattle.std.specs.Ordering.{int_eq}
@@ -14,12 +14,13 @@ use Rattle.dk_engine.specs.Parts.{slot_in}
 use Rattle.dk_engine.specs.declared.idle.Fixed.{Fixed}
 use Rattle.dk_engine.specs.declared.slot.Slot.{Slot}
 
--- a whole number of at most 2^30 in size
+-- a whole number of at most 2^30 in size, or missing
 abbrev pub is_near : Value → Bool
 is_near (value.Int z) = nat_le (unsigned_abs z) (2 ^ 30)
+is_near value.Missing = true
 is_near _ = false
 
--- the sample's values are all such numbers
+-- the sample's values are all such numbers or missing
 abbrev pub are_near : List Value → Bool
 are_near sample = list_all is_near sample
 
@@ -28,11 +29,13 @@ abbrev pub is_diagonal : ℤ → ℤ → ℤ → ℤ → Bool
 is_diagonal a b c d = int_eq a (pos 1) && (int_eq b (negsuc 0) && (int_eq c (pos 0) && int_eq d (pos 0)))
 
 -- ---- variables with the numbers that they had
+-- this number, or missing
 abbrev pub is_number : ℤ → Value → Bool
 is_number number (value.Int z) = int_eq z number
+is_number number value.Missing = true
 is_number number _ = false
 
--- the variable has this number in the sample
+-- the variable has this number in the sample, or none
 abbrev pub has_number : List Value → Fixed → Bool
 has_number sample f = is_number f.number (value_in sample f.var)
 

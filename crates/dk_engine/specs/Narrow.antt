@@ -1,5 +1,5 @@
 -- The parts of a narrow step: what its functions give, from the slots that are kept, without a sweep.
-use Rattle.std.specs.Prelude.{◌≡◌, ◌≢◌, ◌⊎◌, ◌↔◌, ◌<◌, ◌≤◌, ◌&&◌, ◌==◌, ◌++◌, ℕ, ℤ, Bool, true, false, All, Contains, List, filter, flat_map, length, map, not, slice_set, if◌then◌else◌}
+use Rattle.std.specs.Prelude.{◌≡◌, ◌≢◌, ◌⊎◌, ◌↔◌, ◌<◌, ◌≤◌, ◌&&◌, ◌==◌, ◌++◌, ⊤, ℕ, ℤ, Bool, true, false, All, Contains, List, filter, flat_map, length, map, not, slice_set, if◌then◌else◌}
 use Rattle.std.specs.List.{AllPairs, list_any}
 use Rattle.dk_base.specs.declared.kinds.VarId.{VarId}
 use Rattle.dk_base.specs.declared.kinds.VarInfo.{VarInfo}
@@ -23,6 +23,8 @@ use Rattle.dk_engine.specs.Step.{Answer, IsLeftOf, IsOpened, can_close, is_empty
 use Rattle.dk_engine.specs.declared.changes.Change.{Change}
 use Rattle.dk_engine.specs.declared.changes.Found.{Found}
 use Rattle.dk_engine.specs.declared.growing.Growth.{Growth}
+use Rattle.dk_engine.specs.declared.growing.Seen.{Seen}
+use Rattle.dk_engine.specs.declared.growing.Seen.TheVariants.{Grows, Neither, Stays}
 use Rattle.dk_engine.specs.Sweeps.{freed_slots, touched_slots}
 use Rattle.dk_engine.specs.declared.kept.Kept.{Kept}
 use Rattle.dk_engine.specs.declared.now.Now.{Now}
@@ -90,6 +92,19 @@ may_stay state x y z = true
 -- the state that a growth makes of a slot's
 abbrev pub grown_state : Slot → Growth → State
 grown_state slot growth = prolonged slot.state growth.x growth.y growth.z
+
+-- a growth by which the slot at a place, of the row of planes, gets the state that is made of it
+pub record IsGrown (slot : Slot) (made : State) (place : ℕ) (growth : Growth) : Type 0 where
+  pub at : growth.place ≡ place
+  pub row : slot.row.0 ≡ 67
+  pub unbroken : slot.state ≢ Broken
+  pub state : grown_state slot growth ≡ made
+
+-- what is seen of the slot at a place and the state that is made of it
+abbrev pub IsSeen : Slot → State → ℕ → Seen → Type 0
+IsSeen slot made place Stays = made ≡ slot.state
+IsSeen slot made place (Grows growth) = IsGrown slot made place growth
+IsSeen slot made place Neither = ⊤
 
 -- the change that it is
 abbrev pub change_by : List Slot → Growth → Change

@@ -1,6 +1,7 @@
 // The slots that a sample changes.
 ghost use Rattle.std.specs.Prelude.{◌≡◌, ◌≢◌, ◌<◌, ◌≤◌, ◌+◌, ◌++◌, ◌∷◌, ◌&&◌, ℕ, [], true, false, All, IfNone, IfOk, IfSome, OnOk, length};
 ghost use Rattle.std.specs.List.{AllPairs, list_any};
+ghost use Rattle.dk_base.specs.Values.{values_of};
 ghost use Rattle.dk_forms.specs.declared.states.State.TheVariants.{Broken};
 ghost use Rattle.dk_template.specs.Proper.{IsProper};
 ghost use Rattle.dk_template.specs.Templates.{form_of};
@@ -13,9 +14,9 @@ ghost use Rattle.dk_engine.specs.Step.{IsPlaced, can_close, is_empty_state, is_o
 
 use crate::Slot;
 use crate::after::After;
-use crate::growing::{Growth, growth_of};
-use crate::runs::{run_end, still_to};
-use dk_base::{List, NoMemory};
+use crate::growing::{Growth, Seen, seen_with};
+use crate::runs::{passed_to, run_end, run_to};
+use dk_base::{List, NoMemory, View};
 use dk_suppress::{asked_of, suppressed};
 use dk_template::{RowId, State, suffices_for};
 use std::alloc::Global;
@@ -106,15 +107,18 @@ fn add_change(
     push_change(&mut found.changes, place, state)
 }
 
-// How many growths, or changes, get room with the first of them.
-const ROOM: usize = 32;
+// How many growths get room with the first of them: about a kilobyte.
+const GROWTHS: usize = 32;
 
-// The same list, with room for more where there is nothing yet.
-fn make_room<T: Drop>(alloc: Global, list: &mut List<T>) -> Result<(), NoMemory>
+// How many changes do.
+const CHANGES: usize = 10;
+
+// The same list, with room for so many where there is nothing yet.
+fn make_room<T: Drop>(alloc: Global, room: usize, list: &mut List<T>) -> Result<(), NoMemory>
     ensures { OnOk result (list.new ≡ list.old) }
 {
     if list.is_empty() {
-        *list = List::from_vec(Vec::with_capacity(alloc, ROOM)?);
+        *list = List::from_vec(Vec::with_capacity(alloc, room)?);
     }
     Ok(())
 }
@@ -123,7 +127,7 @@ fn make_room<T: Drop>(alloc: Global, list: &mut List<T>) -> Result<(), NoMemory>
 fn push_growth(alloc: Global, growth: Growth, growths: &mut List<Growth>) -> Result<(), NoMemory>
     ensures { OnOk result (growths.new ≡ growths.old ++ growth ∷ []) }
 {
-    make_room(alloc, growths)?;
+    make_room(alloc, GROWTHS, growths)?;
     growths.push(growth)?;
     Ok(())
 }
@@ -141,31 +145,65 @@ fn push_joined(
     ensures { OnOk result (changes.new ≡ changes.old ++ record { place = place; state = with_sample (slot_in slots.now place).row (slot_in slots.now place).leaders after.now.sample (slot_in slots.now place).state } ∷ []) }
 {
     let state = after.with(&slots[place])?;
-    make_room(after.alloc(), changes)?;
+    make_room(after.alloc(), CHANGES, changes)?;
     changes.push(Change { place, state })?;
     Ok(())
 }
 
-// With the growth of the slot at a place, which can't close where it is asked, or with its change, behind those of the slots in front of
-// it.
+// With what the sample makes of the slot at a place, which can't close where it is asked, behind what it makes of those in front of it.
+#[inline(always)]
 fn push_found(
     after: &After<'_>,
     asked: bool,
+    sample: &[View<'_>],
     slots: &[Slot],
     place: usize,
     found: &mut Found,
 ) -> Result<(), NoMemory>
     requires placed { All (λ slot. IsPlaced after.now.whole.grammar after.now.whole.infos after.now.whole.kept.leaders slot.row slot.leaders) slots.now }
+    requires sample { values_of sample.now ≡ after.now.sample }
     requires proper { All (λ slot. IsProper (form_of slot.row) slot.state) slots.now }
+    requires unbroken { All (λ slot. slot.state ≢ Broken) slots.now }
     requires within { place < length slots.now }
     requires stays_open { (asked && can_close (slot_in slots.now place)) ≡ false }
     requires below { AreFoundBelow place (outcome asked (read_after after.now.whole.kept after.now.sample) after.now.sample) slots.now found.old }
     ensures { OnOk result (AreFoundBelow (place + 1) (outcome asked (read_after after.now.whole.kept after.now.sample) after.now.sample) slots.now found.new) }
 {
-    match growth_of(&slots[place], after.sample(), place) {
-        Some(growth) => push_growth(after.alloc(), growth, &mut found.growths),
-        None => push_joined(after, slots, place, &mut found.changes),
+    match seen_with(&slots[place], sample, place) {
+        Seen::Stays => Ok(()),
+        Seen::Grows(growth) => push_growth(after.alloc(), growth, &mut found.growths),
+        Seen::Neither => push_joined(after, slots, place, &mut found.changes),
     }
+}
+
+// With what the sample makes of the planes from a place up to another, which can't close where it is asked, behind what it makes of the
+// slots in front of them. Planes that are passed over aren't looked at.
+fn add_planes(
+    after: &After<'_>,
+    asked: bool,
+    skips: &[usize],
+    slots: &[Slot],
+    from: usize,
+    to: usize,
+    found: &mut Found,
+) -> Result<(), NoMemory>
+    requires placed { All (λ slot. IsPlaced after.now.whole.grammar after.now.whole.infos after.now.whole.kept.leaders slot.row slot.leaders) slots.now }
+    requires skips { PassesStill after.now.sample slots.now skips.now }
+    requires proper { All (λ slot. IsProper (form_of slot.row) slot.state) slots.now }
+    requires unbroken { All (λ slot. slot.state ≢ Broken) slots.now }
+    requires from { from ≤ to }
+    requires to { to ≤ length slots.now }
+    requires stay_open { (k : ℕ) → from ≤ k → k < to → (asked && can_close (slot_in slots.now k)) ≡ false }
+    requires below { AreFoundBelow from (outcome asked (read_after after.now.whole.kept after.now.sample) after.now.sample) slots.now found.old }
+    ensures { OnOk result (AreFoundBelow to (outcome asked (read_after after.now.whole.kept after.now.sample) after.now.sample) slots.now found.new) }
+{
+    let sample = after.sample();
+    let mut place = passed_to(skips, from, to);
+    while place < to {
+        push_found(after, asked, sample, slots, place, found)?;
+        place = passed_to(skips, place + 1, to);
+    }
+    Ok(())
 }
 
 // With the changes of a run of slots, from a place up to another, behind those of the slots in front of it.
@@ -189,10 +227,14 @@ fn add_changes(
     ensures { OnOk result (AreFoundBelow to (outcome asked (read_after after.now.whole.kept after.now.sample) after.now.sample) slots.now found.new) }
 {
     let row = slots[from].row;
-    let mut place = still_to(after, row, skips, slots, from, to);
+    if row.0 == 67 && !skips.is_empty() {
+        return add_planes(after, asked, skips, slots, from, to, found);
+    }
+    let sample = after.sample();
+    let mut place = run_to(after, row, slots, from, to);
     while place < to {
-        push_found(after, asked, slots, place, found)?;
-        place = still_to(after, row, skips, slots, place + 1, to);
+        push_found(after, asked, sample, slots, place, found)?;
+        place = run_to(after, row, slots, place + 1, to);
     }
     Ok(())
 }

@@ -1,20 +1,22 @@
 // Planes and stretches of a line with a sample: whether they stay as they are, and stretches that grow, as the sample's point lies on the
 // line, beyond the last one.
-ghost use Rattle.std.specs.Prelude.{◌≡◌, ◌≢◌, ◌≤◌, ◌∷◌, [], ◌^◌, ◌*ℤ◌, ◌-ℤ◌, unsigned_abs, nat_le, IfSome, IsTrue};
+ghost use Rattle.std.specs.Prelude.{◌≡◌, ◌≢◌, ◌≤◌, ◌∷◌, [], ◌^◌, ◌*ℤ◌, ◌-ℤ◌, unsigned_abs, nat_le, IsTrue};
 ghost use Rattle.std.specs.Ordering.{int_eq};
 ghost use Rattle.dk_base.specs.Values.{values_of};
+ghost use Rattle.dk_fits.specs.Fits.{is_whole, tuple_in};
 ghost use Rattle.dk_forms.specs.Plane.{IsPlaneState, IsPoint, IsSpan, are_aligned, are_parallel, in_space, is_before, plane_join, plane_of};
 ghost use Rattle.dk_forms.specs.Points.{IsGap};
 ghost use Rattle.dk_forms.specs.declared.states.State.TheVariants.{Broken, Span};
 ghost use Rattle.dk_template.specs.Proper.{IsProper};
 ghost use Rattle.dk_template.specs.Templates.{form_of};
 ghost use Rattle.dk_engine.specs.Feeding.{with_sample};
-ghost use Rattle.dk_engine.specs.Narrow.{grown_state, may_stay, prolonged, with_state};
+ghost use Rattle.dk_engine.specs.Narrow.{IsSeen, grown_state, may_stay, prolonged, with_state};
 
 use crate::Slot;
 use crate::operations::number_at;
 use dk_base::{VarId, View};
 use dk_forms::plane_stays;
+use dk_samples::{is_present, value_at};
 use dk_template::State;
 
 /// A stretch of a line in the slot at a place, with the point at which it ends then.
@@ -147,54 +149,92 @@ fn grows(state: &State, x: i64, y: i64, z: i64) -> bool
     }
 }
 
-// The growth of a slot of row 67 over three leaders by a sample, if it is a stretch of a line that ends at the sample's point then.
+// Whether the state isn't a stretch of a line that ends before the point. One that does moves.
 #[inline(always)]
-fn growth_by(
-    slot: &Slot,
-    sample: &[View<'_>],
-    place: usize,
-    u: VarId,
-    v: VarId,
-    w: VarId,
-) -> Option<Growth>
+fn may_stay(state: &State, x: i64, y: i64, z: i64) -> bool
+    ensures { result ≡ may_stay state.now x y z }
+{
+    match state {
+        State::Span { x2, y2, z2, .. } => is_before(x, y, z, *x2, *y2, *z2),
+        _ => true,
+    }
+}
+
+/// What a sample makes of a slot, as far as that is seen without a join.
+#[derive(Clone, Copy, Debug)]
+pub(crate) enum Seen {
+    /// It leaves the slot as it is.
+    Stays,
+    /// The slot is a stretch of a line, which ends at the sample's point then.
+    Grows(Growth),
+    /// Neither is seen.
+    Neither,
+}
+
+// What a point makes of a slot of row 67, which is a plane or a stretch of a line.
+#[inline(always)]
+fn seen_at(slot: &Slot, growth: Growth) -> Seen
+    requires row { slot.now.row.0 ≡ 67 }
+    requires proper { IsProper (form_of slot.now.row) slot.now.state }
+    ensures { IsSeen slot.now (plane_join slot.now.state (plane_of ((growth.x, growth.y, growth.z) ∷ []))) growth.place result }
+{
+    if may_stay(&slot.state, growth.x, growth.y, growth.z) {
+        if plane_stays(&slot.state, growth.x, growth.y, growth.z) {
+            Seen::Stays
+        } else {
+            Seen::Neither
+        }
+    } else if grows(&slot.state, growth.x, growth.y, growth.z) {
+        Seen::Grows(growth)
+    } else {
+        Seen::Neither
+    }
+}
+
+// Whether none of three variables is missing in a sample.
+fn are_present(sample: &[View<'_>], u: VarId, v: VarId, w: VarId) -> bool
+    ensures { result ≡ is_whole (tuple_in (u ∷ v ∷ w ∷ []) (values_of sample.now)) }
+{
+    is_present(value_at(sample, u))
+        && (is_present(value_at(sample, v)) && is_present(value_at(sample, w)))
+}
+
+// What a sample makes of a slot of row 67 over three leaders. It stays as it is where one of them is missing.
+#[inline(always)]
+fn seen_by(slot: &Slot, sample: &[View<'_>], place: usize, u: VarId, v: VarId, w: VarId) -> Seen
     requires row { slot.now.row.0 ≡ 67 }
     requires leaders { slot.now.leaders ≡ u ∷ v ∷ w ∷ [] }
     requires proper { IsProper (form_of slot.now.row) slot.now.state }
-    ensures state { IfSome result (λ g. grown_state slot.now g ≡ with_sample slot.now.row slot.now.leaders (values_of sample.now) slot.now.state) }
-    ensures place { IfSome result (λ g. g.place ≡ place) }
-    ensures unbroken { IfSome result (λ g. slot.now.state ≢ Broken) }
+    ensures { IsSeen slot.now (with_sample slot.now.row slot.now.leaders (values_of sample.now) slot.now.state) place result }
 {
     match (
         number_at(sample, u),
         number_at(sample, v),
         number_at(sample, w),
     ) {
-        (Some(x), Some(y), Some(z)) => {
-            if grows(&slot.state, x, y, z) {
-                Some(Growth { place, x, y, z })
+        (Some(x), Some(y), Some(z)) => seen_at(slot, Growth { place, x, y, z }),
+        _ => {
+            if are_present(sample, u, v, w) {
+                Seen::Neither
             } else {
-                None
+                Seen::Stays
             }
         }
-        _ => None,
     }
 }
 
-/// The growth of the slot at a place by a sample, if it is a stretch of a line that ends at the sample's point then.
+/// What a sample makes of the slot at a place: a plane or a stretch of a line may be seen to stay as it is, or to grow.
 #[inline(always)]
-pub(crate) fn growth_of(slot: &Slot, sample: &[View<'_>], place: usize) -> Option<Growth>
+pub(crate) fn seen_with(slot: &Slot, sample: &[View<'_>], place: usize) -> Seen
     requires { IsProper (form_of slot.now.row) slot.now.state }
-    ensures state { IfSome result (λ g. grown_state slot.now g ≡ with_sample slot.now.row slot.now.leaders (values_of sample.now) slot.now.state) }
-    ensures place { IfSome result (λ g. g.place ≡ place) }
-    ensures row { IfSome result (λ g. slot.now.row.0 ≡ 67) }
-    ensures unbroken { IfSome result (λ g. slot.now.state ≢ Broken) }
+    ensures { IsSeen slot.now (with_sample slot.now.row slot.now.leaders (values_of sample.now) slot.now.state) place result }
 {
     if slot.row.0 != 67 {
-        return None;
+        return Seen::Neither;
     }
     match slot.leaders.as_slice() {
-        [u, v, w] => growth_by(slot, sample, place, *u, *v, *w),
-        _ => None,
+        [u, v, w] => seen_by(slot, sample, place, *u, *v, *w),
+        _ => Seen::Neither,
     }
 }
 
@@ -218,50 +258,4 @@ pub(crate) fn grow(slot: &mut Slot, growth: Growth)
     ensures { slot.new ≡ with_state slot.old (grown_state slot.old growth) }
 {
     prolong(&mut slot.state, growth.x, growth.y, growth.z);
-}
-
-// Whether the state isn't a stretch of a line that ends before the point. One that does moves.
-#[inline(always)]
-fn may_stay(state: &State, x: i64, y: i64, z: i64) -> bool
-    ensures { result ≡ may_stay state.now x y z }
-{
-    match state {
-        State::Span { x2, y2, z2, .. } => is_before(x, y, z, *x2, *y2, *z2),
-        _ => true,
-    }
-}
-
-// Whether a sample has numbers for a slot of row 67 over three leaders, and leaves it as it is.
-#[inline(always)]
-fn stays_by(slot: &Slot, sample: &[View<'_>], u: VarId, v: VarId, w: VarId) -> bool
-    requires row { slot.now.row.0 ≡ 67 }
-    requires leaders { slot.now.leaders ≡ u ∷ v ∷ w ∷ [] }
-    requires proper { IsProper (form_of slot.now.row) slot.now.state }
-    ensures { IsTrue result → with_sample slot.now.row slot.now.leaders (values_of sample.now) slot.now.state ≡ slot.now.state }
-{
-    match (
-        number_at(sample, u),
-        number_at(sample, v),
-        number_at(sample, w),
-    ) {
-        (Some(x), Some(y), Some(z)) => {
-            may_stay(&slot.state, x, y, z) && plane_stays(&slot.state, x, y, z)
-        }
-        _ => false,
-    }
-}
-
-/// Whether a sample has numbers for a slot that is a plane, or a stretch of a line, and leaves it as it is.
-#[inline(always)]
-pub(crate) fn plane_stays_with(slot: &Slot, sample: &[View<'_>]) -> bool
-    requires { IsProper (form_of slot.now.row) slot.now.state }
-    ensures { IsTrue result → with_sample slot.now.row slot.now.leaders (values_of sample.now) slot.now.state ≡ slot.now.state }
-{
-    if slot.row.0 != 67 {
-        return false;
-    }
-    match slot.leaders.as_slice() {
-        [u, v, w] => stays_by(slot, sample, *u, *v, *w),
-        _ => false,
-    }
 }

@@ -1,6 +1,6 @@
 // Slots that no sample of near numbers changes: planes that say of a variable, which stands at two roles, that it is itself, and such
 // that say of a variable that it has the number that it had, as a constant has. A search for changed slots passes over them, where the
-// variables have these numbers.
+// variables have these numbers or are missing.
 ghost use Rattle.std.specs.Prelude.{◌≡◌, ◌<◌, ◌+◌, ◌==◌, ◌&&◌, ◌∷◌, [], neg_ℤ, IfOk, IsTrue, length, replicate, slice_set};
 ghost use Rattle.std.specs.Ordering.{int_eq};
 ghost use Rattle.dk_base.specs.Values.{value_of, values_of};
@@ -29,17 +29,18 @@ pub(crate) struct Notes {
     pub(crate) ends: Vec<usize>,
 }
 
-// Whether a value is a whole number of at most 2^30 in size.
+// Whether a value is a whole number of at most 2^30 in size, or missing.
 fn is_near(value: View<'_>) -> bool
     ensures { result ≡ is_near (value_of value.entry) }
 {
     match value {
         View::Int(number) => -(1 << 30) <= number && number <= 1 << 30,
+        View::Missing => true,
         _ => false,
     }
 }
 
-// Whether all values of a sample are such numbers.
+// Whether all values of a sample are such numbers or missing.
 fn are_near(sample: &[View<'_>]) -> bool
     ensures { result ≡ are_near (values_of sample.now) }
 {
@@ -58,17 +59,18 @@ fn is_diagonal(a: i128, b: i128, c: i128, d: i128) -> bool
     a == 1 && (b == -1 && (c == 0 && d == 0))
 }
 
-// Whether a variable has this number in a sample.
+// Whether a variable has this number in a sample, or none.
 fn has_number(sample: &[View<'_>], fixed: Fixed) -> bool
     ensures { result ≡ has_number (values_of sample.now) fixed }
 {
     match value_at(sample, fixed.var) {
         View::Int(number) => number == fixed.number,
+        View::Missing => true,
         _ => false,
     }
 }
 
-// Whether all these variables have their numbers in a sample.
+// Whether all these variables have their numbers in a sample, or none.
 fn agree(sample: &[View<'_>], fixed: &[Fixed]) -> bool
     ensures { result ≡ agree (values_of sample.now) fixed.now }
 {
@@ -80,7 +82,7 @@ fn agree(sample: &[View<'_>], fixed: &[Fixed]) -> bool
     true
 }
 
-/// Whether all values of a sample are near numbers, and these variables have theirs.
+/// Whether all values of a sample that aren't missing are near numbers, and these variables have theirs.
 pub(crate) fn has_numbers(sample: &[View<'_>], fixed: &[Fixed]) -> bool
     ensures { result ≡ (are_near (values_of sample.now) && agree (values_of sample.now) fixed.now) }
 {

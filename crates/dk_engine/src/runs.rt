@@ -5,7 +5,7 @@ ghost use Rattle.dk_base.specs.Values.{values_of};
 ghost use Rattle.dk_base.specs.declared.kinds.VarId.{VarId};
 ghost use Rattle.dk_engine.specs.Exact.{SlotBefore};
 ghost use Rattle.dk_engine.specs.Feeding.{with_sample};
-ghost use Rattle.dk_engine.specs.Idle.{PassesStill, skip_in};
+ghost use Rattle.dk_engine.specs.Idle.{skip_in};
 ghost use Rattle.dk_engine.specs.Narrow.{is_in_run};
 ghost use Rattle.dk_engine.specs.Parts.{slot_in};
 ghost use Rattle.dk_engine.specs.Step.{IsPlaced, can_close};
@@ -18,7 +18,6 @@ use crate::Slot;
 use crate::after::After;
 use crate::changes::can_close;
 use crate::ends::REACH;
-use crate::growing::plane_stays_with;
 use crate::idle::skip_at;
 use dk_base::View;
 use dk_grammar::first_changed;
@@ -139,8 +138,9 @@ fn still(row: RowId, run: &[Slot], sample: &[View<'_>]) -> usize
     }
 }
 
-// The place from one place up to another, in front of which slots are passed over.
-fn passed_to(skips: &[usize], from: usize, to: usize) -> usize
+/// The place from one place up to another, in front of which slots are passed over.
+#[inline(always)]
+pub(crate) fn passed_to(skips: &[usize], from: usize, to: usize) -> usize
     requires { from ≤ to }
     ensures from { from ≤ result }
     ensures to { result ≤ to }
@@ -156,28 +156,8 @@ fn passed_to(skips: &[usize], from: usize, to: usize) -> usize
     }
 }
 
-// Up to where the planes from one place to another stay as they are. Those that are passed over aren't looked at.
-fn planes_to(sample: &[View<'_>], skips: &[usize], slots: &[Slot], from: usize, to: usize) -> usize
-    requires skips { PassesStill (values_of sample.now) slots.now skips.now }
-    requires proper { All (λ slot. IsProper (form_of slot.row) slot.state) slots.now }
-    requires from { from ≤ to }
-    requires to { to ≤ length slots.now }
-    ensures from { from ≤ result }
-    ensures to { result ≤ to }
-    ensures still { (k : ℕ) → from ≤ k → k < result → with_sample (slot_in slots.now k).row (slot_in slots.now k).leaders (values_of sample.now) (slot_in slots.now k).state ≡ (slot_in slots.now k).state }
-{
-    let mut place = passed_to(skips, from, to);
-    while place < to {
-        if !plane_stays_with(&slots[place], sample) {
-            return place;
-        }
-        place = passed_to(skips, place + 1, to);
-    }
-    place
-}
-
-// Up to where the slots of a row from one place to another stay as they are, by a run of them.
-fn run_to(after: &After<'_>, row: RowId, slots: &[Slot], from: usize, to: usize) -> usize
+/// Up to where the slots of a row from one place to another stay as they are.
+pub(crate) fn run_to(after: &After<'_>, row: RowId, slots: &[Slot], from: usize, to: usize) -> usize
     requires row { IsRow row }
     requires placed { All (λ slot. IsPlaced after.now.whole.grammar after.now.whole.infos after.now.whole.kept.leaders slot.row slot.leaders) slots.now }
     requires proper { All (λ slot. IsProper (form_of slot.row) slot.state) slots.now }
@@ -189,52 +169,4 @@ fn run_to(after: &After<'_>, row: RowId, slots: &[Slot], from: usize, to: usize)
     ensures still { (k : ℕ) → from ≤ k → k < result → with_sample row (slot_in slots.now k).leaders after.now.sample (slot_in slots.now k).state ≡ (slot_in slots.now k).state }
 {
     from + still(row, &slots[from..to], after.sample())
-}
-
-// The same of planes, where some are passed over.
-fn planes_of(
-    after: &After<'_>,
-    row: RowId,
-    skips: &[usize],
-    slots: &[Slot],
-    from: usize,
-    to: usize,
-) -> usize
-    requires skips { PassesStill after.now.sample slots.now skips.now }
-    requires proper { All (λ slot. IsProper (form_of slot.row) slot.state) slots.now }
-    requires from { from ≤ to }
-    requires to { to ≤ length slots.now }
-    requires of_row { (k : ℕ) → from ≤ k → k < to → (slot_in slots.now k).row ≡ row }
-    ensures from { from ≤ result }
-    ensures to { result ≤ to }
-    ensures still { (k : ℕ) → from ≤ k → k < result → with_sample row (slot_in slots.now k).leaders after.now.sample (slot_in slots.now k).state ≡ (slot_in slots.now k).state }
-{
-    planes_to(after.sample(), skips, slots, from, to)
-}
-
-/// Up to where the slots of a row from one place to another stay as they are.
-pub(crate) fn still_to(
-    after: &After<'_>,
-    row: RowId,
-    skips: &[usize],
-    slots: &[Slot],
-    from: usize,
-    to: usize,
-) -> usize
-    requires row { IsRow row }
-    requires skips { PassesStill after.now.sample slots.now skips.now }
-    requires placed { All (λ slot. IsPlaced after.now.whole.grammar after.now.whole.infos after.now.whole.kept.leaders slot.row slot.leaders) slots.now }
-    requires proper { All (λ slot. IsProper (form_of slot.row) slot.state) slots.now }
-    requires from { from ≤ to }
-    requires to { to ≤ length slots.now }
-    requires of_row { (k : ℕ) → from ≤ k → k < to → (slot_in slots.now k).row ≡ row }
-    ensures from { from ≤ result }
-    ensures to { result ≤ to }
-    ensures still { (k : ℕ) → from ≤ k → k < result → with_sample row (slot_in slots.now k).leaders after.now.sample (slot_in slots.now k).state ≡ (slot_in slots.now k).state }
-{
-    if row.0 == 67 && !skips.is_empty() {
-        planes_of(after, row, skips, slots, from, to)
-    } else {
-        run_to(after, row, slots, from, to)
-    }
 }
