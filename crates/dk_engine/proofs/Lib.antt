@@ -46,6 +46,7 @@ pub mod Raising
 pub mod Applying
 pub mod Leaving
 pub mod Grown
+pub mod Placed
 pub mod Settling
 pub mod ReachedRows
 pub mod Losing

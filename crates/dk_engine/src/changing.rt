@@ -1,13 +1,13 @@
 // Changes of kept slots.
-ghost use Rattle.std.specs.Prelude.{◌≡◌, filter, not};
+ghost use Rattle.std.specs.Prelude.{◌≡◌};
 ghost use Rattle.std.specs.List.{list_any};
 ghost use Rattle.dk_forms.specs.declared.states.State.{State as SlotState};
 ghost use Rattle.dk_engine.specs.Feeding.{is_broken};
 ghost use Rattle.dk_engine.specs.Narrow.{AreFound, slots_left};
 ghost use Rattle.dk_engine.specs.declared.slot.Slot.{Slot as KeptSlot};
 
+use crate::Slots;
 use crate::changes::{Change, Found};
-use crate::{Slot, Slots};
 use dk_template::State;
 
 // Whether the slot's state is Broken.
@@ -29,23 +29,13 @@ fn break_some(changes: &[Change]) -> bool
     false
 }
 
-// Those that aren't Broken.
-fn without_broken(slots: Vec<Slot>) -> Vec<Slot>
-    ensures { result.items ≡ filter (λ s. not (is_broken s.state)) slots.items }
-{
-    let mut left = slots;
-    left.retain(|slot| !is_broken(&slot.state));
-    left
-}
-
-/// The slots with all growths and changes, without those that are Broken then.
-pub(crate) fn apply_changes(slots: Slots, found: Found) -> Slots
-    ensures { (made : KeptSlot → SlotState) → AreFound made slots found → result ≡ slots_left made slots }
+/// Makes all growths and changes of the slots, and drops those that are Broken then.
+pub(crate) fn apply_changes(slots: &mut Slots, found: Found)
+    ensures { (made : KeptSlot → SlotState) → AreFound made slots.old found → slots.new ≡ slots_left made slots.old }
 {
     let breaks = break_some(found.changes.as_slice());
-    let all = slots.with_found(found);
+    slots.change(found);
     if breaks {
-        return Slots::of(without_broken(all.into_vec()));
+        slots.drop_broken();
     }
-    all
 }

@@ -133,12 +133,14 @@ impl Engine {
     {
         let Changes { asked: _, all } = changes;
         let none = Presence::new(self.alloc)?;
-        let mut held = replace(&mut self.kept.held, none);
-        held.count_sample(self.kept.leaders.leaders(), sample)?;
-        let slots = replace(&mut self.kept.slots, Slots::new(self.alloc));
+        let leaders = self.kept.leaders.leaders();
+        if let Err(lack) = self.kept.held.count_sample(leaders, sample) {
+            self.kept.held = none;
+            return Err(lack);
+        }
         self.kept.samples = self.kept.samples.saturating_add(1);
-        self.kept.held = held;
-        self.kept.slots = apply_changes(slots, all).note_skips(self.alloc);
+        apply_changes(&mut self.kept.slots, all);
+        self.kept.slots.note_skips(self.alloc);
         Ok(())
     }
 
@@ -224,8 +226,9 @@ impl Engine {
         ensures infos { self.new.infos ≡ self.old.infos }
         ensures kept { IfOk result (λ _. IsMergedStep self.old.grammar self.old.infos self.old.kept (values_of sample.now) now lost.now self.new.kept) }
     {
-        let slots = replace(&mut self.kept.slots, Slots::new(self.alloc));
-        let slots = merge_slots(apply_changes(slots, found), opened)?;
+        let mut slots = replace(&mut self.kept.slots, Slots::new(self.alloc));
+        apply_changes(&mut slots, found);
+        let slots = merge_slots(slots, opened)?;
         self.set_parts(sample, now, slots)
     }
 

@@ -1,13 +1,15 @@
 // Kept slots.
-ghost use Rattle.std.specs.Prelude.{◌≡◌, [], ◌∷◌, ◌++◌, false, List, OnErr, OnOk, fold};
+ghost use Rattle.std.specs.Prelude.{◌≡◌, [], ◌∷◌, ◌++◌, false, List, OnErr, OnOk, filter, fold, not};
 ghost use Rattle.std.specs.List.{list_any};
 ghost use Rattle.dk_base.specs.Values.{values_of};
+ghost use Rattle.dk_engine.specs.Feeding.{is_broken};
 ghost use Rattle.dk_engine.specs.Idle.{AreSkips, PassesStill, is_passed};
 ghost use Rattle.dk_engine.specs.Narrow.{with_change, with_growth};
 ghost use Rattle.dk_engine.specs.declared.slot.Slot.{Slot as KeptSlot};
 
 use crate::Slot;
 use crate::changes::{Change, Found};
+use crate::changing::is_broken;
 use crate::growing::{Growth, grow};
 use crate::idle::{Notes, has_numbers, is_passed, notes_of};
 use dk_base::{NoMemory, View};
@@ -33,40 +35,41 @@ impl Model for Slots {
     ghost invariant = { λ s. AreSkips s.notes.fixed.items s.all.items s.notes.skips.items };
 }
 
-// The slots with a change.
-fn with_change(slots: Vec<Slot>, change: Change) -> Vec<Slot>
-    ensures { result.items ≡ with_change slots.items change }
+// Makes a change.
+fn change_slot(slots: &mut [Slot], change: Change)
+    ensures { slots.new ≡ with_change slots.old change }
 {
-    let mut slots = slots;
     let Change { place, state } = change;
-    if let Some(slot) = slots.get_mut(place) {
-        slot.state = state;
+    if place < slots.len() {
+        slots[place].state = state;
     }
-    slots
 }
 
-// The slots with all changes.
-fn with_changes(slots: Vec<Slot>, changes: Vec<Change>) -> Vec<Slot>
-    ensures { result.items ≡ fold with_change slots.items changes.items }
+// Makes all changes.
+fn change_slots(slots: &mut [Slot], changes: Vec<Change>)
+    ensures { slots.new ≡ fold with_change slots.old changes.items }
 {
-    let mut changed = slots;
     for change in changes {
-        changed = with_change(changed, change);
+        change_slot(slots, change);
     }
-    changed
 }
 
-// The slots with all growths.
-fn with_growths(slots: Vec<Slot>, growths: &[Growth]) -> Vec<Slot>
-    ensures { result.items ≡ fold with_growth slots.items growths.now }
+// Lets a stretch of a line grow.
+fn grow_slot(slots: &mut [Slot], growth: Growth)
+    ensures { slots.new ≡ with_growth slots.old growth }
 {
-    let mut grown = slots;
-    for growth in growths {
-        if let Some(slot) = grown.get_mut(growth.place) {
-            grow(slot, *growth);
-        }
+    if growth.place < slots.len() {
+        grow(&mut slots[growth.place], growth);
     }
-    grown
+}
+
+// Lets all stretches grow.
+fn grow_slots(slots: &mut [Slot], growths: &[Growth])
+    ensures { slots.new ≡ fold with_growth slots.old growths.now }
+{
+    for growth in growths {
+        grow_slot(slots, *growth);
+    }
 }
 
 // Whether one that grows is passed over.
@@ -102,14 +105,13 @@ fn some_found_passed(skips: &[usize], found: &Found) -> bool
         || some_passed(skips, found.changes.as_slice())
 }
 
-// What is noted of the slots with all growths and changes: nothing, where one is passed over.
-fn notes_after(alloc: Global, notes: Notes, found: &Found) -> Notes
-    ensures { (slots : List KeptSlot) → AreSkips notes.fixed.items slots notes.skips.items → AreSkips result.fixed.items (fold with_change (fold with_growth slots found.now.growths) found.now.changes) result.skips.items }
+// Lets the notes hold of the slots with all growths and changes: forgets them, where a slot that is passed over is among these.
+fn keep_notes(alloc: Global, notes: &mut Notes, found: &Found)
+    ensures { (slots : List KeptSlot) → AreSkips notes.old.fixed.items slots notes.old.skips.items → AreSkips notes.new.fixed.items (fold with_change (fold with_growth slots found.now.growths) found.now.changes) notes.new.skips.items }
 {
     if some_found_passed(notes.skips.as_slice(), found) {
-        return Notes::none(alloc);
+        *notes = Notes::none(alloc);
     }
-    notes
 }
 
 impl Slots {
@@ -172,25 +174,31 @@ impl Slots {
         self.all
     }
 
-    // The slots with all growths, and then with all changes.
-    pub(crate) fn with_found(self, found: Found) -> Slots
-        ensures { result ≡ fold with_change (fold with_growth self found.growths) found.changes }
+    // Makes all growths, and then all changes.
+    pub(crate) fn change(&mut self, found: Found)
+        ensures { self.new ≡ fold with_change (fold with_growth self.old found.growths) found.changes }
     {
-        let Slots { all, notes } = self;
-        let alloc = *all.allocator();
-        let notes = notes_after(alloc, notes, &found);
+        keep_notes(*self.all.allocator(), &mut self.notes, &found);
         let Found { growths, changes } = found;
-        let all = with_growths(all, growths.as_slice());
-        let all = with_changes(all, changes.into_vec());
-        Slots { all, notes }
+        let slots = self.all.as_mut_slice();
+        grow_slots(slots, growths.as_slice());
+        change_slots(slots, changes.into_vec());
     }
 
-    // The same slots. Which of them are passed over is noted, if that wasn't so and memory can be had.
-    pub(crate) fn note_skips(self, alloc: Global) -> Slots
-        ensures { result ≡ self }
+    // Drops those that are Broken.
+    pub(crate) fn drop_broken(&mut self)
+        ensures { self.new ≡ filter (λ s. not (is_broken s.state)) self.old }
     {
-        let Slots { all, notes } = self;
-        let notes = notes_of(alloc, all.as_slice(), notes);
-        Slots { all, notes }
+        self.notes = Notes::none(*self.all.allocator());
+        self.all.retain(|slot| !is_broken(&slot.state));
+    }
+
+    // Notes which of the slots are passed over, if that wasn't so and memory can be had.
+    pub(crate) fn note_skips(&mut self, alloc: Global)
+        ensures { self.new ≡ self.old }
+    {
+        if self.notes.skips.is_empty() {
+            self.notes = notes_of(alloc, self.all.as_slice(), Notes::none(alloc));
+        }
     }
 }

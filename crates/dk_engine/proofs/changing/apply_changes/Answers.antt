@@ -11,14 +11,16 @@ use Rattle.dk_engine.proofs.changing.apply_changes.Goals as goal
 
 pub returns-then-breaks : goal.returns-then-breaks
 returns-then-breaks c made are =
-    let changes = found_changes c.args.slots c.args.found in
-    let all : c.with_found-all.result ≡ fold with_change c.args.slots changes = c.with_found-all.ensures ∙ found_folded c.args.slots c.args.found in
-    c.of.ensures ∙ (c.without_broken.ensures ∙ (ap (filter (λ (s : Slot). not (is_broken s.state))) (c.into_vec.ensures ∙ all) ∙ left_by_changes made c.args.slots changes are.changes))
+    let slots = c.args.slots.now in
+    let changes = found_changes slots c.args.found in
+    let all : c.change.new.self ≡ fold with_change slots changes = c.change.ensures ∙ found_folded slots c.args.found in
+    c.drop_broken.ensures ∙ (ap (filter (λ (s : Slot). not (is_broken s.state))) all ∙ left_by_changes made slots changes are.changes)
 
-pub returns : goal.returns
-returns c made are =
-    let changes = found_changes c.args.slots c.args.found in
-    let all : c.with_found-all.result ≡ fold with_change c.args.slots changes = c.with_found-all.ensures ∙ found_folded c.args.slots c.args.found in
+pub returns-else-breaks : goal.returns-else-breaks
+returns-else-breaks c made are =
+    let slots = c.args.slots.now in
+    let changes = found_changes slots c.args.found in
+    let all : c.change.new.self ≡ fold with_change slots changes = c.change.ensures ∙ found_folded slots c.args.found in
     let none : list_any (λ (d : Change). is_broken d.state) changes ≡ false =
-    found_break c.args.slots c.args.found are.growths ∙ (sym (c.break_some-breaks.ensures ∙ ap (list_any (λ (d : Change). is_broken d.state)) c.as_slice.ensures) ∙ c.if-breaks.false) in
-    all ∙ all_left made c.args.slots changes are.changes none
+    found_break slots c.args.found are.growths ∙ (sym (c.break_some-breaks.ensures ∙ ap (list_any (λ (d : Change). is_broken d.state)) c.as_slice.ensures) ∙ c.if-breaks.false) in
+    all ∙ all_left made slots changes are.changes none

@@ -14,14 +14,12 @@ use Rattle.dk_engine.specs.Conditions.{CanBeFed}
 use Rattle.dk_engine.specs.Feeding.{IsTurned, parts_after, read_after, unchanged_now}
 use Rattle.dk_engine.specs.Levels.{Whole}
 use Rattle.dk_engine.specs.Narrow.{AreFound, outcome, slots_left}
-use Rattle.dk_engine.specs.declared.slot.Slot.{Slot}
 use Rattle.dk_engine.proofs.engine.Engine.change.Goals as goal
 
 pub invariant_of-self : goal.invariant_of-self
 invariant_of-self c =
     let e = c.self.inside in
-    let none : c.replace-held.new.dest ≡ [] = c.replace-held.ensures.after ∙ c.in_ok-none.ensures.exact in
-    (c.self.invariant.0, subst (λ (h : List Held). CanBeFed e.grammar e.infos (parts e.kept.leaders e.kept.known e.kept.samples h e.kept.slots)) (sym none) (patterns_out e.grammar e.infos e.kept c.self.invariant.1))
+    (c.self.invariant.0, subst (λ (h : List Held). CanBeFed e.grammar e.infos (parts e.kept.leaders e.kept.known e.kept.samples h e.kept.slots)) (sym c.in_ok-none.ensures.exact) (patterns_out e.grammar e.infos e.kept c.self.invariant.1))
 
 pub invariant_of-self-2 : goal.invariant_of-self-2
 invariant_of-self-2 c =
@@ -37,13 +35,12 @@ invariant_of-self-2 c =
     subst (λ (w : Whole). AreFound (outcome asked (read_after w.kept sample) sample) w.kept.slots c.args.changes.all) (sym c.self.view_is) c.requires.changes in
     let number : c.saturating_add-self-inside.result ≡ capped (e.kept.samples + 1) = search rules in
     let more = with_sample_of (present_in (own_leaders e.kept.leaders) sample) in
-    let counted : c.count_sample.new.self ≡ more c.replace-held.result = search rules in
-    let held : c.count_sample.new.self ≡ more (map (refined []) e.kept.held) = counted ∙ ap more (c.replace-held.ensures.value ∙ sym (refined_none e.kept.held)) in
-    let was : c.replace-slots.result ≡ e.kept.slots = c.replace-slots.ensures.value in
-    let slots : c.note_skips.result ≡ left = c.note_skips.ensures ∙ (c.apply_changes.ensures made (subst (λ (ss : List Slot). AreFound made ss c.args.changes.all) (sym was) changes) ∙ ap (slots_left made) was) in (
+    let counted : c.count_sample.new.self ≡ more e.kept.held = search rules in
+    let held : c.count_sample.new.self ≡ more (map (refined []) e.kept.held) = counted ∙ ap more (sym (refined_none e.kept.held)) in
+    let slots : c.note_skips.new.self ≡ left = c.note_skips.ensures ∙ c.apply_changes.ensures made changes in (
       c.self.invariant.0,
       subst (CanBeFed e.grammar e.infos)
-          (sym (same_parts e.kept.leaders e.kept.known c.saturating_add-self-inside.result (capped (e.kept.samples + 1)) c.count_sample.new.self (with_sample_of (present_in (own_leaders e.kept.leaders) sample) (map (refined []) e.kept.held)) c.note_skips.result left number held slots))
+          (sym (same_parts e.kept.leaders e.kept.known c.saturating_add-self-inside.result (capped (e.kept.samples + 1)) c.count_sample.new.self (more (map (refined []) e.kept.held)) c.note_skips.new.self left number held slots))
           (can_be_fed_after e.grammar e.infos c.self.invariant.0 e.kept c.self.invariant.1 sample sampled now turned left (left_formed e.grammar e.infos e.kept c.self.invariant.1 sample sampled asked (read_after e.kept sample))),
     )
 
@@ -58,9 +55,8 @@ returns-clause-kept c =
     subst (λ (w : Whole). AreFound (outcome asked (read_after w.kept sample) sample) w.kept.slots c.args.changes.all) (sym c.self.view_is) c.requires.changes in
     let number : c.saturating_add-self-inside.result ≡ capped (e.kept.samples + 1) = search rules in
     let more = with_sample_of (present_in (own_leaders e.kept.leaders) sample) in
-    let counted : c.count_sample.new.self ≡ more c.replace-held.result = search rules in
-    let held : c.count_sample.new.self ≡ more (map (refined []) e.kept.held) = counted ∙ ap more (c.replace-held.ensures.value ∙ sym (refined_none e.kept.held)) in
-    let was : c.replace-slots.result ≡ e.kept.slots = c.replace-slots.ensures.value in
-    let slots : c.note_skips.result ≡ left = c.note_skips.ensures ∙ (c.apply_changes.ensures made (subst (λ (ss : List Slot). AreFound made ss c.args.changes.all) (sym was) changes) ∙ ap (slots_left made) was) in
-    same_parts e.kept.leaders e.kept.known c.saturating_add-self-inside.result (capped (e.kept.samples + 1)) c.count_sample.new.self (more (map (refined []) e.kept.held)) c.note_skips.result left number held slots
+    let counted : c.count_sample.new.self ≡ more e.kept.held = search rules in
+    let held : c.count_sample.new.self ≡ more (map (refined []) e.kept.held) = counted ∙ ap more (sym (refined_none e.kept.held)) in
+    let slots : c.note_skips.new.self ≡ left = c.note_skips.ensures ∙ c.apply_changes.ensures made changes in
+    same_parts e.kept.leaders e.kept.known c.saturating_add-self-inside.result (capped (e.kept.samples + 1)) c.count_sample.new.self (more (map (refined []) e.kept.held)) c.note_skips.new.self left number held slots
     ∙ ap (λ (w : Whole). parts_after w.kept.samples w.kept.held sample (unchanged_now w.kept) (slots_left (outcome asked (read_after w.kept sample) sample) w.kept.slots)) c.self.view_is

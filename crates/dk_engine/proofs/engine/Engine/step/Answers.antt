@@ -24,7 +24,7 @@ merge_slots-requires-clause-ascend c =
     let sampled : IsSample e.infos sample = subst (λ (w : Whole). IsSample w.infos sample) (sym c.self.view_is) c.requires.sampled in
     let found : AreFound made e.kept.slots c.args.found = subst (λ (w : Whole). AreFound (outcome true (read_after w.kept sample) sample) w.kept.slots c.args.found) (sym c.self.view_is) c.requires.found in
     let was : c.replace-slots.result ≡ e.kept.slots = c.replace-slots.ensures.value in
-    let left : c.apply_changes.result ≡ slots_left made e.kept.slots = c.apply_changes.ensures made (subst (λ (ss : List Slot). AreFound made ss c.args.found) (sym was) found) ∙ ap (slots_left made) was in
+    let left : c.apply_changes.new.slots ≡ slots_left made e.kept.slots = c.apply_changes.ensures made (subst (λ (ss : List Slot). AreFound made ss c.args.found) (sym was) found) ∙ ap (slots_left made) was in
     let formed = left_formed e.grammar e.infos e.kept c.self.invariant.1 sample sampled true (read_after e.kept sample) in
     subst (AllPairs SlotBefore) (sym left) formed.in_order
 
@@ -38,7 +38,7 @@ merge_slots-requires-clause-left c =
     let sampled : IsSample e.infos sample = subst (λ (w : Whole). IsSample w.infos sample) (sym c.self.view_is) c.requires.sampled in
     let found : AreFound made e.kept.slots c.args.found = subst (λ (w : Whole). AreFound (outcome true (read_after w.kept sample) sample) w.kept.slots c.args.found) (sym c.self.view_is) c.requires.found in
     let was : c.replace-slots.result ≡ e.kept.slots = c.replace-slots.ensures.value in
-    let left : c.apply_changes.result ≡ slots_left made e.kept.slots = c.apply_changes.ensures made (subst (λ (ss : List Slot). AreFound made ss c.args.found) (sym was) found) ∙ ap (slots_left made) was in
+    let left : c.apply_changes.new.slots ≡ slots_left made e.kept.slots = c.apply_changes.ensures made (subst (λ (ss : List Slot). AreFound made ss c.args.found) (sym was) found) ∙ ap (slots_left made) was in
     let formed = left_formed e.grammar e.infos e.kept c.self.invariant.1 sample sampled true (read_after e.kept sample) in
     subst (All HasNumber) (sym left) (left_numbered e.grammar e.infos c.self.invariant.0 e.kept c.self.invariant.1 sample sampled now turned (slots_left made e.kept.slots) formed)
 
@@ -85,11 +85,11 @@ set_parts-requires-clause-formed c =
     let found : AreFound made e.kept.slots c.args.found = subst (λ (w : Whole). AreFound (outcome true (read_after w.kept sample) sample) w.kept.slots c.args.found) (sym c.self.view_is) c.requires.found in
     let was : c.replace-slots.result ≡ e.kept.slots = c.replace-slots.ensures.value in
     let left = slots_left made e.kept.slots in
-    let left_is : c.apply_changes.result ≡ left = c.apply_changes.ensures made (subst (λ (ss : List Slot). AreFound made ss c.args.found) (sym was) found) ∙ ap (slots_left made) was in
+    let left_is : c.apply_changes.new.slots ≡ left = c.apply_changes.ensures made (subst (λ (ss : List Slot). AreFound made ss c.args.found) (sym was) found) ∙ ap (slots_left made) was in
     let formed = left_formed e.grammar e.infos e.kept c.self.invariant.1 sample sampled true (read_after e.kept sample) in
     let merged = c.in_ok-slots.slots in
     let are : AreTogether (left ++ opened_slots e.grammar e.infos (read_after e.kept sample) e.kept.slots now lost) merged =
-    together (c.apply_changes.result ++ c.args.opened) (left ++ opened_slots e.grammar e.infos (read_after e.kept sample) e.kept.slots now lost) merged (ap (λ ss. ss ++ c.args.opened) left_is ∙ ap (λ ss. left ++ ss) opened) c.in_ok-slots.ensures in
+    together (c.apply_changes.new.slots ++ c.args.opened) (left ++ opened_slots e.grammar e.infos (read_after e.kept sample) e.kept.slots now lost) merged (ap (λ ss. ss ++ c.args.opened) left_is ∙ ap (λ ss. left ++ ss) opened) c.in_ok-slots.ensures in
     merged_formed e.grammar e.infos c.self.invariant.0 e.kept c.self.invariant.1 sample sampled now turned lost within left merged formed are
 
 pub set_parts-requires-clause-turned : goal.set_parts-requires-clause-turned
@@ -110,11 +110,11 @@ returns-clause-kept c =
     let found : AreFound made e.kept.slots c.args.found = subst (λ (w : Whole). AreFound (outcome true (read_after w.kept sample) sample) w.kept.slots c.args.found) (sym c.self.view_is) c.requires.found in
     let was : c.replace-slots.result ≡ e.kept.slots = c.replace-slots.ensures.value in
     let left = slots_left made e.kept.slots in
-    let left_is : c.apply_changes.result ≡ left = c.apply_changes.ensures made (subst (λ (ss : List Slot). AreFound made ss c.args.found) (sym was) found) ∙ ap (slots_left made) was in
+    let left_is : c.apply_changes.new.slots ≡ left = c.apply_changes.ensures made (subst (λ (ss : List Slot). AreFound made ss c.args.found) (sym was) found) ∙ ap (slots_left made) was in
     let merged = c.in_ok-slots.slots in
     let after = c.set_parts.new.self.kept in
     let are : AreTogether (left ++ opened_slots e.grammar e.infos (read_after e.kept sample) e.kept.slots now lost) merged =
-    together (c.apply_changes.result ++ c.args.opened) (left ++ opened_slots e.grammar e.infos (read_after e.kept sample) e.kept.slots now lost) merged (ap (λ ss. ss ++ c.args.opened) left_is ∙ ap (λ ss. left ++ ss) opened) c.in_ok-slots.ensures in
+    together (c.apply_changes.new.slots ++ c.args.opened) (left ++ opened_slots e.grammar e.infos (read_after e.kept sample) e.kept.slots now lost) merged (ap (λ ss. ss ++ c.args.opened) left_is ∙ ap (λ ss. left ++ ss) opened) c.in_ok-slots.ensures in
     IfOk-weaker c.set_parts.result (λ (u : Unit {0}). after ≡ parts_after e.kept.samples e.kept.held sample now merged)
     (λ (u : Unit {0}). IsMergedStep c.args.self.now.grammar c.args.self.now.infos c.args.self.now.kept sample now lost after)
     (λ u h. subst (λ (w : Whole). IsMergedStep w.grammar w.infos w.kept sample now lost after) c.self.view_is (record { slots = merged; together = are; parts = h })) c.set_parts.ensures.kept

@@ -7,7 +7,7 @@ use Rattle.dk_engine.specs.Narrow.{with_change, with_growth}
 use Rattle.dk_engine.specs.declared.changes.Change.{Change}
 use Rattle.dk_engine.specs.declared.changes.Found.{Found}
 use Rattle.dk_engine.specs.declared.growing.Growth.{Growth}
-use Rattle.dk_engine.proofs.slots.notes_after.Goals as goal
+use Rattle.dk_engine.proofs.slots.keep_notes.Goals as goal
 
 pub returns-then-some_found_passed : goal.returns-then-some_found_passed
 returns-then-some_found_passed c slots are =
@@ -16,11 +16,11 @@ returns-then-some_found_passed c slots are =
     let changed = fold with_change (fold with_growth slots found.growths) found.changes in
     subst (AreSkips fixed changed) (sym c.none.ensures) (none_passed fixed changed)
 
-pub returns : goal.returns
-returns c slots are =
+pub returns-else-some_found_passed : goal.returns-else-some_found_passed
+returns-else-some_found_passed c slots are =
     let found : Found = c.args.found.now in
-    let skips = c.args.notes.skips.items in
-    let fixed = c.args.notes.fixed.items in
+    let skips = c.args.notes.now.skips.items in
+    let fixed = c.args.notes.now.fixed.items in
     let same : c.as_slice.result.now ≡ skips = search rules in
     let grown : list_any (λ (g : Growth). is_passed skips g.place) found.growths ≡ false =
     subst (λ (ks : List ℕ). list_any (λ (g : Growth). is_passed ks g.place) found.growths ≡ false) same (c.some_found_passed.ensures.growths c.if-some_found_passed.false) in

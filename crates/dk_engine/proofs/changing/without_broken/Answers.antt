@@ -1,9 +1,0 @@
-use Rattle.std.specs.Prelude.{not}
-use Rattle.std.proofs.Common.{rules}
-use Rattle.std.proofs.lemmas.Fn.{filter_same}
-use Rattle.dk_engine.specs.Feeding.{is_broken}
-use Rattle.dk_engine.specs.declared.slot.Slot.{Slot}
-use Rattle.dk_engine.proofs.changing.without_broken.Goals as goal
-
-pub returns : goal.returns
-returns c = filter_same _ (λ (s : Slot). not (is_broken s.state)) _ (λ x b f called. search rules) _ _ c.retain.ensures.filtered
