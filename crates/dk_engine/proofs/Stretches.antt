@@ -1,8 +1,8 @@
--- A stretch of a line with a point that lies beyond it on the line.
-use Rattle.std.specs.Prelude.{◌≡◌, ℕ, ℤ, ◌-ℤ◌, ◌*ℤ◌, true, false, ◌∷◌, [], List, if◌then◌else◌, refl}
+-- A stretch of a line with a point that lies on the line, within it or beyond it.
+use Rattle.std.specs.Prelude.{◌≡◌, ◌&&◌, ℕ, ℤ, ◌-ℤ◌, ◌*ℤ◌, true, false, ◌∷◌, [], List, if◌then◌else◌, refl}
 use Rattle.std.specs.Ordering.{int_eq}
 use Rattle.std.proofs.Common.{◌∙◌, ap, arith, inl, inr, subst, sym}
-use Rattle.std.proofs.lemmas.Bool.{and_from, false≢true}
+use Rattle.std.proofs.lemmas.Bool.{and_from, and_parts, false≢true}
 use Rattle.std.proofs.lemmas.Bool.Decides.{Decides-int_eq}
 use Rattle.dk_arith.proofs.Ring.{rep, rep-mul, rep-sub, same_rep}
 use Rattle.dk_arith.specs.Vectors.{minus}
@@ -12,9 +12,10 @@ use Rattle.dk_base.specs.declared.values.Value.{Value}
 use Rattle.dk_base.specs.declared.values.Value.TheVariants as value
 use Rattle.dk_fits.specs.Fits.{is_whole, tuple_in}
 use Rattle.dk_forms.proofs.PlaneFacts.{plane_of_point}
+use Rattle.dk_forms.proofs.PlaneStays.{span_stays}
 use Rattle.dk_forms.proofs.PointOrder.{before_antisymmetric, before_or, before_transitive}
 use Rattle.dk_forms.specs.Known.{broken, fact}
-use Rattle.dk_forms.specs.Plane.{Before, IsPlaneState, IsSpan, are_aligned, first_off, greater, in_space, is_before, lesser, plane_between, plane_from, plane_join, plane_meet, plane_of, plane_of_all, plane_state, plane_through, span}
+use Rattle.dk_forms.specs.Plane.{Before, IsPlaneState, IsSpan, are_aligned, are_parallel, first_off, greater, in_space, is_before, lesser, plane_between, plane_from, plane_join, plane_meet, plane_of, plane_of_all, plane_state, plane_through, span}
 use Rattle.dk_forms.specs.declared.states.State.{State}
 use Rattle.dk_forms.specs.declared.states.State.TheVariants.{Span}
 use Rattle.dk_rows.specs.Meanings.{meanings, state_of}
@@ -105,6 +106,24 @@ pub grown_stretch : (p q v : ℤ × ℤ × ℤ) → IsSpan (p, q) → in_space v
 grown_stretch p q v is near qv on =
     let pv = before_transitive p q v is.ordered (before_of q v qv) in
     sym (grows p q v (is_before_of p q is.ordered) qv (is_before_of p v pv) on near)
+
+-- ---- a point within a stretch
+same_turned : (a b : ℤ) → int_eq a b ≡ true → int_eq b a ≡ true
+same_turned a b h = (Decides-int_eq b a).1 (sym ((Decides-int_eq a b).0 h))
+
+parallel_turned : (u f : ℤ × ℤ × ℤ) → are_parallel u f ≡ true → are_parallel f u ≡ true
+parallel_turned u f h =
+    let h1 = and_parts (int_eq (u.0 *ℤ f.1) (f.0 *ℤ u.1)) (int_eq (u.0 *ℤ f.2) (f.0 *ℤ u.2) && int_eq (u.1 *ℤ f.2) (f.1 *ℤ u.2)) h in
+    let h2 = and_parts (int_eq (u.0 *ℤ f.2) (f.0 *ℤ u.2)) (int_eq (u.1 *ℤ f.2) (f.1 *ℤ u.2)) h1.1 in
+    and_from (int_eq (f.0 *ℤ u.1) (u.0 *ℤ f.1)) _ (same_turned (u.0 *ℤ f.1) (f.0 *ℤ u.1) h1.0)
+    (and_from (int_eq (f.0 *ℤ u.2) (u.0 *ℤ f.2)) _ (same_turned (u.0 *ℤ f.2) (f.0 *ℤ u.2) h2.0) (same_turned (u.1 *ℤ f.2) (f.1 *ℤ u.2) h2.1))
+
+-- a point on the line, between the ends
+pub within_stretch : (p q v : ℤ × ℤ × ℤ) → IsSpan (p, q) → in_space v ≡ true → is_before p v ≡ true → is_before v q ≡ true → are_aligned p v q ≡ true
+    → plane_join (Span p.0 p.1 p.2 q.0 q.1 q.2) (plane_of (v ∷ [])) ≡ Span p.0 p.1 p.2 q.0 q.1 q.2
+within_stretch p q v is near pv vq on =
+    (span_stays (p, q) v is).0
+    (and_from (in_space v) _ near (and_from (is_before p v) _ pv (and_from (is_before v q) _ vq (parallel_turned (minus v p) (minus q p) on))))
 
 -- ---- by a sample
 planar_form : form_of linear_ternary_row ≡ form.Plane

@@ -114,6 +114,43 @@ fn is_on_line(x1: i64, y1: i64, z1: i64, x2: i64, y2: i64, z2: i64, x: i64, y: i
     )
 }
 
+// Whether a point on the line of a stretch lies between its ends, so that it leaves the stretch as it is.
+#[inline(always)]
+fn is_within(x1: i64, y1: i64, z1: i64, x2: i64, y2: i64, z2: i64, x: i64, y: i64, z: i64) -> bool
+    requires { IsSpan ((x1, y1, z1), (x2, y2, z2)) }
+    ensures { IsTrue result → plane_join (Span x1 y1 z1 x2 y2 z2) (plane_of ((x, y, z) ∷ [])) ≡ Span x1 y1 z1 x2 y2 z2 }
+{
+    if !is_in_space(x, y, z) {
+        return false;
+    }
+    if !is_before(x1, y1, z1, x, y, z) {
+        return false;
+    }
+    if !is_before(x, y, z, x2, y2, z2) {
+        return false;
+    }
+    is_on_line(x1, y1, z1, x2, y2, z2, x, y, z)
+}
+
+// Whether a point leaves a plane or a stretch of a line as it is.
+#[inline(always)]
+fn stays_at(state: &State, x: i64, y: i64, z: i64) -> bool
+    requires { IsPlaneState state.now }
+    ensures { IsTrue result → plane_join state.now (plane_of ((x, y, z) ∷ [])) ≡ state.now }
+{
+    match state {
+        State::Span {
+            x1,
+            y1,
+            z1,
+            x2,
+            y2,
+            z2,
+        } => is_within(*x1, *y1, *z1, *x2, *y2, *z2, x, y, z),
+        _ => plane_stays(state, x, y, z),
+    }
+}
+
 // Whether a stretch with a point more ends at the point.
 #[inline(always)]
 fn reaches(x1: i64, y1: i64, z1: i64, x2: i64, y2: i64, z2: i64, x: i64, y: i64, z: i64) -> bool
@@ -179,7 +216,7 @@ fn seen_at(slot: &Slot, growth: Growth) -> Seen
     ensures { IsSeen slot.now (plane_join slot.now.state (plane_of ((growth.x, growth.y, growth.z) ∷ []))) growth.place result }
 {
     if may_stay(&slot.state, growth.x, growth.y, growth.z) {
-        if plane_stays(&slot.state, growth.x, growth.y, growth.z) {
+        if stays_at(&slot.state, growth.x, growth.y, growth.z) {
             Seen::Stays
         } else {
             Seen::Neither
