@@ -1,5 +1,5 @@
 -- What bitmaps say of patterns.
-use Rattle.std.proofs.Common.{◌≡◌, ◌≢◌, ◌<◌, ◌≤◌, ◌+◌, ◌-◌, ◌*◌, ◌/◌, ◌%◌, ◌^◌, ◌↔◌, ◌&&◌, ◌||◌, ◌⊎◌, ◌++◌, ◌∙◌, ℕ, zero, suc, min, Bool, true, false, cond, All, List, [], ◌∷◌, Ok, arith, ap, sym, refl, subst, inl, inr, length, get_or, take, drop, fold, sum_by, bit_and}
+use Rattle.std.proofs.Common.{◌≡◌, ◌≢◌, ◌<◌, ◌≤◌, ◌+◌, ◌-◌, ◌*◌, ◌/◌, ◌%◌, ◌^◌, ◌↔◌, ◌&&◌, ◌||◌, ◌∙◌, ℕ, zero, suc, min, Bool, true, false, cond, All, List, [], ◌∷◌, arith, ap, sym, refl, subst, inl, inr, length, get_or, take, drop, fold, sum_by, bit_and}
 use Rattle.std.specs.List.{list_any}
 use Rattle.std.specs.Int.Bits.{and_step}
 use Rattle.std.proofs.lemmas.Bool.{cases_Bool, false≢true, true≢false}
@@ -8,7 +8,7 @@ use Rattle.std.proofs.lemmas.List.Elements.{All-cons, All-drop, All-head, All-ta
 use Rattle.std.proofs.lemmas.List.Folds.{list_any-append, list_any_at, list_any_none}
 use Rattle.std.proofs.lemmas.List.Sums.{fold-append, sum_by-cons}
 use Rattle.dk_base.specs.declared.kinds.VarId.{VarId}
-use Rattle.dk_presence.specs.Patterns.{AreHeld, capped, counted_by, has, has_all}
+use Rattle.dk_presence.specs.Patterns.{AreHeld, counted_by, has, has_all}
 use Rattle.dk_presence.specs.declared.held.Held.{Held}
 use Rattle.dk_forms.specs.declared.states.State.{State}
 use Rattle.dk_forms.specs.declared.states.State.TheVariants.{Empty, Holds}

@@ -1,4 +1,4 @@
-use Rattle.std.proofs.Common.{◌≡◌, ◌∙◌, ◌-◌, ap, arith, drop, length, sym, take}
+use Rattle.std.proofs.Common.{◌≡◌, ◌∙◌, ◌-◌, ap, arith, drop, sym, take}
 use Rattle.std.proofs.lemmas.List.{length-drop, take_all}
 use Rattle.dk_engine.proofs.bitmaps.block.Goals as goal
 use Rattle.dk_engine.proofs.bitmaps.block.Goals.{then-held-start-lt-BLOCK, else-held-start-lt-BLOCK}

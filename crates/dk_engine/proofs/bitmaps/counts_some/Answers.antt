@@ -1,5 +1,4 @@
-use Rattle.std.proofs.Common.{◌≡◌, ◌↔◌, ◌<◌, true, rules, subst}
-use Rattle.dk_presence.specs.Patterns.{counted_by}
+use Rattle.std.proofs.Common.{◌≡◌, subst}
 use Rattle.dk_engine.specs.Bitmaps.{are_together}
 use Rattle.dk_engine.proofs.BitmapFacts.{counted_if}
 use Rattle.dk_engine.proofs.bitmaps.counts_some.Goals as goal

@@ -1,5 +1,5 @@
-use Rattle.std.specs.Prelude.{◌≡◌, ◌↔◌, ◌<◌, IsTrue, List}
-use Rattle.std.proofs.Common.{subst, sym}
+use Rattle.std.specs.Prelude.{◌↔◌, ◌<◌, IsTrue, List}
+use Rattle.std.proofs.Common.{subst}
 use Rattle.dk_base.specs.declared.kinds.VarId.{VarId}
 use Rattle.dk_presence.specs.Patterns.{counted_by}
 use Rattle.dk_template.specs.Templates.{form_of}

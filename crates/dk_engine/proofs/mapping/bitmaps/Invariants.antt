@@ -1,4 +1,3 @@
-use Rattle.std.proofs.Common.{length}
 use Rattle.dk_engine.specs.Bitmaps.{AreBegun}
 use Rattle.dk_engine.proofs.mapping.bitmaps.Given as goal
 
