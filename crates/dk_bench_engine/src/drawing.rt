@@ -6,7 +6,7 @@ ghost use Rattle.dk_base.specs.Values.{value_of, values_of};
 
 use bumpalo::Bump;
 use dk_base::{Arena, NoMemory, View};
-use dk_bench_base::{Noise, feed};
+use dk_bench_base::Noise;
 use dk_derive::extend;
 use dk_engine::Engine;
 use std::alloc::Global;
@@ -23,6 +23,15 @@ pub enum Samples {
     Ten,
     /// Four small numbers and four sequences of up to eight numbers, with what is derived of them.
     Sequences,
+}
+
+/// What is done with the samples that are drawn.
+#[derive(Clone, Copy)]
+pub enum Task {
+    /// It is looked whether they are samples of the engine's variables.
+    Look,
+    /// They are fed too.
+    Feed,
 }
 
 // From which sample of ten numbers on the number that changes late has changed.
@@ -125,8 +134,27 @@ fn sequence<'a>(arena: &'a Arena, noise: &mut Noise) -> Result<View<'a>, NoMemor
     Ok(View::IntSeq(copy))
 }
 
-// Feeds a sample of four small numbers and four sequences.
-fn feed_mixed(alloc: Global, engine: &mut Engine, noise: &mut Noise) -> Result<(), NoMemory> {
+// Does the task with a sample. Whether it is one of the engine's variables.
+fn take(engine: &mut Engine, task: Task, sample: &[View<'_>]) -> Result<bool, NoMemory>
+    requires { All IsWritten (values_of sample.now) }
+{
+    if !engine.takes(sample) {
+        return Ok(false);
+    }
+    match task {
+        Task::Look => {}
+        Task::Feed => engine.feed(sample)?,
+    }
+    Ok(true)
+}
+
+// Does it with a sample of four small numbers and four sequences.
+fn take_mixed(
+    alloc: Global,
+    engine: &mut Engine,
+    task: Task,
+    noise: &mut Noise,
+) -> Result<bool, NoMemory> {
     let arena = Bump::new(alloc);
     let base = [
         number(noise, 8),
@@ -139,36 +167,41 @@ fn feed_mixed(alloc: Global, engine: &mut Engine, noise: &mut Noise) -> Result<(
         sequence(&arena, noise)?,
     ];
     let sample = extend(&arena, engine.vars(), &base)?;
-    feed(engine, sample)
+    take(engine, task, sample)
 }
 
-// Feeds the sample of this place, if it is one of the engine's variables.
-fn feed_one(
+// Does it with the sample of this place.
+fn take_one(
     alloc: Global,
     engine: &mut Engine,
+    task: Task,
     noise: &mut Noise,
     samples: Samples,
     place: u32,
-) -> Result<(), NoMemory> {
+) -> Result<bool, NoMemory> {
     let vars = engine.vars().len();
     match samples {
-        Samples::Rising => feed(engine, &rising_numbers(alloc, noise, vars)?),
-        Samples::Random => feed(engine, &random(alloc, noise, vars)?),
-        Samples::Ten => feed(engine, &ten(noise, place)),
-        Samples::Sequences => feed_mixed(alloc, engine, noise),
+        Samples::Rising => take(engine, task, &rising_numbers(alloc, noise, vars)?),
+        Samples::Random => take(engine, task, &random(alloc, noise, vars)?),
+        Samples::Ten => take(engine, task, &ten(noise, place)),
+        Samples::Sequences => take_mixed(alloc, engine, task, noise),
     }
 }
 
-/// Feeds so many samples.
-pub fn feed_all(
+/// Does it with so many samples. How many of them are the engine's variables'.
+pub fn take_all(
     alloc: Global,
     engine: &mut Engine,
-    noise: &mut Noise,
+    task: Task,
     samples: Samples,
     count: u32,
-) -> Result<(), NoMemory> {
+) -> Result<u32, NoMemory> {
+    let mut noise = Noise::new();
+    let mut taken = 0u32;
     for place in 0..count {
-        feed_one(alloc, engine, noise, samples, place)?;
+        if take_one(alloc, engine, task, &mut noise, samples, place)? {
+            taken = taken.saturating_add(1);
+        }
     }
-    Ok(())
+    Ok(taken)
 }
