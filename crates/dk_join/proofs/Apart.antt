@@ -1,5 +1,5 @@
 -- A row of three leaders is Broken where by what is kept the first may stand beside neither of the others.
-use Rattle.std.specs.Prelude.{◌≡◌, ◌<◌, ◌&&◌, ◌||◌, ◌==◌, ℕ, zero, suc, Bool, true, false, not, Contains, List, [], ◌∷◌, Option, Some, None, cond, filter, if◌then◌else◌, is_some, length, map, nat_lt, refl, take}
+use Rattle.std.specs.Prelude.{◌≡◌, ◌<◌, ◌&&◌, ◌||◌, ◌==◌, ℕ, zero, suc, Bool, true, false, not, Contains, List, [], ◌∷◌, Option, Some, None, cond, if◌then◌else◌, is_some, length, map, nat_lt, refl, take}
 use Rattle.std.specs.List.{list_all, list_any}
 use Rattle.std.proofs.Common.{◌∙◌, ap, inl, inr, subst, sym}
 use Rattle.std.proofs.lemmas.Bool.{and_from, and_parts, and_right, cases_Bool, eq-eqb, eqb-true, false_from_ne_true, false≢true, or_left, or_right, true≢false}
@@ -30,7 +30,7 @@ use Rattle.dk_template.specs.declared.templates.Symmetry.{Symmetry}
 use Rattle.dk_template.specs.declared.templates.Symmetry.TheVariants as symmetry
 use Rattle.dk_join.proofs.Lists.{all_at, any_at, any_found, taken_in}
 use Rattle.dk_join.proofs.Lone.{Lone, Place, arranged_lone, arranged_long, first_place, first_role, lone_cases, lone_has, picked_lone, place_of}
-use Rattle.dk_join.proofs.Rules.{all_read_each, each_is_read, first_is_watched, is_led, is_within, of_rule, read_each, reads, rule_is_led, rules_read_each, stays_first}
+use Rattle.dk_join.proofs.Rules.{all_read_each, each_is_read, first_is_watched, is_within, of_rule, read_each, reads, rule_is_led, rules_read_each, stays_first}
 use Rattle.dk_join.specs.Beside.{is_alone, is_at_hand, is_relation, may_meet, slots_around, slots_at_hand}
 use Rattle.dk_join.specs.Watched.{premises_below, premises_of, watched, with_below}
 

@@ -1,4 +1,4 @@
-use Rattle.std.specs.Prelude.{◌≡◌, ◌++◌, All, List, false, map, slice_index_or}
+use Rattle.std.specs.Prelude.{◌++◌, All, List, false, map, slice_index_or}
 use Rattle.std.proofs.Common.{◌∙◌, ap, arith, subst, sym}
 use Rattle.std.proofs.lemmas.List.{take_all}
 use Rattle.dk_base.specs.declared.kinds.VarId.{VarId}
