@@ -1,12 +1,10 @@
 // The slots that answers give, over all tuples of leaders.
-ghost use Rattle.std.specs.Prelude.{◌≡◌, ◌<◌, ◌≤◌, ◌&&◌, ◌∷◌, [], ◌++◌, All, IfOk, IsSomeAnd, IsTrue, List, OnOk, length, not};
+ghost use Rattle.std.specs.Prelude.{◌≡◌, ◌<◌, ◌≤◌, ◌∷◌, [], ◌++◌, All, IfOk, IsSomeAnd, IsTrue, List, OnOk, length};
 ghost use Rattle.dk_base.specs.declared.kinds.VarId.{VarId};
-ghost use Rattle.dk_template.specs.Admitted.{admits as admitted, is_written as stands_written};
 ghost use Rattle.dk_template.specs.Templates.{IsRowOf, arity_of};
 ghost use Rattle.dk_ternary.specs.Rows.{operation_row};
 ghost use Rattle.dk_engine.specs.Feeding.{read_after, slots_of, slots_of_row};
 ghost use Rattle.dk_engine.specs.Narrow.{freed_by_all};
-ghost use Rattle.dk_engine.specs.Parts.{all_known};
 ghost use Rattle.dk_engine.specs.Sweeps.{behind, considered, firsts, freed_slots, pairs, seconds, thirds, threes_with_one, threes_with_two, touched_slots, triples, twos_with_one, with_both, with_ends, with_one, with_two};
 
 use crate::after::After;
@@ -32,22 +30,13 @@ pub(crate) struct Sweep<'a> {
 }
 
 impl<'a> Sweep<'a> {
-    // Whether the leaders may have a slot: the row admits them, they are in its written order and not all constant.
-    #[inline(always)]
-    fn may_have_slot(&self, row: RowId, vars: &[VarId]) -> bool
-        requires { IsRowOf self.now.answers.now.whole.grammar row }
-        ensures { result ≡ (admitted row self.now.infos.now vars.now && (stands_written row vars.now && not (all_known self.now.known.now vars.now))) }
-    {
-        admits(row, self.infos, vars) && is_written(row, vars) && !are_known(self.known, vars)
-    }
-
     // Slots with that of the leaders, if they have one.
     fn consider(&self, row: RowId, vars: &[VarId], slots: &mut Slots) -> Result<(), NoMemory>
         requires row { IsRowOf self.now.answers.now.whole.grammar row }
         requires few { length vars.now ≤ 3 }
         ensures { OnOk result (slots.new ≡ slots.old ++ considered self.now.infos.now self.now.known.now (read_after self.now.answers.now.whole.kept self.now.answers.now.sample) row vars.now) }
     {
-        if !self.may_have_slot(row, vars) {
+        if !admits(row, self.infos, vars) || !is_written(row, vars) || are_known(self.known, vars) {
             return Ok(());
         }
         let state = self.answers.answer(row, vars)?;
