@@ -199,13 +199,14 @@ impl Engine {
         let touching = touching_leaders(self.alloc, now)?;
         let others = others(self.alloc, now)?;
         let leaders = now.leaders.leaders();
-        let touched = sweep.touched_slots(
+        let mut slots = sweep.touched_slots(
             self.grammar,
             touching.as_slice(),
             others.as_slice(),
             leaders,
         )?;
-        sweep.freed_by_all(self.kept.slots.as_slice(), lost, leaders, touched)
+        sweep.freed_by_all(self.kept.slots.as_slice(), lost, leaders, &mut slots)?;
+        Ok(slots)
     }
 
     // Takes over what the sample made of the other parts, with what it leaves of the slots and what it opens.

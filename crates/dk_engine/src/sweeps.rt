@@ -1,5 +1,5 @@
 // The slots that answers give, over all tuples of leaders.
-ghost use Rattle.std.specs.Prelude.{◌≡◌, ◌<◌, ◌≤◌, ◌∷◌, [], ◌++◌, All, IfOk, IsSomeAnd, IsTrue, List, length};
+ghost use Rattle.std.specs.Prelude.{◌≡◌, ◌<◌, ◌≤◌, ◌∷◌, [], ◌++◌, All, IfOk, IsSomeAnd, IsTrue, List, OnOk, length};
 ghost use Rattle.dk_base.specs.declared.kinds.VarId.{VarId};
 ghost use Rattle.dk_template.specs.Templates.{IsRowOf, arity_of};
 ghost use Rattle.dk_ternary.specs.Rows.{operation_row};
@@ -31,25 +31,24 @@ pub(crate) struct Sweep<'a> {
 
 impl<'a> Sweep<'a> {
     // Slots with that of the leaders, if they have one.
-    fn consider(&self, row: RowId, vars: &[VarId], slots: Slots) -> Result<Slots, NoMemory>
+    fn consider(&self, row: RowId, vars: &[VarId], slots: &mut Slots) -> Result<(), NoMemory>
         requires row { IsRowOf self.now.answers.now.whole.grammar row }
         requires few { length vars.now ≤ 3 }
-        ensures { IfOk result (λ more. more ≡ slots ++ considered self.now.infos.now self.now.known.now (read_after self.now.answers.now.whole.kept self.now.answers.now.sample) row vars.now) }
+        ensures { OnOk result (slots.new ≡ slots.old ++ considered self.now.infos.now self.now.known.now (read_after self.now.answers.now.whole.kept self.now.answers.now.sample) row vars.now) }
     {
         if !admits(row, self.infos, vars) || !is_written(row, vars) || are_known(self.known, vars) {
-            return Ok(slots);
+            return Ok(());
         }
         let state = self.answers.answer(row, vars)?;
         if matches!(state, State::Broken) || suppressed(row, vars, self.answers) {
-            return Ok(slots);
+            return Ok(());
         }
-        let mut slots = slots;
         slots.push(Slot {
             row,
             leaders: Tuple::of(vars),
             state,
         })?;
-        Ok(slots)
+        Ok(())
     }
 
     // Whether it is seen at once that the leaders have no slot of an operation's row: they aren't in its written order, or the sample
@@ -67,15 +66,14 @@ impl<'a> Sweep<'a> {
     }
 
     // Those of one leader each.
-    fn firsts(&self, row: RowId, first: &[VarId], slots: Slots) -> Result<Slots, NoMemory>
+    fn firsts(&self, row: RowId, first: &[VarId], slots: &mut Slots) -> Result<(), NoMemory>
         requires { IsRowOf self.now.answers.now.whole.grammar row }
-        ensures { IfOk result (λ more. more ≡ slots ++ firsts self.now.infos.now self.now.known.now (read_after self.now.answers.now.whole.kept self.now.answers.now.sample) row first.now) }
+        ensures { OnOk result (slots.new ≡ slots.old ++ firsts self.now.infos.now self.now.known.now (read_after self.now.answers.now.whole.kept self.now.answers.now.sample) row first.now) }
     {
-        let mut slots = slots;
         for v in first {
-            slots = self.consider(row, &[*v], slots)?;
+            self.consider(row, &[*v], slots)?;
         }
-        Ok(slots)
+        Ok(())
     }
 
     // Those of a leader and one of the list.
@@ -84,16 +82,15 @@ impl<'a> Sweep<'a> {
         row: RowId,
         v: VarId,
         second: &[VarId],
-        slots: Slots,
-    ) -> Result<Slots, NoMemory>
+        slots: &mut Slots,
+    ) -> Result<(), NoMemory>
         requires { IsRowOf self.now.answers.now.whole.grammar row }
-        ensures { IfOk result (λ more. more ≡ slots ++ seconds self.now.infos.now self.now.known.now (read_after self.now.answers.now.whole.kept self.now.answers.now.sample) row v second.now) }
+        ensures { OnOk result (slots.new ≡ slots.old ++ seconds self.now.infos.now self.now.known.now (read_after self.now.answers.now.whole.kept self.now.answers.now.sample) row v second.now) }
     {
-        let mut slots = slots;
         for w in second {
-            slots = self.consider(row, &[v, *w], slots)?;
+            self.consider(row, &[v, *w], slots)?;
         }
-        Ok(slots)
+        Ok(())
     }
 
     // Those of two leaders and one of the list.
@@ -103,19 +100,18 @@ impl<'a> Sweep<'a> {
         v: VarId,
         w: VarId,
         third: &[VarId],
-        slots: Slots,
-    ) -> Result<Slots, NoMemory>
+        slots: &mut Slots,
+    ) -> Result<(), NoMemory>
         requires { IsRowOf self.now.answers.now.whole.grammar row }
-        ensures { IfOk result (λ more. more ≡ slots ++ thirds self.now.infos.now self.now.known.now (read_after self.now.answers.now.whole.kept self.now.answers.now.sample) row v w third.now) }
+        ensures { OnOk result (slots.new ≡ slots.old ++ thirds self.now.infos.now self.now.known.now (read_after self.now.answers.now.whole.kept self.now.answers.now.sample) row v w third.now) }
     {
         let operation = operation_of(row);
-        let mut slots = slots;
         for x in third {
             if !self.is_out(operation, v, w, *x) {
-                slots = self.consider(row, &[v, w, *x], slots)?;
+                self.consider(row, &[v, w, *x], slots)?;
             }
         }
-        Ok(slots)
+        Ok(())
     }
 
     // Those of two leaders, one of each list.
@@ -124,16 +120,15 @@ impl<'a> Sweep<'a> {
         row: RowId,
         first: &[VarId],
         second: &[VarId],
-        slots: Slots,
-    ) -> Result<Slots, NoMemory>
+        slots: &mut Slots,
+    ) -> Result<(), NoMemory>
         requires { IsRowOf self.now.answers.now.whole.grammar row }
-        ensures { IfOk result (λ more. more ≡ slots ++ pairs self.now.infos.now self.now.known.now (read_after self.now.answers.now.whole.kept self.now.answers.now.sample) row first.now second.now) }
+        ensures { OnOk result (slots.new ≡ slots.old ++ pairs self.now.infos.now self.now.known.now (read_after self.now.answers.now.whole.kept self.now.answers.now.sample) row first.now second.now) }
     {
-        let mut slots = slots;
         for v in first {
-            slots = self.seconds(row, *v, second, slots)?;
+            self.seconds(row, *v, second, slots)?;
         }
-        Ok(slots)
+        Ok(())
     }
 
     // Those of a leader and two more, one of each list.
@@ -143,16 +138,15 @@ impl<'a> Sweep<'a> {
         v: VarId,
         second: &[VarId],
         third: &[VarId],
-        slots: Slots,
-    ) -> Result<Slots, NoMemory>
+        slots: &mut Slots,
+    ) -> Result<(), NoMemory>
         requires { IsRowOf self.now.answers.now.whole.grammar row }
-        ensures { IfOk result (λ more. more ≡ slots ++ behind self.now.infos.now self.now.known.now (read_after self.now.answers.now.whole.kept self.now.answers.now.sample) row v second.now third.now) }
+        ensures { OnOk result (slots.new ≡ slots.old ++ behind self.now.infos.now self.now.known.now (read_after self.now.answers.now.whole.kept self.now.answers.now.sample) row v second.now third.now) }
     {
-        let mut slots = slots;
         for w in second {
-            slots = self.thirds(row, v, *w, third, slots)?;
+            self.thirds(row, v, *w, third, slots)?;
         }
-        Ok(slots)
+        Ok(())
     }
 
     // Those of three leaders, one of each list.
@@ -162,22 +156,21 @@ impl<'a> Sweep<'a> {
         first: &[VarId],
         second: &[VarId],
         third: &[VarId],
-        slots: Slots,
-    ) -> Result<Slots, NoMemory>
+        slots: &mut Slots,
+    ) -> Result<(), NoMemory>
         requires { IsRowOf self.now.answers.now.whole.grammar row }
-        ensures { IfOk result (λ more. more ≡ slots ++ triples self.now.infos.now self.now.known.now (read_after self.now.answers.now.whole.kept self.now.answers.now.sample) row first.now second.now third.now) }
+        ensures { OnOk result (slots.new ≡ slots.old ++ triples self.now.infos.now self.now.known.now (read_after self.now.answers.now.whole.kept self.now.answers.now.sample) row first.now second.now third.now) }
     {
-        let mut slots = slots;
         for v in first {
-            slots = self.behind(row, *v, second, third, slots)?;
+            self.behind(row, *v, second, third, slots)?;
         }
-        Ok(slots)
+        Ok(())
     }
 
     // Those of a row.
-    fn of_row(&self, row: RowId, leaders: &[VarId], slots: Slots) -> Result<Slots, NoMemory>
+    fn of_row(&self, row: RowId, leaders: &[VarId], slots: &mut Slots) -> Result<(), NoMemory>
         requires { IsRowOf self.now.answers.now.whole.grammar row }
-        ensures { IfOk result (λ more. more ≡ slots ++ slots_of_row self.now.infos.now leaders.now self.now.known.now (read_after self.now.answers.now.whole.kept self.now.answers.now.sample) row) }
+        ensures { OnOk result (slots.new ≡ slots.old ++ slots_of_row self.now.infos.now leaders.now self.now.known.now (read_after self.now.answers.now.whole.kept self.now.answers.now.sample) row) }
     {
         let arity = info(row).arity;
         if arity == 1 {
@@ -196,7 +189,7 @@ impl<'a> Sweep<'a> {
     {
         let mut slots = Slots::new(self.alloc);
         for n in 0..grammar.rows() {
-            slots = self.of_row(RowId(n + 1), leaders, slots)?;
+            self.of_row(RowId(n + 1), leaders, &mut slots)?;
         }
         Ok(slots)
     }
@@ -208,13 +201,13 @@ impl<'a> Sweep<'a> {
         of: &[VarId],
         before: &[VarId],
         leaders: &[VarId],
-        slots: Slots,
-    ) -> Result<Slots, NoMemory>
+        slots: &mut Slots,
+    ) -> Result<(), NoMemory>
         requires { IsRowOf self.now.answers.now.whole.grammar row }
-        ensures { IfOk result (λ more. more ≡ slots ++ twos_with_one self.now.infos.now self.now.known.now (read_after self.now.answers.now.whole.kept self.now.answers.now.sample) row of.now before.now leaders.now) }
+        ensures { OnOk result (slots.new ≡ slots.old ++ twos_with_one self.now.infos.now self.now.known.now (read_after self.now.answers.now.whole.kept self.now.answers.now.sample) row of.now before.now leaders.now) }
     {
-        let first = self.pairs(row, of, leaders, slots)?;
-        self.pairs(row, before, of, first)
+        self.pairs(row, of, leaders, slots)?;
+        self.pairs(row, before, of, slots)
     }
 
     // The same of three roles.
@@ -224,14 +217,14 @@ impl<'a> Sweep<'a> {
         of: &[VarId],
         before: &[VarId],
         leaders: &[VarId],
-        slots: Slots,
-    ) -> Result<Slots, NoMemory>
+        slots: &mut Slots,
+    ) -> Result<(), NoMemory>
         requires { IsRowOf self.now.answers.now.whole.grammar row }
-        ensures { IfOk result (λ more. more ≡ slots ++ threes_with_one self.now.infos.now self.now.known.now (read_after self.now.answers.now.whole.kept self.now.answers.now.sample) row of.now before.now leaders.now) }
+        ensures { OnOk result (slots.new ≡ slots.old ++ threes_with_one self.now.infos.now self.now.known.now (read_after self.now.answers.now.whole.kept self.now.answers.now.sample) row of.now before.now leaders.now) }
     {
-        let first = self.triples(row, of, leaders, leaders, slots)?;
-        let second = self.triples(row, before, of, leaders, first)?;
-        self.triples(row, before, before, of, second)
+        self.triples(row, of, leaders, leaders, slots)?;
+        self.triples(row, before, of, leaders, slots)?;
+        self.triples(row, before, before, of, slots)
     }
 
     // The same of a row's roles.
@@ -241,10 +234,10 @@ impl<'a> Sweep<'a> {
         of: &[VarId],
         before: &[VarId],
         leaders: &[VarId],
-        slots: Slots,
-    ) -> Result<Slots, NoMemory>
+        slots: &mut Slots,
+    ) -> Result<(), NoMemory>
         requires { IsRowOf self.now.answers.now.whole.grammar row }
-        ensures { IfOk result (λ more. more ≡ slots ++ with_one self.now.infos.now self.now.known.now (read_after self.now.answers.now.whole.kept self.now.answers.now.sample) row of.now before.now leaders.now) }
+        ensures { OnOk result (slots.new ≡ slots.old ++ with_one self.now.infos.now self.now.known.now (read_after self.now.answers.now.whole.kept self.now.answers.now.sample) row of.now before.now leaders.now) }
     {
         let arity = info(row).arity;
         if arity == 1 {
@@ -263,14 +256,14 @@ impl<'a> Sweep<'a> {
         v: VarId,
         w: VarId,
         leaders: &[VarId],
-        slots: Slots,
-    ) -> Result<Slots, NoMemory>
+        slots: &mut Slots,
+    ) -> Result<(), NoMemory>
         requires { IsRowOf self.now.answers.now.whole.grammar row }
-        ensures { IfOk result (λ more. more ≡ slots ++ threes_with_two self.now.infos.now self.now.known.now (read_after self.now.answers.now.whole.kept self.now.answers.now.sample) row v w leaders.now) }
+        ensures { OnOk result (slots.new ≡ slots.old ++ threes_with_two self.now.infos.now self.now.known.now (read_after self.now.answers.now.whole.kept self.now.answers.now.sample) row v w leaders.now) }
     {
-        let first = self.triples(row, &[v], &[w], leaders, slots)?;
-        let second = self.triples(row, &[v], leaders, &[w], first)?;
-        self.triples(row, leaders, &[v], &[w], second)
+        self.triples(row, &[v], &[w], leaders, slots)?;
+        self.triples(row, &[v], leaders, &[w], slots)?;
+        self.triples(row, leaders, &[v], &[w], slots)
     }
 
     // The same of a row's roles.
@@ -280,14 +273,14 @@ impl<'a> Sweep<'a> {
         v: VarId,
         w: VarId,
         leaders: &[VarId],
-        slots: Slots,
-    ) -> Result<Slots, NoMemory>
+        slots: &mut Slots,
+    ) -> Result<(), NoMemory>
         requires { IsRowOf self.now.answers.now.whole.grammar row }
-        ensures { IfOk result (λ more. more ≡ slots ++ with_two self.now.infos.now self.now.known.now (read_after self.now.answers.now.whole.kept self.now.answers.now.sample) row v w leaders.now) }
+        ensures { OnOk result (slots.new ≡ slots.old ++ with_two self.now.infos.now self.now.known.now (read_after self.now.answers.now.whole.kept self.now.answers.now.sample) row v w leaders.now) }
     {
         let arity = info(row).arity;
         if arity == 1 {
-            Ok(slots)
+            Ok(())
         } else if arity == 2 {
             self.pairs(row, &[v], &[w], slots)
         } else {
@@ -302,16 +295,16 @@ impl<'a> Sweep<'a> {
         v: VarId,
         w: VarId,
         leaders: &[VarId],
-        slots: Slots,
-    ) -> Result<Slots, NoMemory>
+        slots: &mut Slots,
+    ) -> Result<(), NoMemory>
         requires { IsRowOf self.now.answers.now.whole.grammar row }
-        ensures { IfOk result (λ more. more ≡ slots ++ with_ends self.now.infos.now self.now.known.now (read_after self.now.answers.now.whole.kept self.now.answers.now.sample) row v w leaders.now) }
+        ensures { OnOk result (slots.new ≡ slots.old ++ with_ends self.now.infos.now self.now.known.now (read_after self.now.answers.now.whole.kept self.now.answers.now.sample) row v w leaders.now) }
     {
         if v.0 == w.0 {
             return self.with_one(row, &[v], leaders, leaders, slots);
         }
-        let first = self.with_two(row, v, w, leaders, slots)?;
-        self.with_two(row, w, v, leaders, first)
+        self.with_two(row, v, w, leaders, slots)?;
+        self.with_two(row, w, v, leaders, slots)
     }
 
     // Those of a row with the first and the last of some leaders.
@@ -320,11 +313,11 @@ impl<'a> Sweep<'a> {
         row: RowId,
         lost: &[VarId],
         leaders: &[VarId],
-        slots: Slots,
-    ) -> Result<Slots, NoMemory>
+        slots: &mut Slots,
+    ) -> Result<(), NoMemory>
         requires row { IsRowOf self.now.answers.now.whole.grammar row }
         requires some { 0 < length lost.now }
-        ensures { IfOk result (λ more. more ≡ slots ++ with_both self.now.infos.now self.now.known.now (read_after self.now.answers.now.whole.kept self.now.answers.now.sample) row lost.now leaders.now) }
+        ensures { OnOk result (slots.new ≡ slots.old ++ with_both self.now.infos.now self.now.known.now (read_after self.now.answers.now.whole.kept self.now.answers.now.sample) row lost.now leaders.now) }
     {
         self.with_ends(row, lost[0], lost[lost.len() - 1], leaders, slots)
     }
@@ -345,7 +338,7 @@ impl<'a> Sweep<'a> {
             return Ok(slots);
         }
         for n in 0..grammar.rows() {
-            slots = self.with_one(RowId(n + 1), touching, others, leaders, slots)?;
+            self.with_one(RowId(n + 1), touching, others, leaders, &mut slots)?;
         }
         Ok(slots)
     }
@@ -356,16 +349,15 @@ impl<'a> Sweep<'a> {
         row: RowId,
         lost: &[VarId],
         leaders: &[VarId],
-        slots: Slots,
-    ) -> Result<Slots, NoMemory>
+        slots: &mut Slots,
+    ) -> Result<(), NoMemory>
         requires { 0 < length lost.now }
-        ensures { IfOk result (λ more. more ≡ slots ++ freed_slots self.now.infos.now self.now.known.now (read_after self.now.answers.now.whole.kept self.now.answers.now.sample) leaders.now row lost.now) }
+        ensures { OnOk result (slots.new ≡ slots.old ++ freed_slots self.now.infos.now self.now.known.now (read_after self.now.answers.now.whole.kept self.now.answers.now.sample) leaders.now row lost.now) }
     {
-        let mut slots = slots;
         for freed in rows_reached(row) {
-            slots = self.with_both(*freed, lost, leaders, slots)?;
+            self.with_both(*freed, lost, leaders, slots)?;
         }
-        Ok(slots)
+        Ok(())
     }
 
     /// Those that the slots at these places free.
@@ -374,17 +366,16 @@ impl<'a> Sweep<'a> {
         kept: &[Slot],
         lost: &[usize],
         leaders: &[VarId],
-        slots: Slots,
-    ) -> Result<Slots, NoMemory>
+        slots: &mut Slots,
+    ) -> Result<(), NoMemory>
         requires within { All (λ k. k < length kept.now) lost.now }
         requires some { All (λ s. 0 < length s.leaders) kept.now }
-        ensures { IfOk result (λ more. more ≡ slots ++ freed_by_all self.now.infos.now self.now.known.now (read_after self.now.answers.now.whole.kept self.now.answers.now.sample) leaders.now kept.now lost.now) }
+        ensures { OnOk result (slots.new ≡ slots.old ++ freed_by_all self.now.infos.now self.now.known.now (read_after self.now.answers.now.whole.kept self.now.answers.now.sample) leaders.now kept.now lost.now) }
     {
-        let mut slots = slots;
         for place in lost {
             let slot = &kept[*place];
-            slots = self.freed_slots(slot.row, slot.leaders.as_slice(), leaders, slots)?;
+            self.freed_slots(slot.row, slot.leaders.as_slice(), leaders, slots)?;
         }
-        Ok(slots)
+        Ok(())
     }
 }

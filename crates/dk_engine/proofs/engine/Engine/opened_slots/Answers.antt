@@ -1,6 +1,5 @@
-use Rattle.std.specs.Prelude.{◌≡◌, ◌++◌, IfOk}
+use Rattle.std.specs.Prelude.{◌≡◌, ◌++◌}
 use Rattle.std.proofs.Common.{ap, ◌∙◌, rules}
-use Rattle.std.proofs.lemmas.Result.{IfOk-weaker}
 use Rattle.dk_base.specs.Values.{values_of}
 use Rattle.dk_classes.specs.Leaders.{own_leaders}
 use Rattle.dk_engine.specs.Choices.{other_leaders, touching_leaders}
@@ -19,6 +18,6 @@ returns c =
     let leaders = own_leaders now.leaders in
     let t = touched_slots w.grammar w.infos now.known after (touching_leaders now) (other_leaders now) leaders in
     let f = freed_by_all w.infos now.known after leaders w.kept.slots c.args.lost.now in
-    let touched : c.in_ok-touched.touched ≡ t = search rules in
-    let freed : IfOk c.freed_by_all.result (λ more. more ≡ c.in_ok-touched.touched ++ f) = search rules in
-    IfOk-weaker c.freed_by_all.result (λ more. more ≡ c.in_ok-touched.touched ++ f) (λ more. more ≡ t ++ f) (λ more e. e ∙ ap (λ ss. ss ++ f) touched) freed
+    let touched : c.in_ok-slots.slots ≡ t = search rules in
+    let freed : c.freed_by_all.new.slots ≡ c.in_ok-slots.slots ++ f = search rules in
+    freed ∙ ap (λ ss. ss ++ f) touched

@@ -4,4 +4,4 @@ use Rattle.dk_engine.specs.Sweeps.{behind}
 use Rattle.dk_engine.proofs.sweeps.Sweep.behind.Given as goal
 
 abbrev pub invariant-loop-w : goal.invariant-loop-w
-invariant-loop-w l = l.slots ≡ l.initial.slots ++ behind l.self.infos.now l.self.known.now (read_after l.self.answers.now.whole.kept l.self.answers.now.sample) l.row l.v (take l.w-index l.second) l.third
+invariant-loop-w l = l.slots ≡ l.fn.slots ++ behind l.self.infos.now l.self.known.now (read_after l.self.answers.now.whole.kept l.self.answers.now.sample) l.row l.v (take l.w-index l.second) l.third

@@ -4,4 +4,4 @@ use Rattle.dk_engine.specs.Sweeps.{firsts}
 use Rattle.dk_engine.proofs.sweeps.Sweep.firsts.Given as goal
 
 abbrev pub invariant-loop-v : goal.invariant-loop-v
-invariant-loop-v l = l.slots ≡ l.initial.slots ++ firsts l.self.infos.now l.self.known.now (read_after l.self.answers.now.whole.kept l.self.answers.now.sample) l.row (take l.v-index l.first)
+invariant-loop-v l = l.slots ≡ l.fn.slots ++ firsts l.self.infos.now l.self.known.now (read_after l.self.answers.now.whole.kept l.self.answers.now.sample) l.row (take l.v-index l.first)

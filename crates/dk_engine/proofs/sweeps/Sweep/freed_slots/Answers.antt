@@ -25,10 +25,10 @@ loop-freed-preserved c =
     let row : RowId = slice_index_or items i (record { 0 = 0 }) in
     let test = c.loop-freed-test.true in
     let within : i < length items = omega (arith, test) in
-    c.in_ok-slots.ensures
+    c.in_ok-with_both.ensures
     ∙ (ap (λ ss. ss ++ F row) c.loop-freed.invariant
-    ∙ (flat_map_more F c.args.slots (take i items) row
-    ∙ ap (λ rs. c.args.slots ++ flat_map F rs) (sym (take_more items i (record { 0 = 0 }) within))))
+    ∙ (flat_map_more F c.args.slots.now (take i items) row
+    ∙ ap (λ rs. c.args.slots.now ++ flat_map F rs) (sym (take_more items i (record { 0 = 0 }) within))))
 
 pub returns : goal.returns
 unfolding freed_slots
@@ -38,4 +38,4 @@ returns c =
     let items = c.rows_reached-freed-items.result.now in
     let test = c.loop-freed-test.false in
     let past : length items ≤ c.loop-freed.freed-index = omega (arith, test) in
-    c.loop-freed.invariant ∙ ap (λ rs. c.args.slots ++ flat_map F rs) (take_all c.loop-freed.freed-index items past ∙ c.rows_reached-freed-items.ensures)
+    c.loop-freed.invariant ∙ ap (λ rs. c.args.slots.now ++ flat_map F rs) (take_all c.loop-freed.freed-index items past ∙ c.rows_reached-freed-items.ensures)

@@ -18,7 +18,7 @@ loop-n-preserved c =
     let test = c.loop-n-test.true in
     let last = c.rows-n-end.ensures in
     let within : c.loop-n.n < rows_in c.args.grammar = omega (arith, test, last) in
-    c.in_ok-slots.ensures ∙ (ap (λ ss. ss ++ F (record { 0 = c.loop-n.n + 1 })) c.loop-n.invariant ∙ row_more F c.args.grammar c.loop-n.n within)
+    c.in_ok-with_one.ensures ∙ (ap (λ ss. ss ++ F (record { 0 = c.loop-n.n + 1 })) c.loop-n.invariant ∙ row_more F c.args.grammar c.loop-n.n within)
 
 pub returns : goal.returns
 unfolding touched_slots

@@ -1,8 +1,8 @@
 use Rattle.std.specs.Prelude.{◌≡◌, ◌++◌}
 use Rattle.std.proofs.Common.{ap, ◌∙◌, append_assoc}
-use Rattle.std.proofs.lemmas.Result.{IfOk-weaker}
+use Rattle.std.proofs.lemmas.Result.{on_ok_weaker}
 use Rattle.dk_engine.specs.Feeding.{read_after}
-use Rattle.dk_engine.specs.Sweeps.{pairs, twos_with_one}
+use Rattle.dk_engine.specs.Sweeps.{pairs}
 use Rattle.dk_engine.proofs.sweeps.Sweep.twos_with_one.Goals as goal
 
 pub returns : goal.returns
@@ -15,5 +15,5 @@ returns c =
     let leaders = c.args.leaders.now in
     let p = pairs s.infos.now s.known.now answered row of leaders in
     let q = pairs s.infos.now s.known.now answered row before of in
-    IfOk-weaker c.pairs-2.result (λ more. more ≡ c.in_ok-first.first ++ q) (λ more. more ≡ c.args.slots ++ twos_with_one s.infos.now s.known.now answered row of before leaders)
-    (λ more e. e ∙ (ap (λ ss. ss ++ q) c.in_ok-first.ensures ∙ append_assoc c.args.slots p q)) c.pairs-2.ensures
+    on_ok_weaker c.pairs-2.result (λ (e : c.pairs-2.new.slots ≡ c.pairs.new.slots ++ q).
+    e ∙ (ap (λ ss. ss ++ q) c.in_ok-pairs.ensures ∙ append_assoc c.args.slots.now p q)) c.pairs-2.ensures

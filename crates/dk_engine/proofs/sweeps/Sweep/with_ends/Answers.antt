@@ -1,7 +1,7 @@
 use Rattle.std.specs.Prelude.{◌≡◌, ◌++◌, ◌∷◌, [], if◌then◌else◌}
 use Rattle.std.proofs.Common.{ap, ◌∙◌, append_assoc, sym}
 use Rattle.std.proofs.lemmas.Bool.{ne_eqb}
-use Rattle.std.proofs.lemmas.Result.{IfOk-weaker}
+use Rattle.std.proofs.lemmas.Result.{on_ok_weaker}
 use Rattle.dk_engine.specs.Feeding.{read_after}
 use Rattle.dk_engine.specs.Sweeps.{with_ends, with_one, with_two}
 use Rattle.dk_engine.proofs.sweeps.Sweep.with_ends.Goals as goal
@@ -19,6 +19,6 @@ returns c =
     let u = with_two s.infos.now s.known.now answered row w v leaders in
     let ends = with_ends s.infos.now s.known.now answered row v w leaders in
     let told : ends ≡ t ++ u = ap (λ b. if b then one else t ++ u) (ne_eqb v.0 w.0 c.if-v-w.false) in
-    IfOk-weaker c.with_two-2.result (λ more. more ≡ c.in_ok-first.first ++ u) (λ more. more ≡ c.args.slots ++ ends)
-    (λ more e. e ∙ (ap (λ ss. ss ++ u) c.in_ok-first.ensures ∙ (append_assoc c.args.slots t u ∙ ap (λ ss. c.args.slots ++ ss) (sym told))))
-    c.with_two-2.ensures
+    let was = c.args.slots.now in
+    on_ok_weaker c.with_two-2.result (λ (e : c.with_two-2.new.slots ≡ c.with_two.new.slots ++ u).
+    e ∙ (ap (λ ss. ss ++ u) c.in_ok-with_two.ensures ∙ (append_assoc was t u ∙ ap (λ ss. was ++ ss) (sym told)))) c.with_two-2.ensures

@@ -1,7 +1,7 @@
 use Rattle.std.specs.Prelude.{◌≡◌, ◌++◌, ◌∷◌, []}
 use Rattle.std.proofs.Common.{ap, ◌∙◌, sym}
 use Rattle.std.proofs.lemmas.List.{append-nil}
-use Rattle.std.proofs.lemmas.Result.{IfOk-weaker}
+use Rattle.std.proofs.lemmas.Result.{on_ok_weaker}
 use Rattle.dk_template.specs.Templates.{arity_of}
 use Rattle.dk_template.specs.declared.templates.RowInfo.{RowInfo}
 use Rattle.dk_engine.proofs.Swept.{both_one_role, both_three_roles, both_two_roles}
@@ -19,7 +19,7 @@ returns-then-arity-eq1 c =
     let leaders = c.args.leaders.now in
     let arity : c.info-arity.result.arity ≡ arity_of row = ap (λ (i : RowInfo). i.arity) c.info-arity.ensures in
     let told = both_one_role s.infos.now s.known.now answered row v w leaders (sym arity ∙ c.if-arity-eq1.true) in
-    sym (append-nil c.args.slots) ∙ ap (λ ss. c.args.slots ++ ss) told
+    sym (append-nil c.args.slots.now) ∙ ap (λ ss. c.args.slots.now ++ ss) told
 
 pub returns-then-arity-eq2 : goal.returns-then-arity-eq2
 returns-then-arity-eq2 c =
@@ -31,8 +31,7 @@ returns-then-arity-eq2 c =
     let leaders = c.args.leaders.now in
     let arity : c.info-arity.result.arity ≡ arity_of row = ap (λ (i : RowInfo). i.arity) c.info-arity.ensures in
     let told = both_two_roles s.infos.now s.known.now answered row v w leaders (sym arity ∙ c.if-arity-eq2.true) in
-    IfOk-weaker c.pairs.result (λ more. more ≡ c.args.slots ++ pairs s.infos.now s.known.now answered row (v ∷ []) (w ∷ [])) (λ more. more ≡ c.args.slots ++ with_two s.infos.now s.known.now answered row v w leaders)
-    (λ more e. e ∙ ap (λ ss. c.args.slots ++ ss) told) c.pairs.ensures
+    on_ok_weaker c.pairs.result (λ (e : c.pairs.new.slots ≡ c.args.slots.now ++ pairs s.infos.now s.known.now answered row (v ∷ []) (w ∷ [])). e ∙ ap (λ ss. c.args.slots.now ++ ss) told) c.pairs.ensures
 
 pub returns-else-arity-eq2 : goal.returns-else-arity-eq2
 returns-else-arity-eq2 c =
@@ -44,5 +43,4 @@ returns-else-arity-eq2 c =
     let leaders = c.args.leaders.now in
     let arity : c.info-arity.result.arity ≡ arity_of row = ap (λ (i : RowInfo). i.arity) c.info-arity.ensures in
     let told = both_three_roles s.infos.now s.known.now answered row v w leaders (λ e. c.if-arity-eq1.false (arity ∙ e)) (λ e. c.if-arity-eq2.false (arity ∙ e)) in
-    IfOk-weaker c.threes_with_two.result (λ more. more ≡ c.args.slots ++ threes_with_two s.infos.now s.known.now answered row v w leaders) (λ more. more ≡ c.args.slots ++ with_two s.infos.now s.known.now answered row v w leaders)
-    (λ more e. e ∙ ap (λ ss. c.args.slots ++ ss) told) c.threes_with_two.ensures
+    on_ok_weaker c.threes_with_two.result (λ (e : c.threes_with_two.new.slots ≡ c.args.slots.now ++ threes_with_two s.infos.now s.known.now answered row v w leaders). e ∙ ap (λ ss. c.args.slots.now ++ ss) told) c.threes_with_two.ensures
