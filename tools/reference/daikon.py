@@ -1,5 +1,5 @@
 #!/usr/bin/env python3
-"""An independent reading of the product's specification, for comparison with the built program.
+"""An independent reading of the product's rules, for comparison with the built program.
 
 The words are those of the product. In front of them `--stage CUT,CUT...` may stand: then the
 program is the one of an earlier stage. The cuts are
