@@ -124,7 +124,8 @@ class Reader:
 # ---------------------------------------------------------------- running
 
 class HostSinks:
-    """Standard output, standard error and the file `daikon.state`, which is made anew."""
+    """Standard output, standard error and the file `daikon.state`, which is replaced by a whole
+    one."""
 
     def report(self, text):
         self.write(1, text)
@@ -133,10 +134,16 @@ class HostSinks:
         self.write(2, text)
 
     def state(self, text):
+        """Written beside the old one and put in its place, so that no fault leaves half a state."""
+        path = os.path.realpath("daikon.state")
+        beside = path + ".new"
         try:
-            with open("daikon.state", "wb") as file:
+            with open(beside, "wb") as file:
                 file.write(text)
+            os.replace(beside, path)
         except OSError:
+            if os.path.exists(beside):
+                os.remove(beside)
             raise Ended(WRITE, b"") from None
 
     @staticmethod

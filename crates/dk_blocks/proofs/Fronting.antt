@@ -50,7 +50,7 @@ answered_true None h h' a = let e = a.0 in absurd (cc (e))
 answered_true (Some (Ok next)) h h' a = ap (λ (x : Header). let r : Result Header Why = Ok x in Some r) (sym a.1)
 answered_true (Some (Err why)) h h' a = let e = a.0 in absurd (cc (e))
 
-answered_false : (o : Option (Result Header Why)) (h h' : Header) → HeaderAnswers o h (Ok false) h' → (o ≡ None) × (h' ≡ h)
+pub answered_false : (o : Option (Result Header Why)) (h h' : Header) → HeaderAnswers o h (Ok false) h' → (o ≡ None) × (h' ≡ h)
 answered_false None h h' a = (refl, a.1)
 answered_false (Some (Ok next)) h h' a = let e = a.0 in absurd (cc (e))
 answered_false (Some (Err why)) h h' a = let e = a.0 in absurd (cc (e))

@@ -8,6 +8,7 @@ pub mod Keeping
 pub mod Declaring
 pub mod Recording
 pub mod Stepping
+pub mod AtHand
 pub mod FirstLines
 pub mod Added
 pub mod Derived

@@ -1,7 +1,7 @@
 -- A record, and its values.
-use Rattle.std.proofs.Common.{◌≡◌, ◌∙◌, ◌<◌, ℕ, Bool, true, false, List, [], ◌∷◌, ◌++◌, length, get_or, Option, Some, Result, Ok, Err, sym, ap, subst}
+use Rattle.std.proofs.Common.{◌≡◌, ◌∙◌, Bool, true, false, List, [], ◌∷◌, ◌++◌, get_or, Some, Result, Ok, Err, refl, sym, subst}
 use Rattle.std.proofs.lemmas.List.{length-set}
-use Rattle.std.specs.Prelude.{IfOk, OnOk}
+use Rattle.std.specs.Prelude.{IfOk, OnOk, is_some}
 use Rattle.dk_base.specs.Reading.{Line}
 use Rattle.dk_base.specs.declared.faults.BlockFault.{BlockFault}
 use Rattle.dk_base.specs.declared.faults.BlockFault.TheVariants.{Refused, NoMemory}
@@ -96,3 +96,10 @@ refused_fits false NoMemory ps = tt
 -- and takes nothing away
 pub sound_alike : (k : Keeping) (calls : Calls) → IsSound k → WaitAlike k.calls calls → IsSound (called k calls)
 sound_alike k calls sound alike = record { constants = sound.constants; calls = waiting_alike k.points k.calls calls alike sound.calls }
+
+-- what is left out counts
+pub refused_some : (ignores : Bool) (e : BlockFault) → IfOk (unmatched_answer ignores e) (λ found. is_some found ≡ true)
+refused_some true (Refused line why) = refl
+refused_some false (Refused line why) = tt
+refused_some true NoMemory = tt
+refused_some false NoMemory = tt

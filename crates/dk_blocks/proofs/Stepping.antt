@@ -65,17 +65,17 @@ next_same ignores read more (Last ls end) e = ap (λ (r : Result Taken LineFault
 
 -- ---- one line
 
-grouped_blank : (line : Line) (rest : Left) → is_blank_line line ≡ true → groups_of (Next line rest) ≡ Group [] line.number (groups_of rest)
+pub grouped_blank : (line : Line) (rest : Left) → is_blank_line line ≡ true → groups_of (Next line rest) ≡ Group [] line.number (groups_of rest)
 grouped_blank line rest e = ap (λ (b : Bool). if b then Group [] line.number (groups_of rest) else onto_group (trimmed_line line) (groups_of rest)) e
 
-grouped_words : (line : Line) (rest : Left) → is_blank_line line ≡ false → groups_of (Next line rest) ≡ onto_group (trimmed_line line) (groups_of rest)
+pub grouped_words : (line : Line) (rest : Left) → is_blank_line line ≡ false → groups_of (Next line rest) ≡ onto_group (trimmed_line line) (groups_of rest)
 grouped_words line rest e = ap (λ (b : Bool). if b then Group [] line.number (groups_of rest) else onto_group (trimmed_line line) (groups_of rest)) e
 
-abbrev next_from : Bool → Groups → Result Taken LineFault → Result Stepped LineFault
+abbrev pub next_from : Bool → Groups → Result Taken LineFault → Result Stepped LineFault
 next_from ignores rest r = r >>= λ t. stop_or t rest (after_next ignores (effect_of ignores t.history) rest)
 
 -- what was found stops here
-stops : (ignores : Bool) (h : History) (found : Option Found) (rest : Groups) → is_some found ≡ true → next_from ignores rest (outcome_of h found) ≡ behind_block (outcome_of h found) rest
+pub stops : (ignores : Bool) (h : History) (found : Option Found) (rest : Groups) → is_some found ≡ true → next_from ignores rest (outcome_of h found) ≡ behind_block (outcome_of h found) rest
 stops ignores h None rest some = absurd (cc some)
 stops ignores h (Some found.Nothing) rest some = refl
 stops ignores h (Some (found.Declaration line decl)) rest some = go (at_line line (declared h.table decl)) where

@@ -1,13 +1,9 @@
 -- The groups of lines are the longest runs of lines that aren't blank.
-use Rattle.std.specs.Prelude.{◌≡◌, false, true, All, List, [], ◌∷◌, map}
+use Rattle.std.specs.Prelude.{◌≡◌, false, true, All, List, map}
 use Rattle.dk_base.specs.Reading.{Line}
 use Rattle.dk_lines.specs.Left.{Left, Ends, Next}
+use Rattle.dk_lines.specs.Passing.{in_front}
 use Rattle.dk_blocks.specs.Blocks.{Groups, Group, Last, groups_of, is_blank_line, trimmed_line}
-
--- these lines, and then what is left
-abbrev pub in_front : List Line → Left → Left
-in_front [] rest = rest
-in_front (l ∷ ls) rest = Next l (in_front ls rest)
 
 -- Lines none of which is blank stand in front of what is left; each is taken without the blanks and tabs at its two ends.
 pub record IsRun (run : List Line) (left rest : Left) : Type 0 where

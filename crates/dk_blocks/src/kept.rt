@@ -1,5 +1,5 @@
 // What a reader of blocks keeps from block to block.
-ghost use Rattle.std.specs.Prelude.{◌≡◌, ◌<◌, ◌∷◌, [], IfOk, OnErr, OnOk, Bool, List, ℕ, Option, Some, false, is_some, length};
+ghost use Rattle.std.specs.Prelude.{◌≡◌, ◌<◌, ◌∷◌, [], IfOk, IfSome, OnErr, OnOk, Bool, List, ℕ, Option, Some, false, is_some, length, true};
 ghost use Rattle.dk_base.specs.Reading.{Line};
 ghost use Rattle.dk_base.specs.Values.{values_of};
 ghost use Rattle.dk_calls.specs.Records.{call_of};
@@ -10,6 +10,7 @@ ghost use Rattle.dk_points.specs.Vars.{entry_of};
 ghost use Rattle.dk_template.specs.declared.grammar.Grammar.{Grammar};
 ghost use Rattle.dk_trace.specs.Answers.{Shows};
 ghost use Rattle.dk_trace.specs.RecordsResumed.{shown};
+ghost use Rattle.dk_blocks.specs.AtHand.{BeginsRecord, IsAtHand};
 ghost use Rattle.dk_blocks.specs.Fitting.{ConstantsFit, Extends, FitAt, HasFittingConstants};
 ghost use Rattle.dk_blocks.specs.Finding.{FoundFits};
 ghost use Rattle.dk_blocks.specs.History.{History, after_declaration, after_record, after_sample, base_values, effect_of, file_ended, nothing_by, with_declaration, with_record, without_record};
@@ -23,7 +24,7 @@ use dk_base::{BlockFault, NoMemory, View};
 use dk_calls::{Calls, is_entry};
 use dk_decl::{DeclBlock, Header, PointDecl};
 use dk_points::{Declared, Points};
-use dk_trace::{BaseSample, RecordReader};
+use dk_trace::{BaseSample, RecordReader, Whole, read_whole};
 use std::alloc::Global;
 use std::marker::Model;
 use std::mem::replace;
@@ -352,8 +353,8 @@ impl Kept {
         }
     }
 
-    // With the sample of a record.
-    fn with_record<'a>(
+    /// With the sample of a record.
+    pub(crate) fn with_record<'a>(
         &mut self,
         arena: &'a Bump,
         sample: &BaseSample<'a>,
@@ -362,6 +363,7 @@ impl Kept {
         requires within { sample.now.point.0 < length self.old.points }
         requires fits { FitAt self.old.points sample.now.point.0 (values_of sample.now.values.now) }
         ensures closes { (h : History) → Stands self.old h → Closes (left_with_answer self.new result) (with_record ignores h (shown sample.now)) }
+        ensures some { IfOk result (λ found. is_some found ≡ true) }
         ensures points { self.new.points ≡ self.old.points }
         ensures fits { IfOk result (λ found. FoundFits self.new.points found) }
     {
@@ -412,6 +414,48 @@ impl Kept {
         ensures points { self.new.points ≡ self.old.points }
     {
         self.calls.clear();
+    }
+
+    // Whether a block of this first line is a sample record, and has neither comments nor header lines in front of it.
+    #[tactic(auto, unfolding(crate::specs::History::effect_of, crate::specs::Standing::Stands))]
+    fn begins_record(&self, first: &[u8]) -> bool
+        ensures { result ≡ true → BeginsRecord self.now first.now }
+    {
+        if is_comment(first) {
+            return false;
+        }
+        if is_plainly_sample(&self.header, first) {
+            return true;
+        }
+        let mut header = self.header;
+        match header.line(first) {
+            Ok(false) => !is_declaration(first) && !is_list_of_implementors(first),
+            Ok(true) => false,
+            Err(_) => false,
+        }
+    }
+
+    /// The block that stands whole at the front of these bytes, the first line of which has this number, if it is a sample record that is
+    /// read where it lies.
+    pub(crate) fn whole_record<'a>(
+        &self,
+        arena: &'a Bump,
+        number: u64,
+        bytes: &[u8],
+    ) -> Result<Option<Whole<'a>>, NoMemory>
+        ensures { IfOk result (λ found. IfSome found (IsAtHand self.now number bytes.now)) }
+    {
+        match read_whole(self.alloc, &self.points, arena, number, bytes) {
+            Ok(Some(whole)) => {
+                if self.begins_record(&bytes[..whole.first_len]) {
+                    Ok(Some(whole))
+                } else {
+                    Ok(None)
+                }
+            }
+            Ok(None) => Ok(None),
+            Err(fault) => Err(fault),
+        }
     }
 
     /// The table of points.

@@ -1,10 +1,12 @@
 // A reader of blocks.
-ghost use Rattle.std.specs.Prelude.{◌≡◌, ◌≤◌, ◌<◌, ◌+◌, ◌-◌, ◌^◌, min, not, ◌∷◌, [], Bool, List, ℕ, Option, Some, None, IfErr, IfOk, OnOk, IfSome, IsErrOf, Ok, length, true, false};
+ghost use Rattle.std.specs.Prelude.{◌≡◌, ◌≤◌, ◌<◌, ◌+◌, ◌-◌, ◌^◌, min, not, ◌∷◌, [], Bool, List, ℕ, Option, Some, None, IfErr, IfOk, OnOk, IfSome, IsErrOf, Ok, is_some, length, true, false};
 ghost use Rattle.dk_calls.specs.Standing.{CallsStandForRecords as CallsStandFor};
 ghost use Rattle.dk_decl.specs.Headers.{is_implicit};
 ghost use Rattle.dk_io.specs.Outside.{Rose};
+ghost use Rattle.dk_lines.specs.Passing.{ready_of};
 ghost use Rattle.dk_lines.specs.Reading.{left_of};
 ghost use Rattle.dk_template.specs.declared.grammar.Grammar.{Grammar};
+ghost use Rattle.dk_blocks.specs.AtHand.{HandCounts, HandGives, IsAtHand};
 ghost use Rattle.dk_blocks.specs.Finding.{FoundFits};
 ghost use Rattle.dk_blocks.specs.Fitting.{ConstantsFit, Extends, HasFittingConstants};
 ghost use Rattle.dk_blocks.specs.History.{History, effect_of, file_ended, nothing_by, with_declaration};
@@ -23,6 +25,7 @@ use dk_decl::PointDecl;
 use dk_io::Inputs;
 use dk_lines::{LineFault, Lines};
 use dk_points::{Declared, Points};
+use dk_trace::Whole;
 use std::alloc::Global;
 
 /// Reads the blocks of files, one after another: what each does, by the points that are declared so far and the entries of its file that
@@ -261,6 +264,79 @@ fn read_block<'a, I: Inputs>(
     }
 }
 
+// Uses the record in the bytes at hand. Nothing is read.
+fn take_record<'a>(
+    kept: &mut Kept,
+    arena: &'a Bump,
+    lines: &mut Lines,
+    whole: &Whole<'a>,
+    ignores: bool,
+) -> Result<Option<Found<'a>>, Stop>
+    requires { IsAtHand kept.old (lines.old.number + 1) (ready_of lines.old) whole.now }
+    ensures gives { (h : History) → Stands kept.old h → (rest : Option (List ℕ)) → HandGives ignores h lines.old kept.new result lines.new rest }
+    ensures some { IfOk result (λ found. is_some found ≡ true) }
+    ensures points { kept.new.points ≡ kept.old.points }
+    ensures fits { IfOk result (λ found. FoundFits kept.new.points found) }
+    ensures counts { HandCounts lines.old result lines.new }
+    ensures never { IsErrOf result Stop.Read → ⊥ }
+{
+    lines.pass(whole.used, whole.count);
+    match kept.with_record(arena, &whole.sample, ignores) {
+        Ok(found) => Ok(found),
+        Err(fault) => Err(stop_of(fault)),
+    }
+}
+
+// The next block, where it is a record that stands whole in the bytes at hand, and is read where it lies; else nothing is read.
+fn record_at_hand<'a>(
+    kept: &mut Kept,
+    arena: &'a Bump,
+    lines: &mut Lines,
+    ignores: bool,
+) -> Result<Option<Found<'a>>, Stop>
+    ensures gives { (h : History) → Stands kept.old h → (rest : Option (List ℕ)) → HandGives ignores h lines.old kept.new result lines.new rest }
+    ensures none { result ≡ Ok None → (kept.new ≡ kept.old) × (lines.new ≡ lines.old) }
+    ensures points { kept.new.points ≡ kept.old.points }
+    ensures fits { IfOk result (λ found. FoundFits kept.new.points found) }
+    ensures counts { HandCounts lines.old result lines.new }
+    ensures never { IsErrOf result Stop.Read → ⊥ }
+{
+    match kept.whole_record(arena, lines.next_number(), lines.ready()) {
+        Ok(Some(whole)) => take_record(kept, arena, lines, &whole, ignores),
+        Ok(None) => Ok(None),
+        Err(NoMemory) => Err(Stop::NoMemory),
+    }
+}
+
+// Reads up to the end of the next block, in the bytes at hand where it is a record that stands whole there.
+fn next_block<'a, I: Inputs>(
+    kept: &mut Kept,
+    arena: &'a Bump,
+    inputs: &mut I,
+    lines: &mut Lines,
+    ignores: bool,
+) -> Result<End<'a>, Stop>
+    requires { lines.old.is_started ≡ true }
+    ensures gives { (h : History) → Stands kept.old h → IfSome (left_of lines.old (I.rest inputs.old))
+        (λ xs. BlockGives ignores (effect_of ignores h) false lines.old xs (ending_of kept.new result) lines.new (left_of lines.new (I.rest inputs.new))) }
+    ensures points { kept.new.points ≡ kept.old.points }
+    ensures fits { IfOk result (λ end. FoundFits kept.new.points end.found) }
+    ensures counts { BlockCounts lines.old (ending_of kept.new result) lines.new }
+    ensures emptied { IsErrOf result Stop.Read → lines.new.ahead ≡ [] }
+    ensures files { I.file inputs.new ≡ I.file inputs.old }
+    ensures later { I.faults inputs.old ≤ I.faults inputs.new }
+    ensures cause { IsErrOf result Stop.Read → Rose (I.faults inputs.old) (I.faults inputs.new) }
+{
+    match record_at_hand(kept, arena, lines, ignores) {
+        Ok(Some(found)) => Ok(End {
+            is_over: false,
+            found: Some(found),
+        }),
+        Ok(None) => read_block(kept, arena, inputs, lines, ignores),
+        Err(stop) => Err(stop),
+    }
+}
+
 // The fault with the number of its file.
 fn fault_of(file: u32, stop: Stop) -> Fault
     ensures { result ≡ fault_in_file file stop }
@@ -338,7 +414,7 @@ impl Reader {
         if self.is_over {
             return Ok(None);
         }
-        match read_block(&mut self.kept, arena, inputs, lines, ignores) {
+        match next_block(&mut self.kept, arena, inputs, lines, ignores) {
             Ok(end) => {
                 self.is_over = end.is_over;
                 Ok(end.found)

@@ -4,7 +4,7 @@
 
 use dk_check::{run_check, tell_usage};
 use dk_events::Ended;
-use dk_io::{FileInputs, HostSinks};
+use dk_host::{FileInputs, HostSinks};
 use dk_run::words_of;
 use std::io::ErrorKind;
 use std::process::ExitCode;
@@ -17,5 +17,5 @@ fn main(rt: HostRuntime) -> ExitCode {
         Err(error) if error.kind() == ErrorKind::InvalidData => tell_usage(&mut sinks),
         Err(_) => Ended::NoMemory,
     };
-    ExitCode::from(ended.code())
+    ExitCode::from(sinks.finish(ended.code()))
 }

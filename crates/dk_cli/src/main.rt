@@ -1,7 +1,7 @@
 //! The command `daikon`: it reads a file of declarations and records, and reports what holds of the variables of its points.
 #![tactic(auto)]
 
-use dk_io::{FileInputs, HostSinks};
+use dk_host::{FileInputs, HostSinks};
 use dk_run::{Status, run, tell_usage, words_of};
 use std::io::ErrorKind;
 use std::process::ExitCode;
@@ -14,5 +14,5 @@ fn main(rt: HostRuntime) -> ExitCode {
         Err(error) if error.kind() == ErrorKind::InvalidData => tell_usage(&mut sinks),
         Err(_) => Status::NoMemory,
     };
-    ExitCode::from(status.code())
+    ExitCode::from(sinks.finish(status.code()))
 }

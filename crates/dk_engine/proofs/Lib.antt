@@ -52,6 +52,7 @@ pub mod ReachedRows
 pub mod Losing
 pub mod Freeing
 pub mod Numbering
+pub mod Fitting
 pub mod Swept
 pub mod Opened
 pub mod Ordered

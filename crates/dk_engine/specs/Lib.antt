@@ -6,6 +6,7 @@ pub mod Levels
 pub mod Laws
 pub mod StepLaws
 pub mod Saved
+pub mod Suited
 -- what those are made of, and words for the crates above
 pub mod Numbers
 pub mod Reached

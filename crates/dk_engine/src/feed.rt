@@ -19,6 +19,7 @@ use crate::changes::{Change, Found, changes, few_changes, lose_some, lost_places
 use crate::changing::apply_changes;
 use crate::counting::are_many;
 use crate::merging::merge_slots;
+use crate::suited::Suited;
 use crate::sweeps::Sweep;
 use crate::touching::{others, touching_leaders};
 use crate::{Engine, Kept, Now, Slots};
@@ -198,14 +199,14 @@ impl Engine {
         };
         let touching = touching_leaders(self.alloc, now)?;
         let others = others(self.alloc, now)?;
-        let leaders = now.leaders.leaders();
+        let leaders = Suited::of(self.alloc, self.infos.as_slice(), now.leaders.leaders())?;
         let mut slots = sweep.touched_slots(
             self.grammar,
             touching.as_slice(),
             others.as_slice(),
-            leaders,
+            &leaders,
         )?;
-        sweep.freed_by_all(self.kept.slots.as_slice(), lost, leaders, &mut slots)?;
+        sweep.freed_by_all(self.kept.slots.as_slice(), lost, &leaders, &mut slots)?;
         Ok(slots)
     }
 
@@ -281,7 +282,7 @@ impl Engine {
         }
         let found = self.all_changes(sample)?;
         let lost = self.lost_places(found.changes.as_slice())?;
-        if are_many(&now, self.slots(), lost.as_slice()) {
+        if are_many(self.vars(), &now, self.slots(), lost.as_slice()) {
             let slots = self.sweep_all(sample, &now)?;
             return self.set_parts(sample, now, slots);
         }

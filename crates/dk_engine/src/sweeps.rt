@@ -1,21 +1,25 @@
 // The slots that answers give, over all tuples of leaders.
 ghost use Rattle.std.specs.Prelude.{◌≡◌, ◌<◌, ◌≤◌, ◌∷◌, [], ◌++◌, All, IfOk, IsSomeAnd, IsTrue, List, OnOk, length};
 ghost use Rattle.dk_base.specs.declared.kinds.VarId.{VarId};
-ghost use Rattle.dk_template.specs.Templates.{IsRowOf, arity_of};
+ghost use Rattle.dk_template.specs.Templates.{IsRowOf, template_of};
 ghost use Rattle.dk_ternary.specs.Rows.{operation_row};
 ghost use Rattle.dk_engine.specs.Feeding.{read_after, slots_of, slots_of_row};
 ghost use Rattle.dk_engine.specs.Narrow.{freed_by_all};
+ghost use Rattle.dk_engine.specs.Suited.{suited_vars};
 ghost use Rattle.dk_engine.specs.Sweeps.{behind, considered, firsts, freed_slots, pairs, seconds, thirds, threes_with_one, threes_with_two, touched_slots, triples, twos_with_one, with_both, with_ends, with_one, with_two};
 
 use crate::after::After;
 use crate::constant::are_known;
 use crate::operations::{breaks, descend, operation_of};
 use crate::reaching::rows_reached;
+use crate::suited::{Suited, suited_one};
 use crate::{Slot, Slots};
 use dk_base::{NoMemory, VarId, VarInfo};
 use dk_constants::Constants;
 use dk_suppress::suppressed;
-use dk_template::{Answers, Grammar, RowId, State, Tuple, admits, info, is_written};
+use dk_template::{
+    Answers, Grammar, Role, RowId, State, Takes, Tuple, admits, is_written, template_at,
+};
 use dk_ternary::Operation;
 use std::alloc::Global;
 
@@ -167,18 +171,26 @@ impl<'a> Sweep<'a> {
         Ok(())
     }
 
-    // Those of a row.
-    fn of_row(&self, row: RowId, leaders: &[VarId], slots: &mut Slots) -> Result<(), NoMemory>
-        requires { IsRowOf self.now.answers.now.whole.grammar row }
-        ensures { OnOk result (slots.new ≡ slots.old ++ slots_of_row self.now.infos.now leaders.now self.now.known.now (read_after self.now.answers.now.whole.kept self.now.answers.now.sample) row) }
+    // The leader of a list of one, if it suits a role.
+    fn one<'v>(&self, role: Role, one: &'v [VarId]) -> &'v [VarId]
+        requires { length one.now ≡ 1 }
+        ensures { result.now ≡ suited_vars role self.now.infos.now one.now }
     {
-        let arity = info(row).arity;
-        if arity == 1 {
-            self.firsts(row, leaders, slots)
-        } else if arity == 2 {
-            self.pairs(row, leaders, leaders, slots)
-        } else {
-            self.triples(row, leaders, leaders, leaders, slots)
+        suited_one(role, self.infos, one)
+    }
+
+    // Those of a row.
+    fn of_row(&self, row: RowId, leaders: &Suited<'a>, slots: &mut Slots) -> Result<(), NoMemory>
+        requires row { IsRowOf self.now.answers.now.whole.grammar row }
+        requires infos { leaders.now.infos.now ≡ self.now.infos.now }
+        ensures { OnOk result (slots.new ≡ slots.old ++ slots_of_row self.now.infos.now leaders.now.all self.now.known.now (read_after self.now.answers.now.whole.kept self.now.answers.now.sample) row) }
+    {
+        match template_at(row).takes {
+            Takes::One(a) => self.firsts(row, leaders.at(a), slots),
+            Takes::Two(a, b) => self.pairs(row, leaders.at(a), leaders.at(b), slots),
+            Takes::Three(a, b, c) => {
+                self.triples(row, leaders.at(a), leaders.at(b), leaders.at(c), slots)
+            }
         }
     }
 
@@ -187,9 +199,10 @@ impl<'a> Sweep<'a> {
         requires { self.now.answers.now.whole.grammar ≡ grammar }
         ensures { IfOk result (λ slots. slots ≡ slots_of grammar self.now.infos.now leaders.now self.now.known.now (read_after self.now.answers.now.whole.kept self.now.answers.now.sample)) }
     {
+        let suited = Suited::of(self.alloc, self.infos, leaders)?;
         let mut slots = Slots::new(self.alloc);
         for n in 0..grammar.rows() {
-            self.of_row(RowId(n + 1), leaders, &mut slots)?;
+            self.of_row(RowId(n + 1), &suited, &mut slots)?;
         }
         Ok(slots)
     }
@@ -198,54 +211,68 @@ impl<'a> Sweep<'a> {
     fn twos_with_one(
         &self,
         row: RowId,
-        of: &[VarId],
-        before: &[VarId],
-        leaders: &[VarId],
+        roles: (Role, Role),
+        of: &Suited<'a>,
+        before: &Suited<'a>,
+        leaders: &Suited<'a>,
         slots: &mut Slots,
     ) -> Result<(), NoMemory>
-        requires { IsRowOf self.now.answers.now.whole.grammar row }
-        ensures { OnOk result (slots.new ≡ slots.old ++ twos_with_one self.now.infos.now self.now.known.now (read_after self.now.answers.now.whole.kept self.now.answers.now.sample) row of.now before.now leaders.now) }
+        requires row { IsRowOf self.now.answers.now.whole.grammar row }
+        requires takes { (template_of row).takes ≡ Takes.Two roles.0 roles.1 }
+        requires of { of.now.infos.now ≡ self.now.infos.now }
+        requires before { before.now.infos.now ≡ self.now.infos.now }
+        requires leaders { leaders.now.infos.now ≡ self.now.infos.now }
+        ensures { OnOk result (slots.new ≡ slots.old ++ twos_with_one self.now.infos.now self.now.known.now (read_after self.now.answers.now.whole.kept self.now.answers.now.sample) row of.now.all before.now.all leaders.now.all) }
     {
-        self.pairs(row, of, leaders, slots)?;
-        self.pairs(row, before, of, slots)
+        let (a, b) = roles;
+        self.pairs(row, of.at(a), leaders.at(b), slots)?;
+        self.pairs(row, before.at(a), of.at(b), slots)
     }
 
     // The same of three roles.
     fn threes_with_one(
         &self,
         row: RowId,
-        of: &[VarId],
-        before: &[VarId],
-        leaders: &[VarId],
+        roles: (Role, Role, Role),
+        of: &Suited<'a>,
+        before: &Suited<'a>,
+        leaders: &Suited<'a>,
         slots: &mut Slots,
     ) -> Result<(), NoMemory>
-        requires { IsRowOf self.now.answers.now.whole.grammar row }
-        ensures { OnOk result (slots.new ≡ slots.old ++ threes_with_one self.now.infos.now self.now.known.now (read_after self.now.answers.now.whole.kept self.now.answers.now.sample) row of.now before.now leaders.now) }
+        requires row { IsRowOf self.now.answers.now.whole.grammar row }
+        requires takes { (template_of row).takes ≡ Takes.Three roles.0 roles.1 roles.2 }
+        requires of { of.now.infos.now ≡ self.now.infos.now }
+        requires before { before.now.infos.now ≡ self.now.infos.now }
+        requires leaders { leaders.now.infos.now ≡ self.now.infos.now }
+        ensures { OnOk result (slots.new ≡ slots.old ++ threes_with_one self.now.infos.now self.now.known.now (read_after self.now.answers.now.whole.kept self.now.answers.now.sample) row of.now.all before.now.all leaders.now.all) }
     {
-        self.triples(row, of, leaders, leaders, slots)?;
-        self.triples(row, before, of, leaders, slots)?;
-        self.triples(row, before, before, of, slots)
+        let (a, b, c) = roles;
+        self.triples(row, of.at(a), leaders.at(b), leaders.at(c), slots)?;
+        self.triples(row, before.at(a), of.at(b), leaders.at(c), slots)?;
+        self.triples(row, before.at(a), before.at(b), of.at(c), slots)
     }
 
     // The same of a row's roles.
     fn with_one(
         &self,
         row: RowId,
-        of: &[VarId],
-        before: &[VarId],
-        leaders: &[VarId],
+        of: &Suited<'a>,
+        before: &Suited<'a>,
+        leaders: &Suited<'a>,
         slots: &mut Slots,
     ) -> Result<(), NoMemory>
-        requires { IsRowOf self.now.answers.now.whole.grammar row }
-        ensures { OnOk result (slots.new ≡ slots.old ++ with_one self.now.infos.now self.now.known.now (read_after self.now.answers.now.whole.kept self.now.answers.now.sample) row of.now before.now leaders.now) }
+        requires row { IsRowOf self.now.answers.now.whole.grammar row }
+        requires of { of.now.infos.now ≡ self.now.infos.now }
+        requires before { before.now.infos.now ≡ self.now.infos.now }
+        requires leaders { leaders.now.infos.now ≡ self.now.infos.now }
+        ensures { OnOk result (slots.new ≡ slots.old ++ with_one self.now.infos.now self.now.known.now (read_after self.now.answers.now.whole.kept self.now.answers.now.sample) row of.now.all before.now.all leaders.now.all) }
     {
-        let arity = info(row).arity;
-        if arity == 1 {
-            self.firsts(row, of, slots)
-        } else if arity == 2 {
-            self.twos_with_one(row, of, before, leaders, slots)
-        } else {
-            self.threes_with_one(row, of, before, leaders, slots)
+        match template_at(row).takes {
+            Takes::One(a) => self.firsts(row, of.at(a), slots),
+            Takes::Two(a, b) => self.twos_with_one(row, (a, b), of, before, leaders, slots),
+            Takes::Three(a, b, c) => {
+                self.threes_with_one(row, (a, b, c), of, before, leaders, slots)
+            }
         }
     }
 
@@ -253,17 +280,22 @@ impl<'a> Sweep<'a> {
     fn threes_with_two(
         &self,
         row: RowId,
+        roles: (Role, Role, Role),
         v: VarId,
         w: VarId,
-        leaders: &[VarId],
+        leaders: &Suited<'a>,
         slots: &mut Slots,
     ) -> Result<(), NoMemory>
-        requires { IsRowOf self.now.answers.now.whole.grammar row }
-        ensures { OnOk result (slots.new ≡ slots.old ++ threes_with_two self.now.infos.now self.now.known.now (read_after self.now.answers.now.whole.kept self.now.answers.now.sample) row v w leaders.now) }
+        requires row { IsRowOf self.now.answers.now.whole.grammar row }
+        requires takes { (template_of row).takes ≡ Takes.Three roles.0 roles.1 roles.2 }
+        requires leaders { leaders.now.infos.now ≡ self.now.infos.now }
+        ensures { OnOk result (slots.new ≡ slots.old ++ threes_with_two self.now.infos.now self.now.known.now (read_after self.now.answers.now.whole.kept self.now.answers.now.sample) row v w leaders.now.all) }
     {
-        self.triples(row, &[v], &[w], leaders, slots)?;
-        self.triples(row, &[v], leaders, &[w], slots)?;
-        self.triples(row, leaders, &[v], &[w], slots)
+        let (a, b, c) = roles;
+        let (v, w) = ([v], [w]);
+        self.triples(row, self.one(a, &v), self.one(b, &w), leaders.at(c), slots)?;
+        self.triples(row, self.one(a, &v), leaders.at(b), self.one(c, &w), slots)?;
+        self.triples(row, leaders.at(a), self.one(b, &v), self.one(c, &w), slots)
     }
 
     // The same of a row's roles.
@@ -272,20 +304,34 @@ impl<'a> Sweep<'a> {
         row: RowId,
         v: VarId,
         w: VarId,
-        leaders: &[VarId],
+        leaders: &Suited<'a>,
         slots: &mut Slots,
     ) -> Result<(), NoMemory>
-        requires { IsRowOf self.now.answers.now.whole.grammar row }
-        ensures { OnOk result (slots.new ≡ slots.old ++ with_two self.now.infos.now self.now.known.now (read_after self.now.answers.now.whole.kept self.now.answers.now.sample) row v w leaders.now) }
+        requires row { IsRowOf self.now.answers.now.whole.grammar row }
+        requires leaders { leaders.now.infos.now ≡ self.now.infos.now }
+        ensures { OnOk result (slots.new ≡ slots.old ++ with_two self.now.infos.now self.now.known.now (read_after self.now.answers.now.whole.kept self.now.answers.now.sample) row v w leaders.now.all) }
     {
-        let arity = info(row).arity;
-        if arity == 1 {
-            Ok(())
-        } else if arity == 2 {
-            self.pairs(row, &[v], &[w], slots)
-        } else {
-            self.threes_with_two(row, v, w, leaders, slots)
+        match template_at(row).takes {
+            Takes::One(_) => Ok(()),
+            Takes::Two(_, _) => self.pairs(row, &[v], &[w], slots),
+            Takes::Three(a, b, c) => { self.threes_with_two(row, (a, b, c), v, w, leaders, slots) }
         }
+    }
+
+    // Those of a row with one of some leaders.
+    fn with_any(
+        &self,
+        row: RowId,
+        of: &[VarId],
+        leaders: &Suited<'a>,
+        slots: &mut Slots,
+    ) -> Result<(), NoMemory>
+        requires row { IsRowOf self.now.answers.now.whole.grammar row }
+        requires leaders { leaders.now.infos.now ≡ self.now.infos.now }
+        ensures { OnOk result (slots.new ≡ slots.old ++ with_one self.now.infos.now self.now.known.now (read_after self.now.answers.now.whole.kept self.now.answers.now.sample) row of.now leaders.now.all leaders.now.all) }
+    {
+        let of = Suited::of(self.alloc, self.infos, of)?;
+        self.with_one(row, &of, leaders, leaders, slots)
     }
 
     // Those of a row with two leaders, which may be one.
@@ -294,14 +340,15 @@ impl<'a> Sweep<'a> {
         row: RowId,
         v: VarId,
         w: VarId,
-        leaders: &[VarId],
+        leaders: &Suited<'a>,
         slots: &mut Slots,
     ) -> Result<(), NoMemory>
-        requires { IsRowOf self.now.answers.now.whole.grammar row }
-        ensures { OnOk result (slots.new ≡ slots.old ++ with_ends self.now.infos.now self.now.known.now (read_after self.now.answers.now.whole.kept self.now.answers.now.sample) row v w leaders.now) }
+        requires row { IsRowOf self.now.answers.now.whole.grammar row }
+        requires leaders { leaders.now.infos.now ≡ self.now.infos.now }
+        ensures { OnOk result (slots.new ≡ slots.old ++ with_ends self.now.infos.now self.now.known.now (read_after self.now.answers.now.whole.kept self.now.answers.now.sample) row v w leaders.now.all) }
     {
         if v.0 == w.0 {
-            return self.with_one(row, &[v], leaders, leaders, slots);
+            return self.with_any(row, &[v], leaders, slots);
         }
         self.with_two(row, v, w, leaders, slots)?;
         self.with_two(row, w, v, leaders, slots)
@@ -312,12 +359,13 @@ impl<'a> Sweep<'a> {
         &self,
         row: RowId,
         lost: &[VarId],
-        leaders: &[VarId],
+        leaders: &Suited<'a>,
         slots: &mut Slots,
     ) -> Result<(), NoMemory>
         requires row { IsRowOf self.now.answers.now.whole.grammar row }
         requires some { 0 < length lost.now }
-        ensures { OnOk result (slots.new ≡ slots.old ++ with_both self.now.infos.now self.now.known.now (read_after self.now.answers.now.whole.kept self.now.answers.now.sample) row lost.now leaders.now) }
+        requires infos { leaders.now.infos.now ≡ self.now.infos.now }
+        ensures { OnOk result (slots.new ≡ slots.old ++ with_both self.now.infos.now self.now.known.now (read_after self.now.answers.now.whole.kept self.now.answers.now.sample) row lost.now leaders.now.all) }
     {
         self.with_ends(row, lost[0], lost[lost.len() - 1], leaders, slots)
     }
@@ -328,17 +376,20 @@ impl<'a> Sweep<'a> {
         grammar: Grammar,
         touching: &[VarId],
         others: &[VarId],
-        leaders: &[VarId],
+        leaders: &Suited<'a>,
     ) -> Result<Slots, NoMemory>
-        requires { self.now.answers.now.whole.grammar ≡ grammar }
-        ensures { IfOk result (λ slots. slots ≡ touched_slots grammar self.now.infos.now self.now.known.now (read_after self.now.answers.now.whole.kept self.now.answers.now.sample) touching.now others.now leaders.now) }
+        requires grammar { self.now.answers.now.whole.grammar ≡ grammar }
+        requires infos { leaders.now.infos.now ≡ self.now.infos.now }
+        ensures { IfOk result (λ slots. slots ≡ touched_slots grammar self.now.infos.now self.now.known.now (read_after self.now.answers.now.whole.kept self.now.answers.now.sample) touching.now others.now leaders.now.all) }
     {
         let mut slots = Slots::new(self.alloc);
         if touching.is_empty() {
             return Ok(slots);
         }
+        let of = Suited::of(self.alloc, self.infos, touching)?;
+        let before = Suited::of(self.alloc, self.infos, others)?;
         for n in 0..grammar.rows() {
-            self.with_one(RowId(n + 1), touching, others, leaders, &mut slots)?;
+            self.with_one(RowId(n + 1), &of, &before, leaders, &mut slots)?;
         }
         Ok(slots)
     }
@@ -348,11 +399,12 @@ impl<'a> Sweep<'a> {
         &self,
         row: RowId,
         lost: &[VarId],
-        leaders: &[VarId],
+        leaders: &Suited<'a>,
         slots: &mut Slots,
     ) -> Result<(), NoMemory>
-        requires { 0 < length lost.now }
-        ensures { OnOk result (slots.new ≡ slots.old ++ freed_slots self.now.infos.now self.now.known.now (read_after self.now.answers.now.whole.kept self.now.answers.now.sample) leaders.now row lost.now) }
+        requires some { 0 < length lost.now }
+        requires infos { leaders.now.infos.now ≡ self.now.infos.now }
+        ensures { OnOk result (slots.new ≡ slots.old ++ freed_slots self.now.infos.now self.now.known.now (read_after self.now.answers.now.whole.kept self.now.answers.now.sample) leaders.now.all row lost.now) }
     {
         for freed in rows_reached(row) {
             self.with_both(*freed, lost, leaders, slots)?;
@@ -365,12 +417,13 @@ impl<'a> Sweep<'a> {
         &self,
         kept: &[Slot],
         lost: &[usize],
-        leaders: &[VarId],
+        leaders: &Suited<'a>,
         slots: &mut Slots,
     ) -> Result<(), NoMemory>
         requires within { All (λ k. k < length kept.now) lost.now }
         requires some { All (λ s. 0 < length s.leaders) kept.now }
-        ensures { OnOk result (slots.new ≡ slots.old ++ freed_by_all self.now.infos.now self.now.known.now (read_after self.now.answers.now.whole.kept self.now.answers.now.sample) leaders.now kept.now lost.now) }
+        requires infos { leaders.now.infos.now ≡ self.now.infos.now }
+        ensures { OnOk result (slots.new ≡ slots.old ++ freed_by_all self.now.infos.now self.now.known.now (read_after self.now.answers.now.whole.kept self.now.answers.now.sample) leaders.now.all kept.now lost.now) }
     {
         for place in lost {
             let slot = &kept[*place];

@@ -5,4 +5,5 @@ pub mod Laws
 -- inner: cited by the clauses of bodies and in proofs alone
 pub mod Tallies
 pub mod Watched
+pub mod Suited
 pub mod Beside

@@ -2,20 +2,31 @@
 // room for it.
 ghost use Rattle.std.specs.Prelude.{◌≡◌, ◌≤◌, ◌++◌, [], ◌∷◌, All, IfOk, length, map};
 ghost use Rattle.dk_engine.specs.Feeding.{slots_of, slots_of_row};
+ghost use Rattle.dk_engine.specs.Suited.{suited_vars};
 ghost use Rattle.dk_engine.specs.Sweeps.{behind, considered, firsts, pairs, seconds, thirds, triples};
 ghost use Rattle.dk_join.specs.Beside.{AreAtHand, AreLed, HaveSamples, IsCompanion};
 ghost use Rattle.dk_join.specs.Joining.{answer_of};
+ghost use Rattle.dk_join.specs.Suited.{suited_to_some, suits_some};
 ghost use Rattle.dk_template.specs.Templates.{IsRowOf, arity_of};
 
 use crate::beside::{Around, Companion, Hands, companions, may_stand};
 use crate::both::Both;
 use crate::constants::are_known;
-use dk_base::{List, NoMemory, VarId};
+use dk_base::{List, NoMemory, VarId, VarInfo};
 use dk_constants::Constants;
-use dk_engine::Slot;
+use dk_engine::{Slot, suited_vars, suits};
 use dk_suppress::suppressed;
-use dk_template::{Answers, Grammar, RowId, State, Tuple, admits, info, is_written};
+use dk_template::{
+    Answers, Grammar, Role, RowId, State, Takes, Tuple, admits, is_written, template_at,
+};
 use std::alloc::Global;
+
+// Whether the variable suits one of three roles.
+fn suits_some(a: Role, b: Role, c: Role, infos: &[VarInfo], v: VarId) -> bool
+    ensures { result ≡ suits_some a b c infos.now v }
+{
+    suits(a, infos, v) || suits(b, infos, v) || suits(c, infos, v)
+}
 
 /// What a sweep goes by: the two engines, and the constants of both.
 #[derive(Drop)]
@@ -195,7 +206,34 @@ impl<'a> Sweep<'a> {
         Ok(slots)
     }
 
-    // Those of a row.
+    // Those of the leaders that suit a role.
+    fn suited(&self, role: Role, leaders: &[VarId]) -> Result<List<VarId>, NoMemory>
+        ensures { IfOk result (λ list. list ≡ suited_vars role self.now.both.now.first.infos leaders.now) }
+    {
+        suited_vars(self.alloc, role, self.both.infos(), leaders)
+    }
+
+    // Those of the leaders that suit one of three roles.
+    fn suited_to_some(
+        &self,
+        a: Role,
+        b: Role,
+        c: Role,
+        leaders: &[VarId],
+    ) -> Result<List<VarId>, NoMemory>
+        ensures { IfOk result (λ list. list ≡ suited_to_some a b c self.now.both.now.first.infos leaders.now) }
+    {
+        let infos = self.both.infos();
+        let mut list = List::new(self.alloc);
+        for v in leaders {
+            if suits_some(a, b, c, infos, *v) {
+                list.push(*v)?;
+            }
+        }
+        Ok(list)
+    }
+
+    // Those of a row. Each is over leaders that suit its roles.
     fn of_row(
         &self,
         row: RowId,
@@ -207,13 +245,20 @@ impl<'a> Sweep<'a> {
         requires leaders { AreLed self.now.both.now leaders.now }
         ensures { IfOk result (λ more. more ≡ slots ++ slots_of_row self.now.both.now.first.infos leaders.now self.now.known.now (answer_of self.now.both.now) row) }
     {
-        let arity = info(row).arity;
-        if arity == 1 {
-            self.firsts(row, leaders, slots)
-        } else if arity == 2 {
-            self.pairs(row, leaders, leaders, slots)
-        } else {
-            self.triples(row, leaders, slots)
+        match template_at(row).takes {
+            Takes::One(a) => {
+                let first = self.suited(a, leaders)?;
+                self.firsts(row, first.as_slice(), slots)
+            }
+            Takes::Two(a, b) => {
+                let first = self.suited(a, leaders)?;
+                let second = self.suited(b, leaders)?;
+                self.pairs(row, first.as_slice(), second.as_slice(), slots)
+            }
+            Takes::Three(a, b, c) => {
+                let some = self.suited_to_some(a, b, c, leaders)?;
+                self.triples(row, some.as_slice(), slots)
+            }
         }
     }
 

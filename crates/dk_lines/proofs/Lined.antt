@@ -117,7 +117,7 @@ first_last : (xs : List ℕ) → 0 < length xs → line_len xs ≡ length xs →
 first_last xs h e = (without_lf xs e ∙ last_of xs h, sym e, omega (arith, e))
 
 -- a line with an LF, whatever follows it
-step_lf : (limit room n : ℕ) (e : Bool) (xs : List ℕ) (m : ℕ) → line_len xs < length xs → judged limit room (line_len xs) (line_used xs) ≡ Whole m
+pub step_lf : (limit room n : ℕ) (e : Bool) (xs : List ℕ) (m : ℕ) → line_len xs < length xs → judged limit room (line_len xs) (line_used xs) ≡ Whole m
     → lined limit room n e xs ≡ Next (record { number = n + 1; bytes = without_cr (line_bytes xs) }) (lined limit (room - line_used xs) (n + 1) e (behind_line xs))
 unfolding lined
 step_lf limit room n e xs m h j =

@@ -5,7 +5,7 @@ use Rattle.std.proofs.lemmas.Bool.Decides.{nat_tests}
 use Rattle.std.proofs.lemmas.List.Elements.{All-head, All-tail}
 use Rattle.std.proofs.lemmas.List.Sums.{sum_by-cons}
 use Rattle.dk_lines.specs.Laws.{WholeFileHasItsLines}
-use Rattle.dk_lines.specs.Left.{Left, Next, Piece, onto_first, pieces, size_of, without_cr, lines_of, numbered, is_long, is_over, lined_by, lined}
+use Rattle.dk_lines.specs.Left.{Left, Next, Piece, onto_first, pieces, size_of, without_cr, numbered, is_long, is_over, lined_by, lined}
 use Rattle.dk_lines.proofs.Lined.{pieces_lf, pieces_other}
 
 size_onto : (b : ℕ) (ps : List Piece) → sum_by size_of (onto_first b ps) ≡ suc (sum_by size_of ps)

@@ -77,6 +77,16 @@ impl Ahead {
         self.from += count;
     }
 
+    /// Uses the first bytes, and gives up the line that was cut off last.
+    pub(crate) fn pass(&mut self, count: usize)
+        requires { count ≤ length self.old.bytes }
+        ensures { self.new ≡ record { bytes = drop count self.old.bytes; line = [] } }
+    {
+        self.skip(count);
+        self.line_from = 0;
+        self.line_to = 0;
+    }
+
     /// Cuts off a line of this length, and the LF behind it.
     pub(crate) fn cut(&mut self, len: usize)
         requires { len < length self.old.bytes }

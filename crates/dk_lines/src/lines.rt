@@ -1,7 +1,8 @@
 // Lines, one after another.
-ghost use Rattle.std.specs.Prelude.{◌≡◌, ◌≤◌, ◌<◌, ◌+◌, ◌-◌, ◌^◌, ◌⊎◌, [], true, false, OnOk, OnErr, IfOk, IsErrOf, is_ok};
+ghost use Rattle.std.specs.Prelude.{◌≡◌, ◌≤◌, ◌<◌, ◌+◌, ◌-◌, ◌^◌, ◌⊎◌, ℕ, List, [], length, take, drop, true, false, OnOk, OnErr, IfOk, IsErrOf, is_ok};
 ghost use Rattle.dk_io.specs.Outside.{Absent, Rose, Starts};
 ghost use Rattle.dk_lines.specs.Left.{without_cr};
+ghost use Rattle.dk_lines.specs.Passing.{AreLines, PassesLines, ready_of};
 
 use crate::ahead::Ahead;
 use crate::gather::{Found, Stopped, gather};
@@ -149,6 +150,29 @@ impl Lines {
         ensures { result ≡ self.now.number + 1 }
     {
         self.number + 1
+    }
+
+    /// The bytes at hand, as far as lines in them can keep the limits. There may be none, and then `next` reads more.
+    pub fn ready(&self) -> &[u8]
+        ensures { result.now ≡ ready_of self.now }
+    {
+        let room = self.limits.total.saturating_sub(self.total);
+        let bytes = self.ahead.bytes();
+        let len = (bytes.len() as u64).min(self.limits.line).min(room);
+        &bytes[..len as usize]
+    }
+
+    /// Uses so many bytes of those at hand, which are so many lines with their LFs. It does what reading them one by one would do.
+    pub fn pass(&mut self, used: usize, count: u64)
+        requires within { used ≤ length (ready_of self.old) }
+        requires lines { (ls : List (List ℕ)) × AreLines ls (take used self.old.ahead) count }
+        ensures state { self.new ≡ record self.old { number = self.old.number + count; total = self.old.total + used; ahead = drop used self.old.ahead; line = [] } }
+        ensures passes { (ls : List (List ℕ)) → AreLines ls (take used self.old.ahead) count → PassesLines self.old ls self.new }
+    {
+        self.ahead.pass(used);
+        self.line.clear();
+        self.number += count;
+        self.total += used as u64;
     }
 
     // The line that was read last.

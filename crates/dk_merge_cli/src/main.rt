@@ -3,7 +3,7 @@
 #![tactic(auto)]
 
 use dk_events::Ended;
-use dk_io::{FileInputs, HostSinks};
+use dk_host::{FileInputs, HostSinks};
 use dk_merge::{run_merge, tell_usage};
 use dk_run::words_of;
 use std::io::ErrorKind;
@@ -17,5 +17,5 @@ fn main(rt: HostRuntime) -> ExitCode {
         Err(error) if error.kind() == ErrorKind::InvalidData => tell_usage(&mut sinks),
         Err(_) => Ended::NoMemory,
     };
-    ExitCode::from(ended.code())
+    ExitCode::from(sinks.finish(ended.code()))
 }

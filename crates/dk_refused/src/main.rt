@@ -1,7 +1,7 @@
 //! The command `daikon` once more, as its own stored run has a report: the one here ends with a refusal, its message and its status.
 #![tactic(auto)]
 
-use dk_io::{FileInputs, HostSinks};
+use dk_host::{FileInputs, HostSinks};
 use dk_run::{Status, run, tell_usage, words_of};
 use std::io::ErrorKind;
 use std::process::ExitCode;
@@ -14,5 +14,5 @@ fn main(rt: HostRuntime) -> ExitCode {
         Err(error) if error.kind() == ErrorKind::InvalidData => tell_usage(&mut sinks),
         Err(_) => Status::NoMemory,
     };
-    ExitCode::from(status.code())
+    ExitCode::from(sinks.finish(status.code()))
 }

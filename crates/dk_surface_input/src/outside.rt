@@ -2,9 +2,10 @@
 ghost use Rattle.std.specs.Prelude.{◌<◌};
 
 use dk_base::{List, NoMemory, Text};
+use dk_host::{FileInputs, HostSinks};
 use dk_io::{
-    AllFault, Failed, FileInputs, HostSinks, Inputs, MemoryInputs, MemorySinks, Sinks,
-    SteadyInputs, SteadySinks, Stream, read_all, write_all,
+    AllFault, Failed, Inputs, MemoryInputs, MemorySinks, Sinks, SteadyInputs, SteadySinks, Stream,
+    read_all, write_all,
 };
 use std::alloc::Global;
 use std::process::Abort;
@@ -143,4 +144,5 @@ fn real_streams(rt: HostRuntime) {
     for stream in [Stream::Report, Stream::Messages] {
         assert_eq!(rt; write_all(&mut sinks, stream, b"text\n".as_slice()), Ok(()));
     }
+    assert_eq!(rt; sinks.finish(3), 3);
 }

@@ -4,3 +4,6 @@ pub mod Left
 pub mod Unfaulted
 pub mod Fitted
 pub mod ByPosition
+pub mod Tidy
+pub mod Digits
+pub mod InPlace

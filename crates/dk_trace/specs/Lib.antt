@@ -5,6 +5,7 @@ pub mod RecordsResumed
 pub mod OpenRecords
 pub mod Fitting
 pub mod Positions
+pub mod Whole
 -- what those are made of, and words for the crates above
 pub mod Marks
 pub mod Values

@@ -11,6 +11,8 @@ mod marks;
 mod reader;
 mod sample;
 mod values;
+mod whole;
 
 pub use reader::RecordReader;
 pub use sample::BaseSample;
+pub use whole::{Whole, read_whole};

@@ -61,7 +61,7 @@ impl<'a> Unmarked<'a> {
     }
 
     // The missing value; none for an opaque variable.
-    fn missing(self) -> Option<View<'a>>
+    pub(crate) fn missing(self) -> Option<View<'a>>
         ensures { shown_value result ≡ missing_of self.entry }
     {
         match self {
@@ -72,7 +72,7 @@ impl<'a> Unmarked<'a> {
     }
 
     // The value that the text writes; none for an opaque variable.
-    fn value(self) -> Result<Option<View<'a>>, BlockFault>
+    pub(crate) fn value(self) -> Result<Option<View<'a>>, BlockFault>
         ensures { Shows shown_value result (said_by self.entry) }
     {
         match self {

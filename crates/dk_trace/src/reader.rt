@@ -39,7 +39,7 @@ fn named_point(points: &Points, line: u64, name: &[u8]) -> Result<PointId, Block
 
 // The declared point whose name is spelled by a record's first line.
 #[tactic(auto, unfolding(crate::specs::Records::point_named_by))]
-fn point_named_by(
+pub(crate) fn point_named_by(
     alloc: Global,
     points: &Points,
     line: u64,
@@ -57,7 +57,7 @@ fn point_named_by(
 
 // The variables that the point's block declares.
 #[tactic(auto, unfolding(crate::specs::Records::var_decls_at))]
-fn var_decls_at(points: &Points, point: PointId) -> &[VarDecl]
+pub(crate) fn var_decls_at(points: &Points, point: PointId) -> &[VarDecl]
     requires { point.0 < length points.now }
     ensures { result.now ≡ var_decls_at points.now point.0 }
 {

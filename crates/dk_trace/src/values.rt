@@ -43,7 +43,7 @@ fn is_named(bytes: &[u8], name: &Text) -> bool
 }
 
 // The values and the one that is shown, if there is one.
-fn push_shown<'a>(
+pub(crate) fn push_shown<'a>(
     values: &mut Vec<View<'a>, &'a Arena>,
     value: Option<View<'a>>,
 ) -> Result<(), NoMemory>
@@ -56,7 +56,7 @@ fn push_shown<'a>(
 }
 
 // The values and a constant behind them, placed in the arena.
-fn push_constant<'a>(
+pub(crate) fn push_constant<'a>(
     arena: &'a Arena,
     values: &mut Vec<View<'a>, &'a Arena>,
     constant: &Option<Value>,

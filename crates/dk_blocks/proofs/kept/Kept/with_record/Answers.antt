@@ -1,10 +1,10 @@
-use Rattle.std.proofs.Common.{◌≡◌, ◌∙◌, ◌<◌, IfOk, ap, length, refl, subst, sym, List, Option, Result}
+use Rattle.std.proofs.Common.{◌≡◌, ◌∙◌, ◌<◌, IfOk, ap, is_some, length, refl, true, subst, sym, List, Option, Result}
 use Rattle.dk_base.specs.Values.{values_of}
 use Rattle.dk_base.specs.declared.faults.BlockFault.{BlockFault}
 use Rattle.dk_points.specs.Table.{Point}
 use Rattle.dk_trace.specs.Records.{Sample}
 use Rattle.dk_trace.specs.RecordsResumed.{shown}
-use Rattle.dk_blocks.proofs.Recording.{base_given, called, record_closes, record_refused, refused_fits, sound_alike, sound_called}
+use Rattle.dk_blocks.proofs.Recording.{base_given, called, record_closes, record_refused, refused_fits, refused_some, sound_alike, sound_called}
 use Rattle.dk_blocks.specs.Finding.{FoundFits}
 use Rattle.dk_blocks.specs.Fitting.{FitAt}
 use Rattle.dk_blocks.specs.History.{with_record}
@@ -52,4 +52,12 @@ returns-clause-fits c =
         base_given k s (values_of w.in-Ok.values.now) c.self.invariant (subst (λ (ps : List Point). FitAt ps s.point s.values) (sym points) c.requires.fits) w.in-Ok.ensures.values,
       )
       | in-Err w ↦ subst P (sym (w.result-is ∙ w.or_left_out.ensures)) (refused_fits c.args.ignores w.in-Err.fault c.self.inside.points)
+    ]
+
+pub returns-clause-some : goal.returns-clause-some
+returns-clause-some c =
+    let P : Result (Option Found) BlockFault → Type 0 = λ r. IfOk r (λ found. is_some found ≡ true) in
+    elim c.match-base_values.branch [
+      | in-Ok w ↦ subst P (sym w.result-is) refl
+      | in-Err w ↦ subst P (sym (w.result-is ∙ w.or_left_out.ensures)) (refused_some c.args.ignores w.in-Err.fault)
     ]

@@ -14,7 +14,9 @@ loop-n-preserved c =
     let test = c.loop-n-test.true in
     let last = c.rows-n-end.ensures in
     let within : c.loop-n.n < rows_in c.args.grammar = omega (arith, test, last) in
-    c.in_ok-of_row.ensures ∙ (ap (λ ss. ss ++ F (record { 0 = c.loop-n.n + 1 })) c.loop-n.invariant ∙ row_more F c.args.grammar c.loop-n.n within)
+    c.in_ok-of_row.ensures
+    ∙ (ap (λ l. c.loop-n.slots ++ slots_of_row s.infos.now l s.known.now (read_after s.answers.now.whole.kept s.answers.now.sample) (record { 0 = c.loop-n.n + 1 })) c.in_ok-suited.ensures.all
+    ∙ (ap (λ ss. ss ++ F (record { 0 = c.loop-n.n + 1 })) c.loop-n.invariant ∙ row_more F c.args.grammar c.loop-n.n within))
 
 pub returns : goal.returns
 unfolding slots_of

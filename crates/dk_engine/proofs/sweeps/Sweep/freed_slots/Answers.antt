@@ -19,7 +19,7 @@ pub loop-freed-preserved : goal.loop-freed-preserved
 loop-freed-preserved c =
     let s = c.args.self.now in
     let answered = read_after s.answers.now.whole.kept s.answers.now.sample in
-    let F : RowId → List Slot = λ row. with_both s.infos.now s.known.now answered row c.args.lost.now c.args.leaders.now in
+    let F : RowId → List Slot = λ row. with_both s.infos.now s.known.now answered row c.args.lost.now c.args.leaders.now.all in
     let items = c.rows_reached-freed-items.result.now in
     let i = c.loop-freed.freed-index in
     let row : RowId = slice_index_or items i (record { 0 = 0 }) in
@@ -34,7 +34,7 @@ pub returns : goal.returns
 unfolding freed_slots
 returns c =
     let s = c.args.self.now in
-    let F : RowId → List Slot = λ row. with_both s.infos.now s.known.now (read_after s.answers.now.whole.kept s.answers.now.sample) row c.args.lost.now c.args.leaders.now in
+    let F : RowId → List Slot = λ row. with_both s.infos.now s.known.now (read_after s.answers.now.whole.kept s.answers.now.sample) row c.args.lost.now c.args.leaders.now.all in
     let items = c.rows_reached-freed-items.result.now in
     let test = c.loop-freed-test.false in
     let past : length items ≤ c.loop-freed.freed-index = omega (arith, test) in

@@ -1,6 +1,7 @@
 use Rattle.std.specs.Prelude.{◌≡◌, ◌++◌}
 use Rattle.std.proofs.Common.{ap, ◌∙◌, append_assoc}
 use Rattle.std.proofs.lemmas.Result.{on_ok_weaker}
+use Rattle.dk_engine.proofs.Fitting.{found, triples_found}
 use Rattle.dk_engine.specs.Feeding.{read_after}
 use Rattle.dk_engine.specs.Sweeps.{triples}
 use Rattle.dk_engine.proofs.sweeps.Sweep.threes_with_one.Goals as goal
@@ -13,9 +14,21 @@ returns c =
     let of = c.args.of.now in
     let before = c.args.before.now in
     let leaders = c.args.leaders.now in
-    let t = triples s.infos.now s.known.now answered row of leaders leaders in
-    let u = triples s.infos.now s.known.now answered row before of leaders in
-    let x = triples s.infos.now s.known.now answered row before before of in
+    let a = c.args.roles.0 in
+    let b = c.args.roles.1 in
+    let d = c.args.roles.2 in
+    let takes = c.requires.takes in
+    let t = triples s.infos.now s.known.now answered row of.all leaders.all leaders.all in
+    let u = triples s.infos.now s.known.now answered row before.all of.all leaders.all in
+    let x = triples s.infos.now s.known.now answered row before.all before.all of.all in
     let was = c.args.slots.now in
-    on_ok_weaker c.triples-3.result (λ (e : c.triples-3.new.slots ≡ c.triples-2.new.slots ++ x).
-    e ∙ (ap (λ ss. ss ++ x) (c.in_ok-triples-2.ensures ∙ ap (λ ss. ss ++ u) c.in_ok-triples.ensures) ∙ (ap (λ ss. ss ++ x) (append_assoc was t u) ∙ append_assoc was (t ++ u) x))) c.triples-3.ensures
+    let first = triples_found s.infos.now s.known.now answered row a b d takes of.all leaders.all leaders.all c.at.result.now c.at-2.result.now c.at-3.result.now
+    (found s.infos.now s.known.now answered row a of.infos.now of.all c.at.result.now c.requires.of c.at.ensures) (found s.infos.now s.known.now answered row b leaders.infos.now leaders.all c.at-2.result.now c.requires.leaders c.at-2.ensures) (found s.infos.now s.known.now answered row d leaders.infos.now leaders.all c.at-3.result.now c.requires.leaders c.at-3.ensures) in
+    let second = triples_found s.infos.now s.known.now answered row a b d takes before.all of.all leaders.all c.at-4.result.now c.at-5.result.now c.at-6.result.now
+    (found s.infos.now s.known.now answered row a before.infos.now before.all c.at-4.result.now c.requires.before c.at-4.ensures) (found s.infos.now s.known.now answered row b of.infos.now of.all c.at-5.result.now c.requires.of c.at-5.ensures) (found s.infos.now s.known.now answered row d leaders.infos.now leaders.all c.at-6.result.now c.requires.leaders c.at-6.ensures) in
+    let third = triples_found s.infos.now s.known.now answered row a b d takes before.all before.all of.all c.at-7.result.now c.at-8.result.now c.at-9.result.now
+    (found s.infos.now s.known.now answered row a before.infos.now before.all c.at-7.result.now c.requires.before c.at-7.ensures) (found s.infos.now s.known.now answered row b before.infos.now before.all c.at-8.result.now c.requires.before c.at-8.ensures) (found s.infos.now s.known.now answered row d of.infos.now of.all c.at-9.result.now c.requires.of c.at-9.ensures) in
+    on_ok_weaker c.triples-3.result (λ (e : c.triples-3.new.slots ≡ c.triples-2.new.slots ++ triples s.infos.now s.known.now answered row c.at-7.result.now c.at-8.result.now c.at-9.result.now).
+    e ∙ ap (λ ss. c.triples-2.new.slots ++ ss) third
+    ∙ (ap (λ ss. ss ++ x) (c.in_ok-triples-2.ensures ∙ (ap (λ ss. c.triples.new.slots ++ ss) second ∙ ap (λ ss. ss ++ u) (c.in_ok-triples.ensures ∙ ap (λ ss. was ++ ss) first)))
+    ∙ (ap (λ ss. ss ++ x) (append_assoc was t u) ∙ append_assoc was (t ++ u) x))) c.triples-3.ensures

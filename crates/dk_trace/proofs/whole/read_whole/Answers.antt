@@ -1,0 +1,18 @@
+use Rattle.std.proofs.Common.{List, refl, subst, arith}
+use Rattle.dk_base.specs.Values.{values_of as shown_by}
+use Rattle.dk_decl.specs.declared.decls.VarDecl.{VarDecl}
+use Rattle.dk_trace.specs.Whole.{BodyStands}
+use Rattle.dk_trace.proofs.InPlace.{body_within, cut_within, stands_whole}
+use Rattle.dk_trace.proofs.whole.read_whole.Goals as goal
+
+pub overflow_add-result : goal.overflow_add-result
+overflow_add-result c =
+    let stands = rw c.in-Ok-Some.field-0-is at c.in-Ok-Some.ensures in
+    omega (arith, cut_within c.args.bytes.now c.in-Some.first.now c.in-Some.rest.now c.in-Some.ensures, c.in-Some.ensures.tidy.some, body_within c.var_decls_at.result.now c.in-Some.rest.now c.in-Ok-Some.body.rest.now c.in-Ok-Some.body.nonce (shown_by c.in-Ok-Some.body.values.now) c.in-Ok-Some.body.count stands)
+
+pub returns : goal.returns
+returns c =
+    let stands = rw c.in-Ok-Some.field-0-is at c.in-Ok-Some.ensures in
+    stands_whole c.args.points.now c.args.line c.args.bytes.now c.in-Some.first.now c.in-Some.rest.now c.in-Ok-Some.body.rest.now _ c.in-Ok-Some.body.count c.in-Some.ensures c.in-Ok.ensures.point c.in-Ok.ensures.within
+    (subst (λ (vs : List VarDecl). BodyStands vs c.in-Some.rest.now c.in-Ok-Some.body.nonce (shown_by c.in-Ok-Some.body.values.now) c.in-Ok-Some.body.rest.now c.in-Ok-Some.body.count) c.var_decls_at.ensures stands)
+    refl refl refl refl

@@ -1,0 +1,29 @@
+"""The help texts of the four programs, as their sources have them."""
+import os
+import re
+
+TOP = os.path.dirname(os.path.dirname(os.path.abspath(__file__)))
+SOURCES: dict[str, str] = {
+    "daikon": "crates/dk_words/src/texts.rt",
+    "dk_split": "crates/dk_split/src/texts.rt",
+    "dk_check": "crates/dk_check/src/texts.rt",
+    "dk_merge": "crates/dk_merge_words/src/texts.rt",
+}
+ESCAPES = {"\\n": "\n", '\\"': '"', "\\\\": "\\", "\\\n": ""}
+
+
+def constant(program: str, name: str) -> str:
+    """A text constant of the program's source."""
+    with open(os.path.join(TOP, SOURCES[program]), encoding="utf-8") as lines:
+        found = re.search(r'const %s: &str =\s*"((?:[^"\\]|\\.)*)";' % name, lines.read(), re.S)
+    if found is None:
+        raise LookupError(f"{SOURCES[program]} has no constant {name}")
+    return re.sub(r"\\.", lambda it: ESCAPES[it[0]], found[1], flags=re.S)
+
+
+def help_text(program: str) -> str:
+    return constant(program, "HELP_TEXT")
+
+
+def version_text(program: str) -> str:
+    return constant(program, "VERSION_TEXT")

@@ -1,0 +1,1 @@
+"""Runs of daikon in parts: the modules of tools/shards."""

@@ -1,0 +1,355 @@
+"""How files are cut into parts.
+
+A part is the files with some of their sample blocks left out: each part has all declarations and
+header lines at their places, and each sample block is in one part. A file is cut into pieces
+between blocks; an entry whose exit is in a later piece goes there, in front of the piece. So an
+exit and the entry that it takes are in one part, and an entry that is moved was taken by no exit
+of its own piece.
+"""
+
+import json
+import os
+from concurrent.futures import ProcessPoolExecutor
+from dataclasses import asdict, dataclass, field
+from typing import Dict, FrozenSet, Iterable, List, Optional, Sequence, Set, Tuple
+
+from . import blocks
+from .scanning import Declared, Place, Scan, Stretch, Waiting, plain_exits_of, scan
+
+STRETCH = 16 << 20
+MOST_WAITING = 1_000_000
+
+Span = Tuple[int, int, int]  # a file's number, where a text begins in it, and where it ends
+
+
+class TooManyWait(Exception):
+    """More calls wait in a file than are followed."""
+
+    def __init__(self, file: int) -> None:
+        super().__init__(file)
+        self.file = file
+
+
+@dataclass
+class Source:
+    """A file as it was when the plan was made."""
+    name: str
+    path: str
+    size: int
+    changed: int
+
+    def is_as_planned(self) -> bool:
+        """Whether the file has the size and the time of its last change that it had."""
+        try:
+            status = os.stat(self.path)
+        except OSError:
+            return False
+        return (status.st_size, status.st_mtime_ns) == (self.size, self.changed)
+
+
+@dataclass
+class Part:
+    """Pieces of files, whole blocks that are put in front of them, and blocks of them that are
+    left out. A piece that is a whole file goes as it is."""
+    pieces: List[Span] = field(default_factory=list)
+    moved: List[Span] = field(default_factory=list)
+    left_out: List[Span] = field(default_factory=list)
+
+
+@dataclass
+class Plan:
+    """`declared` are blocks that each part gets, `fronts` the header lines in front of samples."""
+    sources: List[Source]
+    words: List[str]
+    parts: List[Part]
+    declared: List[Span] = field(default_factory=list)
+    fronts: List[Span] = field(default_factory=list)
+
+    def save(self, path: str) -> None:
+        """Writes the plan at once or not at all."""
+        with open(path + ".new", "w", encoding="utf-8") as file:
+            json.dump(asdict(self), file)
+        os.replace(path + ".new", path)
+
+    @staticmethod
+    def load(path: str) -> "Plan":
+        """The plan of a file."""
+        with open(path, encoding="utf-8") as file:
+            found = json.load(file)
+        parts = [Part(**{key: [tuple(span) for span in spans] for key, spans in part.items()})
+                 for part in found["parts"]]
+        return Plan([Source(**source) for source in found["sources"]], found["words"], parts,
+                    [tuple(span) for span in found["declared"]], [tuple(span) for span in found["fronts"]])
+
+
+@dataclass
+class Text:
+    """A file that daikon reads: one that lies there, or spans one behind another."""
+    spans: List[Span]
+    is_whole: bool = False
+
+
+# ---------------------------------------------------------------- pieces
+
+def laid_out(sources: Sequence[Source], parts: int, least: int, uncut: Set[int]) -> List[List[Span]]:
+    """The pieces of each part: large files are cut, and others are put together, in order."""
+    total = sum(source.size for source in sources)
+    wanted = max(least, -(-total // parts), 1)
+    found: List[List[Span]] = []
+    group: List[Span] = []
+    for number, source in enumerate(sources):
+        count = 1 if number in uncut else round(source.size / wanted)
+        spans = pieces_of(number, source, count)
+        if len(spans) > 1 or sum(end - start for _, start, end in group + spans) > 1.5 * wanted:
+            found += [group] if group else []
+            group = []
+        if len(spans) > 1:
+            found += [[span] for span in spans]
+        else:
+            group += spans
+    return found + ([group] if group else [])
+
+
+def pieces_of(number: int, source: Source, count: int) -> List[Span]:
+    """A file cut between blocks near so many equal pieces."""
+    cuts = [0]
+    with open(source.path, "rb", buffering=0) as file:
+        for k in range(1, count):
+            cut = blocks.block_end_behind(file, max(source.size * k // count, cuts[-1]), source.size)
+            if cut is not None and cut > cuts[-1]:
+                cuts.append(cut)
+    return [(number, start, end) for start, end in zip(cuts, cuts[1:] + [source.size])]
+
+
+def stretches_of(sources: Sequence[Source], layout: List[List[Span]]) -> List[Stretch]:
+    """The pieces cut further, for the scan."""
+    found = []
+    for part, spans in enumerate(layout):
+        for number, start, end in spans:
+            source = sources[number]
+            is_cut = (start, end) != (0, source.size)
+            with open(source.path, "rb", buffering=0) as file:
+                while start < end:
+                    cut = blocks.block_end_behind(file, start + STRETCH, source.size)
+                    cut = end if cut is None else min(cut, end)
+                    found.append(Stretch(source.path, number, part, start, cut, is_cut))
+                    start = cut
+    return found
+
+
+# ---------------------------------------------------------------- calls across pieces
+
+@dataclass
+class Crossing:
+    """An entry whose exit is in a later piece."""
+    stretch: Stretch
+    place: Place
+    piece: int
+
+
+class Join:
+    """Follows calls from stretch to stretch of a file."""
+
+    def __init__(self, file: int) -> None:
+        self.file = file
+        self.by_nonce: Dict[Tuple[bytes, bytes], List[Tuple[Stretch, Place]]] = {}
+        self.stack: List[Tuple[bytes, Stretch, Place]] = []
+        self.waiting = 0
+        self.crossings: List[Crossing] = []
+
+    def inherited(self) -> List[bytes]:
+        """The methods of the entries without a nonce that wait."""
+        return [method for method, _, _ in self.stack]
+
+    def fits(self, found: Scan) -> bool:
+        """Whether each exit without a nonce that was taken to end waiting entries does so."""
+        methods = self.inherited()
+        for method, nonce, dropped in found.opens:
+            if nonce is None:
+                at = last_place(methods, method)
+                if at is None and dropped:
+                    return False
+                del methods[len(methods) if at is None else at:]
+        return True
+
+    def take(self, stretch: Stretch, found: Scan) -> None:
+        """The open exits of a stretch take entries; then its own entries wait."""
+        for method, nonce, _ in found.opens:
+            taken = self.taken(method, nonce)
+            if taken is not None and taken[0].piece != stretch.piece:
+                self.crossings.append(Crossing(*taken, stretch.piece))
+        for entry in found.waiting:
+            self.wait(stretch, entry)
+        self.waiting += len(found.waiting)
+        if self.waiting > MOST_WAITING:
+            raise TooManyWait(self.file)
+
+    def wait(self, stretch: Stretch, entry: Waiting) -> None:
+        """Adds an entry."""
+        if entry.nonce is None:
+            self.stack.append((entry.method, stretch, entry.place))
+        else:
+            self.by_nonce.setdefault((entry.method, entry.nonce), []).append((stretch, entry.place))
+
+    def taken(self, method: bytes, nonce: Optional[bytes]) -> Optional[Tuple[Stretch, Place]]:
+        """Takes the entry of an exit, if one waits."""
+        if nonce is not None:
+            entries = self.by_nonce.get((method, nonce))
+            if not entries:
+                return None
+            self.waiting -= 1
+            entry = entries.pop()
+            if not entries:
+                del self.by_nonce[method, nonce]
+            return entry
+        at = last_place(self.inherited(), method)
+        if at is None:
+            return None
+        _, stretch, place = self.stack[at]
+        self.waiting -= len(self.stack) - at
+        del self.stack[at:]
+        return stretch, place
+
+
+def last_place(methods: List[bytes], method: bytes) -> Optional[int]:
+    """The last place of a method in a list."""
+    for at in range(len(methods) - 1, -1, -1):
+        if methods[at] == method:
+            return at
+    return None
+
+
+def joined(stretches: List[Stretch], scans: Iterable[Scan], plain_exits: FrozenSet[bytes]
+           ) -> Tuple[List[Tuple[int, Declared]], List[Crossing]]:
+    """What all stretches declare, each with its file, and the calls that cross a cut."""
+    declared: List[Tuple[int, Declared]] = []
+    crossings: List[Crossing] = []
+    join = None
+    for stretch, found in zip(stretches, scans):
+        if join is None or join.file != stretch.file:
+            join = Join(stretch.file)
+            join.crossings = crossings
+        if not join.fits(found):
+            found = scan(stretch, plain_exits, join.inherited())
+        declared += [(stretch.file, block) for block in found.declared]
+        join.take(stretch, found)
+    return declared, crossings
+
+
+def scanned(stretches: List[Stretch], jobs: int) -> Tuple[List[Tuple[int, Declared]], List[Crossing]]:
+    """The scan of all stretches. Which exits have no entry is guessed by the first one, and if the
+    declarations tell something else, all are scanned again."""
+    first = scan(stretches[0])
+    plain = plain_exits_of([block.name for block in first.declared if block.name is not None])
+    with ProcessPoolExecutor(jobs) as pool:
+        while True:
+            scans = pool.map(scan, stretches, [plain] * len(stretches), chunksize=1)
+            declared, crossings = joined(stretches, scans, plain)
+            found = plain_exits_of([block.name for _, block in declared if block.name is not None])
+            if found == plain:
+                return declared, crossings
+            plain = found
+
+
+def located(crossings: List[Crossing]) -> List[Tuple[Crossing, Span]]:
+    """Where the blocks of the crossing entries lie."""
+    by_slice: Dict[Tuple[str, int, int], List[Crossing]] = {}
+    for crossing in crossings:
+        key = (crossing.stretch.path, crossing.place.start, crossing.place.length)
+        by_slice.setdefault(key, []).append(crossing)
+    found = []
+    for (path, start, length), inside in by_slice.items():
+        with open(path, "rb", buffering=0) as file:
+            file.seek(start)
+            starts = blocks.block_starts(file.read(length))
+        for crossing in inside:
+            number = crossing.place.number
+            found.append((crossing, (crossing.stretch.file, start + starts[number], start + starts[number + 1])))
+    return found
+
+
+# ---------------------------------------------------------------- the plan
+
+def planned(sources: List[Source], words: List[str], parts: int, least: int, jobs: int,
+            tell=lambda line: None) -> Plan:
+    """Cuts the files into parts."""
+    uncut: Set[int] = set()
+    while True:
+        layout = laid_out(sources, parts, least, uncut)
+        plan = Plan(sources, words, [Part(pieces) for pieces in layout] or [Part()])
+        if len(plan.parts) == 1:
+            return plan
+        try:
+            add_scan(plan, stretches_of(sources, layout), jobs)
+        except TooManyWait as fault:
+            tell(f"{sources[fault.file].name}: more than {MOST_WAITING} calls wait at once; it is taken whole")
+            uncut.add(fault.file)
+            continue
+        check(plan)
+        return plan
+
+
+def add_scan(plan: Plan, stretches: List[Stretch], jobs: int) -> None:
+    """Puts what the scan finds into the plan."""
+    declared, crossings = scanned(stretches, jobs)
+    for file, block in declared:
+        span = (file, block.offset, block.end)
+        if block.is_front:
+            plan.fronts.append(span)
+        elif plan.declared and plan.declared[-1][0] == file and plan.declared[-1][2] == block.offset:
+            plan.declared[-1] = (file, plan.declared[-1][1], block.end)
+        else:
+            plan.declared.append(span)
+    for crossing, span in sorted(located(crossings), key=lambda item: item[1]):
+        plan.parts[crossing.stretch.piece].left_out.append(span)
+        plan.parts[crossing.piece].moved.append(span)
+
+
+def check(plan: Plan) -> None:
+    """The pieces are the files, and what is left out of one part is moved to another."""
+    pieces = [span for part in plan.parts for span in part.pieces]
+    for number, source in enumerate(plan.sources):
+        ends = [0] + [end for file, _, end in pieces if file == number]
+        starts = [start for file, start, _ in pieces if file == number] + [source.size]
+        assert source.size == 0 or ends == starts, "the pieces aren't the file"
+    moved = sorted(span for part in plan.parts for span in part.moved)
+    assert moved == sorted(span for part in plan.parts for span in part.left_out), "blocks are lost"
+    assert len(set(moved)) == len(moved), "a block is moved twice"
+
+
+def texts_of(plan: Plan, part: Part) -> List[Text]:
+    """The files that daikon reads for a part."""
+    if len(plan.parts) == 1:
+        return [Text([(number, 0, source.size)], True) for number, source in enumerate(plan.sources)]
+    files = [file for file, _, _ in part.pieces]
+    everywhere = sorted(plan.declared + plan.fronts)
+    front = [span for span in everywhere if span[0] < files[0]]
+    tail = [span for span in everywhere if span[0] > files[-1]]
+    texts = [Text(front)] if front else []
+    for piece in part.pieces:
+        texts.append(text_of_piece(plan, part, piece, everywhere))
+    return texts + ([Text(tail)] if tail else [])
+
+
+def text_of_piece(plan: Plan, part: Part, piece: Span, everywhere: List[Span]) -> Text:
+    """A piece with what stands in front of it and behind it."""
+    file, start, end = piece
+    if (start, end) == (0, plan.sources[file].size):
+        return Text([piece], True)
+    moved_at = {at for _, at, _ in part.moved}
+    fronts = {span[1]: span for span in plan.fronts if span[0] == file}
+    others = [span for span in everywhere
+              if span[0] == file and not (span[1] in moved_at and fronts.get(span[1]) == span)]
+    inside = []
+    for _, block, block_end in sorted(part.left_out):
+        inside += [(file, start, block), *([fronts[block]] if block in fronts else [])]
+        start = block_end
+    inside.append((file, start, end))
+    return Text(sorted(clipped(others, 0, piece[1]) + part.moved) + clipped(inside, *piece[1:])
+                + clipped(others, end, plan.sources[file].size))
+
+
+def clipped(spans: List[Span], start: int, end: int) -> List[Span]:
+    """What of the spans lies between two places."""
+    found = [(file, max(first, start), min(last, end)) for file, first, last in spans]
+    return [span for span in found if span[1] < span[2]]

@@ -1,0 +1,1 @@
+"""Trials of the programs with hostile inputs: what tools/torture is made of."""

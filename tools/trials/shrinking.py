@@ -1,0 +1,37 @@
+"""Makes the files of a trial smaller, as long as it still breaks its law."""
+
+import re
+import time
+from typing import Callable, List
+
+from trials.trial import Trial
+
+LONGEST = 60
+SEPARATORS = (rb"(?<=\n)[ \t\r]*\n", b"\n")
+
+
+def shrunk(trial: Trial, breaks: Callable[[Trial], bool]) -> Trial:
+    """Leaves out blocks and then lines, halves of a file first, for at most a minute. A trial that doesn't break its law again stays."""
+    ends = time.monotonic() + LONGEST
+    if not breaks(trial):
+        return trial
+    for separator in SEPARATORS * 2:
+        for name in sorted(trial.case.files):
+            trial = with_fewer_parts(trial, name, separator, lambda smaller: time.monotonic() < ends and breaks(smaller))
+    return trial
+
+
+def with_fewer_parts(trial: Trial, name: str, separator: bytes, breaks: Callable[[Trial], bool]) -> Trial:
+    parts: List[bytes] = re.split(separator, trial.case.files[name])
+    size = max(1, len(parts) // 2)
+    while size >= 1:
+        at = 0
+        while at < len(parts):
+            fewer = parts[:at] + parts[at + size:]
+            smaller = trial.with_files({**trial.case.files, name: b"\n".join(fewer)})
+            if breaks(smaller):
+                trial, parts = smaller, fewer
+            else:
+                at += size
+        size //= 2
+    return trial

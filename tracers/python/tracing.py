@@ -1,0 +1,524 @@
+"""The traced program's calls and returns, as records in a spool. It is loaded into the traced program (`site/sitecustomize.py`).
+
+A *function* is a code object that is traced. A call of it gives a record for its entry and one for the exit by which it returns; a *shape*
+is such a point with the tokens of the values that were read there (`looking.py`). Shapes are numbered, and a record is a tuple of a shape's
+number, the call's nonce, and the data. Behind -1 a record has its place, its tokens, and then such a tuple.
+
+Python 3.12 and later have `sys.monitoring`, by which code that isn't traced runs as fast as without us. Earlier ones have `sys.setprofile`.
+"""
+
+from __future__ import annotations
+
+import _signal
+import _thread
+import atexit
+import marshal
+import os
+import sys
+import time
+from itertools import count
+from operator import itemgetter
+
+from looking import UNSET, Globals, Looker, member
+from spool import Spool
+
+OPTIMIZED = 0x1
+# generators, coroutines, iterable coroutines and asynchronous generators
+SUSPENDED = 0x20 | 0x80 | 0x100 | 0x200
+VARIABLE_ARGUMENTS = 0x4
+KEYWORD_ARGUMENTS = 0x8
+COMPREHENSIONS = ("<listcomp>", "<setcomp>", "<dictcomp>", "<genexpr>")
+# the instruction that returns, in the versions of Python that have no `sys.monitoring`
+RETURN_VALUE = 83
+
+# So many shapes have numbers. Records of further ones bring their tokens along, so that memory doesn't grow with them.
+MOST_SHAPES = 20_000
+
+# signals that end the program, unless it handles them
+ENDING_SIGNALS = (_signal.SIGTERM, _signal.SIGHUP)
+MOST_LINES = 200
+UNKNOWN = object()
+HERE = os.path.dirname(os.path.abspath(__file__))
+OUR_FOLDER = os.path.dirname(HERE) + os.sep
+DATA_CLASSES = {("types", "SimpleNamespace"), ("argparse", "Namespace")}
+
+
+class Place:
+    """An entry or an exit of a function. `plain` has the shapes of scalars by the ids of their classes, `shapes` all by their tokens."""
+
+    __slots__ = ("number", "plain", "shapes")
+
+    def __init__(self, number: int) -> None:
+        self.number = number
+        self.plain: dict = {}
+        self.shapes: dict = {}
+
+
+class Function:
+    """A traced function: what is read of it, and its places. `due` counts down to the next call that is traced; `more` has what is read
+    besides locals."""
+
+    __slots__ = ("code", "module", "names", "read", "due", "entry", "exits", "more")
+
+    def __init__(self, code, module: str, entry: Place, more: tuple) -> None:
+        self.code = code
+        self.module = module
+        self.names = parameters(code)
+        self.read = reader(self.names)
+        self.due = 1
+        self.entry = entry
+        # by the place in the code; False where an exception leaves
+        self.exits: dict = {}
+        self.more = more
+
+
+def parameters(code) -> tuple:
+    """The names of the code's parameters, in the order in which they are declared."""
+    names = code.co_varnames
+    positional, keywords = code.co_argcount, code.co_argcount + code.co_kwonlyargcount
+    has_rest = code.co_flags & VARIABLE_ARGUMENTS and 1
+    rest = names[keywords:keywords + has_rest]
+    others = names[keywords + has_rest:keywords + has_rest + 1] if code.co_flags & KEYWORD_ARGUMENTS else ()
+    return names[:positional] + rest + names[positional:keywords] + others
+
+
+def starred_parameters(code) -> list:
+    """The names of the code's parameters, with their stars."""
+    names = list(parameters(code))
+    if code.co_flags & VARIABLE_ARGUMENTS:
+        names[code.co_argcount] = "*" + names[code.co_argcount]
+    if code.co_flags & KEYWORD_ARGUMENTS:
+        names[-1] = "**" + names[-1]
+    return names
+
+
+def reader(names: tuple):
+    """What reads the values of these names from a frame's locals, as a tuple."""
+    if len(names) == 1:
+        name = names[0]
+        return lambda variables: (variables[name],)
+    return itemgetter(*names) if names else lambda variables: ()
+
+
+def values_there(function: Function, variables) -> tuple:
+    """The values of the function's parameters, of which some have been deleted."""
+    return tuple([variables.get(name, UNSET) for name in function.names])
+
+
+class Tracer:
+    """Records what happens, until it is sealed."""
+
+    def __init__(self, settings: dict) -> None:
+        self.settings = settings
+        self.spool = Spool(settings["spool"], batch=max(10, min(500, 50_000 // (settings["elements"] + 1))))
+        self.looker = Looker(settings["elements"], self.owns_class, self.module_name)
+        self.functions: dict = {}
+        self.kept: list = []
+        self.files: dict = {}
+        self.modules: dict = {}
+        self.places: list = []
+        # tokens of each shape, and the place that it is of
+        self.shapes: list = []
+        self.include = matchers(settings["include"])
+        self.exclude = matchers(settings["exclude"])
+        self.source = source_reader() if self.include + self.exclude and sys.version_info < (3, 11) else None
+        self.process = os.getpid()
+        self.failures: dict = {}
+        self.is_done = False
+        # whether an interrupt is still to be told to the program, and whether a handler's exception may have ended tracing
+        self.is_interrupted = False
+        self.may_end_early = False
+        self.monitor = None
+        self.threading = None
+        self.hook = None
+        self.handler = self.on_signal
+
+    # ------------------------------------------------------------ what is traced
+
+    def is_own_file(self, name: str) -> bool:
+        """Whether the file lies at or below the script's folder, and isn't the library's."""
+        known = self.files.get(name)
+        if known is None:
+            path = os.path.realpath(os.path.join(self.settings["start"], name))
+            known = self.files[name] = (
+                is_below(path, self.settings["folder"])
+                and not any(is_below(path, library) and not is_below(self.settings["folder"], library) for library in self.settings["library"])
+                and "site-packages" not in path and "dist-packages" not in path and os.path.exists(path))
+        return known
+
+    def selects(self, name: str, file: str) -> bool:
+        """Whether what has this name, and lies in this file, is traced."""
+        if any(match(name) for match in self.exclude):
+            return False
+        return any(match(name) for match in self.include) if self.include else self.is_own_file(file)
+
+    def owns_class(self, module: str, qualname: str) -> bool:
+        """Whether fields of a class's instances are read."""
+        if (module, qualname) in DATA_CLASSES:
+            return True
+        file = member(module, "__file__")
+        return type(file) is str and (self.is_own_file(file) or self.selects(self.module_name(module) + "." + qualname, file))
+
+    def module_name(self, name: object) -> str:
+        """The module's name in the names of points: that of the script, where it is the one that is run."""
+        return self.settings["main"] if name == "__main__" else name if type(name) is str else "?"
+
+    def discover(self, frame):
+        """The function of the frame's code, which is met for the first time, or None where it isn't traced."""
+        code = frame.f_code
+        if code.co_filename[:1] == "<":
+            return None
+        variables = frame.f_globals
+        function = None
+        is_plain = code.co_flags & OPTIMIZED and not code.co_flags & SUSPENDED and code.co_name not in COMPREHENSIONS
+        if is_plain and type(variables) is dict and not code.co_filename.startswith(OUR_FOLDER):
+            module = self.module_name(variables.get("__name__"))
+            if self.selects(module + "." + self.qualname_of(code), code.co_filename):
+                function = Function(code, module, self.place(code, module, []), self.globals_of(variables))
+        self.kept.append(code)
+        self.functions[id(code)] = function
+        return function
+
+    def globals_of(self, variables: dict) -> tuple:
+        """The module's global variables as a value, where they are to be read."""
+        if not self.settings["globals"]:
+            return ()
+        if id(variables) not in self.modules:
+            self.modules[id(variables)] = Globals(variables)
+        return (self.modules[id(variables)],)
+
+    def qualname_of(self, code) -> str:
+        """The code's qualified name: what the code tells, or before Python 3.11 what its file says, where a glob asks for it."""
+        if self.source is None:
+            return getattr(code, "co_qualname", code.co_name)
+        path = os.path.join(self.settings["start"], code.co_filename)
+        return self.source.of(path).find(code.co_firstlineno, code.co_name, code.co_name).qualname
+
+    def place(self, code, module: str, lines: list) -> Place:
+        """A new place of a function: its entry, or an exit, with the lines of the instructions from there backwards."""
+        path = os.path.join(self.settings["start"], code.co_filename)
+        name = self.qualname_of(code)
+        known = [module, path, code.co_name, name, code.co_firstlineno, parameters(code), starred_parameters(code), lines]
+        place = Place(len(self.places))
+        self.places.append(known)
+        return place
+
+    # ------------------------------------------------------------ records
+
+    def new_shape(self, place: Place, tokens: tuple) -> int:
+        """The number of a shape that is met for the first time."""
+        number = place.shapes[tokens] = len(self.shapes)
+        self.shapes.append((place.number, tokens))
+        return number
+
+    def looker_at(self):
+        """What makes the record of values that aren't all scalars, or whose classes are met for the first time."""
+        encode = self.looker.encode
+        plain = self.looker.plain
+        depth = self.settings["depth"]
+        shapes = self.shapes
+
+        def look(place, kinds, nonce, values):
+            tokens: list = []
+            data: list = []
+            encode(values, depth, tokens, data)
+            key = tuple(tokens)
+            number = place.shapes.get(key)
+            if number is None:
+                if len(shapes) >= MOST_SHAPES:
+                    return (-1, place.number, key, (-1, nonce, *data))
+                number = self.new_shape(place, key)
+            if plain.issuperset(kinds):
+                place.plain[kinds] = number
+            return (number, nonce, *data)
+
+        return look
+
+    def hooks(self):
+        """What is to be called at an entry and at an exit of a function that is traced, and what takes the nonce of a frame that ends."""
+        waiting: dict = {}
+        next_nonce = count(1).__next__
+        look = self.looker_at()
+        every = self.settings["every"]
+        pending = self.spool.pending
+        append = pending.append
+        most = self.spool.batch
+        flush = self.spool.flush
+
+        def enter(function, frame):
+            if every > 1:
+                function.due -= 1
+                if function.due:
+                    return
+                function.due = every
+            try:
+                values = function.read(frame.f_locals)
+            except KeyError:
+                values = values_there(function, frame.f_locals)
+            if function.more:
+                values += function.more
+            nonce = next_nonce()
+            kinds = tuple(map(id, map(type, values)))
+            number = function.entry.plain.get(kinds)
+            append((number, nonce, *values) if number is not None else look(function.entry, kinds, nonce, values))
+            waiting[frame] = nonce
+            if len(pending) > most:
+                flush()
+
+        def leave(function, frame, nonce, offset, value):
+            place = function.exits.get(offset)
+            if place is None:
+                place = self.exit_of(function, frame, offset, value)
+            if not place:
+                return
+            try:
+                values = (*function.read(frame.f_locals), *function.more, value)
+            except KeyError:
+                values = (*values_there(function, frame.f_locals), *function.more, value)
+            kinds = tuple(map(id, map(type, values)))
+            number = place.plain.get(kinds)
+            append((number, nonce, *values) if number is not None else look(place, kinds, nonce, values))
+
+        return enter, leave, waiting.pop
+
+    def exit_of(self, function: Function, frame, offset: int, value: object):
+        """The exit of the function at this place in its code, which is met for the first time; False where an exception leaves, which
+        `sys.setprofile` tells as a return of None, too."""
+        is_return = value is not None or self.monitor is not None or function.code.co_code[offset] == RETURN_VALUE
+        place = function.exits[offset] = is_return and self.place(function.code, function.module, lines_before(function.code, offset, frame))
+        return place
+
+    # ------------------------------------------------------------ events
+
+    def profile_hook(self):
+        """The hook for `sys.setprofile`."""
+        enter, leave, take = self.hooks()
+        find = self.functions.get
+        discover = self.discover
+        failed = self.failed
+
+        def on_event(frame, event, argument):
+            try:
+                if event == "call":
+                    function = find(id(frame.f_code), UNKNOWN)
+                    if function is None:
+                        return
+                    if function is UNKNOWN:
+                        function = discover(frame)
+                        if function is None:
+                            return
+                    enter(function, frame)
+                elif event == "return":
+                    nonce = take(frame, None)
+                    if nonce is None:
+                        return
+                    leave(find(id(frame.f_code)), frame, nonce, frame.f_lasti, argument)
+            except BaseException as problem:
+                failed(problem)
+
+        return on_event
+
+    def start(self) -> None:
+        """Begins to trace."""
+        atexit.register(self.finish)
+        for number in ENDING_SIGNALS:
+            if _signal.getsignal(number) == _signal.SIG_DFL:
+                _signal.signal(number, self.handler)
+        os.register_at_fork(after_in_child=self.leave_child)
+        if hasattr(sys, "monitoring"):
+            self.start_monitoring()
+        else:
+            import threading
+
+            self.threading = threading
+            self.hook = self.profile_hook()
+            threading.setprofile(self.hook)
+            sys.setprofile(self.hook)
+
+    def start_monitoring(self) -> None:
+        """Begins to trace with `sys.monitoring`."""
+        monitoring = sys.monitoring
+        events = monitoring.events
+        tool = next(number for number in (4, 3, 2, 1, 0) if monitoring.get_tool(number) is None)
+        enter, leave, take = self.hooks()
+        find = self.functions.get
+        discover = self.discover
+        failed = self.failed
+        disable = monitoring.DISABLE
+        frame_of = sys._getframe
+
+        def on_start(code, offset):
+            try:
+                frame = frame_of(1)
+                function = find(id(code), UNKNOWN)
+                if function is UNKNOWN:
+                    function = discover(frame)
+                if function is None:
+                    return disable
+                enter(function, frame)
+            except BaseException as problem:
+                failed(problem)
+
+        def on_return(code, offset, value):
+            try:
+                frame = frame_of(1)
+                nonce = take(frame, None)
+                if nonce is not None:
+                    leave(find(id(code)), frame, nonce, offset, value)
+                elif find(id(code)) is None:
+                    return disable
+            except BaseException as problem:
+                failed(problem)
+
+        def on_unwind(code, offset, exception):
+            take(frame_of(1), None)
+
+        monitoring.use_tool_id(tool, "dk_python")
+        monitoring.register_callback(tool, events.PY_START, on_start)
+        monitoring.register_callback(tool, events.PY_RETURN, on_return)
+        monitoring.register_callback(tool, events.PY_UNWIND, on_unwind)
+        monitoring.set_events(tool, events.PY_START | events.PY_RETURN | events.PY_UNWIND)
+        self.monitor = tool
+
+    def failed(self, problem: BaseException) -> None:
+        """An exception came up while something was recorded: in the handler of a signal, which the program is to see, or here."""
+        trace = problem.__traceback__
+        while trace.tb_next is not None:
+            trace = trace.tb_next
+        if not trace.tb_frame.f_code.co_filename.startswith(OUR_FOLDER):
+            self.may_end_early = isinstance(problem, (SystemExit, KeyboardInterrupt))
+            raise problem
+        if isinstance(problem, KeyboardInterrupt):
+            self.is_interrupted = True
+            _thread.start_new_thread(self.interrupt_again, ())
+        elif isinstance(problem, RecursionError):
+            # 3.9 counts on this exception to reach a frame that is less deep, and ends the process where it doesn't
+            if sys.version_info < (3, 10):
+                raise problem
+        else:
+            self.failures[type(problem).__name__ + ": " + str(problem)] = True
+            if isinstance(problem, (OSError, MemoryError)):
+                self.stop()
+
+    # ------------------------------------------------------------ ends
+
+    def leave_child(self) -> None:
+        """Leaves the child of a fork as it would be without us."""
+        self.stop()
+        for number in ENDING_SIGNALS:
+            if _signal.getsignal(number) is self.handler:
+                _signal.signal(number, _signal.SIG_DFL)
+
+    def stop(self) -> None:
+        """Ends tracing."""
+        self.spool.is_sealed = True
+        if self.monitor is not None:
+            sys.monitoring.set_events(self.monitor, 0)
+        else:
+            sys.setprofile(None)
+            self.threading.setprofile(None)
+
+    def interrupt_again(self) -> None:
+        """Sends an interrupt that came while something was recorded once more, when that is over."""
+        time.sleep(0.0005)
+        self.is_interrupted = False
+        os.kill(os.getpid(), _signal.SIGINT)
+
+    def on_interrupt(self, number: int, frame) -> None:
+        """An interrupt that comes while the trace is written."""
+        self.is_interrupted = True
+
+    def on_signal(self, number: int, frame) -> None:
+        """A signal that ends the program: it does so when the trace is written."""
+        if self.is_done and os.getpid() == self.process:
+            return
+        self.finish()
+        _signal.signal(number, _signal.SIG_DFL)
+        os.kill(os.getpid(), number)
+
+    def finish(self) -> None:
+        """Writes the trace, by a process of its own."""
+        if self.is_done or os.getpid() != self.process:
+            return
+        self.is_done = True
+        if _signal.getsignal(_signal.SIGINT) is _signal.default_int_handler:
+            _signal.signal(_signal.SIGINT, self.on_interrupt)
+        is_lost = self.hook is not None and not self.spool.is_sealed and sys.getprofile() is not self.hook
+        if is_lost and not self.may_end_early and getattr(sys, "last_type", None) is not KeyboardInterrupt:
+            self.failures["tracing ended early: at the recursion limit, in a signal's handler that raised, or by sys.setprofile"] = True
+        self.stop()
+        signals = [_signal.SIGINT, _signal.SIGTERM, _signal.SIGHUP]
+        before = _signal.pthread_sigmask(_signal.SIG_BLOCK, signals)
+        try:
+            self.write_trace(signals)
+            if self.settings["report"]:
+                take_interrupt()
+        except OSError as problem:
+            os.write(2, ("dk_python: the trace could not be written: %s\n" % problem).encode())
+        finally:
+            _signal.pthread_sigmask(_signal.SIG_SETMASK, before)
+        if self.is_interrupted:
+            _signal.signal(_signal.SIGINT, _signal.SIG_DFL)
+            os.kill(os.getpid(), _signal.SIGINT)
+
+    def write_trace(self, signals: list) -> None:
+        """Lets the writer make the trace of the records and the tables."""
+        end = self.spool.seal()
+        tables = [self.places, self.shapes, self.looker.descriptions, self.looker.classes, sorted(self.failures)]
+        self.spool.write(end, tables)
+        for descriptor in (self.settings["spool"], self.settings["out"]):
+            os.set_inheritable(descriptor, True)
+        if self.settings["report"]:
+            flush_standard_output()
+        settings = marshal.dumps({**self.settings, "end": end}).hex()
+        command = [self.settings["python"], "-I", os.path.join(HERE, "writing.py"), settings]
+        child = os.posix_spawn(command[0], command, os.environ, setsigmask=signals)
+        try:
+            _, status = os.waitpid(child, 0)
+        except ChildProcessError:
+            # the program has its children waited for by others
+            return
+        if status:
+            raise OSError("its writer ended with status %d" % (status >> 8 or status))
+
+
+def source_reader():
+    """What reads the names of functions from their files."""
+    from source import Source
+
+    return Source
+
+
+def lines_before(code, offset: int, frame) -> list:
+    """The lines of a return and of the instructions in front of it, the last one first. From Python 3.10 on, a return that leaves a `with` or a
+    `finally` has the line of that."""
+    if not hasattr(code, "co_lines"):
+        return [frame.f_lineno]
+    return [line for start, _, line in code.co_lines() if start <= offset][:-MOST_LINES:-1]
+
+
+def is_below(path: str, folder: str) -> bool:
+    """Whether the path is that of the folder or of something in it."""
+    return path == folder or path.startswith(folder.rstrip(os.sep) + os.sep)
+
+
+def matchers(globs: list) -> list:
+    """What matches names with each of the globs. Only who gives globs has the modules for this loaded into the program."""
+    if not globs:
+        return []
+    import fnmatch
+    import re
+
+    return [re.compile(fnmatch.translate(glob)).match for glob in globs]
+
+
+def take_interrupt() -> None:
+    """Takes an interrupt that ended the report: the program had ended before it."""
+    if _signal.SIGINT in _signal.sigpending():
+        _signal.sigwait([_signal.SIGINT])
+
+
+def flush_standard_output() -> None:
+    """Writes what the program has printed, in front of the report."""
+    if type(sys.stdout) is member("io", "TextIOWrapper"):
+        sys.stdout.flush()
