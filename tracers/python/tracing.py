@@ -16,6 +16,7 @@ import marshal
 import os
 import sys
 import time
+from _functools import partial
 from itertools import count
 from operator import itemgetter
 
@@ -41,6 +42,8 @@ UNKNOWN = object()
 HERE = os.path.dirname(os.path.abspath(__file__))
 OUR_FOLDER = os.path.dirname(HERE) + os.sep
 DATA_CLASSES = {("types", "SimpleNamespace"), ("argparse", "Namespace")}
+# takes an event and does nothing; no code of Python's runs, in which a signal could be noticed
+IGNORE_EVENT = "".format
 
 
 class Place:
@@ -130,6 +133,8 @@ class Tracer:
         self.may_end_early = False
         self.monitor = None
         self.threading = None
+        # before Python 3.12, what takes events, and the same as it is told to Python, which can be paused
+        self.on_event = None
         self.hook = None
         self.handler = self.on_signal
 
@@ -331,14 +336,14 @@ class Tracer:
             import threading
 
             self.threading = threading
-            self.hook = self.profile_hook()
+            self.on_event = self.profile_hook()
+            self.hook = partial(self.on_event)
             threading.setprofile(self.hook)
             sys.setprofile(self.hook)
 
     def start_monitoring(self) -> None:
         """Begins to trace with `sys.monitoring`."""
         monitoring = sys.monitoring
-        events = monitoring.events
         tool = next(number for number in (4, 3, 2, 1, 0) if monitoring.get_tool(number) is None)
         enter, leave, take = self.hooks()
         find = self.functions.get
@@ -373,12 +378,18 @@ class Tracer:
         def on_unwind(code, offset, exception):
             take(frame_of(1), None)
 
+        events = monitoring.events
         monitoring.use_tool_id(tool, "dk_python")
         monitoring.register_callback(tool, events.PY_START, on_start)
         monitoring.register_callback(tool, events.PY_RETURN, on_return)
         monitoring.register_callback(tool, events.PY_UNWIND, on_unwind)
-        monitoring.set_events(tool, events.PY_START | events.PY_RETURN | events.PY_UNWIND)
         self.monitor = tool
+        self.set_monitoring(True)
+
+    def set_monitoring(self, is_on: bool) -> None:
+        """Has events told, or no longer."""
+        events = sys.monitoring.events
+        sys.monitoring.set_events(self.monitor, events.PY_START | events.PY_RETURN | events.PY_UNWIND if is_on else 0)
 
     def failed(self, problem: BaseException) -> None:
         """An exception came up while something was recorded: in the handler of a signal, which the program is to see, or here."""
@@ -390,7 +401,9 @@ class Tracer:
             raise problem
         if isinstance(problem, KeyboardInterrupt):
             self.is_interrupted = True
-            _thread.start_new_thread(self.interrupt_again, ())
+            self.pause(True)
+            _thread.start_new_thread(self.interrupt_again, (_thread.get_ident(), sys.getswitchinterval()))
+            sys.setswitchinterval(0.000001)
         elif isinstance(problem, RecursionError):
             # 3.9 counts on this exception to reach a frame that is less deep, and ends the process where it doesn't
             if sys.version_info < (3, 10):
@@ -413,16 +426,39 @@ class Tracer:
         """Ends tracing."""
         self.spool.is_sealed = True
         if self.monitor is not None:
-            sys.monitoring.set_events(self.monitor, 0)
+            self.set_monitoring(False)
         else:
             sys.setprofile(None)
             self.threading.setprofile(None)
 
-    def interrupt_again(self) -> None:
-        """Sends an interrupt that came while something was recorded once more, when that is over."""
-        time.sleep(0.0005)
+    def pause(self, is_paused: bool) -> None:
+        """Has events ignored, or recorded again."""
+        if self.monitor is not None:
+            self.set_monitoring(not (is_paused or self.spool.is_sealed))
+        else:
+            self.hook.__setstate__((IGNORE_EVENT if is_paused else self.on_event, (), {}, {}))
+
+    def interrupt_again(self, thread: int, interval: float) -> None:
+        """Sends an interrupt that came in the thread while something was recorded once more, when that is over, and goes on recording.
+
+        Most of a traced program's time is spent in recording, where the interrupt would come again and again. So nothing is recorded
+        until the program has noticed it, and threads take turns quickly meanwhile.
+        """
+        while self.is_recording(thread) and not self.is_done:
+            time.sleep(0)
+        sys.setswitchinterval(interval)
+        if self.is_done:
+            # it is told behind the trace
+            return
         self.is_interrupted = False
         os.kill(os.getpid(), _signal.SIGINT)
+        time.sleep(0.001)
+        self.pause(False)
+
+    def is_recording(self, thread: int) -> bool:
+        """Whether the thread is in code of ours."""
+        frame = sys._current_frames().get(thread)
+        return frame is not None and frame.f_code.co_filename.startswith(OUR_FOLDER)
 
     def on_interrupt(self, number: int, frame) -> None:
         """An interrupt that comes while the trace is written."""
