@@ -31,6 +31,9 @@ KEYWORD_ARGUMENTS = 0x8
 COMPREHENSIONS = ("<listcomp>", "<setcomp>", "<dictcomp>", "<genexpr>")
 # the instruction that returns, in the versions of Python that have no `sys.monitoring`
 RETURN_VALUE = 83
+# by the version of Python, the instruction that begins a function, where signals are noticed unless its argument is this one
+RESUME = {(3, 11): 151, (3, 12): 151, (3, 13): 149}
+AFTER_YIELD_FROM = 2
 
 # So many shapes have numbers. Records of further ones bring their tokens along, so that memory doesn't grow with them.
 MOST_SHAPES = 20_000
@@ -110,6 +113,19 @@ def reader(names: tuple):
 def values_there(function: Function, variables) -> tuple:
     """The values of the function's parameters, of which some have been deleted."""
     return tuple([variables.get(name, UNSET) for name in function.names])
+
+
+def begun_without_signals(function):
+    """The function, in whose first instruction no signal is noticed: so its body's `try` sees each exception that a signal's handler raises.
+    Before Python 3.11 a `try` that comes first is entered without a look at signals, too."""
+    code = bytearray(function.__code__.co_code)
+    resume = RESUME.get(sys.version_info[:2])
+    for place in range(0, len(code), 2):
+        if code[place] == resume:
+            code[place + 1] = AFTER_YIELD_FROM
+            function.__code__ = function.__code__.replace(co_code=bytes(code))
+            break
+    return function
 
 
 class Tracer:
@@ -344,7 +360,7 @@ class Tracer:
             except BaseException as problem:
                 failed(problem)
 
-        return on_event
+        return begun_without_signals(on_event)
 
     def start(self) -> None:
         """Begins to trace."""
@@ -399,13 +415,15 @@ class Tracer:
                 failed(problem)
 
         def on_unwind(code, offset, exception):
-            take(frame_of(1), None)
+            try:
+                take(frame_of(1), None)
+            except BaseException as problem:
+                failed(problem)
 
         events = monitoring.events
         monitoring.use_tool_id(tool, "dk_python")
-        monitoring.register_callback(tool, events.PY_START, on_start)
-        monitoring.register_callback(tool, events.PY_RETURN, on_return)
-        monitoring.register_callback(tool, events.PY_UNWIND, on_unwind)
+        for event, callback in ((events.PY_START, on_start), (events.PY_RETURN, on_return), (events.PY_UNWIND, on_unwind)):
+            monitoring.register_callback(tool, event, begun_without_signals(callback))
         self.monitor = tool
         self.set_monitoring(True)
 
