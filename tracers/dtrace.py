@@ -32,6 +32,7 @@ import argparse
 import fnmatch
 import os
 import signal
+import stat
 import sys
 import tempfile
 from dataclasses import dataclass, field
@@ -248,7 +249,7 @@ def temporary() -> int:
 
 
 class Output(File):
-    """The trace's file. `Output.open` opens it, and makes it empty, at once: an OSError tells that it can't be written to."""
+    """The trace's file. `Output.open` opens it, and mostly makes it empty, at once: an OSError tells that it can't be written to."""
 
     PIECE = 1 << 20
 
@@ -258,9 +259,15 @@ class Output(File):
         self.size = 0
 
     @classmethod
-    def open(cls, path: str) -> "Output":
-        """The file of this path, empty, at a high descriptor."""
-        return cls(open_high(os.open(path, os.O_WRONLY | os.O_CREAT | os.O_TRUNC | os.O_CLOEXEC, 0o666)))
+    def open(cls, path: str, is_emptied: bool = True) -> "Output":
+        """The file of this path at a high descriptor, empty, or as it is."""
+        flags = os.O_WRONLY | os.O_CREAT | os.O_CLOEXEC | (os.O_TRUNC if is_emptied else 0)
+        return cls(open_high(os.open(path, flags, 0o666)))
+
+    def empty(self) -> None:
+        """Makes the file empty, where it is one that has a length."""
+        if stat.S_ISREG(os.fstat(self.descriptor).st_mode):
+            os.ftruncate(self.descriptor, 0)
 
     def write(self, text: str) -> None:
         """Writes the text, at the latest when the file is closed."""

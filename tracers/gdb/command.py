@@ -21,6 +21,8 @@ from dtrace import Output, add_words, open_high, report  # noqa: E402
 from elf import Elf, NoProgram  # noqa: E402
 
 FAILED = 1
+REFUSED = 2
+UNWRITABLE = 4
 KILLED = 128
 FORWARDED = {signal.SIGINT, signal.SIGQUIT, signal.SIGTERM, signal.SIGHUP, signal.SIGUSR1, signal.SIGUSR2}
 
@@ -28,8 +30,21 @@ DESCRIPTION = """Runs a C or C++ program, compiled with -g -O0, and writes a tra
 that ./daikon reads. The program has its own streams, signals and status. It needs gdb, with Python, and Linux on x86-64."""
 
 
+DETAILS = """\
+Exit status: the program's, or 128 and the number of the signal that ended it; 1 where it can't be traced, 2 where these words are refused, and 4
+where FILE can't be written to, all before the program starts.
+
+Example:
+  dk_gdb --report --array values=size --include 'store.c.*' ./store
+"""
+
+
 class Problem(Exception):
     """The program can't be run under us; the text says why."""
+
+    def __init__(self, text: str, status: int = FAILED) -> None:
+        super().__init__(text)
+        self.status = status
 
 
 def array(text: str) -> List[str]:
@@ -43,7 +58,7 @@ def array(text: str) -> List[str]:
 def make_parser() -> argparse.ArgumentParser:
     """The words of the command."""
     parser = argparse.ArgumentParser(
-        prog="dk_gdb", description=DESCRIPTION, allow_abbrev=False,
+        prog="dk_gdb", description=DESCRIPTION, epilog=DETAILS, formatter_class=argparse.RawDescriptionHelpFormatter, allow_abbrev=False,
         usage="dk_gdb [--out FILE] [--include GLOB]... [--exclude GLOB]... [--depth N] [--elements N] [--every N] [--globals]\n"
               "              [--array PARAM=LENGTH]... [--report] PROGRAM [ARG]...")
     add_words(parser, "PROGRAM", "file.c.function or Class.method", 100)
@@ -143,11 +158,11 @@ def wait_for(program: Optional[int], gdb: int) -> None:
 
 
 def hand_on(number: int, program: Optional[int], gdb: int) -> None:
-    """Sends a signal to the program, or to gdb where there is none."""
+    """Sends a signal to the program, or to gdb where there is none yet. When the program has ended, the trace is written, and isn't to be cut."""
     try:
         os.kill(program or gdb, number)
     except ProcessLookupError:
-        os.kill(gdb, number)
+        pass
 
 
 def read_answers(descriptor: int) -> "Iterator[Dict[str, Any]]":
@@ -162,9 +177,9 @@ def run(options: argparse.Namespace) -> Dict[str, Any]:
     check_program(path, options.program)
     gdb = find_gdb()
     try:
-        output = Output.open(options.out)
+        output = Output.open(options.out, is_emptied=False)
     except OSError as error:
-        raise Problem("cannot write to %s: %s" % (options.out, error.strerror)) from error
+        raise Problem("cannot write %s: %s" % (options.out, error.strerror), UNWRITABLE) from error
     start = {
         "others": inherited(), "streams": keep_streams(), "group": os.getpgrp(), "environment": dict(os.environ), "program": path,
         "words": [options.program, *options.arguments],
@@ -212,11 +227,11 @@ def main() -> int:
         answer = run(options)
     except Problem as problem:
         tell(str(problem))
-        return FAILED
+        return problem.status
     if "failure" in answer:
         tell("%s: %s" % (options.program, answer["failure"]))
         sys.stderr.write(answer.get("fault") or "")
-        return FAILED
+        return REFUSED if answer.get("is_refused") else FAILED
     tell_end(options, answer)
     if options.report:
         sys.stdout.flush()

@@ -18,6 +18,7 @@ sys.path[:0] = [os.path.dirname(os.path.abspath(__file__)), os.path.dirname(os.p
 from dtrace import Kinds, Output, Selection, Spool, temporary  # noqa: E402
 from elf import Elf, entry_of_process  # noqa: E402
 from functions import Function, all_functions, find_begin  # noqa: E402
+from kinds import RECORD_CODES, REFERENCE_CODES, fields_of, plain  # noqa: E402
 from points import Making, Method, file_labels, is_own, name_of  # noqa: E402
 from process import Process  # noqa: E402
 from tracing import Traced, Tracer  # noqa: E402
@@ -43,6 +44,10 @@ SETTINGS = [
 
 class Failure(Exception):
     """The program can't be traced; the text says why."""
+
+
+class Refusal(Failure):
+    """The words of the command don't fit the program; the text says why."""
 
 
 def command(text: str) -> str:
@@ -97,6 +102,31 @@ def choose_functions(elf: Elf, orders: Dict[str, Any]) -> List[Function]:
     if not chosen:
         raise Failure("none of its functions is selected")
     return chosen
+
+
+def names_below(kind: gdb.Type, depth: int) -> Iterator[str]:
+    """The names of the fields of a value, and of what it points to, down to the depth."""
+    inner = plain(kind)
+    while inner.code == gdb.TYPE_CODE_ARRAY or inner.code == gdb.TYPE_CODE_PTR or inner.code in REFERENCE_CODES:
+        inner = plain(inner.target())
+    if depth > 0 and inner.code in RECORD_CODES:
+        for member in fields_of(inner):
+            yield member.name
+            yield from names_below(member.kind, depth if not member.name else depth - 1)
+
+
+def check_arrays(functions: List[Function], orders: Dict[str, Any]) -> None:
+    """Refuses arrays and lengths by names that no parameter, field or global variable has."""
+    symbols = [symbol for function in functions for symbol in function.block if symbol.is_argument]
+    if orders["globals"]:
+        symbols += [symbol for found in globals_by_file(functions).values() for symbol in found]
+    types = {str(symbol.type): symbol.type for symbol in symbols}
+    known = {symbol.name for symbol in symbols} | {name for kind in types.values() for name in names_below(kind, orders["depth"] + 1)}
+    for pair in orders["arrays"].items():
+        for text in pair:
+            name = text.replace("->", ".").replace("::", "").rsplit(".", 1)[-1].strip("()*")
+            if name not in known and not name.isdigit():
+                raise Refusal("--array %s=%s: no parameter or field of what is traced is called %s" % (*pair, name))
 
 
 def file_symbols(functions: List[Function]) -> Iterator[gdb.Symbol]:
@@ -191,6 +221,7 @@ def delete_stops(traced: List[Traced]) -> None:
 def prepare(orders: Dict[str, Any]) -> Tuple[Tracer, List[Method], List[Traced]]:
     """Sets the breakpoints at the functions of the program, which hasn't run yet."""
     functions = choose_functions(Elf(orders["program"]), orders)
+    check_arrays(functions, orders)
     methods = make_methods(functions)
     tracer = make_tracer(functions, orders)
     traced = [Traced(tracer, function, method) for function, method in zip(functions, methods)]
@@ -211,11 +242,12 @@ def trace(orders: Dict[str, Any]) -> Dict[str, Any]:
     except BaseException:
         command("kill")
         raise
+    output = Output(orders["out"])
+    output.empty()
     answer(orders, {"pid": gdb.selected_inferior().pid})
     watch = Watch()
     watch.run(tracer, traced)
     try:
-        output = Output(orders["out"])
         tracer.write(output, methods)
         output.close()
     except OSError as error:
@@ -230,7 +262,7 @@ def main() -> None:
     try:
         facts = trace(orders)
     except Failure as failure:
-        facts = {"failure": str(failure)}
+        facts = {"failure": str(failure), "is_refused": isinstance(failure, Refusal)}
     except Exception:
         facts = {"failure": "a fault of dk_gdb", "fault": traceback.format_exc()}
     answer(orders, facts)

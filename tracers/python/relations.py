@@ -101,16 +101,13 @@ class Reader(ast.NodeVisitor):
 
     visit_AsyncFunctionDef = visit_Lambda = visit_ClassDef = visit_FunctionDef
 
-    def visit_BinOp(self, node) -> None:
-        """A sum."""
-        self.nodes_joined(node)
+    def visit_joining(self, node) -> None:
+        """An expression whose parts are of one kind where `nodes` names several: a sum, a choice, an assignment within an expression, a call of
+        `min` and the like."""
+        self.relations.join(self.nodes(node))
         self.generic_visit(node)
 
-    def nodes_joined(self, node) -> None:
-        """The parts of an expression are of one kind."""
-        self.relations.join(self.nodes(node))
-
-    visit_IfExp = visit_NamedExpr = visit_Call = visit_BinOp
+    visit_BinOp = visit_IfExp = visit_NamedExpr = visit_Call = visit_joining
 
     def visit_Compare(self, node) -> None:
         """A comparison, but for that of an element with a sequence and of identities."""

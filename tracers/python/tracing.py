@@ -31,6 +31,9 @@ KEYWORD_ARGUMENTS = 0x8
 COMPREHENSIONS = ("<listcomp>", "<setcomp>", "<dictcomp>", "<genexpr>")
 # the instruction that returns, in the versions of Python that have no `sys.monitoring`
 RETURN_VALUE = 83
+# by the version of Python, the instruction that begins a function, where signals are noticed unless its argument is this one
+RESUME = {(3, 11): 151, (3, 12): 151, (3, 13): 149}
+AFTER_YIELD_FROM = 2
 
 # So many shapes have numbers. Records of further ones bring their tokens along, so that memory doesn't grow with them.
 MOST_SHAPES = 20_000
@@ -39,6 +42,8 @@ MOST_SHAPES = 20_000
 ENDING_SIGNALS = (_signal.SIGTERM, _signal.SIGHUP)
 MOST_LINES = 200
 UNKNOWN = object()
+# of a place where no scalars alone were read yet: no value has this class
+NOTHING_USUAL = ((None,), -1)
 HERE = os.path.dirname(os.path.abspath(__file__))
 OUR_FOLDER = os.path.dirname(HERE) + os.sep
 DATA_CLASSES = {("types", "SimpleNamespace"), ("argparse", "Namespace")}
@@ -47,12 +52,14 @@ IGNORE_EVENT = "".format
 
 
 class Place:
-    """An entry or an exit of a function. `plain` has the shapes of scalars by the ids of their classes, `shapes` all by their tokens."""
+    """An entry or an exit of a function. `usual` has the classes of the scalars that were read there last, and their shape; `plain` has the
+    shapes of scalars by the ids of their classes, `shapes` all by their tokens."""
 
-    __slots__ = ("number", "plain", "shapes")
+    __slots__ = ("number", "usual", "plain", "shapes")
 
     def __init__(self, number: int) -> None:
         self.number = number
+        self.usual: tuple = NOTHING_USUAL
         self.plain: dict = {}
         self.shapes: dict = {}
 
@@ -106,6 +113,19 @@ def reader(names: tuple):
 def values_there(function: Function, variables) -> tuple:
     """The values of the function's parameters, of which some have been deleted."""
     return tuple([variables.get(name, UNSET) for name in function.names])
+
+
+def begun_without_signals(function):
+    """The function, in whose first instruction no signal is noticed: so its body's `try` sees each exception that a signal's handler raises.
+    Before Python 3.11 a `try` that comes first is entered without a look at signals, too."""
+    code = bytearray(function.__code__.co_code)
+    resume = RESUME.get(sys.version_info[:2])
+    for place in range(0, len(code), 2):
+        if code[place] == resume:
+            code[place + 1] = AFTER_YIELD_FROM
+            function.__code__ = function.__code__.replace(co_code=bytes(code))
+            break
+    return function
 
 
 class Tracer:
@@ -180,6 +200,8 @@ class Tracer:
             module = self.module_name(variables.get("__name__"))
             if self.selects(module + "." + self.qualname_of(code), code.co_filename):
                 function = Function(code, module, self.place(code, module, []), self.globals_of(variables))
+                if not (function.names or function.more):
+                    function.entry.usual = ((), self.new_shape(function.entry, ()))
         self.kept.append(code)
         self.functions[id(code)] = function
         return function
@@ -217,13 +239,13 @@ class Tracer:
         return number
 
     def looker_at(self):
-        """What makes the record of values that aren't all scalars, or whose classes are met for the first time."""
+        """What makes the record of values that aren't all scalars, or whose classes aren't those that are usual there."""
         encode = self.looker.encode
         plain = self.looker.plain
         depth = self.settings["depth"]
         shapes = self.shapes
 
-        def look(place, kinds, nonce, values):
+        def look_at_new(place, kinds, nonce, values):
             tokens: list = []
             data: list = []
             encode(values, depth, tokens, data)
@@ -236,6 +258,15 @@ class Tracer:
             if plain.issuperset(kinds):
                 place.plain[kinds] = number
             return (number, nonce, *data)
+
+        def look(place, nonce, values):
+            classes = tuple(map(type, values))
+            kinds = tuple(map(id, classes))
+            number = place.plain.get(kinds)
+            if number is None:
+                return look_at_new(place, kinds, nonce, values)
+            place.usual = (classes, number)
+            return (number, nonce, *values)
 
         return look
 
@@ -263,9 +294,13 @@ class Tracer:
             if function.more:
                 values += function.more
             nonce = next_nonce()
-            kinds = tuple(map(id, map(type, values)))
-            number = function.entry.plain.get(kinds)
-            append((number, nonce, *values) if number is not None else look(function.entry, kinds, nonce, values))
+            classes, number = function.entry.usual
+            for value, kind in zip(values, classes):
+                if type(value) is not kind:
+                    append(look(function.entry, nonce, values))
+                    break
+            else:
+                append((number, nonce) + values)
             waiting[frame] = nonce
             if len(pending) > most:
                 flush()
@@ -277,12 +312,16 @@ class Tracer:
             if not place:
                 return
             try:
-                values = (*function.read(frame.f_locals), *function.more, value)
+                values = function.read(frame.f_locals) + function.more + (value,)
             except KeyError:
-                values = (*values_there(function, frame.f_locals), *function.more, value)
-            kinds = tuple(map(id, map(type, values)))
-            number = place.plain.get(kinds)
-            append((number, nonce, *values) if number is not None else look(place, kinds, nonce, values))
+                values = values_there(function, frame.f_locals) + function.more + (value,)
+            classes, number = place.usual
+            for value, kind in zip(values, classes):
+                if type(value) is not kind:
+                    append(look(place, nonce, values))
+                    break
+            else:
+                append((number, nonce) + values)
 
         return enter, leave, waiting.pop
 
@@ -321,7 +360,7 @@ class Tracer:
             except BaseException as problem:
                 failed(problem)
 
-        return on_event
+        return begun_without_signals(on_event)
 
     def start(self) -> None:
         """Begins to trace."""
@@ -376,13 +415,15 @@ class Tracer:
                 failed(problem)
 
         def on_unwind(code, offset, exception):
-            take(frame_of(1), None)
+            try:
+                take(frame_of(1), None)
+            except BaseException as problem:
+                failed(problem)
 
         events = monitoring.events
         monitoring.use_tool_id(tool, "dk_python")
-        monitoring.register_callback(tool, events.PY_START, on_start)
-        monitoring.register_callback(tool, events.PY_RETURN, on_return)
-        monitoring.register_callback(tool, events.PY_UNWIND, on_unwind)
+        for event, callback in ((events.PY_START, on_start), (events.PY_RETURN, on_return), (events.PY_UNWIND, on_unwind)):
+            monitoring.register_callback(tool, event, begun_without_signals(callback))
         self.monitor = tool
         self.set_monitoring(True)
 

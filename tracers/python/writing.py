@@ -21,6 +21,7 @@ from tracing import MOST_SHAPES  # noqa: E402
 # as many shapes have numbers (tracing.py)
 MOST_SHAPES = 20_000
 LIMIT = 1 << 63
+DIGITS_OF_LIMIT = len(str(LIMIT))
 LONGEST_VALUE = (1 << 24) - 1
 DATA = {"unset": 0, "none": 0, "fields": 0, "boolean": 1, "int": 1, "double": 1, "string": 1, "object": 1, "container": 2, "sequence": 3}
 NUMBERS = {"boolean", "int"}
@@ -507,9 +508,12 @@ class Plan:
         general = self.text
         # the shape's number is formatted to nothing
         template = "%.0s" + template
+        # in a text that isn't longer no number has so many digits
+        most = len(template % ((0,) * (2 + len(self.parts)))) + DIGITS_OF_LIMIT - 2
 
         def text(data) -> str:
-            return template % data if max(data) < LIMIT and min(data) >= -LIMIT else general(data)
+            text = template % data
+            return text if len(text) <= most or max(data) < LIMIT and min(data) >= -LIMIT else general(data)
 
         return text
 
