@@ -103,7 +103,7 @@ def laid_out(sources: Sequence[Source], parts: int, least: int, uncut: Set[int])
     group: List[Span] = []
     for number, source in enumerate(sources):
         count = 1 if number in uncut else round(source.size / wanted)
-        spans = pieces_of(number, source, count)
+        spans = pieces_of(number, source, count, least)
         if len(spans) > 1 or sum(end - start for _, start, end in group + spans) > 1.5 * wanted:
             found += [group] if group else []
             group = []
@@ -114,13 +114,13 @@ def laid_out(sources: Sequence[Source], parts: int, least: int, uncut: Set[int])
     return found + ([group] if group else [])
 
 
-def pieces_of(number: int, source: Source, count: int) -> List[Span]:
-    """A file cut between blocks near so many equal pieces."""
+def pieces_of(number: int, source: Source, count: int, least: int) -> List[Span]:
+    """A file cut between blocks near so many equal pieces, none of which is smaller than `least` but a whole file."""
     cuts = [0]
     with open(source.path, "rb", buffering=0) as file:
         for k in range(1, count):
-            cut = blocks.block_end_behind(file, max(source.size * k // count, cuts[-1]), source.size)
-            if cut is not None and cut > cuts[-1]:
+            cut = blocks.block_end_behind(file, max(source.size * k // count, cuts[-1] + least), source.size)
+            if cut is not None and source.size - cut >= least:
                 cuts.append(cut)
     return [(number, start, end) for start, end in zip(cuts, cuts[1:] + [source.size])]
 
