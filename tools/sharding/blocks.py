@@ -10,8 +10,8 @@ BLANK_LINE = re.compile(rb"\n[ \t]*\r?\n")
 BLOCK_START = re.compile(rb"\n[ \t]*\r?\n(?![ \t]*\r?(?:\n|\Z))")
 PLAIN_BLOCK_START = re.compile(rb"\n\n(?!\n|\Z)")
 FIRST_LINE = re.compile(rb"\n\n([^\n]+)(?:\nthis_invocation_nonce\n([^\n]*))?")
-SPECIAL_START = re.compile(rb"\n\n(?=[ \t#/dviVLDp])(?:[ \t#]|//|decl-version|var-comp|input-lang|VarComp|ListImpl|DECLARE[ \t\n]|"
-                           rb"ppt[ \t\n])")
+SPECIAL_START = re.compile(rb"\n\n(?=[ \t#/dviVLDp])(?:[ \t#]|//|decl-version|var-comp|input-lang|VarComp|ListImpl|"
+                           rb"DECLARE[ \t\n]|ppt[ \t\n])")
 BLANKS_ALONE = re.compile(rb"(?<=\n)[ \t]+(?=\n)")
 BLANKS_AT_ENDS = re.compile(rb"[ \t]+(?=\n)|(?<=\n)[ \t]+")
 HEADER_WORDS = (b"decl-version", b"var-comparability", b"input-language")
