@@ -1,13 +1,18 @@
 """Lines and blocks of a trace, as docs/FORMATS.md has them, in large pieces of bytes."""
 
+import os
 import re
+from bisect import bisect_right
 from typing import BinaryIO, Iterator, List, NamedTuple, Optional, Tuple
 
-SLICE = 1 << 20
+SLICE = 1 << 17  # what a processor keeps near while it is searched several times
 BLANK_LINE = re.compile(rb"\n[ \t]*\r?\n")
 BLOCK_START = re.compile(rb"\n[ \t]*\r?\n(?![ \t]*\r?(?:\n|\Z))")
+PLAIN_BLOCK_START = re.compile(rb"\n\n(?!\n|\Z)")
 FIRST_LINE = re.compile(rb"\n\n([^\n]+)(?:\nthis_invocation_nonce\n([^\n]*))?")
-SPECIAL_LINE = re.compile(rb"\n\n(?=[#/dviVLDp])(?:#|//|decl-version|var-comp|input-lang|VarComp|ListImpl|DECLARE\n|ppt[ \t\n])")
+SPECIAL_START = re.compile(rb"\n\n(?=[ \t#/dviVLDp])(?:[ \t#]|//|decl-version|var-comp|input-lang|VarComp|ListImpl|"
+                           rb"DECLARE[ \t\n]|ppt[ \t\n])")
+BLANKS_ALONE = re.compile(rb"(?<=\n)[ \t]+(?=\n)")
 BLANKS_AT_ENDS = re.compile(rb"[ \t]+(?=\n)|(?<=\n)[ \t]+")
 HEADER_WORDS = (b"decl-version", b"var-comparability", b"input-language")
 NONCE_LINE = b"this_invocation_nonce"
@@ -79,21 +84,53 @@ def kind_of(line: bytes) -> str:
     return "list" if line == b"ListImplementors" else "sample"
 
 
-def normalized(text: bytes) -> bytes:
-    """Whole blocks with an empty line in front, each line trimmed and ended by LF."""
+def has_indented(text: bytes) -> bool:
+    """Whether a line behind an LF begins with a blank or a tab."""
+    return (b" " in text and b"\n " in text) or (b"\t" in text and b"\n\t" in text)
+
+
+def parted(text: bytes) -> bytes:
+    """Whole blocks with an empty line in front; all lines end with LF alone, and blank ones are empty."""
     text = b"\n\n" + text if text.endswith(b"\n") else b"\n\n" + text + b"\n"
     if b"\r" in text:
         text = text.replace(b"\r\n", b"\n")
-    if b"\t" in text or (b" " in text and (b" \n" in text or b"\n " in text)):
-        text = BLANKS_AT_ENDS.sub(b"", text)
-    return text
+    return BLANKS_ALONE.sub(b"", text) if has_indented(text) else text
+
+
+def normalized(text: bytes) -> bytes:
+    """The same with each line trimmed."""
+    text = parted(text)
+    ends = any(blank in text and blank + b"\n" in text for blank in (b" ", b"\t"))
+    return BLANKS_AT_ENDS.sub(b"", text) if ends or has_indented(text) else text
 
 
 def block_starts(text: bytes) -> List[int]:
     """Where the blocks of a text of whole blocks begin, and the end of the text."""
     text = b"\n\n" + text
-    starts = [match.end() - 2 for match in BLOCK_START.finditer(text)]
-    return starts + [len(text) - 2]
+    start = BLOCK_START if b"\r" in text or has_indented(text) else PLAIN_BLOCK_START
+    return [match.end() - 2 for match in start.finditer(text)] + [len(text) - 2]
+
+
+class Slice:
+    """Whole blocks of a file, which are searched in parted text."""
+
+    def __init__(self, text: bytes) -> None:
+        self.text, self.parted = text, parted(text)
+        self.is_same = len(self.parted) == len(text) + (2 if text.endswith(b"\n") else 3)
+        self.starts: List[int] = []
+        self.parted_starts: List[int] = []
+
+    def block_at(self, at: int) -> Tuple[int, int]:
+        """Where the block at a place of the parted text begins and ends in the text."""
+        if self.is_same:
+            following = PLAIN_BLOCK_START.search(self.parted, at)
+            end = following.end() - 2 if following else len(self.text)
+            return self.parted.rfind(b"\n\n", 0, at), end
+        if not self.starts:
+            self.starts = block_starts(self.text)
+            self.parted_starts = [match.end() for match in PLAIN_BLOCK_START.finditer(self.parted)]
+        number = bisect_right(self.parted_starts, at) - 1
+        return self.starts[number], self.starts[number + 1]
 
 
 def last_block_end(text: bytes) -> int:
@@ -111,17 +148,16 @@ def last_block_end(text: bytes) -> int:
 def slices(file: BinaryIO, start: int, end: int) -> Iterator[Tuple[int, bytes]]:
     """Texts of whole blocks with their places, one after another. Start and end lie between
     blocks."""
-    file.seek(start)
-    rest = b""
-    while start + len(rest) < end:
-        read = file.read(min(max(SLICE, len(rest)), end - start - len(rest)))
-        if not read:
+    length = SLICE
+    while start < end:
+        text = os.pread(file.fileno(), min(length, end - start), start)
+        if not text:
             raise OSError(f"{file.name} is shorter than it was")
-        rest += read
-        cut = len(rest) if start + len(rest) == end else last_block_end(rest)
+        cut = len(text) if start + len(text) == end else last_block_end(text)
         if cut:
-            yield start, rest[:cut]
-            start, rest = start + cut, rest[cut:]
+            yield start, text[:cut]
+        start += cut
+        length = SLICE if cut else 2 * length
 
 
 def block_end_behind(file: BinaryIO, offset: int, size: int) -> Optional[int]:

@@ -7,16 +7,20 @@ exit and the entry that it takes are in one part, and an entry that is moved was
 of its own piece.
 """
 
+import gc
 import json
 import os
-from concurrent.futures import ProcessPoolExecutor
+from concurrent.futures import Executor, ProcessPoolExecutor
 from dataclasses import asdict, dataclass, field
+from itertools import groupby, repeat
 from typing import Dict, FrozenSet, Iterable, List, Optional, Sequence, Set, Tuple
 
 from . import blocks
-from .scanning import Declared, Place, Scan, Stretch, Waiting, plain_exits_of, scan
+from .nonces import Owned, owned_by_each, owner_of
+from .scanning import (Call, Declared, Place, Scan, Stretch, calls_with, first_nonce, plain_exits_of, scan_by_calls,
+                       scan_by_nonces)
 
-STRETCH = 16 << 20
+STRETCH = 8 << 20
 MOST_WAITING = 1_000_000
 
 Span = Tuple[int, int, int]  # a file's number, where a text begins in it, and where it ends
@@ -99,7 +103,7 @@ def laid_out(sources: Sequence[Source], parts: int, least: int, uncut: Set[int])
     group: List[Span] = []
     for number, source in enumerate(sources):
         count = 1 if number in uncut else round(source.size / wanted)
-        spans = pieces_of(number, source, count)
+        spans = pieces_of(number, source, count, least)
         if len(spans) > 1 or sum(end - start for _, start, end in group + spans) > 1.5 * wanted:
             found += [group] if group else []
             group = []
@@ -110,13 +114,13 @@ def laid_out(sources: Sequence[Source], parts: int, least: int, uncut: Set[int])
     return found + ([group] if group else [])
 
 
-def pieces_of(number: int, source: Source, count: int) -> List[Span]:
-    """A file cut between blocks near so many equal pieces."""
+def pieces_of(number: int, source: Source, count: int, least: int) -> List[Span]:
+    """A file cut between blocks near so many equal pieces, none of which is smaller than `least` but a whole file."""
     cuts = [0]
     with open(source.path, "rb", buffering=0) as file:
         for k in range(1, count):
-            cut = blocks.block_end_behind(file, max(source.size * k // count, cuts[-1]), source.size)
-            if cut is not None and cut > cuts[-1]:
+            cut = blocks.block_end_behind(file, max(source.size * k // count, cuts[-1] + least), source.size)
+            if cut is not None and source.size - cut >= least:
                 cuts.append(cut)
     return [(number, start, end) for start, end in zip(cuts, cuts[1:] + [source.size])]
 
@@ -157,98 +161,126 @@ class Join:
         self.waiting = 0
         self.crossings: List[Crossing] = []
 
-    def inherited(self) -> List[bytes]:
-        """The methods of the entries without a nonce that wait."""
-        return [method for method, _, _ in self.stack]
+    def take(self, stretch: Stretch, call: Call) -> None:
+        """An entry waits, an exit takes one."""
+        if call.is_entry:
+            self.wait(stretch, call)
+            return
+        taken = self.taken(call.method) if call.nonce is None else self.taken_by_nonce(call.method, call.nonce)
+        if taken is not None and taken[0].piece != stretch.piece:
+            self.crossings.append(Crossing(*taken, stretch.piece))
 
-    def fits(self, found: Scan) -> bool:
-        """Whether each exit without a nonce that was taken to end waiting entries does so."""
-        methods = self.inherited()
-        for method, nonce, dropped in found.opens:
-            if nonce is None:
-                at = last_place(methods, method)
-                if at is None and dropped:
-                    return False
-                del methods[len(methods) if at is None else at:]
-        return True
-
-    def take(self, stretch: Stretch, found: Scan) -> None:
-        """The open exits of a stretch take entries; then its own entries wait."""
-        for method, nonce, _ in found.opens:
-            taken = self.taken(method, nonce)
-            if taken is not None and taken[0].piece != stretch.piece:
-                self.crossings.append(Crossing(*taken, stretch.piece))
-        for entry in found.waiting:
-            self.wait(stretch, entry)
-        self.waiting += len(found.waiting)
-        if self.waiting > MOST_WAITING:
-            raise TooManyWait(self.file)
-
-    def wait(self, stretch: Stretch, entry: Waiting) -> None:
+    def wait(self, stretch: Stretch, entry: Call) -> None:
         """Adds an entry."""
         if entry.nonce is None:
             self.stack.append((entry.method, stretch, entry.place))
         else:
             self.by_nonce.setdefault((entry.method, entry.nonce), []).append((stretch, entry.place))
+        self.waiting += 1
+        if self.waiting > MOST_WAITING:
+            raise TooManyWait(self.file)
 
-    def taken(self, method: bytes, nonce: Optional[bytes]) -> Optional[Tuple[Stretch, Place]]:
-        """Takes the entry of an exit, if one waits."""
-        if nonce is not None:
-            entries = self.by_nonce.get((method, nonce))
-            if not entries:
-                return None
-            self.waiting -= 1
-            entry = entries.pop()
-            if not entries:
-                del self.by_nonce[method, nonce]
-            return entry
-        at = last_place(self.inherited(), method)
-        if at is None:
+    def taken_by_nonce(self, method: bytes, nonce: bytes) -> Optional[Tuple[Stretch, Place]]:
+        """Takes the entry of an exit with a nonce, if one waits."""
+        entries = self.by_nonce.get((method, nonce))
+        if not entries:
             return None
-        _, stretch, place = self.stack[at]
-        self.waiting -= len(self.stack) - at
-        del self.stack[at:]
-        return stretch, place
+        self.waiting -= 1
+        entry = entries.pop()
+        if not entries:
+            del self.by_nonce[method, nonce]
+        return entry
+
+    def taken(self, method: bytes) -> Optional[Tuple[Stretch, Place]]:
+        """Takes the entry of an exit without a nonce, if one waits, with all later ones."""
+        for at in range(len(self.stack) - 1, -1, -1):
+            if self.stack[at][0] == method:
+                _, stretch, place = self.stack[at]
+                self.waiting -= len(self.stack) - at
+                del self.stack[at:]
+                return stretch, place
+        return None
 
 
-def last_place(methods: List[bytes], method: bytes) -> Optional[int]:
-    """The last place of a method in a list."""
-    for at in range(len(methods) - 1, -1, -1):
-        if methods[at] == method:
-            return at
-    return None
-
-
-def joined(stretches: List[Stretch], scans: Iterable[Scan], plain_exits: FrozenSet[bytes]
-           ) -> Tuple[List[Tuple[int, Declared]], List[Crossing]]:
-    """What all stretches declare, each with its file, and the calls that cross a cut."""
-    declared: List[Tuple[int, Declared]] = []
+def joined(stretches: List[Stretch], scans: List[Scan]) -> List[Crossing]:
+    """The calls that cross a cut."""
     crossings: List[Crossing] = []
     join = None
     for stretch, found in zip(stretches, scans):
         if join is None or join.file != stretch.file:
             join = Join(stretch.file)
             join.crossings = crossings
-        if not join.fits(found):
-            found = scan(stretch, plain_exits, join.inherited())
-        declared += [(stretch.file, block) for block in found.declared]
-        join.take(stretch, found)
-    return declared, crossings
+        for call in found.calls or ():
+            join.take(stretch, call)
+    return crossings
 
 
 def scanned(stretches: List[Stretch], jobs: int) -> Tuple[List[Tuple[int, Declared]], List[Crossing]]:
-    """The scan of all stretches. Which exits have no entry is guessed by the first one, and if the
-    declarations tell something else, all are scanned again."""
-    first = scan(stretches[0])
-    plain = plain_exits_of([block.name for block in first.declared if block.name is not None])
-    with ProcessPoolExecutor(jobs) as pool:
+    """What all stretches declare, each with its file, and the calls that cross a cut. Which exits have no entry is
+    guessed by the first stretch, and if the declarations tell something else, all are scanned again."""
+    plain = plain_exits_in(scan_by_nonces(stretches[0]._replace(is_cut=False), Owned(0, 0), frozenset()).declared)
+    with ProcessPoolExecutor(jobs, initializer=gc.disable) as pool:
+        owned = owned_by(stretches, pool.map(first_nonce, stretches))
         while True:
-            scans = pool.map(scan, stretches, [plain] * len(stretches), chunksize=1)
-            declared, crossings = joined(stretches, scans, plain)
-            found = plain_exits_of([block.name for _, block in declared if block.name is not None])
+            scans = scans_of(pool, stretches, owned, plain)
+            declared = [(stretch.file, block) for stretch, found in zip(stretches, scans) for block in found.declared]
+            found = plain_exits_in([block for _, block in declared])
             if found == plain:
-                return declared, crossings
+                return declared, joined(stretches, scans)
             plain = found
+
+
+def plain_exits_in(declared: List[Declared]) -> FrozenSet[bytes]:
+    """Exits that have no entry."""
+    return plain_exits_of([block.name for block in declared if block.name is not None])
+
+
+def owned_by(stretches: List[Stretch], firsts: Iterable[Optional[int]]) -> List[Owned]:
+    """The numbers that the stretches own, each within its file."""
+    owned: List[Owned] = []
+    for _, group in groupby(zip(stretches, firsts), key=lambda item: item[0].file):
+        owned += owned_by_each([first for _, first in group])
+    return owned
+
+
+def scans_of(pool: Executor, stretches: List[Stretch], owned: List[Owned], plain_exits: FrozenSet[bytes]) -> List[Scan]:
+    """Scans all stretches by their nonces, and call by call those of files with too many calls to be told."""
+    scans = list(pool.map(scan_by_nonces, stretches, owned, repeat(plain_exits)))
+    others = files_to_follow(stretches, scans)
+    places = [at for at, stretch in enumerate(stretches) if stretch.file in others]
+    followed = pool.map(scan_by_calls, [stretches[at] for at in places], repeat(plain_exits))
+    for at, scan in zip(places, followed):
+        scans[at] = scan
+    sought = sought_in(stretches, scans, owned, others)
+    found = pool.map(calls_with, [stretches[at] for at in sought], sought.values(), repeat(plain_exits))
+    for at, calls in zip(sought, found):
+        told = sorted({*scans[at].calls, *calls}, key=lambda call: call.place)
+        scans[at] = scans[at]._replace(calls=told)
+    return scans
+
+
+def files_to_follow(stretches: List[Stretch], scans: List[Scan]) -> Set[int]:
+    """The files whose nonces tell too many calls."""
+    told: Dict[int, int] = {}
+    for stretch, found in zip(stretches, scans):
+        told[stretch.file] = told.get(stretch.file, 0) + (MOST_WAITING + 1 if found.calls is None else len(found.calls))
+    return {file for file, count in told.items() if count > MOST_WAITING}
+
+
+def sought_in(stretches: List[Stretch], scans: List[Scan], owned: List[Owned], others: Set[int]) -> Dict[int, Set[bytes]]:
+    """For the places of stretches the nonces that they own and that are told in another piece of the file."""
+    sought: Dict[int, Set[bytes]] = {}
+    at = 0
+    for file, group in groupby(stretches, key=lambda stretch: stretch.file):
+        count = len(list(group))
+        if file not in others:
+            for place in range(at, at + count):
+                for call in scans[place].calls or ():
+                    owner = owner_of(call.nonce, owned[at:at + count])
+                    if owner is not None and stretches[at + owner].piece != stretches[place].piece:
+                        sought.setdefault(at + owner, set()).add(call.nonce)
+        at += count
+    return sought
 
 
 def located(crossings: List[Crossing]) -> List[Tuple[Crossing, Span]]:
