@@ -1,0 +1,1 @@
+//! What the definitions come to, in the words of a reader.

@@ -1,0 +1,4 @@
+pub mod Ends
+pub mod Filing
+pub mod Running
+pub mod Taking
