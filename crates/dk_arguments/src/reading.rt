@@ -5,13 +5,11 @@ ghost use Rattle.dk_arguments.specs.Commands.{app_of_command, is_simple};
 ghost use Rattle.dk_arguments.specs.Descriptions.{described};
 ghost use Rattle.dk_arguments.specs.Requests.{Answers, AnswersFault, request_by, request_of, run_by};
 
-
-
 use crate::among::are_among;
 use crate::clap_command::clap_command;
 use crate::{Arguments, ArgumentsFault, Description, Matches, Request};
-use clap::error::ErrorKind;
 use clap::Error;
+use clap::error::ErrorKind;
 use dk_base::NoMemory;
 use std::alloc::Global;
 
