@@ -31,6 +31,7 @@ use Rattle.dk_arguments.specs.Commands.{app_of_command, faults_of, named, rows_o
 use Rattle.dk_arguments.specs.Descriptions.{Argument, Command, Form, flag, number, one_of, positional, positionals, text}
 use Rattle.dk_arguments.specs.Given.{number_at}
 use Rattle.dk_arguments.specs.Laws.{IsNumbered, IsWithin, NumbersAreWithinBounds, Takes, Wanted}
+
 abbrev is_named : Wanted → Text → Bool
 is_named w id = bytes_eq id w.name
 
@@ -392,7 +393,7 @@ module _ (wanted : Wanted) where
   sound_rules : (arguments : List Argument) (rest : List Rule) (i : ℕ) → All (IsNumbered wanted) arguments
       → ((k : ℕ) → SoundEach wanted (filled_from k rest)) → SoundEach wanted (filled_from i (map rule_for arguments ++ rest))
   sound_rules [] rest i all more = more i
-  sound_rules (a ∷ as) rest i all more = (sound_argument a i all.0, sound_rules as rest (index_after i (filled (rule_for a))) all.1 more)
+  sound_rules (a ∷ others) rest i all more = (sound_argument a i all.0, sound_rules others rest (index_after i (filled (rule_for a))) all.1 more)
 
   ne_bytes : (id : Text) → (id ≡ wanted.name → ⊥) → is_named wanted id ≡ false
   ne_bytes id other = go (bytes_eq id wanted.name) refl
