@@ -409,7 +409,6 @@ module _ (wanted : Wanted) where
   version_sound other i = sound_other version_rule i (ne_bytes (codes "version") (λ e. other (sym e))) (λ e. cc)
 
   rules_sound : (c : Command) → Takes wanted c → SoundEach wanted (built (app_of_command c)).top.rules
-  unfolding app_of_command
   rules_sound c takes =
       subst (λ (rs : List Rule). SoundEach wanted (filled_from 1 rs)) (sym (append_assoc (map rule_for c.arguments) (help_rule ∷ []) (version_rule ∷ [])))
       (sound_rules c.arguments (help_rule ∷ version_rule ∷ []) 1 takes.arguments

@@ -219,15 +219,12 @@ built_one a h words leaf no_help none =
     level_one a.top leaf no_help (names_of a) h words (is_some (entered a stop)) (entered_fault a stop) (entered_one a stop none)
 
 is_leaf : (c : Command) → (built (app_of_command c)).top.is_leaf ≡ true
-unfolding app_of_command
 is_leaf c = refl
 
 has_no_help_subcommand : (c : Command) → (built (app_of_command c)).top.disable_help_subcommand ≡ true
-unfolding app_of_command
 has_no_help_subcommand c = refl
 
 has_no_subcommands : (c : Command) → (built (app_of_command c)).subs ≡ []
-unfolding app_of_command
 has_no_subcommands c = refl
 
 -- a command has one fault at most

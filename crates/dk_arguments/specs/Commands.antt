@@ -25,7 +25,7 @@ rule_for a = rule_by a.form a.name
 abbrev pub app_with : Text → List Rule → App
 app_with name rules = let a = new_app name in record a { top = record a.top { rules = rules; has_version = true } }
 
-unfoldable pub app_of_command : Command → App
+abbrev pub app_of_command : Command → App
 app_of_command c = app_with c.name (map rule_for c.arguments)
 
 -- `clap` defines which words the command accepts: among others, only the last positional may take several words.
