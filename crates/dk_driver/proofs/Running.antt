@@ -15,7 +15,7 @@ use Rattle.dk_driver.specs.AllFiles.{AreReadTo, FilesGive, GoesOn}
 use Rattle.dk_driver.specs.Consuming.{Samples}
 use Rattle.dk_driver.specs.Ends.{end_behind, end_of, end_of_file, end_of_files, fault_in, first_fault, line_limit, then_files, total_limit}
 use Rattle.dk_driver.specs.Files.{AreHeldFiles, FaultAt, File, ended_file, file_name_at}
-use Rattle.dk_driver.specs.Reads.{AreCleanBehind, AreRead, AtStart, ComeTo, FaultSays, HasBroken, HasCause, IsRefusedAt, IsUnreadAt, ReadingSays, Within, held_file_at, helds_of, rest_behind}
+use Rattle.dk_driver.specs.Reads.{AreCleanBehind, AreRead, AtStart, ComeTo, FaultSays, HasBroken, HasCause, IsPlaced, IsRefusedAt, IsUnreadAt, ReadingSays, Within, held_file_at, helds_of, rest_behind}
 use Rattle.dk_driver.specs.Standing.{StandsFor}
 use Rattle.dk_driver.specs.WholeFile.{ComesToEnd, FileFaultGives, HasFault, IsBroken, fault_at, fresh_reading}
 use Rattle.dk_driver.specs.declared.fault.FileFault.{FileFault}
@@ -266,6 +266,13 @@ named_cause traces file place name r t.Start a b c e is within h there start rea
 named_cause traces file place name r t.Read a b c e is within h there start read =
     (λ absent. there (λ s. cc (e, s)) (sym (held_map file traces.names place within ∙ ap file (sym is)) ∙ absent), rose_since a b c h (read e))
 named_cause traces file place name r t.NoMemory a b c e is within h there start read = tt
+
+-- a fault at one of the files
+pub placed : (n place : ℕ) (fault : FileFault) → place < n → IsPlaced n (fault_at place fault)
+placed n place (t.Refused line why) within = within
+placed n place t.Start within = within
+placed n place t.Read within = within
+placed n place t.NoMemory within = tt
 
 -- ---- all files
 pub all_read : (traces : Traces) (file : List ℕ → HeldFile) (before rest : Option (List ℕ)) (Stands : History → Type 0) (room : ℕ)
