@@ -118,6 +118,24 @@ abbrev pub ReadingSays : {C : Type 0} → (C → List Point → Samples → Type
 ReadingSays Stands traces file before (Ok feed) rest = AreRead traces file before rest (StandsFor Stands feed)
 ReadingSays Stands traces file before (Err fault) rest = FaultSays traces file before fault rest
 
+-- ---- completeness
+-- the files were read, or memory ran out
+abbrev pub IsReadOrShort : {C : Type 0} → Result (Feed C) FilesFault → Type 0
+IsReadOrShort (Ok feed) = Unit {0}
+IsReadOrShort (Err fault) = fault ≡ NoMemory
+
+-- the answer is this fault, or memory ran out
+abbrev pub IsRefusedOrShort : {C : Type 0} → FaultAt → Result (Feed C) FilesFault → Type 0
+IsRefusedOrShort f (Ok feed) = ⊥
+IsRefusedOrShort f (Err fault) = (fault ≡ Refused f.file f.line f.why) ⊎ (fault ≡ NoMemory)
+
+-- Files that are held are read where they hold no fault, and else refused at their first one. Files behind a faulty one need not be there.
+pub record IsComplete {C : Type 0} (traces : Traces) (file : List ℕ → HeldFile) (result : Result (Feed C) FilesFault) : Type 0 where
+  pub read : (contents : List (List ℕ)) → AreHeldFiles (helds_of traces file) contents
+      → first_fault traces.ignore_missing_entry (map ended_file contents) ≡ None → IsReadOrShort result
+  pub refused : (n : ℕ) (contents : List (List ℕ)) (f : FaultAt) → AreHeldFiles (take n (helds_of traces file)) contents
+      → first_fault traces.ignore_missing_entry (map ended_file contents) ≡ Some f → IsRefusedOrShort f result
+
 -- how a program ends that tells a fault
 abbrev pub status_of : FilesFault → Ended
 status_of (Refused place line why) = ended.Refused

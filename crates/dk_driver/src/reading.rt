@@ -7,7 +7,7 @@ ghost use Rattle.dk_lines.specs.Reading.{left_of, room_of};
 ghost use Rattle.dk_driver.specs.AllFiles.{AreReadTo, FilesGive};
 ghost use Rattle.dk_driver.specs.Ends.{line_limit};
 ghost use Rattle.dk_driver.specs.Files.{file_name_at};
-ghost use Rattle.dk_driver.specs.Reads.{HasCause, IsPlaced, ReadingSays};
+ghost use Rattle.dk_driver.specs.Reads.{HasCause, IsComplete, IsPlaced, ReadingSays};
 ghost use Rattle.dk_driver.specs.Standing.{StandsFor, points_of};
 ghost use Rattle.dk_driver.specs.WholeFile.{FileGives, StartedGives};
 
@@ -128,6 +128,8 @@ pub fn read_files<C: Consumer, I: Inputs>(
     ensures placed { IfErr result (IsPlaced (length traces.now.names)) }
     // Why a file was not read: it is absent, or a fault of the inputs rose.
     ensures cause { IfErr result (HasCause traces.now (I.file inputs.old) (Rose (I.faults inputs.old) (I.faults inputs.new))) }
+    // Where no fault of the inputs rises, files that are held are read, or refused at their first fault.
+    ensures complete { (Rose (I.faults inputs.old) (I.faults inputs.new) → ⊥) → IsComplete traces.now (I.file inputs.old) result }
     ensures files { I.file inputs.new ≡ I.file inputs.old }
 {
     let mut lines = Lines::new(alloc, Limits::STANDARD)?;
