@@ -5,6 +5,7 @@ use Rattle.std.specs.List.{All}
 use Rattle.std.specs.Option.{option_map_or}
 use Rattle.std.specs.Str.{bytes_eq, chars}
 use Rattle.std.specs.Str.Parse.{digits_value, without_leading_plus}
+use Rattle.std.proofs.lemmas.List.Elements.{All-head, All-tail}
 use Rattle.std.proofs.lemmas.Bool.{false≢true, leb-true, ne_eqb}
 use Rattle.std.proofs.lemmas.Slice.Eq.{bytes_eq-Decides}
 use Rattle.clap.specs.Lexer.{long_of, short_of}
@@ -28,7 +29,7 @@ use Rattle.clap.specs.declared.parser.matches.ValueSource.TheVariants.{CommandLi
 use Rattle.clap.proofs.WalkLemmas.{both}
 use Rattle.dk_base.specs.Numbers.{is_numeral, natural_of}
 use Rattle.dk_arguments.specs.Commands.{app_of_command, faults_of, named, rows_of, rule_by, rule_for}
-use Rattle.dk_arguments.specs.Descriptions.{Argument, Command, Form, flag, number, one_of, positional, positionals, text}
+use Rattle.dk_arguments.specs.Descriptions.{Argument, Command, Form, flag, number, one_of, positional, positionals, text as any_text}
 use Rattle.dk_arguments.specs.Given.{number_at}
 use Rattle.dk_arguments.specs.Laws.{IsNumbered, IsWithin, NumbersAreWithinBounds, Takes, Wanted}
 
@@ -369,7 +370,7 @@ module _ (wanted : Wanted) where
 
   no_count : (form : Form) (name : Text) → action_of (filled (rule_by form name)) ≡ action.Count → ⊥
   no_count flag name e = cc
-  no_count text name e = cc
+  no_count any_text name e = cc
   no_count (number low high) name e = cc
   no_count (one_of words) name e = cc
   no_count positional name e = cc
@@ -377,7 +378,7 @@ module _ (wanted : Wanted) where
 
   id_is : (form : Form) (name : Text) → (rule_by form name).id ≡ name
   id_is flag name = refl
-  id_is text name = refl
+  id_is any_text name = refl
   id_is (number low high) name = refl
   id_is (one_of words) name = refl
   id_is positional name = refl
@@ -393,7 +394,10 @@ module _ (wanted : Wanted) where
   sound_rules : (arguments : List Argument) (rest : List Rule) (i : ℕ) → All (IsNumbered wanted) arguments
       → ((k : ℕ) → SoundEach wanted (filled_from k rest)) → SoundEach wanted (filled_from i (map rule_for arguments ++ rest))
   sound_rules [] rest i all more = more i
-  sound_rules (a ∷ others) rest i all more = (sound_argument a i all.0, sound_rules others rest (index_after i (filled (rule_for a))) all.1 more)
+  sound_rules (a ∷ others) rest i all more = (
+    sound_argument a i (All-head (IsNumbered wanted) a others all),
+    sound_rules others rest (index_after i (filled (rule_for a))) (All-tail (IsNumbered wanted) a others all) more,
+  )
 
   ne_bytes : (id : Text) → (id ≡ wanted.name → ⊥) → is_named wanted id ≡ false
   ne_bytes id other = go (bytes_eq id wanted.name) refl
@@ -418,10 +422,10 @@ module _ (wanted : Wanted) where
   unfolding faults_of rows_of
   rows_fit c words takes e = app_fit (built (app_of_command c)) (argument_words (app_of_command c) (named c words)) (rules_sound c takes) e
 
-  natural_within : (text : Text) → accepts false (bounds_of wanted) text ≡ true → IfSome (natural_of (without_leading_plus text)) (IsWithin wanted.low wanted.high)
+  natural_within : (word : Text) → accepts false (bounds_of wanted) word ≡ true → IfSome (natural_of (without_leading_plus word)) (IsWithin wanted.low wanted.high)
   unfolding natural_of
-  natural_within text e =
-      let ds = without_leading_plus text in
+  natural_within word e =
+      let ds = without_leading_plus word in
       let n = digits_value 10 ds in
       let a = both (is_numeral 10 ds) (nat_lt n (2 ^ 64) && (nat_le wanted.low n && nat_le n wanted.high)) e in
       let b = both (nat_lt n (2 ^ 64)) (nat_le wanted.low n && nat_le n wanted.high) a.1 in

@@ -1,5 +1,6 @@
 pub mod Answering
 pub mod Bounds
+pub mod Building
 pub mod Examples
 pub mod Faults
 pub mod Meaning

@@ -8,11 +8,12 @@ use crate::{Argument, Description, Form, Matches};
 fn is_one_of(words: &[&str], text: &str) -> bool
     ensures { result ≡ is_one_of (map (λ word. word.now) words.now) text.now }
 {
-    let mut found = false;
     for word in words {
-        found = found || *word == text;
+        if *word == text {
+            return true;
+        }
     }
-    found
+    false
 }
 
 fn is_among(matches: &Matches<'_>, argument: &Argument) -> bool
@@ -28,9 +29,10 @@ fn is_among(matches: &Matches<'_>, argument: &Argument) -> bool
 pub(crate) fn are_among(description: &Description, matches: &Matches<'_>) -> bool
     ensures { result ≡ are_among (described description.now) matches.now }
 {
-    let mut among = true;
     for argument in description.arguments {
-        among = among && is_among(matches, argument);
+        if !is_among(matches, argument) {
+            return false;
+        }
     }
-    among
+    true
 }
