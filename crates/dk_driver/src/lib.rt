@@ -4,6 +4,8 @@
 #![tactic(auto)]
 
 mod consumer;
+#[cfg(test)]
+mod examples;
 mod fault;
 mod feed;
 mod reading;
