@@ -6,15 +6,11 @@ use Rattle.dk_decl.specs.Headers.{awaits_word, first_header}
 use Rattle.dk_decl.specs.Outcomes.{or_refused}
 use Rattle.dk_decl.specs.declared.decls.PointDecl.{PointDecl}
 use Rattle.dk_points.specs.Table.{Point}
-use Rattle.dk_trace.specs.Records.{Sample, declared_place, var_decls_at}
+use Rattle.dk_trace.specs.Records.{declared_place, var_decls_at}
 use Rattle.dk_blocks.specs.History.{History, Taken, block, with_declaration, with_record}
-use Rattle.dk_write.specs.Records.{Recorded, sample_values}
+use Rattle.dk_write.specs.Records.{Recorded, sample_at}
 use Rattle.dk_write.specs.Texts.{Write, Begins, Declares, Records, block_lines}
 use Rattle.dk_write.specs.Writable.{IsRecordWithin, IsWithin, can_declare, can_record}
-
--- the sample of a record whose block begins at a line, at the place of its point
-abbrev pub sample_at : ℕ → ℕ → Recorded → Sample
-sample_at line p r = record { point = p; line = line; nonce = r.nonce; values = sample_values r }
 
 -- What is written does to a history, where its block begins at this line. It takes whether exits without an entry are left out.
 unfoldable pub done : Bool → History → ℕ → Write → Result Taken LineFault

@@ -1,20 +1,12 @@
 -- What is written is read.
-use Rattle.std.specs.Prelude.{◌≡◌, ◌+◌, ℕ, Bool, List, Some, IsTrue, length, Ok}
-use Rattle.dk_base.specs.Reading.{Line}
+use Rattle.std.specs.Prelude.{◌≡◌, ◌+◌, ℕ, Bool, List, Some, length}
 use Rattle.dk_blocks.specs.Blocks.{groups_of}
 use Rattle.dk_blocks.specs.History.{History, effect_of}
 use Rattle.dk_blocks.specs.Reading.{after_all}
-use Rattle.dk_decl.specs.PptBlock.{ppt_of}
-use Rattle.dk_decl.specs.declared.decls.PointDecl.{PointDecl}
 use Rattle.dk_lines.specs.Left.{lines_of, numbered}
 use Rattle.dk_lines.specs.Passing.{numbered_lines}
-use Rattle.dk_points.specs.Table.{Point}
-use Rattle.dk_trace.specs.Records.{declared_place, sample_of, var_decls_at}
-use Rattle.dk_write.specs.Course.{AreReadable, IsReadable, done, done_all, sample_at}
-use Rattle.dk_write.specs.Declarations.{declaration_lines, point_line}
-use Rattle.dk_write.specs.Records.{Recorded}
+use Rattle.dk_write.specs.Course.{AreReadable, IsReadable, done, done_all}
 use Rattle.dk_write.specs.Texts.{Write, block_lines, trace_text}
-use Rattle.dk_write.specs.Writable.{IsRecordWithin, IsWithin, can_declare, can_record}
 
 -- The block of what is written does what it is meant to.
 abbrev pub BlocksAreRead : Type 0

@@ -9,6 +9,7 @@ use Rattle.dk_base.specs.declared.values.Value.TheVariants as value
 use Rattle.dk_decl.specs.Types.{is_missing}
 use Rattle.dk_decl.specs.declared.decls.PointDecl.{PointDecl}
 use Rattle.dk_decl.specs.declared.decls.VarDecl.{VarDecl}
+use Rattle.dk_trace.specs.Records.{Sample}
 use Rattle.dk_trace.specs.Values.{known_values}
 
 -- What is written of a sample: its point's declaration, a nonce if there is one, and a value for each declared variable in order.
@@ -44,3 +45,7 @@ told_values e = if e.0.constant_line then known_values e.0.constant else if is_n
 -- the values of the sample
 abbrev pub sample_values : Recorded → List Value
 sample_values r = flat_map told_values (zip r.decl.vars r.values)
+
+-- the sample of a record whose block begins at a line, at the place of its point
+abbrev pub sample_at : ℕ → ℕ → Recorded → Sample
+sample_at line p r = record { point = p; line = line; nonce = r.nonce; values = sample_values r }

@@ -61,8 +61,8 @@ fn push_all_told(
 ) -> Result<(), NoMemory>
     ensures { OnOk result (text.new ≡ text.old ++ joined (flat_map told_lines (zip vars.now (values_of values.now)))) }
 {
-    for (var, view) in vars.iter().zip(values) {
-        push_told(alloc, text, var, *view)?;
+    for i in 0..vars.len().min(values.len()) {
+        push_told(alloc, text, &vars[i], values[i])?;
     }
     Ok(())
 }

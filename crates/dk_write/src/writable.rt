@@ -51,6 +51,7 @@ fn is_known_var(var: &VarDecl, others: &[VarDecl]) -> bool
     false
 }
 
+#[tactic(auto, using(crate::proofs::Loops::twice_more, crate::proofs::Loops::twice_found))]
 fn no_edge_twice(edges: &[EdgeDecl]) -> bool
     ensures { result ≡ none_twice is_known_edge [] edges.now }
 {
@@ -62,6 +63,7 @@ fn no_edge_twice(edges: &[EdgeDecl]) -> bool
     true
 }
 
+#[tactic(auto, using(crate::proofs::Loops::twice_more, crate::proofs::Loops::twice_found))]
 fn no_var_twice(vars: &[VarDecl]) -> bool
     ensures { result ≡ none_twice is_known_var [] vars.now }
 {
@@ -202,8 +204,8 @@ fn is_told_value(alloc: Global, var: &VarDecl, view: View<'_>) -> Result<bool, N
 fn are_told_values(alloc: Global, vars: &[VarDecl], values: &[View<'_>]) -> Result<bool, NoMemory>
     ensures { IfOk result (λ are. are ≡ list_all is_told_value (zip vars.now (values_of values.now))) }
 {
-    for (var, view) in vars.iter().zip(values) {
-        if !is_told_value(alloc, var, *view)? {
+    for i in 0..vars.len().min(values.len()) {
+        if !is_told_value(alloc, &vars[i], values[i])? {
             return Ok(false);
         }
     }

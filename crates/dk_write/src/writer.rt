@@ -91,7 +91,8 @@ impl Writer {
     fn knows(&self, name: &[u8]) -> bool
         ensures { result ≡ knows name.now self.now }
     {
-        for decl in self.decls.as_slice() {
+        let decls = self.decls.as_slice();
+        for decl in decls {
             if same_bytes(decl.name.as_slice(), name) {
                 return true;
             }
