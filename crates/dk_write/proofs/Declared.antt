@@ -439,16 +439,15 @@ unfolding begins
 constants_other v = go v.constant_line
   where
     go : (there : Bool) → Others (if there then (codes "constant " ++ spelling (unwrap_or v.constant value.Missing)) ∷ [] else [])
-    unfolding begins
     go true = refl
     go false = refl
 
 counterparts_other : (es : List EdgeDecl) (ps : List ParentVar) → Others (flat_map (counterpart_lines es) ps)
+unfolding begins
 counterparts_other es [] = refl
 counterparts_other es (p ∷ ps) = others_append (counterpart_lines es p) (flat_map (counterpart_lines es) ps) (go (slice_get es p.edge)) (counterparts_other es ps)
   where
     go : (found : Option EdgeDecl) → Others (option_map_or (λ e. counterpart_line p.name e ∷ []) found [])
-    unfolding begins
     go None = refl
     go (Some e) = refl
 

@@ -239,10 +239,10 @@ unfolding is_line
 nonce_is_line = refl
 
 mark_is_line : (x : Value) → is_line (mark_text x) ≡ true
+unfolding is_line
 mark_is_line x = go (is_missing x)
   where
     go : (b : Bool) → is_line (if b then codes "2" else codes "1") ≡ true
-    unfolding is_line
     go true = refl
     go false = refl
 

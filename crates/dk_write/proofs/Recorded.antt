@@ -57,10 +57,10 @@ said (Some k) x n text h within is =
 
 value_read : (k : Option Kind) (x : Value) (n m : ℕ) → is_value_of k x ≡ true → IsValueWithin x
     → marked_value k (record { number = n; bytes = value_text x }) (record { number = m; bytes = mark_text x }) ≡ Ok (own_values k x)
+unfolding marked_value
 value_read k x n m h within = go (is_missing x) refl
   where
     there : (text mark : List ℕ) → text ≡ spelling x → mark ≡ codes "1" → marked_value k (record { number = n; bytes = text }) (record { number = m; bytes = mark }) ≡ Ok (own_values k x)
-    unfolding marked_value
     there text mark is one =
         ap (λ (b : List ℕ). marked (no_value k) (read_value k (record { number = n; bytes = text })) (record { number = m; bytes = b })) one
         ∙ said k x n text h within is
@@ -115,6 +115,7 @@ NoNonce [] = Unit {0}
 NoNonce (l ∷ ls) = is_nonce_line l ≡ false
 
 no_nonce : (vs : List VarDecl) (xs : List Value) (n : ℕ) → list_all is_told_value (zip vs xs) ≡ true → NoNonce (numbered_lines n (flat_map told_lines (zip vs xs)))
+unfolding is_nonce_line
 no_nonce [] xs n h = tt
 no_nonce (v ∷ vs) [] n h = tt
 no_nonce (v ∷ vs) (x ∷ xs) n h =
@@ -123,7 +124,6 @@ no_nonce (v ∷ vs) (x ∷ xs) n h =
   where
     go : (there : Bool) → (there || (not (is_nonce_name v) && is_value_of v.kind x)) ≡ true → list_all is_told_value (zip vs xs) ≡ true
         → NoNonce (numbered_lines n ((if there then [] else escaped v.name ∷ value_text x ∷ mark_text x ∷ []) ++ flat_map told_lines (zip vs xs)))
-    unfolding is_nonce_line
     go true here later = no_nonce vs xs n later
     go false here later = not-true (is_nonce_name v) (and_parts (not (is_nonce_name v)) (is_value_of v.kind x) here).0
 
