@@ -4,7 +4,7 @@ ghost use Rattle.std.specs.List.{zip};
 ghost use Rattle.dk_base.specs.Names.{escaped};
 ghost use Rattle.dk_base.specs.Values.{value_of, values_of};
 ghost use Rattle.dk_lines.specs.Passing.{joined};
-ghost use Rattle.dk_write.specs.Records.{nonce_lines, record_lines, told_lines};
+ghost use Rattle.dk_write.specs.Records.{Recorded, nonce_lines, record_lines, told_lines};
 
 use crate::names::push_name;
 use crate::numbers::push_number;
@@ -77,7 +77,7 @@ pub fn push_record(
     nonce: Option<i64>,
     values: &[View<'_>],
 ) -> Result<(), NoMemory>
-    ensures { let recorded = record { decl = decl.now; nonce = nonce; values = values_of values.now } in OnOk result (text.new ≡ text.old ++ joined (record_lines recorded)) }
+    ensures { let recorded : Recorded = record { decl = decl.now; nonce = nonce; values = values_of values.now } in OnOk result (text.new ≡ text.old ++ joined (record_lines recorded)) }
 {
     push_name_line(text, decl.name.as_slice())?;
     push_nonce(text, nonce)?;

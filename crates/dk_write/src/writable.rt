@@ -1,8 +1,10 @@
 // What can be written, so that it is read back.
-ghost use Rattle.std.specs.Prelude.{◌≡◌, ◌==◌, ◌&&◌, [], IfOk, length};
+ghost use Rattle.std.specs.Prelude.{◌≡◌, ◌==◌, ◌&&◌, [], IfOk, is_some, length};
 ghost use Rattle.std.specs.List.{list_all, zip};
 ghost use Rattle.dk_base.specs.Names.{escaped};
 ghost use Rattle.dk_base.specs.Values.{value_of, values_of};
+ghost use Rattle.dk_decl.specs.Headers.{first_header, header_line};
+ghost use Rattle.dk_write.specs.Records.{Recorded};
 ghost use Rattle.dk_write.specs.Names.{is_line as is_line_of, is_word as is_word_of};
 ghost use Rattle.dk_write.specs.Writable.{begins_record, can_declare, can_record, has_constant, is_known_edge, is_known_var, is_nonce_name, is_told_counterpart, is_told_edge, is_told_value, is_told_var, none_twice};
 
@@ -221,7 +223,7 @@ pub fn can_record(
     nonce: Option<i64>,
     values: &[View<'_>],
 ) -> Result<bool, NoMemory>
-    ensures { let recorded = record { decl = decl.now; nonce = nonce; values = values_of values.now } in IfOk result (λ can. can ≡ can_record recorded) }
+    ensures { let recorded : Recorded = record { decl = decl.now; nonce = nonce; values = values_of values.now } in IfOk result (λ can. can ≡ can_record recorded) }
 {
     let vars = decl.vars.as_slice();
     let spelled = escape(alloc, decl.name.as_slice())?;

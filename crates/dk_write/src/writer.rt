@@ -1,7 +1,9 @@
 // A writer of traces.
-ghost use Rattle.std.specs.Prelude.{◌≡◌, ◌<◌, ◌∷◌, [], IfOk, IsErrOf, OnOk, false, true, length, slice_get, Some};
+ghost use Rattle.std.specs.Prelude.{◌≡◌, ◌<◌, [], IfOk, IsErrOf, OnOk, false, true, length, slice_get, Some};
 ghost use Rattle.dk_base.specs.Values.{values_of};
 ghost use Rattle.dk_io.specs.Outside.{Rose};
+ghost use Rattle.dk_decl.specs.declared.decls.PointDecl.{PointDecl};
+ghost use Rattle.dk_write.specs.Records.{Recorded};
 ghost use Rattle.dk_write.specs.Texts.{block_text, Begins, Declares, Records};
 ghost use Rattle.dk_write.specs.Writable.{can_declare as can_declare_of, can_record as can_record_of};
 ghost use Rattle.dk_write.specs.Writing.{Adds, declared_with, knows};
@@ -53,6 +55,7 @@ impl From<Failed> for WriteFault {
 // The text of the header lines with which a trace begins, and a blank line.
 const HEADER: &[u8] = b"decl-version 2.0\nvar-comparability implicit\n\n";
 
+#[tactic(auto, unfolding(crate::specs::Texts::block_text))]
 fn header_text() -> &'static [u8]
     ensures { result.now ≡ block_text Begins }
 {
@@ -80,6 +83,7 @@ impl Writer {
     pub fn begin<S: Sinks>(alloc: Global, sinks: &mut S) -> Result<Writer, WriteFault>
         ensures none { IfOk result (λ writer. writer ≡ []) }
         ensures text { Adds (S.written sinks.old) (S.written sinks.new) (block_text Begins) result }
+        ensures cause { IsErrOf result WriteFault.Write → Rose (S.faults sinks.old) (S.faults sinks.new) }
     {
         write_all(sinks, Stream::Report, header_text())?;
         Ok(Writer {
@@ -101,8 +105,9 @@ impl Writer {
     }
 
     // The text of a declaration's block.
-    fn declaration(&self, decl: &PointDecl) -> Result<Text, WriteFault>
-        ensures ok { IfOk result (λ text. text ≡ block_text (Declares decl.now)) }
+    #[tactic(auto, unfolding(crate::specs::Texts::block_text))]
+    fn declaration_text(&self, decl: &PointDecl) -> Result<Text, NoMemory>
+        ensures { IfOk result (λ text. text ≡ block_text (Declares decl.now)) }
     {
         let mut text = Text::new(self.alloc);
         push_declaration(self.alloc, &mut text, decl)?;
@@ -120,6 +125,7 @@ impl Writer {
         ensures new { OnOk result (knows decl.name self.old ≡ false) }
         ensures unwritable { IsErrOf result WriteFault.Unwritable → can_declare_of decl ≡ false }
         ensures known { IsErrOf result WriteFault.Known → knows decl.name self.old ≡ true }
+        ensures cause { IsErrOf result WriteFault.Write → Rose (S.faults sinks.old) (S.faults sinks.new) }
     {
         if !can_declare(self.alloc, &decl)? {
             return Err(WriteFault::Unwritable);
@@ -127,15 +133,31 @@ impl Writer {
         if self.knows(decl.name.as_slice()) {
             return Err(WriteFault::Known);
         }
-        let text = self.declaration(&decl)?;
+        let text = self.declaration_text(&decl)?;
         let place = self.decls.len();
         self.decls.push(decl)?;
         write_all(sinks, Stream::Report, text.as_slice())?;
         Ok(place)
     }
 
+    // The text of a record's block.
+    #[tactic(auto, unfolding(crate::specs::Texts::block_text))]
+    fn record_text(
+        &self,
+        decl: &PointDecl,
+        nonce: Option<i64>,
+        values: &[View<'_>],
+    ) -> Result<Text, NoMemory>
+        ensures { let recorded : Recorded = record { decl = decl.now; nonce = nonce; values = values_of values.now } in IfOk result (λ text. text ≡ block_text (Records recorded)) }
+    {
+        let mut text = Text::new(self.alloc);
+        push_record(self.alloc, &mut text, decl, nonce, values)?;
+        text.push(b'\n')?;
+        Ok(text)
+    }
+
     /// Writes a sample record of a declared point. There is a value for each declared variable, in order. It is refused as `Unwritable` where
-    /// its lines don't tell it.
+    /// its lines don't tell it. Whether an exit has its entry is not asked.
     pub fn record<S: Sinks>(
         &self,
         sinks: &mut S,
@@ -144,14 +166,22 @@ impl Writer {
         values: &[View<'_>],
     ) -> Result<(), WriteFault>
         requires { place < length self.now }
+        ensures text { (d : PointDecl) → slice_get self.now place ≡ Some d →
+            let recorded : Recorded = record { decl = d; nonce = nonce; values = values_of values.now } in
+            Adds (S.written sinks.old) (S.written sinks.new) (block_text (Records recorded)) result }
+        ensures can { (d : PointDecl) → slice_get self.now place ≡ Some d →
+            let recorded : Recorded = record { decl = d; nonce = nonce; values = values_of values.now } in OnOk result (can_record_of recorded ≡ true) }
+        ensures unwritable { (d : PointDecl) → slice_get self.now place ≡ Some d →
+            let recorded : Recorded = record { decl = d; nonce = nonce; values = values_of values.now } in
+            IsErrOf result WriteFault.Unwritable → can_record_of recorded ≡ false }
+        ensures known { IsErrOf result WriteFault.Known → ⊥ }
+        ensures cause { IsErrOf result WriteFault.Write → Rose (S.faults sinks.old) (S.faults sinks.new) }
     {
         let decl = &self.decls.as_slice()[place];
         if !can_record(self.alloc, decl, nonce, values)? {
             return Err(WriteFault::Unwritable);
         }
-        let mut text = Text::new(self.alloc);
-        push_record(self.alloc, &mut text, decl, nonce, values)?;
-        text.push(b'\n')?;
+        let text = self.record_text(decl, nonce, values)?;
         write_all(sinks, Stream::Report, text.as_slice())?;
         Ok(())
     }
