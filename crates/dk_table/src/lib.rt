@@ -9,7 +9,11 @@ mod columns;
 mod faults;
 mod rows;
 mod run;
+mod top;
 mod values;
+mod words;
 
 pub use columns::{ColumnKind, Seen};
 pub use run::{Command, Ended, run_command};
+pub use top::{run_table, tell_usage};
+pub use words::TableArguments;
