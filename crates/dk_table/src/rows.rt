@@ -3,12 +3,14 @@ use csv::{ByteRecord, Error, ErrorKind, Reader, ReaderBuilder};
 use std::alloc::Global;
 
 /// A file's bytes, row by row.
+#[derive(Drop)]
 pub(crate) struct Rows<'a> {
     reader: Reader<&'a [u8]>,
     row: ByteRecord,
 }
 
 /// Why there is no next row.
+#[derive(Clone, Copy, Debug)]
 pub(crate) enum RowFault {
     /// The row has another number of cells than the first; its first line.
     Length(u64),

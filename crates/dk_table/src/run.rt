@@ -28,6 +28,7 @@ pub struct Command {
 }
 
 /// The columns of the tables: their names, and what was seen of their cells.
+#[derive(Drop)]
 struct Columns {
     names: List<Text>,
     seen: Vec<Seen>,

@@ -79,6 +79,15 @@ const DESCRIPTION: Description = Description {
 };
 
 impl Arguments for TableArguments {
+    ghost use Rattle.std.specs.Prelude.{refl};
+    ghost use Rattle.dk_table.specs.Asked.{meant as meant_by, table_command};
+
+    ghost command = { table_command };
+
+    ghost meant = { meant_by };
+
+    ghost is_defined = { refl };
+
     fn description() -> Description {
         DESCRIPTION
     }
