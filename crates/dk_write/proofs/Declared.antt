@@ -1,5 +1,5 @@
 -- The lines of a declaration are read as that declaration.
-use Rattle.std.proofs.Common.{◌≡◌, ◌<◌, ◌+◌, ◌^◌, ◌∙◌, ◌==◌, ◌&&◌, ◌∷◌, ◌++◌, [], ℕ, Bool, true, false, List, All, IsTrue, Option, Some, None, Result, Ok, Err, codes, zero, suc, subst, length, map, flat_map, slice_get, is_none, is_some, unwrap_or, refl, sym, ap, append-nil, append_assoc, if◌then◌else◌, arith}
+use Rattle.std.proofs.Common.{◌≡◌, ◌<◌, ◌+◌, ◌^◌, ◌∙◌, ◌==◌, ◌&&◌, ◌||◌, ◌∷◌, ◌++◌, [], ℕ, Bool, true, false, List, All, IsTrue, Option, Some, None, Result, Ok, Err, codes, zero, suc, subst, length, map, flat_map, slice_get, is_none, is_some, unwrap_or, refl, sym, ap, append-nil, append_assoc, if◌then◌else◌, arith}
 use Rattle.std.specs.Prelude.{not, IfSome}
 use Rattle.std.specs.Fmt.{decimal, signed_decimal}
 use Rattle.std.specs.List.{list_all, list_any, position, position_or_len}
@@ -61,11 +61,12 @@ numbered_append m (x ∷ xs) ys =
 each_on : {S : Type 0} (read : S → Line → Result S LineFault) (s t : S) (xs ys : List Line) → each_line read s xs ≡ Ok t
     → each_line read s (xs ++ ys) ≡ each_line read t ys
 each_on {S} read s t [] ys h = ap (λ (r : Result S LineFault). r >>= λ u. each_line read u ys) h
-each_on {S} read s t (x ∷ xs) ys h = go (read s x) h
+each_on {S} read s t (x ∷ xs) ys h = go (read s x) (λ u e. each_on read u t xs ys e) h
   where
-    go : (r : Result S LineFault) → (r >>= λ u. each_line read u xs) ≡ Ok t → (r >>= λ u. each_line read u (xs ++ ys)) ≡ each_line read t ys
-    go (Ok u) e = each_on read u t xs ys e
-    go (Err f) e = cc e
+    go : (r : Result S LineFault) → ((u : S) → each_line read u xs ≡ Ok t → each_line read u (xs ++ ys) ≡ each_line read t ys)
+        → (r >>= λ u. each_line read u xs) ≡ Ok t → (r >>= λ u. each_line read u (xs ++ ys)) ≡ each_line read t ys
+    go (Ok u) later e = later u e
+    go (Err f) later e = cc e
 
 -- ---- the point
 
@@ -109,12 +110,12 @@ same_edge e = rw ((bytes_eq-Decides e.parent e.parent).1 refl) (grind arith)
 not_known : (before more : List EdgeDecl) (d e : EdgeDecl) → is_known_edge e (before ++ d ∷ more) ≡ false → is_edge e.parent e.id d ≡ false
 not_known [] more d e h = go (is_edge e.parent e.id d) h
   where
-    go : (b : Bool) → (if b then true else list_any (is_edge e.parent e.id) more) ≡ false → b ≡ false
+    go : (b : Bool) → (b || list_any (is_edge e.parent e.id) more) ≡ false → b ≡ false
     go true h = h
     go false h = refl
 not_known (b ∷ before) more d e h = not_known before more d e (go (is_edge e.parent e.id b) h)
   where
-    go : (x : Bool) → (if x then true else list_any (is_edge e.parent e.id) (before ++ d ∷ more)) ≡ false → list_any (is_edge e.parent e.id) (before ++ d ∷ more) ≡ false
+    go : (x : Bool) → (x || list_any (is_edge e.parent e.id) (before ++ d ∷ more)) ≡ false → list_any (is_edge e.parent e.id) (before ++ d ∷ more) ≡ false
     go true h = absurd (false≢true (sym h))
     go false h = h
 
@@ -276,23 +277,21 @@ counterparts_read : (es : List EdgeDecl) → EdgesTold es → (ps : List ParentV
 counterparts_read es told [] o m h = ap (λ (ps : List ParentVar). Ok (record o { parents = ps })) (sym (append-nil o.parents))
 counterparts_read es told (p ∷ ps) o m h =
     let both = and_parts (is_told_counterpart es p) (list_all (is_told_counterpart es) ps) h in
-    go (slice_get es p.edge) refl both.0 both.1
+    go (slice_get es p.edge) refl both.0 (λ next n. counterparts_read es told ps next n both.1)
   where
-    rest : List (List ℕ)
-    rest = flat_map (counterpart_lines es) ps
-
     step : (e : EdgeDecl) → slice_get es p.edge ≡ Some e → is_word (escaped p.name) ≡ true
         → var_line true es o (record { number = m; bytes = counterpart_line p.name e }) ≡ Ok (record o { parents = o.parents ++ p ∷ [] })
     step e at word =
         counterpart_step es o m p e word (from_at (λ d. is_told_edge d ≡ true) es p.edge e (all_of is_told_edge es told.told) at)
         (from_at (λ d. d.id < 2 ^ 32) es p.edge e told.ids at) (edge_found es p.edge e told.new at)
 
-    go : (found : Option EdgeDecl) → slice_get es p.edge ≡ found → not (is_none found) && is_word (escaped p.name) ≡ true → list_all (is_told_counterpart es) ps ≡ true
+    go : (found : Option EdgeDecl) → slice_get es p.edge ≡ found → (not (is_none found) && is_word (escaped p.name)) ≡ true
+        → ((next : OpenVar) (n : ℕ) → each_line (var_line true es) next (numbered_lines n (flat_map (counterpart_lines es) ps)) ≡ Ok (record next { parents = next.parents ++ ps }))
         → each_line (var_line true es) o (numbered_lines m (option_map_or (λ e. counterpart_line p.name e ∷ []) found [] ++ flat_map (counterpart_lines es) ps)) ≡ Ok (record o { parents = o.parents ++ p ∷ ps })
     go None at here later = absurd (false≢true here)
     go (Some e) at here later =
         ap (λ (r : Result OpenVar LineFault). r >>= λ next. each_line (var_line true es) next (numbered_lines (m + 1) (flat_map (counterpart_lines es) ps))) (step e at here)
-        ∙ counterparts_read es told ps (record o { parents = o.parents ++ p ∷ [] }) (m + 1) later
+        ∙ later (record o { parents = o.parents ++ p ∷ [] }) (m + 1)
         ∙ ap (λ (all : List ParentVar). Ok (record o { parents = all })) (append_assoc o.parents (p ∷ []) ps)
 
 -- ---- constants

@@ -1,5 +1,5 @@
 -- Steps of the loops that write and test.
-use Rattle.std.proofs.Common.{◌≡◌, ◌<◌, ◌+◌, ◌∙◌, ◌&&◌, ◌∷◌, ◌++◌, [], ℕ, zero, suc, Bool, true, false, List, drop, flat_map, get_or, length, map, min, take, refl, sym, ap, append-nil, append_assoc, arith}
+use Rattle.std.proofs.Common.{length-map, ◌≡◌, ◌<◌, ◌+◌, ◌∙◌, ◌&&◌, ◌∷◌, ◌++◌, [], ℕ, zero, suc, Bool, true, false, List, drop, flat_map, get_or, length, map, min, take, refl, sym, ap, append-nil, append_assoc, arith}
 use Rattle.std.specs.Prelude.{not}
 use Rattle.std.specs.List.{zip}
 use Rattle.std.proofs.lemmas.Grind.{flat_map-append}
@@ -64,3 +64,13 @@ zip_at f [] ys i x y d lt more = absurd (omega arith)
 zip_at f (a ∷ xs) [] i x y d lt more = absurd (omega arith)
 zip_at f (a ∷ xs) (b ∷ ys) zero x y d lt more = refl
 zip_at f (a ∷ xs) (b ∷ ys) (suc i) x y d lt more = zip_at f xs ys i x y d (omega arith) (omega arith)
+
+-- a text with the lines of one more pair
+pub pair_more : {A B C : Type 0} (f : B → C) (lines : A × C → List (List ℕ)) (xs : List A) (ys : List B) (i : ℕ) (x : A) (y : B) (start text next : List ℕ)
+    → i < length xs → i < length ys → x ≡ get_or xs i x → y ≡ get_or ys i y
+    → text ≡ start ++ joined (flat_map lines (take i (zip xs (map f ys)))) → next ≡ text ++ joined (lines (x, f y))
+    → next ≡ start ++ joined (flat_map lines (take (i + 1) (zip xs (map f ys))))
+pair_more {A} {B} {C} f lines xs ys i x y start text next lt more first second so_far step =
+    let pair : A × C = (x, f y) in
+    let is : pair ≡ get_or (zip xs (map f ys)) i pair = (λ k. (first k, f (second k))) ∙ sym (zip_at f xs ys i x y pair lt more) in
+    lines_more lines (zip xs (map f ys)) i pair start text next (omega (arith, zip_length xs (map f ys), length-map f ys)) is so_far step

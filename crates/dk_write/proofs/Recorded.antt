@@ -94,18 +94,18 @@ values_read [] (x ∷ xs) n close same h within = absurd (omega arith)
 values_read (v ∷ vs) [] n close same h within = absurd (omega arith)
 values_read (v ∷ vs) (x ∷ xs) n close same h within =
     let both = and_parts (is_told_value (v, x)) (list_all is_told_value (zip vs xs)) h in
-    go v.constant_line both.0 both.1
+    go v.constant_line both.0 (λ m. values_read vs xs m close (omega arith) both.1 (All-tail IsValueWithin x xs within))
   where
-    go : (there : Bool) → (there || (not (is_nonce_name v) && is_value_of v.kind x)) ≡ true → list_all is_told_value (zip vs xs) ≡ true
+    go : (there : Bool) → (there || (not (is_nonce_name v) && is_value_of v.kind x)) ≡ true
+        → ((m : ℕ) → record_values vs (numbered_lines m (flat_map told_lines (zip vs xs))) close ≡ Ok (flat_map told_values (zip vs xs)))
         → (if there then then_values (known_values v.constant) (record_values vs (numbered_lines n ((if there then [] else escaped v.name ∷ value_text x ∷ mark_text x ∷ []) ++ flat_map told_lines (zip vs xs))) close)
         else from_name v (record_values vs) (numbered_lines n ((if there then [] else escaped v.name ∷ value_text x ∷ mark_text x ∷ []) ++ flat_map told_lines (zip vs xs))) close)
         ≡ Ok ((if there then known_values v.constant else own_values v.kind x) ++ flat_map told_values (zip vs xs))
-    go true here later =
-        ap (then_values (known_values v.constant)) (values_read vs xs n close (omega arith) later (All-tail IsValueWithin x xs within))
+    go true here later = ap (then_values (known_values v.constant)) (later n)
     go false here later =
         let value = and_parts (not (is_nonce_name v)) (is_value_of v.kind x) here in
         told_read v x (record_values vs) n (numbered_lines (n + 1 + 1 + 1) (flat_map told_lines (zip vs xs))) close value.1 (All-head IsValueWithin x xs within)
-        ∙ ap (then_values (own_values v.kind x)) (values_read vs xs (n + 1 + 1 + 1) close (omega arith) later (All-tail IsValueWithin x xs within))
+        ∙ ap (then_values (own_values v.kind x)) (later (n + 1 + 1 + 1))
 
 -- ---- the lines behind the first
 
@@ -120,11 +120,11 @@ no_nonce [] xs n h = tt
 no_nonce (v ∷ vs) [] n h = tt
 no_nonce (v ∷ vs) (x ∷ xs) n h =
     let both = and_parts (is_told_value (v, x)) (list_all is_told_value (zip vs xs)) h in
-    go v.constant_line both.0 both.1
+    go v.constant_line both.0 (no_nonce vs xs n both.1)
   where
-    go : (there : Bool) → (there || (not (is_nonce_name v) && is_value_of v.kind x)) ≡ true → list_all is_told_value (zip vs xs) ≡ true
+    go : (there : Bool) → (there || (not (is_nonce_name v) && is_value_of v.kind x)) ≡ true → NoNonce (numbered_lines n (flat_map told_lines (zip vs xs)))
         → NoNonce (numbered_lines n ((if there then [] else escaped v.name ∷ value_text x ∷ mark_text x ∷ []) ++ flat_map told_lines (zip vs xs)))
-    go true here later = no_nonce vs xs n later
+    go true here later = later
     go false here later = not-true (is_nonce_name v) (and_parts (not (is_nonce_name v)) (is_value_of v.kind x) here).0
 
 body_plain : (vs : List VarDecl) (ls : List Line) (close : Option ℕ) → NoNonce ls → body_of vs ls close ≡ body_with None (record_values vs ls close)

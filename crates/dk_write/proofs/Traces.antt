@@ -93,13 +93,15 @@ traces_from ignores n h (w ∷ ws) readable =
     ∙ ap (after_all ignores (effect_of ignores h)) (grouped_block n (block_lines w) (lines_of (trace_text ws)) tidy)
     ∙ ap (λ (r : Result Taken LineFault). r >>= λ t. after_all ignores (effect_of ignores t.history) (groups_of (numbered behind (lines_of (trace_text ws)))))
     (blocks_read ignores h (n + 1) w readable.0)
-    ∙ go (done ignores h (n + 1) w) readable.1
+    ∙ go (done ignores h (n + 1) w) readable.1 (λ next later. traces_from ignores behind next ws later)
   where
     go : (r : Result Taken LineFault) → IfOk r (λ t. AreReadable ignores t.history (line_behind (n + 1) w) ws)
+        → ((next : History) → AreReadable ignores next (line_behind (n + 1) w) ws
+        → after_all ignores (effect_of ignores next) (groups_of (numbered (n + 1 + length (block_lines w)) (lines_of (trace_text ws)))) ≡ done_all ignores next (line_behind (n + 1) w) ws)
         → (r >>= λ t. after_all ignores (effect_of ignores t.history) (groups_of (numbered (n + 1 + length (block_lines w)) (lines_of (trace_text ws)))))
         ≡ (r >>= λ t. done_all ignores t.history (line_behind (n + 1) w) ws)
-    go (Ok t) later = traces_from ignores (n + 1 + length (block_lines w)) t.history ws later
-    go (Err fault) later = refl
+    go (Ok t) readable later = later t.history readable
+    go (Err fault) readable later = refl
 
 pub traces_read : TracesAreRead
 traces_read ignores h ws readable = traces_from ignores 0 h ws readable
