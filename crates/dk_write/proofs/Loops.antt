@@ -1,9 +1,9 @@
 -- Steps of the loops that write and test.
-use Rattle.std.proofs.Common.{length-map, ◌≡◌, ◌<◌, ◌+◌, ◌∙◌, ◌&&◌, ◌∷◌, ◌++◌, [], ℕ, zero, suc, Bool, true, false, List, drop, flat_map, get_or, length, map, min, take, refl, sym, ap, append-nil, append_assoc, arith}
+use Rattle.std.proofs.Common.{◌≡◌, ◌<◌, ◌+◌, ◌∙◌, ◌&&◌, ◌∷◌, ◌++◌, [], ℕ, zero, suc, Bool, true, false, List, drop, flat_map, get_or, length, map, min, take, refl, sym, ap, append-nil, append_assoc, arith}
 use Rattle.std.specs.Prelude.{not}
 use Rattle.std.specs.List.{zip}
 use Rattle.std.proofs.lemmas.Grind.{flat_map-append}
-use Rattle.std.proofs.lemmas.List.{drop_more, take_more}
+use Rattle.std.proofs.lemmas.List.{drop_more, length-map, take_more}
 use Rattle.dk_lines.specs.Passing.{joined}
 use Rattle.dk_write.specs.Writable.{none_twice}
 
@@ -73,4 +73,4 @@ pub pair_more : {A B C : Type 0} (f : B → C) (lines : A × C → List (List �
 pair_more {A} {B} {C} f lines xs ys i x y start text next lt more first second so_far step =
     let pair : A × C = (x, f y) in
     let is : pair ≡ get_or (zip xs (map f ys)) i pair = (λ k. (first k, f (second k))) ∙ sym (zip_at f xs ys i x y pair lt more) in
-    lines_more lines (zip xs (map f ys)) i pair start text next (omega (arith, zip_length xs (map f ys), length-map f ys)) is so_far step
+    lines_more lines (zip xs (map f ys)) i pair start text next (omega (arith, zip_length xs (map f ys), length-map ys f)) is so_far step
