@@ -91,12 +91,3 @@ spelling_read bytes spelling =
 -- bytes behind which a history is read on are a spelling
 pub read_spelled : (bytes : List ℕ) (h : History) → IsReadFrom bytes h → IsSpelling bytes
 read_spelled bytes h from = record { content = from.content; meets = from.meets; text = from.text }
-
--- the state file of a start is one
-pub spelled_start : (h : History) → IsStart h → IsSpelling (state_file h)
-unfolding state_file
-spelled_start h start = record {
-  content = content_of h.grammar h.table (is_implicit h.header) h.samples;
-  meets = history_meets h.grammar h.table (is_implicit h.header) h.samples start.saved;
-  text = content_text h.grammar h.table (is_implicit h.header) h.samples;
-}

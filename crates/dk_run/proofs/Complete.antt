@@ -155,13 +155,13 @@ same_why a b xs (inr (is, short, bad)) (inr (same, more, worse)) = is ∙ sym sa
 done_of : (command : Command) (before after : Outside) (output : Output) → IsDone command before after output → OutputIsWritten before after output → IsComplete command before after Done
 done_of command before after output comes written = record {
   done = λ start begins contents held none. inl (
-      refl,
-      (
-        output,
-        record { messages = comes.messages ∙ sym (clean_messages start command (map ended_file contents) none); whole = λ begun. comes.defined start begun contents held },
-        written.0,
-      ),
-    );
+    refl,
+    (
+      output,
+      record { messages = comes.messages ∙ sym (clean_messages start command (map ended_file contents) none); whole = λ begun. comes.defined start begun contents held },
+      written.0,
+    ),
+  );
   refused = λ start begins n contents fault held first. elim (cases_lt n (length (helds_of command before.file))) [
     | inl below ↦ absurd (not_clean start command.ignore_missing_entry (helds_of command before.file) (length (helds_of command before.file)) n contents fault (comes.read.clean start begins) held first (omega arith))
     | inr above ↦
