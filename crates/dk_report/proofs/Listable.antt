@@ -22,7 +22,8 @@ use Rattle.dk_report.specs.Asked.{here_of, listed_candidates_by, views_of}
 use Rattle.dk_report.specs.Keeping.{keeps}
 use Rattle.dk_report.specs.Listing.{is_listed, listed_candidates}
 use Rattle.dk_report.specs.Narrowing.{vars_left, candidates_left}
-use Rattle.dk_report.specs.Sweeps.{behind, over_takes, seconds, suited_vars, thirds}
+use Rattle.dk_engine.specs.Suited.{suited_vars}
+use Rattle.dk_report.specs.Sweeps.{behind, over_takes, seconds, thirds}
 use Rattle.dk_report.specs.declared.asking.Asking.{Asking}
 use Rattle.dk_report.specs.declared.options.Options.{Options}
 use Rattle.dk_report.specs.declared.sweeping.Standing.{Standing}

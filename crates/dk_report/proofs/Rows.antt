@@ -17,7 +17,8 @@ use Rattle.dk_template.specs.declared.templates.Takes.TheVariants.{One, Two, Thr
 use Rattle.dk_report.proofs.FlatMaps.{flat_map-filter, flat_map-same, over_one, over_three, over_two}
 use Rattle.dk_report.proofs.Passing.{no-equality, passed, unadmitted}
 use Rattle.dk_report.specs.Listing.{is_equality, listed_candidates, listed_candidates_of_row, may_stand}
-use Rattle.dk_report.specs.Sweeps.{behind, firsts, over_takes, pairs, seconds, suited_vars, thirds, triples}
+use Rattle.dk_engine.specs.Suited.{suited_vars}
+use Rattle.dk_report.specs.Sweeps.{behind, firsts, over_takes, pairs, seconds, thirds, triples}
 use Rattle.dk_report.specs.declared.options.Options.{Options}
 
 flat_map-none : {A B : Type 0} (f : A → List B) → ((x : A) → f x ≡ []) → (xs : List A) → flat_map f xs ≡ []

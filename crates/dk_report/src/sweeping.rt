@@ -1,52 +1,22 @@
 // The candidates of a point, row by row over all tuples of variables that may stand in what is kept.
 ghost use Rattle.std.specs.Prelude.{◌≡◌, ◌≤◌, ◌^◌, ◌<◌, ◌++◌, IfOk, length, slice_get};
 ghost use Rattle.dk_fits.specs.Instances.{all_vars};
+ghost use Rattle.dk_engine.specs.Suited.{suited_vars};
 ghost use Rattle.dk_filters.specs.Candidates.{candidates_kept, candidates_of};
 ghost use Rattle.dk_filters.specs.Found.{first_in, one_value_in};
 ghost use Rattle.dk_report.specs.Keeping.{keeps};
 ghost use Rattle.dk_report.specs.Asked.{AreStanding, CanBeAsked, candidates_over, here_of, listed_candidates_by, standing_vars, vars_for_row, views_of};
 ghost use Rattle.dk_report.specs.Listing.{is_equality, may_stand};
-ghost use Rattle.dk_report.specs.Sweeps.{behind, firsts, over_takes, pairs, seconds, suited_vars, thirds, triples};
-ghost use Rattle.dk_template.specs.Admitted.{suits};
+ghost use Rattle.dk_report.specs.Sweeps.{behind, firsts, over_takes, pairs, seconds, thirds, triples};
 ghost use Rattle.dk_template.specs.Templates.{IsRow, IsRowOf};
 
 use crate::Options;
 use crate::asking::Asking;
-use dk_base::{Form, List, NoMemory, VarId, VarInfo};
+use dk_base::{List, NoMemory, VarId, VarInfo};
+use dk_engine::suited_vars;
 use dk_filters::{Candidate, PointFacts};
 use dk_template::{Answers, Role, RowId, Takes, info, template_at};
 use std::alloc::Global;
-
-// Whether the variable is there, is of the role's kind, and is a base one where the role takes base ones alone.
-fn suits(role: Role, infos: &[VarInfo], v: VarId) -> bool
-    ensures { result ≡ suits role (slice_get infos.now v.0) }
-{
-    match infos.get(v.0 as usize) {
-        Some(info) => {
-            info.kind == role.kind()
-                && (!role.is_base() || matches!(info.form, Form::Declared | Form::Orig))
-        }
-        None => false,
-    }
-}
-
-// Those of the variables that suit a role.
-fn suited_vars(
-    alloc: Global,
-    role: Role,
-    infos: &[VarInfo],
-    of: &[VarId],
-) -> Result<List<VarId>, NoMemory>
-    ensures { IfOk result (λ list. list ≡ suited_vars role infos.now of.now) }
-{
-    let mut list = List::new(alloc);
-    for v in of {
-        if suits(role, infos, *v) {
-            list.push(*v)?;
-        }
-    }
-    Ok(list)
-}
 
 /// Whether the row says that two variables are the same.
 pub(crate) fn is_equality(row: RowId) -> bool
