@@ -333,7 +333,8 @@ impl<'e> Counted<'e> {
         }
         let mut count: u64 = 0;
         for place in 0..ways.len() {
-            count = count.saturating_add(indexed_through(&indexes[place], &ways[place], vars)?);
+            let more = indexed_through(&indexes[place], &ways[place], vars)?;
+            count = count.saturating_add(more);
         }
         Some(count)
     }
