@@ -1,0 +1,8 @@
+-- cited by public clauses
+pub mod Lines
+pub mod Laws
+-- what those are made of
+pub mod Rows
+pub mod States
+pub mod Texts
+pub mod Trees

@@ -1,0 +1,11 @@
+//! Lines of a report as lines of JSON, one object each.
+#![tactic(auto)]
+
+mod fields;
+pub mod laws;
+mod lines;
+mod rows;
+mod states;
+mod texts;
+
+pub use lines::{Claimed, Instance, line};
