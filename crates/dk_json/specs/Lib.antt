@@ -1,6 +1,5 @@
 -- cited by public clauses
 pub mod Lines
-pub mod Laws
 -- what those are made of
 pub mod Rows
 pub mod States

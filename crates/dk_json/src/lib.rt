@@ -2,10 +2,11 @@
 #![tactic(auto)]
 
 mod fields;
-pub mod laws;
 mod lines;
 mod rows;
 mod states;
+#[cfg(test)]
+mod tests;
 mod texts;
 
 pub use lines::{Claimed, Instance, line};

@@ -1,5 +1,6 @@
 // A line of a report as an object.
-ghost use Rattle.std.specs.Prelude.{◌≡◌, ◌∷◌, IfOk, OnOk, None, flat_map, slice_get};
+ghost use Rattle.std.specs.Prelude.{◌≡◌, ◌∷◌, IfOk, OnOk, None, Some, flat_map, slice_get};
+ghost use Rattle.json.specs.Json.{document};
 ghost use Rattle.json.specs.Token.{begin_object};
 ghost use Rattle.json.specs.Tree.{json_tokens};
 ghost use Rattle.dk_json.specs.Lines.{claimed_fields, instance_fields, line_json, name_in, names_json, said_fields, written};
@@ -118,13 +119,14 @@ fn push_said(writer: &mut Writer, said: Option<Instance<'_>>) -> Result<(), NoMe
 
 /// A line of a report as an object of JSON, with the keys `point`, `text`, `samples`, `row`, `variables` and `state`, in this order and
 /// without blanks (RFC 8259). `said` is the instance that has the text; where none has it, `row` is null. `state` has the parameters of the
-/// state by their names. A text that is no UTF-8 is the list of its bytes.
+/// state by their names. A text that is no UTF-8 is the list of its bytes. What a reader of JSON reads of it is exactly this value.
 pub fn line(
     alloc: Global,
     claimed: Claimed<'_>,
     said: Option<Instance<'_>>,
 ) -> Result<Vec<u8>, NoMemory>
-    ensures { IfOk result (λ bytes. bytes.items ≡ written (line_json claimed.entry said.entry)) }
+    ensures text { IfOk result (λ bytes. bytes.items ≡ written (line_json claimed.entry said.entry)) }
+    ensures reads_back { IfOk result (λ bytes. document bytes.items ≡ Some (line_json claimed.entry said.entry)) }
 {
     let mut writer = Writer::new(Vec::new(alloc));
     push_claimed(&mut writer, claimed)?;

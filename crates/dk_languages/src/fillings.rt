@@ -34,7 +34,8 @@ pub(crate) fn push_filled(
 ) -> Result<(), NoMemory>
     ensures { OnOk result (text.new ≡ text.old ++ filled fillings.now template.now) }
 {
-    for letter in template.as_bytes() {
+    let letters = template.as_bytes();
+    for letter in letters {
         push_letter(text, fillings, *letter)?;
     }
     Ok(())

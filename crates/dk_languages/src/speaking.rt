@@ -120,7 +120,7 @@ fn form_fillings(
 }
 
 /// The variable in the language.
-pub(crate) fn spoken(
+pub(crate) fn spoken_of(
     alloc: Global,
     language: Language,
     infos: &[VarInfo],

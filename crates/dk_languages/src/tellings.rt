@@ -9,7 +9,7 @@ use crate::fillings::{Filling, fill, push_filled};
 use crate::literals::{Literal, can_say};
 use crate::numbers::{number_in, push_number};
 use crate::rows::{row_in, separator_in, value_in};
-use crate::speaking::{Spoken, is_spoken, spoken};
+use crate::speaking::{Spoken, is_spoken, spoken_of};
 use crate::{Base, Language};
 use dk_base::{List, NoMemory, Text, VarId, VarInfo};
 use dk_template::{RowId, State};
@@ -295,7 +295,7 @@ fn roles_of(
 {
     let mut roles = List::new(alloc);
     for var in vars {
-        roles.push(spoken(alloc, language, infos, bases, *var)?)?;
+        roles.push(spoken_of(alloc, language, infos, bases, *var)?)?;
     }
     Ok(roles)
 }
