@@ -42,7 +42,8 @@ class Browser:
     def start(self, program: str, told: int, telling: int) -> int:
         """Starts the program, which hears at 3 and answers at 4; its number."""
         words = [program, "--headless", "--remote-debugging-pipe", f"--user-data-dir={self.room}", "--no-first-run", "--disable-gpu",
-                 "--disable-background-networking", "--disable-component-update", "--disable-dev-shm-usage", "--hide-scrollbars", "about:blank"]
+                 "--disable-background-networking", "--disable-component-update", "--disable-dev-shm-usage", "--hide-scrollbars",
+                 "about:blank"]
         if os.geteuid() == 0:
             words.insert(1, "--no-sandbox")
         # neither end may lie at 3 or 4 before it is laid there
