@@ -113,7 +113,7 @@ class Page:
     """A page in a window of its own, of this size, with or without JavaScript."""
 
     def __init__(self, browser: Browser, width: int, height: int, has_script: bool = True) -> None:
-        self.browser, self.has_script = browser, has_script
+        self.browser, self.width, self.has_script = browser, width, has_script
         self.target: str = browser.call("Target.createTarget", url="about:blank")["targetId"]
         self.session: str = browser.call("Target.attachToTarget", targetId=self.target, flatten=True)["sessionId"]
         for domain in ("Page", "Network", "Log", "Runtime", "Performance"):
