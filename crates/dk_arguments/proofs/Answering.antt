@@ -1,6 +1,5 @@
 -- What the answers of `clap` say of the given words.
-use Rattle.std.proofs.Common.{◌≡◌, ◌∙◌, ◌⊎◌, ap, sym, inl, inr, Bool, true, false, List, [], Option, Some, None, Result, Ok, Err, IfOk, subst}
-use Rattle.std.specs.Prelude.{option_map}
+use Rattle.std.proofs.Common.{◌≡◌, ◌∙◌, ◌⊎◌, ap, sym, inl, inr, List, [], Option, Some, None, Result, Ok, Err, IfOk, subst}
 use Rattle.std.specs.Result.{IsErrOf}
 use Rattle.clap.specs.Words.{IsAmong, Kinds, Row}
 use Rattle.clap.specs.declared.error.kind.ErrorKind.{ErrorKind}

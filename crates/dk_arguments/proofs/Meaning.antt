@@ -1,14 +1,13 @@
 -- What a run that is asked for says of the words.
 use Rattle.std.proofs.Common.{◌≡◌, ◌∷◌, [], Bool, true, false, List, Option, Some, None, refl}
 use Rattle.std.specs.Prelude.{option_map, if◌then◌else◌}
-use Rattle.clap.specs.Words.{Kinds, Row, Text}
+use Rattle.clap.specs.Words.{Kinds, Row}
 use Rattle.clap.specs.declared.error.kind.ErrorKind.{ErrorKind}
 use Rattle.clap.specs.declared.error.kind.ErrorKind.TheVariants as kind
 use Rattle.dk_arguments.specs.Commands.{faults_of, rows_of}
 use Rattle.dk_arguments.specs.Descriptions.{Command}
-use Rattle.dk_arguments.specs.Laws.{IsMeant, RunsAreMeant}
-use Rattle.dk_arguments.specs.Requests.{are_among, request_by, request_for, request_of, run_by}
-use Rattle.dk_arguments.specs.declared.request.Request.{Request}
+use Rattle.dk_arguments.specs.Laws.{RunsAreMeant}
+use Rattle.dk_arguments.specs.Requests.{are_among, request_by, request_for, request_of}
 use Rattle.dk_arguments.specs.declared.request.Request.TheVariants.{Run}
 
 -- no fault asks for a run

@@ -1,5 +1,5 @@
 -- Commands as `clap` knows them: what they find faulty, and what they make of given words.
-use Rattle.std.specs.Prelude.{◌∷◌, [], Bool, List, Some, map, true}
+use Rattle.std.specs.Prelude.{◌∷◌, Bool, List, Some, map, true}
 use Rattle.clap.specs.Words.{App, Kinds, Row, Rule, Text, fault_of, is_simple_and_free, matches_of, new_app, new_rule}
 use Rattle.clap.specs.declared.builder.action.ArgAction.TheVariants.{Append, Set, SetTrue}
 use Rattle.clap.specs.declared.builder.value_parser.ValueParser.TheVariants as parser

@@ -1,4 +1,4 @@
-use Rattle.std.proofs.Common.{◌≡◌, ◌<◌, ◌∙◌, ap, arith, sym, false, [], ℕ, List, length, map, get_or}
+use Rattle.std.proofs.Common.{◌<◌, ◌∙◌, ap, arith, sym, [], length, map}
 use Rattle.std.proofs.lemmas.List.{get_or-map, length-map}
 use Rattle.std.proofs.lemmas.List.Folds.{list_all_at}
 use Rattle.dk_arguments.specs.Descriptions.{Argument, argument_of, flag}

@@ -1,4 +1,4 @@
-use Rattle.std.proofs.Common.{◌≡◌, ◌<◌, ◌∙◌, ap, arith, sym, true, [], ℕ, List, length, map, get_or, Bor}
+use Rattle.std.proofs.Common.{◌<◌, ◌∙◌, ap, arith, sym, [], ℕ, List, length, map, Bor}
 use Rattle.std.proofs.lemmas.List.{get_or-map, length-map}
 use Rattle.std.proofs.lemmas.List.Folds.{list_any_at}
 use Rattle.std.specs.Str.{bytes_eq}

@@ -1,4 +1,4 @@
-use Rattle.std.proofs.Common.{◌≡◌, ◌≤◌, ◌<◌, ◌∙◌, ap, arith, List, length, map}
+use Rattle.std.proofs.Common.{◌≤◌, ◌<◌, ◌∙◌, ap, arith, List, length, map}
 use Rattle.std.proofs.lemmas.List.{take_all}
 use Rattle.dk_arguments.specs.Commands.{app_with, rule_for}
 use Rattle.dk_arguments.specs.Descriptions.{argument_of}

@@ -1,4 +1,4 @@
-use Rattle.std.proofs.Common.{ap, ◌∙◌, ◌≡◌, ◌∷◌, List, map, string_bytes, subst, sym, true}
+use Rattle.std.proofs.Common.{ap, ◌∙◌, ◌≡◌, List, map, string_bytes, subst}
 use Rattle.clap.specs.Words.{Text, fault_of, matches_of}
 use Rattle.dk_arguments.specs.Commands.{app_of_command, faults_of, is_simple, named, rows_of}
 use Rattle.dk_arguments.specs.Descriptions.{Command, described}

@@ -1,5 +1,5 @@
-use Rattle.std.proofs.Common.{ap, ◌∙◌, ◌≡◌, sym, true, subst, List, map}
-use Rattle.clap.specs.Words.{App, HasKind, Kinds, Row, Text, app_of, fault_of, is_simple as is_simple_app, is_simple_and_free, kind_of, matches_of}
+use Rattle.std.proofs.Common.{ap, ◌∙◌, sym, subst, List, map}
+use Rattle.clap.specs.Words.{App, HasKind, Text, fault_of, is_simple as is_simple_app, is_simple_and_free, kind_of, matches_of}
 use Rattle.clap.proofs.WalkLemmas.{both}
 use Rattle.dk_arguments.specs.Commands.{app_of_command}
 use Rattle.dk_arguments.specs.Descriptions.{described}

@@ -1,14 +1,13 @@
 -- What words ask of the command of the examples, computed from the definitions.
-use Rattle.std.proofs.Common.{◌≡◌, ◌∷◌, [], List, Some, None, codes, refl}
+use Rattle.std.proofs.Common.{◌≡◌, ◌∷◌, [], Some, None, codes, refl}
 use Rattle.clap.proofs.OnLiterals.{clap_on_literals}
-use Rattle.clap.specs.Words.{Row}
 use Rattle.clap.specs.declared.error.kind.ErrorKind.TheVariants as kind
 use Rattle.dk_base.specs.Numbers.{natural_of}
-use Rattle.dk_arguments.specs.Commands.{app_of_command, faults_of, rows_of}
+use Rattle.dk_arguments.specs.Commands.{faults_of, rows_of}
 use Rattle.dk_arguments.specs.Examples.{example}
 use Rattle.dk_arguments.specs.Given.{number_at, texts_at}
 use Rattle.dk_arguments.specs.Requests.{request_of}
-use Rattle.dk_arguments.specs.declared.request.Request.TheVariants.{Run, Help, Version}
+use Rattle.dk_arguments.specs.declared.request.Request.TheVariants.{Run, Help}
 
 -- options may stand between files, and a number may have a plus and zeros in front
 files : texts_at (codes "file") (rows_of example (codes "a" ∷ codes "t" ∷ codes "--every" ∷ codes "+020" ∷ codes "u" ∷ codes "t" ∷ [])) ≡ codes "t" ∷ codes "u" ∷ codes "t" ∷ []
