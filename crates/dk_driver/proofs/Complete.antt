@@ -50,7 +50,7 @@ held_there (n ∷ ns) [] k held h = absurd (cc (held))
 held_there (n ∷ ns) (c ∷ cs) zero held h = (c, cc (held))
 held_there (n ∷ ns) (c ∷ cs) (suc k) held h = held_there ns cs k (cc (held)) (omega arith)
 
-front_held : (helds : List HeldFile) (n k : ℕ) → k < n → held_file_at (take n helds) k ≡ held_file_at helds k
+pub front_held : (helds : List HeldFile) (n k : ℕ) → k < n → held_file_at (take n helds) k ≡ held_file_at helds k
 front_held helds zero k h = absurd (omega arith)
 front_held [] (suc n) k h = refl
 front_held (x ∷ xs) (suc n) zero h = refl
