@@ -1,0 +1,7 @@
+pub mod Words
+pub mod Loops
+pub mod Declared
+pub mod Recorded
+pub mod Lines
+pub mod Blocks
+pub mod Traces
