@@ -5,3 +5,4 @@ pub mod Recorded
 pub mod Lines
 pub mod Blocks
 pub mod Traces
+pub mod Written

@@ -1,5 +1,5 @@
 -- What the blocks of a trace do, one after another.
-use Rattle.std.specs.Prelude.{◌≡◌, ◌+◌, ℕ, Bool, false, List, [], ◌∷◌, ⊤, length, IfOk, IsTrue, Some, Result, Ok}
+use Rattle.std.specs.Prelude.{◌≡◌, ◌+◌, ℕ, Bool, false, List, [], ◌∷◌, ◌++◌, ⊤, Contains, length, IfOk, IsTrue, Some, Result, Ok}
 use Rattle.dk_base.specs.Reading.{LineFault, ◌>>=◌}
 use Rattle.dk_base.specs.declared.why.Why.TheVariants.{UnknownPoint}
 use Rattle.dk_decl.specs.Headers.{awaits_word, first_header}
@@ -44,3 +44,11 @@ abbrev pub AreReadable : Bool → History → ℕ → List Write → Type 0
 AreReadable ignores h line [] = ⊤
 AreReadable ignores h line (w ∷ ws) =
     IsReadable h w × IfOk (done ignores h line w) (λ t. AreReadable ignores t.history (line_behind line w) ws)
+
+-- What a writer writes behind the header lines, where it has declared these points: declarations that their lines tell, and of declared points
+-- records that theirs tell.
+abbrev pub AreWritten : List PointDecl → List Write → Type 0
+AreWritten ds [] = ⊤
+AreWritten ds (Begins ∷ ws) = ⊥
+AreWritten ds (Declares d ∷ ws) = IsTrue (can_declare d) × IsWithin d × AreWritten (ds ++ d ∷ []) ws
+AreWritten ds (Records r ∷ ws) = Contains ds r.decl × IsTrue (can_record r) × IsRecordWithin r × AreWritten ds ws

@@ -1,12 +1,13 @@
 -- What is written is read.
-use Rattle.std.specs.Prelude.{◌≡◌, ◌+◌, ℕ, Bool, List, Some, length}
+use Rattle.std.specs.Prelude.{◌≡◌, ◌+◌, ◌∷◌, [], ℕ, Bool, false, List, Some, length}
 use Rattle.dk_blocks.specs.Blocks.{groups_of}
 use Rattle.dk_blocks.specs.History.{History, effect_of}
 use Rattle.dk_blocks.specs.Reading.{after_all}
 use Rattle.dk_lines.specs.Left.{lines_of, numbered}
 use Rattle.dk_lines.specs.Passing.{numbered_lines}
-use Rattle.dk_write.specs.Course.{AreReadable, IsReadable, done, done_all}
-use Rattle.dk_write.specs.Texts.{Write, block_lines, trace_text}
+use Rattle.dk_decl.specs.Headers.{awaits_word}
+use Rattle.dk_write.specs.Course.{AreReadable, AreWritten, IsReadable, done, done_all}
+use Rattle.dk_write.specs.Texts.{Begins, Write, block_lines, trace_text}
 
 -- The block of what is written does what it is meant to.
 abbrev pub BlocksAreRead : Type 0
@@ -19,3 +20,9 @@ abbrev pub TracesAreRead : Type 0
 TracesAreRead =
     (ignores : Bool) (h : History) (ws : List Write) → AreReadable ignores h 1 ws
     → after_all ignores (effect_of ignores h) (groups_of (numbered 0 (lines_of (trace_text ws)))) ≡ done_all ignores h 1 ws
+
+-- What a writer writes is read as that, whatever was read before it.
+abbrev pub WrittenAreRead : Type 0
+WrittenAreRead =
+    (ignores : Bool) (h : History) (ws : List Write) → awaits_word h.header ≡ false → AreWritten [] ws
+    → after_all ignores (effect_of ignores h) (groups_of (numbered 0 (lines_of (trace_text (Begins ∷ ws))))) ≡ done_all ignores h 1 (Begins ∷ ws)
