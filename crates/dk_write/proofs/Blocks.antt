@@ -7,9 +7,10 @@ use Rattle.dk_base.specs.Names.{escaped}
 use Rattle.dk_base.specs.Reading.{Line, LineFault, ◌>>=◌}
 use Rattle.dk_base.specs.declared.why.Why.{Why}
 use Rattle.dk_base.specs.declared.why.Why.TheVariants.{UnknownPoint}
-use Rattle.dk_blocks.specs.Fronts.{Front, block_front, is_comment}
+use Rattle.dk_blocks.specs.Fronts.{Front, block_front}
 use Rattle.dk_blocks.specs.History.{History, Taken, after_declaration, after_front, after_record, effect_of, is_declaration, is_list_of_implementors, where_it_ends, with_declaration, with_record}
 use Rattle.dk_decl.specs.Blocks.{block_decl}
+use Rattle.dk_decl.specs.Comments.{is_comment}
 use Rattle.dk_decl.specs.Headers.{awaits_word, comparability_word, first_header, header_line, is_implicit}
 use Rattle.dk_decl.specs.LineWords.{begins, operand}
 use Rattle.dk_decl.specs.Outcomes.{or_refused}

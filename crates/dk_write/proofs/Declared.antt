@@ -144,7 +144,7 @@ edge_place before (d ∷ es) (suc k) e new at =
     let later = later_new (before ++ d ∷ []) es k e here.1 at in
     let other : is_edge e.parent e.id d ≡ false = not_known before later.0 d e (ap (is_known_edge e) (sym (append_assoc before (d ∷ []) later.0)) ∙ later.1) in
     let behind = edge_place (before ++ d ∷ []) es k e here.1 at in
-    (rw other (ap (λ (n : ℕ). suc n) behind.0), omega (arith, behind.1))
+    (rw other (omega (arith, behind.0)), omega (arith, behind.1))
 
 edge_found : (es : List EdgeDecl) (k : ℕ) (e : EdgeDecl) → none_twice is_known_edge [] es ≡ true → slice_get es k ≡ Some e
     → position (is_edge e.parent e.id) es ≡ Some k

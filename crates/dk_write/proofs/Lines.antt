@@ -34,7 +34,7 @@ use Rattle.dk_write.proofs.Words.{IsLine, decimal_bytes, decimal_some, is_line_p
 
 -- ---- what a line is made of
 
-line_of_parts : (l : List ℕ) → IsLine l → is_line l ≡ true
+pub line_of_parts : (l : List ℕ) → IsLine l → is_line l ≡ true
 unfolding is_line
 line_of_parts l p = rw (p.some, p.no_lf, p.first, p.last, p.no_cr) refl
 
@@ -88,7 +88,7 @@ number_lf (d ∷ ds) h =
     let other : (d == 10) ≡ false = ne_eqb d 10 (λ e. absurd (omega (arith, range))) in
     rw other (number_lf ds both.1)
 
-number_line : (ds : List ℕ) → list_all is_number_byte ds ≡ true → 0 < length ds → is_line ds ≡ true
+pub number_line : (ds : List ℕ) → list_all is_number_byte ds ≡ true → 0 < length ds → is_line ds ≡ true
 number_line ds h some =
     let each : All (λ b. is_number_byte b ≡ true) ds = all_of is_number_byte ds h in
     let first = number_range (slice_index ds 0) (each 0 0 some) in

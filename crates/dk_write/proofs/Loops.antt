@@ -1,14 +1,35 @@
 -- Steps of the loops that write and test.
-use Rattle.std.proofs.Common.{◌≡◌, ◌<◌, ◌+◌, ◌∙◌, ◌&&◌, ◌∷◌, ◌++◌, [], ℕ, zero, suc, Bool, true, false, List, drop, flat_map, get_or, length, map, min, take, refl, sym, ap, append-nil, append_assoc, arith}
-use Rattle.std.specs.Prelude.{not}
-use Rattle.std.specs.List.{zip}
+use Rattle.std.proofs.Common.{◌≡◌, Result, Ok, Err, ◌≤◌, ◌<◌, ◌+◌, ◌∙◌, ◌&&◌, ◌∷◌, ◌++◌, [], ℕ, zero, suc, Bool, true, false, List, drop, flat_map, get_or, length, map, min, take, refl, sym, ap, append-nil, append_assoc, arith}
+use Rattle.std.specs.Prelude.{not, OnOk}
+use Rattle.std.specs.List.{list_all, zip}
 use Rattle.std.proofs.lemmas.Grind.{flat_map-append}
-use Rattle.std.proofs.lemmas.List.{drop_more, length-map, take_more}
+use Rattle.std.proofs.lemmas.List.{drop_all, drop_more, length-map, take_all, take_more}
 use Rattle.dk_lines.specs.Passing.{joined}
 use Rattle.dk_write.specs.Writable.{none_twice}
 
 joined_append : (xs ys : List (List ℕ)) → joined (xs ++ ys) ≡ joined xs ++ joined ys
 joined_append xs ys = flat_map-append (λ (l : List ℕ). l ++ 10 ∷ []) xs ys
+
+-- what follows from a fact of Ok
+pub on_ok : {T E : Type 0} {P Q : Type 0} (r : Result T E) → (P → Q) → OnOk r P → OnOk r Q
+on_ok (Ok x) f h = f h
+on_ok (Err e) f h = h
+
+-- more lines behind some
+pub more_lines : (start text next : List ℕ) (xs ys : List (List ℕ)) → text ≡ start ++ joined xs → next ≡ text ++ joined ys → next ≡ start ++ joined (xs ++ ys)
+more_lines start text next xs ys so_far step =
+    step
+    ∙ ap (λ (t : List ℕ). t ++ joined ys) so_far
+    ∙ append_assoc start (joined xs) (joined ys)
+    ∙ ap (λ (t : List ℕ). start ++ t) (sym (joined_append xs ys))
+
+-- a line of a word, a name, a blank (32) and a number
+pub number_line : (start a b c d next word name number : List ℕ) → a ≡ start ++ word → b ≡ a ++ name → c ≡ b ++ 32 ∷ [] → d ≡ c ++ number → next ≡ d ++ 10 ∷ []
+    → next ≡ start ++ joined ((word ++ (name ++ 32 ∷ number)) ∷ [])
+number_line start a b c d next word name number ea eb ec ed en =
+    en
+    ∙ ap (λ (t : List ℕ). t ++ 10 ∷ []) (ed ∙ ap (λ (t : List ℕ). t ++ number) (ec ∙ ap (λ (t : List ℕ). t ++ 32 ∷ []) (eb ∙ ap (λ (t : List ℕ). t ++ name) ea)))
+    ∙ simp (append_assoc, append-nil)
 
 -- a text with the lines of one more item
 pub lines_more : {T : Type 0} (lines : T → List (List ℕ)) (items : List T) (i : ℕ) (item : T) (start text next : List ℕ) → i < length items → item ≡ get_or items i item
@@ -74,3 +95,21 @@ pair_more {A} {B} {C} f lines xs ys i x y start text next lt more first second s
     let pair : A × C = (x, f y) in
     let is : pair ≡ get_or (zip xs (map f ys)) i pair = (λ k. (first k, f (second k))) ∙ sym (zip_at f xs ys i x y pair lt more) in
     lines_more lines (zip xs (map f ys)) i pair start text next (omega (arith, zip_length xs (map f ys), length-map ys f)) is so_far step
+
+-- a test of pairs, from a place on
+pub pair_passes : {A B C : Type 0} (f : B → C) (test : A × C → Bool) (xs : List A) (ys : List B) (i : ℕ) (x : A) (y : B)
+    → i < length xs → i < length ys → x ≡ get_or xs i x → y ≡ get_or ys i y
+    → list_all test (drop i (zip xs (map f ys))) ≡ (test (x, f y) && list_all test (drop (i + 1) (zip xs (map f ys))))
+pair_passes {A} {B} {C} f test xs ys i x y lt more first second =
+    let pair : A × C = (x, f y) in
+    let pairs : List (A × C) = zip xs (map f ys) in
+    let is : get_or pairs i pair ≡ pair = zip_at f xs ys i x y pair lt more ∙ sym (λ k. (first k, f (second k))) in
+    ap (list_all test) (drop_more pairs i pair (omega (arith, zip_length xs (map f ys), length-map ys f)))
+    ∙ ap (λ (p : A × C). test p && list_all test (drop (i + 1) pairs)) is
+
+pub pairs_end : {A B C : Type 0} (f : B → C) (test : A × C → Bool) (xs : List A) (ys : List B) (i : ℕ) → min (length xs) (length ys) ≤ i
+    → list_all test (drop i (zip xs (map f ys))) ≡ true
+pairs_end f test xs ys i past = ap (list_all test) (drop_all i (zip xs (map f ys)) (omega (arith, zip_length xs (map f ys), length-map ys f)))
+
+pub all_pairs : {A B C : Type 0} (f : B → C) (xs : List A) (ys : List B) (i : ℕ) → min (length xs) (length ys) ≤ i → take i (zip xs (map f ys)) ≡ zip xs (map f ys)
+all_pairs f xs ys i past = take_all i (zip xs (map f ys)) (omega (arith, zip_length xs (map f ys), length-map ys f))

@@ -11,10 +11,10 @@ use Rattle.std.proofs.lemmas.Fmt.{decimal_is_IsNumeral}
 use Rattle.std.proofs.lemmas.List.Elements.{All-append, All-cons, All-nil}
 use Rattle.std.proofs.lemmas.List.Splits.{slice_split_at, slice_split_none}
 use Rattle.dk_base.specs.Numbers.{fits_i64, integer_of, natural_of, numeral_of, whole_of}
-use Rattle.dk_base.specs.Pieces.{behind, is_blank, is_empty, nonempty, outside, parts, pieces}
+use Rattle.dk_base.specs.Pieces.{is_blank, is_empty, nonempty}
 use Rattle.dk_base.specs.Words.{without_front, words}
 use Rattle.dk_base.specs.declared.kinds.Compar.{Compar}
-use Rattle.dk_base.specs.declared.splitting.Cut.TheVariants.{AtBlanksAndTabs}
+use Rattle.dk_base.proofs.Parted.{words_are_parts}
 use Rattle.dk_base.proofs.Splits.{kept}
 use Rattle.dk_decl.specs.Brackets.{bracket_parts, compar_of, index_number, index_of, numbers_of}
 use Rattle.dk_decl.specs.Heads.{id_of}
@@ -26,28 +26,22 @@ use Rattle.dk_write.specs.Names.{has_none, is_line, is_word, last_byte}
 abbrev pub NoBlanks : List ℕ → Type 0
 NoBlanks w = list_all (λ b. not (is_blank b)) w ≡ true
 
-parts_front : (w rest : List ℕ) → NoBlanks w → parts AtBlanksAndTabs outside (w ++ rest) ≡ behind w (parts AtBlanksAndTabs outside rest)
-parts_front [] rest h = refl
-parts_front (b ∷ w) rest h =
+no_blanks_each : (w : List ℕ) → NoBlanks w → All (λ b. is_blank b ≡ false) w
+no_blanks_each [] h = All-nil (λ b. is_blank b ≡ false)
+no_blanks_each (b ∷ w) h =
     let both = and_parts (not (is_blank b)) (list_all (λ c. not (is_blank c)) w) h in
-    rw (not-true (is_blank b) both.0) (ap (λ (f : List ℕ × List (List ℕ)). (b ∷ f.0, f.1)) (parts_front w rest both.1))
+    All-cons (λ c. is_blank c ≡ false) b w (not-true (is_blank b) both.0) (no_blanks_each w both.1)
 
 -- a word and a blank stand in front of the other words
 pub first_of_words : (w rest : List ℕ) → NoBlanks w → 0 < length w → words (w ++ 32 ∷ rest) ≡ w ∷ words rest
-unfolding pieces
 first_of_words w rest h some =
-    let others : List ℕ × List (List ℕ) = parts AtBlanksAndTabs outside rest in
-    ap (λ (f : List ℕ × List (List ℕ)). nonempty (f.0 ∷ f.1)) (parts_front w (32 ∷ rest) h)
-    ∙ ap (λ (l : List ℕ). nonempty (l ∷ others.0 ∷ others.1)) (append-nil w)
-    ∙ kept w (others.0 ∷ others.1) some
+    words_are_parts (w ++ 32 ∷ rest)
+    ∙ ap nonempty (slice_split_at is_blank w 32 rest (no_blanks_each w h) refl)
+    ∙ kept w (slice_split is_blank rest) some
+    ∙ ap (λ (ws : List (List ℕ)). w ∷ ws) (sym (words_are_parts rest))
 
 pub one_word : (w : List ℕ) → NoBlanks w → 0 < length w → words w ≡ w ∷ []
-unfolding pieces
-one_word w h some =
-    ap (λ (l : List ℕ). nonempty ((parts AtBlanksAndTabs outside l).0 ∷ (parts AtBlanksAndTabs outside l).1)) (sym (append-nil w))
-    ∙ ap (λ (f : List ℕ × List (List ℕ)). nonempty (f.0 ∷ f.1)) (parts_front w [] h)
-    ∙ ap (λ (l : List ℕ). nonempty (l ∷ [])) (append-nil w)
-    ∙ kept w [] some
+one_word w h some = words_are_parts w ∙ ap nonempty (slice_split_none is_blank w (no_blanks_each w h)) ∙ kept w [] some
 
 -- ---- lines
 
@@ -189,7 +183,7 @@ pub signed_some : (z : ℤ) → IsTrue (fits_i64 z) → 0 < length (signed_decim
 signed_some (pos n) fits = decimal_some n (omega (arith, ltb-true n (2 ^ 63) fits))
 signed_some (negsuc n) fits = omega arith
 
-number_range : (b : ℕ) → is_number_byte b ≡ true → (44 < b) × (b < 58)
+pub number_range : (b : ℕ) → is_number_byte b ≡ true → (44 < b) × (b < 58)
 number_range b h =
     let both = and_parts (nat_lt 44 b) (nat_lt b 58) h in
     (ltb-true 44 b both.0, ltb-true b 58 both.1)

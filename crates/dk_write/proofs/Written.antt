@@ -14,7 +14,7 @@ use Rattle.dk_blocks.specs.Blocks.{groups_of}
 use Rattle.dk_blocks.specs.Fitting.{Extends}
 use Rattle.dk_blocks.specs.History.{History, Taken, base_values, block, block_by, declared_effect, effect_of, or_left_out, with_declaration, with_record, with_table, with_values}
 use Rattle.dk_blocks.specs.Reading.{after_all}
-use Rattle.dk_blocks.proofs.Growing.{declared_points, new_points, not_refused, taken_same}
+use Rattle.dk_blocks.proofs.Growing.{again_points, declared_points, new_points, not_refused}
 use Rattle.dk_decl.specs.Headers.{awaits_word, first_header}
 use Rattle.dk_decl.specs.Outcomes.{or_refused}
 use Rattle.dk_decl.specs.declared.decls.PointDecl.{PointDecl}
@@ -136,17 +136,19 @@ added_has ps d new = by (makes_exit ps d) refl
         (subst (λ (qs : List Point). HasDeclared qs d) (append_assoc ps (implicit_exit d ∷ []) (declared_point d ∷ []))
         (one_behind (ps ++ implicit_exit d ∷ []) d (with_exit ps d is new)))
 
+taken : {A : Type 0} (b : Bool) (why : Why) (r x : A) → (if b then Ok r else Err why) ≡ Ok x → b ≡ true
+taken true why r x e = refl
+taken false why r x e = absurd (cc e)
+
 again_has : (ps ps' : List Point) (d : PointDecl) (i : ℕ) (x : Declared) (own : Option PointDecl) → place_of (names ps) d.name ≡ Some i → decl_at ps i ≡ own
     → declared_again ps d i own ≡ Ok (ps', x) → HasDeclared ps' d
 again_has ps ps' d i x None place is e = absurd (cc e)
-again_has ps ps' d i x (Some own) place is e = by (same_decl own d) refl e
-  where
-    by : (b : Bool) → same_decl own d ≡ b → (if b then Ok (ps, Same (record { 0 = i })) else Err DuplicatePoint) ≡ Ok (ps', x) → HasDeclared ps' d
-    by false same e = absurd (cc e)
-    by true same e =
-        let points : ps ≡ ps' = cc e in
-        subst (λ (qs : List Point). HasDeclared qs d) points
-        (has_declared ps d own i (ap (λ (c : PointDecl). c.vars) ((same-is-equal own d).0 same)) (record { place = place; decl = is }))
+again_has ps ps' d i x (Some own) place is e =
+    let known : List Point × Declared = (ps, Same (record { 0 = i })) in
+    let next : List Point × Declared = (ps', x) in
+    let same : own ≡ d = (same-is-equal own d).0 (taken (same_decl own d) DuplicatePoint known next e) in
+    subst (λ (qs : List Point). HasDeclared qs d) (sym (again_points ps ps' d i x (Some own) e))
+    (has_declared ps d own i (ap (λ (c : PointDecl). c.vars) same) (record { place = place; decl = is }))
 
 -- the table has each declaration that is taken
 taken_has : (ps ps' : List Point) (d : PointDecl) (line : ℕ) (x : Declared) → at_line line (declared ps d) ≡ Ok (ps', x) → HasDeclared ps' d

@@ -1,5 +1,6 @@
 // The lines of a sample record.
-ghost use Rattle.std.specs.Prelude.{◌≡◌, ◌++◌, ◌∷◌, [], OnOk, flat_map};
+ghost use Rattle.std.specs.Prelude.{◌≡◌, ◌++◌, ◌∷◌, [], OnOk, codes, flat_map};
+ghost use Rattle.std.specs.Fmt.{signed_decimal};
 ghost use Rattle.std.specs.List.{zip};
 ghost use Rattle.dk_base.specs.Names.{escaped};
 ghost use Rattle.dk_base.specs.Values.{value_of, values_of};
@@ -27,16 +28,27 @@ fn push_line(text: &mut Text, line: &[u8]) -> Result<(), NoMemory>
     text.append(b"\n")
 }
 
+fn push_number_line(text: &mut Text, number: i64) -> Result<(), NoMemory>
+    ensures { OnOk result (text.new ≡ text.old ++ joined (signed_decimal number ∷ [])) }
+{
+    push_number(text, number)?;
+    text.append(b"\n")
+}
+
+// The lines of a nonce: the line in front of it, and the number.
+fn push_nonce_lines(text: &mut Text, number: i64) -> Result<(), NoMemory>
+    ensures { OnOk result (text.new ≡ text.old ++ joined (codes "this_invocation_nonce" ∷ signed_decimal number ∷ [])) }
+{
+    push_line(text, b"this_invocation_nonce")?;
+    push_number_line(text, number)
+}
+
 fn push_nonce(text: &mut Text, nonce: Option<i64>) -> Result<(), NoMemory>
     ensures { OnOk result (text.new ≡ text.old ++ joined (nonce_lines nonce)) }
 {
     match nonce {
         None => Ok(()),
-        Some(number) => {
-            text.append(b"this_invocation_nonce\n")?;
-            push_number(text, number)?;
-            text.append(b"\n")
-        }
+        Some(number) => push_nonce_lines(text, number),
     }
 }
 
