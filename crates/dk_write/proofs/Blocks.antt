@@ -1,19 +1,17 @@
 -- A block of what is written does what it is meant to.
-use Rattle.std.proofs.Common.{◌≡◌, ◌+◌, ◌∙◌, ◌==◌, ◌&&◌, ◌∷◌, ◌++◌, [], ℕ, Bool, true, false, List, Option, Some, None, Result, Ok, codes, length, map, flat_map, is_none, refl, sym, ap, if◌then◌else◌, arith}
+use Rattle.std.proofs.Common.{◌≡◌, ◌+◌, ◌∙◌, ◌==◌, ◌&&◌, ◌∷◌, ◌++◌, [], ℕ, Bool, true, false, List, Option, Some, None, Result, Ok, codes, length, map, flat_map, is_none, refl, sym, ap}
 use Rattle.std.specs.Prelude.{not}
 use Rattle.std.specs.List.{list_all, zip}
 use Rattle.std.proofs.lemmas.Bool.{and_parts, eqb-true, false≢true, not-true}
 use Rattle.dk_base.specs.Names.{escaped}
 use Rattle.dk_base.specs.Reading.{Line, LineFault, ◌>>=◌}
 use Rattle.dk_base.specs.declared.why.Why.{Why}
-use Rattle.dk_base.specs.declared.why.Why.TheVariants.{UnknownPoint}
 use Rattle.dk_blocks.specs.Fronts.{Front, block_front}
-use Rattle.dk_blocks.specs.History.{History, Taken, after_declaration, after_front, after_record, effect_of, is_declaration, is_list_of_implementors, where_it_ends, with_declaration, with_record}
+use Rattle.dk_blocks.specs.History.{History, after_declaration, after_front, after_record, effect_of, is_declaration, is_list_of_implementors, where_it_ends, with_declaration, with_record}
 use Rattle.dk_decl.specs.Blocks.{block_decl}
 use Rattle.dk_decl.specs.Comments.{is_comment}
 use Rattle.dk_decl.specs.Headers.{awaits_word, comparability_word, first_header, header_line, is_implicit}
 use Rattle.dk_decl.specs.LineWords.{begins, operand}
-use Rattle.dk_decl.specs.Outcomes.{or_refused}
 use Rattle.dk_decl.specs.declared.decls.PointDecl.{PointDecl}
 use Rattle.dk_decl.specs.declared.header.Header.{Header}
 use Rattle.dk_lines.specs.Passing.{numbered_lines}
@@ -22,7 +20,7 @@ use Rattle.dk_write.specs.Course.{IsReadable, done}
 use Rattle.dk_write.specs.Declarations.{declaration_lines, edge_line, point_line, var_lines}
 use Rattle.dk_write.specs.Laws.{BlocksAreRead}
 use Rattle.dk_write.specs.Records.{Recorded, nonce_lines, record_lines, sample_at, told_lines}
-use Rattle.dk_write.specs.Texts.{Begins, Declares, Records, Write, block_lines, header_lines}
+use Rattle.dk_write.specs.Texts.{Begins, Declares, Records, header_lines}
 use Rattle.dk_write.specs.Writable.{IsWithin, begins_record, can_declare, can_record, is_told_value}
 use Rattle.dk_write.proofs.Declared.{ppt_read}
 use Rattle.dk_write.proofs.Recorded.{sample_read}

@@ -1,18 +1,17 @@
 -- The lines of a declaration are read as that declaration.
-use Rattle.std.proofs.Common.{◌≡◌, ◌<◌, ◌+◌, ◌^◌, ◌∙◌, ◌==◌, ◌&&◌, ◌||◌, ◌∷◌, ◌++◌, [], ℕ, Bool, true, false, List, All, IsTrue, Option, Some, None, Result, Ok, Err, codes, zero, suc, subst, length, map, flat_map, slice_get, is_none, is_some, unwrap_or, refl, sym, ap, append-nil, append_assoc, if◌then◌else◌, arith}
+use Rattle.std.proofs.Common.{◌≡◌, ◌<◌, ◌+◌, ◌^◌, ◌∙◌, ◌&&◌, ◌||◌, ◌∷◌, ◌++◌, [], ℕ, Bool, true, false, List, All, IsTrue, Option, Some, None, Result, Ok, Err, codes, zero, suc, subst, length, map, flat_map, slice_get, is_none, is_some, unwrap_or, refl, sym, ap, append-nil, append_assoc, if◌then◌else◌, arith}
 use Rattle.std.specs.Prelude.{not, IfSome}
 use Rattle.std.specs.Fmt.{decimal, signed_decimal}
 use Rattle.std.specs.List.{list_all, list_any, position, position_or_len}
 use Rattle.std.specs.Option.{option_map_or}
-use Rattle.std.specs.Str.{bytes_eq}
 use Rattle.std.proofs.lemmas.Bool.{and_parts, false≢true, lt-ltb, not-true}
 use Rattle.std.proofs.lemmas.List.Folds.{list_all-append}
 use Rattle.std.proofs.lemmas.List.Elements.{All-cons, All-head, All-nil, All-tail}
 use Rattle.std.proofs.lemmas.Slice.Eq.{bytes_eq-Decides}
 use Rattle.dk_base.specs.Items.{is_text}
-use Rattle.dk_base.specs.Names.{escaped, unescaped}
+use Rattle.dk_base.specs.Names.{escaped}
 use Rattle.dk_base.specs.Numbers.{fits_i64}
-use Rattle.dk_base.specs.Pieces.{is_blank, is_empty}
+use Rattle.dk_base.specs.Pieces.{is_blank}
 use Rattle.dk_base.specs.Reading.{Line, LineFault, ◌>>=◌}
 use Rattle.dk_base.specs.Spelling.{IsWritten, spelling}
 use Rattle.dk_base.specs.Values.{IsOfKind, value_of_text}
@@ -22,17 +21,14 @@ use Rattle.dk_base.specs.declared.kinds.Kind.{Kind}
 use Rattle.dk_base.specs.declared.kinds.Kind.TheVariants as kind
 use Rattle.dk_base.specs.declared.values.Value.{Value}
 use Rattle.dk_base.specs.declared.values.Value.TheVariants as value
-use Rattle.dk_base.specs.declared.why.Why.TheVariants.{BadPoint, BadVariable}
 use Rattle.dk_base.proofs.ReadBack.{spelled_back}
 use Rattle.dk_base.proofs.Spellings.{unescaped_of_escaped}
-use Rattle.dk_decl.specs.Brackets.{compar_of, no_compar}
-use Rattle.dk_decl.specs.Heads.{head_line, id_of, is_edge, parent_line}
+use Rattle.dk_decl.specs.Heads.{head_line, is_edge, parent_line}
 use Rattle.dk_decl.specs.LineWords.{begins, each_line, operand, operands}
-use Rattle.dk_decl.specs.Outcomes.{or_refused, refused}
 use Rattle.dk_decl.specs.PptBlock.{groups, has_ended, is_variable, point_name, point_with, ppt_lines, ppt_of, vars_after, with_var}
 use Rattle.dk_decl.specs.Types.{constant_at, constant_of, is_missing, known, rep_kind, rep_type_of}
 use Rattle.dk_decl.specs.VarNames.{has_name}
-use Rattle.dk_decl.specs.Variables.{at_edge, counterparts, new_var, open_var, var_decl_of, var_line, var_with, with_counterparts}
+use Rattle.dk_decl.specs.Variables.{counterparts, new_var, open_var, var_decl_of, var_line, var_with}
 use Rattle.dk_decl.specs.declared.decls.EdgeDecl.{EdgeDecl}
 use Rattle.dk_decl.specs.declared.decls.ParentVar.{ParentVar}
 use Rattle.dk_decl.specs.declared.decls.PointDecl.{PointDecl}
@@ -42,7 +38,7 @@ use Rattle.dk_decl.specs.declared.types.RepType.{RepType}
 use Rattle.dk_decl.specs.declared.types.RepType.TheVariants.{Of, Opaque}
 use Rattle.dk_decl.specs.declared.variables.OpenVar.{OpenVar}
 use Rattle.dk_lines.specs.Passing.{numbered_lines}
-use Rattle.dk_write.specs.Declarations.{compar_line, compar_text, constant_lines, counterpart_line, counterpart_lines, declaration_lines, edge_line, point_line, rep_line, rep_text, var_lines, variable_line}
+use Rattle.dk_write.specs.Declarations.{compar_line, compar_text, constant_lines, counterpart_line, counterpart_lines, edge_line, point_line, rep_line, var_lines, variable_line}
 use Rattle.dk_write.specs.Names.{is_line, is_word}
 use Rattle.dk_write.specs.Records.{value_text}
 use Rattle.dk_write.specs.Writable.{IsValueWithin, IsVarWithin, IsWithin, can_declare, has_constant, is_known_edge, is_known_var, is_of_kind, is_told_counterpart, is_told_edge, is_told_var, is_value_of, none_twice}

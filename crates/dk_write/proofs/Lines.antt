@@ -30,7 +30,7 @@ use Rattle.dk_write.specs.Names.{has_none, is_line, is_word, last_byte}
 use Rattle.dk_write.specs.Records.{Recorded, mark_text, nonce_lines, record_lines, told_lines, value_text}
 use Rattle.dk_write.specs.Writable.{IsVarWithin, IsWithin, can_declare, has_constant, is_known_edge, is_known_var, is_nonce_name, is_of_kind, is_told_counterpart, is_told_edge, is_told_value, is_told_var, is_value_of, none_twice}
 use Rattle.dk_write.proofs.Declared.{all_of, constant_line_told, from_at}
-use Rattle.dk_write.proofs.Words.{IsLine, decimal_bytes, decimal_some, is_line_parts, is_number_byte, not_none, number_has_none, number_no_blanks, number_range, signed_bytes, signed_some, word_is_line}
+use Rattle.dk_write.proofs.Words.{IsLine, decimal_bytes, decimal_some, is_line_parts, is_number_byte, not_none, number_range, signed_bytes, signed_some, word_is_line}
 
 -- ---- what a line is made of
 

@@ -1,31 +1,30 @@
 -- The lines of a record are read as its sample.
-use Rattle.std.proofs.Common.{◌≡◌, ◌+◌, ◌∙◌, ◌==◌, ◌&&◌, ◌||◌, ◌∷◌, ◌++◌, [], ℕ, ℤ, Bool, true, false, List, All, IsTrue, Option, Some, None, Result, Ok, codes, length, flat_map, is_none, refl, sym, ap, if◌then◌else◌, arith}
+use Rattle.std.proofs.Common.{◌≡◌, ◌+◌, ◌∙◌, ◌&&◌, ◌||◌, ◌∷◌, ◌++◌, [], ℕ, ℤ, Bool, true, false, List, All, IsTrue, Option, Some, None, Result, Ok, codes, length, flat_map, is_none, refl, sym, ap, if◌then◌else◌, arith}
 use Rattle.std.specs.Prelude.{not, IfSome}
 use Rattle.std.specs.Fmt.{signed_decimal}
 use Rattle.std.specs.List.{list_all, zip}
-use Rattle.std.specs.Str.{bytes_eq}
 use Rattle.std.proofs.lemmas.Bool.{and_parts, false≢true, not-true}
 use Rattle.std.proofs.lemmas.List.Elements.{All-head, All-tail}
 use Rattle.std.proofs.lemmas.Slice.Eq.{bytes_eq-Decides}
-use Rattle.dk_base.specs.Names.{escaped, unescaped}
-use Rattle.dk_base.specs.Numbers.{fits_i64, integer_of}
+use Rattle.dk_base.specs.Names.{escaped}
+use Rattle.dk_base.specs.Numbers.{fits_i64}
 use Rattle.dk_base.specs.Reading.{Line, LineFault, ◌>>=◌, Reads}
 use Rattle.dk_base.specs.Spelling.{spelling}
 use Rattle.dk_base.specs.Values.{value_of_text}
 use Rattle.dk_base.specs.declared.kinds.Kind.{Kind}
 use Rattle.dk_base.specs.declared.values.Value.{Value}
 use Rattle.dk_base.specs.declared.values.Value.TheVariants as value
-use Rattle.dk_base.specs.declared.why.Why.TheVariants.{BadNonce, BadValue, UnknownPoint}
+use Rattle.dk_base.specs.declared.why.Why.TheVariants.{BadValue}
 use Rattle.dk_base.proofs.Spellings.{unescaped_of_escaped}
 use Rattle.dk_decl.specs.Outcomes.{or_refused}
 use Rattle.dk_decl.specs.Types.{is_missing}
 use Rattle.dk_decl.specs.declared.decls.VarDecl.{VarDecl}
 use Rattle.dk_lines.specs.Passing.{numbered_lines}
 use Rattle.dk_points.specs.Table.{Point}
-use Rattle.dk_trace.specs.Bodies.{Body, body_of, body_with, from_nonce, is_nonce_line, nonce_of}
+use Rattle.dk_trace.specs.Bodies.{body_of, body_with, is_nonce_line, nonce_of}
 use Rattle.dk_trace.specs.Marks.{marked, marked_value, no_value, read_value}
-use Rattle.dk_trace.specs.Records.{Sample, declared_place, point_named_by, sample_of, sample_with, var_decls_at}
-use Rattle.dk_trace.specs.Values.{from_mark, from_name, from_value, known_values, named_kind, record_values, then_values}
+use Rattle.dk_trace.specs.Records.{declared_place, point_named_by, sample_of, sample_with, var_decls_at}
+use Rattle.dk_trace.specs.Values.{from_name, from_value, known_values, named_kind, record_values, then_values}
 use Rattle.dk_write.specs.Records.{Recorded, mark_text, nonce_lines, sample_at, told_lines, told_values, value_text}
 use Rattle.dk_write.specs.Names.{is_line}
 use Rattle.dk_write.specs.Writable.{IsValueWithin, is_nonce_name, is_of_kind, is_told_value, is_value_of}

@@ -1,15 +1,15 @@
 -- The text of a trace is read as its blocks, one after another.
-use Rattle.std.proofs.Common.{◌≡◌, ◌≢◌, ◌+◌, ◌∙◌, ◌==◌, ◌∷◌, ◌++◌, [], ℕ, Bool, true, false, List, All, Option, Some, None, Result, Ok, Err, length, map, refl, sym, ap, append_assoc, if◌then◌else◌, arith}
+use Rattle.std.proofs.Common.{◌≡◌, ◌≢◌, ◌+◌, ◌∙◌, ◌==◌, ◌∷◌, ◌++◌, [], ℕ, Bool, true, false, List, All, Result, Ok, Err, length, map, refl, ap, append_assoc, arith}
 use Rattle.std.specs.Prelude.{IfOk}
-use Rattle.std.proofs.lemmas.Bool.{false≢true, ne_eqb}
+use Rattle.std.proofs.lemmas.Bool.{ne_eqb}
 use Rattle.std.proofs.lemmas.List.Elements.{All-head, All-tail}
 use Rattle.dk_base.specs.Pieces.{is_empty}
 use Rattle.dk_base.specs.Reading.{Line, LineFault, ◌>>=◌}
-use Rattle.dk_blocks.specs.Blocks.{Group, Groups, groups_of, is_blank_line, onto_group, trimmed_line}
+use Rattle.dk_blocks.specs.Blocks.{Group, groups_of, onto_group, trimmed_line}
 use Rattle.dk_blocks.specs.History.{History, Taken, effect_of}
 use Rattle.dk_blocks.specs.Reading.{after_all}
 use Rattle.dk_blocks.proofs.Stepping.{grouped_blank, grouped_words}
-use Rattle.dk_lines.specs.Left.{Next, Piece, lines_of, numbered, onto_first, pieces, without_cr}
+use Rattle.dk_lines.specs.Left.{Piece, lines_of, numbered, onto_first, pieces, without_cr}
 use Rattle.dk_lines.specs.Passing.{HasNoLf, joined, numbered_lines}
 use Rattle.dk_trace.specs.Whole.{IsTidy}
 use Rattle.dk_write.specs.Course.{AreReadable, IsReadable, done, done_all, line_behind}

@@ -1,5 +1,5 @@
 -- Words and numbers, as they are read back.
-use Rattle.std.proofs.Common.{◌≡◌, ◌<◌, ◌≤◌, ◌+◌, ◌-◌, ◌^◌, ◌∙◌, ◌==◌, ◌&&◌, ◌||◌, ◌∷◌, ◌++◌, [], ℕ, ℤ, pos, negsuc, Bool, true, false, List, All, IsTrue, Option, Some, None, length, take, refl, sym, ap, append-nil, length-append, if◌then◌else◌, suc, arith, nat_lt}
+use Rattle.std.proofs.Common.{◌≡◌, ◌<◌, ◌≤◌, ◌-◌, ◌^◌, ◌∙◌, ◌==◌, ◌&&◌, ◌∷◌, ◌++◌, [], ℕ, ℤ, pos, negsuc, Bool, true, false, List, All, IsTrue, Some, length, refl, sym, ap, length-append, suc, arith, nat_lt}
 use Rattle.std.specs.Prelude.{not, slice_index}
 use Rattle.std.specs.Char.{digit_value, is_digit}
 use Rattle.std.specs.Fmt.{decimal, signed_decimal}

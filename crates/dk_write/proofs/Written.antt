@@ -1,6 +1,6 @@
 -- What a writer has declared, the table of the reader has, too; so what it writes is readable.
-use Rattle.std.proofs.Common.{◌≡◌, ◌+◌, ◌∙◌, ◌∷◌, ◌++◌, [], ℕ, zero, suc, Bool, true, false, if◌then◌else◌, List, All, IsTrue, Option, Some, None, Result, Ok, Err, length, map, slice_get, option_and_then, option_map, bytes_eq, refl, sym, ap, subst, append-nil, append_assoc, arith}
-use Rattle.std.specs.Prelude.{Contains, IfOk}
+use Rattle.std.proofs.Common.{◌≡◌, ◌∙◌, ◌∷◌, ◌++◌, [], ℕ, zero, suc, Bool, true, false, if◌then◌else◌, List, All, IsTrue, Option, Some, None, Result, Ok, Err, length, option_and_then, option_map, bytes_eq, refl, sym, ap, subst, append-nil, append_assoc}
+use Rattle.std.specs.Prelude.{IfOk}
 use Rattle.std.specs.Option.{option_map_or}
 use Rattle.std.proofs.lemmas.Bool.{false≢true}
 use Rattle.std.proofs.lemmas.List.{map-append}
@@ -10,18 +10,15 @@ use Rattle.dk_base.specs.Reading.{LineFault, ◌>>=◌}
 use Rattle.dk_base.specs.declared.values.Value.{Value}
 use Rattle.dk_base.specs.declared.why.Why.{Why}
 use Rattle.dk_base.specs.declared.why.Why.TheVariants.{DuplicatePoint, UnknownPoint}
-use Rattle.dk_blocks.specs.Blocks.{groups_of}
 use Rattle.dk_blocks.specs.Fitting.{Extends}
-use Rattle.dk_blocks.specs.History.{History, Taken, base_values, block, block_by, declared_effect, effect_of, or_left_out, with_declaration, with_record, with_table, with_values}
-use Rattle.dk_blocks.specs.Reading.{after_all}
+use Rattle.dk_blocks.specs.History.{History, Taken, base_values, block, block_by, declared_effect, or_left_out, with_declaration, with_record, with_table, with_values}
 use Rattle.dk_blocks.proofs.Growing.{again_points, declared_points, new_points, not_refused}
-use Rattle.dk_decl.specs.Headers.{awaits_word, first_header}
+use Rattle.dk_decl.specs.Headers.{first_header}
 use Rattle.dk_decl.specs.Outcomes.{or_refused}
 use Rattle.dk_decl.specs.declared.decls.PointDecl.{PointDecl}
 use Rattle.dk_decl.proofs.LastLines.{bind_ok}
 use Rattle.dk_graph.specs.Names.{place_of}
 use Rattle.dk_graph.proofs.Positions.{or_last, place_of-push}
-use Rattle.dk_lines.specs.Left.{lines_of, numbered}
 use Rattle.dk_points.specs.Declaring.{at_line, declared, declared_again, declared_at}
 use Rattle.dk_points.specs.Names.{combined_name}
 use Rattle.dk_points.specs.Sameness.{same_decl}
@@ -32,10 +29,10 @@ use Rattle.dk_points.proofs.Declarations.{added-one, added-two}
 use Rattle.dk_points.proofs.Exits.{combined-differs, makes-subexit}
 use Rattle.dk_points.proofs.SameValues.{same-is-equal}
 use Rattle.dk_trace.specs.Records.{Sample, declared_place, var_decls_at}
-use Rattle.dk_write.specs.Course.{AreReadable, AreWritten, HasDeclared, IsReadable, done, done_all, line_behind}
+use Rattle.dk_write.specs.Course.{AreReadable, AreWritten, HasDeclared, done, line_behind}
 use Rattle.dk_write.specs.Laws.{WrittenAreRead}
 use Rattle.dk_write.specs.Records.{Recorded, sample_at}
-use Rattle.dk_write.specs.Texts.{Begins, Declares, Records, Write, trace_text}
+use Rattle.dk_write.specs.Texts.{Begins, Declares, Records, Write}
 use Rattle.dk_write.specs.Writable.{can_declare}
 use Rattle.dk_write.proofs.Traces.{traces_read}
 

@@ -8,7 +8,7 @@ use Rattle.dk_decl.specs.declared.decls.PointDecl.{PointDecl}
 use Rattle.dk_points.specs.Table.{Point}
 use Rattle.dk_trace.specs.Records.{declared_place, var_decls_at}
 use Rattle.dk_blocks.specs.History.{History, Taken, block, with_declaration, with_record}
-use Rattle.dk_write.specs.Records.{Recorded, sample_at}
+use Rattle.dk_write.specs.Records.{sample_at}
 use Rattle.dk_write.specs.Texts.{Write, Begins, Declares, Records, block_lines}
 use Rattle.dk_write.specs.Writable.{IsRecordWithin, IsWithin, can_declare, can_record}
 

@@ -5,7 +5,6 @@ use Rattle.std.specs.List.{zip}
 use Rattle.dk_base.specs.Names.{escaped}
 use Rattle.dk_base.specs.Spelling.{spelling}
 use Rattle.dk_base.specs.declared.values.Value.{Value}
-use Rattle.dk_base.specs.declared.values.Value.TheVariants as value
 use Rattle.dk_decl.specs.Types.{is_missing}
 use Rattle.dk_decl.specs.declared.decls.PointDecl.{PointDecl}
 use Rattle.dk_decl.specs.declared.decls.VarDecl.{VarDecl}

@@ -1,12 +1,11 @@
 -- What can be written, so that it is read back: as tests that the writing makes, and as what the numbers' types give.
-use Rattle.std.specs.Prelude.{◌&&◌, ◌||◌, ◌<◌, ◌^◌, ◌==◌, ◌++◌, ℕ, ℤ, Bool, true, false, not, All, IsTrue, IfSome, List, [], ◌∷◌, codes, is_none, length, slice_get, Option, Some, None, if◌then◌else◌}
-use Rattle.std.specs.List.{list_all, list_any, position, zip}
+use Rattle.std.specs.Prelude.{◌&&◌, ◌||◌, ◌<◌, ◌^◌, ◌==◌, ◌++◌, ℕ, Bool, true, false, not, All, IsTrue, IfSome, List, [], ◌∷◌, codes, is_none, length, slice_get, Option, Some, None}
+use Rattle.std.specs.List.{list_all, list_any, zip}
 use Rattle.std.specs.Option.{option_map_or}
 use Rattle.std.specs.Str.{bytes_eq}
 use Rattle.dk_base.specs.Items.{is_text}
 use Rattle.dk_base.specs.Names.{escaped}
 use Rattle.dk_base.specs.Numbers.{fits_i64}
-use Rattle.dk_base.specs.Spelling.{IsWritten, spelling}
 use Rattle.dk_base.specs.declared.kinds.Kind.{Kind}
 use Rattle.dk_base.specs.declared.kinds.Kind.TheVariants as kind
 use Rattle.dk_base.specs.declared.values.Value.{Value}

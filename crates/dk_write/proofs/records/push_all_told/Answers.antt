@@ -1,4 +1,4 @@
-use Rattle.std.proofs.Common.{◌<◌, ◌++◌, ◌∙◌, List, ℕ, ap, arith, flat_map, get_or, length}
+use Rattle.std.proofs.Common.{◌<◌, ◌++◌, ◌∙◌, List, ap, arith, flat_map, get_or, length}
 use Rattle.std.proofs.lemmas.List.{get_or_default}
 use Rattle.dk_base.specs.Values.{value_of}
 use Rattle.dk_base.specs.declared.values.View.{View}
