@@ -1,0 +1,4 @@
+pub mod Decimals
+pub mod Tokens
+pub mod Shallow
+mod Examples
