@@ -5,8 +5,8 @@ use Rattle.std.specs.List.{list_all}
 use Rattle.std.specs.Str.{bytes_eq}
 use Rattle.dk_base.specs.Shapes.{is_base_form, is_orig, is_sequence}
 use Rattle.dk_base.specs.declared.kinds.VarInfo.{VarInfo}
-use Rattle.dk_languages.specs.declared.bases.Base.{Base}
-use Rattle.dk_languages.specs.declared.bases.Parameter.{Parameter}
+use Rattle.dk_languages.specs.declared.variables.Base.{Base}
+use Rattle.dk_languages.specs.declared.variables.Parameter.{Parameter}
 use Rattle.dk_languages.specs.declared.languages.Language.{Language}
 use Rattle.dk_languages.specs.declared.languages.Language.TheVariants as language
 use Rattle.dk_languages.specs.Paths.{has_path, inner_name, path_name, path_text, root, root_text, size_text}

@@ -1,6 +1,7 @@
 -- cited by public clauses
 pub mod Tellings
 pub mod Speaking
+pub mod Laws
 -- what those are made of
 pub mod Roots
 pub mod Paths

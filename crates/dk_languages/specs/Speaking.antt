@@ -4,7 +4,7 @@ use Rattle.dk_base.specs.declared.kinds.Form.{Form}
 use Rattle.dk_base.specs.declared.kinds.Form.TheVariants as form
 use Rattle.dk_base.specs.declared.kinds.VarId.{VarId}
 use Rattle.dk_base.specs.declared.kinds.VarInfo.{VarInfo}
-use Rattle.dk_languages.specs.declared.bases.Base.{Base}
+use Rattle.dk_languages.specs.declared.variables.Base.{Base}
 use Rattle.dk_languages.specs.declared.fillings.Filling.{Filling}
 use Rattle.dk_languages.specs.declared.languages.Language.{Language}
 use Rattle.dk_languages.specs.declared.speaking.Spoken.{Spoken}

@@ -11,7 +11,7 @@ use Rattle.dk_languages.specs.Literals.{can_say, literals}
 use Rattle.dk_languages.specs.Numbers.{number_in, number_text}
 use Rattle.dk_languages.specs.Rows.{row_in, separator_in, value_in}
 use Rattle.dk_languages.specs.Speaking.{is_spoken, spoken}
-use Rattle.dk_languages.specs.declared.bases.Base.{Base}
+use Rattle.dk_languages.specs.declared.variables.Base.{Base}
 use Rattle.dk_languages.specs.declared.fillings.Filling.{Filling}
 use Rattle.dk_languages.specs.declared.languages.Language.{Language}
 use Rattle.dk_languages.specs.declared.languages.Language.TheVariants as language

@@ -1,12 +1,12 @@
 //! Lines of a report as expressions of Python, C and SMT-LIB.
 #![tactic(auto)]
 
-mod bases;
 mod c;
 mod escapes;
 mod fillings;
 mod forms;
 mod languages;
+pub mod laws;
 mod literals;
 mod numbers;
 mod paths;
@@ -18,7 +18,8 @@ mod speaking;
 mod tellings;
 #[cfg(test)]
 mod tests;
+mod variables;
 
-pub use bases::{Base, Parameter, bases, parameters};
 pub use languages::Language;
 pub use tellings::telling;
+pub use variables::{Base, Parameter, bases, parameters};
