@@ -53,7 +53,7 @@ around_items json xs begin inner end =
 
 -- ---- the text of a writer that was new
 module _ (old new : Written) (ts : List Token) (text : List ℕ) (before : old.before ≡ []) (none : old.tokens ≡ []) (added : Adds old new ts)
-  (is : text ≡ new.before ++ print new.tokens) where
+    (is : text ≡ new.before ++ print new.tokens) where
   tokens_are : new.tokens ≡ ts
   tokens_are = added.tokens ∙ ap (λ (os : List Token). os ++ ts) none
 

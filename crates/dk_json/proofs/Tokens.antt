@@ -35,10 +35,10 @@ pub one_more : {X : Type 0} (piece : X → List Token) (items : List X) (i : ℕ
     → Adds old next (flat_map piece (take (i + 1) items))
 one_more piece items i x old so_far next within is before step = record {
   tokens =
-    step.tokens
-    ∙ ap (λ (ts : List Token). ts ++ piece x) before.tokens
-    ∙ flat_map_more piece old.tokens (take i items) x
-    ∙ ap (λ xs. old.tokens ++ flat_map piece xs) (ap (λ y. take i items ++ y ∷ []) is ∙ sym (take_more items i x within));
+      step.tokens
+      ∙ ap (λ (ts : List Token). ts ++ piece x) before.tokens
+      ∙ flat_map_more piece old.tokens (take i items) x
+      ∙ ap (λ xs. old.tokens ++ flat_map piece xs) (ap (λ y. take i items ++ y ∷ []) is ∙ sym (take_more items i x within));
   before = step.before ∙ before.before;
 }
 

@@ -26,6 +26,6 @@ abbrev pub fields_tokens : List Field → List Token
 fields_tokens fs = flat_map field_tokens fs
 
 -- these tokens are written behind the others
-pub record Adds (old new : Written) (tokens : List Token) : Type 0 where
-  pub tokens : new.tokens ≡ old.tokens ++ tokens
+pub record Adds (old new : Written) (added : List Token) : Type 0 where
+  pub tokens : new.tokens ≡ old.tokens ++ added
   pub before : new.before ≡ old.before

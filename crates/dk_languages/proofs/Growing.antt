@@ -1,8 +1,9 @@
 -- Lists that grow by pieces, and what is read of a list.
-use Rattle.std.proofs.Common.{◌≡◌, ◌<◌, ◌≤◌, ◌+◌, ◌∙◌, ◌++◌, ◌∷◌, [], ℕ, List, length, map, take, get_or, sym, ap, subst}
+use Rattle.std.proofs.Common.{◌≡◌, ◌==◌, ◌<◌, ◌≤◌, ◌+◌, ◌∙◌, ◌++◌, ◌∷◌, [], ℕ, List, length, map, take, get_or, refl, sym, ap, subst}
 use Rattle.std.proofs.lemmas.List.{flat_map_more, get_or-map, get_or_past, length-map, map_more, take_more}
 use Rattle.std.proofs.lemmas.List.Sums.{fold_more}
 use Rattle.std.specs.List.{flat_map, fold}
+use Rattle.dk_base.specs.Pieces.{is_empty}
 
 -- ---- one step of a loop
 module _ {X Y : Type 0} (items : List X) (i : ℕ) (item : X) (within : i < length items) (here : item ≡ get_or items i item) where
@@ -40,3 +41,8 @@ module _ {X Y : Type 0} (show : X → Y) (items : List X) (n : ℕ) (none : Y) w
 
   pub shown_past : length items ≤ n → none ≡ get_or (map show items) n none
   shown_past past = sym (get_or_past (map show items) n none (subst (λ k. k ≤ n) (sym (length-map items show)) past))
+
+-- ---- nothing at all
+pub is_empty_by_length : {X : Type 0} (xs : List X) → is_empty xs ≡ (length xs == 0)
+is_empty_by_length [] = refl
+is_empty_by_length (x ∷ xs) = refl

@@ -58,10 +58,11 @@ is_clear others p = list_all (λ q. not (clash p q)) others
 abbrev pub is_told : Language → List Parameter → VarInfo → Bool
 is_told l others info = is_sayable l info && list_all (is_clear others) (parameters_of l info)
 
+abbrev pub told_base : Language → VarInfo → Base
+told_base l info = record { is_told = true; path = path_text l info; size = size_text l info }
+
 abbrev pub base_of : Language → List Parameter → VarInfo → Base
-base_of l others info =
-    if is_told l others info then record { is_told = true; path = path_text l info; size = size_text l info }
-    else record { is_told = false; path = []; size = [] }
+base_of l others info = if is_told l others info then told_base l info else record { is_told = false; path = []; size = [] }
 
 -- the variables of a point, in order; derived ones aren't told by themselves
 abbrev pub bases : Language → List VarInfo → List Base

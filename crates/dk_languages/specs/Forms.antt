@@ -27,6 +27,7 @@ value_of l f = codes "P"
 
 -- the place of a sequence's first element, in C and SMT-LIB
 abbrev pub start_of : Language → Form → List ℕ
+start_of language.Python f = codes "0"
 start_of language.C (form.Since s i) = codes "dk_int(I)"
 start_of language.C (form.After s i) = codes "(dk_int(I) + 1)"
 start_of language.Smtlib (form.Since s i) = codes "I"
@@ -35,6 +36,7 @@ start_of l f = codes "0"
 
 -- the place behind its last one
 abbrev pub end_of : Language → Form → List ℕ
+end_of language.Python f = codes "S"
 end_of language.C (form.Upto s i) = codes "(dk_int(I) + 1)"
 end_of language.C (form.Before s i) = codes "dk_int(I)"
 end_of language.C f = codes "dk_int(S)"

@@ -82,15 +82,23 @@ old_prefix info = if is_orig info.form then codes "old_" else []
 abbrev pub is_symbol_byte : ℕ → Bool
 is_symbol_byte b = nat_le 32 b && (not (b == 127) && (not (b == 124) && not (b == 92)))
 
+-- a path without a keyword behind its root
+abbrev pub is_free_path : Language → List ℕ → Bool
+is_free_path l name = is_path name && has_free_words l name
+
 -- the language can say the name
 abbrev pub has_path : Language → VarInfo → Bool
 has_path language.Smtlib info = list_all is_symbol_byte info.name
-has_path l info = is_path (path_name info) && has_free_words l (path_name info)
+has_path l info = is_free_path l (path_name info)
+
+-- the first word of the path, as it is told
+abbrev pub word_text : Language → VarInfo → List ℕ
+word_text l info = old_prefix info ++ told_root l (root (path_name info))
 
 -- a variable's root in Python and C, and its symbol in SMT-LIB
 abbrev pub root_text : Language → VarInfo → List ℕ
 root_text language.Smtlib info = codes "|$" ++ info.name ++ codes "|"
-root_text l info = old_prefix info ++ told_root l (root (path_name info))
+root_text l info = word_text l info
 
 abbrev pub path_text : Language → VarInfo → List ℕ
 path_text language.Python info = root_text language.Python info ++ dotted (behind_root (path_name info))

@@ -76,7 +76,6 @@ const ROWS: &[&str] = &[
 ];
 
 /// What the rows 0 to 68 say in C, with holes.
-#[tactic(auto, unfolding(crate::specs::CRows::c_rows))]
 pub(crate) fn rows() -> &'static [&'static str]
     ensures { map (λ row. row.now) result.now ≡ c_rows }
 {

@@ -5,26 +5,74 @@ ghost use Rattle.dk_languages.specs.Forms.{end_of, presence_of, start_of, value_
 use crate::Language;
 use dk_base::Form;
 
+fn python_value(form: Form) -> &'static str
+    ensures { result.now ≡ value_of Language.Python form }
+{
+    match form {
+        Form::Size(_) => "S",
+        Form::First(_) => "P[0]",
+        Form::Last(_) => "P[-1]",
+        Form::At(..) => "P[I]",
+        Form::Upto(..) => "P[:I + 1]",
+        Form::Before(..) => "P[:I]",
+        Form::Since(..) => "P[I:]",
+        Form::After(..) => "P[I + 1:]",
+        Form::Declared | Form::Orig => "P",
+    }
+}
+
+fn c_value(form: Form) -> &'static str
+    ensures { result.now ≡ value_of Language.C form }
+{
+    match form {
+        Form::Size(_) => "S",
+        Form::First(_) => "P[0]",
+        Form::Last(_) => "P[dk_int(S) - 1]",
+        Form::At(..) => "P[I]",
+        _ => "P",
+    }
+}
+
+fn smtlib_value(form: Form) -> &'static str
+    ensures { result.now ≡ value_of Language.Smtlib form }
+{
+    match form {
+        Form::Size(_) => "S",
+        Form::First(_) => "(select P 0)",
+        Form::Last(_) => "(select P (- S 1))",
+        Form::At(..) => "(select P I)",
+        _ => "P",
+    }
+}
+
 /// The value of a variable; of a slice in C and SMT-LIB the sequence that it is of.
 pub(crate) fn value_of(language: Language, form: Form) -> &'static str
     ensures { result.now ≡ value_of language form }
 {
-    match (language, form) {
-        (_, Form::Size(_)) => "S",
-        (Language::Python, Form::First(_)) => "P[0]",
-        (Language::Python, Form::Last(_)) => "P[-1]",
-        (Language::Python, Form::At(..)) => "P[I]",
-        (Language::Python, Form::Upto(..)) => "P[:I + 1]",
-        (Language::Python, Form::Before(..)) => "P[:I]",
-        (Language::Python, Form::Since(..)) => "P[I:]",
-        (Language::Python, Form::After(..)) => "P[I + 1:]",
-        (Language::C, Form::First(_)) => "P[0]",
-        (Language::C, Form::Last(_)) => "P[dk_int(S) - 1]",
-        (Language::C, Form::At(..)) => "P[I]",
-        (Language::Smtlib, Form::First(_)) => "(select P 0)",
-        (Language::Smtlib, Form::Last(_)) => "(select P (- S 1))",
-        (Language::Smtlib, Form::At(..)) => "(select P I)",
-        _ => "P",
+    match language {
+        Language::Python => python_value(form),
+        Language::C => c_value(form),
+        Language::Smtlib => smtlib_value(form),
+    }
+}
+
+fn c_start(form: Form) -> &'static str
+    ensures { result.now ≡ start_of Language.C form }
+{
+    match form {
+        Form::Since(..) => "dk_int(I)",
+        Form::After(..) => "(dk_int(I) + 1)",
+        _ => "0",
+    }
+}
+
+fn smtlib_start(form: Form) -> &'static str
+    ensures { result.now ≡ start_of Language.Smtlib form }
+{
+    match form {
+        Form::Since(..) => "I",
+        Form::After(..) => "(+ I 1)",
+        _ => "0",
     }
 }
 
@@ -32,12 +80,30 @@ pub(crate) fn value_of(language: Language, form: Form) -> &'static str
 pub(crate) fn start_of(language: Language, form: Form) -> &'static str
     ensures { result.now ≡ start_of language form }
 {
-    match (language, form) {
-        (Language::C, Form::Since(..)) => "dk_int(I)",
-        (Language::C, Form::After(..)) => "(dk_int(I) + 1)",
-        (Language::Smtlib, Form::Since(..)) => "I",
-        (Language::Smtlib, Form::After(..)) => "(+ I 1)",
-        _ => "0",
+    match language {
+        Language::Python => "0",
+        Language::C => c_start(form),
+        Language::Smtlib => smtlib_start(form),
+    }
+}
+
+fn c_end(form: Form) -> &'static str
+    ensures { result.now ≡ end_of Language.C form }
+{
+    match form {
+        Form::Upto(..) => "(dk_int(I) + 1)",
+        Form::Before(..) => "dk_int(I)",
+        _ => "dk_int(S)",
+    }
+}
+
+fn smtlib_end(form: Form) -> &'static str
+    ensures { result.now ≡ end_of Language.Smtlib form }
+{
+    match form {
+        Form::Upto(..) => "(+ I 1)",
+        Form::Before(..) => "I",
+        _ => "S",
     }
 }
 
@@ -45,13 +111,10 @@ pub(crate) fn start_of(language: Language, form: Form) -> &'static str
 pub(crate) fn end_of(language: Language, form: Form) -> &'static str
     ensures { result.now ≡ end_of language form }
 {
-    match (language, form) {
-        (Language::C, Form::Upto(..)) => "(dk_int(I) + 1)",
-        (Language::C, Form::Before(..)) => "dk_int(I)",
-        (Language::C, _) => "dk_int(S)",
-        (Language::Smtlib, Form::Upto(..)) => "(+ I 1)",
-        (Language::Smtlib, Form::Before(..)) => "I",
-        _ => "S",
+    match language {
+        Language::Python => "S",
+        Language::C => c_end(form),
+        Language::Smtlib => smtlib_end(form),
     }
 }
 

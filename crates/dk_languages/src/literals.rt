@@ -1,6 +1,6 @@
 // Values as literals.
-ghost use Rattle.std.specs.Prelude.{◌≡◌, ◌++◌, IfOk, OnOk, flat_map, ℕ, List, map};
-ghost use Rattle.std.specs.Fmt.{digits};
+ghost use Rattle.std.specs.Prelude.{◌≡◌, ◌<◌, ◌++◌, IfOk, OnOk, flat_map, ℕ, List, map};
+ghost use Rattle.std.specs.Fmt.{digit_glyph, digits};
 ghost use Rattle.std.specs.List.{join_by};
 ghost use Rattle.dk_languages.specs.Literals.{c_byte, can_say, has_string, is_ascii_text, is_null, literals, octal, python_byte, python_string, smtlib_byte, string_text, truth_text};
 ghost use Rattle.dk_languages.specs.Numbers.{number_text};
@@ -93,14 +93,26 @@ fn push_c_bytes(text: &mut Text, bytes: &[u8]) -> Result<(), NoMemory>
     Ok(())
 }
 
+fn hexadecimal_digit(digit: u8) -> u8
+    requires { digit < 16 }
+    ensures { result ≡ digit_glyph false digit }
+{
+    if digit < 10 {
+        b'0' + digit
+    } else {
+        b'a' - 10 + digit
+    }
+}
+
 // The hexadecimal digits of a byte, without a leading zero.
+#[tactic(auto, using(std::proofs::lemmas::Fmt::hex_one_digit, std::proofs::lemmas::Fmt::hex_two_digits))]
 fn push_hexadecimal(text: &mut Text, byte: u8) -> Result<(), NoMemory>
     ensures { OnOk result (text.new ≡ text.old ++ digits 16 false byte) }
 {
-    if byte >= 16 {
-        text.push(b"0123456789abcdef"[usize::from(byte / 16)])?;
+    if byte < 16 {
+        return text.push(hexadecimal_digit(byte));
     }
-    text.push(b"0123456789abcdef"[usize::from(byte % 16)])
+    text.append(&[hexadecimal_digit(byte / 16), hexadecimal_digit(byte % 16)])
 }
 
 fn push_smtlib_byte(text: &mut Text, byte: u8) -> Result<(), NoMemory>

@@ -3,7 +3,7 @@ ghost use Rattle.std.specs.Prelude.{◌≡◌, ◌++◌, ◌==◌, ◌∷◌, []
 ghost use Rattle.std.specs.List.{list_all, prefix_len};
 ghost use Rattle.dk_base.specs.Shapes.{is_orig, is_sequence};
 ghost use Rattle.dk_languages.specs.Roots.{is_keyword};
-ghost use Rattle.dk_languages.specs.Paths.{after_byte, behind_root, dotted, has_free_words, has_path, inner_name, is_letter, is_path, is_symbol_byte, is_word_byte, old_prefix, path_name, path_text, pointed, root, root_text, size_text, spaced, stem};
+ghost use Rattle.dk_languages.specs.Paths.{after_byte, behind_root, dotted, has_free_words, has_path, inner_name, is_free_path, is_letter, is_path, is_symbol_byte, is_word_byte, old_prefix, path_name, path_text, pointed, root, root_text, size_text, spaced, stem, word_text};
 
 use crate::Language;
 use crate::roots::{is_keyword, push_root};
@@ -152,6 +152,7 @@ pub(crate) fn path_name(info: &VarInfo) -> &[u8]
 }
 
 // How many bytes of the first word there are.
+#[tactic(auto, using(crate::proofs::Words::word_ends, crate::proofs::Words::word_goes_on, crate::proofs::Words::word_stops))]
 fn root_len(path: &[u8]) -> usize
     ensures { result ≡ prefix_len is_word_byte path.now }
 {
@@ -207,7 +208,12 @@ fn spaced(alloc: Global, bytes: &[u8]) -> Result<Text, NoMemory>
 fn are_free(language: Language, words: &[&[u8]]) -> bool
     ensures { result ≡ list_all (λ w. not (is_keyword language w)) (map (λ w. w.now) words.now) }
 {
-    words.iter().all(|word| !is_keyword(language, word))
+    for word in words {
+        if is_keyword(language, word) {
+            return false;
+        }
+    }
+    true
 }
 
 // Whether no word behind the root is a keyword.
@@ -231,18 +237,24 @@ fn is_symbol(name: &[u8]) -> bool
     name.iter().all(|byte| is_symbol_byte(*byte))
 }
 
-/// Whether the language can say the name of a base variable.
-pub(crate) fn has_path(alloc: Global, language: Language, info: &VarInfo) -> Result<bool, NoMemory>
-    ensures { IfOk result (λ has. has ≡ has_path language info.now) }
+// Whether the name is a path, and no word behind its root is a keyword.
+fn is_free_path(alloc: Global, language: Language, name: &[u8]) -> Result<bool, NoMemory>
+    ensures { IfOk result (λ free. free ≡ is_free_path language name.now) }
 {
-    if let Language::Smtlib = language {
-        return Ok(is_symbol(info.name.as_slice()));
-    }
-    let name = path_name(info);
     if !is_path(name) {
         return Ok(false);
     }
     has_free_words(alloc, language, name)
+}
+
+/// Whether the language can say the name of a base variable.
+pub(crate) fn has_path(alloc: Global, language: Language, info: &VarInfo) -> Result<bool, NoMemory>
+    ensures { IfOk result (λ has. has ≡ has_path language info.now) }
+{
+    match language {
+        Language::Python | Language::C => is_free_path(alloc, language, path_name(info)),
+        Language::Smtlib => Ok(is_symbol(info.name.as_slice())),
+    }
 }
 
 // `.` for `->`, and each other byte as it is.
@@ -300,6 +312,14 @@ fn push_old(text: &mut Text, info: &VarInfo) -> Result<(), NoMemory>
     }
 }
 
+// A variable's root in Python and C, behind the text.
+fn push_word(text: &mut Text, language: Language, info: &VarInfo) -> Result<(), NoMemory>
+    ensures { OnOk result (text.new ≡ text.old ++ word_text language info.now) }
+{
+    push_old(text, info)?;
+    push_root(text, language, root(path_name(info)))
+}
+
 /// A variable's root in Python and C, or its symbol in SMT-LIB, behind the text.
 pub(crate) fn push_root_text(
     text: &mut Text,
@@ -308,11 +328,10 @@ pub(crate) fn push_root_text(
 ) -> Result<(), NoMemory>
     ensures { OnOk result (text.new ≡ text.old ++ root_text language info.now) }
 {
-    if let Language::Smtlib = language {
-        return push_symbol(text, info.name.as_slice());
+    match language {
+        Language::Python | Language::C => push_word(text, language, info),
+        Language::Smtlib => push_symbol(text, info.name.as_slice()),
     }
-    push_old(text, info)?;
-    push_root(text, language, root(path_name(info)))
 }
 
 /// A variable's path, behind the text.

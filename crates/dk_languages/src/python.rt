@@ -76,7 +76,6 @@ const ROWS: &[&str] = &[
 ];
 
 /// What the rows 0 to 68 say in Python, with holes.
-#[tactic(auto, unfolding(crate::specs::PythonRows::python_rows))]
 pub(crate) fn rows() -> &'static [&'static str]
     ensures { map (λ row. row.now) result.now ≡ python_rows }
 {

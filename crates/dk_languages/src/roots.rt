@@ -77,21 +77,18 @@ const PYTHON_NAMES: &[&str] = &[
     "zip",
 ];
 
-#[tactic(auto, unfolding(crate::specs::Roots::python_keywords))]
 fn python_keywords() -> &'static [&'static str]
     ensures { map (λ word. word.now) result.now ≡ python_keywords }
 {
     PYTHON_KEYWORDS
 }
 
-#[tactic(auto, unfolding(crate::specs::Roots::c_keywords))]
 fn c_keywords() -> &'static [&'static str]
     ensures { map (λ word. word.now) result.now ≡ c_keywords }
 {
     C_KEYWORDS
 }
 
-#[tactic(auto, unfolding(crate::specs::Roots::python_names))]
 fn python_names() -> &'static [&'static str]
     ensures { map (λ word. word.now) result.now ≡ python_names }
 {
@@ -102,7 +99,12 @@ fn python_names() -> &'static [&'static str]
 fn is_one_of(words: &[&str], word: &[u8]) -> bool
     ensures { result ≡ is_one_of (map (λ w. w.now) words.now) word.now }
 {
-    words.iter().any(|other| word == other.as_bytes())
+    for other in words {
+        if word == other.as_bytes() {
+            return true;
+        }
+    }
+    false
 }
 
 /// Whether the word is a keyword of the language.

@@ -76,7 +76,6 @@ const ROWS: &[&str] = &[
 ];
 
 /// What the rows 0 to 68 say in SMT-LIB, with holes.
-#[tactic(auto, unfolding(crate::specs::SmtlibRows::smtlib_rows))]
 pub(crate) fn rows() -> &'static [&'static str]
     ensures { map (λ row. row.now) result.now ≡ smtlib_rows }
 {

@@ -3,7 +3,7 @@ ghost use Rattle.std.specs.Prelude.{◌≡◌, ◌++◌, IfOk, OnOk, flat_map};
 ghost use Rattle.std.specs.List.{join_by, list_all};
 ghost use Rattle.dk_languages.specs.Rows.{separator_in};
 ghost use Rattle.dk_languages.specs.Speaking.{is_spoken};
-ghost use Rattle.dk_languages.specs.Tellings.{conjunction, filling, guard, guarded, number_filling, number_fillings, presence_text, role_fillings, roles_fillings, roles_of, row_fillings, row_text, telling, value_text, values_text, with_presence};
+ghost use Rattle.dk_languages.specs.Tellings.{conjunction, filling, guard, guarded, is_telling, number_filling, number_fillings, presence_text, role_fillings, roles_fillings, roles_of, row_fillings, row_text, telling, value_text, values_text, with_presence};
 
 use crate::fillings::{Filling, fill, push_filled};
 use crate::literals::{Literal, can_say};
@@ -156,46 +156,27 @@ fn push_values<T: Literal>(
     }
 }
 
-// What is said of the values of the state; nothing where it has none.
-fn values_text(
+// What is said of the values of the state, behind the text; nothing where it has none.
+fn push_known(
     alloc: Global,
+    text: &mut Text,
     language: Language,
     row: RowId,
     roles: &[Spoken],
     state: &State,
-) -> Result<Text, NoMemory>
-    ensures { IfOk result (λ text. text ≡ values_text language row roles.now state.now) }
+) -> Result<(), NoMemory>
+    ensures { OnOk result (text.new ≡ text.old ++ values_text language row roles.now state.now) }
 {
-    let mut text = Text::new(alloc);
     match state {
-        State::Ints(numbers) => {
-            push_values(
-                alloc,
-                &mut text,
-                language,
-                row,
-                roles,
-                state,
-                numbers.as_slice(),
-            )?
+        State::Ints(known) => {
+            push_values(alloc, text, language, row, roles, state, known.as_slice())
         }
-        State::Truth(truth) => {
-            push_values(alloc, &mut text, language, row, roles, state, &[*truth])?
+        State::Truth(known) => push_values(alloc, text, language, row, roles, state, &[*known]),
+        State::Texts(known) => {
+            push_values(alloc, text, language, row, roles, state, known.as_slice())
         }
-        State::Texts(texts) => {
-            push_values(
-                alloc,
-                &mut text,
-                language,
-                row,
-                roles,
-                state,
-                texts.as_slice(),
-            )?
-        }
-        _ => (),
+        _ => Ok(()),
     }
-    Ok(text)
 }
 
 // What the row says.
@@ -208,7 +189,8 @@ fn row_text(
 ) -> Result<Text, NoMemory>
     ensures { IfOk result (λ text. text ≡ row_text language row roles.now state.now) }
 {
-    let values = values_text(alloc, language, row, roles, state)?;
+    let mut values = Text::new(alloc);
+    push_known(alloc, &mut values, language, row, roles, state)?;
     let mut fillings = row_fillings(alloc, language, roles, state)?;
     fillings.push(Filling {
         letter: b'L',
@@ -238,15 +220,17 @@ fn guard(language: Language) -> &'static str
 }
 
 // One condition more, behind those that there are.
+#[tactic(auto, using(crate::proofs::Growing::is_empty_by_length))]
 fn push_presence(text: &mut Text, language: Language, presence: &[u8]) -> Result<(), NoMemory>
     ensures { OnOk result (text.new ≡ with_presence language text.old presence.now) }
 {
     if presence.is_empty() {
         return Ok(());
     }
-    if !text.is_empty() {
-        text.append(conjunction(language).as_bytes())?;
+    if text.is_empty() {
+        return text.append(presence);
     }
+    text.append(conjunction(language).as_bytes())?;
     text.append(presence)
 }
 
@@ -262,6 +246,7 @@ fn presence_text(alloc: Global, language: Language, roles: &[Spoken]) -> Result<
 }
 
 // What is said where all variables are there.
+#[tactic(auto, using(crate::proofs::Growing::is_empty_by_length))]
 fn guarded(
     alloc: Global,
     language: Language,
@@ -307,6 +292,21 @@ fn are_spoken(infos: &[VarInfo], bases: &[Base], vars: &[VarId]) -> bool
     vars.iter().all(|var| is_spoken(infos, bases, *var))
 }
 
+// Whether the language can say the variables, the row and what the state knows.
+#[tactic(auto, using(crate::proofs::Growing::is_empty_by_length))]
+fn is_telling(
+    language: Language,
+    infos: &[VarInfo],
+    bases: &[Base],
+    row: RowId,
+    vars: &[VarId],
+    state: &State,
+) -> bool
+    ensures { result ≡ is_telling language infos.now bases.now row vars.now state.now }
+{
+    are_spoken(infos, bases, vars) && can_say(language, state) && !row_in(language, row).is_empty()
+}
+
 /// What a line of a report says, as an expression of the language that is true where the line holds: `row` over the variables `vars` of
 /// `infos` with this state, the variables being told as `bases` says, which `bases` makes of `infos`. Where some variable isn't there (a
 /// derived one, as an element at a place that the sequence doesn't have) the expression is true. None where the language can't say it.
@@ -321,10 +321,7 @@ pub fn telling(
 ) -> Result<Option<Text>, NoMemory>
     ensures { IfOk result (λ told. told ≡ telling language infos.now bases.now row vars.now state.now) }
 {
-    if !are_spoken(infos, bases, vars)
-        || !can_say(language, state)
-        || row_in(language, row).is_empty()
-    {
+    if !is_telling(language, infos, bases, row, vars, state) {
         return Ok(None);
     }
     let roles = roles_of(alloc, language, infos, bases, vars)?;

@@ -2,7 +2,7 @@
 ghost use Rattle.std.specs.Prelude.{◌≡◌, ◌∷◌, [], ◌++◌, IfOk, OnOk, flat_map, map};
 ghost use Rattle.std.specs.List.{list_all};
 ghost use Rattle.dk_base.specs.Shapes.{is_base_form};
-ghost use Rattle.dk_languages.specs.Bases.{base_of, bases, clash, is_clear, is_of_same, is_sayable, is_told, parameters, parameters_of, root_parameter, root_source, size_parameter, takes_size};
+ghost use Rattle.dk_languages.specs.Bases.{base_of, bases, clash, is_clear, is_of_same, is_sayable, is_told, parameters, parameters_of, root_parameter, root_source, size_parameter, takes_size, told_base};
 
 use crate::Language;
 use crate::paths::{
@@ -113,10 +113,10 @@ fn push_parameters_of(
         return Ok(());
     }
     found.push(root_parameter(alloc, language, info)?)?;
-    if takes_size(language, info) {
-        found.push(size_parameter(alloc, language, info)?)?;
+    if !takes_size(language, info) {
+        return Ok(());
     }
-    Ok(())
+    found.push(size_parameter(alloc, language, info)?)
 }
 
 /// The parameters that a point's variables are told by, in the order of the variables; one that several share comes again.
@@ -183,6 +183,21 @@ fn is_told(
     Ok(are_clear(others, own.as_slice()))
 }
 
+// A variable that is told.
+fn told_base(alloc: Global, language: Language, info: &VarInfo) -> Result<Base, NoMemory>
+    ensures { IfOk result (λ base. base ≡ told_base language info.now) }
+{
+    let mut path = Text::new(alloc);
+    let mut size = Text::new(alloc);
+    push_path(&mut path, language, info)?;
+    push_size(alloc, &mut size, language, info)?;
+    Ok(Base {
+        is_told: true,
+        path,
+        size,
+    })
+}
+
 // The variable in the language, the point's parameters being these.
 fn base_of(
     alloc: Global,
@@ -192,17 +207,13 @@ fn base_of(
 ) -> Result<Base, NoMemory>
     ensures { IfOk result (λ base. base ≡ base_of language others.now info.now) }
 {
-    let mut path = Text::new(alloc);
-    let mut size = Text::new(alloc);
-    let is_told = is_told(alloc, language, others, info)?;
-    if is_told {
-        push_path(&mut path, language, info)?;
-        push_size(alloc, &mut size, language, info)?;
+    if is_told(alloc, language, others, info)? {
+        return told_base(alloc, language, info);
     }
     Ok(Base {
-        is_told,
-        path,
-        size,
+        is_told: false,
+        path: Text::new(alloc),
+        size: Text::new(alloc),
     })
 }
 
