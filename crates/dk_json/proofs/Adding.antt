@@ -12,7 +12,7 @@ use Rattle.dk_json.specs.Trees.{Adds, Field, field_tokens, fields_tokens, items_
 use Rattle.dk_json.proofs.Tokens.{fields_tokens-append, items_tokens-items_of, members_tokens-members_of}
 
 -- ---- one token, and some behind others
-pub wrote : {E : Type 0} {x : Unit {0}} {old new : Written} {t : Token} → Writes {E} (Ok x) old new t → Adds old new (t ∷ [])
+pub wrote : {E : Type 0} {x : Unit {0}} {old new : Written} {t : Token} → Writes {E = E} (Ok x) old new t → Adds old new (t ∷ [])
 wrote w = record { tokens = w.ok; before = w.room.0 }
 
 pub behind : {a b c : Written} (ts us : List Token) → Adds a b ts → Adds b c us → Adds a c (ts ++ us)

@@ -1,7 +1,7 @@
 -- Decimal numbers of up to 64 digits are numbers of JSON.
 use Rattle.std.proofs.Common.{◌≡◌, ℕ, ℤ, pos, negsuc, zero, suc, ◌+◌, ◌^◌, ◌<◌, ◌≤◌, ◌%◌, Bool, true, false, cond, ◌==◌, List, [], ◌∷◌, length, drop, get_or, Some, option_and_then, refl, ap, ◌∙◌, arith, length-append}
 use Rattle.std.proofs.lemmas.Bool.{ne_eqb, le-leb, and_from}
-use Rattle.std.proofs.lemmas.List.{drop_all, get_or-append}
+use Rattle.std.proofs.lemmas.List.{drop_all, get_or_append_left}
 use Rattle.std.proofs.lemmas.Fmt.{decimal_by_steps_wide, decimal_digit, decimal_is_IsNumeral_wide}
 use Rattle.std.proofs.lemmas.Str.Parse.{digit_from_value}
 use Rattle.std.specs.Char.{is_ascii_digit}
@@ -24,7 +24,7 @@ first_digit n above small =
     (λ m low. (omega arith, λ positive. omega arith))
     (λ m ds high before. (
       omega (arith, length-append ds ((48 + m % 10) ∷ [])),
-      λ positive. omega (arith, get_or-append ds ((48 + m % 10) ∷ []) 0 0 before.0, before.1 (omega arith)),
+      λ positive. omega (arith, get_or_append_left ds ((48 + m % 10) ∷ []) 0 0 before.0, before.1 (omega arith)),
     )) n small).1 above
 
 -- digits stand to the end of a numeral

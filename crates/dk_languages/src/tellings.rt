@@ -44,7 +44,7 @@ fn roles_fillings(alloc: Global, roles: &[Spoken]) -> Result<List<Filling>, NoMe
     ensures { IfOk result (λ fillings. fillings ≡ roles_fillings roles.now) }
 {
     let mut fillings = List::new(alloc);
-    for (letters, spoken) in ROLE_LETTERS.iter().zip(roles.iter()) {
+    for (letters, spoken) in ROLE_LETTERS.iter().zip(roles) {
         push_role(alloc, &mut fillings, *letters, spoken)?;
     }
     Ok(fillings)

@@ -9,6 +9,6 @@ pub returns : goal.returns
 returns c =
     let modulus : Field = (codes "modulus", natural_json c.args.modulus) in
     let remainder : Field = (codes "remainder", natural_json c.args.remainder) in
-    on_ok_weaker c.push_natural_field.result
+    on_ok_weaker c.push_natural_field-2.result
     (λ last. fields_behind (modulus ∷ []) (remainder ∷ []) (one_field modulus c.in_ok-push_natural_field.ensures) (one_field remainder last))
-    c.push_natural_field.ensures
+    c.push_natural_field-2.ensures

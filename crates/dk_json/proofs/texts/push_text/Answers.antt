@@ -15,14 +15,14 @@ text_is_string : (bytes : List ℕ) → IsUtf8 bytes → string bytes ≡ text_j
 text_is_string bytes is = sym (ap (λ b. if b then string bytes else array (items_of (map natural_json bytes))) (is_utf8-from_IsUtf8 bytes is))
 
 text_is_array : (bytes : List ℕ) → (IsUtf8 bytes → ⊥) → array (items_of (map natural_json bytes)) ≡ text_json bytes
-text_is_array bytes no =
+text_is_array bytes isnt =
     sym (ap (λ b. if b then string bytes else array (items_of (map natural_json bytes)))
-    (false_from_ne_true (is_utf8 bytes) (λ is. no (IsUtf8-from_is_utf8 bytes is))))
+    (false_from_ne_true (is_utf8 bytes) (λ is. isnt (IsUtf8-from_is_utf8 bytes is))))
 
-pub returns-in-Ok : goal.returns-in-Ok
-returns-in-Ok c =
+pub returns-in_ok-string-in-Ok : goal.returns-in_ok-string-in-Ok
+returns-in_ok-string-in-Ok c =
     the_same (ap (λ (s : List ℕ). json_tokens (string s)) c.in-Ok.ensures.cases.0 ∙ ap json_tokens (text_is_string c.args.bytes.now c.in-Ok.ensures.cases.1))
-    (wrote c.in_ok-string.ensures)
+    (wrote c.in_ok-string-in-Ok.ensures)
 
 pub returns-in-Err : goal.returns-in-Err
 returns-in-Err c =
