@@ -1,5 +1,6 @@
 -- Lists that grow by pieces, and what is read of a list.
-use Rattle.std.proofs.Common.{◌≡◌, ◌==◌, ◌<◌, ◌≤◌, ◌+◌, ◌∙◌, ◌++◌, ◌∷◌, [], ℕ, List, length, map, take, get_or, refl, sym, ap, subst}
+use Rattle.std.proofs.Common.{◌≡◌, ◌==◌, ◌<◌, ◌≤◌, ◌+◌, ◌∙◌, ◌++◌, ◌∷◌, [], ℕ, List, length, map, take, get_or, refl, sym, ap, arith, subst, suc}
+use Rattle.std.proofs.lemmas.Bool.{ne_eqb}
 use Rattle.std.proofs.lemmas.List.{flat_map_more, get_or-map, get_or_past, length-map, map_more, take_more}
 use Rattle.std.proofs.lemmas.List.Folds.{flat_map-map}
 use Rattle.std.proofs.lemmas.List.Sums.{fold_more}
@@ -46,7 +47,7 @@ module _ {X Y : Type 0} (show : X → Y) (items : List X) (n : ℕ) (none : Y) w
 -- ---- nothing at all
 pub is_empty_by_length : {X : Type 0} (xs : List X) → is_empty xs ≡ (length xs == 0)
 is_empty_by_length [] = refl
-is_empty_by_length (x ∷ xs) = refl
+is_empty_by_length (x ∷ xs) = sym (ne_eqb (suc (length xs)) 0 (λ e. omega arith))
 
 -- ---- pieces with something between them
 pub join_by-map : {X Y A : Type 0} (f : Y → List A) (g : X → Y) (between : List A) (xs : List X) → join_by f between (map g xs) ≡ join_by (λ x. f (g x)) between xs

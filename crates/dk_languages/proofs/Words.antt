@@ -8,8 +8,8 @@ pub word_ends : (bs : List ℕ) (i : ℕ) → length bs ≤ i → prefix_len is_
 word_ends bs i past = prefix_len-drop_all is_word_byte bs i past
 
 pub word_stops : (bs : List ℕ) (i : ℕ) → i < length bs → is_word_byte (get_or bs i 0) ≡ false → prefix_len is_word_byte (drop i bs) ≡ 0
-word_stops bs i within no = prefix_len-drop_no is_word_byte bs i 0 within no
+word_stops bs i within other = prefix_len-drop_no is_word_byte bs i 0 within other
 
 pub word_goes_on : (bs : List ℕ) (i : ℕ) → i < length bs → is_word_byte (get_or bs i 0) ≡ true
     → prefix_len is_word_byte (drop i bs) ≡ 1 + prefix_len is_word_byte (drop (i + 1) bs)
-word_goes_on bs i within yes = prefix_len-drop_yes is_word_byte bs i 0 within yes
+word_goes_on bs i within same = prefix_len-drop_yes is_word_byte bs i 0 within same

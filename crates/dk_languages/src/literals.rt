@@ -1,7 +1,7 @@
 // Values as literals.
-ghost use Rattle.std.specs.Prelude.{◌≡◌, ◌<◌, ◌++◌, IfOk, OnOk, flat_map, ℕ, List, map};
+ghost use Rattle.std.specs.Prelude.{◌≡◌, ◌<◌, ◌++◌, IfOk, OnOk, false, flat_map, ℕ, List, map};
 ghost use Rattle.std.specs.Fmt.{digit_glyph, digits};
-ghost use Rattle.std.specs.List.{join_by};
+ghost use Rattle.std.specs.List.{join_by, list_all};
 ghost use Rattle.dk_languages.specs.Literals.{c_byte, can_say, has_string, is_ascii_text, is_null, literals, octal, python_byte, python_string, smtlib_byte, string_text, truth_text};
 ghost use Rattle.dk_languages.specs.Numbers.{number_text};
 
@@ -171,6 +171,8 @@ fn push_string(text: &mut Text, language: Language, bytes: &[u8]) -> Result<(), 
 
 /// What has a literal in each language.
 pub(crate) trait Literal {
+    ghost use Rattle.dk_languages.specs.declared.languages.Language.{Language};
+
     ghost literal_of: { Language → Self → List ℕ };
 
     fn push_to(&self, text: &mut Text, language: Language) -> Result<(), NoMemory>
@@ -211,6 +213,18 @@ fn has_string(language: Language, bytes: &[u8]) -> bool
     }
 }
 
+// Whether the language has all of the strings.
+fn has_strings(language: Language, texts: &[Text]) -> bool
+    ensures { result ≡ list_all (has_string language) texts.now }
+{
+    for text in texts {
+        if !has_string(language, text.as_slice()) {
+            return false;
+        }
+    }
+    true
+}
+
 /// Whether the language can say what the state knows.
 pub(crate) fn can_say(language: Language, state: &State) -> bool
     ensures { result ≡ can_say language state.now }
@@ -220,12 +234,7 @@ pub(crate) fn can_say(language: Language, state: &State) -> bool
             false
         }
         State::Code(code) => *code == 0,
-        State::Texts(texts) => {
-            texts
-                .as_slice()
-                .iter()
-                .all(|text| has_string(language, text.as_slice()))
-        }
+        State::Texts(texts) => has_strings(language, texts.as_slice()),
         _ => true,
     }
 }

@@ -1,5 +1,5 @@
 // Names as paths.
-ghost use Rattle.std.specs.Prelude.{◌≡◌, ◌++◌, ◌==◌, ◌∷◌, [], IfOk, OnOk, drop, flat_map, fold, codes, if◌then◌else◌, map, not, take};
+ghost use Rattle.std.specs.Prelude.{◌≡◌, ◌++◌, ◌==◌, ◌≤◌, ◌∷◌, [], IfOk, OnOk, drop, flat_map, fold, codes, if◌then◌else◌, length, map, not, take};
 ghost use Rattle.std.specs.List.{list_all, prefix_len};
 ghost use Rattle.dk_base.specs.Shapes.{is_orig, is_sequence};
 ghost use Rattle.dk_languages.specs.Roots.{is_keyword};
@@ -154,7 +154,8 @@ pub(crate) fn path_name(info: &VarInfo) -> &[u8]
 // How many bytes of the first word there are.
 #[tactic(auto, using(crate::proofs::Words::word_ends, crate::proofs::Words::word_goes_on, crate::proofs::Words::word_stops))]
 fn root_len(path: &[u8]) -> usize
-    ensures { result ≡ prefix_len is_word_byte path.now }
+    ensures count { result ≡ prefix_len is_word_byte path.now }
+    ensures within { result ≤ length path.now }
 {
     for (place, byte) in path.iter().enumerate() {
         if !is_word_byte(*byte) {
