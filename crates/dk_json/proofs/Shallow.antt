@@ -1,6 +1,6 @@
 -- Lines nest three levels deep.
-use Rattle.std.proofs.Common.{◌≡◌, ◌≤◌, ◌++◌, ◌+◌, ℕ, ℤ, Bool, true, false, List, [], ◌∷◌, Option, Some, None, arith, map}
-use Rattle.std.specs.Prelude.{if◌then◌else◌, max, slice_get}
+use Rattle.std.proofs.Common.{◌≤◌, ℕ, Bool, true, false, List, [], ◌∷◌, Option, Some, None, arith, map}
+use Rattle.std.specs.Prelude.{if◌then◌else◌, slice_get}
 use Rattle.std.specs.Str.{is_utf8}
 use Rattle.json.specs.Json.{Json, string, array}
 use Rattle.json.specs.Tree.{depth, items_depth, members_depth}

@@ -5,8 +5,6 @@ use Rattle.json.specs.Print.{print}
 use Rattle.json.specs.Tree.{json_tokens}
 use Rattle.dk_base.specs.declared.kinds.VarId.{VarId}
 use Rattle.dk_base.specs.declared.kinds.VarInfo.{VarInfo}
-use Rattle.dk_forms.specs.declared.states.State.{State}
-use Rattle.dk_template.specs.declared.grammar.RowId.{RowId}
 use Rattle.dk_json.specs.Rows.{row_name}
 use Rattle.dk_json.specs.States.{state_json}
 use Rattle.dk_json.specs.Texts.{optional_json, text_json}

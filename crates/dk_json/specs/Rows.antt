@@ -1,5 +1,4 @@
 -- The names of the rows.
-use Prim.Native.String.{String}
 use Rattle.std.specs.Prelude.{ℕ, List, [], ◌∷◌, codes, map, slice_index_or}
 use Rattle.dk_template.specs.declared.grammar.RowId.{RowId}
 

@@ -1,5 +1,5 @@
 -- What a state says, by the names of its parameters.
-use Rattle.std.specs.Prelude.{ℕ, ℤ, List, [], ◌∷◌, codes, map}
+use Rattle.std.specs.Prelude.{List, [], ◌∷◌, codes, map}
 use Rattle.json.specs.Json.{Json, boolean, array, object}
 use Rattle.dk_forms.specs.declared.states.State.{State}
 use Rattle.dk_forms.specs.declared.states.State.TheVariants as state

@@ -1,5 +1,5 @@
 -- Bytes, numbers and what may be missing as JSON.
-use Rattle.std.specs.Prelude.{ℕ, ℤ, pos, List, Option, Some, None, decimal, map, if◌then◌else◌}
+use Rattle.std.specs.Prelude.{ℕ, ℤ, List, Option, Some, None, decimal, map, if◌then◌else◌}
 use Rattle.std.specs.Fmt.{signed_decimal}
 use Rattle.std.specs.Str.{is_utf8}
 use Rattle.json.specs.Json.{Json, null, number, string, array}

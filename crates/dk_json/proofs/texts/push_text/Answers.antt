@@ -4,7 +4,7 @@ use Rattle.std.proofs.lemmas.Result.{on_ok_weaker}
 use Rattle.std.proofs.lemmas.Str.{IsUtf8-from_is_utf8, is_utf8-from_IsUtf8}
 use Rattle.std.specs.Prelude.{if◌then◌else◌}
 use Rattle.std.specs.Str.{IsUtf8, is_utf8}
-use Rattle.json.specs.Json.{Json, array, string}
+use Rattle.json.specs.Json.{array, string}
 use Rattle.json.specs.Tree.{json_tokens}
 use Rattle.dk_json.specs.Texts.{natural_json, text_json}
 use Rattle.dk_json.specs.Trees.{items_of}
