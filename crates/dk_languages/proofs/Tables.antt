@@ -1,10 +1,9 @@
 -- The tables of all rows are full.
-use Rattle.std.proofs.Common.{◌≡◌, ◌<◌, ◌≤◌, ◌&&◌, ℕ, zero, suc, Bool, true, false, List, [], ◌∷◌, Option, Some, None, length, drop, get_or, arith, refl, subst, sym}
+use Rattle.std.proofs.Common.{◌≡◌, ◌<◌, ◌≤◌, ◌&&◌, ℕ, zero, suc, Bool, true, false, List, [], ◌∷◌, Some, None, length, drop, get_or, arith, refl, subst, sym}
 use Rattle.std.proofs.lemmas.Bool.{and_from, and_parts, not-true, not_from_false}
 use Rattle.std.specs.Prelude.{IsSome, if◌then◌else◌, not}
 use Rattle.std.specs.List.{list_all}
 use Rattle.dk_base.specs.Pieces.{is_empty}
-use Rattle.dk_template.specs.declared.grammar.RowId.{RowId}
 use Rattle.dk_languages.specs.CRows.{c_rows}
 use Rattle.dk_languages.specs.Laws.{EachRowHasALine, EachRowIsTold}
 use Rattle.dk_languages.specs.Literals.{can_say}

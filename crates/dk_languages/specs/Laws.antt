@@ -1,5 +1,5 @@
 -- What the tables of all rows come to.
-use Rattle.std.specs.Prelude.{◌≡◌, Bool, false, IsSome, IsTrue, List}
+use Rattle.std.specs.Prelude.{◌≡◌, false, IsSome, IsTrue, List}
 use Rattle.std.specs.List.{list_all}
 use Rattle.dk_base.specs.Pieces.{is_empty}
 use Rattle.dk_base.specs.declared.kinds.VarId.{VarId}

@@ -1,10 +1,9 @@
 -- Names as paths: words with `.` (46) or `->` (45, 62) between them.
-use Rattle.std.specs.Prelude.{◌==◌, ◌&&◌, ◌||◌, ◌++◌, ◌-◌, ℕ, nat_eq, nat_le, nat_lt, Bool, true, false, not, List, [], ◌∷◌, codes, drop, flat_map, fold, length, map, take, if◌then◌else◌}
-use Rattle.std.specs.List.{ends_with, list_all, list_any, prefix_len, starts_with}
+use Rattle.std.specs.Prelude.{◌==◌, ◌&&◌, ◌||◌, ◌++◌, ◌-◌, ℕ, nat_eq, nat_le, Bool, true, false, not, List, [], ◌∷◌, codes, drop, flat_map, fold, length, map, take, if◌then◌else◌}
+use Rattle.std.specs.List.{ends_with, list_all, prefix_len, starts_with}
 use Rattle.std.specs.Str.{bytes_eq}
 use Rattle.dk_base.specs.Shapes.{is_orig, is_sequence}
 use Rattle.dk_base.specs.Words.{words}
-use Rattle.dk_base.specs.declared.kinds.Kind.{Kind}
 use Rattle.dk_base.specs.declared.kinds.VarInfo.{VarInfo}
 use Rattle.dk_languages.specs.declared.languages.Language.{Language}
 use Rattle.dk_languages.specs.declared.languages.Language.TheVariants as language
