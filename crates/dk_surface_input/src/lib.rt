@@ -1,13 +1,9 @@
-//! Tests of the public calls that read a trace, from values and lines up to calls: each is run here with ample memory, and stands
+//! Tests of the public calls that read a trace, from values and lines up to the table of points: each is run here with ample memory, and stands
 //! under its name and with its signature. No call is defined here.
 #![tactic(auto)]
 
 #[cfg(test)]
 mod base;
-#[cfg(test)]
-mod calls;
-#[cfg(test)]
-mod decl;
 #[cfg(test)]
 mod derive;
 #[cfg(test)]
@@ -20,5 +16,3 @@ mod outside;
 mod points;
 #[cfg(test)]
 mod reading;
-#[cfg(test)]
-mod trace;

@@ -1,28 +1,10 @@
-//! Tests of the public calls of the grammar's rows: their table, states, points, joins, and the scans that they stand on. Each is run
-//! here with ample memory, and stands under its name and with its signature. No call is defined here.
+//! Tests of the table of the grammar's rows and of the scans that they stand on. Each call is run here with ample memory, and stands under
+//! its name and with its signature. No call is defined here. What the rows say is shown by the cases of dk_cases.
 #![tactic(auto)]
 
 #[cfg(test)]
 mod arith;
 #[cfg(test)]
-mod binary;
-#[cfg(test)]
-mod elements;
-#[cfg(test)]
-mod forms;
-#[cfg(test)]
-mod grammar;
-#[cfg(test)]
 mod lanes;
 #[cfg(test)]
-mod pairs;
-#[cfg(test)]
-mod sequence;
-#[cfg(test)]
 mod template;
-#[cfg(test)]
-mod ternary;
-#[cfg(test)]
-mod unary;
-#[cfg(test)]
-mod want;

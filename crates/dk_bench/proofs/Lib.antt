@@ -1,4 +1,0 @@
-mod Asking
-mod Judging
-mod Making
-mod Running

@@ -1,8 +1,0 @@
-use Rattle.std.specs.Prelude.{◌≡◌}
-use Rattle.dk_bench_base.proofs.tables.feed_numbers.Given as goal
-
-abbrev pub invariant-loop : goal.invariant-loop
-invariant-loop l = record {
-  grammar : l.engine.grammar ≡ l.fn.engine.grammar;
-  infos : l.engine.infos ≡ l.fn.engine.infos;
-}
