@@ -48,6 +48,7 @@ fn value(number: Option<i64>) -> View<'static>
 }
 
 // The values of numbers.
+#[tactic(auto, using(crate::proofs::Written::written_push))]
 fn values<'a>(alloc: Global, numbers: &[Option<i64>]) -> Result<Vec<View<'a>>, NoMemory>
     ensures { IfOk result (λ sample. All IsWritten (values_of sample.items)) }
 {
@@ -144,6 +145,7 @@ fn sequence<'a>(arena: &'a Arena, noise: &mut Noise) -> Result<View<'a>, NoMemor
 }
 
 // Four small numbers and four sequences.
+#[tactic(auto, using(crate::proofs::Written::written_push))]
 fn mixed<'a>(alloc: Global, arena: &'a Arena, noise: &mut Noise) -> Result<Vec<View<'a>>, NoMemory>
     ensures { IfOk result (λ sample. All IsWritten (values_of sample.items)) }
 {

@@ -1,0 +1,10 @@
+-- cited by public clauses
+pub mod Reads
+pub mod Consuming
+pub mod Standing
+pub mod Ends
+pub mod Files
+-- what holds within a file, and between files
+pub mod WholeFile
+pub mod AllFiles
+pub mod Steps

@@ -1,0 +1,29 @@
+-- What the next block of a file comes to.
+use Rattle.std.specs.Prelude.{◌≡◌, not, is_some, Bool, true, false, List, ℕ, Option, Some, Result, Ok, Err}
+use Rattle.dk_base.specs.declared.faults.Fault.{Fault}
+use Rattle.dk_blocks.specs.History.{Effect, History, effect_of}
+use Rattle.dk_blocks.specs.Steps.{FaultAnswers, Grown, Steps}
+use Rattle.dk_events.specs.Standing.{ignores_of, over_of}
+use Rattle.dk_lines.specs.Reading.{Reading}
+use Rattle.dk_points.specs.Table.{Point}
+use Rattle.dk_driver.specs.Consuming.{Samples}
+use Rattle.dk_driver.specs.Standing.{StandsFor}
+use Rattle.dk_driver.specs.declared.feed.Feed.{Feed}
+
+-- what `next` answers: what is kept behind the next block, and whether there was one
+abbrev pub NextBlock : {C : Type 0} → (C → List Point → Samples → Type 0) → Feed C → History → Reading → List ℕ
+    → Result (Feed C × Bool) Fault → Reading → Option (List ℕ) → Type 0
+NextBlock Stands s h r xs (Ok a) r' left' =
+    (h' : History) × StandsFor Stands a.0 h' × ((effect : Option Effect) × (a.1 ≡ is_some effect)
+    × ((ys : List ℕ) × (left' ≡ Some ys) × Steps (ignores_of s.events) (effect_of (ignores_of s.events) h) (over_of s.events) r xs
+    (Ok (record { history = h'; effect = effect })) (over_of a.0.events) r' ys))
+NextBlock Stands s h r xs (Err fault) r' left' =
+    FaultAnswers (ignores_of s.events) (effect_of (ignores_of s.events) h) (over_of s.events) r xs fault left'
+
+-- numbers of lines and bytes, whatever is told
+abbrev pub NextCounts : {C : Type 0} → Feed C → Reading → Result (Feed C × Bool) Fault → Reading → Type 0
+NextCounts s r (Ok a) r' =
+    (r'.limits ≡ r.limits) × (r'.is_started ≡ not (over_of a.0.events)) × (ignores_of a.0.events ≡ ignores_of s.events)
+    × (a.1 ≡ false → over_of a.0.events ≡ true) × (a.1 ≡ true → over_of s.events ≡ false)
+    × (a.1 ≡ true → Grown (over_of a.0.events) r r')
+NextCounts s r (Err fault) r' = r'.limits ≡ r.limits

@@ -1,0 +1,43 @@
+-- A line of a report as an object.
+use Rattle.std.specs.Prelude.{ℕ, List, [], ◌∷◌, ◌++◌, Option, Some, None, codes, map, slice_get}
+use Rattle.json.specs.Json.{Json, null, string, array, object}
+use Rattle.json.specs.Print.{print}
+use Rattle.json.specs.Tree.{json_tokens}
+use Rattle.dk_base.specs.declared.kinds.VarId.{VarId}
+use Rattle.dk_base.specs.declared.kinds.VarInfo.{VarInfo}
+use Rattle.dk_json.specs.Rows.{row_name}
+use Rattle.dk_json.specs.States.{state_json}
+use Rattle.dk_json.specs.Texts.{optional_json, text_json}
+use Rattle.dk_json.specs.Trees.{Field, items_of, members_of}
+use Rattle.dk_json.specs.declared.lines.Claimed.{Claimed}
+use Rattle.dk_json.specs.declared.lines.Instance.{Instance}
+
+-- ---- the instance that has the text
+abbrev pub name_in : Option VarInfo → List ℕ
+name_in None = []
+name_in (Some info) = info.name
+
+abbrev pub names_json : List VarInfo → List VarId → Json
+names_json infos vars = array (items_of (map (λ (v : VarId). text_json (name_in (slice_get infos v.0))) vars))
+
+-- the row, its variables by role, and the parameters of their state
+abbrev pub instance_fields : Instance → List Field
+instance_fields i =
+    (codes "row", string (row_name i.row)) ∷ (codes "variables", names_json i.infos.now i.vars.now) ∷ (codes "state", state_json i.state.now) ∷ []
+
+-- what the text says, if an instance has it
+abbrev pub said_fields : Option Instance → List Field
+said_fields None = (codes "row", null) ∷ (codes "variables", array (items_of [])) ∷ (codes "state", object (members_of [])) ∷ []
+said_fields (Some i) = instance_fields i
+
+-- ---- the line
+-- the point, the text and the number of samples
+abbrev pub claimed_fields : Claimed → List Field
+claimed_fields c = (codes "point", text_json c.point.now) ∷ (codes "text", text_json c.text.now) ∷ (codes "samples", optional_json c.samples) ∷ []
+
+abbrev pub line_json : Claimed → Option Instance → Json
+line_json claimed said = object (members_of (claimed_fields claimed ++ said_fields said))
+
+-- a value, as it is written
+abbrev pub written : Json → List ℕ
+written j = print (json_tokens j)

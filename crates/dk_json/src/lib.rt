@@ -1,0 +1,12 @@
+//! Lines of a report as lines of JSON, one object each.
+#![tactic(auto)]
+
+mod fields;
+mod lines;
+mod rows;
+mod states;
+#[cfg(test)]
+mod tests;
+mod texts;
+
+pub use lines::{Claimed, Instance, line};

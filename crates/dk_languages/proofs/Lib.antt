@@ -1,0 +1,4 @@
+pub mod Growing
+pub mod Letters
+pub mod Words
+pub mod Tables
