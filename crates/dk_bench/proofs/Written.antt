@@ -1,5 +1,6 @@
 -- Lists of values that texts write.
 use Rattle.std.specs.Prelude.{All, [], ◌∷◌, ◌++◌, List}
+use Rattle.std.proofs.Common.{subst, sym}
 use Rattle.std.proofs.lemmas.List.{map_push}
 use Rattle.std.proofs.lemmas.List.Elements.{All-push}
 use Rattle.dk_base.specs.Spelling.{IsWritten}
