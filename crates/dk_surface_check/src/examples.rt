@@ -25,7 +25,7 @@ const BOUNDS: &str = "=====\nP  [4]\nx >= 1  [4]\nx <= 7\ny == 1\n";
 const THREE_RECORDS: &str =
     "ppt P\nppt-type point\nvariable x\nrep-type int\n\nP\nx\n1\n1\n\nP\nx\n2\n1\n\nP\nx\n0\n1\n";
 
-static EXAMPLES: [Example; 7] = [
+static EXAMPLES: [Example; 8] = [
     Example {
         name: "a text that is violated, one that holds, and one of no variable",
         words: &["a", "t"],
@@ -51,6 +51,15 @@ static EXAMPLES: [Example; 7] = [
         trace: "",
         ended: Ended::Done,
         report: "P: x >= 1: unknown\nP: x <= 7: unknown\nP: y == 1: unknown\n",
+        messages: "",
+    },
+    Example {
+        name: "an exit without its entry is left out",
+        words: &["--ignore-missing-entry", "a", "t"],
+        assertions: "=\nM:::EXIT1\nx <= 5\nx == orig(x)\n",
+        trace: "ppt M:::ENTER\nppt-type point\nvariable b\nrep-type boolean\nvariable x\nrep-type int\n\nppt M:::EXIT1\nppt-type point\nvariable b\nrep-type boolean\nvariable x\nrep-type int\n\nM:::EXIT1\nb\ntrue\n1\nx\n9\n1\n\nM:::ENTER\nb\ntrue\n1\nx\n1\n1\n\nM:::EXIT1\nb\ntrue\n1\nx\n1\n1\n\nM:::ENTER\nb\nfalse\n1\nx\n5\n1\n\nM:::EXIT1\nb\nfalse\n1\nx\n5\n1\n\n",
+        ended: Ended::Done,
+        report: "M:::EXIT1: x <= 5: ok [2]\nM:::EXIT1: x == orig(x): ok [2]\n",
         messages: "",
     },
     Example {

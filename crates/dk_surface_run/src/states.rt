@@ -16,7 +16,14 @@ const SECOND: &str = "P\nx\n3\n1\n\nP\nx\n7\n1\n\n";
 const OLD: &str =
     "daikon-state 1\ncomparability implicit\npoints 1\npoint P\nvar int -1 -1 x\nend\nsamples 0 4\nclass 0\npattern 4 1\nslot 2 0 least 1\nslot 3 0 greatest 7\nslot 11 0 0 holds\nslot 15 0 0 straight 1 -1 0\nend\nend-state\n";
 
-/// A run with these words, where the file `daikon.state` has this text, and `u` the records.
+/// A state that no history gives: x and y had the same value in all samples, and aren't of one class.
+const OF_NO_HISTORY: &str =
+    "daikon-state 2\ncomparability implicit\npoints 1\npoint P\nvar int -1 -1 x\nvar int -1 -1 y\nend\nsamples 0 1\nclass 0\nclass 1\npattern 1 11\nknown 0 5\nknown 1 5\nend\nend-state\n";
+
+/// A sample of both of its variables.
+const BOTH: &str = "P\nx\n5\n1\ny\n5\n1\n\n";
+
+/// A run with these words, where the file `daikon.state` has this text, `u` the records, and `v` that of both variables.
 struct Example {
     name: &'static str,
     words: &'static [&'static str],
@@ -28,7 +35,7 @@ struct Example {
     saved: &'static str,
 }
 
-static EXAMPLES: [Example; 7] = [
+static EXAMPLES: [Example; 10] = [
     Example {
         name: "a text that is no state",
         words: &["--resume", "daikon.state", "u"],
@@ -107,6 +114,42 @@ static EXAMPLES: [Example; 7] = [
         messages: "daikon: daikon.state:1: 7 UnknownPoint\n",
         saved: "",
     },
+    Example {
+        name: "a generated file behind a state",
+        words: &[
+            "--min-samples",
+            "1",
+            "--select",
+            "P",
+            "--generate",
+            "1",
+            "--resume",
+            "daikon.state",
+        ],
+        state: OLD,
+        status: Status::Done,
+        report: "@\nP  [4]\nx >= 1  [4]\nx <= 7  [4]\n",
+        messages: "generated 20000 records\n",
+        saved: "",
+    },
+    Example {
+        name: "a file behind a state that no history gives",
+        words: &["--min-samples", "1", "--resume", "daikon.state", "v"],
+        state: OF_NO_HISTORY,
+        status: Status::Done,
+        report: "@\nP  [2]\nx == 5  [2]\ny == 5  [2]\n",
+        messages: "",
+        saved: "",
+    },
+    Example {
+        name: "a faulty file behind a state that no history gives",
+        words: &["--min-samples", "1", "--resume", "daikon.state", "v", "u"],
+        state: OF_NO_HISTORY,
+        status: Status::Refused,
+        report: "",
+        messages: "daikon: u:5: 12 Truncated\n",
+        saved: "",
+    },
 ];
 
 #[test]
@@ -115,6 +158,7 @@ fn states_are_resumed(rt: HostRuntime) -> Result<(), Fail> {
         let files = [
             ("daikon.state", example.state.as_bytes()),
             ("u", SECOND.as_bytes()),
+            ("v", BOTH.as_bytes()),
         ];
         let (status, sinks) = ran_over(rt.alloc(), &files, example.words, steady(7))?;
         assert_eq!(rt; status, example.status, "{}", example.name);

@@ -19,7 +19,7 @@ struct Example {
     messages: &'static str,
 }
 
-static EXAMPLES: [Example; 5] = [
+static EXAMPLES: [Example; 6] = [
     Example {
         name: "both halves say more",
         words: &["--min-samples", "1", "t"],
@@ -34,6 +34,14 @@ static EXAMPLES: [Example; 5] = [
         text: "ppt P\nppt-type point\nvariable b\nrep-type boolean\nvariable x\nrep-type int\nvariable y\nrep-type int\n\nP\nb\ntrue\n1\nx\n1\n1\ny\n2\n1\n\nP\nb\ntrue\n1\nx\n4\n1\ny\n9\n1\n\nP\nb\ntrue\n1\nx\n6\n1\ny\n7\n1\n\nP\nb\nfalse\n1\nx\n3\n1\ny\n3\n1\n\nP\nb\nfalse\n1\nx\n8\n1\ny\n8\n1\n\nP\nb\nfalse\n1\nx\n5\n1\ny\n5\n1\n\nP\nb\nnonsensical\n2\nx\n0\n1\ny\n20\n1\n",
         ended: Ended::Done,
         report: "===========================================================================\nP  [7]\nb == true ==> x one of { 1, 4, 6 }  [3]\nb == true ==> y one of { 2, 7, 9 }  [3]\nb == true ==> x < y  [3]\nb == false ==> x one of { 3, 5, 8 }  [3]\nb == false ==> x == y  [3]\n",
+        messages: "",
+    },
+    Example {
+        name: "an exit without its entry is left out",
+        words: &["--min-samples", "1", "--ignore-missing-entry", "t"],
+        text: "ppt M:::ENTER\nppt-type point\nvariable b\nrep-type boolean\nvariable x\nrep-type int\n\nppt M:::EXIT1\nppt-type point\nvariable b\nrep-type boolean\nvariable x\nrep-type int\n\nM:::EXIT1\nb\ntrue\n1\nx\n9\n1\n\nM:::ENTER\nb\ntrue\n1\nx\n1\n1\n\nM:::EXIT1\nb\ntrue\n1\nx\n1\n1\n\nM:::ENTER\nb\nfalse\n1\nx\n5\n1\n\nM:::EXIT1\nb\nfalse\n1\nx\n5\n1\n\n",
+        ended: Ended::Done,
+        report: "===========================================================================\nM:::ENTER  [2]\nb == true ==> x == 1  [1]\nb == false ==> x == 5  [1]\n===========================================================================\nM:::EXIT1  [2]\nb == true ==> x == 1  [1]\nb == false ==> x == 5  [1]\n",
         messages: "",
     },
     Example {
