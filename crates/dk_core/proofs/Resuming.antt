@@ -14,7 +14,7 @@ use Rattle.dk_template.specs.declared.grammar.Grammar.{Grammar}
 use Rattle.dk_blocks.specs.History.{History}
 use Rattle.dk_blocks.specs.Standing.{IsBetweenFiles, ReaderStandsFor, points_of as points_in}
 use Rattle.dk_core.specs.Keeping.{IsSound, Keeping}
-use Rattle.dk_core.specs.Resuming.{IsReadFrom, IsStart, state_file}
+use Rattle.dk_core.specs.Resuming.{HasTableOfState, IsStart, state_file}
 use Rattle.dk_core.specs.Standing.{Stands}
 use Rattle.dk_core.specs.declared.kept.Kept.{Kept}
 use Rattle.dk_core.proofs.Asking.{asked}
@@ -61,10 +61,10 @@ state_told k h ps engines implicit old new sound stands there same word says =
     ∙ ap (λ (qs : List Point). old ++ state_file_of h.grammar qs implicit h.samples) table
     ∙ ap (λ (b : Bool). old ++ state_file_of h.grammar h.table b h.samples) word
 
--- such a history is read on from as behind its state file
-pub start_read : (h : History) → IsStart h → IsReadFrom (state_file h) h
+-- such a history has the table and the word of its state file
+pub start_has_table : (h : History) → IsStart h → HasTableOfState (state_file h) h
 unfolding state_file
-start_read h start = record {
+start_has_table h start = record {
   between = between h start;
   content = content_of h.grammar h.table (is_implicit h.header) h.samples;
   meets = history_meets h.grammar h.table (is_implicit h.header) h.samples start.saved;
@@ -73,9 +73,9 @@ start_read h start = record {
   word = refl;
 }
 
--- each spelling has one that is read on from behind it: that of its table and word, without samples
-pub spelling_read : (bytes : List ℕ) → IsSpelling bytes → (h : History) × IsReadFrom bytes h
-spelling_read bytes spelling =
+-- each spelling has a history with its table and word: that without samples
+pub spelling_has_history : (bytes : List ℕ) → IsSpelling bytes → (h : History) × HasTableOfState bytes h
+spelling_has_history bytes spelling =
     let c = spelling.content in (
       record { table = c.points; samples = replicate (length c.points) []; header = with_word c.implicit; calls = []; grammar = c.grammar },
       record {
@@ -88,6 +88,6 @@ spelling_read bytes spelling =
       },
     )
 
--- bytes behind which a history is read on are a spelling
-pub read_spelled : (bytes : List ℕ) (h : History) → IsReadFrom bytes h → IsSpelling bytes
-read_spelled bytes h from = record { content = from.content; meets = from.meets; text = from.text }
+-- bytes of whose table and word there is a history are a spelling
+pub table_spelled : (bytes : List ℕ) (h : History) → HasTableOfState bytes h → IsSpelling bytes
+table_spelled bytes h from = record { content = from.content; meets = from.meets; text = from.text }

@@ -22,9 +22,9 @@ pub record IsStart (h : History) : Type 0 where
   pub many : length h.samples ≡ length h.table
   pub saved : CanBeSaved h.grammar h.table h.samples
 
--- A history that is read on from as behind a state file of these bytes, whichever samples it has: it stands between two files, and its
--- table and its comparability word are those of some content that has the bytes as its text.
-pub record IsReadFrom (bytes : List ℕ) (h : History) : Type 0 where
+-- A history between two files that has the table and the comparability word of a state with these bytes, whatever its samples: those of
+-- some content that has the bytes as its text.
+pub record HasTableOfState (bytes : List ℕ) (h : History) : Type 0 where
   pub between : IsBetweenFiles h
   pub content : Content
   pub meets : IsContent content

@@ -30,6 +30,10 @@ SessionStandsFor s h = Stands s.kept h
 abbrev pub SessionReadsFor : {F : Type 0} → Session F → History → Type 0
 SessionReadsFor s h = ReaderStandsFor s.kept.reader h
 
+-- it stands for each history that all of the session stands for
+abbrev pub ReadersStandToo : Type 0
+ReadersStandToo = (kept : Kept) (h : History) → Stands kept h → ReaderStandsFor kept.reader h
+
 -- its points
 abbrev pub points_of : {F : Type 0} → Session F → List Point
 points_of s = points_in s.kept.reader

@@ -85,6 +85,7 @@ impl Kept {
     #[tactic(auto, unfolding(crate::specs::Standing::Stands))]
     pub(crate) fn new(alloc: Global, grammar: Grammar) -> Result<Kept, NoMemory>
         ensures stands { IfOk result (λ kept. Stands kept (nothing_by grammar)) }
+        ensures reads { IfOk result (λ kept. ReaderStandsFor kept.reader (nothing_by grammar)) }
         ensures grammar { IfOk result (λ kept. kept.grammar ≡ grammar) }
         ensures counts { IfOk result (λ kept. (file_in kept.reader ≡ 0) × (over_in kept.reader ≡ false)) }
     {

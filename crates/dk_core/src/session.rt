@@ -6,7 +6,7 @@ ghost use Rattle.dk_hierarchy.specs.Standing.{EngineStandsFor};
 ghost use Rattle.dk_io.specs.Outside.{Rose};
 ghost use Rattle.dk_lines.specs.Reading.{left_of};
 ghost use Rattle.dk_state.specs.Spelling.{IsSpelling};
-ghost use Rattle.dk_core.specs.Resuming.{IsReadFrom, IsStart, state_file};
+ghost use Rattle.dk_core.specs.Resuming.{HasTableOfState, IsStart, state_file};
 ghost use Rattle.dk_core.specs.Sections.{has_own_samples, has_section, section_of, some_if, stats_of};
 ghost use Rattle.dk_core.specs.Selecting.{SelectsBy};
 ghost use Rattle.dk_core.specs.Standing.{ReportsAlike, SessionReadsFor, SessionStandsFor, blocks_of, file_of, grammar_of, left_with_answer, options_of, over_of, points_of, saved_of, select_of};
@@ -51,6 +51,7 @@ impl<F: Fn(&[u8]) -> bool + Drop> Session<F> {
     #[tactic(auto, unfolding(dk_blocks::specs::History::no_history))]
     pub fn new(alloc: Global, select: F, options: Options) -> Result<Session<F>, NoMemory>
         ensures stands { IfOk result (λ s. SessionStandsFor s no_history) }
+        ensures reads { IfOk result (λ s. SessionReadsFor s no_history) }
         ensures grammar { IfOk result (λ s. grammar_of s ≡ Grammar.Two) }
         ensures options { IfOk result (λ s. options_of s ≡ options) }
         ensures select { IfOk result (λ s. select_of s ≡ select) }
@@ -75,7 +76,7 @@ impl<F: Fn(&[u8]) -> bool + Drop> Session<F> {
         state: &[u8],
     ) -> Result<Session<F>, LoadFault>
         ensures stands { IfOk result (λ s. (h : History) → IsStart h → state_file h ≡ state.now → SessionStandsFor s h) }
-        ensures reads { IfOk result (λ s. (h : History) → IsReadFrom state.now h → SessionReadsFor s h) }
+        ensures reads { IfOk result (λ s. (h : History) → HasTableOfState state.now h → SessionReadsFor s h) }
         ensures spelling { IfOk result (λ s. IsSpelling state.now) }
         ensures saves { IfOk result (λ s. saved_of s ≡ state.now) }
         ensures bad { result ≡ Err LoadFault.BadState → IsSpelling state.now → ⊥ }

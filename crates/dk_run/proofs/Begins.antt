@@ -6,8 +6,7 @@ use Rattle.dk_io.specs.declared.whole.AllFault.{AllFault}
 use Rattle.dk_io.specs.declared.whole.AllFault.TheVariants as all
 use Rattle.dk_state.specs.Spelling.{IsSpelling}
 use Rattle.dk_blocks.specs.History.{History, no_history}
-use Rattle.dk_core.proofs.Taking.{reads_of}
-use Rattle.dk_core.specs.Resuming.{IsReadFrom, IsStart, state_file}
+use Rattle.dk_core.specs.Resuming.{HasTableOfState, IsStart, state_file}
 use Rattle.dk_core.specs.Standing.{SessionReadsFor, SessionStandsFor, blocks_of, over_of}
 use Rattle.dk_words.specs.declared.command.Command.{Command}
 use Rattle.dk_run.specs.Beginning.{IsBegun, IsLeft, IsResumed, IsUnloaded, IsWhole, StartTroubleGives, StateTroubleGives, trouble_of_read}
@@ -65,14 +64,14 @@ begun_new : (resume : Option (List ℕ)) (file : List ℕ → HeldFile) → resu
 begun_new None file none = tt
 begun_new (Some name) file none = absurd (cc (none))
 
-pub new_begun : {F : Type 0} (command : Command) (b : Beginning F) → command.resume ≡ None → SessionStandsFor b.session no_history → b.room ≡ total_limit → blocks_of b.session ≡ 0 → over_of b.session ≡ false
+pub new_begun : {F : Type 0} (command : Command) (b : Beginning F) → command.resume ≡ None → SessionStandsFor b.session no_history → SessionReadsFor b.session no_history → b.room ≡ total_limit → blocks_of b.session ≡ 0 → over_of b.session ≡ false
     → ReportsBy command b.session → (file : List ℕ → HeldFile) → IsBegun command file b
-new_begun command b none stands room counts over reports file = record {
+new_begun command b none stands reads room counts over reports file = record {
   begun = begun_new command.resume file none;
   starts = λ start begins. let same = begins_new command.resume file start none begins in
       record {
         from = record {
-          reads = subst (λ (s : Outset). SessionReadsFor b.session s.history) (sym same) (reads_of b.session.kept no_history stands);
+          reads = subst (λ (s : Outset). SessionReadsFor b.session s.history) (sym same) reads;
           stands = λ begun. subst (λ (s : Outset). SessionStandsFor b.session s.history) (sym same) stands;
         };
         room_is = room ∙ ap (λ (s : Outset). s.room) (sym same);
@@ -106,7 +105,7 @@ resumed_reads : {F : Type 0} (command : Command) (name : List ℕ) (file : List 
     → IsResumed command state b → BeginsLike (Some name) file start → SessionReadsFor b.session start.history × (b.room ≡ start.room)
 resumed_reads command name file state rest b start whole resumed (xs, holds, short, from, room) =
     let same = (whole.all xs holds).0 in (
-      resumed.reads start.history (subst (λ (l : List ℕ). IsReadFrom l start.history) (sym same) from),
+      resumed.reads start.history (subst (λ (l : List ℕ). HasTableOfState l start.history) (sym same) from),
       resumed.room ∙ ap (λ (l : List ℕ). total_limit - length l) same ∙ sym room,
     )
 

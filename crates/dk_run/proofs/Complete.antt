@@ -7,7 +7,7 @@ use Rattle.dk_base.specs.declared.why.Why.{Why}
 use Rattle.dk_io.specs.Outside.{HeldFile, Absent, Holds, Rose}
 use Rattle.dk_io.specs.declared.outside.Stream.TheVariants.{Messages}
 use Rattle.dk_blocks.specs.History.{History, file_ended}
-use Rattle.dk_core.proofs.Resuming.{read_spelled}
+use Rattle.dk_core.proofs.Resuming.{table_spelled}
 use Rattle.dk_words.specs.declared.command.Command.{Command}
 use Rattle.dk_words.specs.declared.request.Request.{Request}
 use Rattle.dk_words.specs.declared.request.Request.TheVariants.{Run, Help, Version}
@@ -121,7 +121,7 @@ start_state : (resume : Option (List ℕ)) (file : List ℕ → HeldFile) (start
 start_state None file start begins name is = absurd (cc (is))
 start_state (Some other) file start (xs, holds, short, from, room) name is =
     let here : other ≡ name = cc (is) in
-    (xs, ap file (sym here) ∙ holds, (short, read_spelled xs start.history from))
+    (xs, ap file (sym here) ∙ holds, (short, table_spelled xs start.history from))
 
 not_state_refused : (command : Command) (before : Outside) (output : Output) (start : Outset) → BeginsLike command.resume before.file start → IsStateRefused command before output → ⊥
 not_state_refused command before output start begins refused =

@@ -32,7 +32,7 @@ use Rattle.dk_run.specs.declared.reading.Trouble.{Trouble}
 use Rattle.dk_run.specs.declared.reading.Trouble.TheVariants as t
 use Rattle.dk_run.proofs.Courses.{no_lines, onto_more}
 use Rattle.dk_run.proofs.Filing.{due_append, due_none}
-use Rattle.dk_run.proofs.Starts.{starts_are_read}
+use Rattle.dk_run.proofs.Starts.{starts_begin_alike}
 use Rattle.dk_run.proofs.Writing.{front_behind, front_more}
 
 -- ---- one file more, of those that are held
@@ -257,7 +257,7 @@ short_on command file before mid s place r told text limits within there read gi
   there = there_more (helds_of command file) place read.there there;
   due = λ start begins contents held fs.
       let m = one_more (helds_of command file) contents place within held in
-      let on = read.runs start (starts_are_read command.resume file start begins) m.front m.held in
+      let on = read.runs start (starts_begin_alike command.resume file start begins) m.front m.held in
       let e = gives on.history (length on.after) on.from.reads on.counts m.bytes m.there in
       let ignores = command.ignore_missing_entry in
       let number : length on.after + 1 ≡ 1 + length on.after = omega arith in

@@ -42,7 +42,7 @@ use Rattle.dk_run.specs.declared.status.Status.{Status}
 use Rattle.dk_run.specs.declared.status.Status.TheVariants.{Done, Refused, Usage, Read, Write, NoMemory}
 use Rattle.dk_run.proofs.Placing.{helds_length, names_length, rose_since}
 use Rattle.dk_run.proofs.Running.{alone}
-use Rattle.dk_run.proofs.Starts.{starts_are_read}
+use Rattle.dk_run.proofs.Starts.{starts_begin_alike}
 use Rattle.dk_run.proofs.Writing.{added_more, added_nothing, front_all, front_behind, front_more, front_take, known_nothing}
 
 -- ---- what was written
@@ -193,7 +193,7 @@ ended_output : {F : Type 0} (command : Command) (before after : Outside) (rest :
     → (h : History) × SessionStandsFor s h × (output_of start command (map ended_file contents) ≡ with_state (first_line command) (text ++ last_due command (blocks_of s) h) (saved_state command h))
 unfolding output_of
 ended_output command before after rest s room text read start begins contents held =
-    let on = read.runs start (starts_are_read command.resume before.file start begins) contents (held_all command before.file contents held) in (
+    let on = read.runs start (starts_begin_alike command.resume before.file start begins) contents (held_all command before.file contents held) in (
       on.history,
       on.from.stands begins,
       ap (output_along command) (alone start command (Begins command.resume before.file start) rest after.rest s room (length (file_names command)) text contents on)
@@ -301,7 +301,7 @@ refused_comes command before after text place line why begun at = record {
   no_state = refl;
   clean_before = at.clean;
   first = λ start begins contents held. let (after, told, e) = at.gives start begins contents held in ap (λ (c : Course FileFault). fault_in c.end) e;
-  defined = λ start begins contents held. let (after, told, e) = at.gives start (starts_are_read command.resume before.file start begins) contents held in
+  defined = λ start begins contents held. let (after, told, e) = at.gives start (starts_begin_alike command.resume before.file start begins) contents held in
       ap (λ (l : List ℕ). so_far (first_line command ++ fault_line (file_name_at (file_names command) place) line why) l) (told begins) ∙ ap (output_along command) (sym e);
 }
 

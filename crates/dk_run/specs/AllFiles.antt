@@ -22,7 +22,7 @@ use Rattle.dk_run.specs.declared.reading.FilesTrouble.{FilesTrouble}
 use Rattle.dk_run.specs.declared.reading.FilesTrouble.TheVariants.{Refused, Start, Read, Write, NoMemory}
 
 -- The files in front of this place were read, which hold these contents: the run over them and any others, behind this start, goes on from
--- here. Where it Begins with the start, the reports that were due are told.
+-- here. Where it has Begun with the start, the reports that were due are told.
 pub record RunsOn {F : Type 0} (start : Outset) (command : Command) (Begun : Type 0) (before rest : Option (List ℕ)) (session : Session F)
     (room place : ℕ) (text : List ℕ) (contents : List (List ℕ)) : Type 0 where
   pub after : List History
@@ -44,7 +44,7 @@ pub record AreReadTo {F : Type 0} (command : Command) (file : List ℕ → HeldF
       → AreHeldFiles (take place (helds_of command file)) contents
       → RunsOn start command (Begins command.resume file start) before rest session room place text contents
 
--- The files up to this place hold this fault as their first, and the reports that were due are told.
+-- The files up to this place hold this fault as their first, and where the run begins with the start, the reports that were due are told.
 pub record IsRefusedAt (command : Command) (file : List ℕ → HeldFile) (text : List ℕ) (place line : ℕ) (why : Why) : Type 0 where
   pub named : place < length (helds_of command file)
   pub there : (k : ℕ) → k < place + 1 → held_file_at (helds_of command file) k ≢ Absent
@@ -56,7 +56,8 @@ pub record IsRefusedAt (command : Command) (file : List ℕ → HeldFile) (text 
       ≡ record { after = after; end = Err (record { file = place; line = line; why = why }) })
 
 -- What is told where a file can't be read, behind files of these contents; of the reports where the run has Begun with this start.
-abbrev pub BreakGives : Break → Outset → Command → Type 0 → ℕ → HeldFile → Option (List ℕ) → Option (List ℕ) → List ℕ → List (List ℕ) → Type 0
+abbrev pub BreakGives : Break → Outset → Command → Type 0 → ℕ → HeldFile
+    → Option (List ℕ) → Option (List ℕ) → List ℕ → List (List ℕ) → Type 0
 BreakGives AtStart start command Begun place held before rest text contents =
     (rest ≡ rest_behind (place - generated_count command) before)
     × (Begun → text ≡ due_reports command (course_of start command.ignore_missing_entry (map ended_file contents)).after)
@@ -65,8 +66,8 @@ BreakGives Within start command Begun place held before rest text contents = (xs
     × (first_fault start command.ignore_missing_entry (map ended_file contents ++ delivered ∷ []) ≡ None)
     × (Begun → text ≡ due_reports command (course_of start command.ignore_missing_entry (map ended_file contents ++ delivered ∷ [])).after)
 
--- The file at this place, a named one, could not be read. What was delivered holds no fault, and the reports that are due within it are
--- told.
+-- The file at this place, a named one, could not be read. What was delivered holds no fault, and where the run begins with the start, the
+-- reports that are due within it are told.
 pub record IsUnreadAt (by : Break) (command : Command) (file : List ℕ → HeldFile) (before rest : Option (List ℕ)) (text : List ℕ)
     (place : ℕ) : Type 0 where
   pub behind : generated_count command ≤ place
@@ -75,7 +76,8 @@ pub record IsUnreadAt (by : Break) (command : Command) (file : List ℕ → Held
   pub clean : AreClean command file place
   pub gives : (start : Outset) → BeginsLike command.resume file start → (contents : List (List ℕ))
       → AreHeldFiles (take place (helds_of command file)) contents
-      → BreakGives by start command (Begins command.resume file start) place (held_file_at (helds_of command file) place) before rest text contents
+      → BreakGives by start command (Begins command.resume file start) place
+      (held_file_at (helds_of command file) place) before rest text contents
 
 -- a front of the reports that are due is told, whatever files follow those in front of a place
 pub record IsShortTo (command : Command) (file : List ℕ → HeldFile) (text : List ℕ) : Type 0 where

@@ -9,7 +9,7 @@ use Rattle.dk_state.specs.declared.loading.LoadFault.{LoadFault}
 use Rattle.dk_state.specs.declared.loading.LoadFault.TheVariants as load
 use Rattle.dk_state.specs.Spelling.{IsSpelling}
 use Rattle.dk_blocks.specs.History.{History}
-use Rattle.dk_core.specs.Resuming.{IsReadFrom, IsStart, state_file}
+use Rattle.dk_core.specs.Resuming.{HasTableOfState, IsStart, state_file}
 use Rattle.dk_core.specs.Standing.{SessionReadsFor, SessionStandsFor, blocks_of, over_of}
 use Rattle.dk_words.specs.declared.command.Command.{Command}
 use Rattle.dk_run.specs.Courses.{Outset, total_limit}
@@ -27,7 +27,8 @@ abbrev pub state_name : Command → List ℕ
 state_name command = unwrap_or command.resume []
 
 -- The session goes on from a start, and this is the room for its files.
-pub record BeginsFrom {F : Type 0} (command : Command) (file : List ℕ → HeldFile) (session : Session F) (room : ℕ) (start : Outset) : Type 0 where
+pub record BeginsFrom {F : Type 0} (command : Command) (file : List ℕ → HeldFile)
+    (session : Session F) (room : ℕ) (start : Outset) : Type 0 where
   pub from : GoesOnFrom (Begins command.resume file start) session start.history
   pub room_is : room ≡ start.room
 
@@ -76,7 +77,7 @@ pub record IsWhole (held : HeldFile) (text : List ℕ) (rest : Option (List ℕ)
 pub record IsResumed {F : Type 0} (command : Command) (state : List ℕ) (beginning : Beginning F) : Type 0 where
   pub spelling : IsSpelling state
   pub stands : (h : History) → IsStart h → state_file h ≡ state → SessionStandsFor beginning.session h
-  pub reads : (h : History) → IsReadFrom state h → SessionReadsFor beginning.session h
+  pub reads : (h : History) → HasTableOfState state h → SessionReadsFor beginning.session h
   pub room : beginning.room ≡ total_limit - length state
   pub counts : blocks_of beginning.session ≡ 0
   pub over : over_of beginning.session ≡ false

@@ -20,10 +20,12 @@ RunsEndAtStarts =
     (start : Outset) (ignores : Bool) (contents : List (List ℕ)) (mid : History) → IsStart start.history → start.room ≤ total_limit
     → (course_of start ignores (map ended_file contents)).end ≡ Ok mid → AreFew mid.samples → IsStart mid
 
--- What a run begins with is also that as far as reading goes.
-abbrev pub StartsAreRead : Type 0
-StartsAreRead = (resume : Option (List ℕ)) (file : List ℕ → HeldFile) (start : Outset) → Begins resume file start → BeginsLike resume file start
+-- What a run begins with it also begins with as far as reading goes.
+abbrev pub StartsBeginAlike : Type 0
+StartsBeginAlike =
+    (resume : Option (List ℕ)) (file : List ℕ → HeldFile) (start : Outset) → Begins resume file start → BeginsLike resume file start
 
--- A run that names a file that holds a state begins with something, as far as reading goes, whether or not it is the state of a history.
-abbrev pub StatesAreRead : Type 0
-StatesAreRead = (name xs : List ℕ) (file : List ℕ → HeldFile) → file name ≡ Holds xs → IsState xs → (start : Outset) × BeginsLike (Some name) file start
+-- A run that names a file that holds a state has a start, as far as reading goes, whether or not it is the state of a history.
+abbrev pub EachStateHasAStart : Type 0
+EachStateHasAStart =
+    (name xs : List ℕ) (file : List ℕ → HeldFile) → file name ≡ Holds xs → IsState xs → (start : Outset) × BeginsLike (Some name) file start

@@ -95,7 +95,7 @@ pub record AreRead (command : Command) (before after : Outside) : Type 0 where
       → AreHeldFiles (helds_of command before.file) contents
       → after.rest ≡ rest_behind (length command.files) (rest_begun command.resume before.rest)
 
--- This is the output then.
+-- This is the output then, behind each history that the run begins with.
 pub record IsDone (command : Command) (before after : Outside) (output : Output) : Type 0 where
   pub read : AreRead command before after
   pub messages : output.messages ≡ first_line command
@@ -114,7 +114,8 @@ pub record IsStateRefused (command : Command) (before : Outside) (output : Outpu
   pub fault : (xs : List ℕ) → before.file name ≡ Holds xs → IsRefusedAs why xs
   pub message : output ≡ only_on stream.Messages (fault_line name 0 why)
 
--- The files up to this fault's hold it as their first, and this is the output: its messages end with the fault's line.
+-- The files up to this fault's hold it as their first, and the messages of the output end with the fault's line. Behind each history that
+-- the run begins with the output is that of the run over these files.
 pub record IsRefused (command : Command) (before after : Outside) (output : Output) : Type 0 where
   pub begun : HasBegun command.resume before.file
   pub fault : FileFault
@@ -150,15 +151,16 @@ pub record IsStateUnread (command : Command) (before after : Outside) (output : 
 abbrev pub UnreadGives : Break → Outset → Command → ℕ → HeldFile → Outside → Outside → Output → List (List ℕ) → Type 0
 UnreadGives AtStart start command place held before after output contents =
     (after.rest ≡ rest_behind (place - generated_count command) (rest_begun command.resume before.rest))
-    × (Begins command.resume before.file start → output ≡ unread_output start command (map ended_file contents) (file_name_at (file_names command) place))
+    × (Begins command.resume before.file start
+    → output ≡ unread_output start command (map ended_file contents) (file_name_at (file_names command) place))
 UnreadGives Within start command place held before after output contents = (xs : List ℕ) → held ≡ Holds xs →
     (delivered : File) × IsDelivered xs after.rest delivered
     × (first_fault start command.ignore_missing_entry (map ended_file contents ++ delivered ∷ []) ≡ None)
     × (Begins command.resume before.file start
     → output ≡ unread_output start command (map ended_file contents ++ delivered ∷ []) (file_name_at (file_names command) place))
 
--- The file at this place, one that the words name, could not be read: its start failed, or a read. None in front of it is absent, and the
--- report has what is due within what was delivered.
+-- The file at this place, one that the words name, could not be read: its start failed, or a read. None in front of it is absent, and
+-- behind each history that the run begins with the report has what is due within what was delivered.
 pub record IsUnread (command : Command) (before after : Outside) (output : Output) : Type 0 where
   pub begun : HasBegun command.resume before.file
   pub place : ℕ
@@ -249,16 +251,17 @@ abbrev pub GivesOutput : Status → Output → Status → Outside → Outside �
 GivesOutput status output result before after =
     ((result ≡ status) × (after.written ≡ texts_followed_by before.written output)) ⊎ (result ≡ NoMemory)
 
--- This is said over files behind a start, as far as reading goes: the messages that a run over them has, and its whole output, where it
--- begins with this start.
-pub record SaysOver (command : Command) (before : Outside) (start : Outset) (files : List File) (output : Output) : Type 0 where
+-- The output has the messages of the run over these files behind a start, as far as reading goes; where the run begins with the start, it
+-- is the output of that run.
+pub record HasMessagesOf (command : Command) (before : Outside) (start : Outset) (files : List File) (output : Output) : Type 0 where
   pub messages : output.messages ≡ (output_of start command files).messages
   pub whole : Begins command.resume before.file start → output ≡ output_of start command files
 
--- the run has this status and says this over the files, or memory ran out
-abbrev pub EndsOver : Status → Command → Outset → List File → Status → Outside → Outside → Type 0
-EndsOver status command start files result before after =
-    ((result ≡ status) × ((output : Output) × SaysOver command before start files output × (after.written ≡ texts_followed_by before.written output)))
+-- the run has this status, and such an output over the files, or memory ran out
+abbrev pub CompletesAs : Status → Command → Outset → List File → Status → Outside → Outside → Type 0
+CompletesAs status command start files result before after =
+    ((result ≡ status)
+    × ((output : Output) × HasMessagesOf command before start files output × (after.written ≡ texts_followed_by before.written output)))
     ⊎ (result ≡ NoMemory)
 
 -- Where no fault of the outside rises, a run over files that are held comes to its end. Files behind a faulty one need not be there,
@@ -267,11 +270,11 @@ pub record IsComplete (command : Command) (before after : Outside) (result : Sta
   pub done : (start : Outset) → BeginsLike command.resume before.file start → (contents : List (List ℕ))
       → AreHeldFiles (helds_of command before.file) contents
       → first_fault start command.ignore_missing_entry (map ended_file contents) ≡ None
-      → EndsOver Done command start (map ended_file contents) result before after
+      → CompletesAs Done command start (map ended_file contents) result before after
   pub refused : (start : Outset) → BeginsLike command.resume before.file start → (n : ℕ) (contents : List (List ℕ)) (fault : FileFault)
       → AreHeldFiles (take n (helds_of command before.file)) contents
       → first_fault start command.ignore_missing_entry (map ended_file contents) ≡ Some fault
-      → EndsOver Refused command start (map ended_file contents) result before after
+      → CompletesAs Refused command start (map ended_file contents) result before after
   pub state_refused : (name xs : List ℕ) (why : Why) → command.resume ≡ Some name → before.file name ≡ Holds xs → IsRefusedAs why xs
       → GivesOutput Refused (only_on stream.Messages (fault_line name 0 why)) result before after
 

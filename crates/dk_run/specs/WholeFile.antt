@@ -38,13 +38,13 @@ pub record Within (ignores : Bool) (history : History) (old : Reading) (xs : Lis
       (course_behind ignores history (groups_left false old false (front ++ d))
       ≡ behind_histories after (course_behind ignores next (groups_left is_over new false d))) ⊎ (ys ≡ [])
 
--- A session goes on from a history: its reader stands for it, and where it Stood for the one in front, so do its engines.
+-- A session goes on from a history: its reader stands for it, and where the session Stood for the one in front, all of it does.
 pub record GoesOnFrom {F : Type 0} (Stood : Type 0) (session : Session F) (history : History) : Type 0 where
   pub reads : SessionReadsFor session history
   pub stands : Stood → SessionStandsFor session history
 
--- The session goes on from a history within the file, in front of which n blocks were read, and where it Stood for the one in front, the
--- reports that were due are told.
+-- The session goes on from a history within the file, in front of which n blocks were read, and where it Stood for the one in front of the
+-- file, the reports that were due are told.
 pub record FileGoesOn {F : Type 0} (command : Command) (n : ℕ) (history : History) (Stood : Type 0) (old : Reading) (xs text : List ℕ)
     (session : Session F) (new : Reading) (left : Option (List ℕ)) : Type 0 where
   pub after : List History
@@ -56,7 +56,8 @@ pub record FileGoesOn {F : Type 0} (command : Command) (n : ℕ) (history : Hist
   pub left_is : left ≡ Some ys
   pub within : Within command.ignore_missing_entry history old xs after next (over_of session) new ys
 
--- the file's bytes xs up to its end come to a history, and the reports that were due are told
+-- The file's bytes xs up to its end come to a history, and where the session Stood for the one in front, the reports that were due are
+-- told.
 pub record ComesToEnd {F : Type 0} (command : Command) (n : ℕ) (history : History) (Stood : Type 0) (old : Reading) (xs text : List ℕ)
     (session : Session F) (new : Reading) (left : Option (List ℕ)) : Type 0 where
   pub after : List History
@@ -68,15 +69,15 @@ pub record ComesToEnd {F : Type 0} (command : Command) (n : ℕ) (history : Hist
   pub room : room_of new ≡ room_of old - length xs
   pub all : course_behind command.ignore_missing_entry history (groups_left false old true xs) ≡ record { after = after; end = Ok next }
 
--- the file's bytes xs hold this fault, and the reports that were due are told
+-- The file's bytes xs hold this fault, and where the session Stood for the history, the reports that were due are told.
 pub record HasFault (command : Command) (n : ℕ) (history : History) (Stood : Type 0) (old : Reading) (xs text : List ℕ)
     (fault : LineFault) : Type 0 where
   pub after : List History
   pub told : Stood → text ≡ due_from command (n + 1) after
   pub all : course_behind command.ignore_missing_entry history (groups_left false old true xs) ≡ record { after = after; end = Err fault }
 
--- Of the file's bytes xs a front without a fault was delivered, and the reports that are due within it are told. Where it is all, it may
--- count as ended.
+-- Of the file's bytes xs a front without a fault was delivered, and where the session Stood for the history, the reports that are due
+-- within it are told. Where it is all, it may count as ended.
 pub record IsBroken (command : Command) (n : ℕ) (history : History) (Stood : Type 0) (old : Reading) (xs text : List ℕ)
     (left : Option (List ℕ)) : Type 0 where
   pub front : List ℕ
@@ -91,7 +92,7 @@ pub record IsBroken (command : Command) (n : ℕ) (history : History) (Stood : T
   pub all : course_behind command.ignore_missing_entry history (groups_left false old is_ended front)
       ≡ record { after = after; end = Ok next }
 
--- a front of the reports that are due within the file's bytes xs is told
+-- Where the session Stood for the history, a front of the reports that are due within the file's bytes xs is told.
 pub record IsShort (command : Command) (n : ℕ) (history : History) (Stood : Type 0) (old : Reading) (xs text : List ℕ) : Type 0 where
   pub after : List History
   pub more : List History
