@@ -237,10 +237,9 @@ impl Kept {
     }
 
     /// The table of points.
-    #[tactic(auto, unfolding(crate::specs::Standing::Stands))]
     pub(crate) fn points(&self) -> &Points
         ensures points { result.now ≡ points_in self.now.reader }
-        ensures table { (h : History) → Stands self.now h → result.now ≡ h.table }
+        ensures table { (h : History) → ReaderStandsFor self.now.reader h → result.now ≡ h.table }
     {
         self.reader.points()
     }

@@ -138,7 +138,7 @@ impl<F: Fn(&[u8]) -> bool + Drop> Session<F> {
     /// The table of points.
     pub fn points(&self) -> &Points
         ensures points { result.now ≡ points_of self.now }
-        ensures table { (h : History) → SessionStandsFor self.now h → result.now ≡ h.table }
+        ensures table { (h : History) → SessionReadsFor self.now h → result.now ≡ h.table }
     {
         self.kept.points()
     }
