@@ -1,17 +1,17 @@
 -- Files that are held are read to their ends, or refused at their first fault.
-use Rattle.std.proofs.Common.{◌≡◌, ◌≤◌, ◌<◌, ◌+◌, ◌-◌, inl, inr, Bool, ℕ, zero, suc, List, [], ◌∷◌, map, take, length, Option, Some, None, Result, Ok, Err, IfErr, refl, sym, ◌∙◌, ap, subst, arith}
+use Rattle.std.proofs.Common.{◌≡◌, ◌≤◌, ◌<◌, ◌+◌, ◌-◌, inl, inr, Bool, ℕ, zero, suc, List, [], ◌∷◌, map, take, length, Option, Some, Result, Ok, Err, IfErr, refl, sym, ◌∙◌, ap, subst, arith}
 use Rattle.std.proofs.lemmas.Bool.{cases_lt}
 use Rattle.std.proofs.lemmas.List.{length-take, take-map, take-take, take_all}
 use Rattle.dk_base.specs.Reading.{LineFault}
 use Rattle.dk_base.specs.declared.why.Why.{Why}
 use Rattle.dk_blocks.specs.History.{History, file_ended, no_history}
-use Rattle.dk_io.specs.Outside.{HeldFile, Holds, Rose}
+use Rattle.dk_io.specs.Outside.{HeldFile, Holds}
 use Rattle.dk_points.specs.Table.{Point}
 use Rattle.dk_driver.proofs.Running.{helds_length}
 use Rattle.dk_driver.specs.Consuming.{Samples}
 use Rattle.dk_driver.specs.Ends.{end_of, end_of_file, end_of_files, fault_in, first_fault, then_files, total_limit}
 use Rattle.dk_driver.specs.Files.{AreHeldFiles, FaultAt, File, ended_file}
-use Rattle.dk_driver.specs.Reads.{AreClean, AreCleanBehind, AtStart, Break, HasBroken, HasCause, IsComplete, IsPlaced, IsReadOrShort, IsRefusedAt, IsRefusedOrShort, ReadingSays, Within, held_file_at, helds_of}
+use Rattle.dk_driver.specs.Reads.{AreClean, AtStart, Break, HasBroken, HasCause, IsComplete, IsPlaced, IsRefusedAt, ReadingSays, Within, held_file_at, helds_of}
 use Rattle.dk_driver.specs.declared.fault.FilesFault.{FilesFault}
 use Rattle.dk_driver.specs.declared.fault.FilesFault.TheVariants.{Refused, Start, Read, NoMemory}
 use Rattle.dk_driver.specs.declared.feed.Feed.{Feed}

@@ -1,5 +1,5 @@
 -- The end of groups, a block after another.
-use Rattle.std.proofs.Common.{◌≡◌, ℕ, List, [], Bool, is_some, Option, Some, None, Result, Ok, Err, refl, sym, ◌∙◌, ap, if◌then◌else◌}
+use Rattle.std.proofs.Common.{◌≡◌, ℕ, [], Bool, is_some, Option, Some, None, Result, Ok, Err, refl, sym, ◌∙◌, ap, if◌then◌else◌}
 use Rattle.dk_base.specs.Reading.{LineFault, Reads, ◌>>=◌}
 use Rattle.dk_base.specs.declared.why.Why.{Why}
 use Rattle.dk_base.specs.declared.why.Why.TheVariants.{LongLine as WhyLong, TooLong as WhyMany}

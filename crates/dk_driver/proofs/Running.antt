@@ -14,8 +14,8 @@ use Rattle.dk_points.specs.Table.{Point}
 use Rattle.dk_driver.specs.AllFiles.{AreReadTo, FilesGive, GoesOn}
 use Rattle.dk_driver.specs.Consuming.{Samples}
 use Rattle.dk_driver.specs.Ends.{end_behind, end_of, end_of_file, end_of_files, fault_in, first_fault, line_limit, then_files, total_limit}
-use Rattle.dk_driver.specs.Files.{AreHeldFiles, FaultAt, File, ended_file, file_name_at}
-use Rattle.dk_driver.specs.Reads.{AreCleanBehind, AreRead, AtStart, ComeTo, FaultSays, HasBroken, HasCause, IsPlaced, IsRefusedAt, IsUnreadAt, ReadingSays, Within, held_file_at, helds_of, rest_behind}
+use Rattle.dk_driver.specs.Files.{AreHeldFiles, File, ended_file, file_name_at}
+use Rattle.dk_driver.specs.Reads.{AreCleanBehind, AreRead, AtStart, FaultSays, HasCause, IsPlaced, IsRefusedAt, IsUnreadAt, ReadingSays, Within, held_file_at, helds_of, rest_behind}
 use Rattle.dk_driver.specs.Standing.{StandsFor}
 use Rattle.dk_driver.specs.WholeFile.{ComesToEnd, FileFaultGives, HasFault, IsBroken, fault_at, fresh_reading}
 use Rattle.dk_driver.specs.declared.fault.FileFault.{FileFault}

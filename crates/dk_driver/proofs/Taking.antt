@@ -1,10 +1,10 @@
 -- What the next block tells a consumer.
-use Rattle.std.proofs.Common.{◌≡◌, ◌∙◌, ◌-◌, ◌+◌, ℕ, true, false, List, [], ◌∷◌, ◌++◌, length, replicate, Option, Some, None, is_some, Ok, Err, IfSome, ap, arith, refl, subst, sym, length-append}
+use Rattle.std.proofs.Common.{◌≡◌, ◌∙◌, ℕ, true, false, List, Option, Some, None, is_some, Ok, Err, IfSome, ap, refl, subst, sym}
 use Rattle.dk_base.specs.Values.{values_of}
 use Rattle.dk_base.specs.declared.faults.Fault.{Fault}
 use Rattle.dk_base.specs.declared.faults.Fault.TheVariants as f
 use Rattle.dk_blocks.proofs.Added.{next_added}
-use Rattle.dk_blocks.specs.Adding.{Adds, AddsNothing, AddsPoints, AddsSample}
+use Rattle.dk_blocks.specs.Adding.{Adds}
 use Rattle.dk_blocks.specs.History.{Declares, Effect, History, Nothing, Samples as SamplesEffect, Taken, effect_of, own_samples_with}
 use Rattle.dk_blocks.specs.Reading.{stepped}
 use Rattle.dk_blocks.specs.Standing.{ReaderStandsFor, Stands as ReaderKeeps, points_of as points_in}

@@ -1,5 +1,5 @@
 -- Files as lists of bytes, and what is told of them.
-use Rattle.std.specs.Prelude.{◌≡◌, ℕ, Bool, true, false, List, [], map, slice_get, unwrap_or}
+use Rattle.std.specs.Prelude.{◌≡◌, ℕ, Bool, true, List, [], map, slice_get, unwrap_or}
 use Rattle.dk_base.specs.declared.why.Why.{Why}
 use Rattle.dk_io.specs.Outside.{HeldFile, Holds}
 

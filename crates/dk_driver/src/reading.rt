@@ -39,9 +39,9 @@ fn read_started<C: Consumer, I: Inputs>(
     ensures cause { IsErrOf result FileFault.Read → Rose (I.faults inputs.old) (I.faults inputs.new) }
 {
     let mut feed = feed;
-    'blocks: loop {
+    'steps: loop {
         match feed.next(inputs, lines) {
-            Ok(true) => continue 'blocks,
+            Ok(true) => continue 'steps,
             Ok(false) => return Ok(feed.end_file()),
             Err(fault) => return Err(FileFault::from(fault)),
         }

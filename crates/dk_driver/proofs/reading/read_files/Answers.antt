@@ -1,5 +1,4 @@
 use Rattle.std.proofs.Common.{◌≡◌, rules}
-use Rattle.dk_blocks.specs.History.{no_history}
 use Rattle.dk_lines.specs.Reading.{room_of}
 use Rattle.dk_driver.specs.Ends.{total_limit}
 use Rattle.dk_driver.specs.Standing.{StandsFor}

@@ -13,8 +13,8 @@ use Rattle.dk_driver.specs.declared.fault.FileFault.{FileFault}
 use Rattle.dk_driver.specs.declared.fault.FileFault.TheVariants as t
 use Rattle.dk_driver.proofs.reading.read_started.Goals as goal
 
-pub blocks-init : goal.blocks-init
-blocks-init g c = record {
+pub steps-init : goal.steps-init
+steps-init g c = record {
   fits = c.requires.fits;
   started = search rules;
   limits = search rules;
@@ -24,11 +24,11 @@ blocks-init g c = record {
   goes = λ h stands. not_begun (ignores_of c.args.feed.events) h c.args.lines.now _ (StandsFor g.C.Consumer.stands c.args.feed) _ c.requires.begins stands;
 }
 
-pub blocks-preserved : goal.blocks-preserved
-blocks-preserved g c =
+pub steps-preserved : goal.steps-preserved
+steps-preserved g c =
     let is : c.next.result ≡ Ok true = search rules in
-    let answers = λ (h : History) (stands : StandsFor g.C.Consumer.stands c.blocks.feed h).
-    subst (λ (a : Result Bool Fault). IfSome (left_of c.blocks.lines (g.I.Inputs.rest c.blocks.inputs)) (λ ys. NextBlock g.C.Consumer.stands c.blocks.feed h c.blocks.lines ys (left_with_answer c.next.new.self a) c.next.new.lines (left_of c.next.new.lines (g.I.Inputs.rest c.next.new.inputs)))) is (c.next.ensures.gives h stands) in
+    let answers = λ (h : History) (stands : StandsFor g.C.Consumer.stands c.steps.feed h).
+    subst (λ (a : Result Bool Fault). IfSome (left_of c.steps.lines (g.I.Inputs.rest c.steps.inputs)) (λ ys. NextBlock g.C.Consumer.stands c.steps.feed h c.steps.lines ys (left_with_answer c.next.new.self a) c.next.new.lines (left_of c.next.new.lines (g.I.Inputs.rest c.next.new.inputs)))) is (c.next.ensures.gives h stands) in
     record {
       fits = search rules;
       started = search rules;
@@ -36,22 +36,22 @@ blocks-preserved g c =
       ignores = search rules;
       files = search rules;
       later = search rules;
-      goes = λ h stands. file_on g.C.Consumer.stands (ignores_of c.args.feed.events) h c.args.lines.now c.blocks.lines c.next.new.lines _ _ _ c.blocks.feed c.next.new.self c.blocks.invariant.ignores (c.blocks.invariant.goes h stands) answers;
+      goes = λ h stands. file_on g.C.Consumer.stands (ignores_of c.args.feed.events) h c.args.lines.now c.steps.lines c.next.new.lines _ _ _ c.steps.feed c.next.new.self c.steps.invariant.ignores (c.steps.invariant.goes h stands) answers;
     }
 
 pub returns-in-Ok-false-clause-gives : goal.returns-in-Ok-false-clause-gives
 returns-in-Ok-false-clause-gives g c h stands =
     let is : c.next.result ≡ Ok false = search rules in
-    let answers = λ (h : History) (stands : StandsFor g.C.Consumer.stands c.blocks.feed h).
-    subst (λ (a : Result Bool Fault). IfSome (left_of c.blocks.lines (g.I.Inputs.rest c.blocks.inputs)) (λ ys. NextBlock g.C.Consumer.stands c.blocks.feed h c.blocks.lines ys (left_with_answer c.next.new.self a) c.next.new.lines (left_of c.next.new.lines (g.I.Inputs.rest c.next.new.inputs)))) is (c.next.ensures.gives h stands) in
+    let answers = λ (h : History) (stands : StandsFor g.C.Consumer.stands c.steps.feed h).
+    subst (λ (a : Result Bool Fault). IfSome (left_of c.steps.lines (g.I.Inputs.rest c.steps.inputs)) (λ ys. NextBlock g.C.Consumer.stands c.steps.feed h c.steps.lines ys (left_with_answer c.next.new.self a) c.next.new.lines (left_of c.next.new.lines (g.I.Inputs.rest c.next.new.inputs)))) is (c.next.ensures.gives h stands) in
     let over : over_of c.next.new.self.events ≡ true = search rules in
-    file_end g.C.Consumer.stands (ignores_of c.args.feed.events) h c.args.lines.now c.blocks.lines c.next.new.lines _ _ _ c.blocks.feed c.next.new.self c.end_file.result c.blocks.invariant.ignores
-    (c.blocks.invariant.goes h stands) answers over c.end_file.ensures.stands
+    file_end g.C.Consumer.stands (ignores_of c.args.feed.events) h c.args.lines.now c.steps.lines c.next.new.lines _ _ _ c.steps.feed c.next.new.self c.end_file.result c.steps.invariant.ignores
+    (c.steps.invariant.goes h stands) answers over c.end_file.ensures.stands
 
 pub returns-in-Err-clause-gives : goal.returns-in-Err-clause-gives
 returns-in-Err-clause-gives g c h stands =
     subst (λ (t : FileFault). IfSome (left_of c.args.lines.now (g.I.Inputs.rest c.args.inputs.now)) (λ xs. FaultGives (ignores_of c.args.feed.events) h c.args.lines.now xs t (left_of c.next.new.lines (g.I.Inputs.rest c.next.new.inputs)))) (sym c.from.ensures)
-    (file_fault g.C.Consumer.stands (ignores_of c.args.feed.events) h c.args.lines.now c.blocks.lines c.next.new.lines _ _ _ c.blocks.feed c.in-Err.fault c.blocks.invariant.ignores (c.blocks.invariant.goes h stands) c.in-Err.ensures.gives)
+    (file_fault g.C.Consumer.stands (ignores_of c.args.feed.events) h c.args.lines.now c.steps.lines c.next.new.lines _ _ _ c.steps.feed c.in-Err.fault c.steps.invariant.ignores (c.steps.invariant.goes h stands) c.in-Err.ensures.gives)
 
 pub returns-in-Err-clause-started : goal.returns-in-Err-clause-started
 returns-in-Err-clause-started g c = λ e. faulted_started c.in-Err.fault c.from.result c.from.ensures (same_fault c.from.result t.Start _ refl e)
@@ -61,4 +61,4 @@ returns-in-Err-clause-emptied g c = λ e. let (file, is) = faulted_read c.in-Err
 
 pub returns-in-Err-clause-cause : goal.returns-in-Err-clause-cause
 returns-in-Err-clause-cause g c = λ e. let (file, is) = faulted_read c.in-Err.fault c.from.result c.from.ensures (same_fault c.from.result t.Read _ refl e) in
-    rose_since (g.I.Inputs.faults c.args.inputs.now) (g.I.Inputs.faults c.blocks.inputs) (g.I.Inputs.faults c.next.new.inputs) c.blocks.invariant.later (c.in-Err.ensures.cause file (ap (λ (f : Fault). Err f) is))
+    rose_since (g.I.Inputs.faults c.args.inputs.now) (g.I.Inputs.faults c.steps.inputs) (g.I.Inputs.faults c.next.new.inputs) c.steps.invariant.later (c.in-Err.ensures.cause file (ap (λ (f : Fault). Err f) is))

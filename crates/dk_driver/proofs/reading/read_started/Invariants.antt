@@ -6,8 +6,8 @@ use Rattle.dk_driver.specs.Standing.{StandsFor, points_of}
 use Rattle.dk_driver.specs.WholeFile.{FileGoesOn}
 use Rattle.dk_driver.proofs.reading.read_started.Given as goal
 
-abbrev pub invariant-blocks : goal.invariant-blocks
-invariant-blocks g l = record {
+abbrev pub invariant-steps : goal.invariant-steps
+invariant-steps g l = record {
   fits : g.C.Consumer.fits l.feed.consumer (points_of l.feed);
   started : l.lines.is_started ≡ not (over_of l.feed.events);
   limits : l.lines.limits ≡ l.fn.lines.limits;
@@ -18,5 +18,5 @@ invariant-blocks g l = record {
       (λ xs. FileGoesOn (ignores_of l.fn.feed.events) h l.fn.lines xs (StandsFor g.C.Consumer.stands l.feed) (over_of l.feed.events) l.lines (left_of l.lines (g.I.Inputs.rest l.inputs)));
 }
 
-abbrev pub decreases-blocks : goal.decreases-blocks
-decreases-blocks g l = (l.lines.limits.total - l.lines.total) * 2 + (if over_of l.feed.events then 0 else 1)
+abbrev pub decreases-steps : goal.decreases-steps
+decreases-steps g l = (l.lines.limits.total - l.lines.total) * 2 + (if over_of l.feed.events then 0 else 1)

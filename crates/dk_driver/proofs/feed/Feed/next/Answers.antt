@@ -1,7 +1,6 @@
 use Rattle.std.proofs.Common.{◌≡◌, IfSome, List, Option, Some, None, Result, Ok, refl, rules, subst, sym}
 use Rattle.dk_base.specs.declared.faults.Fault.{Fault}
 use Rattle.dk_blocks.specs.Standing.{left_with_answer}
-use Rattle.dk_events.specs.Following.{Following}
 use Rattle.dk_events.specs.Standing.{NextEvent, points_of}
 use Rattle.dk_events.specs.Telling.{PointsGoOn}
 use Rattle.dk_events.specs.declared.event.Event.{Event}
@@ -11,8 +10,8 @@ use Rattle.dk_driver.specs.Consuming.{Tells}
 use Rattle.dk_driver.proofs.Taking.{none_on, taken_on}
 use Rattle.dk_driver.proofs.feed.Feed.next.Goals as goal
 
-pub take-requires-behind : goal.take-requires-behind
-take-requires-behind g c =
+pub take-requires-clause-behind : goal.take-requires-clause-behind
+take-requires-clause-behind g c =
     let found : c.in-Ok-Some.field-0 ≡ Some c.in-Ok-Some.event = search rules in
     let goes = subst (λ (o : Option Event). PointsGoOn (points_of c.args.self.now.events) o (points_of c.next.new.self)) found c.in-Ok-Some.ensures.points in (
       points_of c.args.self.now.events,
