@@ -1,7 +1,8 @@
 -- What is kept of a state, and what state is saved of it.
-use Rattle.std.proofs.Common.{◌≡◌, ◌∙◌, ◌++◌, All, Bool, List, ℕ, Result, Ok, Err, sym, ap, subst}
-use Rattle.std.specs.Prelude.{OnOk}
-use Rattle.dk_decl.specs.Headers.{is_implicit}
+use Rattle.std.proofs.Common.{◌≡◌, ◌∙◌, ◌++◌, [], All, Bool, List, ℕ, Result, Ok, Err, length, refl, sym, ap, subst}
+use Rattle.std.proofs.lemmas.List.{length-replicate}
+use Rattle.std.specs.Prelude.{OnOk, replicate}
+use Rattle.dk_decl.specs.Headers.{is_implicit, with_word}
 use Rattle.dk_engine.specs.Levels.{Whole}
 use Rattle.dk_hierarchy.specs.Samples.{OwnSamples, own_samples_of}
 use Rattle.dk_hierarchy.specs.Standing.{AreEnginesOf, EnginesStandFor}
@@ -13,7 +14,7 @@ use Rattle.dk_template.specs.declared.grammar.Grammar.{Grammar}
 use Rattle.dk_blocks.specs.History.{History}
 use Rattle.dk_blocks.specs.Standing.{IsBetweenFiles, ReaderStandsFor, points_of as points_in}
 use Rattle.dk_core.specs.Keeping.{IsSound, Keeping}
-use Rattle.dk_core.specs.Resuming.{IsStart, state_file}
+use Rattle.dk_core.specs.Resuming.{HasTableOfState, IsStart, state_file}
 use Rattle.dk_core.specs.Standing.{Stands}
 use Rattle.dk_core.specs.declared.kept.Kept.{Kept}
 use Rattle.dk_core.proofs.Asking.{asked}
@@ -60,11 +61,33 @@ state_told k h ps engines implicit old new sound stands there same word says =
     ∙ ap (λ (qs : List Point). old ++ state_file_of h.grammar qs implicit h.samples) table
     ∙ ap (λ (b : Bool). old ++ state_file_of h.grammar h.table b h.samples) word
 
--- the state file of a start is one
-pub spelled_start : (h : History) → IsStart h → IsSpelling (state_file h)
+-- such a history has the table and the word of its state file
+pub start_has_table : (h : History) → IsStart h → HasTableOfState (state_file h) h
 unfolding state_file
-spelled_start h start = record {
+start_has_table h start = record {
+  between = between h start;
   content = content_of h.grammar h.table (is_implicit h.header) h.samples;
   meets = history_meets h.grammar h.table (is_implicit h.header) h.samples start.saved;
   text = content_text h.grammar h.table (is_implicit h.header) h.samples;
+  table = refl;
+  word = refl;
 }
+
+-- each spelling has a history with its table and word: that without samples
+pub spelling_has_history : (bytes : List ℕ) → IsSpelling bytes → (h : History) × HasTableOfState bytes h
+spelling_has_history bytes spelling =
+    let c = spelling.content in (
+      record { table = c.points; samples = replicate (length c.points) []; header = with_word c.implicit; calls = []; grammar = c.grammar },
+      record {
+        between = record { no_calls = refl; no_word = refl; many = length-replicate (length c.points) [] };
+        content = c;
+        meets = spelling.meets;
+        text = spelling.text;
+        table = refl;
+        word = refl;
+      },
+    )
+
+-- bytes of whose table and word there is a history are a spelling
+pub table_spelled : (bytes : List ℕ) (h : History) → HasTableOfState bytes h → IsSpelling bytes
+table_spelled bytes h from = record { content = from.content; meets = from.meets; text = from.text }

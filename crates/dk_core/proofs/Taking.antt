@@ -34,6 +34,7 @@ use Rattle.dk_core.specs.Keeping.{IsSound, Keeping}
 use Rattle.dk_core.specs.Standing.{Stands}
 use Rattle.dk_core.specs.Steps.{NextKept}
 use Rattle.dk_core.specs.Taking.{EnginesWere, TakenAs}
+use Rattle.dk_core.specs.declared.kept.Kept.{Kept}
 
 -- the reader has the table of the history that it stands for, and that has samples for each point
 pub table_of : (r : Reader) (h : History) → ReaderStandsFor r h → points_in r ≡ h.table
@@ -43,6 +44,11 @@ table_of r h stands = stands.table
 many_of : (r : Reader) (h : History) → ReaderStandsFor r h → length h.samples ≡ length h.table
 unfolding ReaderKeeps
 many_of r h stands = stands.many
+
+-- where all that is kept stands for a history, the reader does
+pub reads_of : (k : Kept) (h : History) → Stands k h → ReaderStandsFor k.reader h
+unfolding Stands
+reads_of k h stands = stands.reader
 
 -- what is kept of a history, before the next block is taken
 pub were : (k : Keeping) (reader : Reader) (h : History) → IsSound k → Stands k h → EnginesWere (record k { reader = reader }) h
@@ -113,16 +119,16 @@ base_fits ps engines p old values are at fits =
 -- ---- what the next block tells
 
 -- a block that is taken
-pub taken_on : (ignores : Bool) (k : Keeping) (reader : Reader) (k' : Keeping) (h : History) (r new : Reading) (o left : Option (List ℕ)) (found : Found) → over_in k'.reader ≡ over_in reader
-    → ((now : History) → ReaderStandsFor reader now → TakenAs h (Ok k') (outcome_of now (Some found)))
+pub taken_on : (ignores : Bool) (k : Keeping) (reader : Reader) (k' : Keeping) (h : History) (r new : Reading) (o left : Option (List ℕ)) (found : Found) → IsSound k → over_in k'.reader ≡ over_in reader
+    → ((now : History) → ReaderStandsFor reader now → TakenAs (record k { reader = reader }) h (Ok k') (outcome_of now (Some found)))
     → IfSome o (λ xs. NextBlock ignores k.reader h r xs (Ok (reader, Some found)) new left) → IfSome o (λ xs. NextKept ignores k h r xs (Ok (k', true)) new left)
-taken_on ignores k reader k' h r new None left found over takes gives = tt
-taken_on ignores k reader k' h r new (Some xs) left found over takes (now, stands, (ys, at, steps)) =
+taken_on ignores k reader k' h r new None left found sound over takes gives = tt
+taken_on ignores k reader k' h r new (Some xs) left found sound over takes (now, stands, (ys, at, steps)) =
     let t = takes now stands in
-    let taken : Taken = record { history = t.0; effect = Some t.1.0 } in
-    let own = subst (λ (outcome : Result Taken LineFault). Steps ignores (effect_of ignores h) (over_in k.reader) r xs outcome (over_in reader) new ys) t.1.1 steps in
+    let taken : Taken = record { history = t.0; effect = Some t.2.0 } in
+    let own = subst (λ (outcome : Result Taken LineFault). Steps ignores (effect_of ignores h) (over_in k.reader) r xs outcome (over_in reader) new ys) t.2.1 steps in
     let adds = next_added ignores h (groups_left (over_in k.reader) r true xs) (stepped taken (groups_left (over_in reader) new true ys)) own.takes in
-    (t.0, t.1.2 adds.0 adds.1, (Some t.1.0, refl, (ys, at, subst (λ (b : Bool). Steps ignores (effect_of ignores h) (over_in k.reader) r xs (Ok taken) b new ys) (sym over) own)))
+    (t.0, t.1, λ own_kept. t.2.2 (were k reader h sound own_kept) adds.0 adds.1, (Some t.2.0, refl, (ys, at, subst (λ (b : Bool). Steps ignores (effect_of ignores h) (over_in k.reader) r xs (Ok taken) b new ys) (sym over) own)))
 
 -- one that is refused
 pub refused_on : (ignores : Bool) (k : Keeping) (reader : Reader) (h : History) (r new : Reading) (o left : Option (List ℕ)) (found : Found) (fault : Fault)
@@ -132,12 +138,12 @@ refused_on ignores k reader h r new None left found fault refuses gives = tt
 refused_on ignores k reader h r new (Some xs) left found fault refuses gives = refused_behind ignores k.reader reader h r new xs left (Some found) fault refuses gives
 
 -- no block
-pub none_on : (ignores : Bool) (k : Keeping) (reader : Reader) (h : History) (r new : Reading) (o left : Option (List ℕ)) → EnginesWere (record k { reader = reader }) h
+pub none_on : (ignores : Bool) (k : Keeping) (reader : Reader) (h : History) (r new : Reading) (o left : Option (List ℕ)) → IsSound k
     → IfSome o (λ xs. NextBlock ignores k.reader h r xs (Ok (reader, None)) new left) → IfSome o (λ xs. NextKept ignores k h r xs (Ok (record k { reader = reader }, false)) new left)
-none_on ignores k reader h r new None left were gives = tt
-none_on ignores k reader h r new (Some xs) left were (now, stands, (ys, at, steps)) =
+none_on ignores k reader h r new None left sound gives = tt
+none_on ignores k reader h r new (Some xs) left sound (now, stands, (ys, at, steps)) =
     let adds = next_added ignores h (groups_left (over_in k.reader) r true xs) (stepped (no_block now) (groups_left (over_in reader) new true ys)) steps.takes in
-    (now, nothing_taken (record k { reader = reader }) h now were adds.0 adds.1 stands, (None, refl, (ys, at, steps)))
+    (now, stands, λ own. nothing_taken (record k { reader = reader }) h now (were k reader h sound own) adds.0 adds.1 stands, (None, refl, (ys, at, steps)))
 
 -- a fault is the reader's
 pub fault_on : (ignores : Bool) (k : Keeping) (h : History) (r new : Reading) (o left : Option (List ℕ)) (fault : Fault)
@@ -148,12 +154,12 @@ fault_on ignores k h r new (Some xs) left fault gives = gives
 -- ---- a declaration that is taken
 
 -- what it does
-pub declared_taken : (k : Keeping) (reader : Reader) (x : Declared) (all : List Whole) (h : History) (outcome : Result Taken LineFault) → EnginesWere k h → AreGrown (points_in reader) k.grammar k.engines all
-    → DeclareGives (Ok (reader, x)) outcome → TakenAs h (Ok (record { reader = reader; grammar = k.grammar; engines = all })) outcome
-declared_taken k reader (New p) all h outcome were grown (now, stands, comes) =
-    (now, (Declares, comes, λ adds grammar. points_taken (record k { reader = reader }) all h now (moved k reader h were) grown adds grammar stands))
-declared_taken k reader (Same p) all h outcome were grown (now, stands, comes) =
-    (now, (Nothing, comes, λ adds grammar. points_taken (record k { reader = reader }) all h now (moved k reader h were) grown (none_more h now adds) grammar stands))
+pub declared_taken : (k : Keeping) (reader : Reader) (x : Declared) (all : List Whole) (h : History) (outcome : Result Taken LineFault) → AreGrown (points_in reader) k.grammar k.engines all
+    → DeclareGives (Ok (reader, x)) outcome → TakenAs k h (Ok (record { reader = reader; grammar = k.grammar; engines = all })) outcome
+declared_taken k reader (New p) all h outcome grown (now, stands, comes) =
+    (now, stands, (Declares, comes, λ were adds grammar. points_taken (record k { reader = reader }) all h now (moved k reader h were) grown adds grammar stands))
+declared_taken k reader (Same p) all h outcome grown (now, stands, comes) =
+    (now, stands, (Nothing, comes, λ were adds grammar. points_taken (record k { reader = reader }) all h now (moved k reader h were) grown (none_more h now adds) grammar stands))
   where
     none_more : (h now : History) → AddsNothing h now → AddsPoints h now
     none_more h now adds = record { more = []; table = adds.table ∙ sym (append-nil h.table); samples = adds.samples ∙ sym (append-nil h.samples) }

@@ -4,10 +4,11 @@ use Rattle.dk_base.specs.declared.values.Value.{Value}
 use Rattle.dk_decl.specs.Headers.{awaits_word, is_implicit}
 use Rattle.dk_derive.specs.Values.{number_of_elements}
 use Rattle.dk_hierarchy.specs.Samples.{OwnSamples}
-use Rattle.dk_state.specs.Spelling.{CanBeSaved}
+use Rattle.dk_state.specs.Spelling.{CanBeSaved, Content, IsContent, text_of_content}
 use Rattle.dk_state.specs.StateFile.{state_file_of}
 use Rattle.dk_template.specs.declared.grammar.Grammar.{Grammar}
 use Rattle.dk_blocks.specs.History.{History, nothing_by}
+use Rattle.dk_blocks.specs.Standing.{IsBetweenFiles}
 
 -- the state file of a history, in the version of its grammar
 unfoldable pub state_file : History → List ℕ
@@ -20,6 +21,16 @@ pub record IsStart (h : History) : Type 0 where
   pub no_word : awaits_word h.header ≡ false
   pub many : length h.samples ≡ length h.table
   pub saved : CanBeSaved h.grammar h.table h.samples
+
+-- A history between two files that has the table and the comparability word of a state with these bytes, whatever its samples: those of
+-- some content that has the bytes as its text.
+pub record HasTableOfState (bytes : List ℕ) (h : History) : Type 0 where
+  pub between : IsBetweenFiles h
+  pub content : Content
+  pub meets : IsContent content
+  pub text : text_of_content content ≡ bytes
+  pub table : h.table ≡ content.points
+  pub word : is_implicit h.header ≡ content.implicit
 
 -- Each point has at most 2^40 own samples, and each of their sequences fewer than 2^63 elements.
 pub record AreFew (own : OwnSamples) : Type 0 where

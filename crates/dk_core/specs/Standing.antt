@@ -26,6 +26,14 @@ Stands kept h = KeepsAll kept h
 abbrev pub SessionStandsFor : {F : Type 0} → Session F → History → Type 0
 SessionStandsFor s h = Stands s.kept h
 
+-- Its reader stands for a history: it has the table, the header and the entries that wait, whatever samples its engines stand for.
+abbrev pub SessionReadsFor : {F : Type 0} → Session F → History → Type 0
+SessionReadsFor s h = ReaderStandsFor s.kept.reader h
+
+-- it stands for each history that all of the session stands for
+abbrev pub ReadersStandToo : Type 0
+ReadersStandToo = (kept : Kept) (h : History) → Stands kept h → ReaderStandsFor kept.reader h
+
 -- its points
 abbrev pub points_of : {F : Type 0} → Session F → List Point
 points_of s = points_in s.kept.reader

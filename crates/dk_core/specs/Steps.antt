@@ -4,7 +4,7 @@ use Rattle.dk_base.specs.declared.faults.Fault.{Fault}
 use Rattle.dk_lines.specs.Reading.{Reading}
 use Rattle.dk_blocks.specs.History.{Effect, History, effect_of}
 use Rattle.dk_blocks.specs.Steps.{FaultAnswers, Grown, IsInFile, Steps}
-use Rattle.dk_blocks.specs.Standing.{file_of as file_in, over_of as over_in}
+use Rattle.dk_blocks.specs.Standing.{ReaderStandsFor, file_of as file_in, over_of as over_in}
 use Rattle.dk_core.specs.Standing.{Stands, blocks_of, file_of, ignores_of, over_of}
 use Rattle.dk_core.specs.declared.kept.Kept.{Kept}
 use Rattle.dk_core.specs.declared.session.Session.{Session}
@@ -14,10 +14,11 @@ abbrev pub kept_left : {F : Type 0} → Result (Session F × Bool) Fault → Res
 kept_left (Ok a) = Ok (a.0.kept, a.1)
 kept_left (Err fault) = Err fault
 
--- what `next` answers: what is kept after the next block, and whether there was one
+-- What `next` answers where its reader stands for the history h: what is kept after the next block, and whether there was one. The reader
+-- stands for the history behind it, and all that is kept does where it stood for h.
 abbrev pub NextKept : Bool → Kept → History → Reading → List ℕ → Result (Kept × Bool) Fault → Reading → Option (List ℕ) → Type 0
 NextKept ignores k h r xs (Ok a) r' left' =
-    (h' : History) × Stands a.0 h' × ((effect : Option Effect) × (a.1 ≡ is_some effect)
+    (h' : History) × ReaderStandsFor a.0.reader h' × (Stands k h → Stands a.0 h') × ((effect : Option Effect) × (a.1 ≡ is_some effect)
     × ((ys : List ℕ) × (left' ≡ Some ys) × Steps ignores (effect_of ignores h) (over_in k.reader) r xs
     (Ok (record { history = h'; effect = effect })) (over_in a.0.reader) r' ys))
 NextKept ignores k h r xs (Err fault) r' left' = FaultAnswers ignores (effect_of ignores h) (over_in k.reader) r xs fault left'

@@ -6,7 +6,7 @@ ghost use Rattle.dk_base.specs.declared.values.Value.{Value};
 ghost use Rattle.dk_blocks.specs.Finding.{FoundFits, outcome_of};
 ghost use Rattle.dk_blocks.specs.Fitting.{ConstantsFit, HasFittingConstants};
 ghost use Rattle.dk_blocks.specs.History.{History, file_ended, nothing_by, with_declaration};
-ghost use Rattle.dk_blocks.specs.Standing.{ReaderStandsFor, file_of as file_in, left_behind, over_of as over_in, points_of as points_in};
+ghost use Rattle.dk_blocks.specs.Standing.{IsBetweenFiles, ReaderStandsFor, file_of as file_in, left_behind, over_of as over_in, points_of as points_in};
 ghost use Rattle.dk_blocks.specs.Steps.{IsInFile};
 ghost use Rattle.dk_decl.specs.Headers.{is_implicit};
 ghost use Rattle.dk_derive.specs.Laws.{base_of, var_kinds};
@@ -79,12 +79,13 @@ fn feed<'a>(arena: &'a Bump, engine: &mut Engine, base: &[View<'a>]) -> Result<(
 impl Kept {
     ghost use Rattle.dk_core.specs.Standing.{Stands, left_with_answer};
     ghost use Rattle.dk_core.specs.Steps.{KeptCounts, NextKept};
-    ghost use Rattle.dk_core.specs.Taking.{EnginesWere, TakenAs};
+    ghost use Rattle.dk_core.specs.Taking.{TakenAs};
 
     /// No points.
     #[tactic(auto, unfolding(crate::specs::Standing::Stands))]
     pub(crate) fn new(alloc: Global, grammar: Grammar) -> Result<Kept, NoMemory>
         ensures stands { IfOk result (λ kept. Stands kept (nothing_by grammar)) }
+        ensures reads { IfOk result (λ kept. ReaderStandsFor kept.reader (nothing_by grammar)) }
         ensures grammar { IfOk result (λ kept. kept.grammar ≡ grammar) }
         ensures counts { IfOk result (λ kept. (file_in kept.reader ≡ 0) × (over_in kept.reader ≡ false)) }
     {
@@ -102,6 +103,7 @@ impl Kept {
         requires constants { ConstantsFit loaded.points }
         ensures stands { IfOk result (λ kept. (h : History) → IsStart h → StandForHistory h.grammar h.table loaded.engines h.samples → loaded.grammar ≡ h.grammar → loaded.points ≡ h.table
             → loaded.implicit ≡ is_implicit h.header → Stands kept h) }
+        ensures reads { IfOk result (λ kept. (h : History) → IsBetweenFiles h → loaded.points ≡ h.table → loaded.implicit ≡ is_implicit h.header → ReaderStandsFor kept.reader h) }
         ensures saves { IfOk result (λ kept. saved_by kept ≡ saved_text loaded.grammar loaded.points loaded.implicit (map (λ e. e.kept) loaded.engines)) }
         ensures counts { IfOk result (λ kept. (file_in kept.reader ≡ 0) × (over_in kept.reader ≡ false)) }
     {
@@ -127,7 +129,7 @@ impl Kept {
         ignores: bool,
     ) -> Result<bool, Fault>
         requires { lines.old.is_started ≡ not (over_in self.old.reader) }
-        ensures gives { (h : History) → Stands self.old h → IfSome (left_of lines.old (I.rest inputs.old))
+        ensures gives { (h : History) → ReaderStandsFor self.old.reader h → IfSome (left_of lines.old (I.rest inputs.old))
             (λ xs. NextKept ignores self.old h lines.old xs (left_with_answer self.new result) lines.new (left_of lines.new (I.rest inputs.new))) }
         ensures grammar { self.new.grammar ≡ self.old.grammar }
         ensures counts { KeptCounts self.old lines.old (left_with_answer self.new result) lines.new }
@@ -151,7 +153,7 @@ impl Kept {
     // Takes a block that was found: a declaration's points get engines, and a sample goes to the engine of its point.
     fn take<'a>(&mut self, arena: &'a Bump, found: Found<'a>) -> Result<(), Fault>
         requires { FoundFits (points_in self.old.reader) (Some found) }
-        ensures gives { (h now : History) → EnginesWere self.old h → ReaderStandsFor self.old.reader now → TakenAs h (left_behind self.new result) (outcome_of now (Some found.entry)) }
+        ensures gives { (h now : History) → ReaderStandsFor self.old.reader now → TakenAs self.old h (left_behind self.new result) (outcome_of now (Some found.entry)) }
         ensures grammar { self.new.grammar ≡ self.old.grammar }
         ensures counts { IfOk result (λ _. (file_in self.new.reader ≡ file_in self.old.reader) × (over_in self.new.reader ≡ over_in self.old.reader)) }
         ensures file { IfErr result (IsInFile (file_in self.old.reader)) }
@@ -175,7 +177,7 @@ impl Kept {
     #[inline(never)]
     fn declare(&mut self, line: u64, decl: PointDecl) -> Result<(), Fault>
         requires { HasFittingConstants decl }
-        ensures gives { (h now : History) → EnginesWere self.old h → ReaderStandsFor self.old.reader now → TakenAs h (left_behind self.new result) (with_declaration now line decl) }
+        ensures gives { (h now : History) → ReaderStandsFor self.old.reader now → TakenAs self.old h (left_behind self.new result) (with_declaration now line decl) }
         ensures grammar { self.new.grammar ≡ self.old.grammar }
         ensures counts { IfOk result (λ _. (file_in self.new.reader ≡ file_in self.old.reader) × (over_in self.new.reader ≡ over_in self.old.reader)) }
         ensures file { IfErr result (IsInFile (file_in self.old.reader)) }
@@ -197,7 +199,7 @@ impl Kept {
     // The same, where what is kept is taken apart.
     fn with_declaration(self, line: u64, decl: PointDecl) -> Result<Kept, Fault>
         requires { HasFittingConstants decl }
-        ensures gives { (h now : History) → EnginesWere self h → ReaderStandsFor self.reader now → TakenAs h result (with_declaration now line decl) }
+        ensures gives { (h now : History) → ReaderStandsFor self.reader now → TakenAs self h result (with_declaration now line decl) }
         ensures grammar { IfOk result (λ kept. kept.grammar ≡ self.grammar) }
         ensures counts { IfOk result (λ kept. (file_in kept.reader ≡ file_in self.reader) × (over_in kept.reader ≡ over_in self.reader)) }
         ensures file { IfErr result (IsInFile (file_in self.reader)) }
@@ -227,6 +229,7 @@ impl Kept {
     #[tactic(auto, unfolding(crate::specs::Standing::Stands))]
     pub(crate) fn end_file(&mut self)
         ensures stands { (h : History) → Stands self.old h → Stands self.new (file_ended h) }
+        ensures reads { (h : History) → ReaderStandsFor self.old.reader h → ReaderStandsFor self.new.reader (file_ended h) }
         ensures grammar { self.new.grammar ≡ self.old.grammar }
         ensures counts { (file_in self.new.reader ≡ min (file_in self.old.reader + 1) (2 ^ 32 - 1)) × (over_in self.new.reader ≡ false) }
     {
@@ -234,10 +237,9 @@ impl Kept {
     }
 
     /// The table of points.
-    #[tactic(auto, unfolding(crate::specs::Standing::Stands))]
     pub(crate) fn points(&self) -> &Points
         ensures points { result.now ≡ points_in self.now.reader }
-        ensures table { (h : History) → Stands self.now h → result.now ≡ h.table }
+        ensures table { (h : History) → ReaderStandsFor self.now.reader h → result.now ≡ h.table }
     {
         self.reader.points()
     }

@@ -6,10 +6,10 @@ ghost use Rattle.dk_hierarchy.specs.Standing.{EngineStandsFor};
 ghost use Rattle.dk_io.specs.Outside.{Rose};
 ghost use Rattle.dk_lines.specs.Reading.{left_of};
 ghost use Rattle.dk_state.specs.Spelling.{IsSpelling};
-ghost use Rattle.dk_core.specs.Resuming.{IsStart, state_file};
+ghost use Rattle.dk_core.specs.Resuming.{HasTableOfState, IsStart, state_file};
 ghost use Rattle.dk_core.specs.Sections.{has_own_samples, has_section, section_of, some_if, stats_of};
 ghost use Rattle.dk_core.specs.Selecting.{SelectsBy};
-ghost use Rattle.dk_core.specs.Standing.{ReportsAlike, SessionStandsFor, blocks_of, file_of, grammar_of, left_with_answer, options_of, over_of, points_of, saved_of, select_of};
+ghost use Rattle.dk_core.specs.Standing.{ReportsAlike, SessionReadsFor, SessionStandsFor, blocks_of, file_of, grammar_of, left_with_answer, options_of, over_of, points_of, saved_of, select_of};
 ghost use Rattle.dk_core.specs.Steps.{NextBlock, SessionCounts};
 
 use crate::kept::Kept;
@@ -51,6 +51,7 @@ impl<F: Fn(&[u8]) -> bool + Drop> Session<F> {
     #[tactic(auto, unfolding(dk_blocks::specs::History::no_history))]
     pub fn new(alloc: Global, select: F, options: Options) -> Result<Session<F>, NoMemory>
         ensures stands { IfOk result (λ s. SessionStandsFor s no_history) }
+        ensures reads { IfOk result (λ s. SessionReadsFor s no_history) }
         ensures grammar { IfOk result (λ s. grammar_of s ≡ Grammar.Two) }
         ensures options { IfOk result (λ s. options_of s ≡ options) }
         ensures select { IfOk result (λ s. select_of s ≡ select) }
@@ -75,6 +76,7 @@ impl<F: Fn(&[u8]) -> bool + Drop> Session<F> {
         state: &[u8],
     ) -> Result<Session<F>, LoadFault>
         ensures stands { IfOk result (λ s. (h : History) → IsStart h → state_file h ≡ state.now → SessionStandsFor s h) }
+        ensures reads { IfOk result (λ s. (h : History) → HasTableOfState state.now h → SessionReadsFor s h) }
         ensures spelling { IfOk result (λ s. IsSpelling state.now) }
         ensures saves { IfOk result (λ s. saved_of s ≡ state.now) }
         ensures bad { result ≡ Err LoadFault.BadState → IsSpelling state.now → ⊥ }
@@ -102,7 +104,7 @@ impl<F: Fn(&[u8]) -> bool + Drop> Session<F> {
     /// history.
     pub fn block<I: Inputs>(&mut self, inputs: &mut I, lines: &mut Lines) -> Result<bool, Fault>
         requires { lines.old.is_started ≡ not (over_of self.old) }
-        ensures gives { (h : History) → SessionStandsFor self.old h → IfSome (left_of lines.old (I.rest inputs.old))
+        ensures gives { (h : History) → SessionReadsFor self.old h → IfSome (left_of lines.old (I.rest inputs.old))
             (λ xs. NextBlock self.old h lines.old xs (left_with_answer self.new result) lines.new (left_of lines.new (I.rest inputs.new))) }
         ensures counts { SessionCounts self.old lines.old (left_with_answer self.new result) lines.new }
         // Grammar, options and selection stay.
@@ -124,6 +126,7 @@ impl<F: Fn(&[u8]) -> bool + Drop> Session<F> {
     /// Without what ends with a file. The next block is of the next file.
     pub fn end_file(self) -> Session<F>
         ensures stands { (h : History) → SessionStandsFor self h → SessionStandsFor result (file_ended h) }
+        ensures reads { (h : History) → SessionReadsFor self h → SessionReadsFor result (file_ended h) }
         ensures counts { (blocks_of result ≡ blocks_of self) × (file_of result ≡ min (file_of self + 1) (2 ^ 32 - 1)) × (over_of result ≡ false) }
         ensures alike { ReportsAlike self result }
     {
@@ -135,7 +138,7 @@ impl<F: Fn(&[u8]) -> bool + Drop> Session<F> {
     /// The table of points.
     pub fn points(&self) -> &Points
         ensures points { result.now ≡ points_of self.now }
-        ensures table { (h : History) → SessionStandsFor self.now h → result.now ≡ h.table }
+        ensures table { (h : History) → SessionReadsFor self.now h → result.now ≡ h.table }
     {
         self.kept.points()
     }

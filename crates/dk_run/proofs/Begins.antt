@@ -6,14 +6,15 @@ use Rattle.dk_io.specs.declared.whole.AllFault.{AllFault}
 use Rattle.dk_io.specs.declared.whole.AllFault.TheVariants as all
 use Rattle.dk_state.specs.Spelling.{IsSpelling}
 use Rattle.dk_blocks.specs.History.{History, no_history}
-use Rattle.dk_core.specs.Resuming.{IsStart, state_file}
-use Rattle.dk_core.specs.Standing.{SessionStandsFor, blocks_of, over_of}
+use Rattle.dk_core.specs.Resuming.{HasTableOfState, IsStart, state_file}
+use Rattle.dk_core.specs.Standing.{SessionReadsFor, SessionStandsFor, blocks_of, over_of}
 use Rattle.dk_words.specs.declared.command.Command.{Command}
 use Rattle.dk_run.specs.Beginning.{IsBegun, IsLeft, IsResumed, IsUnloaded, IsWhole, StartTroubleGives, StateTroubleGives, trouble_of_read}
 use Rattle.dk_run.specs.Courses.{Outset, first_start, total_limit}
-use Rattle.dk_run.specs.Starts.{Begins, HasBegun, IsRefusedAs}
+use Rattle.dk_run.specs.Starts.{Begins, BeginsLike, HasBegun, IsRefusedAs}
 use Rattle.dk_run.specs.Statuses.{AtStart, HasBroken, StateUnreadGives, Within}
 use Rattle.dk_run.specs.Telling.{ReportsBy}
+use Rattle.dk_run.specs.WholeFile.{GoesOnFrom}
 use Rattle.dk_run.specs.declared.starting.Beginning.{Beginning}
 use Rattle.dk_run.specs.declared.starting.StartTrouble.{StartTrouble}
 use Rattle.dk_run.specs.declared.starting.StartTrouble.TheVariants as b
@@ -55,7 +56,7 @@ unread_trouble held mid rest before a b c result all.TooLong is starts later lon
 unread_trouble held mid rest before a b c result all.NoMemory is starts later long delivers rose = tt
 
 -- ---- beginning
-begins_new : (resume : Option (List ℕ)) (file : List ℕ → HeldFile) (start : Outset) → resume ≡ None → Begins resume file start → start ≡ first_start
+begins_new : (resume : Option (List ℕ)) (file : List ℕ → HeldFile) (start : Outset) → resume ≡ None → BeginsLike resume file start → start ≡ first_start
 begins_new None file start none begins = begins
 begins_new (Some name) file start none begins = absurd (cc (none))
 
@@ -63,12 +64,18 @@ begun_new : (resume : Option (List ℕ)) (file : List ℕ → HeldFile) → resu
 begun_new None file none = tt
 begun_new (Some name) file none = absurd (cc (none))
 
-pub new_begun : {F : Type 0} (command : Command) (b : Beginning F) → command.resume ≡ None → SessionStandsFor b.session no_history → b.room ≡ total_limit → blocks_of b.session ≡ 0 → over_of b.session ≡ false
+pub new_begun : {F : Type 0} (command : Command) (b : Beginning F) → command.resume ≡ None → SessionStandsFor b.session no_history → SessionReadsFor b.session no_history → b.room ≡ total_limit → blocks_of b.session ≡ 0 → over_of b.session ≡ false
     → ReportsBy command b.session → (file : List ℕ → HeldFile) → IsBegun command file b
-new_begun command b none stands room counts over reports file = record {
+new_begun command b none stands reads room counts over reports file = record {
   begun = begun_new command.resume file none;
-  stands = λ start begins. let same = begins_new command.resume file start none begins in
-      (subst (λ (s : Outset). SessionStandsFor b.session s.history) (sym same) stands, room ∙ ap (λ (s : Outset). s.room) (sym same));
+  starts = λ start begins. let same = begins_new command.resume file start none begins in
+      record {
+        from = record {
+          reads = subst (λ (s : Outset). SessionReadsFor b.session s.history) (sym same) reads;
+          stands = λ begun. subst (λ (s : Outset). SessionStandsFor b.session s.history) (sym same) stands;
+        };
+        room_is = room ∙ ap (λ (s : Outset). s.room) (sym same);
+      };
   room = omega (arith, room);
   counts = counts;
   over = over;
@@ -89,16 +96,22 @@ same_state : (name : List ℕ) (file : List ℕ → HeldFile) (state : List ℕ)
 same_state name file state rest h whole holds = sym (whole.all (state_file h) holds).0
 
 resumed_stands : {F : Type 0} (command : Command) (name : List ℕ) (file : List ℕ → HeldFile) (state : List ℕ) (rest : Option (List ℕ)) (b : Beginning F) (start : Outset) → IsWhole (file name) state rest
-    → IsResumed command state b → Begins (Some name) file start → SessionStandsFor b.session start.history × (b.room ≡ start.room)
+    → IsResumed command state b → Begins (Some name) file start → SessionStandsFor b.session start.history
 resumed_stands command name file state rest b start whole resumed (h, begin, holds, short, same) =
-    let is = same_state name file state rest h whole holds in (
-      subst (λ (s : Outset). SessionStandsFor b.session s.history) (sym same) (resumed.stands h begin is),
-      resumed.room ∙ ap (λ (l : List ℕ). total_limit - length l) (sym is) ∙ ap (λ (s : Outset). s.room) (sym same),
+    subst (λ (s : Outset). SessionStandsFor b.session s.history) (sym same) (resumed.stands h begin (same_state name file state rest h whole holds))
+
+-- what is read behind the file's bytes
+resumed_reads : {F : Type 0} (command : Command) (name : List ℕ) (file : List ℕ → HeldFile) (state : List ℕ) (rest : Option (List ℕ)) (b : Beginning F) (start : Outset) → IsWhole (file name) state rest
+    → IsResumed command state b → BeginsLike (Some name) file start → SessionReadsFor b.session start.history × (b.room ≡ start.room)
+resumed_reads command name file state rest b start whole resumed (xs, holds, short, from, room) =
+    let same = (whole.all xs holds).0 in (
+      resumed.reads start.history (subst (λ (l : List ℕ). HasTableOfState l start.history) (sym same) from),
+      resumed.room ∙ ap (λ (l : List ℕ). total_limit - length l) same ∙ sym room,
     )
 
 begun_of : {F : Type 0} (command : Command) (resume : Option (List ℕ)) (name : List ℕ) (file : List ℕ → HeldFile) (state : List ℕ) (rest : Option (List ℕ)) (b : Beginning F) → resume ≡ Some name
     → IsWhole (file name) state rest → IsResumed command state b
-    → HasBegun resume file × ((start : Outset) → Begins resume file start → SessionStandsFor b.session start.history × (b.room ≡ start.room))
+    → HasBegun resume file × ((start : Outset) → BeginsLike resume file start → GoesOnFrom (Begins resume file start) b.session start.history × (b.room ≡ start.room))
 begun_of command None name file state rest b is whole resumed = absurd (cc (is))
 begun_of command (Some other) name file state rest b is whole resumed =
     let here : other ≡ name = cc (is) in
@@ -108,7 +121,8 @@ begun_of command (Some other) name file state rest b is whole resumed =
         is_state = λ xs holds. let same = (there.all xs holds).0 in
             (subst (λ (l : List ℕ). length l ≤ total_limit) same there.short, subst IsSpelling same resumed.spelling);
       },
-      λ start begins. resumed_stands command other file state rest b start there resumed begins,
+      λ start begins. let told = resumed_reads command other file state rest b start there resumed begins in
+          (record { reads = told.0; stands = λ begun. resumed_stands command other file state rest b start there resumed begun }, told.1),
     )
 
 pub resumed_begun : {F : Type 0} (command : Command) (name : List ℕ) (file : List ℕ → HeldFile) (state : List ℕ) (rest : Option (List ℕ)) (b : Beginning F) → command.resume ≡ Some name
@@ -118,7 +132,7 @@ resumed_begun command name file state rest b is whole resumed =
     let less : total_limit - length state ≤ total_limit = omega arith in
     record {
       begun = both.0;
-      stands = both.1;
+      starts = λ start begins. let told = both.1 start begins in record { from = told.0; room_is = told.1 };
       room = subst (λ (n : ℕ). n ≤ total_limit) (sym resumed.room) less;
       counts = resumed.counts;
       over = resumed.over;
@@ -128,9 +142,9 @@ resumed_begun command name file state rest b is whole resumed =
 pub resumed_left : (resume : Option (List ℕ)) (name : List ℕ) (file : List ℕ → HeldFile) (state : List ℕ) (before rest : Option (List ℕ)) → resume ≡ Some name → IsWhole (file name) state rest
     → IsLeft resume file before rest
 resumed_left None name file state before rest is whole start begins = absurd (cc (is))
-resumed_left (Some other) name file state before rest is whole start (h, begin, holds, short, same) =
+resumed_left (Some other) name file state before rest is whole start (xs, holds, short, from, room) =
     let here : other ≡ name = cc (is) in
-    (whole.all (state_file h) (ap file (sym here) ∙ holds)).1
+    (whole.all xs (ap file (sym here) ∙ holds)).1
 
 unloaded_gives : (held : HeldFile) (rose : Type 0) (state : List ℕ) (before rest : Option (List ℕ)) (trouble : StartTrouble) → IsWhole held state rest → IsUnloaded state trouble
     → StateTroubleGives held rose before rest trouble

@@ -1,5 +1,5 @@
 -- A run over files that are held comes to its end.
-use Rattle.std.proofs.Common.{◌≡◌, ◌≤◌, ◌<◌, ◌+◌, ◌-◌, ◌⊎◌, inl, inr, Bool, ℕ, zero, suc, List, [], ◌∷◌, map, take, length, Option, Some, None, Result, Ok, Err, refl, sym, ◌∙◌, ap, subst, arith}
+use Rattle.std.proofs.Common.{◌≡◌, ◌≤◌, ◌<◌, ◌+◌, ◌++◌, ◌-◌, ◌⊎◌, inl, inr, Bool, ℕ, zero, suc, List, [], ◌∷◌, map, take, length, Option, Some, None, Result, Ok, Err, refl, sym, ◌∙◌, ap, subst, arith}
 use Rattle.std.proofs.lemmas.Bool.{cases_lt}
 use Rattle.std.proofs.lemmas.List.{length-take, take-map, take-take, take_all}
 use Rattle.dk_base.specs.Reading.{LineFault}
@@ -7,17 +7,16 @@ use Rattle.dk_base.specs.declared.why.Why.{Why}
 use Rattle.dk_io.specs.Outside.{HeldFile, Absent, Holds, Rose}
 use Rattle.dk_io.specs.declared.outside.Stream.TheVariants.{Messages}
 use Rattle.dk_blocks.specs.History.{History, file_ended}
-use Rattle.dk_core.specs.Resuming.{IsStart, state_file}
-use Rattle.dk_core.proofs.Resuming.{spelled_start}
+use Rattle.dk_core.proofs.Resuming.{table_spelled}
 use Rattle.dk_words.specs.declared.command.Command.{Command}
 use Rattle.dk_words.specs.declared.request.Request.{Request}
 use Rattle.dk_words.specs.declared.request.Request.TheVariants.{Run, Help, Version}
 use Rattle.dk_run.specs.Commands.{file_names, helds_of}
 use Rattle.dk_run.specs.Courses.{Course, Outset, behind_histories, course_end, course_of, course_of_file, course_of_files, fault_in, first_fault, then_files}
-use Rattle.dk_run.specs.Starts.{Begins, HasBegun, IsRefusedAs, IsState}
-use Rattle.dk_run.specs.Files.{AreHeldFiles, File, FileFault, ended_file}
+use Rattle.dk_run.specs.Starts.{Begins, BeginsLike, HasBegun, IsRefusedAs, IsState}
+use Rattle.dk_run.specs.Files.{AreHeldFiles, File, FileFault, ended_file, file_name_at}
 use Rattle.dk_print.specs.Sections.{fault_line}
-use Rattle.dk_run.specs.Outputs.{Output, only_on, output_along, output_of, texts_followed_by}
+use Rattle.dk_run.specs.Outputs.{Output, first_line, only_on, output_along, output_at, output_of, texts_followed_by}
 use Rattle.dk_run.specs.Statuses.{AreCleanBehind, AtStart, Break, CompletesCalmly, HasBroken, IsCalm, IsComplete, IsDone, IsRefused, IsStateRefused, IsStateUnread, IsUnread, OutputIsWritten, Outside, Says, Within, held_file_at}
 use Rattle.dk_run.specs.declared.status.Status.{Status}
 use Rattle.dk_run.specs.declared.status.Status.TheVariants.{Done, Refused, Usage, Read, Write, NoMemory}
@@ -75,10 +74,31 @@ not_clean : (start : Outset) (ignores : Bool) (helds : List HeldFile) (k n : ℕ
     → AreHeldFiles (take n helds) contents → first_fault start ignores (map ended_file contents) ≡ Some fault → n ≤ k → ⊥
 not_clean start ignores helds k n contents fault clean held first h = let none = clean n contents h held in cc (none, first)
 
+-- ---- messages
+-- files without a fault have the first line alone
+clean_messages : (start : Outset) (command : Command) (files : List File) → first_fault start command.ignore_missing_entry files ≡ None → (output_of start command files).messages ≡ first_line command
+unfolding output_of
+clean_messages start command files none = by (course_of start command.ignore_missing_entry files).after (course_of start command.ignore_missing_entry files).end none where
+  by : (after : List History) (end : Result History FileFault) → fault_in end ≡ None → (output_at command after end).messages ≡ first_line command
+  by after (Ok h) none = refl
+  by after (Err fault) none = absurd (cc (none))
+
+-- and those with one the fault's line behind it
+fault_messages : (start : Outset) (command : Command) (files : List File) (fault : FileFault) → first_fault start command.ignore_missing_entry files ≡ Some fault
+    → (output_of start command files).messages ≡ first_line command ++ fault_line (file_name_at (file_names command) fault.file) fault.line fault.why
+unfolding output_of
+fault_messages start command files fault first = by (course_of start command.ignore_missing_entry files).after (course_of start command.ignore_missing_entry files).end first where
+  by : (after : List History) (end : Result History FileFault) → fault_in end ≡ Some fault
+      → (output_at command after end).messages ≡ first_line command ++ fault_line (file_name_at (file_names command) fault.file) fault.line fault.why
+  by after (Ok h) first = absurd (cc (first))
+  by after (Err other) first =
+      let same : other ≡ fault = cc (first) in
+      ap (λ (f : FileFault). first_line command ++ fault_line (file_name_at (file_names command) f.file) f.line f.why) same
+
 -- what was told of a refused file holds of all files that are held
-told_refused : (command : Command) (before after : Outside) (output : Output) (comes : IsRefused command before after output) (start : Outset) → Begins command.resume before.file start
+told_refused : (command : Command) (before after : Outside) (output : Output) (comes : IsRefused command before after output) (start : Outset) → BeginsLike command.resume before.file start
     → (n : ℕ) (contents : List (List ℕ)) → comes.fault.file < n → AreHeldFiles (take n (helds_of command before.file)) contents
-    → (first_fault start command.ignore_missing_entry (map ended_file contents) ≡ Some comes.fault) × (output ≡ output_of start command (map ended_file contents))
+    → (first_fault start command.ignore_missing_entry (map ended_file contents) ≡ Some comes.fault) × (Begins command.resume before.file start → output ≡ output_of start command (map ended_file contents))
 unfolding output_of
 told_refused command before after output comes start begins n contents h held =
     let k = comes.fault.file in
@@ -88,7 +108,7 @@ told_refused command before after output comes start begins n contents h held =
     let same : course_of start command.ignore_missing_entry (map ended_file (take (k + 1) contents)) ≡ course_of start command.ignore_missing_entry (map ended_file contents) =
     ap (course_of start command.ignore_missing_entry) (sym (take-map ended_file (k + 1) contents))
     ∙ first_front start command.ignore_missing_entry (k + 1) (map ended_file contents) comes.fault (ap (first_fault start command.ignore_missing_entry) (take-map ended_file (k + 1) contents) ∙ first) in
-    (ap (λ (c : Course FileFault). fault_in c.end) (sym same) ∙ first, comes.defined start begins (take (k + 1) contents) front ∙ ap (output_along command) same)
+    (ap (λ (c : Course FileFault). fault_in c.end) (sym same) ∙ first, λ begun. comes.defined start begun (take (k + 1) contents) front ∙ ap (output_along command) same)
 
 -- ---- the state file
 -- what is a state is not refused as one
@@ -97,13 +117,13 @@ fine_state why xs state (inl (is, long)) = omega (arith, state.0, long)
 fine_state why xs state (inr (is, short, bad)) = bad state.1
 
 -- the state file that a run begins with is there, and is one
-start_state : (resume : Option (List ℕ)) (file : List ℕ → HeldFile) (start : Outset) → Begins resume file start → (name : List ℕ) → resume ≡ Some name → (xs : List ℕ) × (file name ≡ Holds xs) × IsState xs
+start_state : (resume : Option (List ℕ)) (file : List ℕ → HeldFile) (start : Outset) → BeginsLike resume file start → (name : List ℕ) → resume ≡ Some name → (xs : List ℕ) × (file name ≡ Holds xs) × IsState xs
 start_state None file start begins name is = absurd (cc (is))
-start_state (Some other) file start (h, begin, holds, short, same) name is =
+start_state (Some other) file start (xs, holds, short, from, room) name is =
     let here : other ≡ name = cc (is) in
-    (state_file h, ap file (sym here) ∙ holds, (short, spelled_start h begin))
+    (xs, ap file (sym here) ∙ holds, (short, table_spelled xs start.history from))
 
-not_state_refused : (command : Command) (before : Outside) (output : Output) (start : Outset) → Begins command.resume before.file start → IsStateRefused command before output → ⊥
+not_state_refused : (command : Command) (before : Outside) (output : Output) (start : Outset) → BeginsLike command.resume before.file start → IsStateRefused command before output → ⊥
 not_state_refused command before output start begins refused =
     let (xs, holds, state) = start_state command.resume before.file start begins refused.name refused.named in
     fine_state refused.why xs state (refused.fault xs holds)
@@ -113,7 +133,7 @@ not_held_unread AtStart before after held xs calm holds (inl absent) = cc (holds
 not_held_unread AtStart before after held xs calm holds (inr rose) = calm.read rose
 not_held_unread Within before after held xs calm holds (there, rose) = calm.read rose
 
-not_state_unread : (command : Command) (before after : Outside) (output : Output) (start : Outset) → IsCalm before after → Begins command.resume before.file start → IsStateUnread command before after output → ⊥
+not_state_unread : (command : Command) (before after : Outside) (output : Output) (start : Outset) → IsCalm before after → BeginsLike command.resume before.file start → IsStateUnread command before after output → ⊥
 not_state_unread command before after output start calm begins unread =
     let (xs, holds, state) = start_state command.resume before.file start begins unread.name unread.named in
     not_held_unread unread.by before after (before.file unread.name) xs calm holds unread.cause
@@ -134,7 +154,14 @@ same_why a b xs (inr (is, short, bad)) (inr (same, more, worse)) = is ∙ sym sa
 -- ---- what each status says
 done_of : (command : Command) (before after : Outside) (output : Output) → IsDone command before after output → OutputIsWritten before after output → IsComplete command before after Done
 done_of command before after output comes written = record {
-  done = λ start begins contents held none. inl (refl, written.0 ∙ ap (texts_followed_by before.written) (comes.defined start begins contents held));
+  done = λ start begins contents held none. inl (
+    refl,
+    (
+      output,
+      record { messages = comes.messages ∙ sym (clean_messages start command (map ended_file contents) none); whole = λ begun. comes.defined start begun contents held },
+      written.0,
+    ),
+  );
   refused = λ start begins n contents fault held first. elim (cases_lt n (length (helds_of command before.file))) [
     | inl below ↦ absurd (not_clean start command.ignore_missing_entry (helds_of command before.file) (length (helds_of command before.file)) n contents fault (comes.read.clean start begins) held first (omega arith))
     | inr above ↦
@@ -152,7 +179,12 @@ refused_of command before after output comes written = record {
       let told = told_refused command before after output comes start begins (length (helds_of command before.file)) contents (omega (arith, comes.named, same_length command before.file)) (held_whole (helds_of command before.file) contents held) in
       absurd (cc (none, told.0));
   refused = λ start begins n contents fault held first. elim (cases_lt comes.fault.file n) [
-    | inl below ↦ inl (refl, written.0 ∙ ap (texts_followed_by before.written) (told_refused command before after output comes start begins n contents below held).1)
+    | inl below ↦
+        let told = told_refused command before after output comes start begins n contents below held in
+        inl (
+          refl,
+          (output, record { messages = comes.messages ∙ sym (fault_messages start command (map ended_file contents) comes.fault told.0); whole = told.1 }, written.0),
+        )
     | inr above ↦ absurd (not_clean start command.ignore_missing_entry (helds_of command before.file) comes.fault.file n contents fault (comes.clean_before start begins) held first above)
   ];
   state_refused = λ name xs why named holds bad. absurd (begun_state command.resume before.file name xs why comes.begun named holds bad);

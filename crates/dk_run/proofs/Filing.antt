@@ -19,7 +19,7 @@ use Rattle.dk_lines.specs.Reading.{Reading, room_of, left_of}
 use Rattle.dk_blocks.specs.Blocks.{Groups, Last, groups_of}
 use Rattle.dk_blocks.specs.History.{Effect, History, Taken, effect_of, file_ended, no_block}
 use Rattle.dk_blocks.specs.Reading.{Stepped, after_next}
-use Rattle.dk_core.specs.Standing.{ReportsAlike, SessionStandsFor, blocks_of, ignores_of, left_with_answer, over_of}
+use Rattle.dk_core.specs.Standing.{ReportsAlike, SessionReadsFor, SessionStandsFor, blocks_of, ignores_of, left_with_answer, over_of}
 use Rattle.dk_blocks.specs.Steps.{FaultAnswers, Steps, groups_left}
 use Rattle.dk_core.specs.Steps.{NextBlock, SessionCounts}
 use Rattle.dk_core.specs.declared.session.Session.{Session}
@@ -150,15 +150,15 @@ within_on ignores h h1 h2 r new last xs ys zs after effect over over2 a b = reco
 
 -- ---- a file
 -- in front of the first block
-pub not_begun : (command : Command) (n : ℕ) (h : History) (r : Reading) (o : Option (List ℕ)) (Stands : History → Type 0) (blocks : ℕ) (over : Bool) → over ≡ false → Stands h → blocks ≡ capped n
-    → IfSome o (λ xs. FileGoesOn command n h r xs [] Stands blocks over r o)
-not_begun command n h r None Stands blocks over begun stands counts = tt
-not_begun command n h r (Some xs) Stands blocks over begun stands counts = record {
+pub not_begun : {F : Type 0} (command : Command) (n : ℕ) (h : History) (r : Reading) (o : Option (List ℕ)) (s : Session F) → over_of s ≡ false → SessionReadsFor s h → blocks_of s ≡ capped n
+    → IfSome o (λ xs. FileGoesOn command n h (SessionStandsFor s h) r xs [] s r o)
+not_begun command n h r None s begun reads counts = tt
+not_begun command n h r (Some xs) s begun reads counts = record {
   after = [];
   next = h;
-  stands = stands;
+  goes = record { reads = reads; stands = λ stood. stood };
   counts = counts ∙ ap capped (omega arith);
-  told = sym (due_none command (n + 1));
+  told = λ stood. sym (due_none command (n + 1));
   ys = xs;
   left_is = refl;
   within = record {
@@ -172,28 +172,29 @@ not_begun command n h r (Some xs) Stands blocks over begun stands counts = recor
 }
 
 -- what the next block says, of the bytes that are left
-answers_at : {F : Type 0} (s : Session F) (ignores : Bool) (new last : Reading) (mid left : Option (List ℕ)) (r : Result (Session F × Bool) Fault) (h : History) (ys : List ℕ) → mid ≡ Some ys → SessionStandsFor s h
-    → ((h : History) → SessionStandsFor s h → IfSome mid (λ ys. NextBlock s h new ys r last left)) → NextBlock s h new ys r last left
-answers_at s ignores new last mid left r h ys is stands answers = subst (λ (o : Option (List ℕ)). IfSome o (λ ys. NextBlock s h new ys r last left)) is (answers h stands)
+answers_at : {F : Type 0} (s : Session F) (ignores : Bool) (new last : Reading) (mid left : Option (List ℕ)) (r : Result (Session F × Bool) Fault) (h : History) (ys : List ℕ) → mid ≡ Some ys → SessionReadsFor s h
+    → ((h : History) → SessionReadsFor s h → IfSome mid (λ ys. NextBlock s h new ys r last left)) → NextBlock s h new ys r last left
+answers_at s ignores new last mid left r h ys is reads answers = subst (λ (o : Option (List ℕ)). IfSome o (λ ys. NextBlock s h new ys r last left)) is (answers h reads)
 
 -- one block more, and the report by the way behind it
-pub file_on : {F : Type 0} (command : Command) (n : ℕ) (h : History) (r new last : Reading) (o mid left : Option (List ℕ)) (text more : List ℕ) (s next : Session F)
+pub file_on : {F : Type 0} (command : Command) (n : ℕ) (h : History) (Stood : Type 0) (r new last : Reading) (o mid left : Option (List ℕ)) (text more : List ℕ) (s next : Session F)
     → ignores_of s ≡ command.ignore_missing_entry
-    → IfSome o (λ xs. FileGoesOn command n h r xs text (SessionStandsFor s) (blocks_of s) (over_of s) new mid)
-    → ((h : History) → SessionStandsFor s h → IfSome mid (λ ys. NextBlock s h new ys (Ok (next, true)) last left))
+    → IfSome o (λ xs. FileGoesOn command n h Stood r xs text s new mid)
+    → ((h : History) → SessionReadsFor s h → IfSome mid (λ ys. NextBlock s h new ys (Ok (next, true)) last left))
     → blocks_of next ≡ min (blocks_of s + 1) (2 ^ 64 - 1)
     → ((h : History) → SessionStandsFor next h → more ≡ due_text command (blocks_of next) h)
-    → IfSome o (λ xs. FileGoesOn command n h r xs (text ++ more) (SessionStandsFor next) (blocks_of next) (over_of next) last left)
-file_on command n h r new last None mid left text more s next same goes answers counts told = tt
-file_on command n h r new last (Some xs) mid left text more s next same a answers counts told =
-    let (h2, stands, (effect, found, (zs, is, steps))) = answers_at s command.ignore_missing_entry new last mid left (Ok (next, true)) a.next a.ys a.left_is a.stands answers in
+    → IfSome o (λ xs. FileGoesOn command n h Stood r xs (text ++ more) next last left)
+file_on command n h Stood r new last None mid left text more s next same goes answers counts told = tt
+file_on command n h Stood r new last (Some xs) mid left text more s next same a answers counts told =
+    let (h2, reads, stands, (effect, found, (zs, is, steps))) = answers_at s command.ignore_missing_entry new last mid left (Ok (next, true)) a.next a.ys a.left_is a.goes.reads answers in
     let there = some_effect effect found in
     record {
       after = a.after ++ h2 ∷ [];
       next = h2;
-      stands = stands;
+      goes = record { reads = reads; stands = λ stood. stands (a.goes.stands stood) };
       counts = one_more n a.after h2 (blocks_of s) (blocks_of next) a.counts counts;
-      told = ap (λ (l : List ℕ). l ++ more) a.told ∙ ap (λ (l : List ℕ). due_from command (n + 1) a.after ++ l) (told h2 stands)
+      told = λ stood.
+          ap (λ (l : List ℕ). l ++ more) (a.told stood) ∙ ap (λ (l : List ℕ). due_from command (n + 1) a.after ++ l) (told h2 (stands (a.goes.stands stood)))
           ∙ sym (due_more command (n + 1) a.after h2 (blocks_of next) (one_next n a.after (blocks_of s) (blocks_of next) a.counts counts));
       ys = zs;
       left_is = is;
@@ -203,16 +204,16 @@ file_on command n h r new last (Some xs) mid left text more s next same a answer
     }
 
 -- a front of the report by the way behind one block more
-pub file_short : {F : Type 0} (command : Command) (n : ℕ) (h : History) (r new last : Reading) (o mid left : Option (List ℕ)) (text more : List ℕ) (s next : Session F)
+pub file_short : {F : Type 0} (command : Command) (n : ℕ) (h : History) (Stood : Type 0) (r new last : Reading) (o mid left : Option (List ℕ)) (text more : List ℕ) (s next : Session F)
     → ignores_of s ≡ command.ignore_missing_entry
-    → IfSome o (λ xs. FileGoesOn command n h r xs text (SessionStandsFor s) (blocks_of s) (over_of s) new mid)
-    → ((h : History) → SessionStandsFor s h → IfSome mid (λ ys. NextBlock s h new ys (Ok (next, true)) last left))
+    → IfSome o (λ xs. FileGoesOn command n h Stood r xs text s new mid)
+    → ((h : History) → SessionReadsFor s h → IfSome mid (λ ys. NextBlock s h new ys (Ok (next, true)) last left))
     → blocks_of next ≡ min (blocks_of s + 1) (2 ^ 64 - 1)
     → ((h : History) → SessionStandsFor next h → StartsWith (due_text command (blocks_of next) h) more)
-    → IfSome o (λ xs. IsShort command n h r xs (text ++ more))
-file_short command n h r new last None mid left text more s next same goes answers counts told = tt
-file_short command n h r new last (Some xs) mid left text more s next same a answers counts told =
-    let (h2, stands, (effect, found, (zs, is, steps))) = answers_at s command.ignore_missing_entry new last mid left (Ok (next, true)) a.next a.ys a.left_is a.stands answers in
+    → IfSome o (λ xs. IsShort command n h Stood r xs (text ++ more))
+file_short command n h Stood r new last None mid left text more s next same goes answers counts told = tt
+file_short command n h Stood r new last (Some xs) mid left text more s next same a answers counts told =
+    let (h2, reads, stands, (effect, found, (zs, is, steps))) = answers_at s command.ignore_missing_entry new last mid left (Ok (next, true)) a.next a.ys a.left_is a.goes.reads answers in
     let there = some_effect effect found in
     let on = within_on command.ignore_missing_entry h a.next h2 r new last xs a.ys zs a.after there.0 (over_of s) (over_of next) a.within
     (subst (λ (o : Option Effect). Steps command.ignore_missing_entry (effect_of command.ignore_missing_entry a.next) (over_of s) new a.ys (Ok (record { history = h2; effect = o })) (over_of next) last zs) there.1
@@ -221,21 +222,22 @@ file_short command n h r new last (Some xs) mid left text more s next same a ans
       after = a.after ++ h2 ∷ [];
       more = (course_behind command.ignore_missing_entry h2 (groups_left (over_of next) last true zs)).after;
       all = ap (λ (c : Course LineFault). c.after) on.same;
-      told = subst (λ (l : List ℕ). StartsWith l (text ++ more)) (sym (due_more command (n + 1) a.after h2 (blocks_of next) (one_next n a.after (blocks_of s) (blocks_of next) a.counts counts)))
-          (subst (λ (l : List ℕ). StartsWith (due_from command (n + 1) a.after ++ due_text command (blocks_of next) h2) (l ++ more)) (sym a.told)
-          (front_behind (due_from command (n + 1) a.after) (due_text command (blocks_of next) h2) more (told h2 stands)));
+      told = λ stood. subst (λ (l : List ℕ). StartsWith l (text ++ more)) (sym (due_more command (n + 1) a.after h2 (blocks_of next) (one_next n a.after (blocks_of s) (blocks_of next) a.counts counts)))
+          (subst (λ (l : List ℕ). StartsWith (due_from command (n + 1) a.after ++ due_text command (blocks_of next) h2) (l ++ more)) (sym (a.told stood))
+          (front_behind (due_from command (n + 1) a.after) (due_text command (blocks_of next) h2) more (told h2 (stands (a.goes.stands stood)))));
     }
 
 -- no block more
-pub file_end : {F : Type 0} (command : Command) (n : ℕ) (h : History) (r new last : Reading) (o mid left : Option (List ℕ)) (text : List ℕ) (s next done : Session F)
+pub file_end : {F : Type 0} (command : Command) (n : ℕ) (h : History) (Stood : Type 0) (r new last : Reading) (o mid left : Option (List ℕ)) (text : List ℕ) (s next done : Session F)
     → ignores_of s ≡ command.ignore_missing_entry
-    → IfSome o (λ xs. FileGoesOn command n h r xs text (SessionStandsFor s) (blocks_of s) (over_of s) new mid)
-    → ((h : History) → SessionStandsFor s h → IfSome mid (λ ys. NextBlock s h new ys (Ok (next, false)) last left))
+    → IfSome o (λ xs. FileGoesOn command n h Stood r xs text s new mid)
+    → ((h : History) → SessionReadsFor s h → IfSome mid (λ ys. NextBlock s h new ys (Ok (next, false)) last left))
     → blocks_of done ≡ blocks_of s → over_of next ≡ true → ((h : History) → SessionStandsFor next h → SessionStandsFor done (file_ended h))
-    → IfSome o (λ xs. ComesToEnd command n h r xs text (SessionStandsFor done) (blocks_of done) last left)
-file_end command n h r new last None mid left text s next done same goes answers counts over ended = tt
-file_end command n h r new last (Some xs) mid left text s next done same a answers counts over ended =
-    let (h2, stands, (effect, found, (zs, is, read))) = answers_at s command.ignore_missing_entry new last mid left (Ok (next, false)) a.next a.ys a.left_is a.stands answers in
+    → ((h : History) → SessionReadsFor next h → SessionReadsFor done (file_ended h))
+    → IfSome o (λ xs. ComesToEnd command n h Stood r xs text done last left)
+file_end command n h Stood r new last None mid left text s next done same goes answers counts over ended read_ended = tt
+file_end command n h Stood r new last (Some xs) mid left text s next done same a answers counts over ended read_ended =
+    let (h2, reads, stands, (effect, found, (zs, is, read))) = answers_at s command.ignore_missing_entry new last mid left (Ok (next, false)) a.next a.ys a.left_is a.goes.reads answers in
     let steps = subst (λ (o : Option Effect). Steps command.ignore_missing_entry (effect_of command.ignore_missing_entry a.next) (over_of s) new a.ys (Ok (record { history = h2; effect = o })) (over_of next) last zs) (no_effect effect found)
     (subst (λ (b : Bool). Steps b (effect_of b a.next) (over_of s) new a.ys (Ok (record { history = h2; effect = effect })) (over_of next) last zs) same read) in
     let nothing = steps.nothing a.within.nothing over in
@@ -244,7 +246,7 @@ file_end command n h r new last (Some xs) mid left text s next done same a answe
     record {
       after = a.after;
       next = h2;
-      stands = ended h2 stands;
+      goes = record { reads = read_ended h2 reads; stands = λ stood. ended h2 (stands (a.goes.stands stood)) };
       counts = counts ∙ a.counts;
       told = a.told;
       nothing_left = is ∙ ap (λ (l : List ℕ). Some l) nothing;
@@ -253,17 +255,17 @@ file_end command n h r new last (Some xs) mid left text s next done same a answe
     }
 
 -- a fault of the next block is the file's
-pub file_fault : {F : Type 0} (command : Command) (n : ℕ) (h : History) (r new last : Reading) (o mid left : Option (List ℕ)) (text : List ℕ) (s : Session F) (fault : Fault)
+pub file_fault : {F : Type 0} (command : Command) (n : ℕ) (h : History) (Stood : Type 0) (r new last : Reading) (o mid left : Option (List ℕ)) (text : List ℕ) (s : Session F) (fault : Fault)
     → ignores_of s ≡ command.ignore_missing_entry
-    → IfSome o (λ xs. FileGoesOn command n h r xs text (SessionStandsFor s) (blocks_of s) (over_of s) new mid)
-    → ((h : History) → SessionStandsFor s h → IfSome mid (λ ys. FaultAnswers (ignores_of s) (effect_of (ignores_of s) h) (over_of s) new ys fault left))
-    → IfSome o (λ xs. TroubleGives command n h r xs text (trouble_of_fault fault) left)
-file_fault command n h r new last None mid left text s fault same goes answers = tt
-file_fault command n h r new last (Some xs) mid left text s fault same a answers =
+    → IfSome o (λ xs. FileGoesOn command n h Stood r xs text s new mid)
+    → ((h : History) → SessionReadsFor s h → IfSome mid (λ ys. FaultAnswers (ignores_of s) (effect_of (ignores_of s) h) (over_of s) new ys fault left))
+    → IfSome o (λ xs. TroubleGives command n h Stood r xs text (trouble_of_fault fault) left)
+file_fault command n h Stood r new last None mid left text s fault same goes answers = tt
+file_fault command n h Stood r new last (Some xs) mid left text s fault same a answers =
     go fault (subst (λ (b : Bool). FaultAnswers b (effect_of b a.next) (over_of s) new a.ys fault left) same
-    (subst (λ (o : Option (List ℕ)). IfSome o (λ ys. FaultAnswers (ignores_of s) (effect_of (ignores_of s) a.next) (over_of s) new ys fault left)) a.left_is (answers a.next a.stands))) where
+    (subst (λ (o : Option (List ℕ)). IfSome o (λ ys. FaultAnswers (ignores_of s) (effect_of (ignores_of s) a.next) (over_of s) new ys fault left)) a.left_is (answers a.next a.goes.reads))) where
       go : (fault : Fault) → FaultAnswers command.ignore_missing_entry (effect_of command.ignore_missing_entry a.next) (over_of s) new a.ys fault left
-          → TroubleGives command n h r xs text (trouble_of_fault fault) left
+          → TroubleGives command n h Stood r xs text (trouble_of_fault fault) left
       go (f.Refused file line why) takes = record {
         after = a.after;
         told = a.told;
@@ -304,7 +306,7 @@ file_fault command n h r new last (Some xs) mid left text s fault same a answers
         after = a.after;
         more = (course_behind command.ignore_missing_entry a.next (groups_left (over_of s) new true a.ys)).after;
         all = ap (λ (c : Course LineFault). c.after) a.within.same;
-        told = subst (λ (l : List ℕ). StartsWith (due_from command (n + 1) a.after) l) (sym a.told) (front_all (due_from command (n + 1) a.after));
+        told = λ stood. subst (λ (l : List ℕ). StartsWith (due_from command (n + 1) a.after) l) (sym (a.told stood)) (front_all (due_from command (n + 1) a.after));
       }
 
 -- ---- a started file
@@ -345,29 +347,29 @@ pub counted_end : {F : Type 0} (s next : Session F) (r last : Reading) (result :
 counted_end s next r last result is counts = let c = subst (λ (a : Result Bool Fault). SessionCounts s r (left_with_answer next a) last) is counts in (c.3, c.4 refl)
 
 -- a report by the way that isn't written whole is the file's trouble
-pub short_gives : (command : Command) (n : ℕ) (h : History) (r : Reading) (o left : Option (List ℕ)) (text : List ℕ) (halt : Halt) → IfSome o (λ xs. IsShort command n h r xs text)
-    → IfSome o (λ xs. TroubleGives command n h r xs text (trouble_of_halt halt) left)
-short_gives command n h r None left text halt short = tt
-short_gives command n h r (Some xs) left text w.Write short = short
-short_gives command n h r (Some xs) left text w.NoMemory short = short
+pub short_gives : (command : Command) (n : ℕ) (h : History) (Stood : Type 0) (r : Reading) (o left : Option (List ℕ)) (text : List ℕ) (halt : Halt) → IfSome o (λ xs. IsShort command n h Stood r xs text)
+    → IfSome o (λ xs. TroubleGives command n h Stood r xs text (trouble_of_halt halt) left)
+short_gives command n h Stood r None left text halt short = tt
+short_gives command n h Stood r (Some xs) left text w.Write short = short
+short_gives command n h Stood r (Some xs) left text w.NoMemory short = short
 
 pub calm_but : (before between after : ℕ) (halt : Halt) → between ≡ before → HaltHasCause between after halt → IsCalmUnless before after (trouble_of_halt halt)
 calm_but before between after w.Write same rose = subst (λ (n : ℕ). Rose n after) same rose
 calm_but before between after w.NoMemory same calm = calm ∙ same
 
 -- ---- a whole file
-pub told_started : {F : Type 0} (command : Command) (n : ℕ) (h : History) (r mid last : Reading) (held : HeldFile) (xs text : List ℕ) (before rest after : Option (List ℕ)) (result : Result (Session F) Trouble)
+pub told_started : {F : Type 0} (command : Command) (n : ℕ) (h : History) (Stood : Type 0) (r mid last : Reading) (held : HeldFile) (xs text : List ℕ) (rest after : Option (List ℕ)) (result : Result (Session F) Trouble)
     → (result ≡ Err t.Start → ⊥) → mid ≡ fresh_reading r → Starts held rest → held ≡ Holds xs → (IsErrOf result t.Read → last.ahead ≡ [])
-    → IfSome (left_of mid rest) (λ xs. StartedGives command n h mid xs text result last (left_of last after))
-    → FileGives command n h r xs text before result last after
-told_started command n h r mid last held xs text before rest after (Ok session) started is starts holds emptied gives =
-    let e = told (λ m ys. ComesToEnd command n h m ys text (SessionStandsFor session) (blocks_of session) last (left_of last after)) r mid held xs rest is starts holds gives in
-    record { after = e.after; next = e.next; stands = e.stands; counts = e.counts; told = e.told; nothing_left = nothing_left last.ahead after e.nothing_left; room = e.room; all = e.all }
-told_started command n h r mid last held xs text before rest after (Err (t.Refused line why)) started is starts holds emptied gives =
-    told (λ m ys. HasFault command n h m ys text (record { line = line; why = why })) r mid held xs rest is starts holds gives
-told_started command n h r mid last held xs text before rest after (Err t.Start) started is starts holds emptied gives = tt
-told_started command n h r mid last held xs text before rest after (Err t.Read) started is starts holds emptied gives =
-    let e = told (λ m ys. IsBroken command n h m ys text (left_of last after)) r mid held xs rest is starts holds gives in
+    → IfSome (left_of mid rest) (λ xs. StartedGives command n h Stood mid xs text result last (left_of last after))
+    → FileGives command n h Stood r xs text result last after
+told_started command n h Stood r mid last held xs text rest after (Ok session) started is starts holds emptied gives =
+    let e = told (λ m ys. ComesToEnd command n h Stood m ys text session last (left_of last after)) r mid held xs rest is starts holds gives in
+    record { after = e.after; next = e.next; goes = e.goes; counts = e.counts; told = e.told; nothing_left = nothing_left last.ahead after e.nothing_left; room = e.room; all = e.all }
+told_started command n h Stood r mid last held xs text rest after (Err (t.Refused line why)) started is starts holds emptied gives =
+    told (λ m ys. HasFault command n h Stood m ys text (record { line = line; why = why })) r mid held xs rest is starts holds gives
+told_started command n h Stood r mid last held xs text rest after (Err t.Start) started is starts holds emptied gives = tt
+told_started command n h Stood r mid last held xs text rest after (Err t.Read) started is starts holds emptied gives =
+    let e = told (λ m ys. IsBroken command n h Stood m ys text (left_of last after)) r mid held xs rest is starts holds gives in
     record {
       front = e.front;
       rest = e.rest;
@@ -380,10 +382,10 @@ told_started command n h r mid last held xs text before rest after (Err t.Read) 
       next = e.next;
       all = e.all;
     }
-told_started command n h r mid last held xs text before rest after (Err t.Write) started is starts holds emptied gives =
-    told (λ m ys. IsShort command n h m ys text) r mid held xs rest is starts holds gives
-told_started command n h r mid last held xs text before rest after (Err t.NoMemory) started is starts holds emptied gives =
-    told (λ m ys. IsShort command n h m ys text) r mid held xs rest is starts holds gives
+told_started command n h Stood r mid last held xs text rest after (Err t.Write) started is starts holds emptied gives =
+    told (λ m ys. IsShort command n h Stood m ys text) r mid held xs rest is starts holds gives
+told_started command n h Stood r mid last held xs text rest after (Err t.NoMemory) started is starts holds emptied gives =
+    told (λ m ys. IsShort command n h Stood m ys text) r mid held xs rest is starts holds gives
 
 -- ---- which troubles come
 halted_not_start : (halt : Halt) → trouble_of_halt halt ≡ t.Start → ⊥
@@ -431,5 +433,5 @@ pub same_trouble : {A : Type 0} (a b : Trouble) (r : Result A Trouble) → r ≡
 same_trouble a b r first more = let e = sym first ∙ more in cc (e)
 
 -- nothing is told
-pub none_short : (command : Command) (n : ℕ) (h : History) (r : Reading) (xs : List ℕ) → IsShort command n h r xs []
-none_short command n h r xs = record { after = []; more = (course_behind command.ignore_missing_entry h (groups_left false r true xs)).after; all = refl; told = refl }
+pub none_short : (command : Command) (n : ℕ) (h : History) (Stood : Type 0) (r : Reading) (xs : List ℕ) → IsShort command n h Stood r xs []
+none_short command n h Stood r xs = record { after = []; more = (course_behind command.ignore_missing_entry h (groups_left false r true xs)).after; all = refl; told = λ stood. refl }

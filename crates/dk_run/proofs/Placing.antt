@@ -10,13 +10,14 @@ use Rattle.dk_io.specs.NamedFiles.{bytes_of, held_or_empty}
 use Rattle.dk_io.specs.Outside.{HeldFile, Absent, Holds, Rose}
 use Rattle.dk_lines.specs.Reading.{Reading, room_of}
 use Rattle.dk_blocks.specs.History.{History}
-use Rattle.dk_core.specs.Standing.{SessionStandsFor, blocks_of}
+use Rattle.dk_core.specs.Standing.{SessionReadsFor, SessionStandsFor, blocks_of}
 use Rattle.dk_core.specs.declared.session.Session.{Session}
 use Rattle.dk_words.specs.declared.command.Command.{Command}
 use Rattle.dk_run.specs.AllFiles.{AreReadTo, FilesTroubleGives, HasBrokenAt, files_trouble}
 use Rattle.dk_run.specs.Commands.{file_names, generated_count, helds_of}
 use Rattle.dk_run.specs.Courses.{Outset, line_limit}
-use Rattle.dk_run.specs.Starts.{Begins}
+use Rattle.dk_run.specs.Beginning.{BeginsFrom}
+use Rattle.dk_run.specs.Starts.{BeginsLike}
 use Rattle.dk_run.specs.Files.{file_name_at}
 use Rattle.dk_presence.specs.Patterns.{capped}
 use Rattle.dk_run.specs.Statuses.{held_file_at, rest_behind}
@@ -66,22 +67,22 @@ rest_next count index before after e = let next : suc index ≡ count + index + 
 
 pub named_on : {F : Type 0} (command : Command) (file : List ℕ → HeldFile) (before mid after : Option (List ℕ)) (s next : Session F) (index : ℕ) (r last : Reading) (told text name : List ℕ)
     → name ≡ file_name_at command.files index → index < length command.files → r.limits.line ≡ line_limit → file name ≢ Absent
-    → AreReadTo command file before mid (SessionStandsFor s) (blocks_of s) (room_of r) (generated_count command + index) told
-    → ((h : History) (n : ℕ) → SessionStandsFor s h → blocks_of s ≡ capped n → (xs : List ℕ) → file name ≡ Holds xs → FileGives command n h r xs text mid (Ok next) last after)
-    → AreReadTo command file before after (SessionStandsFor next) (blocks_of next) (room_of last) (generated_count command + (index + 1)) (told ++ text)
+    → AreReadTo command file before mid s (room_of r) (generated_count command + index) told
+    → ((h : History) (n : ℕ) → SessionReadsFor s h → blocks_of s ≡ capped n → (xs : List ℕ) → file name ≡ Holds xs → FileGives command n h (SessionStandsFor s h) r xs text (Ok next) last after)
+    → AreReadTo command file before after next (room_of last) (generated_count command + (index + 1)) (told ++ text)
 named_on command file before mid after s next index r last told text name is within limits there read gives =
     let here : held_file_at (helds_of command file) (generated_count command + index) ≡ file name = held_named command file index within ∙ ap file (sym is) in
     let place : generated_count command + index + 1 ≡ generated_count command + (index + 1) = omega arith in
-    subst (λ (n : ℕ). AreReadTo command file before after (SessionStandsFor next) (blocks_of next) (room_of last) n (told ++ text)) place
-    (read_on command file before mid after after (SessionStandsFor s) (SessionStandsFor next) (blocks_of s) (blocks_of next) (generated_count command + index) r last told text limits
+    subst (λ (n : ℕ). AreReadTo command file before after next (room_of last) n (told ++ text)) place
+    (read_on command file before mid after after s next (generated_count command + index) r last told text limits
     (omega (arith, helds_length command file)) (λ absent. there (sym here ∙ absent)) (λ first e. rest_next (generated_count command) index before after e) read
     (λ h n stands counts xs holds. gives h n stands counts xs (sym here ∙ holds)))
 
 pub named_trouble : {F : Type 0} (command : Command) (file : List ℕ → HeldFile) (before mid rest : Option (List ℕ)) (s : Session F) (index : ℕ) (r : Reading) (told text name : List ℕ) (trouble : Trouble)
     → name ≡ file_name_at command.files index → index < length command.files → r.limits.line ≡ line_limit → ((trouble ≡ t.Start → ⊥) → file name ≢ Absent)
     → (trouble ≡ t.Start → (text ≡ []) × (rest ≡ mid))
-    → AreReadTo command file before mid (SessionStandsFor s) (blocks_of s) (room_of r) (generated_count command + index) told
-    → ((h : History) (n : ℕ) → SessionStandsFor s h → blocks_of s ≡ capped n → (xs : List ℕ) → file name ≡ Holds xs → FileTroubleGives command n h r xs text mid trouble rest)
+    → AreReadTo command file before mid s (room_of r) (generated_count command + index) told
+    → ((h : History) (n : ℕ) → SessionReadsFor s h → blocks_of s ≡ capped n → (xs : List ℕ) → file name ≡ Holds xs → FileTroubleGives command n h (SessionStandsFor s h) r xs text trouble rest)
     → FilesTroubleGives command file before (told ++ text) (files_trouble (generated_count command + index) trouble) rest
 named_trouble command file before mid rest s index r told text name trouble is within limits there unstarted read gives =
     let here : held_file_at (helds_of command file) (generated_count command + index) ≡ file name = held_named command file index within ∙ ap file (sym is) in
@@ -89,18 +90,18 @@ named_trouble command file before mid rest s index r told text name trouble is w
     go trouble below here there unstarted gives where
       go : (trouble : Trouble) → generated_count command + index < length (helds_of command file) → held_file_at (helds_of command file) (generated_count command + index) ≡ file name
           → ((trouble ≡ t.Start → ⊥) → file name ≢ Absent) → (trouble ≡ t.Start → (text ≡ []) × (rest ≡ mid))
-          → ((h : History) (n : ℕ) → SessionStandsFor s h → blocks_of s ≡ capped n → (xs : List ℕ) → file name ≡ Holds xs → FileTroubleGives command n h r xs text mid trouble rest)
+          → ((h : History) (n : ℕ) → SessionReadsFor s h → blocks_of s ≡ capped n → (xs : List ℕ) → file name ≡ Holds xs → FileTroubleGives command n h (SessionStandsFor s h) r xs text trouble rest)
           → FilesTroubleGives command file before (told ++ text) (files_trouble (generated_count command + index) trouble) rest
-      go (t.Refused line why) below here there unstarted gives = refused_on command file before mid (SessionStandsFor s) (blocks_of s) (generated_count command + index) line why r told text limits below
+      go (t.Refused line why) below here there unstarted gives = refused_on command file before mid s (generated_count command + index) line why r told text limits below
           (λ absent. there (λ e. cc (e)) (sym here ∙ absent)) read (λ h n stands counts xs holds. gives h n stands counts xs (sym here ∙ holds))
       go t.Start below here there unstarted gives = let e = unstarted refl in
-          unstarted_on command file before mid rest (SessionStandsFor s) (blocks_of s) (generated_count command + index) r told text (omega arith) below read e.0 e.1
-      go t.Read below here there unstarted gives = unread_on command file before mid rest (SessionStandsFor s) (blocks_of s) (generated_count command + index) r told text limits (omega arith) below read
+          unstarted_on command file before mid rest s (generated_count command + index) r told text (omega arith) below read e.0 e.1
+      go t.Read below here there unstarted gives = unread_on command file before mid rest s (generated_count command + index) r told text limits (omega arith) below read
           (λ h n stands counts xs holds. gives h n stands counts xs (sym here ∙ holds))
-      go t.Write below here there unstarted gives = short_on command file before mid (SessionStandsFor s) (blocks_of s) (generated_count command + index) r told text limits below
+      go t.Write below here there unstarted gives = short_on command file before mid s (generated_count command + index) r told text limits below
           (λ absent. there (λ e. cc (e)) (sym here ∙ absent)) read
           (λ h n stands counts xs holds. gives h n stands counts xs (sym here ∙ holds))
-      go t.NoMemory below here there unstarted gives = short_on command file before mid (SessionStandsFor s) (blocks_of s) (generated_count command + index) r told text limits below
+      go t.NoMemory below here there unstarted gives = short_on command file before mid s (generated_count command + index) r told text limits below
           (λ absent. there (λ e. cc (e)) (sym here ∙ absent)) read
           (λ h n stands counts xs holds. gives h n stands counts xs (sym here ∙ holds))
 
@@ -131,15 +132,15 @@ own_held files name text other e same =
     ap (λ (l : List (List ℕ × List ℕ)). held_or_empty l other) e ∙ ap (λ (n : List ℕ). held_or_empty ((name, text) ∷ []) n) same
     ∙ ap (λ (b : Bool). Holds (bytes_of (if b then Holds text else Absent))) (bytes_eq-same name)
 
-pub text_gives : {F : Type 0} (command : Command) (n : ℕ) (h : History) (r last : Reading) (xs text : List ℕ) (before rest : Option (List ℕ)) (result : Result (Session F) Trouble)
-    → FileGives command n h r xs text before result last rest → TextGives command n h r xs text result last
-text_gives command n h r last xs text before rest (Ok session) e =
-    record { after = e.after; next = e.next; stands = e.stands; counts = e.counts; told = e.told; nothing_left = refl; room = e.room; all = e.all }
-text_gives command n h r last xs text before rest (Err (t.Refused line why)) e = e
-text_gives command n h r last xs text before rest (Err t.Start) e = tt
-text_gives command n h r last xs text before rest (Err t.Read) e = tt
-text_gives command n h r last xs text before rest (Err t.Write) e = e
-text_gives command n h r last xs text before rest (Err t.NoMemory) e = e
+pub text_gives : {F : Type 0} (command : Command) (n : ℕ) (h : History) (Stood : Type 0) (r last : Reading) (xs text : List ℕ) (rest : Option (List ℕ)) (result : Result (Session F) Trouble)
+    → FileGives command n h Stood r xs text result last rest → TextGives command n h Stood r xs text result last
+text_gives command n h Stood r last xs text rest (Ok session) e =
+    record { after = e.after; next = e.next; goes = e.goes; counts = e.counts; told = e.told; nothing_left = refl; room = e.room; all = e.all }
+text_gives command n h Stood r last xs text rest (Err (t.Refused line why)) e = e
+text_gives command n h Stood r last xs text rest (Err t.Start) e = tt
+text_gives command n h Stood r last xs text rest (Err t.Read) e = tt
+text_gives command n h Stood r last xs text rest (Err t.Write) e = e
+text_gives command n h Stood r last xs text rest (Err t.NoMemory) e = e
 
 count_of : (command : Command) (n : ℕ) → command.generate ≡ Some n → generated_count command ≡ 1
 count_of command n e = ap (λ (g : Option ℕ). option_map_or (λ n. 1) g 0) e
@@ -156,47 +157,47 @@ first_there command file n e absent = let holds = first_held command file n e in
 first_text : (command : Command) (file : List ℕ → HeldFile) (n : ℕ) (text xs : List ℕ) → command.generate ≡ Some n → text ≡ generated_text n → held_file_at (helds_of command file) 0 ≡ Holds xs → text ≡ xs
 first_text command file n text xs e is holds = let first = first_held command file n e in cc (first, holds, is)
 
-pub none_generated : (command : Command) (file : List ℕ → HeldFile) (before : Option (List ℕ)) (Stands : History → Type 0) (blocks room : ℕ) → command.generate ≡ None
-    → ((start : Outset) → Begins command.resume file start → Stands start.history × (room ≡ start.room)) → blocks ≡ 0
-    → AreReadTo command file before before Stands blocks room (generated_count command) []
-none_generated command file before Stands blocks room e stands none =
+pub none_generated : {F : Type 0} (command : Command) (file : List ℕ → HeldFile) (before : Option (List ℕ)) (s : Session F) (room : ℕ) → command.generate ≡ None
+    → ((start : Outset) → BeginsLike command.resume file start → BeginsFrom command file s room start) → blocks_of s ≡ 0
+    → AreReadTo command file before before s room (generated_count command) []
+none_generated command file before s room e starts none =
     let count : 0 ≡ generated_count command = sym (ap (λ (g : Option ℕ). option_map_or (λ n. 1) g 0) e) in
-    subst (λ (n : ℕ). AreReadTo command file before before Stands blocks room n []) count (read_none command file before Stands blocks room stands none)
+    subst (λ (n : ℕ). AreReadTo command file before before s room n []) count (read_none command file before s room starts none)
 
 pub generated_on : {F : Type 0} (command : Command) (file : List ℕ → HeldFile) (before : Option (List ℕ)) (s next : Session F) (r last : Reading) (n : ℕ) (bytes text : List ℕ)
     → command.generate ≡ Some n → bytes ≡ generated_text n → r.limits.line ≡ line_limit
-    → ((start : Outset) → Begins command.resume file start → SessionStandsFor s start.history × (room_of r ≡ start.room)) → blocks_of s ≡ 0
-    → ((h : History) (k : ℕ) → SessionStandsFor s h → blocks_of s ≡ capped k → TextGives command k h r bytes text (Ok next) last)
-    → AreReadTo command file before before (SessionStandsFor next) (blocks_of next) (room_of last) (generated_count command) text
+    → ((start : Outset) → BeginsLike command.resume file start → BeginsFrom command file s (room_of r) start) → blocks_of s ≡ 0
+    → ((h : History) (k : ℕ) → SessionReadsFor s h → blocks_of s ≡ capped k → TextGives command k h (SessionStandsFor s h) r bytes text (Ok next) last)
+    → AreReadTo command file before before next (room_of last) (generated_count command) text
 generated_on command file before s next r last n bytes text e is limits stands none gives =
     let count : 0 + 1 ≡ generated_count command = omega (arith, count_of command n e) in
     let rest : 0 + 1 - generated_count command ≡ 0 = omega (arith, count_of command n e) in
-    subst (λ (k : ℕ). AreReadTo command file before before (SessionStandsFor next) (blocks_of next) (room_of last) k text) count
-    (read_on command file before before before (Some []) (SessionStandsFor s) (SessionStandsFor next) (blocks_of s) (blocks_of next) 0 r last [] text limits (first_below command file n e) (first_there command file n e)
-    (λ first end. ap (λ (k : ℕ). rest_behind k before) (sym rest)) (read_none command file before (SessionStandsFor s) (blocks_of s) (room_of r) stands none)
-    (λ h k stands counts xs holds. subst (λ (l : List ℕ). ComesToEnd command k h (fresh_reading r) l text (SessionStandsFor next) (blocks_of next) last (Some [])) (first_text command file n bytes xs e is holds) (gives h k stands counts)))
+    subst (λ (k : ℕ). AreReadTo command file before before next (room_of last) k text) count
+    (read_on command file before before before (Some []) s next 0 r last [] text limits (first_below command file n e) (first_there command file n e)
+    (λ first end. ap (λ (k : ℕ). rest_behind k before) (sym rest)) (read_none command file before s (room_of r) stands none)
+    (λ h k stands counts xs holds. subst (λ (l : List ℕ). ComesToEnd command k h (SessionStandsFor s h) (fresh_reading r) l text next last (Some [])) (first_text command file n bytes xs e is holds) (gives h k stands counts)))
 
 pub generated_trouble : {F : Type 0} (command : Command) (file : List ℕ → HeldFile) (before : Option (List ℕ)) (s : Session F) (r last : Reading) (n : ℕ) (bytes text : List ℕ) (trouble : Trouble)
     → command.generate ≡ Some n → bytes ≡ generated_text n → r.limits.line ≡ line_limit
-    → ((start : Outset) → Begins command.resume file start → SessionStandsFor s start.history × (room_of r ≡ start.room)) → blocks_of s ≡ 0
+    → ((start : Outset) → BeginsLike command.resume file start → BeginsFrom command file s (room_of r) start) → blocks_of s ≡ 0
     → IsNoBreak {A = Session F} (Err trouble)
-    → ((h : History) (k : ℕ) → SessionStandsFor s h → blocks_of s ≡ capped k → TextGives {F = F} command k h r bytes text (Err trouble) last)
+    → ((h : History) (k : ℕ) → SessionReadsFor s h → blocks_of s ≡ capped k → TextGives {F = F} command k h (SessionStandsFor s h) r bytes text (Err trouble) last)
     → FilesTroubleGives command file before text (files_trouble 0 trouble) before
 generated_trouble command file before s r last n bytes text (t.Refused line why) e is limits stands none steady gives =
-    refused_on command file before before (SessionStandsFor s) (blocks_of s) 0 line why r [] text limits (first_below command file n e) (first_there command file n e) (read_none command file before (SessionStandsFor s) (blocks_of s) (room_of r) stands none)
-    (λ h k stands counts xs holds. subst (λ (l : List ℕ). HasFault command k h (fresh_reading r) l text (record { line = line; why = why })) (first_text command file n bytes xs e is holds) (gives h k stands counts))
+    refused_on command file before before s 0 line why r [] text limits (first_below command file n e) (first_there command file n e) (read_none command file before s (room_of r) stands none)
+    (λ h k stands counts xs holds. subst (λ (l : List ℕ). HasFault command k h (SessionStandsFor s h) (fresh_reading r) l text (record { line = line; why = why })) (first_text command file n bytes xs e is holds) (gives h k stands counts))
 generated_trouble command file before s r last n bytes text t.Start e is limits stands none steady gives = absurd steady
 generated_trouble command file before s r last n bytes text t.Read e is limits stands none steady gives = absurd steady
 generated_trouble command file before s r last n bytes text t.Write e is limits stands none steady gives =
-    short_on command file before before (SessionStandsFor s) (blocks_of s) 0 r [] text limits (first_below command file n e) (first_there command file n e) (read_none command file before (SessionStandsFor s) (blocks_of s) (room_of r) stands none)
-    (λ h k stands counts xs holds. subst (λ (l : List ℕ). IsShort command k h (fresh_reading r) l text) (first_text command file n bytes xs e is holds) (gives h k stands counts))
+    short_on command file before before s 0 r [] text limits (first_below command file n e) (first_there command file n e) (read_none command file before s (room_of r) stands none)
+    (λ h k stands counts xs holds. subst (λ (l : List ℕ). IsShort command k h (SessionStandsFor s h) (fresh_reading r) l text) (first_text command file n bytes xs e is holds) (gives h k stands counts))
 generated_trouble command file before s r last n bytes text t.NoMemory e is limits stands none steady gives =
-    short_on command file before before (SessionStandsFor s) (blocks_of s) 0 r [] text limits (first_below command file n e) (first_there command file n e) (read_none command file before (SessionStandsFor s) (blocks_of s) (room_of r) stands none)
-    (λ h k stands counts xs holds. subst (λ (l : List ℕ). IsShort command k h (fresh_reading r) l text) (first_text command file n bytes xs e is holds) (gives h k stands counts))
+    short_on command file before before s 0 r [] text limits (first_below command file n e) (first_there command file n e) (read_none command file before s (room_of r) stands none)
+    (λ h k stands counts xs holds. subst (λ (l : List ℕ). IsShort command k h (SessionStandsFor s h) (fresh_reading r) l text) (first_text command file n bytes xs e is holds) (gives h k stands counts))
 
-pub nothing_told : (command : Command) (file : List ℕ → HeldFile) (before rest : Option (List ℕ)) (Stands : History → Type 0) (blocks room count : ℕ) (told : List ℕ)
-    → AreReadTo command file before rest Stands blocks room count told → AreReadTo command file before rest Stands blocks room (count + 0) (told ++ [])
-nothing_told command file before rest Stands blocks room count told read =
+pub nothing_told : {F : Type 0} (command : Command) (file : List ℕ → HeldFile) (before rest : Option (List ℕ)) (s : Session F) (room count : ℕ) (told : List ℕ)
+    → AreReadTo command file before rest s room count told → AreReadTo command file before rest s room (count + 0) (told ++ [])
+nothing_told command file before rest s room count told read =
     let same : count ≡ count + 0 = omega arith in
-    subst (λ (n : ℕ). AreReadTo command file before rest Stands blocks room n (told ++ [])) same
-    (subst (λ (l : List ℕ). AreReadTo command file before rest Stands blocks room count l) (sym (append-nil told)) read)
+    subst (λ (n : ℕ). AreReadTo command file before rest s room n (told ++ [])) same
+    (subst (λ (l : List ℕ). AreReadTo command file before rest s room count l) (sym (append-nil told)) read)

@@ -42,6 +42,7 @@ use Rattle.dk_run.specs.declared.status.Status.{Status}
 use Rattle.dk_run.specs.declared.status.Status.TheVariants.{Done, Refused, Usage, Read, Write, NoMemory}
 use Rattle.dk_run.proofs.Placing.{helds_length, names_length, rose_since}
 use Rattle.dk_run.proofs.Running.{alone}
+use Rattle.dk_run.proofs.Starts.{starts_begin_alike}
 use Rattle.dk_run.proofs.Writing.{added_more, added_nothing, front_all, front_behind, front_more, front_take, known_nothing}
 
 -- ---- what was written
@@ -169,9 +170,9 @@ pub record Begun (command : Command) (before : Outside) (rest : Option (List ℕ
   left : IsLeft command.resume before.file before.rest rest
 
 -- all files were read
-are_read : (command : Command) (before after : Outside) (rest : Option (List ℕ)) (Stands : History → Type 0) (blocks room : ℕ) (text : List ℕ) → Begun command before rest
-    → AreReadTo command before.file rest after.rest Stands blocks room (length (file_names command)) text → AreRead command before after
-are_read command before after rest Stands blocks room text behind read = record {
+are_read : {F : Type 0} (command : Command) (before after : Outside) (rest : Option (List ℕ)) (s : Session F) (room : ℕ) (text : List ℕ) → Begun command before rest
+    → AreReadTo command before.file rest after.rest s room (length (file_names command)) text → AreRead command before after
+are_read command before after rest s room text behind read = record {
   begun = behind.begun;
   none_absent = all_there (helds_of command before.file) (λ k h. read.there k (omega (arith, h, same_length command before.file)));
   clean = λ start begins k contents h held. read.clean start begins k contents (omega (arith, h, same_length command before.file)) held;
@@ -186,18 +187,18 @@ abbrev last_due : Command → ℕ → History → List ℕ
 last_due command blocks h = option_map_or (λ every. end_line blocks) command.every [] ++ whole_report command h
 
 -- the output of a run that was read to its end
-ended_output : (command : Command) (before after : Outside) (rest : Option (List ℕ)) (Stands : History → Type 0) (blocks room : ℕ) (text : List ℕ)
-    → (read : AreReadTo command before.file rest after.rest Stands blocks room (length (file_names command)) text)
+ended_output : {F : Type 0} (command : Command) (before after : Outside) (rest : Option (List ℕ)) (s : Session F) (room : ℕ) (text : List ℕ)
+    → (read : AreReadTo command before.file rest after.rest s room (length (file_names command)) text)
     → (start : Outset) → Begins command.resume before.file start → (contents : List (List ℕ)) → AreHeldFiles (helds_of command before.file) contents
-    → (h : History) × Stands h × (output_of start command (map ended_file contents) ≡ with_state (first_line command) (text ++ last_due command blocks h) (saved_state command h))
+    → (h : History) × SessionStandsFor s h × (output_of start command (map ended_file contents) ≡ with_state (first_line command) (text ++ last_due command (blocks_of s) h) (saved_state command h))
 unfolding output_of
-ended_output command before after rest Stands blocks room text read start begins contents held =
-    let on = read.runs start begins contents (held_all command before.file contents held) in (
+ended_output command before after rest s room text read start begins contents held =
+    let on = read.runs start (starts_begin_alike command.resume before.file start begins) contents (held_all command before.file contents held) in (
       on.history,
-      on.stands,
-      ap (output_along command) (alone start command rest after.rest Stands blocks room (length (file_names command)) text contents on)
+      on.from.stands begins,
+      ap (output_along command) (alone start command (Begins command.resume before.file start) rest after.rest s room (length (file_names command)) text contents on)
           ∙ ap (λ (n : ℕ). with_state (first_line command) (due_reports command on.after ++ last_due command n on.history) (saved_state command on.history)) (sym on.counts)
-          ∙ ap (λ (l : List ℕ). with_state (first_line command) (l ++ last_due command blocks on.history) (saved_state command on.history)) (sym on.told),
+          ∙ ap (λ (l : List ℕ). with_state (first_line command) (l ++ last_due command (blocks_of s) on.history) (saved_state command on.history)) (sym (on.told begins)),
     )
 
 -- the texts behind the first line, one behind another
@@ -208,21 +209,21 @@ all_written before mid mid2 mid3 last line text report state first reported more
     ∙ ap (λ (t : Texts). with_bytes t State state) (more ∙ ap (λ (t : Texts). with_bytes t Report report) (reported ∙ ap (λ (t : Texts). with_bytes t Report text) first) ∙ added_more (with_bytes before Messages line) Report text report)
     ∙ followed_state before line (text ++ report) state
 
-pub done_says : (command : Command) (before after : Outside) (rest : Option (List ℕ)) (Stands : History → Type 0) (blocks room : ℕ) (mid mid2 mid3 : Texts) (between between2 : ℕ) (text : List ℕ)
+pub done_says : {F : Type 0} (command : Command) (before after : Outside) (rest : Option (List ℕ)) (s : Session F) (room : ℕ) (mid mid2 mid3 : Texts) (between between2 : ℕ) (text : List ℕ)
     → Begun command before rest → mid ≡ with_bytes before.written Messages (first_line command) → mid2 ≡ with_bytes mid Report text → between ≡ before.write_faults
-    → AreReadTo command before.file rest after.rest Stands blocks room (length (file_names command)) text
-    → ToldWhole Stands (λ h. last_due command blocks h) mid2 mid3 between between2
-    → StateTold command Stands mid3 after.written between2 after.write_faults
+    → AreReadTo command before.file rest after.rest s room (length (file_names command)) text
+    → ToldWhole (SessionStandsFor s) (λ h. last_due command (blocks_of s) h) mid2 mid3 between between2
+    → StateTold command (SessionStandsFor s) mid3 after.written between2 after.write_faults
     → Says Done (Some (Run command)) before after
-done_says command before after rest Stands blocks room mid mid2 mid3 between between2 text behind first reported calm read last state = (
+done_says command before after rest s room mid mid2 mid3 between between2 text behind first reported calm read last state = (
   with_state (first_line command) (text ++ last.text) state.text,
   record {
-    read = are_read command before after rest Stands blocks room text behind read;
+    read = are_read command before after rest s room text behind read;
     messages = refl;
     unsaved = state.unsaved;
-    defined = λ start begins contents held. let (h, stands, e) = ended_output command before after rest Stands blocks room text read start begins contents held in
+    defined = λ start begins contents held. let (h, stands, e) = ended_output command before after rest s room text read start begins contents held in
         ap (λ (l : List ℕ). with_state (first_line command) (text ++ l) state.text) (last.holds h stands)
-        ∙ ap (λ (l : List ℕ). with_state (first_line command) (text ++ last_due command blocks h) l) (state.holds h stands) ∙ sym e;
+        ∙ ap (λ (l : List ℕ). with_state (first_line command) (text ++ last_due command (blocks_of s) h) l) (state.holds h stands) ∙ sym e;
   },
   (all_written before.written mid mid2 mid3 after.written (first_line command) text last.text state.text first reported last.written state.written, state.calm ∙ last.calm ∙ calm),
 )
@@ -232,39 +233,39 @@ halt_says : (command : Command) (before after : Outside) (between : ℕ) (halt :
 halt_says command before after between w.Write calm short rose = (subst (λ (k : ℕ). Rose k after.write_faults) calm rose, short)
 halt_says command before after between w.NoMemory calm short cause = (cause ∙ calm, short)
 
-pub cut_says : (command : Command) (before after : Outside) (rest : Option (List ℕ)) (Stands : History → Type 0) (blocks room : ℕ) (mid mid2 : Texts) (between : ℕ) (text : List ℕ) (halt : Halt)
+pub cut_says : {F : Type 0} (command : Command) (before after : Outside) (rest : Option (List ℕ)) (s : Session F) (room : ℕ) (mid mid2 : Texts) (between : ℕ) (text : List ℕ) (halt : Halt)
     → Begun command before rest → mid ≡ with_bytes before.written Messages (first_line command) → mid2 ≡ with_bytes mid Report text → between ≡ before.write_faults
-    → AreReadTo command before.file rest after.rest Stands blocks room (length (file_names command)) text
-    → CutOff Stands (λ h. last_due command blocks h) mid2 after.written between after.write_faults halt
+    → AreReadTo command before.file rest after.rest s room (length (file_names command)) text
+    → CutOff (SessionStandsFor s) (λ h. last_due command (blocks_of s) h) mid2 after.written between after.write_faults halt
     → Says (status_of halt) (Some (Run command)) before after
-cut_says command before after rest Stands blocks room mid mid2 between text halt behind first reported calm read last = halt_says command before after between halt calm (inr (inl (inr (record {
+cut_says command before after rest s room mid mid2 between text halt behind first reported calm read last = halt_says command before after between halt calm (inr (inl (inr (record {
   front = so_far (first_line command) (text ++ last.text);
   written = last.written ∙ ap (λ (t : Texts). with_bytes t Report last.text) (reported ∙ ap (λ (t : Texts). with_bytes t Report text) first)
       ∙ added_more (with_bytes before.written Messages (first_line command)) Report text last.text ∙ followed_first before.written (first_line command) (text ++ last.text);
-  read = are_read command before after rest Stands blocks room text behind read;
+  read = are_read command before after rest s room text behind read;
   messages = refl;
   unsaved = λ no. refl;
-  due = λ start begins contents held. let (h, stands, e) = ended_output command before after rest Stands blocks room text read start begins contents held in
+  due = λ start begins contents held. let (h, stands, e) = ended_output command before after rest s room text read start begins contents held in
       subst (λ (o : Output). IsFront (so_far (first_line command) (text ++ last.text)) o) (sym e)
-      (record { report = front_behind text (last_due command blocks h) last.text (last.holds h stands); messages = front_all (first_line command); state = refl; in_order = inr refl });
+      (record { report = front_behind text (last_due command (blocks_of s) h) last.text (last.holds h stands); messages = front_all (first_line command); state = refl; in_order = inr refl });
 })))) last.cause
 
 -- the state was not written whole
-pub state_says : (command : Command) (before after : Outside) (rest : Option (List ℕ)) (Stands : History → Type 0) (blocks room : ℕ) (mid mid2 mid3 : Texts) (between between2 : ℕ) (text : List ℕ) (halt : Halt)
+pub state_says : {F : Type 0} (command : Command) (before after : Outside) (rest : Option (List ℕ)) (s : Session F) (room : ℕ) (mid mid2 mid3 : Texts) (between between2 : ℕ) (text : List ℕ) (halt : Halt)
     → Begun command before rest → mid ≡ with_bytes before.written Messages (first_line command) → mid2 ≡ with_bytes mid Report text → between ≡ before.write_faults
-    → AreReadTo command before.file rest after.rest Stands blocks room (length (file_names command)) text
-    → ToldWhole Stands (λ h. last_due command blocks h) mid2 mid3 between between2
-    → StateCut command Stands mid3 after.written between2 after.write_faults halt
+    → AreReadTo command before.file rest after.rest s room (length (file_names command)) text
+    → ToldWhole (SessionStandsFor s) (λ h. last_due command (blocks_of s) h) mid2 mid3 between between2
+    → StateCut command (SessionStandsFor s) mid3 after.written between2 after.write_faults halt
     → Says (status_of halt) (Some (Run command)) before after
-state_says command before after rest Stands blocks room mid mid2 mid3 between between2 text halt behind first reported calm read last state =
+state_says command before after rest s room mid mid2 mid3 between between2 text halt behind first reported calm read last state =
     halt_says command before after between2 halt (last.calm ∙ calm) (inr (inl (inr (record {
       front = with_state (first_line command) (text ++ last.text) state.text;
       written = all_written before.written mid mid2 mid3 after.written (first_line command) text last.text state.text first reported last.written state.written;
-      read = are_read command before after rest Stands blocks room text behind read;
+      read = are_read command before after rest s room text behind read;
       messages = refl;
       unsaved = state.unsaved;
-      due = λ start begins contents held. let (h, stands, e) = ended_output command before after rest Stands blocks room text read start begins contents held in
-          let same : text ++ last.text ≡ text ++ last_due command blocks h = ap (λ (l : List ℕ). text ++ l) (last.holds h stands) in
+      due = λ start begins contents held. let (h, stands, e) = ended_output command before after rest s room text read start begins contents held in
+          let same : text ++ last.text ≡ text ++ last_due command (blocks_of s) h = ap (λ (l : List ℕ). text ++ l) (last.holds h stands) in
           subst (λ (o : Output). IsFront (with_state (first_line command) (text ++ last.text) state.text) o) (sym e)
           (record {
             report = subst (λ (l : List ℕ). StartsWith l (text ++ last.text)) same (front_all (text ++ last.text));
@@ -300,8 +301,8 @@ refused_comes command before after text place line why begun at = record {
   no_state = refl;
   clean_before = at.clean;
   first = λ start begins contents held. let (after, told, e) = at.gives start begins contents held in ap (λ (c : Course FileFault). fault_in c.end) e;
-  defined = λ start begins contents held. let (after, told, e) = at.gives start begins contents held in
-      ap (λ (l : List ℕ). so_far (first_line command ++ fault_line (file_name_at (file_names command) place) line why) l) told ∙ ap (output_along command) (sym e);
+  defined = λ start begins contents held. let (after, told, e) = at.gives start (starts_begin_alike command.resume before.file start begins) contents held in
+      ap (λ (l : List ℕ). so_far (first_line command ++ fault_line (file_name_at (file_names command) place) line why) l) (told begins) ∙ ap (output_along command) (sym e);
 }
 
 unstarted_comes : (command : Command) (before after : Outside) (rest : Option (List ℕ)) (text : List ℕ) (place : ℕ) → Begun command before rest → IsUnreadAt AtStart command before.file rest after.rest text place
@@ -319,7 +320,7 @@ unstarted_comes command before after rest text place behind at cause = record {
   messages = refl;
   no_state = refl;
   clean_before = at.clean;
-  defined = λ start begins contents held. let e = at.gives start begins contents held in (e.0 ∙ ap (rest_behind (place - generated_count command)) (behind.left start begins), ap (λ (l : List ℕ). so_far (first_line command ++ unread_line (file_name_at (file_names command) place)) l) e.1);
+  defined = λ start begins contents held. let e = at.gives start begins contents held in (e.0 ∙ ap (rest_behind (place - generated_count command)) (behind.left start begins), λ begun. ap (λ (l : List ℕ). so_far (first_line command ++ unread_line (file_name_at (file_names command) place)) l) (e.1 begun));
 }
 
 unread_comes : (command : Command) (before after : Outside) (rest : Option (List ℕ)) (text : List ℕ) (place : ℕ) → Begun command before rest → IsUnreadAt Within command before.file rest after.rest text place
@@ -338,7 +339,7 @@ unread_comes command before after rest text place behind at cause = record {
   no_state = refl;
   clean_before = at.clean;
   defined = λ start begins contents held xs holds. let (delivered, is, fine, told) = at.gives start begins contents held xs holds in
-      (delivered, is, fine, ap (λ (l : List ℕ). so_far (first_line command ++ unread_line (file_name_at (file_names command) place)) l) told);
+      (delivered, is, fine, λ begun. ap (λ (l : List ℕ). so_far (first_line command ++ unread_line (file_name_at (file_names command) place)) l) (told begun));
 }
 
 -- faults that rose in the files rose in the run

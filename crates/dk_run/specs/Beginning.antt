@@ -9,13 +9,15 @@ use Rattle.dk_state.specs.declared.loading.LoadFault.{LoadFault}
 use Rattle.dk_state.specs.declared.loading.LoadFault.TheVariants as load
 use Rattle.dk_state.specs.Spelling.{IsSpelling}
 use Rattle.dk_blocks.specs.History.{History}
-use Rattle.dk_core.specs.Resuming.{IsStart, state_file}
-use Rattle.dk_core.specs.Standing.{SessionStandsFor, blocks_of, over_of}
+use Rattle.dk_core.specs.Resuming.{HasTableOfState, IsStart, state_file}
+use Rattle.dk_core.specs.Standing.{SessionReadsFor, SessionStandsFor, blocks_of, over_of}
 use Rattle.dk_words.specs.declared.command.Command.{Command}
 use Rattle.dk_run.specs.Courses.{Outset, total_limit}
-use Rattle.dk_run.specs.Starts.{Begins, HasBegun, IsRefusedAs, rest_begun}
+use Rattle.dk_run.specs.Starts.{Begins, BeginsLike, HasBegun, IsRefusedAs, rest_begun}
 use Rattle.dk_run.specs.Statuses.{AtStart, HasBroken, Outside, StateUnreadGives, Within}
 use Rattle.dk_run.specs.Telling.{ReportsBy}
+use Rattle.dk_run.specs.WholeFile.{GoesOnFrom}
+use Rattle.dk_core.specs.declared.session.Session.{Session}
 use Rattle.dk_run.specs.declared.starting.Beginning.{Beginning}
 use Rattle.dk_run.specs.declared.starting.StartTrouble.{StartTrouble}
 use Rattle.dk_run.specs.declared.starting.StartTrouble.TheVariants.{Refused, Start as Unstarted, Read, NoMemory}
@@ -24,11 +26,16 @@ use Rattle.dk_run.specs.declared.starting.StartTrouble.TheVariants.{Refused, Sta
 abbrev pub state_name : Command → List ℕ
 state_name command = unwrap_or command.resume []
 
--- The session stands for what the run begins with, and no block was read.
+-- The session goes on from a start, and this is the room for its files.
+pub record BeginsFrom {F : Type 0} (command : Command) (file : List ℕ → HeldFile)
+    (session : Session F) (room : ℕ) (start : Outset) : Type 0 where
+  pub from : GoesOnFrom (Begins command.resume file start) session start.history
+  pub room_is : room ≡ start.room
+
+-- The session goes on from what the run begins with, and no block was read.
 pub record IsBegun {F : Type 0} (command : Command) (file : List ℕ → HeldFile) (beginning : Beginning F) : Type 0 where
   pub begun : HasBegun command.resume file
-  pub stands : (start : Outset) → Begins command.resume file start
-      → SessionStandsFor beginning.session start.history × (beginning.room ≡ start.room)
+  pub starts : (start : Outset) → BeginsLike command.resume file start → BeginsFrom command file beginning.session beginning.room start
   pub room : beginning.room ≤ total_limit
   pub counts : blocks_of beginning.session ≡ 0
   pub over : over_of beginning.session ≡ false
@@ -49,7 +56,7 @@ StartTroubleGives (Some name) file rose before rest trouble = StateTroubleGives 
 
 -- What is left of the inputs when the run has begun.
 abbrev pub IsLeft : Option (List ℕ) → (List ℕ → HeldFile) → Option (List ℕ) → Option (List ℕ) → Type 0
-IsLeft resume file before rest = (start : Outset) → Begins resume file start → rest ≡ rest_begun resume before
+IsLeft resume file before rest = (start : Outset) → BeginsLike resume file start → rest ≡ rest_begun resume before
 
 -- The outside at a moment when the run has begun, and before all else.
 pub record HasCome {F : Type 0} (command : Command) (before now : Outside) (beginning : Beginning F) : Type 0 where
@@ -70,6 +77,7 @@ pub record IsWhole (held : HeldFile) (text : List ℕ) (rest : Option (List ℕ)
 pub record IsResumed {F : Type 0} (command : Command) (state : List ℕ) (beginning : Beginning F) : Type 0 where
   pub spelling : IsSpelling state
   pub stands : (h : History) → IsStart h → state_file h ≡ state → SessionStandsFor beginning.session h
+  pub reads : (h : History) → HasTableOfState state h → SessionReadsFor beginning.session h
   pub room : beginning.room ≡ total_limit - length state
   pub counts : blocks_of beginning.session ≡ 0
   pub over : over_of beginning.session ≡ false

@@ -6,7 +6,7 @@ use Rattle.dk_base.specs.declared.why.Why.TheVariants.{BadState, TooLong}
 use Rattle.dk_io.specs.Outside.{HeldFile, Absent, Holds}
 use Rattle.dk_state.specs.Spelling.{IsSpelling}
 use Rattle.dk_blocks.specs.History.{History}
-use Rattle.dk_core.specs.Resuming.{IsStart, state_file}
+use Rattle.dk_core.specs.Resuming.{HasTableOfState, IsStart, state_file}
 use Rattle.dk_run.specs.Courses.{Outset, first_start, total_limit}
 
 -- a history that is resumed; the bytes of its state file count
@@ -19,6 +19,14 @@ abbrev pub Begins : Option (List ℕ) → (List ℕ → HeldFile) → Outset →
 Begins None file start = start ≡ first_start
 Begins (Some name) file start =
     (h : History) × IsStart h × (file name ≡ Holds (state_file h)) × (length (state_file h) ≤ total_limit) × (start ≡ resumed_start h)
+
+-- As far as reading goes, a run that names a state file begins with each history between files that has the table and the comparability
+-- word of the file's bytes, whether or not the file holds its state; these bytes count.
+abbrev pub BeginsLike : Option (List ℕ) → (List ℕ → HeldFile) → Outset → Type 0
+BeginsLike None file start = start ≡ first_start
+BeginsLike (Some name) file start =
+    (xs : List ℕ) × (file name ≡ Holds xs) × (length xs ≤ total_limit)
+    × HasTableOfState xs start.history × (start.room ≡ total_limit - length xs)
 
 -- what is left of the inputs when the run has begun: a state file was read to its end
 abbrev pub rest_begun : Option (List ℕ) → Option (List ℕ) → Option (List ℕ)

@@ -12,7 +12,7 @@ use Rattle.dk_words.specs.declared.request.Request.{Request}
 use Rattle.dk_words.specs.declared.request.Request.TheVariants.{Run, Help, Version}
 use Rattle.dk_run.specs.Commands.{file_names, generated_count, helds_of}
 use Rattle.dk_run.specs.Courses.{Outset, course_of, first_fault, total_limit}
-use Rattle.dk_run.specs.Starts.{Begins, HasBegun, IsRefusedAs, rest_begun}
+use Rattle.dk_run.specs.Starts.{Begins, BeginsLike, HasBegun, IsRefusedAs, rest_begun}
 use Rattle.dk_run.specs.Files.{File, FileFault, AreHeldFiles, cut_file, file_name_at, ended_file}
 use Rattle.dk_print.specs.Sections.{fault_line}
 use Rattle.dk_run.specs.Messages.{unread_line}
@@ -80,10 +80,10 @@ AreCleanBehind start ignores helds n =
     (k : ℕ) (contents : List (List ℕ)) → k ≤ n → AreHeldFiles (take k helds) contents
     → first_fault start ignores (map ended_file contents) ≡ None
 
--- So it is behind each start of the run.
+-- So it is behind all that the run begins with, as far as reading goes.
 abbrev pub AreClean : Command → (List ℕ → HeldFile) → ℕ → Type 0
 AreClean command file n =
-    (start : Outset) → Begins command.resume file start → AreCleanBehind start command.ignore_missing_entry (helds_of command file) n
+    (start : Outset) → BeginsLike command.resume file start → AreCleanBehind start command.ignore_missing_entry (helds_of command file) n
 
 -- ---- how a run ends
 -- A state file that is named was read whole, and is one. All files were started and read to their ends, and they hold no fault.
@@ -91,11 +91,11 @@ pub record AreRead (command : Command) (before after : Outside) : Type 0 where
   pub begun : HasBegun command.resume before.file
   pub none_absent : All (λ held. held ≢ Absent) (helds_of command before.file)
   pub clean : AreClean command before.file (length (helds_of command before.file))
-  pub all_read : (start : Outset) → Begins command.resume before.file start → (contents : List (List ℕ))
+  pub all_read : (start : Outset) → BeginsLike command.resume before.file start → (contents : List (List ℕ))
       → AreHeldFiles (helds_of command before.file) contents
       → after.rest ≡ rest_behind (length command.files) (rest_begun command.resume before.rest)
 
--- This is the output then.
+-- This is the output then, behind each history that the run begins with.
 pub record IsDone (command : Command) (before after : Outside) (output : Output) : Type 0 where
   pub read : AreRead command before after
   pub messages : output.messages ≡ first_line command
@@ -114,7 +114,8 @@ pub record IsStateRefused (command : Command) (before : Outside) (output : Outpu
   pub fault : (xs : List ℕ) → before.file name ≡ Holds xs → IsRefusedAs why xs
   pub message : output ≡ only_on stream.Messages (fault_line name 0 why)
 
--- The files up to this fault's hold it as their first, and this is the output: its messages end with the fault's line.
+-- The files up to this fault's hold it as their first, and the messages of the output end with the fault's line. Behind each history that
+-- the run begins with the output is that of the run over these files.
 pub record IsRefused (command : Command) (before after : Outside) (output : Output) : Type 0 where
   pub begun : HasBegun command.resume before.file
   pub fault : FileFault
@@ -123,7 +124,7 @@ pub record IsRefused (command : Command) (before after : Outside) (output : Outp
   pub messages : output.messages ≡ first_line command ++ fault_line (file_name_at (file_names command) fault.file) fault.line fault.why
   pub no_state : output.state ≡ []
   pub clean_before : AreClean command before.file fault.file
-  pub first : (start : Outset) → Begins command.resume before.file start → (contents : List (List ℕ))
+  pub first : (start : Outset) → BeginsLike command.resume before.file start → (contents : List (List ℕ))
       → AreHeldFiles (take (fault.file + 1) (helds_of command before.file)) contents
       → first_fault start command.ignore_missing_entry (map ended_file contents) ≡ Some fault
   pub defined : (start : Outset) → Begins command.resume before.file start → (contents : List (List ℕ))
@@ -144,19 +145,22 @@ pub record IsStateUnread (command : Command) (before after : Outside) (output : 
   pub left : StateUnreadGives by (before.file name) before.rest after.rest
   pub message : output ≡ only_on stream.Messages (unread_line name)
 
--- What the output of a run is that ends since a file can't be read, behind files of these contents. A start that fails leaves what is left
--- of the inputs as it was, and delivers nothing of the file. What was delivered holds no fault.
+-- What a run says that ends since a file can't be read, behind files of these contents. A start that fails leaves what is left of the
+-- inputs as it was, and delivers nothing of the file. What was delivered holds no fault. The output is that of the run over the same, where
+-- it begins with this start.
 abbrev pub UnreadGives : Break → Outset → Command → ℕ → HeldFile → Outside → Outside → Output → List (List ℕ) → Type 0
 UnreadGives AtStart start command place held before after output contents =
     (after.rest ≡ rest_behind (place - generated_count command) (rest_begun command.resume before.rest))
-    × (output ≡ unread_output start command (map ended_file contents) (file_name_at (file_names command) place))
+    × (Begins command.resume before.file start
+    → output ≡ unread_output start command (map ended_file contents) (file_name_at (file_names command) place))
 UnreadGives Within start command place held before after output contents = (xs : List ℕ) → held ≡ Holds xs →
     (delivered : File) × IsDelivered xs after.rest delivered
     × (first_fault start command.ignore_missing_entry (map ended_file contents ++ delivered ∷ []) ≡ None)
-    × (output ≡ unread_output start command (map ended_file contents ++ delivered ∷ []) (file_name_at (file_names command) place))
+    × (Begins command.resume before.file start
+    → output ≡ unread_output start command (map ended_file contents ++ delivered ∷ []) (file_name_at (file_names command) place))
 
--- The file at this place, one that the words name, could not be read: its start failed, or a read. None in front of it is absent, and the
--- report has what is due within what was delivered.
+-- The file at this place, one that the words name, could not be read: its start failed, or a read. None in front of it is absent, and
+-- behind each history that the run begins with the report has what is due within what was delivered.
 pub record IsUnread (command : Command) (before after : Outside) (output : Output) : Type 0 where
   pub begun : HasBegun command.resume before.file
   pub place : ℕ
@@ -168,7 +172,7 @@ pub record IsUnread (command : Command) (before after : Outside) (output : Outpu
   pub messages : output.messages ≡ first_line command ++ unread_line (file_name_at (file_names command) place)
   pub no_state : output.state ≡ []
   pub clean_before : AreClean command before.file place
-  pub defined : (start : Outset) → Begins command.resume before.file start → (contents : List (List ℕ))
+  pub defined : (start : Outset) → BeginsLike command.resume before.file start → (contents : List (List ℕ))
       → AreHeldFiles (take place (helds_of command before.file)) contents →
       UnreadGives by start command place (held_file_at (helds_of command before.file) place) before after output contents
 
@@ -247,17 +251,30 @@ abbrev pub GivesOutput : Status → Output → Status → Outside → Outside �
 GivesOutput status output result before after =
     ((result ≡ status) × (after.written ≡ texts_followed_by before.written output)) ⊎ (result ≡ NoMemory)
 
+-- The output has the messages of the run over these files behind a start, as far as reading goes; where the run begins with the start, it
+-- is the output of that run.
+pub record HasMessagesOf (command : Command) (before : Outside) (start : Outset) (files : List File) (output : Output) : Type 0 where
+  pub messages : output.messages ≡ (output_of start command files).messages
+  pub whole : Begins command.resume before.file start → output ≡ output_of start command files
+
+-- the run has this status, and such an output over the files, or memory ran out
+abbrev pub CompletesAs : Status → Command → Outset → List File → Status → Outside → Outside → Type 0
+CompletesAs status command start files result before after =
+    ((result ≡ status)
+    × ((output : Output) × HasMessagesOf command before start files output × (after.written ≡ texts_followed_by before.written output)))
+    ⊎ (result ≡ NoMemory)
+
 -- Where no fault of the outside rises, a run over files that are held comes to its end. Files behind a faulty one need not be there,
 -- behind a state file that is refused, too.
 pub record IsComplete (command : Command) (before after : Outside) (result : Status) : Type 0 where
-  pub done : (start : Outset) → Begins command.resume before.file start → (contents : List (List ℕ))
+  pub done : (start : Outset) → BeginsLike command.resume before.file start → (contents : List (List ℕ))
       → AreHeldFiles (helds_of command before.file) contents
       → first_fault start command.ignore_missing_entry (map ended_file contents) ≡ None
-      → GivesOutput Done (output_of start command (map ended_file contents)) result before after
-  pub refused : (start : Outset) → Begins command.resume before.file start → (n : ℕ) (contents : List (List ℕ)) (fault : FileFault)
+      → CompletesAs Done command start (map ended_file contents) result before after
+  pub refused : (start : Outset) → BeginsLike command.resume before.file start → (n : ℕ) (contents : List (List ℕ)) (fault : FileFault)
       → AreHeldFiles (take n (helds_of command before.file)) contents
       → first_fault start command.ignore_missing_entry (map ended_file contents) ≡ Some fault
-      → GivesOutput Refused (output_of start command (map ended_file contents)) result before after
+      → CompletesAs Refused command start (map ended_file contents) result before after
   pub state_refused : (name xs : List ℕ) (why : Why) → command.resume ≡ Some name → before.file name ≡ Holds xs → IsRefusedAs why xs
       → GivesOutput Refused (only_on stream.Messages (fault_line name 0 why)) result before after
 

@@ -6,11 +6,12 @@ ghost use Rattle.dk_io.specs.declared.outside.Stream.TheVariants as stream;
 ghost use Rattle.dk_lines.specs.Reading.{left_of, room_of};
 ghost use Rattle.dk_blocks.specs.History.{History};
 ghost use Rattle.dk_core.specs.Selecting.{SelectsBy};
-ghost use Rattle.dk_core.specs.Standing.{ReportsAlike, SessionStandsFor, blocks_of, over_of, select_of};
+ghost use Rattle.dk_core.specs.Standing.{ReportsAlike, SessionReadsFor, SessionStandsFor, blocks_of, over_of, select_of};
 ghost use Rattle.dk_run.specs.AllFiles.{AreCalmBut, AreNoBreak, AreReadTo, FilesGive, IsCaused, files_trouble};
+ghost use Rattle.dk_run.specs.Beginning.{BeginsFrom};
 ghost use Rattle.dk_run.specs.Commands.{file_names, generated_count, helds_of, is_selected};
 ghost use Rattle.dk_run.specs.Courses.{Outset, line_limit};
-ghost use Rattle.dk_run.specs.Starts.{Begins};
+ghost use Rattle.dk_run.specs.Starts.{BeginsLike};
 ghost use Rattle.dk_run.specs.Files.{file_name_at};
 ghost use Rattle.dk_presence.specs.Patterns.{capped};
 ghost use Rattle.dk_run.specs.Telling.{Added, ReportsBy};
@@ -87,8 +88,8 @@ fn read_started<F: Fn(&[u8]) -> bool + Drop, I: Inputs, S: Sinks>(
     requires callable { F.IsAlwaysCallable (select_of session) }
     requires selects { SelectsBy (F.post (select_of session)) (is_selected command.now) }
     ensures gives { Added (S.written sinks.old) (S.written sinks.new) stream.Report (λ text.
-        (h : History) (n : ℕ) → SessionStandsFor session h → blocks_of session ≡ capped n → IfSome (left_of lines.old (I.rest inputs.old))
-        (λ xs. StartedGives command.now n h lines.old xs text result lines.new (left_of lines.new (I.rest inputs.new)))) }
+        (h : History) (n : ℕ) → SessionReadsFor session h → blocks_of session ≡ capped n → IfSome (left_of lines.old (I.rest inputs.old))
+        (λ xs. StartedGives command.now n h (SessionStandsFor session h) lines.old xs text result lines.new (left_of lines.new (I.rest inputs.new)))) }
     ensures calm { IsCalmBut (S.faults sinks.old) (S.faults sinks.new) result }
     ensures over { IfOk result (λ next. over_of next ≡ false) }
     ensures alike { IfOk result (λ next. ReportsAlike session next) }
@@ -128,8 +129,8 @@ fn read_file<F: Fn(&[u8]) -> bool + Drop, I: Inputs, S: Sinks>(
     requires selects { SelectsBy (F.post (select_of session)) (is_selected command.now) }
     ensures gives { Added (S.written sinks.old) (S.written sinks.new) stream.Report (λ text.
         (result ≡ Err Trouble.Start → text ≡ [])
-        × ((h : History) (n : ℕ) → SessionStandsFor session h → blocks_of session ≡ capped n → (xs : List ℕ) → I.file inputs.old name.now ≡ Holds xs
-        → FileGives command.now n h lines.old xs text (I.rest inputs.old) result lines.new (I.rest inputs.new))) }
+        × ((h : History) (n : ℕ) → SessionReadsFor session h → blocks_of session ≡ capped n → (xs : List ℕ) → I.file inputs.old name.now ≡ Holds xs
+        → FileGives command.now n h (SessionStandsFor session h) lines.old xs text result lines.new (I.rest inputs.new))) }
     ensures calm { IsCalmBut (S.faults sinks.old) (S.faults sinks.new) result }
     ensures over { IfOk result (λ next. over_of next ≡ false) }
     ensures alike { IfOk result (λ next. ReportsAlike session next) }
@@ -183,7 +184,7 @@ pub(crate) fn read_files<F: Fn(&[u8]) -> bool + Drop, I: Inputs, S: Sinks>(
     requires callable { F.IsAlwaysCallable (select_of session) }
     requires selects { SelectsBy (F.post (select_of session)) (is_selected command.now) }
     ensures gives { Added (S.written sinks.old) (S.written sinks.new) stream.Report (λ text. (told : List ℕ) →
-        AreReadTo command.now (I.file inputs.old) (I.rest inputs.old) (I.rest inputs.old) (SessionStandsFor session) (blocks_of session) (room_of lines.old) (generated_count command.now) told
+        AreReadTo command.now (I.file inputs.old) (I.rest inputs.old) (I.rest inputs.old) session (room_of lines.old) (generated_count command.now) told
         → FilesGive command.now (I.file inputs.old) (I.rest inputs.old) (length (file_names command.now)) (told ++ text) result lines.new (I.rest inputs.new)) }
     ensures calm { AreCalmBut (S.faults sinks.old) (S.faults sinks.new) result }
     ensures cause { IsCaused (helds_of command.now (I.file inputs.old)) (Rose (I.faults inputs.old) (I.faults inputs.new)) result }
@@ -235,7 +236,7 @@ fn read_text<F: Fn(&[u8]) -> bool + Drop, S: Sinks>(
     requires callable { F.IsAlwaysCallable (select_of session) }
     requires selects { SelectsBy (F.post (select_of session)) (is_selected command.now) }
     ensures gives { Added (S.written sinks.old) (S.written sinks.new) stream.Report (λ told.
-        (h : History) (n : ℕ) → SessionStandsFor session h → blocks_of session ≡ capped n → TextGives command.now n h lines.old text told result lines.new) }
+        (h : History) (n : ℕ) → SessionReadsFor session h → blocks_of session ≡ capped n → TextGives command.now n h (SessionStandsFor session h) lines.old text told result lines.new) }
     ensures calm { IsCalmBut (S.faults sinks.old) (S.faults sinks.new) result }
     ensures over { IfOk result (λ next. over_of next ≡ false) }
     ensures alike { IfOk result (λ next. ReportsAlike session next) }
@@ -274,7 +275,7 @@ pub(crate) fn read_generated<F: Fn(&[u8]) -> bool + Drop, S: Sinks>(
     requires callable { F.IsAlwaysCallable (select_of session) }
     requires selects { SelectsBy (F.post (select_of session)) (is_selected command.now) }
     ensures gives { Added (S.written sinks.old) (S.written sinks.new) stream.Report (λ text. (file : List ℕ → HeldFile) (before : Option (List ℕ)) →
-        ((start : Outset) → Begins command.now.resume file start → SessionStandsFor session start.history × (room_of lines.old ≡ start.room)) →
+        ((start : Outset) → BeginsLike command.now.resume file start → BeginsFrom command.now file session (room_of lines.old) start) →
         FilesGive command.now file before (generated_count command.now) text result lines.new before) }
     ensures calm { AreCalmBut (S.faults sinks.old) (S.faults sinks.new) result }
     ensures steady { AreNoBreak result }

@@ -1,4 +1,5 @@
 use Rattle.std.proofs.Common.{rules, sym, ◌≡◌, refl, []}
+use Rattle.dk_core.specs.Standing.{SessionStandsFor}
 use Rattle.dk_io.specs.declared.outside.Stream.TheVariants.{Report}
 use Rattle.dk_run.specs.WholeFile.{fresh_reading}
 use Rattle.dk_run.proofs.Filing.{told_started}
@@ -14,7 +15,7 @@ returns-in-Ok-clause-gives g c =
       written = told.written;
       holds = (
         λ e. absurd (c.read_started.ensures.started e),
-        λ h n stands counts xs holds. told_started c.args.command.now n h c.args.lines.now c.start.new.self c.read_started.new.lines _ xs told.text (g.I.Inputs.rest c.args.inputs.now) _ _ c.read_started.result
+        λ h n stands counts xs holds. told_started c.args.command.now n h (SessionStandsFor c.args.session h) c.args.lines.now c.start.new.self c.read_started.new.lines _ xs told.text _ _ c.read_started.result
             c.read_started.ensures.started started c.in-Ok.ensures.rest holds c.read_started.ensures.emptied (told.holds h n stands counts),
       );
     }

@@ -3,7 +3,6 @@ use Rattle.dk_io.specs.Outside.{HeldFile, Rose}
 use Rattle.dk_io.specs.declared.outside.Stream.TheVariants.{Report}
 use Rattle.dk_lines.specs.Reading.{room_of}
 use Rattle.dk_core.specs.Selecting.{SelectsBy}
-use Rattle.dk_core.specs.Standing.{SessionStandsFor, blocks_of}
 use Rattle.dk_run.specs.AllFiles.{AreReadTo, FilesTroubleGives, HasBrokenAt, files_trouble}
 use Rattle.dk_run.specs.Commands.{file_names, generated_count, helds_of, is_selected}
 use Rattle.dk_run.specs.Files.{file_name_at}
@@ -27,7 +26,7 @@ loop-index-init g c = record {
   goes = record {
     text = [];
     written = sym (added_nothing _ Report);
-    holds = λ told read. nothing_told c.args.command.now _ _ _ (SessionStandsFor c.args.session) _ _ _ told read;
+    holds = λ told read. nothing_told c.args.command.now _ _ _ c.args.session _ _ told read;
   };
 }
 
@@ -50,7 +49,7 @@ loop-index-preserved g c =
       goes = record {
         text = old.text ++ new.text;
         written = written_behind _ _ _ old.text new.text old.written new.written;
-        holds = λ told read. subst (λ (l : List ℕ). AreReadTo c.args.command.now (g.I.Inputs.file c.args.inputs.now) (g.I.Inputs.rest c.args.inputs.now) (g.I.Inputs.rest c.read_file.new.inputs) (SessionStandsFor c.in-Ok.next) (blocks_of c.in-Ok.next) (room_of c.read_file.new.lines) (generated_count c.args.command.now + (c.loop-index.index + 1)) l)
+        holds = λ told read. subst (λ (l : List ℕ). AreReadTo c.args.command.now (g.I.Inputs.file c.args.inputs.now) (g.I.Inputs.rest c.args.inputs.now) (g.I.Inputs.rest c.read_file.new.inputs) c.in-Ok.next (room_of c.read_file.new.lines) (generated_count c.args.command.now + (c.loop-index.index + 1)) l)
             (append_assoc told old.text new.text)
             (named_on c.args.command.now (g.I.Inputs.file c.args.inputs.now) _ _ _ c.loop-index.session c.in-Ok.next c.loop-index.index c.loop-index.lines c.read_file.new.lines (told ++ old.text) new.text c.word_at.result.now
             (c.word_at.ensures ∙ ap (λ (l : List (List ℕ)). file_name_at l c.loop-index.index) c.as_slice-words.ensures) (omega (arith, ap length c.as_slice-words.ensures)) c.loop-index.invariant.limits there (old.holds told read)
@@ -95,5 +94,5 @@ returns-clause-gives g c =
     record {
       text = old.text;
       written = old.written;
-      holds = λ told read. subst (λ (n : ℕ). AreReadTo c.args.command.now (g.I.Inputs.file c.args.inputs.now) (g.I.Inputs.rest c.args.inputs.now) (g.I.Inputs.rest c.loop-index.inputs) (SessionStandsFor c.loop-index.session) (blocks_of c.loop-index.session) (room_of c.loop-index.lines) n (told ++ old.text)) place (old.holds told read);
+      holds = λ told read. subst (λ (n : ℕ). AreReadTo c.args.command.now (g.I.Inputs.file c.args.inputs.now) (g.I.Inputs.rest c.args.inputs.now) (g.I.Inputs.rest c.loop-index.inputs) c.loop-index.session (room_of c.loop-index.lines) n (told ++ old.text)) place (old.holds told read);
     }

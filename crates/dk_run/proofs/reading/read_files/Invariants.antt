@@ -1,7 +1,7 @@
 use Rattle.std.proofs.Common.{◌≡◌, ◌≤◌, ◌+◌, ◌++◌, ℕ, List, false}
 use Rattle.dk_lines.specs.Reading.{room_of}
 use Rattle.dk_core.specs.Selecting.{SelectsBy}
-use Rattle.dk_core.specs.Standing.{ReportsAlike, SessionStandsFor, blocks_of, over_of, select_of}
+use Rattle.dk_core.specs.Standing.{ReportsAlike, over_of, select_of}
 use Rattle.dk_io.specs.declared.outside.Stream.TheVariants.{Report}
 use Rattle.dk_run.specs.AllFiles.{AreReadTo}
 use Rattle.dk_run.specs.Commands.{generated_count, is_selected}
@@ -21,6 +21,6 @@ invariant-loop-index g l = record {
   callable : goal.F-IsAlwaysCallable g (select_of l.session);
   selects : SelectsBy (goal.F-post g (select_of l.session)) (is_selected l.command);
   goes : Added (g.S.Sinks.written l.fn.sinks) (g.S.Sinks.written l.sinks) Report (λ text. (told : List ℕ) →
-      AreReadTo l.command (g.I.Inputs.file l.fn.inputs) (g.I.Inputs.rest l.fn.inputs) (g.I.Inputs.rest l.fn.inputs) (SessionStandsFor l.fn.session) (blocks_of l.fn.session) (room_of l.fn.lines) (generated_count l.command) told
-      → AreReadTo l.command (g.I.Inputs.file l.fn.inputs) (g.I.Inputs.rest l.fn.inputs) (g.I.Inputs.rest l.inputs) (SessionStandsFor l.session) (blocks_of l.session) (room_of l.lines) (generated_count l.command + l.index) (told ++ text));
+      AreReadTo l.command (g.I.Inputs.file l.fn.inputs) (g.I.Inputs.rest l.fn.inputs) (g.I.Inputs.rest l.fn.inputs) l.fn.session (room_of l.fn.lines) (generated_count l.command) told
+      → AreReadTo l.command (g.I.Inputs.file l.fn.inputs) (g.I.Inputs.rest l.fn.inputs) (g.I.Inputs.rest l.inputs) l.session (room_of l.lines) (generated_count l.command + l.index) (told ++ text));
 }

@@ -1,6 +1,5 @@
 use Rattle.std.proofs.Common.{rules, sym, [], subst}
 use Rattle.dk_io.specs.declared.outside.Stream.TheVariants.{Report}
-use Rattle.dk_core.specs.Standing.{SessionStandsFor}
 use Rattle.dk_run.specs.AllFiles.{FilesTroubleGives}
 use Rattle.dk_run.specs.declared.reading.FilesTrouble.{FilesTrouble}
 use Rattle.dk_run.proofs.Placing.{generated_on, generated_trouble, none_generated}
@@ -11,7 +10,7 @@ pub returns-in-None-clause-gives : goal.returns-in-None-clause-gives
 returns-in-None-clause-gives g c = record {
   text = [];
   written = sym (added_nothing _ Report);
-  holds = λ file before stands. none_generated c.args.command.now file before (SessionStandsFor c.args.session) _ _ (search rules) stands c.requires.counts;
+  holds = λ file before stands. none_generated c.args.command.now file before c.args.session _ (search rules) stands c.requires.counts;
 }
 
 pub returns-in-Ok-read_text-clause-gives : goal.returns-in-Ok-read_text-clause-gives

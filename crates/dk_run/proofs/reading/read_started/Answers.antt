@@ -2,7 +2,7 @@ use Rattle.std.proofs.Common.{rules, subst, sym, ◌∙◌, ◌≡◌, ◌++◌,
 use Rattle.dk_lines.specs.Reading.{left_of}
 use Rattle.dk_blocks.specs.History.{History}
 use Rattle.dk_core.specs.Selecting.{SelectsBy}
-use Rattle.dk_core.specs.Standing.{SessionStandsFor, left_with_answer}
+use Rattle.dk_core.specs.Standing.{SessionReadsFor, SessionStandsFor, left_with_answer}
 use Rattle.dk_core.specs.Steps.{NextBlock}
 use Rattle.dk_base.specs.declared.faults.Fault.{Fault}
 use Rattle.dk_io.specs.declared.outside.Stream.TheVariants.{Report}
@@ -29,15 +29,15 @@ steps-init g c = record {
   goes = record {
     text = [];
     written = sym (added_nothing _ Report);
-    holds = λ h n stands counts. not_begun c.args.command.now n h c.args.lines.now _ (SessionStandsFor c.args.session) _ _ c.requires.begins stands counts;
+    holds = λ h n stands counts. not_begun c.args.command.now n h c.args.lines.now _ c.args.session c.requires.begins stands counts;
   };
 }
 
 pub steps-preserved : goal.steps-preserved
 steps-preserved g c =
     let is : c.block.result ≡ Ok true = search rules in
-    let answers = λ (h : History) (stands : SessionStandsFor c.steps.session h).
-    subst (λ (a : Result Bool Fault). IfSome (left_of c.steps.lines (g.I.Inputs.rest c.steps.inputs)) (λ ys. NextBlock c.steps.session h c.steps.lines ys (left_with_answer c.block.new.self a) c.block.new.lines (left_of c.block.new.lines (g.I.Inputs.rest c.block.new.inputs)))) is (c.block.ensures.gives h stands) in
+    let answers = λ (h : History) (reads : SessionReadsFor c.steps.session h).
+    subst (λ (a : Result Bool Fault). IfSome (left_of c.steps.lines (g.I.Inputs.rest c.steps.inputs)) (λ ys. NextBlock c.steps.session h c.steps.lines ys (left_with_answer c.block.new.self a) c.block.new.lines (left_of c.block.new.lines (g.I.Inputs.rest c.block.new.inputs)))) is (c.block.ensures.gives h reads) in
     record {
       started = search rules;
       limits = search rules;
@@ -51,7 +51,7 @@ steps-preserved g c =
       goes = record {
         text = c.steps.invariant.goes.text ++ c.in-Ok.ensures.text;
         written = written_behind _ _ _ c.steps.invariant.goes.text c.in-Ok.ensures.text c.steps.invariant.goes.written c.in-Ok.ensures.written;
-        holds = λ h n stands counts. file_on c.args.command.now n h c.args.lines.now c.steps.lines c.block.new.lines _ _ _ c.steps.invariant.goes.text c.in-Ok.ensures.text c.steps.session c.block.new.self
+        holds = λ h n stands counts. file_on c.args.command.now n h (SessionStandsFor c.args.session h) c.args.lines.now c.steps.lines c.block.new.lines _ _ _ c.steps.invariant.goes.text c.in-Ok.ensures.text c.steps.session c.block.new.self
             (ignores_by c.args.command.now c.steps.session c.steps.invariant.reports) (c.steps.invariant.goes.holds h n stands counts) answers
             (counted_on c.steps.session c.block.new.self c.steps.lines c.block.new.lines c.block.result is c.block.ensures.counts) c.in-Ok.ensures.holds;
       };
@@ -60,15 +60,15 @@ steps-preserved g c =
 pub returns-in-Err-tell_by_the_way-clause-gives : goal.returns-in-Err-tell_by_the_way-clause-gives
 returns-in-Err-tell_by_the_way-clause-gives g c =
     let is : c.block.result ≡ Ok true = search rules in
-    let answers = λ (h : History) (stands : SessionStandsFor c.steps.session h).
-    subst (λ (a : Result Bool Fault). IfSome (left_of c.steps.lines (g.I.Inputs.rest c.steps.inputs)) (λ ys. NextBlock c.steps.session h c.steps.lines ys (left_with_answer c.block.new.self a) c.block.new.lines (left_of c.block.new.lines (g.I.Inputs.rest c.block.new.inputs)))) is (c.block.ensures.gives h stands) in
+    let answers = λ (h : History) (reads : SessionReadsFor c.steps.session h).
+    subst (λ (a : Result Bool Fault). IfSome (left_of c.steps.lines (g.I.Inputs.rest c.steps.inputs)) (λ ys. NextBlock c.steps.session h c.steps.lines ys (left_with_answer c.block.new.self a) c.block.new.lines (left_of c.block.new.lines (g.I.Inputs.rest c.block.new.inputs)))) is (c.block.ensures.gives h reads) in
     let cut = c.in-Err-tell_by_the_way.ensures in
     record {
       text = c.steps.invariant.goes.text ++ cut.text;
       written = written_behind _ _ _ c.steps.invariant.goes.text cut.text c.steps.invariant.goes.written cut.written;
-      holds = λ h n stands counts. subst (λ (t : Trouble). IfSome (left_of c.args.lines.now (g.I.Inputs.rest c.args.inputs.now)) (λ xs. TroubleGives c.args.command.now n h c.args.lines.now xs (c.steps.invariant.goes.text ++ cut.text) t (left_of c.block.new.lines (g.I.Inputs.rest c.block.new.inputs)))) (sym c.trouble_of_halt.ensures)
-          (short_gives c.args.command.now n h c.args.lines.now _ _ (c.steps.invariant.goes.text ++ cut.text) c.in-Err-tell_by_the_way.halt
-          (file_short c.args.command.now n h c.args.lines.now c.steps.lines c.block.new.lines _ _ _ c.steps.invariant.goes.text cut.text c.steps.session c.block.new.self
+      holds = λ h n stands counts. subst (λ (t : Trouble). IfSome (left_of c.args.lines.now (g.I.Inputs.rest c.args.inputs.now)) (λ xs. TroubleGives c.args.command.now n h (SessionStandsFor c.args.session h) c.args.lines.now xs (c.steps.invariant.goes.text ++ cut.text) t (left_of c.block.new.lines (g.I.Inputs.rest c.block.new.inputs)))) (sym c.trouble_of_halt.ensures)
+          (short_gives c.args.command.now n h (SessionStandsFor c.args.session h) c.args.lines.now _ _ (c.steps.invariant.goes.text ++ cut.text) c.in-Err-tell_by_the_way.halt
+          (file_short c.args.command.now n h (SessionStandsFor c.args.session h) c.args.lines.now c.steps.lines c.block.new.lines _ _ _ c.steps.invariant.goes.text cut.text c.steps.session c.block.new.self
           (ignores_by c.args.command.now c.steps.session c.steps.invariant.reports) (c.steps.invariant.goes.holds h n stands counts) answers
           (counted_on c.steps.session c.block.new.self c.steps.lines c.block.new.lines c.block.result is c.block.ensures.counts) cut.holds));
     }
@@ -76,15 +76,15 @@ returns-in-Err-tell_by_the_way-clause-gives g c =
 pub returns-in-Ok-false-clause-gives : goal.returns-in-Ok-false-clause-gives
 returns-in-Ok-false-clause-gives g c =
     let is : c.block.result ≡ Ok false = search rules in
-    let answers = λ (h : History) (stands : SessionStandsFor c.steps.session h).
-    subst (λ (a : Result Bool Fault). IfSome (left_of c.steps.lines (g.I.Inputs.rest c.steps.inputs)) (λ ys. NextBlock c.steps.session h c.steps.lines ys (left_with_answer c.block.new.self a) c.block.new.lines (left_of c.block.new.lines (g.I.Inputs.rest c.block.new.inputs)))) is (c.block.ensures.gives h stands) in
+    let answers = λ (h : History) (reads : SessionReadsFor c.steps.session h).
+    subst (λ (a : Result Bool Fault). IfSome (left_of c.steps.lines (g.I.Inputs.rest c.steps.inputs)) (λ ys. NextBlock c.steps.session h c.steps.lines ys (left_with_answer c.block.new.self a) c.block.new.lines (left_of c.block.new.lines (g.I.Inputs.rest c.block.new.inputs)))) is (c.block.ensures.gives h reads) in
     let ended = counted_end c.steps.session c.block.new.self c.steps.lines c.block.new.lines c.block.result is c.block.ensures.counts in
     record {
       text = c.steps.invariant.goes.text;
       written = c.steps.invariant.goes.written;
-      holds = λ h n stands counts. file_end c.args.command.now n h c.args.lines.now c.steps.lines c.block.new.lines _ _ _ c.steps.invariant.goes.text c.steps.session c.block.new.self c.end_file.result
+      holds = λ h n stands counts. file_end c.args.command.now n h (SessionStandsFor c.args.session h) c.args.lines.now c.steps.lines c.block.new.lines _ _ _ c.steps.invariant.goes.text c.steps.session c.block.new.self c.end_file.result
           (ignores_by c.args.command.now c.steps.session c.steps.invariant.reports) (c.steps.invariant.goes.holds h n stands counts) answers
-          (c.end_file.ensures.counts.0 ∙ ended.0) ended.1 c.end_file.ensures.stands;
+          (c.end_file.ensures.counts.0 ∙ ended.0) ended.1 c.end_file.ensures.stands c.end_file.ensures.reads;
     }
 
 pub returns-in-Err-clause-gives : goal.returns-in-Err-clause-gives
@@ -92,8 +92,8 @@ returns-in-Err-clause-gives g c =
     record {
       text = c.steps.invariant.goes.text;
       written = c.steps.invariant.goes.written;
-      holds = λ h n stands counts. subst (λ (t : Trouble). IfSome (left_of c.args.lines.now (g.I.Inputs.rest c.args.inputs.now)) (λ xs. TroubleGives c.args.command.now n h c.args.lines.now xs c.steps.invariant.goes.text t (left_of c.block.new.lines (g.I.Inputs.rest c.block.new.inputs)))) (sym c.trouble_of_fault.ensures)
-          (file_fault c.args.command.now n h c.args.lines.now c.steps.lines c.block.new.lines _ _ _ c.steps.invariant.goes.text c.steps.session c.in-Err.fault
+      holds = λ h n stands counts. subst (λ (t : Trouble). IfSome (left_of c.args.lines.now (g.I.Inputs.rest c.args.inputs.now)) (λ xs. TroubleGives c.args.command.now n h (SessionStandsFor c.args.session h) c.args.lines.now xs c.steps.invariant.goes.text t (left_of c.block.new.lines (g.I.Inputs.rest c.block.new.inputs)))) (sym c.trouble_of_fault.ensures)
+          (file_fault c.args.command.now n h (SessionStandsFor c.args.session h) c.args.lines.now c.steps.lines c.block.new.lines _ _ _ c.steps.invariant.goes.text c.steps.session c.in-Err.fault
           (ignores_by c.args.command.now c.steps.session c.steps.invariant.reports) (c.steps.invariant.goes.holds h n stands counts) c.in-Err.ensures.gives);
     }
 

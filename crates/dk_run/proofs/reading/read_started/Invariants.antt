@@ -2,7 +2,7 @@ use Rattle.std.proofs.Common.{◌≡◌, ◌≤◌, ◌-◌, ◌+◌, ◌*◌, �
 use Rattle.dk_lines.specs.Reading.{left_of}
 use Rattle.dk_blocks.specs.History.{History}
 use Rattle.dk_core.specs.Selecting.{SelectsBy}
-use Rattle.dk_core.specs.Standing.{ReportsAlike, SessionStandsFor, blocks_of, over_of, select_of}
+use Rattle.dk_core.specs.Standing.{ReportsAlike, SessionReadsFor, SessionStandsFor, blocks_of, over_of, select_of}
 use Rattle.dk_io.specs.declared.outside.Stream.TheVariants.{Report}
 use Rattle.dk_run.specs.Commands.{is_selected}
 use Rattle.dk_presence.specs.Patterns.{capped}
@@ -22,8 +22,8 @@ invariant-steps g l = record {
   callable : goal.F-IsAlwaysCallable g (select_of l.session);
   selects : SelectsBy (goal.F-post g (select_of l.session)) (is_selected l.command);
   goes : Added (g.S.Sinks.written l.fn.sinks) (g.S.Sinks.written l.sinks) Report (λ text.
-      (h : History) (n : ℕ) → SessionStandsFor l.fn.session h → blocks_of l.fn.session ≡ capped n → IfSome (left_of l.fn.lines (g.I.Inputs.rest l.fn.inputs))
-      (λ xs. FileGoesOn l.command n h l.fn.lines xs text (SessionStandsFor l.session) (blocks_of l.session) (over_of l.session) l.lines (left_of l.lines (g.I.Inputs.rest l.inputs))));
+      (h : History) (n : ℕ) → SessionReadsFor l.fn.session h → blocks_of l.fn.session ≡ capped n → IfSome (left_of l.fn.lines (g.I.Inputs.rest l.fn.inputs))
+      (λ xs. FileGoesOn l.command n h (SessionStandsFor l.fn.session h) l.fn.lines xs text l.session l.lines (left_of l.lines (g.I.Inputs.rest l.inputs))));
 }
 
 abbrev pub decreases-steps : goal.decreases-steps

@@ -1,4 +1,5 @@
 use Rattle.std.proofs.Common.{◌≤◌, ◌<◌, ◌++◌, List, length, refl, subst, arith}
+use Rattle.dk_core.proofs.Taking.{reads_of}
 use Rattle.dk_core.specs.Sections.{section_of, report_of}
 use Rattle.dk_core.specs.Standing.{SessionStandsFor}
 use Rattle.dk_points.specs.Table.{Point}
@@ -13,7 +14,7 @@ pub loop-p-preserved : goal.loop-p-preserved
 loop-p-preserved g c =
     let within : c.loop-p.p < length c.points-points.result.now = omega arith in
     told_same (SessionStandsFor c.args.session.now) (λ h. texts_to (section_of (report_options c.args.command.now) (is_selected c.args.command.now) h) c.loop-p.p 0 h.table ++ section_of (report_options c.args.command.now) (is_selected c.args.command.now) h c.loop-p.p) _ _ _ _ _
-    (λ h stands. texts_more (section_of (report_options c.args.command.now) (is_selected c.args.command.now) h) c.loop-p.p h.table (subst (λ (ps : List Point). c.loop-p.p < length ps) (c.points-points.ensures.table h stands) within))
+    (λ h stands. texts_more (section_of (report_options c.args.command.now) (is_selected c.args.command.now) h) c.loop-p.p h.table (subst (λ (ps : List Point). c.loop-p.p < length ps) (c.points-points.ensures.table h (reads_of c.args.session.now.kept h stands)) within))
     (told_then (SessionStandsFor c.args.session.now) (λ h. texts_to (section_of (report_options c.args.command.now) (is_selected c.args.command.now) h) c.loop-p.p 0 h.table) (λ h. section_of (report_options c.args.command.now) (is_selected c.args.command.now) h c.loop-p.p) _ _ _ _ _ _ c.loop-p.invariant c.in-Ok.ensures)
 
 pub returns-in-Err : goal.returns-in-Err
@@ -21,7 +22,7 @@ unfolding report_of
 returns-in-Err g c =
     let within : c.loop-p.p < length c.points-points.result.now = omega arith in
     cut_short (SessionStandsFor c.args.session.now) (λ h. texts_to (section_of (report_options c.args.command.now) (is_selected c.args.command.now) h) c.loop-p.p 0 h.table ++ section_of (report_options c.args.command.now) (is_selected c.args.command.now) h c.loop-p.p) (λ h. report_of (report_options c.args.command.now) (is_selected c.args.command.now) h) _ _ _ _ c.in-Err.halt
-    (λ h stands. texts_behind (section_of (report_options c.args.command.now) (is_selected c.args.command.now) h) c.loop-p.p h.table (subst (λ (ps : List Point). c.loop-p.p < length ps) (c.points-points.ensures.table h stands) within))
+    (λ h stands. texts_behind (section_of (report_options c.args.command.now) (is_selected c.args.command.now) h) c.loop-p.p h.table (subst (λ (ps : List Point). c.loop-p.p < length ps) (c.points-points.ensures.table h (reads_of c.args.session.now.kept h stands)) within))
     (cut_then (SessionStandsFor c.args.session.now) (λ h. texts_to (section_of (report_options c.args.command.now) (is_selected c.args.command.now) h) c.loop-p.p 0 h.table) (λ h. section_of (report_options c.args.command.now) (is_selected c.args.command.now) h c.loop-p.p) _ _ _ _ _ _ _ c.loop-p.invariant c.in-Err.ensures)
 
 pub returns : goal.returns
@@ -29,5 +30,5 @@ unfolding report_of
 returns g c =
     let above : length c.points-points.result.now ≤ c.loop-p.p = omega arith in
     told_same (SessionStandsFor c.args.session.now) (λ h. texts_to (section_of (report_options c.args.command.now) (is_selected c.args.command.now) h) c.loop-p.p 0 h.table) (λ h. report_of (report_options c.args.command.now) (is_selected c.args.command.now) h) _ _ _ _
-    (λ h stands. texts_all (section_of (report_options c.args.command.now) (is_selected c.args.command.now) h) c.loop-p.p h.table (subst (λ (ps : List Point). length ps ≤ c.loop-p.p) (c.points-points.ensures.table h stands) above))
+    (λ h stands. texts_all (section_of (report_options c.args.command.now) (is_selected c.args.command.now) h) c.loop-p.p h.table (subst (λ (ps : List Point). length ps ≤ c.loop-p.p) (c.points-points.ensures.table h (reads_of c.args.session.now.kept h stands)) above))
     c.loop-p.invariant

@@ -11,5 +11,5 @@ returns-in-Ok-read_generated-clause-gives g c =
       text = first.text ++ more.text;
       written = written_behind _ _ _ first.text more.text first.written more.written;
       holds = run_gives c.args.command.now (g.I.Inputs.file c.args.inputs.now) (g.I.Inputs.rest c.args.inputs.now) (g.I.Inputs.rest c.read_files.new.inputs) (first.text ++ more.text) c.read_files.result c.read_files.new.lines
-          (more.holds first.text (first.holds (g.I.Inputs.file c.args.inputs.now) (g.I.Inputs.rest c.args.inputs.now) (λ start begins. let told = c.requires.begun.stands start begins in (told.0, search rules ∙ told.1))));
+          (more.holds first.text (first.holds (g.I.Inputs.file c.args.inputs.now) (g.I.Inputs.rest c.args.inputs.now) (λ start begins. let is = c.requires.begun.starts start begins in record { from = is.from; room_is = search rules ∙ is.room_is })));
     }

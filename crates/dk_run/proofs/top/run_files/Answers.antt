@@ -1,6 +1,5 @@
 use Rattle.std.proofs.Common.{subst, ◌∙◌, ℕ, List, length}
 use Rattle.dk_io.specs.Outside.{HeldFile, Rose}
-use Rattle.dk_core.specs.Standing.{SessionStandsFor, blocks_of}
 use Rattle.dk_run.specs.AllFiles.{AreReadTo, FilesTroubleGives, HasBrokenAt}
 use Rattle.dk_run.specs.Commands.{file_names, helds_of}
 use Rattle.dk_run.proofs.Saying.{behind_of, cut_says, done_says, state_says, trouble_placed, trouble_says}
@@ -9,22 +8,22 @@ use Rattle.dk_run.proofs.top.run_files.Goals as goal
 pub returns-in-Ok-tell_state-clause-says : goal.returns-in-Ok-tell_state-clause-says
 returns-in-Ok-tell_state-clause-says g c before come first =
     let told = c.in-Ok.ensures.gives in
-    let read = subst (λ (f : List ℕ → HeldFile). AreReadTo c.args.command.now f (g.I.Inputs.rest c.args.inputs.now) (g.I.Inputs.rest c.read_run.new.inputs) (SessionStandsFor c.in-Ok.session) (blocks_of c.in-Ok.session) told.holds.0 (length (file_names c.args.command.now)) told.text) come.file told.holds.1 in
-    done_says c.args.command.now before _ _ (SessionStandsFor c.in-Ok.session) (blocks_of c.in-Ok.session) told.holds.0 _ _ _ _ _ told.text (behind_of c.args.command.now before _ c.args.beginning come) first told.written
+    let read = subst (λ (f : List ℕ → HeldFile). AreReadTo c.args.command.now f (g.I.Inputs.rest c.args.inputs.now) (g.I.Inputs.rest c.read_run.new.inputs) c.in-Ok.session told.holds.0 (length (file_names c.args.command.now)) told.text) come.file told.holds.1 in
+    done_says c.args.command.now before _ _ c.in-Ok.session told.holds.0 _ _ _ _ _ told.text (behind_of c.args.command.now before _ c.args.beginning come) first told.written
     (c.in-Ok.ensures.calm ∙ come.calm) read c.in-Ok-tell_last.ensures c.in-Ok-tell_state.ensures
 
 pub returns-in-Ok-tell_last-clause-says : goal.returns-in-Ok-tell_last-clause-says
 returns-in-Ok-tell_last-clause-says g c before come first =
     let told = c.in-Ok.ensures.gives in
-    let read = subst (λ (f : List ℕ → HeldFile). AreReadTo c.args.command.now f (g.I.Inputs.rest c.args.inputs.now) (g.I.Inputs.rest c.read_run.new.inputs) (SessionStandsFor c.in-Ok.session) (blocks_of c.in-Ok.session) told.holds.0 (length (file_names c.args.command.now)) told.text) come.file told.holds.1 in
-    rw c.status_of.ensures (state_says c.args.command.now before _ _ (SessionStandsFor c.in-Ok.session) (blocks_of c.in-Ok.session) told.holds.0 _ _ _ _ _ told.text c.in-Err-tell_state.halt (behind_of c.args.command.now before _ c.args.beginning come)
+    let read = subst (λ (f : List ℕ → HeldFile). AreReadTo c.args.command.now f (g.I.Inputs.rest c.args.inputs.now) (g.I.Inputs.rest c.read_run.new.inputs) c.in-Ok.session told.holds.0 (length (file_names c.args.command.now)) told.text) come.file told.holds.1 in
+    rw c.status_of.ensures (state_says c.args.command.now before _ _ c.in-Ok.session told.holds.0 _ _ _ _ _ told.text c.in-Err-tell_state.halt (behind_of c.args.command.now before _ c.args.beginning come)
     first told.written (c.in-Ok.ensures.calm ∙ come.calm) read c.in-Ok-tell_last.ensures c.in-Err-tell_state.ensures)
 
 pub returns-in-Ok-clause-says : goal.returns-in-Ok-clause-says
 returns-in-Ok-clause-says g c before come first =
     let told = c.in-Ok.ensures.gives in
-    let read = subst (λ (f : List ℕ → HeldFile). AreReadTo c.args.command.now f (g.I.Inputs.rest c.args.inputs.now) (g.I.Inputs.rest c.read_run.new.inputs) (SessionStandsFor c.in-Ok.session) (blocks_of c.in-Ok.session) told.holds.0 (length (file_names c.args.command.now)) told.text) come.file told.holds.1 in
-    rw c.status_of-in-Err-tell_last.ensures (cut_says c.args.command.now before _ _ (SessionStandsFor c.in-Ok.session) (blocks_of c.in-Ok.session) told.holds.0 _ _ _ told.text c.in-Err-tell_last.halt (behind_of c.args.command.now before _ c.args.beginning come)
+    let read = subst (λ (f : List ℕ → HeldFile). AreReadTo c.args.command.now f (g.I.Inputs.rest c.args.inputs.now) (g.I.Inputs.rest c.read_run.new.inputs) c.in-Ok.session told.holds.0 (length (file_names c.args.command.now)) told.text) come.file told.holds.1 in
+    rw c.status_of-in-Err-tell_last.ensures (cut_says c.args.command.now before _ _ c.in-Ok.session told.holds.0 _ _ _ told.text c.in-Err-tell_last.halt (behind_of c.args.command.now before _ c.args.beginning come)
     first told.written (c.in-Ok.ensures.calm ∙ come.calm) read c.in-Err-tell_last.ensures)
 
 pub tell_trouble-requires : goal.tell_trouble-requires

@@ -17,6 +17,11 @@ returns-else-branch-clause-bad c e spelling =
     let equal = (bytes_eq-Decides _ c.args.bytes.now).1 same in
     absurd (false≢true (sym c.if-branch.false ∙ c.in_ok-saves_to.ensures ∙ equal))
 
+pub returns-then-branch-clause-content : goal.returns-then-branch-clause-content
+returns-then-branch-clause-content c told meets text =
+    let loaded = c.in_ok-loaded.ensures.read told meets text in
+    (loaded.0, loaded.1, loaded.2)
+
 pub returns-then-branch-clause-stands : goal.returns-then-branch-clause-stands
 returns-then-branch-clause-stands c g ps implicit own can text =
     let l = c.in_ok-loaded.loaded in

@@ -43,32 +43,33 @@ invariant_of-self c =
     }
 
 pub returns-in-Nothing-clause-gives : goal.returns-in-Nothing-clause-gives
-returns-in-Nothing-clause-gives c h now were stands =
-    subst (λ (f : Found). TakenAs h (Ok c.args.self.now) (outcome_of now (Some f))) (sym c.in-Nothing.is)
-    (now, (Nothing, refl, λ adds grammar. nothing_taken c.args.self.now h now were adds grammar stands))
+returns-in-Nothing-clause-gives c h now stands =
+    subst (λ (f : Found). TakenAs c.args.self.now h (Ok c.args.self.now) (outcome_of now (Some f))) (sym c.in-Nothing.is)
+    (now, stands, (Nothing, refl, λ were adds grammar. nothing_taken c.args.self.now h now were adds grammar stands))
 
 pub returns-in-Declaration-clause-gives : goal.returns-in-Declaration-clause-gives
-returns-in-Declaration-clause-gives c h now were stands =
-    subst (λ (f : Found). TakenAs h (left_behind c.declare.new.self c.declare.result) (outcome_of now (Some f))) (sym c.in-Declaration.is) (c.declare.ensures.gives h now were stands)
+returns-in-Declaration-clause-gives c h now stands =
+    subst (λ (f : Found). TakenAs c.args.self.now h (left_behind c.declare.new.self c.declare.result) (outcome_of now (Some f))) (sym c.in-Declaration.is) (c.declare.ensures.gives h now stands)
 
 pub returns-after-feed-clause-gives : goal.returns-after-feed-clause-gives
-returns-after-feed-clause-gives c h now were stands =
+returns-after-feed-clause-gives c h now stands =
     let k : Keeping = record { reader = c.self.inside.reader; grammar = c.self.inside.grammar; engines = c.self.inside.engines.items } in
     let p = c.in-Sample.point in
     let fits = subst (λ (f : Found). FoundFits (points_in k.reader) (Some f)) c.in-Sample.is (subst (λ (x : Keeping). FoundFits (points_in x.reader) (Some c.args.found)) (sym c.self.view_is) c.requires) in
     let there : p.0 < length k.engines = omega (arith, fits.0, c.self.invariant.engines.long) in
     let at : slice_get k.engines p.0 ≡ Some c.index_mut.result.now = got k.engines p.0 c.index_mut.result.now there c.index_mut.ensures.value in
-    let own : EnginesWere k h = subst (λ (x : Keeping). EnginesWere x h) (sym c.self.view_is) were in
     let holds : ReaderStandsFor k.reader now = subst (λ (x : Keeping). ReaderStandsFor x.reader now) (sym c.self.view_is) stands in
-    let P : Result Unit Fault → Type 0 = λ r. TakenAs h (left_behind (record k { engines = slice_set k.engines p.0 c.feed.new.engine }) r) (outcome_of now (Some c.args.found)) in
+    let P : Result Unit Fault → Type 0 = λ r. TakenAs c.args.self.now h (left_behind (record k { engines = slice_set k.engines p.0 c.feed.new.engine }) r) (outcome_of now (Some c.args.found)) in
     elim c.match-feed.branch [
       | in-Ok w ↦ subst P (sym w.result-is)
-          (subst (λ (f : Found). TakenAs h (Ok (record k { engines = slice_set k.engines p.0 c.feed.new.engine })) (outcome_of now (Some f))) (sym c.in-Sample.is) (
+          (subst (λ (f : Found). TakenAs c.args.self.now h (Ok (record k { engines = slice_set k.engines p.0 c.feed.new.engine })) (outcome_of now (Some f))) (sym c.in-Sample.is) (
             now,
+            holds,
             (
               Samples p.0 _ (values_of c.in-Sample.values.now),
               refl,
-              λ adds grammar.
+              λ were adds grammar.
+                  let own : EnginesWere k h = subst (λ (x : Keeping). EnginesWere x h) (sym c.self.view_is) were in
                   sample_taken k p.0 c.index_mut.result.now c.feed.new.engine (values_of c.in-Sample.values.now) h now own c.self.invariant.engines at there w.in-Ok.ensures.stands adds grammar holds,
             ),
           ))

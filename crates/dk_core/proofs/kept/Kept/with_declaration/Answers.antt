@@ -1,4 +1,4 @@
-use Rattle.std.proofs.Common.{ap, arith, length, subst, sym, List}
+use Rattle.std.proofs.Common.{ap, arith, length, subst, sym, List, Ok}
 use Rattle.dk_engine.specs.Levels.{Whole}
 use Rattle.dk_points.specs.Table.{Point}
 use Rattle.dk_blocks.proofs.Growing.{more_points}
@@ -8,7 +8,7 @@ use Rattle.dk_core.proofs.Keeping.{engines_grown}
 use Rattle.dk_core.proofs.Taking.{declared_taken}
 use Rattle.dk_core.specs.Growing.{AreGrown}
 use Rattle.dk_core.specs.Keeping.{Keeping}
-use Rattle.dk_core.specs.Taking.{EnginesWere}
+use Rattle.dk_core.specs.Taking.{TakenAs}
 use Rattle.dk_core.proofs.kept.Kept.with_declaration.Goals as goal
 
 pub with_new-requires : goal.with_new-requires
@@ -25,12 +25,13 @@ invariant_of-result c =
     record { engines = sound.0; grammar = sound.1 }
 
 pub returns-in-Ok-with_new-clause-gives : goal.returns-in-Ok-with_new-clause-gives
-returns-in-Ok-with_new-clause-gives c h now were stands =
+returns-in-Ok-with_new-clause-gives c h now stands =
     let k : Keeping = record { reader = c.self.inside.reader; grammar = c.self.inside.grammar; engines = c.self.inside.engines.items } in
     let all : List Whole = c.in-Ok-with_new.engines.items in
     let grown = subst (λ (ps : List Point). AreGrown ps k.grammar k.engines all) c.points.ensures.points c.in-Ok-with_new.ensures in
-    declared_taken k c.in-Ok.reader _ all h (with_declaration now c.args.line c.args.decl) (subst (λ (x : Keeping). EnginesWere x h) (sym c.self.view_is) were) grown
-    (c.in-Ok.ensures.gives now (subst (λ (x : Keeping). ReaderStandsFor x.reader now) (sym c.self.view_is) stands))
+    subst (λ (x : Keeping). TakenAs x h (Ok (record { reader = c.in-Ok.reader; grammar = k.grammar; engines = all })) (with_declaration now c.args.line c.args.decl)) c.self.view_is
+    (declared_taken k c.in-Ok.reader _ all h (with_declaration now c.args.line c.args.decl) grown
+    (c.in-Ok.ensures.gives now (subst (λ (x : Keeping). ReaderStandsFor x.reader now) (sym c.self.view_is) stands)))
 
 pub returns-in-Err-clause-gives : goal.returns-in-Err-clause-gives
-returns-in-Err-clause-gives c h now were stands = c.in-Err.ensures.gives now (subst (λ (x : Keeping). ReaderStandsFor x.reader now) (sym c.self.view_is) stands)
+returns-in-Err-clause-gives c h now stands = c.in-Err.ensures.gives now (subst (λ (x : Keeping). ReaderStandsFor x.reader now) (sym c.self.view_is) stands)
