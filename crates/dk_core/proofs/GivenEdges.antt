@@ -24,8 +24,9 @@ use Rattle.dk_decl.specs.Outcomes.{refused}
 use Rattle.dk_decl.specs.declared.decls.EdgeDecl.{EdgeDecl}
 use Rattle.dk_graph.specs.Names.{place_of}
 use Rattle.dk_state.specs.Fitting.{FitsEdge}
-use Rattle.dk_state.specs.Given.{all_new, edge_key, has_none, is_given_edge}
+use Rattle.dk_state.specs.Given.{all_new, edge_key, is_given_edge}
 use Rattle.dk_core.proofs.Spelled.{IsSpelled, IsWord, are_words, both, is_name_spelled, left, none_rest, right, spelled_undone, spelled_word, unescaped_none}
+use Rattle.dk_write.specs.Names.{has_none}
 
 pub or_none_right : (a b : Bool) → (a || b) ≡ false → b ≡ false
 or_none_right true b e = absurd (cc e)
@@ -89,7 +90,7 @@ new_name P name_of p xs name gives all none =
     none_passes (bytes_eq name) (map name_of xs) (any_map (bytes_eq name) name_of xs ∙ any_less P p (λ x. bytes_eq name (name_of x)) xs gives all none)
 
 -- ---- what tells an edge
-no_digit : (ds : List ℕ) → AllDigits 10 ds → has_none ds 32 ≡ true
+no_digit : (ds : List ℕ) → AllDigits 10 ds → has_none 32 ds ≡ true
 no_digit [] all = refl
 no_digit (d ∷ ds) all =
     let range = digit_from_value d all.0 in
@@ -97,25 +98,25 @@ no_digit (d ∷ ds) all =
     rw blank (no_digit ds all.1)
 
 -- two texts with a blank between parts of which the first has none are of the same parts
-same_parts : (xs ys ps qs : List ℕ) → has_none xs 32 ≡ true → has_none ys 32 ≡ true → xs ++ 32 ∷ ps ≡ ys ++ 32 ∷ qs → (xs ≡ ys) × (ps ≡ qs)
+same_parts : (xs ys ps qs : List ℕ) → has_none 32 xs ≡ true → has_none 32 ys ≡ true → xs ++ 32 ∷ ps ≡ ys ++ 32 ∷ qs → (xs ≡ ys) × (ps ≡ qs)
 same_parts [] [] ps qs h k e = (refl, cc e)
 same_parts [] (y ∷ ys) ps qs h k e =
     let first : 32 ≡ y = cc e in
-    absurd (cc (left (not (y == 32)) (has_none ys 32) k, subst (λ n. (n == 32) ≡ true) first refl))
+    absurd (cc (left (not (y == 32)) (has_none 32 ys) k, subst (λ n. (n == 32) ≡ true) first refl))
 same_parts (x ∷ xs) [] ps qs h k e =
     let first : x ≡ 32 = cc e in
-    absurd (cc (left (not (x == 32)) (has_none xs 32) h, subst (λ n. (n == 32) ≡ true) (sym first) refl))
+    absurd (cc (left (not (x == 32)) (has_none 32 xs) h, subst (λ n. (n == 32) ≡ true) (sym first) refl))
 same_parts (x ∷ xs) (y ∷ ys) ps qs h k e =
     let first : x ≡ y = cc e in
     let rest : xs ++ 32 ∷ ps ≡ ys ++ 32 ∷ qs = cc e in
-    let same = same_parts xs ys ps qs (right (not (x == 32)) (has_none xs 32) h) (right (not (y == 32)) (has_none ys 32) k) rest in
+    let same = same_parts xs ys ps qs (right (not (x == 32)) (has_none 32 xs) h) (right (not (y == 32)) (has_none 32 ys) k) rest in
     (λ i. first i ∷ same.0 i, same.1)
 
 key_tells : (e f : EdgeDecl) → e.id < 2 ^ 32 → f.id < 2 ^ 32 → bytes_eq (edge_key e) (edge_key f) ≡ true → same_edge e.parent e.id f ≡ true
 key_tells e f small less same =
     let equal : edge_key e ≡ edge_key f = (bytes_eq-Decides (edge_key e) (edge_key f)).0 same in
     let inner : decimal e.id ++ 32 ∷ e.parent ≡ decimal f.id ++ 32 ∷ f.parent = cc equal in
-    let plain : (n : ℕ) → n < 2 ^ 32 → has_none (decimal n) 32 ≡ true = λ n few. no_digit (decimal n) (decimal_is_IsNumeral_wide n (omega arith)).0.1 in
+    let plain : (n : ℕ) → n < 2 ^ 32 → has_none 32 (decimal n) ≡ true = λ n few. no_digit (decimal n) (decimal_is_IsNumeral_wide n (omega arith)).0.1 in
     let parts = same_parts (decimal e.id) (decimal f.id) e.parent f.parent (plain e.id small) (plain f.id less) inner in
     let id : f.id ≡ e.id = sym (decimal_injective e.id f.id (omega arith) (omega arith) parts.0) in
     both _ _ ((bytes_eq-Decides f.parent e.parent).1 (sym parts.1)) (subst (λ n. (n == e.id) ≡ true) (sym id) (same_id e.id))
@@ -204,7 +205,7 @@ parent_given es line (relation ∷ parent ∷ id ∷ []) es' all given e = by (b
     by true e = at (id_of id) refl e
     by false e = other (is_some (id_of id)) e
 
-head_given : (es : List EdgeDecl) (l : Line) (es' : List EdgeDecl) → has_none l.bytes 10 ≡ true → AreGivenEdges es → head_line es l ≡ Ok es' → IsOneMore es es'
+head_given : (es : List EdgeDecl) (l : Line) (es' : List EdgeDecl) → has_none 10 l.bytes ≡ true → AreGivenEdges es → head_line es l ≡ Ok es' → IsOneMore es es'
 unfolding head_line operands
 head_given es l es' none given e = by (begins (codes "ppt-type") l.bytes) (begins (codes "parent") l.bytes) e
   where
@@ -219,7 +220,7 @@ head_given es l es' none given e = by (begins (codes "ppt-type") l.bytes) (begin
     by false false e = let is : es ≡ es' = cc e in subst (IsOneMore es) is (given, omega arith)
 
 abbrev pub HasNoLf : Line → Type 0
-HasNoLf l = has_none l.bytes 10 ≡ true
+HasNoLf l = has_none 10 l.bytes ≡ true
 
 -- the edges of a block
 pub edges_given : (ls : List Line) (es es' : List EdgeDecl) → All HasNoLf ls → AreGivenEdges es → each_line head_line es ls ≡ Ok es' → AreGivenEdges es' × (length es' ≤ length es + length ls)

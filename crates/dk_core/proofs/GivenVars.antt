@@ -38,9 +38,10 @@ use Rattle.dk_decl.specs.declared.types.RepType.{RepType}
 use Rattle.dk_decl.specs.declared.types.RepType.TheVariants.{Of, Opaque}
 use Rattle.dk_decl.specs.declared.variables.OpenVar.{OpenVar}
 use Rattle.dk_state.specs.Fitting.{FitsConstant, FitsMapped, FitsVar}
-use Rattle.dk_state.specs.Given.{all_new, has_none, is_given_constant, is_given_counterpart, is_given_var}
+use Rattle.dk_state.specs.Given.{all_new, is_given_constant, is_given_counterpart, is_given_var}
 use Rattle.dk_core.proofs.GivenEdges.{HasNoLf, all_new_push, new_name, or_none_left, or_none_right}
 use Rattle.dk_core.proofs.Spelled.{IsSpelled, IsWord, are_words, both, is_name_spelled, none_rest, spelled_rest, spelled_undone, spelled_word, unescaped_none}
+use Rattle.dk_write.specs.Names.{has_none}
 
 -- ---- constants
 -- a constant that is read can be told again
@@ -139,7 +140,7 @@ or_right : (a b : Bool) → b ≡ true → (a || b) ≡ true
 or_right true b h = refl
 or_right false b h = h
 
-mapped_at : (es : List EdgeDecl) (own parent name : List ℕ) (id : ℕ) → length es < 2 ^ 64 → IsSpelled name → (has_none name 9 || bytes_eq name own) ≡ true
+mapped_at : (es : List EdgeDecl) (own parent name : List ℕ) (id : ℕ) → length es < 2 ^ 64 → IsSpelled name → (has_none 9 name || bytes_eq name own) ≡ true
     → AreMapped own (length es) (at_edge es parent name id)
 mapped_at es own parent name id few spelled told = by (position (same_edge parent id) es) refl
   where
@@ -164,7 +165,7 @@ counterparts_given es own (parent ∷ id ∷ []) ps few spelled all e = by (id_o
     by None e = absurd (cc e)
     by (Some n) e =
         let same : at_edge es (unescaped parent) own n ≡ ps = cc e in
-        subst (AreMapped own (length es)) same (mapped_at es own (unescaped parent) own n few spelled (or_right (has_none own 9) _ (same_bytes own)))
+        subst (AreMapped own (length es)) same (mapped_at es own (unescaped parent) own n few spelled (or_right (has_none 9 own) _ (same_bytes own)))
 counterparts_given es own (parent ∷ id ∷ name ∷ []) ps few spelled all e = by (id_of id) e
   where
     word : IsWord name
@@ -175,7 +176,7 @@ counterparts_given es own (parent ∷ id ∷ name ∷ []) ps few spelled all e =
     by (Some n) e =
         let same : at_edge es (unescaped parent) (unescaped name) n ≡ ps = cc e in
         subst (AreMapped own (length es)) same
-        (mapped_at es own (unescaped parent) (unescaped name) n few (spelled_undone name (spelled_word name word)) (or_left (has_none (unescaped name) 9) _ (unescaped_none 9 refl refl name word.no_tab)))
+        (mapped_at es own (unescaped parent) (unescaped name) n few (spelled_undone name (spelled_word name word)) (or_left (has_none 9 (unescaped name)) _ (unescaped_none 9 refl refl name word.no_tab)))
 
 -- ---- variables
 pub record AreGivenVars (n : ℕ) (vs : List VarDecl) : Type 0 where

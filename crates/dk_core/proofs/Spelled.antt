@@ -8,7 +8,8 @@ use Rattle.dk_base.specs.Names.{unescaped}
 use Rattle.dk_base.proofs.Parted.{words_are_parts}
 use Rattle.dk_base.specs.Pieces.{is_blank, is_empty, nonempty}
 use Rattle.dk_base.specs.Words.{rest_of_line, trim_blanks, without_front, word_len, words}
-use Rattle.dk_state.specs.Given.{has_none, is_name}
+use Rattle.dk_state.specs.Given.{is_name}
+use Rattle.dk_write.specs.Names.{has_none}
 
 abbrev pub begins_well : List ℕ → Bool
 begins_well [] = false
@@ -22,7 +23,7 @@ ends_well (b ∷ c ∷ bs) = ends_well (c ∷ bs)
 pub record IsSpelled (bytes : List ℕ) : Type 0 where
   pub begins : begins_well bytes ≡ true
   pub ends : ends_well bytes ≡ true
-  pub none : has_none bytes 10 ≡ true
+  pub none : has_none 10 bytes ≡ true
 
 pub both : (a b : Bool) → a ≡ true → b ≡ true → (a && b) ≡ true
 both true b p q = q
@@ -52,20 +53,20 @@ is_name_spelled [] s = absurd (cc (s.begins))
 is_name_spelled (b ∷ bs) s = both _ _ (some_bytes (length bs)) (both _ _ s.begins (both _ _ (last_is b bs ∙ s.ends) s.none))
 
 -- ---- names undone
-pub unescaped_none : (other : ℕ) → (32 == other) ≡ false → (92 == other) ≡ false → (bs : List ℕ) → has_none bs other ≡ true → has_none (unescaped bs) other ≡ true
+pub unescaped_none : (other : ℕ) → (32 == other) ≡ false → (92 == other) ≡ false → (bs : List ℕ) → has_none other bs ≡ true → has_none other (unescaped bs) ≡ true
 unfolding unescaped
 unescaped_none other blank slash [] none = none
 unescaped_none other blank slash (b ∷ []) none = none
 unescaped_none other blank slash (b ∷ c ∷ bs) none =
-    let later : has_none (c ∷ bs) other ≡ true = right (not (b == other)) (has_none (c ∷ bs) other) none in
-    let last : has_none bs other ≡ true = right (not (c == other)) (has_none bs other) later in
+    let later : has_none other (c ∷ bs) ≡ true = right (not (b == other)) (has_none other (c ∷ bs)) none in
+    let last : has_none other bs ≡ true = right (not (c == other)) (has_none other bs) later in
     by (b == 92 && c == 95) (b == 92 && c == 92) (unescaped_none other blank slash bs last) (unescaped_none other blank slash (c ∷ bs) later)
   where
-    by : (x y : Bool) → has_none (unescaped bs) other ≡ true → has_none (unescaped (c ∷ bs)) other ≡ true
-        → has_none (if x then 32 ∷ unescaped bs else if y then 92 ∷ unescaped bs else b ∷ unescaped (c ∷ bs)) other ≡ true
+    by : (x y : Bool) → has_none other (unescaped bs) ≡ true → has_none other (unescaped (c ∷ bs)) ≡ true
+        → has_none other (if x then 32 ∷ unescaped bs else if y then 92 ∷ unescaped bs else b ∷ unescaped (c ∷ bs)) ≡ true
     by true y rest more = both (not (32 == other)) _ (ap not blank) rest
     by false true rest more = both (not (92 == other)) _ (ap not slash) rest
-    by false false rest more = both (not (b == other)) _ (left (not (b == other)) (has_none (c ∷ bs) other) none) more
+    by false false rest more = both (not (b == other)) _ (left (not (b == other)) (has_none other (c ∷ bs)) none) more
 
 unescaped_begins : (bs : List ℕ) → begins_well bs ≡ true → begins_well (unescaped bs) ≡ true
 unfolding unescaped
@@ -121,10 +122,10 @@ ends_drop zero bs h = h
 ends_drop (suc n) [] h = h
 ends_drop (suc n) (b ∷ bs) h = ends_drop n bs (ends_tail b bs h)
 
-none_drop : (other n : ℕ) (bs : List ℕ) → has_none bs other ≡ true → has_none (drop n bs) other ≡ true
+none_drop : (other n : ℕ) (bs : List ℕ) → has_none other bs ≡ true → has_none other (drop n bs) ≡ true
 none_drop other zero bs h = h
 none_drop other (suc n) [] h = h
-none_drop other (suc n) (b ∷ bs) h = none_drop other n bs (right (not (b == other)) (has_none bs other) h)
+none_drop other (suc n) (b ∷ bs) h = none_drop other n bs (right (not (b == other)) (has_none other bs) h)
 
 ends_front : (bs : List ℕ) → ends_well bs ≡ true → ends_well (without_front bs) ≡ true
 ends_front [] h = h
@@ -134,11 +135,11 @@ ends_front (b ∷ bs) h = by (is_blank b) (ends_front bs (ends_tail b bs h))
     by true rest = rest
     by false rest = h
 
-none_front : (other : ℕ) (bs : List ℕ) → has_none bs other ≡ true → has_none (without_front bs) other ≡ true
+none_front : (other : ℕ) (bs : List ℕ) → has_none other bs ≡ true → has_none other (without_front bs) ≡ true
 none_front other [] h = h
-none_front other (b ∷ bs) h = by (is_blank b) (none_front other bs (right (not (b == other)) (has_none bs other) h))
+none_front other (b ∷ bs) h = by (is_blank b) (none_front other bs (right (not (b == other)) (has_none other bs) h))
   where
-    by : (x : Bool) → has_none (without_front bs) other ≡ true → has_none (if x then without_front bs else b ∷ bs) other ≡ true
+    by : (x : Bool) → has_none other (without_front bs) ≡ true → has_none other (if x then without_front bs else b ∷ bs) ≡ true
     by true rest = rest
     by false rest = h
 
@@ -159,7 +160,7 @@ begins_front (b ∷ bs) some = by (is_blank b) refl some (begins_front bs)
     by true is some rest = rest some
     by false is some rest = no_tab b is
 
-pub none_rest : (other : ℕ) (bs : List ℕ) → has_none bs other ≡ true → has_none (rest_of_line bs) other ≡ true
+pub none_rest : (other : ℕ) (bs : List ℕ) → has_none other bs ≡ true → has_none other (rest_of_line bs) ≡ true
 none_rest other bs none = none_front other (drop (word_len bs) bs) (none_drop other (word_len bs) bs none)
 
 pub spelled_rest : (bs : List ℕ) → IsSpelled bs → is_empty (rest_of_line bs) ≡ false → IsSpelled (rest_of_line bs)
@@ -191,18 +192,18 @@ ends_begins bs some h = by (reverse bs) (reverse-reverse bs)
     by [] is = let e : is_empty bs ≡ true = ap is_empty (sym is) in absurd (cc (some, e))
     by (r ∷ rs) is = sym (last_push (reverse rs) r) ∙ ap ends_well (sym (reverse-append (r ∷ []) rs) ∙ is) ∙ h
 
-none_reverse : (other : ℕ) (bs : List ℕ) → has_none bs other ≡ true → has_none (reverse bs) other ≡ true
+none_reverse : (other : ℕ) (bs : List ℕ) → has_none other bs ≡ true → has_none other (reverse bs) ≡ true
 none_reverse other [] h = h
 none_reverse other (b ∷ bs) h =
-    subst (λ (xs : List ℕ). has_none xs other ≡ true) (sym (reverse-append (b ∷ []) bs))
+    subst (λ (xs : List ℕ). has_none other xs ≡ true) (sym (reverse-append (b ∷ []) bs))
     (list_all-append (λ x. not (x == other)) (reverse bs) (b ∷ [])
-    ∙ both _ _ (none_reverse other bs (right (not (b == other)) (has_none bs other) h)) (both _ _ (left (not (b == other)) (has_none bs other) h) refl))
+    ∙ both _ _ (none_reverse other bs (right (not (b == other)) (has_none other bs) h)) (both _ _ (left (not (b == other)) (has_none other bs) h) refl))
 
 some_reverse : (bs : List ℕ) → is_empty (reverse bs) ≡ false → is_empty bs ≡ false
 some_reverse [] some = absurd (cc some)
 some_reverse (b ∷ bs) some = refl
 
-pub spelled_trimmed : (bs : List ℕ) → is_empty (trim_blanks bs) ≡ false → has_none bs 10 ≡ true → IsSpelled (trim_blanks bs)
+pub spelled_trimmed : (bs : List ℕ) → is_empty (trim_blanks bs) ≡ false → has_none 10 bs ≡ true → IsSpelled (trim_blanks bs)
 spelled_trimmed bs some none =
     let front = without_front bs in
     let back = without_front (reverse front) in
@@ -221,24 +222,24 @@ spelled_trimmed bs some none =
 -- ---- words
 pub record IsWord (bytes : List ℕ) : Type 0 where
   pub some : is_empty bytes ≡ false
-  pub no_tab : has_none bytes 9 ≡ true
-  pub none : has_none bytes 10 ≡ true
+  pub no_tab : has_none 9 bytes ≡ true
+  pub none : has_none 10 bytes ≡ true
 
 -- the part, if it is not empty
 abbrev IsPart : List ℕ → Type 0
-IsPart bytes = (has_none bytes 9 ≡ true) × (has_none bytes 10 ≡ true)
+IsPart bytes = (has_none 9 bytes ≡ true) × (has_none 10 bytes ≡ true)
 
 on_first : (b : ℕ) (ts : List (List ℕ)) → not (b == 9) ≡ true → not (b == 10) ≡ true → All IsPart ts → All IsPart (onto_first b ts)
 on_first b [] tab lf all = All-cons IsPart (b ∷ []) [] (both _ _ tab refl, both _ _ lf refl) (All-nil IsPart)
 on_first b (t ∷ ts) tab lf all = let own = All-head IsPart t ts all in All-cons IsPart (b ∷ t) ts (both _ _ tab own.0, both _ _ lf own.1) (All-tail IsPart t ts all)
 
-parts_are : (bs : List ℕ) → has_none bs 10 ≡ true → All IsPart (slice_split is_blank bs)
+parts_are : (bs : List ℕ) → has_none 10 bs ≡ true → All IsPart (slice_split is_blank bs)
 parts_are [] none = All-cons IsPart [] [] (refl, refl) (All-nil IsPart)
-parts_are (b ∷ bs) none = by (is_blank b) refl (parts_are bs (right (not (b == 10)) (has_none bs 10) none))
+parts_are (b ∷ bs) none = by (is_blank b) refl (parts_are bs (right (not (b == 10)) (has_none 10 bs) none))
   where
     by : (x : Bool) → is_blank b ≡ x → All IsPart (slice_split is_blank bs) → All IsPart (if x then [] ∷ slice_split is_blank bs else onto_first b (slice_split is_blank bs))
     by true is rest = All-cons IsPart [] _ (refl, refl) rest
-    by false is rest = on_first b _ (no_tab b is) (left (not (b == 10)) (has_none bs 10) none) rest
+    by false is rest = on_first b _ (no_tab b is) (left (not (b == 10)) (has_none 10 bs) none) rest
 
 words_are : (ts : List (List ℕ)) → All IsPart ts → All IsWord (nonempty ts)
 words_are [] all = All-nil IsWord
@@ -248,16 +249,16 @@ words_are (t ∷ ts) all = by (is_empty t) refl (words_are ts (All-tail IsPart t
     by true is rest = rest
     by false is rest = let own = All-head IsPart t ts all in All-cons IsWord t _ (record { some = is; no_tab = own.0; none = own.1 }) rest
 
-pub are_words : (bs : List ℕ) → has_none bs 10 ≡ true → All IsWord (words bs)
+pub are_words : (bs : List ℕ) → has_none 10 bs ≡ true → All IsWord (words bs)
 are_words bs none = subst (All IsWord) (sym (words_are_parts bs)) (words_are (slice_split is_blank bs) (parts_are bs none))
 
 pub spelled_word : (bs : List ℕ) → IsWord bs → IsSpelled bs
 spelled_word bs w = record { begins = first bs w.some w.no_tab; ends = last bs w.no_tab; none = w.none }
   where
-    first : (bs : List ℕ) → is_empty bs ≡ false → has_none bs 9 ≡ true → begins_well bs ≡ true
+    first : (bs : List ℕ) → is_empty bs ≡ false → has_none 9 bs ≡ true → begins_well bs ≡ true
     first [] some none = absurd (cc some)
-    first (b ∷ bs) some none = left (not (b == 9)) (has_none bs 9) none
+    first (b ∷ bs) some none = left (not (b == 9)) (has_none 9 bs) none
 
-    last : (bs : List ℕ) → has_none bs 9 ≡ true → ends_well bs ≡ true
+    last : (bs : List ℕ) → has_none 9 bs ≡ true → ends_well bs ≡ true
     last [] none = refl
-    last (b ∷ bs) none = ends_cons b bs (left (not (b == 9)) (has_none bs 9) none) (last bs (right (not (b == 9)) (has_none bs 9) none))
+    last (b ∷ bs) none = ends_cons b bs (left (not (b == 9)) (has_none 9 bs) none) (last bs (right (not (b == 9)) (has_none 9 bs) none))

@@ -5,14 +5,14 @@ use Rattle.std.proofs.lemmas.List.Elements.{All-cons, All-head, All-nil, All-tai
 use Rattle.dk_base.specs.Reading.{Line}
 use Rattle.dk_lines.specs.Left.{Over, Broken, LongLine, TooLong, Left, Ends, Next, Piece, is_long, is_over, lined, lined_by, onto_first, pieces, size_of, without_cr}
 use Rattle.dk_blocks.specs.Blocks.{Group, Groups, Last, groups_of, is_blank_line, onto_group, trimmed_line}
-use Rattle.dk_state.specs.Given.{has_none}
+use Rattle.dk_write.specs.Names.{has_none}
 use Rattle.dk_core.proofs.GivenEdges.{HasNoLf}
 use Rattle.dk_core.proofs.GivenVars.{IsLineSpelled}
 use Rattle.dk_core.proofs.Spelled.{both, left, right, spelled_trimmed}
 
 -- ---- pieces
 record IsPiece (p : Piece) : Type 0 where
-  none : has_none p.bytes 10 ≡ true
+  none : has_none 10 p.bytes ≡ true
   some : 1 ≤ size_of p
 
 first_piece : (b : ℕ) (ps : List Piece) → not (b == 10) ≡ true → All IsPiece ps → All IsPiece (onto_first b ps)
@@ -30,15 +30,15 @@ are_pieces (b ∷ bs) = by (b == 10) refl (are_pieces bs)
     by false is rest = first_piece b (pieces bs) (ap not is) rest
 
 -- ---- lines
-none_take : (n : ℕ) (bs : List ℕ) → has_none bs 10 ≡ true → has_none (take n bs) 10 ≡ true
+none_take : (n : ℕ) (bs : List ℕ) → has_none 10 bs ≡ true → has_none 10 (take n bs) ≡ true
 none_take zero bs h = refl
 none_take (suc n) [] h = refl
-none_take (suc n) (b ∷ bs) h = both _ _ (left (not (b == 10)) (has_none bs 10) h) (none_take n bs (right (not (b == 10)) (has_none bs 10) h))
+none_take (suc n) (b ∷ bs) h = both _ _ (left (not (b == 10)) (has_none 10 bs) h) (none_take n bs (right (not (b == 10)) (has_none 10 bs) h))
 
-none_stripped : (bs : List ℕ) → has_none bs 10 ≡ true → has_none (without_cr bs) 10 ≡ true
+none_stripped : (bs : List ℕ) → has_none 10 bs ≡ true → has_none 10 (without_cr bs) ≡ true
 none_stripped bs h = by (ends_with_byte 13 bs)
   where
-    by : (b : Bool) → has_none (if b then take (length bs - 1) bs else bs) 10 ≡ true
+    by : (b : Bool) → has_none 10 (if b then take (length bs - 1) bs else bs) ≡ true
     by true = none_take (length bs - 1) bs h
     by false = h
 

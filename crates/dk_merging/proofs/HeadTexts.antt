@@ -20,7 +20,7 @@ use Rattle.dk_engine.specs.declared.kept.Kept.{Kept}
 use Rattle.dk_template.specs.declared.grammar.Grammar.{Grammar}
 use Rattle.dk_template.specs.declared.grammar.Grammar.TheVariants as grammar
 use Rattle.dk_points.specs.Table.{Point}
-use Rattle.dk_state.specs.Declarations.{constant_decl_text, decls_of, constant_line, edge_line, mapped_line, point_lines, rep_text, var_decl_line, var_lines}
+use Rattle.dk_state.specs.Declarations.{constant_decl_text, decls_of, constant_line, edge_line, mapped_line, point_lines, var_decl_line, var_lines}
 use Rattle.dk_state.specs.Fitting.{FitsConstant, FitsEdge, FitsMapped, FitsPoint, FitsVar}
 use Rattle.dk_merging.specs.Fronts.{begins_kept, front_from, front_of}
 use Rattle.dk_state.specs.Kept.{parts_lines}
@@ -32,6 +32,7 @@ use Rattle.dk_state.proofs.Numerals.{number_plain}
 use Rattle.dk_state.proofs.Onto.{line_onto}
 use Rattle.dk_state.proofs.Plain.{fields_in_line, name_plain, none_append, small_whole, value_plain}
 use Rattle.dk_merging.proofs.Telling.{field_told, number_told, points_are_told}
+use Rattle.dk_write.specs.Declarations.{rep_text}
 
 -- ---- lines that a front has
 -- Whole lines, none of which says what is kept: they are all in the front.

@@ -21,7 +21,7 @@ use Rattle.dk_base.specs.declared.values.Value.{Value}
 use Rattle.dk_base.specs.declared.values.Value.TheVariants as value
 use Rattle.dk_decl.specs.declared.decls.PointDecl.{PointDecl}
 use Rattle.dk_decl.specs.declared.decls.VarDecl.{VarDecl}
-use Rattle.dk_state.specs.Declarations.{constant_decl_text, constant_line, edge_line, mapped_line, point_lines, rep_text, var_decl_line, var_lines}
+use Rattle.dk_state.specs.Declarations.{constant_decl_text, constant_line, edge_line, mapped_line, point_lines, var_decl_line, var_lines}
 use Rattle.dk_state.specs.Fitting.{FitsConstant, FitsEdge, FitsMapped, FitsPoint, FitsVar, IsBehindVars}
 use Rattle.dk_state.specs.Lines.{behind_blank, state_line}
 use Rattle.dk_state.specs.Reading.{BeginsWith, HasNone, ends_field, ends_line}
@@ -29,6 +29,7 @@ use Rattle.dk_state.proofs.DeclaredLines.{no_constant, no_edge, rep_plain}
 use Rattle.dk_state.proofs.Numerals.{number_plain}
 use Rattle.dk_state.proofs.Onto.{fields_onto, line_onto}
 use Rattle.dk_state.proofs.Plain.{name_plain, small_whole, value_plain}
+use Rattle.dk_write.specs.Declarations.{rep_text}
 
 -- ---- fields
 in_front : (test : ℕ → Bool) (y : ℕ) (ys r : List ℕ) → HasNone test (y ∷ ys) → BeginsWith test r → (rest : List ℕ) → r ≡ y ∷ rest → ⊥

@@ -10,7 +10,8 @@ use Rattle.dk_base.specs.declared.values.Value.{Value}
 use Rattle.dk_base.specs.declared.values.Value.TheVariants as value
 use Rattle.dk_decl.specs.declared.decls.ParentVar.{ParentVar}
 use Rattle.dk_decl.specs.declared.decls.VarDecl.{VarDecl}
-use Rattle.dk_state.specs.Declarations.{constant_decl_text, mapped_line, rep_text, var_lines}
+use Rattle.dk_state.specs.Declarations.{constant_decl_text, mapped_line, var_lines}
+use Rattle.dk_write.specs.Declarations.{rep_text}
 use Rattle.dk_state.specs.Fitting.{FitsConstant}
 use Rattle.dk_state.specs.Lines.{behind_blank}
 use Rattle.dk_state.specs.Reading.{HasNone, ends_field}

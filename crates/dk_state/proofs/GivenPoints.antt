@@ -9,7 +9,7 @@ use Rattle.dk_decl.specs.declared.decls.ParentVar.{ParentVar}
 use Rattle.dk_decl.specs.declared.decls.PointDecl.{PointDecl}
 use Rattle.dk_decl.specs.declared.decls.VarDecl.{VarDecl}
 use Rattle.dk_state.specs.Fitting.{FitsEdge, FitsMapped, FitsPoint, FitsVar}
-use Rattle.dk_state.specs.Given.{CanBeGiven, all_new, edge_key, has_none, is_given_constant, is_given_counterpart, is_given_edge, is_given_point, is_given_var, is_name}
+use Rattle.dk_state.specs.Given.{CanBeGiven, all_new, edge_key, is_given_constant, is_given_counterpart, is_given_edge, is_given_point, is_given_var, is_name}
 use Rattle.dk_state.specs.Reading.{HasNone, ends_line}
 use Rattle.dk_state.specs.Within.{IsEdgeWithin, IsMappedWithin, IsPointWithin, IsVarWithin}
 
@@ -22,17 +22,17 @@ each_passed test P Q each (x ∷ xs) passed all =
 
 name_in_line : (name : List ℕ) → is_name name ≡ true → HasNone ends_line name
 name_in_line name h =
-    let first = and_parts (nat_lt 0 (length name)) (not (slice_index_or name 0 0 == 9) && (not (slice_index_or name (length name - 1) 0 == 9) && has_none name 10)) h in
-    let second = and_parts (not (slice_index_or name 0 0 == 9)) (not (slice_index_or name (length name - 1) 0 == 9) && has_none name 10) first.1 in
-    (and_parts (not (slice_index_or name (length name - 1) 0 == 9)) (has_none name 10) second.1).1
+    let first = and_parts (nat_lt 0 (length name)) (not (slice_index_or name 0 0 == 9) && (not (slice_index_or name (length name - 1) 0 == 9) && has_none 10 name)) h in
+    let second = and_parts (not (slice_index_or name 0 0 == 9)) (not (slice_index_or name (length name - 1) 0 == 9) && has_none 10 name) first.1 in
+    (and_parts (not (slice_index_or name (length name - 1) 0 == 9)) (has_none 10 name) second.1).1
 
 edge_fits : (e : EdgeDecl) → is_given_edge e ≡ true → IsEdgeWithin e → FitsEdge e
-edge_fits e h within = record { id = within; parent = name_in_line e.parent (and_parts (is_name e.parent) (has_none e.parent 9) h).0 }
+edge_fits e h within = record { id = within; parent = name_in_line e.parent (and_parts (is_name e.parent) (has_none 9 e.parent) h).0 }
 
 mapped_fits : (own : List ℕ) (edges : ℕ) (p : ParentVar) → is_given_counterpart own edges p ≡ true → IsMappedWithin p → FitsMapped p
 mapped_fits own edges p h within =
-    let named = and_parts (nat_lt p.edge edges) (is_name p.name && (has_none p.name 9 || bytes_eq p.name own)) h in
-    record { edge = within; name = name_in_line p.name (and_parts (is_name p.name) (has_none p.name 9 || bytes_eq p.name own) named.1).0 }
+    let named = and_parts (nat_lt p.edge edges) (is_name p.name && (has_none 9 p.name || bytes_eq p.name own)) h in
+    record { edge = within; name = name_in_line p.name (and_parts (is_name p.name) (has_none 9 p.name || bytes_eq p.name own) named.1).0 }
 
 var_fits : (edges : ℕ) (v : VarDecl) → is_given_var edges v ≡ true → IsVarWithin v → FitsVar v
 var_fits edges v h within =

@@ -1,10 +1,8 @@
 -- Declarations, as they are saved.
-use Rattle.std.specs.Prelude.{ℕ, Bool, List, [], ◌∷◌, ◌++◌, codes, filter_map, flat_map, unwrap_or, Option, Some, None, if◌then◌else◌}
+use Rattle.std.specs.Prelude.{ℕ, Bool, List, [], ◌∷◌, ◌++◌, codes, filter_map, flat_map, unwrap_or, Option, if◌then◌else◌}
 use Rattle.std.specs.Fmt.{decimal, signed_decimal}
 use Rattle.dk_base.specs.Names.{escaped}
 use Rattle.dk_base.specs.Spelling.{spelling}
-use Rattle.dk_base.specs.declared.kinds.Kind.{Kind}
-use Rattle.dk_base.specs.declared.kinds.Kind.TheVariants as kind
 use Rattle.dk_base.specs.declared.values.Value.{Value}
 use Rattle.dk_base.specs.declared.values.Value.TheVariants as value
 use Rattle.dk_decl.specs.declared.decls.EdgeDecl.{EdgeDecl}
@@ -13,18 +11,7 @@ use Rattle.dk_decl.specs.declared.decls.PointDecl.{PointDecl}
 use Rattle.dk_decl.specs.declared.decls.VarDecl.{VarDecl}
 use Rattle.dk_points.specs.Table.{Point, decl_if_declared}
 use Rattle.dk_state.specs.Lines.{state_line}
-
--- the rep-type of the kind; `double` is that of an opaque variable
-abbrev pub rep_text : Option Kind → List ℕ
-rep_text None = codes "double"
-rep_text (Some kind.Bool) = codes "boolean"
-rep_text (Some kind.Int) = codes "int"
-rep_text (Some kind.Hash) = codes "hashcode"
-rep_text (Some kind.Str) = codes "java.lang.String"
-rep_text (Some kind.BoolSeq) = codes "boolean[]"
-rep_text (Some kind.IntSeq) = codes "int[]"
-rep_text (Some kind.HashSeq) = codes "hashcode[]"
-rep_text (Some kind.StrSeq) = codes "java.lang.String[]"
+use Rattle.dk_write.specs.Declarations.{rep_text}
 
 -- `edge ID NAME`
 abbrev pub edge_line : EdgeDecl → List ℕ

@@ -13,24 +13,21 @@ use Rattle.dk_decl.specs.declared.decls.VarDecl.{VarDecl}
 use Rattle.dk_graph.specs.Names.{place_of}
 use Rattle.dk_state.specs.Fitting.{FitsPoint}
 use Rattle.dk_state.specs.Lines.{behind_blank}
-
--- none of the bytes is this one
-abbrev pub has_none : List ℕ → ℕ → Bool
-has_none bytes other = list_all (λ b. not (b == other)) bytes
+use Rattle.dk_write.specs.Names.{has_none}
 
 -- a name that a line can tell: it is not empty, neither begins nor ends with a tab (9), and has no LF (10)
 abbrev pub is_name : List ℕ → Bool
 is_name name =
     nat_lt 0 (length name)
-    && (not (slice_index_or name 0 0 == 9) && (not (slice_index_or name (length name - 1) 0 == 9) && has_none name 10))
+    && (not (slice_index_or name 0 0 == 9) && (not (slice_index_or name (length name - 1) 0 == 9) && has_none 10 name))
 
 -- an edge is told by words, so its name has no tab
 abbrev pub is_given_edge : EdgeDecl → Bool
-is_given_edge e = is_name e.parent && has_none e.parent 9
+is_given_edge e = is_name e.parent && has_none 9 e.parent
 
 -- A counterpart at one of so many edges. Its name is told as a word, or is the variable's own name.
 abbrev pub is_given_counterpart : List ℕ → ℕ → ParentVar → Bool
-is_given_counterpart own edges p = nat_lt p.edge edges && (is_name p.name && (has_none p.name 9 || bytes_eq p.name own))
+is_given_counterpart own edges p = nat_lt p.edge edges && (is_name p.name && (has_none 9 p.name || bytes_eq p.name own))
 
 -- a constant is there or isn't, and isn't missing; that of an opaque variable isn't read
 abbrev pub is_given_constant : Bool → Option Kind → Option Value → Bool

@@ -1,31 +1,15 @@
 // Declarations, as they are saved.
 ghost use Rattle.std.specs.Prelude.{◌≡◌, ◌++◌, OnOk, codes, flat_map, length, unwrap_or};
 ghost use Rattle.dk_base.specs.Spelling.{spelling};
-ghost use Rattle.dk_state.specs.Declarations.{constant_line, decls_of, edge_line, mapped_line, point_lines, rep_text, var_decl_line, var_lines};
+ghost use Rattle.dk_state.specs.Declarations.{constant_line, decls_of, edge_line, mapped_line, point_lines, var_decl_line, var_lines};
 ghost use Rattle.dk_state.specs.Lines.{behind_blank};
 
 use crate::fields::{end_line, push_field, push_name, push_number, push_value};
-use dk_base::{Kind, NoMemory, PointId, Text, Value};
+use dk_base::{NoMemory, PointId, Text, Value};
 use dk_decl::{EdgeDecl, ParentVar, PointDecl, VarDecl};
 use dk_points::Points;
+use dk_write::rep_text;
 use std::alloc::Global;
-
-// The rep-type of a kind; that of an opaque variable is `double`.
-fn rep_text(kind: Option<Kind>) -> &'static [u8]
-    ensures { result.now ≡ rep_text kind }
-{
-    match kind {
-        None => b"double",
-        Some(Kind::Bool) => b"boolean",
-        Some(Kind::Int) => b"int",
-        Some(Kind::Hash) => b"hashcode",
-        Some(Kind::Str) => b"java.lang.String",
-        Some(Kind::BoolSeq) => b"boolean[]",
-        Some(Kind::IntSeq) => b"int[]",
-        Some(Kind::HashSeq) => b"hashcode[]",
-        Some(Kind::StrSeq) => b"java.lang.String[]",
-    }
-}
 
 fn push_edge(text: &mut Text, edge: &EdgeDecl) -> Result<(), NoMemory>
     ensures { OnOk result (text.new ≡ text.old ++ edge_line edge.now) }

@@ -1,10 +1,11 @@
 // Fields of a line, each behind a blank, and the line's end.
-ghost use Rattle.std.specs.Prelude.{◌≡◌, ◌++◌, OnOk, codes, flat_map};
-ghost use Rattle.dk_base.specs.Names.{escaped, escaped_byte};
+ghost use Rattle.std.specs.Prelude.{◌≡◌, ◌++◌, OnOk, codes};
+ghost use Rattle.dk_base.specs.Names.{escaped};
 ghost use Rattle.dk_base.specs.Spelling.{spelling};
 ghost use Rattle.dk_state.specs.Lines.{behind_blank, fields_text, var_fields};
 
 use dk_base::{Arena, NoMemory, Text, Value, VarId, spell};
+use dk_write::push_escaped;
 use itoa::{Buffer, Integer};
 use std::alloc::Global;
 
@@ -37,27 +38,6 @@ pub(crate) fn push_vars(text: &mut Text, vars: &[VarId]) -> Result<(), NoMemory>
 {
     for v in vars {
         push_number(text, v.0)?;
-    }
-    Ok(())
-}
-
-// A byte of a name, behind the text.
-fn push_escaped_byte(text: &mut Text, byte: u8) -> Result<(), NoMemory>
-    ensures { OnOk result (text.new ≡ text.old ++ escaped_byte byte) }
-{
-    match byte {
-        b' ' => text.append(b"\\_"),
-        b'\\' => text.append(b"\\\\"),
-        other => text.push(other),
-    }
-}
-
-// A name with its blanks and backslashes replaced, behind the text.
-fn push_escaped(text: &mut Text, name: &[u8]) -> Result<(), NoMemory>
-    ensures { OnOk result (text.new ≡ text.old ++ escaped name.now) }
-{
-    for byte in name {
-        push_escaped_byte(text, *byte)?;
     }
     Ok(())
 }

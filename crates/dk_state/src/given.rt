@@ -2,41 +2,35 @@
 ghost use Rattle.std.specs.Prelude.{◌≡◌, ◌++◌, ◌&&◌, [], IfOk, length, map};
 ghost use Rattle.std.specs.List.{list_all};
 ghost use Rattle.dk_decl.specs.Types.{is_missing};
-ghost use Rattle.dk_state.specs.Given.{all_new, edge_key, has_none, is_given_constant, is_given_counterpart, is_given_edge, is_given_point, is_given_var, is_name};
+ghost use Rattle.dk_state.specs.Given.{all_new, edge_key, is_given_constant, is_given_counterpart, is_given_edge, is_given_point, is_given_var, is_name};
 
 use crate::fields::{push_field, push_number};
 use dk_base::{NoMemory, Text, Value, same_bytes};
 use dk_decl::{EdgeDecl, ParentVar, PointDecl, VarDecl};
 use dk_graph::Names;
+use dk_write::has_none;
 use std::alloc::Global;
 
 const TAB: u8 = b'\t';
-
-// Whether none of the bytes is this one.
-fn has_none(bytes: &[u8], other: u8) -> bool
-    ensures { result ≡ has_none bytes.now other }
-{
-    bytes.iter().all(|byte| *byte != other)
-}
 
 // Whether a line can tell this name.
 fn is_name(name: &[u8]) -> bool
     ensures { result ≡ is_name name.now }
 {
-    !name.is_empty() && name[0] != TAB && name[name.len() - 1] != TAB && has_none(name, b'\n')
+    !name.is_empty() && name[0] != TAB && name[name.len() - 1] != TAB && has_none(b'\n', name)
 }
 
 fn is_edge(edge: &EdgeDecl) -> bool
     ensures { result ≡ is_given_edge edge.now }
 {
-    is_name(edge.parent.as_slice()) && has_none(edge.parent.as_slice(), TAB)
+    is_name(edge.parent.as_slice()) && has_none(TAB, edge.parent.as_slice())
 }
 
 fn is_mapped(mapped: &ParentVar, own: &[u8], edges: usize) -> bool
     ensures { result ≡ is_given_counterpart own.now edges mapped.now }
 {
     let name = mapped.name.as_slice();
-    mapped.edge < edges as u64 && is_name(name) && (has_none(name, TAB) || same_bytes(name, own))
+    mapped.edge < edges as u64 && is_name(name) && (has_none(TAB, name) || same_bytes(name, own))
 }
 
 fn are_mapped(parents: &[ParentVar], own: &[u8], edges: usize) -> bool

@@ -3,15 +3,15 @@ ghost use Rattle.std.specs.Prelude.{◌≡◌, ◌++◌, ◌∷◌, [], OnOk, fl
 ghost use Rattle.dk_lines.specs.Passing.{joined};
 ghost use Rattle.dk_write.specs.Declarations.{compar_line, compar_text, constant_lines, counterpart_line, counterpart_lines, declaration_lines, edge_line, point_line, rep_line, rep_text, var_lines, variable_line};
 
-use crate::names::push_name;
+use crate::names::push_escaped;
 use crate::numbers::push_number;
 use crate::values::push_constant;
 use dk_base::{Compar, Kind, NoMemory, Text};
 use dk_decl::{EdgeDecl, ParentVar, PointDecl, VarDecl};
 use std::alloc::Global;
 
-// The rep-type of a kind; that of an opaque variable is `double`.
-fn rep_text(kind: Option<Kind>) -> &'static [u8]
+/// The rep-type of a kind; that of an opaque variable is `double`.
+pub fn rep_text(kind: Option<Kind>) -> &'static [u8]
     ensures { result.now ≡ rep_text kind }
 {
     match kind {
@@ -31,7 +31,7 @@ fn push_point(text: &mut Text, name: &[u8]) -> Result<(), NoMemory>
     ensures { OnOk result (text.new ≡ text.old ++ joined (point_line name.now ∷ [])) }
 {
     text.append(b"ppt ")?;
-    push_name(text, name)?;
+    push_escaped(text, name)?;
     text.append(b"\n")
 }
 
@@ -39,7 +39,7 @@ fn push_edge(text: &mut Text, edge: &EdgeDecl) -> Result<(), NoMemory>
     ensures { OnOk result (text.new ≡ text.old ++ joined (edge_line edge.now ∷ [])) }
 {
     text.append(b"parent parent ")?;
-    push_name(text, edge.parent.as_slice())?;
+    push_escaped(text, edge.parent.as_slice())?;
     text.append(b" ")?;
     push_number(text, edge.id)?;
     text.append(b"\n")
@@ -58,7 +58,7 @@ fn push_variable(text: &mut Text, name: &[u8]) -> Result<(), NoMemory>
     ensures { OnOk result (text.new ≡ text.old ++ joined (variable_line name.now ∷ [])) }
 {
     text.append(b"variable ")?;
-    push_name(text, name)?;
+    push_escaped(text, name)?;
     text.append(b"\n")
 }
 
@@ -104,11 +104,11 @@ fn push_counterpart_line(text: &mut Text, name: &[u8], edge: &EdgeDecl) -> Resul
     ensures { OnOk result (text.new ≡ text.old ++ joined (counterpart_line name.now edge.now ∷ [])) }
 {
     text.append(b"parent ")?;
-    push_name(text, edge.parent.as_slice())?;
+    push_escaped(text, edge.parent.as_slice())?;
     text.append(b" ")?;
     push_number(text, edge.id)?;
     text.append(b" ")?;
-    push_name(text, name)?;
+    push_escaped(text, name)?;
     text.append(b"\n")
 }
 

@@ -13,8 +13,8 @@ mod values;
 mod writable;
 mod writer;
 
-pub use declarations::push_declaration;
-pub use names::{is_line, is_word};
+pub use declarations::{push_declaration, rep_text};
+pub use names::{has_none, is_line, is_word, push_escaped};
 pub use records::push_record;
 pub use writable::{can_declare, can_record};
 pub use writer::{WriteFault, Writer};

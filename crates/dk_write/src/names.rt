@@ -5,8 +5,8 @@ ghost use Rattle.dk_write.specs.Names.{has_none, is_line, is_word};
 
 use dk_base::{NoMemory, Text, is_blank};
 
-// Whether none of the bytes is this one.
-fn has_none(byte: u8, text: &[u8]) -> bool
+/// Whether none of the bytes is this one.
+pub fn has_none(byte: u8, text: &[u8]) -> bool
     ensures { result ≡ has_none byte text.now }
 {
     text.iter().all(|other| *other != byte)
@@ -46,8 +46,8 @@ fn push_escaped_byte(text: &mut Text, byte: u8) -> Result<(), NoMemory>
     }
 }
 
-/// The spelling of a name, behind the text.
-pub(crate) fn push_name(text: &mut Text, name: &[u8]) -> Result<(), NoMemory>
+/// The spelling of a name, behind the text: each blank is `\_`, and each backslash is doubled.
+pub fn push_escaped(text: &mut Text, name: &[u8]) -> Result<(), NoMemory>
     ensures { OnOk result (text.new ≡ text.old ++ escaped name.now) }
 {
     for byte in name {

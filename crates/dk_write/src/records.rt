@@ -7,7 +7,7 @@ ghost use Rattle.dk_base.specs.Values.{value_of, values_of};
 ghost use Rattle.dk_lines.specs.Passing.{joined};
 ghost use Rattle.dk_write.specs.Records.{Recorded, nonce_lines, record_lines, told_lines};
 
-use crate::names::push_name;
+use crate::names::push_escaped;
 use crate::numbers::push_number;
 use crate::values::{mark_text, value_text};
 use dk_base::{NoMemory, Text, View};
@@ -17,7 +17,7 @@ use std::alloc::Global;
 fn push_name_line(text: &mut Text, name: &[u8]) -> Result<(), NoMemory>
     ensures { OnOk result (text.new ≡ text.old ++ joined (escaped name.now ∷ [])) }
 {
-    push_name(text, name)?;
+    push_escaped(text, name)?;
     text.append(b"\n")
 }
 

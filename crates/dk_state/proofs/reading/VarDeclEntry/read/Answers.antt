@@ -4,7 +4,8 @@ use Rattle.std.proofs.Common.{◌∙◌, ap, append_assoc, subst, sym, w64}
 use Rattle.std.proofs.lemmas.Int.{to_z-of_z}
 use Rattle.dk_base.specs.Names.{escaped}
 use Rattle.dk_base.specs.Numbers.{fits_i64}
-use Rattle.dk_state.specs.Declarations.{constant_decl_text, constant_line, mapped_line, rep_text, var_decl_line}
+use Rattle.dk_state.specs.Declarations.{constant_decl_text, constant_line, mapped_line, var_decl_line}
+use Rattle.dk_write.specs.Declarations.{rep_text}
 use Rattle.dk_state.specs.Fitting.{FitsConstant}
 use Rattle.dk_state.proofs.DeclaredLines.{no_constant, rep_plain}
 use Rattle.dk_state.proofs.Onto.{fields_onto, line_onto}

@@ -1,6 +1,0 @@
-use Rattle.std.proofs.Common.{◌≡◌, ◌++◌, take}
-use Rattle.dk_base.specs.Names.{escaped}
-use Rattle.dk_state.proofs.fields.push_escaped.Given as goal
-
-abbrev pub invariant-loop-byte : goal.invariant-loop-byte
-invariant-loop-byte l = l.text ≡ l.fn.text ++ escaped (take l.byte-index l.name)
