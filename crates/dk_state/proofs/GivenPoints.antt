@@ -12,6 +12,7 @@ use Rattle.dk_state.specs.Fitting.{FitsEdge, FitsMapped, FitsPoint, FitsVar}
 use Rattle.dk_state.specs.Given.{CanBeGiven, all_new, edge_key, is_given_constant, is_given_counterpart, is_given_edge, is_given_point, is_given_var, is_name}
 use Rattle.dk_state.specs.Reading.{HasNone, ends_line}
 use Rattle.dk_state.specs.Within.{IsEdgeWithin, IsMappedWithin, IsPointWithin, IsVarWithin}
+use Rattle.dk_write.specs.Names.{has_none}
 
 -- what follows of each that passes the test
 each_passed : {X : Type 0} (test : X → Bool) (P Q : X → Type 0) → ((x : X) → test x ≡ true → P x → Q x) → (xs : List X) → list_all test xs ≡ true → All P xs → All Q xs
