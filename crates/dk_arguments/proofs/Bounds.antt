@@ -1,10 +1,12 @@
 -- Where `clap` finds no fault, each number that it matched is within its bounds.
-use Rattle.std.proofs.Common.{◌≡◌, ◌∙◌, ◌^◌, ◌&&◌, ◌++◌, ℕ, Bool, true, false, cond, codes, refl, sym, ap, subst, List, [], ◌∷◌, Option, Some, IfSome, nat_le, nat_lt}
-use Rattle.std.specs.Prelude.{find, option_and_then, option_map, slice_get}
+use Rattle.std.proofs.Common.{◌≡◌, ◌∙◌, ◌^◌, ◌&&◌, ◌==◌, ◌++◌, ℕ, Bool, true, false, cond, codes, refl, sym, ap, ap₂, subst, List, [], ◌∷◌, Option, Some, None, IfSome, unwrap_or, nat_le, nat_lt}
+use Rattle.std.specs.Prelude.{find, if◌then◌else◌, option_and_then, option_map, slice_get}
+use Rattle.std.specs.List.{All, list_all}
 use Rattle.std.specs.Str.{bytes_eq}
 use Rattle.std.specs.Str.Parse.{digits_value, without_leading_plus}
-use Rattle.std.proofs.lemmas.Bool.{false≢true, leb-true}
-use Rattle.std.proofs.lemmas.List.Elements.{All-weaker}
+use Rattle.std.proofs.lemmas.Bool.{eqb-true, false≢true, leb-true}
+use Rattle.std.proofs.lemmas.List.Elements.{All-cons, All-nil, All-weaker}
+use Rattle.std.proofs.lemmas.Slice.Eq.{bytes_eq-Decides}
 use Rattle.clap.specs.Facts.{parser_of_value}
 use Rattle.clap.specs.Values.{read_as, refused_kind}
 use Rattle.clap.specs.ValueTests.{accepts}
@@ -19,7 +21,7 @@ use Rattle.clap.specs.declared.builder.value_parser.ValueParser.{ValueParser}
 use Rattle.clap.specs.declared.builder.value_parser.ValueParser.TheVariants as vp
 use Rattle.clap.proofs.WalkLemmas.{both}
 use Rattle.dk_base.specs.Numbers.{is_numeral, natural_of}
-use Rattle.dk_arguments.specs.Commands.{faults_of, rows_of, rule_by, rule_for}
+use Rattle.dk_arguments.specs.Commands.{rows_of, rule_by, rule_for}
 use Rattle.dk_arguments.specs.Descriptions.{Argument, Command, Form, flag, number, one_of, positional, positionals, text as any_text}
 use Rattle.dk_arguments.specs.Given.{number_at}
 use Rattle.dk_arguments.specs.Laws.{IsNumbered, IsWithin, NumbersAreWithinBounds, Takes, Wanted}
@@ -162,3 +164,47 @@ module _ (wanted : Wanted) where
 
 pub within_bounds : NumbersAreWithinBounds
 within_bounds c wanted words takes e = number_within wanted (rows_of c words) (rows_fit (Fit wanted) (joined wanted) c words (sound wanted c takes) e)
+
+-- ---- that a command takes these numbers, by computing it
+abbrev is_number : Wanted → Form → Bool
+is_number w (number low high) = low == w.low && high == w.high
+is_number w form = false
+
+abbrev pub is_numbered : Wanted → Argument → Bool
+is_numbered w a = if is_named w a.name then is_number w a.form else true
+
+number_is : (w : Wanted) (form : Form) → is_number w form ≡ true → form ≡ number w.low w.high
+number_is w (number low high) e =
+    let parts = both (low == w.low) (high == w.high) e in
+    ap₂ number (eqb-true low w.low parts.0) (eqb-true high w.high parts.1)
+number_is w flag e = cc
+number_is w any_text e = cc
+number_is w (one_of words) e = cc
+number_is w positional e = cc
+number_is w (positionals required) e = cc
+
+numbered : (w : Wanted) (a : Argument) → is_numbered w a ≡ true → IsNumbered w a
+numbered w a e same =
+    number_is w a.form (sym (ap (λ (b : Bool). if b then is_number w a.form else true) ((bytes_eq-Decides a.name w.name).1 same)) ∙ e)
+
+numbered_each : (w : Wanted) (arguments : List Argument) → list_all (is_numbered w) arguments ≡ true → All (IsNumbered w) arguments
+numbered_each w [] e = All-nil (IsNumbered w)
+numbered_each w (a ∷ others) e =
+    let parts = both (is_numbered w a) (list_all (is_numbered w) others) e in
+    All-cons (IsNumbered w) a others (numbered w a parts.0) (numbered_each w others parts.1)
+
+other_text : (a b : Text) → bytes_eq a b ≡ false → a ≡ b → ⊥
+other_text a b e same = false≢true (sym e ∙ (bytes_eq-Decides a b).1 same)
+
+pub takes_from : (c : Command) (w : Wanted) → list_all (is_numbered w) c.arguments ≡ true → bytes_eq w.name (codes "help") ≡ false
+    → bytes_eq w.name (codes "version") ≡ false → Takes w c
+takes_from c w arguments help version = record {
+  arguments = numbered_each w c.arguments arguments;
+  no_help = other_text w.name (codes "help") help;
+  no_version = other_text w.name (codes "version") version;
+}
+
+-- a number that is this one where none is given
+pub or_default : (low high default : ℕ) (o : Option ℕ) → IsWithin low high default → IfSome o (IsWithin low high) → IsWithin low high (unwrap_or o default)
+or_default low high default None is h = is
+or_default low high default (Some n) is h = h

@@ -1,5 +1,5 @@
 -- Where `clap` finds no fault, each argument that has to be given has a text.
-use Rattle.std.proofs.Common.{◌≡◌, ◌<◌, ◌&&◌, ◌||◌, ◌++◌, ℕ, Bool, true, false, cond, not, refl, sym, subst, List, [], ◌∷◌, get_or, length, map, append_assoc, Option, Some, unwrap_or, arith}
+use Rattle.std.proofs.Common.{◌≡◌, ◌<◌, ◌&&◌, ◌||◌, ◌++◌, ℕ, Bool, true, false, cond, not, refl, subst, List, [], ◌∷◌, get_or, length, map, append_assoc, Some, unwrap_or, arith}
 use Rattle.std.specs.Prelude.{find, option_map}
 use Rattle.std.specs.List.{All, list_any}
 use Rattle.std.specs.Option.{option_map_or}
@@ -11,11 +11,11 @@ use Rattle.clap.specs.Walk.{Row, Rule, Text, action_of, values_or_missing}
 use Rattle.clap.specs.Simple.{filled, filled_from, help_rule, index_after, version_rule, with_index}
 use Rattle.clap.specs.declared.builder.action.ArgAction.TheVariants as action
 use Rattle.clap.specs.declared.builder.value_parser.Reading.{Reading}
-use Rattle.dk_arguments.specs.Commands.{faults_of, rows_of, rule_by, rule_for}
+use Rattle.dk_arguments.specs.Commands.{rows_of, rule_by, rule_for}
 use Rattle.dk_arguments.specs.Descriptions.{Argument, Command, Form, flag, number, one_of, positional, positionals, text as any_text}
 use Rattle.dk_arguments.specs.Given.{texts_at}
 use Rattle.dk_arguments.specs.Laws.{IsGivenIfRequired, RequiredAreGiven, is_required}
-use Rattle.dk_arguments.proofs.Rows.{FitEach, IsSound, IsSoundRule, Joins, Sound, SoundCommand, none_wanting, range_fault, rows_fit}
+use Rattle.dk_arguments.proofs.Rows.{FitEach, IsSoundRule, Joins, Sound, SoundCommand, none_wanting, range_fault, rows_fit}
 
 -- a row with a value
 abbrev HasValue : Text → Reading → List Text → Type 0

@@ -1,7 +1,7 @@
 -- What the words of the command ask for.
 use Rattle.std.specs.Prelude.{◌∷◌, [], ℕ, List, Option, Some, codes, true, unwrap_or}
 use Rattle.clap.specs.Words.{Row, Text}
-use Rattle.dk_arguments.specs.Descriptions.{Command as Described, number, positionals}
+use Rattle.dk_arguments.specs.Descriptions.{Command as Described, Form, number, positionals}
 use Rattle.dk_arguments.specs.Given.{number_at, texts_at}
 use Rattle.dk_arguments.specs.Requests.{request_of as asked_of}
 use Rattle.dk_arguments.specs.declared.request.Request.{Request}
@@ -12,13 +12,17 @@ use Rattle.dk_merge_words.specs.declared.command.Command.{Command}
 abbrev pub most : ℕ
 most = 1000000000
 
+-- the numbers of them
+abbrev pub count : Form
+count = number 1 most
+
 -- the command: which words it accepts; a file has to be named
 abbrev pub dk_merge : Described
 dk_merge = record {
   name = codes "dk_merge";
   arguments =
-      record { name = codes "min-samples"; form = number 1 most }
-      ∷ record { name = codes "turns"; form = number 1 most }
+      record { name = codes "min-samples"; form = count }
+      ∷ record { name = codes "turns"; form = count }
       ∷ record { name = codes "file"; form = positionals true }
       ∷ [];
   usage = usage_line;

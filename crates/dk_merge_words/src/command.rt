@@ -15,25 +15,22 @@ pub struct Command {
     pub files: List<Word>,
 }
 
-/// The greatest number of `--min-samples` and `--turns`.
-const MOST: u64 = 1_000_000_000;
+/// The numbers of `--min-samples` and `--turns`.
+const COUNT: Form = Form::Number {
+    least: 1,
+    most: 1_000_000_000,
+};
 
 const DESCRIPTION: Description = Description {
     name: "dk_merge",
     arguments: &[
         Argument {
             name: "min-samples",
-            form: Form::Number {
-                least: 1,
-                most: MOST,
-            },
+            form: COUNT,
         },
         Argument {
             name: "turns",
-            form: Form::Number {
-                least: 1,
-                most: MOST,
-            },
+            form: COUNT,
         },
         Argument {
             name: "file",

@@ -1,7 +1,7 @@
 -- What the words of the command ask for.
 use Rattle.std.specs.Prelude.{◌∷◌, [], ℕ, List, Option, Some, codes, false, unwrap_or}
 use Rattle.clap.specs.Words.{Row, Text}
-use Rattle.dk_arguments.specs.Descriptions.{Command as Described, flag, number, positionals, text}
+use Rattle.dk_arguments.specs.Descriptions.{Command as Described, Form, flag, number, positionals, text}
 use Rattle.dk_arguments.specs.Given.{is_given, number_at, text_at, texts_at}
 use Rattle.dk_arguments.specs.Requests.{request_of as asked_of}
 use Rattle.dk_arguments.specs.declared.request.Request.{Request}
@@ -12,13 +12,17 @@ use Rattle.dk_words.specs.declared.command.Command.{Command}
 abbrev pub most : ℕ
 most = 1000000000
 
+-- the numbers of them
+abbrev pub count : Form
+count = number 1 most
+
 -- the command: which words it accepts
 abbrev pub daikon : Described
 daikon = record {
   name = codes "daikon";
   arguments =
-      record { name = codes "min-samples"; form = number 1 most }
-      ∷ record { name = codes "every"; form = number 1 most }
+      record { name = codes "min-samples"; form = count }
+      ∷ record { name = codes "every"; form = count }
       ∷ record { name = codes "select"; form = text }
       ∷ record { name = codes "keep-implied"; form = flag }
       ∷ record { name = codes "keep-incomparable"; form = flag }
