@@ -325,10 +325,9 @@ module _ (Fit : Fitting) (joins : Joins Fit) where
       (or_else below (or_else (settle_fault s.rules s.args_override_self end) (or_else (defaults_fault rows s.rules) checks))) e in
       let b = or_nil below (or_else (settle_fault s.rules s.args_override_self end) (or_else (defaults_fault rows s.rules) checks)) a.1 in
       let d = or_nil (settle_fault s.rules s.args_override_self end) (or_else (defaults_fault rows s.rules) checks) b.1 in
-      let g = or_nil (defaults_fault rows s.rules) checks d.1 in
-      (
+      let g = or_nil (defaults_fault rows s.rules) checks d.1 in (
         defaults_fit s.rules rows all g.0
-        (settled_fit s.rules all s.args_override_self end d.0 (walk_fit s all names (walk_from nothing_held) words a.0 tt)),
+            (settled_fit s.rules all s.args_override_self end d.0 (walk_fit s all names (walk_from nothing_held) words a.0 tt)),
         g.1,
       )
 

@@ -1,6 +1,6 @@
 -- A run's numbers are within their bounds, and it has a file.
-use Rattle.std.proofs.Common.{◌≡◌, ◌<◌, ◌∷◌, [], List, Some, IfSome, arith, codes, length, refl, subst, true}
-use Rattle.clap.specs.Words.{Row, Text}
+use Rattle.std.proofs.Common.{◌≡◌, ◌<◌, List, Some, IfSome, arith, codes, length, refl, subst, true}
+use Rattle.clap.specs.Words.{Text}
 use Rattle.dk_arguments.specs.Commands.{rows_of}
 use Rattle.dk_arguments.specs.Descriptions.{positionals}
 use Rattle.dk_arguments.specs.Laws.{IsMeant, IsWithin, Takes, Wanted}
@@ -31,9 +31,10 @@ takes_turns = takes_from dk_merge (up_to_most (codes "turns")) refl refl refl
 pub numbers_within : NumbersAreWithinBounds
 numbers_within words command e =
     let is = meant words command e in
-    subst (λ (c : Command). IsWithin 1 most c.least × IfSome c.turns (IsWithin 1 most)) (same words command is)
-    (or_default 1 most 5 _ (omega arith, omega arith) (within_bounds dk_merge (up_to_most (codes "min-samples")) words takes_least is.none),
-    within_bounds dk_merge (up_to_most (codes "turns")) words takes_turns is.none)
+    subst (λ (c : Command). IsWithin 1 most c.least × IfSome c.turns (IsWithin 1 most)) (same words command is) (
+      or_default 1 most 5 _ (omega arith, omega arith) (within_bounds dk_merge (up_to_most (codes "min-samples")) words takes_least is.none),
+      within_bounds dk_merge (up_to_most (codes "turns")) words takes_turns is.none,
+    )
 
 pub file_named : SomeFileIsNamed
 file_named words command e =

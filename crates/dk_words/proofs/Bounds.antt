@@ -1,6 +1,6 @@
 -- The numbers of a run are within their bounds.
-use Rattle.std.proofs.Common.{◌≡◌, ◌∷◌, [], List, Some, IfSome, codes, refl, subst, arith}
-use Rattle.clap.specs.Words.{Row, Text}
+use Rattle.std.proofs.Common.{◌≡◌, Some, IfSome, codes, refl, subst, arith}
+use Rattle.clap.specs.Words.{Text}
 use Rattle.dk_arguments.specs.Commands.{rows_of}
 use Rattle.dk_arguments.specs.Laws.{IsWithin, Takes, Wanted}
 use Rattle.dk_arguments.proofs.Bounds.{or_default, takes_from, within_bounds as numbers_are_within}
@@ -23,6 +23,7 @@ unfolding request_of
 within_bounds words command e =
     let is = runs_are_meant daikon (λ rows. Some (command_of rows)) words command e in
     let same : command_of (rows_of daikon words) ≡ command = cc (is.is) in
-    subst (λ (c : Command). IsWithin 1 most c.least × IfSome c.every (IsWithin 1 most)) same
-    (or_default 1 most 5 _ (omega arith, omega arith) (numbers_are_within daikon (up_to_most (codes "min-samples")) words takes_least is.none),
-    numbers_are_within daikon (up_to_most (codes "every")) words takes_every is.none)
+    subst (λ (c : Command). IsWithin 1 most c.least × IfSome c.every (IsWithin 1 most)) same (
+      or_default 1 most 5 _ (omega arith, omega arith) (numbers_are_within daikon (up_to_most (codes "min-samples")) words takes_least is.none),
+      numbers_are_within daikon (up_to_most (codes "every")) words takes_every is.none,
+    )
