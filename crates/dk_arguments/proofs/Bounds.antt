@@ -1,36 +1,31 @@
 -- Where `clap` finds no fault, each number that it matched is within its bounds.
-use Rattle.std.proofs.Common.{◌≡◌, ◌∙◌, ◌^◌, ◌&&◌, ◌||◌, ◌++◌, ℕ, zero, suc, Bool, true, false, cond, codes, refl, sym, ap, subst, List, [], ◌∷◌, length, drop, map, append_assoc, Option, Some, None, is_some, IfSome, nat_le, nat_lt, arith}
-use Rattle.std.specs.Prelude.{encode_utf8, find, fold, option_and_then, option_map, slice_get}
-use Rattle.std.specs.List.{All}
-use Rattle.std.specs.Option.{option_map_or}
-use Rattle.std.specs.Str.{bytes_eq, chars}
+use Rattle.std.proofs.Common.{◌≡◌, ◌∙◌, ◌^◌, ◌&&◌, ◌==◌, ◌++◌, ℕ, Bool, true, false, cond, codes, refl, sym, ap, ap₂, subst, List, [], ◌∷◌, Option, Some, None, IfSome, unwrap_or, nat_le, nat_lt}
+use Rattle.std.specs.Prelude.{find, if◌then◌else◌, option_and_then, option_map, slice_get}
+use Rattle.std.specs.List.{All, list_all}
+use Rattle.std.specs.Str.{bytes_eq}
 use Rattle.std.specs.Str.Parse.{digits_value, without_leading_plus}
-use Rattle.std.proofs.lemmas.List.Elements.{All-head, All-tail}
-use Rattle.std.proofs.lemmas.Bool.{false≢true, leb-true, ne_eqb}
+use Rattle.std.proofs.lemmas.Bool.{eqb-true, false≢true, leb-true}
+use Rattle.std.proofs.lemmas.List.Elements.{All-cons, All-nil, All-weaker}
 use Rattle.std.proofs.lemmas.Slice.Eq.{bytes_eq-Decides}
-use Rattle.clap.specs.Lexer.{long_of, short_of}
-use Rattle.clap.specs.Facts.{parser_of_value, unwrap_or_range}
+use Rattle.clap.specs.Facts.{parser_of_value}
 use Rattle.clap.specs.Values.{read_as, refused_kind}
 use Rattle.clap.specs.ValueTests.{accepts}
-use Rattle.clap.specs.Walk.{Held, Names, Outcome, Row, Rule, Step, Text, Waiting, Walk, action_of, after_flag, after_step, arg_by_id, arg_by_index, arg_by_long, arg_by_short, attached_value, bundle, bundle_met, bundle_step, default_rows, done, finished, flag_met, has_row, idle, is_empty, is_pending, long_met, long_or_other, most_values, next, nothing_held, option, option_met, option_word, plain, plain_word, positional, reacted, reading_by, refused, row_text, rows_after, settled, settled_rows, short_met, short_or_plain, stronger, subcommand, subcommand_met, subcommand_or_other, takes_several, takes_values, to_positional, trailing, used, used_as, used_by_id, value, values_or_missing, waits, walk, walk_from, walked, walked_from, with_default, with_values, without, word_met}
-use Rattle.clap.specs.Simple.{App, Shape, argument_words, built, entered, filled, filled_from, help_rule, index_after, names_of, version_rule, with_index}
-use Rattle.clap.specs.Kinds.{Kinds, or_else, range_kinds, request_kinds, value_kinds, values_kinds}
-use Rattle.clap.specs.Faults.{action_fault, built_fault, bundle_fault, bundle_step_fault, check_fault, default_fault, defaults_fault, entered_fault, flag_word_fault, flags_fault, given_default_fault, level_fault, long_fault, option_fault, other_fault, positional_fault, react_fault, repeat_fault, settle_fault, short_fault, step_fault, stray_fault, turn_fault, use_fault, values_fault, walk_fault, word_fault}
-use Rattle.clap.specs.declared.builder.action.ArgAction.{ArgAction}
+use Rattle.clap.specs.Walk.{Row, Rule, Text, action_of, reading_by, row_text, values_or_missing}
+use Rattle.clap.specs.Simple.{filled, help_rule, version_rule, with_index}
+use Rattle.clap.specs.Kinds.{value_kinds, values_kinds}
+use Rattle.clap.specs.Faults.{values_fault}
 use Rattle.clap.specs.declared.builder.action.ArgAction.TheVariants as action
 use Rattle.clap.specs.declared.builder.value_parser.Reading.{Reading}
 use Rattle.clap.specs.declared.builder.value_parser.Reading.TheVariants as reading
 use Rattle.clap.specs.declared.builder.value_parser.ValueParser.{ValueParser}
 use Rattle.clap.specs.declared.builder.value_parser.ValueParser.TheVariants as vp
-use Rattle.clap.specs.declared.error.kind.ErrorKind.TheVariants as kind
-use Rattle.clap.specs.declared.parser.matches.ValueSource.{ValueSource}
-use Rattle.clap.specs.declared.parser.matches.ValueSource.TheVariants.{CommandLine, DefaultValue}
 use Rattle.clap.proofs.WalkLemmas.{both}
 use Rattle.dk_base.specs.Numbers.{is_numeral, natural_of}
-use Rattle.dk_arguments.specs.Commands.{app_of_command, faults_of, named, rows_of, rule_by, rule_for}
+use Rattle.dk_arguments.specs.Commands.{rows_of, rule_by, rule_for}
 use Rattle.dk_arguments.specs.Descriptions.{Argument, Command, Form, flag, number, one_of, positional, positionals, text as any_text}
 use Rattle.dk_arguments.specs.Given.{number_at}
 use Rattle.dk_arguments.specs.Laws.{IsNumbered, IsWithin, NumbersAreWithinBounds, Takes, Wanted}
+use Rattle.dk_arguments.proofs.Rows.{FitEach, IsSound, IsSoundRule, Sound, SoundCommand, or_nil, rows_fit, same_text}
 
 abbrev is_named : Wanted → Text → Bool
 is_named w id = bytes_eq id w.name
@@ -47,288 +42,24 @@ record Fit (w : Wanted) (id : Text) (how : Reading) (vs : List Text) : Type 0 wh
   as_written : is_named w id ≡ true → how ≡ reading.AsWritten
   pass : is_named w id ≡ true → Pass w vs
 
-abbrev FitEach : Wanted → List Row → Type 0
-FitEach w [] = Unit {0}
-FitEach w (r ∷ rs) = Fit w r.id r.reading r.values × FitEach w rs
-
--- a rule whose accepted values fit, and which doesn't count
-record Sound (w : Wanted) (a : Rule) : Type 0 where
-  fits : (vs : List Text) → values_fault a vs ≡ [] → Fit w a.id (reading_by a) vs
-  counts : action_of a ≡ action.Count → ⊥
-
-abbrev SoundIfFound : Wanted → Option Rule → Type 0
-SoundIfFound w None = Unit {0}
-SoundIfFound w (Some a) = Sound w a
-
-abbrev SoundEach : Wanted → List Rule → Type 0
-SoundEach w [] = Unit {0}
-SoundEach w (a ∷ rest) = Sound w a × SoundEach w rest
-
 module _ (wanted : Wanted) where
   pass_both : (vs ws : List Text) → Pass wanted vs → Pass wanted ws → Pass wanted (vs ++ ws)
   pass_both [] ws h g = g
   pass_both (v ∷ vs) ws h g = (h.0, pass_both vs ws h.1 g)
 
-  same_text : (a b : Text) → bytes_eq a b ≡ true → a ≡ b
-  same_text a b e = (bytes_eq-Decides a b).0 e
+  joined : (id : Text) (how other : Reading) (vs ws : List Text) → Fit wanted id how vs → Fit wanted id other ws → Fit wanted id how (vs ++ ws)
+  joined id how other vs ws f g = record {
+    as_written = f.as_written;
+    pass = λ ranged. pass_both vs ws (f.pass ranged) (g.pass ranged);
+  }
 
-  with_values_fit : (id : Text) (how : Reading) (s : ValueSource) (vs : List Text) (rows : List Row) → Fit wanted id how vs → FitEach wanted rows
-      → FitEach wanted (with_values id how s vs rows)
-  with_values_fit id how s vs [] f h = (record { as_written = f.as_written; pass = f.pass }, tt)
-  with_values_fit id how s vs (r ∷ rs) f h = go (with_values_fit id how s vs rs f h.1) (bytes_eq r.id id) refl
-    where
-      go : FitEach wanted (with_values id how s vs rs) → (b : Bool) → bytes_eq r.id id ≡ b
-          → FitEach wanted (cond b (record r { values = r.values ++ vs; source = Some (stronger r.source s) } ∷ rs) (r ∷ with_values id how s vs rs))
-      go later true e = (
-        record {
-          as_written = h.0.as_written;
-          pass = λ ranged. pass_both r.values vs (h.0.pass ranged) (f.pass (ap (is_named wanted) (sym (same_text r.id id e)) ∙ ranged));
-        },
-        h.1,
-      )
-      go later false e = (h.0, later)
-
-  without_fit : (id : Text) (rows : List Row) → FitEach wanted rows → FitEach wanted (without id rows)
-  without_fit id [] h = tt
-  without_fit id (r ∷ rs) h = go (without_fit id rs h.1) (bytes_eq r.id id)
-    where
-      go : FitEach wanted (without id rs) → (b : Bool) → FitEach wanted (cond b rs (r ∷ without id rs))
-      go later true = h.1
-      go later false = (h.0, later)
-
-  or_nil : (a b : Kinds) → or_else a b ≡ [] → (a ≡ []) × (b ≡ [])
-  or_nil [] b e = (refl, e)
-  or_nil (k ∷ ks) b e = cc
-
-  set_fit : (again : Bool) (a : Rule) (vs : List Text) (rows : List Row) → Sound wanted a → or_else (repeat_fault again a.id rows) (values_fault a vs) ≡ []
-      → FitEach wanted rows → FitEach wanted (with_values a.id (reading_by a) CommandLine vs (without a.id rows))
-  set_fit again a vs rows s e h =
-      with_values_fit a.id (reading_by a) CommandLine vs (without a.id rows)
-      (s.fits vs (or_nil (repeat_fault again a.id rows) (values_fault a vs) e).1) (without_fit a.id rows h)
-
-  acted_fit : (x : ArgAction) (again : Bool) (a : Rule) (vs : List Text) (rows : List Row) → Sound wanted a → (x ≡ action.Count → ⊥)
-      → action_fault x again a vs rows ≡ [] → FitEach wanted rows → FitEach wanted (used_as x a.id (reading_by a) vs rows)
-  acted_fit action.Set again a vs rows s n e h = set_fit again a vs rows s e h
-  acted_fit action.SetTrue again a vs rows s n e h = set_fit again a vs rows s e h
-  acted_fit action.SetFalse again a vs rows s n e h = set_fit again a vs rows s e h
-  acted_fit action.Append again a vs rows s n e h = with_values_fit a.id (reading_by a) CommandLine vs rows (s.fits vs e) h
-  acted_fit action.Count again a vs rows s n e h = absurd (n refl)
-  acted_fit action.Help again a vs rows s n e h = h
-  acted_fit action.HelpShort again a vs rows s n e h = h
-  acted_fit action.HelpLong again a vs rows s n e h = h
-  acted_fit action.Version again a vs rows s n e h = h
-
-  used_fit : (again : Bool) (a : Rule) (vs : List Text) (rows : List Row) → Sound wanted a → use_fault again a vs rows ≡ [] → FitEach wanted rows → FitEach wanted (used a vs rows)
-  used_fit again a vs rows s e h =
-      let range = range_kinds (unwrap_or_range a.range).start_inclusive (most_values a) (length vs) in
-      let acts = action_fault (action_of a) again a (values_or_missing a vs) rows in
-      acted_fit (action_of a) again a (values_or_missing a vs) rows s s.counts (or_nil range acts e).1 h
-
-  found_sound : (c : List Rule) → SoundEach wanted c → (test : Rule → Bool) → SoundIfFound wanted (find test c)
-  found_sound [] all test = tt
-  found_sound (a ∷ rest) all test = go (found_sound rest all.1 test) (test a)
-    where
-      go : SoundIfFound wanted (find test rest) → (b : Bool) → SoundIfFound wanted (cond b (Some a) (find test rest))
-      go later true = all.0
-      go later false = later
-
-  module _ (c : List Rule) (all : SoundEach wanted c) (again : Bool) where
-    by_id_fit : (o : Option Rule) (vs : List Text) (rows : List Row) → SoundIfFound wanted o → option_map_or (λ a. use_fault again a vs rows) o [] ≡ []
-        → FitEach wanted rows → FitEach wanted (used_by_id o vs rows)
-    by_id_fit None vs rows s e h = h
-    by_id_fit (Some a) vs rows s e h = used_fit again a vs rows s e h
-
-    pending_fit : (p : Option (Text × List Text)) (rows : List Row)
-        → option_map_or (λ q. option_map_or (λ a. use_fault again a q.1 rows) (arg_by_id c q.0) []) p [] ≡ []
-        → FitEach wanted rows → FitEach wanted (settled_rows c p rows)
-    pending_fit None rows e h = h
-    pending_fit (Some q) rows e h = by_id_fit (arg_by_id c q.0) q.1 rows (found_sound c all (λ a. bytes_eq a.id q.0)) e h
-
-    settled_fit : (h : Held) → settle_fault c again h ≡ [] → FitEach wanted h.rows → FitEach wanted (settled c h).rows
-    settled_fit h e f = pending_fit h.pending h.rows e f
-
-    reacted_fit : (a : Rule) (vs : List Text) (h : Held) → Sound wanted a → react_fault c again a vs h ≡ [] → FitEach wanted h.rows → FitEach wanted (reacted c a vs h).rows
-    reacted_fit a vs h s e f =
-        let parts = or_nil (settle_fault c again h) (use_fault again a vs (settled c h).rows) e in
-        used_fit again a vs (settled c h).rows s parts.1 (settled_fit h parts.0 f)
-
-    option_fit : (a : Rule) (v : Option Text) (h : Held) → Sound wanted a → option_fault c again a v h ≡ [] → FitEach wanted h.rows → FitEach wanted (option_met c a v h).0.rows
-    option_fit a None h s e f = settled_fit h e f
-    option_fit a (Some v) h s e f = reacted_fit a (v ∷ []) h s e f
-
-    flag_fit : (a : Rule) (v : Option Text) (h : Held) → Sound wanted a → cond (is_some v) (kind.TooManyValues ∷ []) (react_fault c again a [] h) ≡ []
-        → FitEach wanted h.rows → FitEach wanted (flag_met c a v h).0.rows
-    flag_fit a None h s e f = reacted_fit a [] h s e f
-    flag_fit a (Some v) h s e f = f
-
-    long_fit : (o : Option Rule) (v : Option Text) (h : Held) → SoundIfFound wanted o → long_fault c again o v h ≡ [] → FitEach wanted h.rows → FitEach wanted (long_met c o v h).0.rows
-    long_fit None v h s e f = f
-    long_fit (Some a) v h s e f = go (takes_values a) e
-      where
-        go : (b : Bool) → cond b (option_fault c again a v h) (cond (is_some v) (kind.TooManyValues ∷ []) (react_fault c again a [] h)) ≡ []
-            → FitEach wanted (cond b (option_met c a v h) (flag_met c a v h)).0.rows
-        go true e = option_fit a v h s e f
-        go false e = flag_fit a v h s e f
-
-    short_fit : (o : Option Rule) (rest : Text) (h : Held) (more : Held → Kinds) (met : Held → Held × Outcome) → SoundIfFound wanted o
-        → ((g : Held) → more g ≡ [] → FitEach wanted g.rows → FitEach wanted (met g).0.rows) → short_fault c again o rest h more ≡ [] → FitEach wanted h.rows
-        → FitEach wanted (short_met c o rest h met).0.rows
-    short_fit None rest h more met s n e f = f
-    short_fit (Some a) rest h more met s n e f = go (takes_values a) e
-      where
-        go : (b : Bool) → cond b (option_fault c again a (attached_value rest) h) (or_else (react_fault c again a [] h) (more (reacted c a [] h))) ≡ []
-            → FitEach wanted (cond b (option_met c a (attached_value rest) h) (met (reacted c a [] h))).0.rows
-        go true e = option_fit a (attached_value rest) h s e f
-        go false e =
-            let parts = or_nil (react_fault c again a [] h) (more (reacted c a [] h)) e in
-            n (reacted c a [] h) parts.1 (reacted_fit a [] h s parts.0 f)
-
-    bundle_step_fit : (x : Option ℕ) (flags : Text) (skip : ℕ) (so_far : Outcome) (h : Held) (more : Text → ℕ → Held → Kinds)
-        (met : Text → ℕ → Outcome → Held → Held × Outcome)
-        → ((rest : Text) (k : ℕ) (o : Outcome) (g : Held) → more rest k g ≡ [] → FitEach wanted g.rows → FitEach wanted (met rest k o g).0.rows)
-        → bundle_step_fault c again x flags skip h more ≡ [] → FitEach wanted h.rows → FitEach wanted (bundle_step c x flags skip so_far h met).0.rows
-    bundle_step_fit None flags skip so_far h more met n e f = f
-    bundle_step_fit (Some x) flags zero so_far h more met n e f =
-        let rest = drop (length (encode_utf8 x)) flags in
-        short_fit (arg_by_short c x) rest h (more rest 0) (met rest 0 done) (found_sound c all _) (λ g. n rest 0 done g) e f
-    bundle_step_fit (Some x) flags (suc skip) so_far h more met n e f = n (drop (length (encode_utf8 x)) flags) skip so_far h e f
-
-    flags_fit : (k : ℕ) (flags : Text) (skip : ℕ) (so_far : Outcome) (h : Held) → flags_fault c again k flags skip h ≡ [] → FitEach wanted h.rows
-        → FitEach wanted (bundle_met c k flags skip so_far h).0.rows
-    unfolding flags_fault bundle_met
-    flags_fit zero flags skip so_far h e f = f
-    flags_fit (suc k) flags skip so_far h e f =
-        bundle_step_fit (slice_get (chars flags) 0) flags skip so_far h (flags_fault c again k) (bundle_met c k) (flags_fit k) e f
-
-    option_word_fit : (o : Option Rule) (id word : Text) (h : Held) → FitEach wanted h.rows → FitEach wanted (option_word o id word h).0.rows
-    option_word_fit None id word h f = f
-    option_word_fit (Some a) id word h f = f
-
-    plain_fit : (w : Waiting) (word : Text) (h : Held) → FitEach wanted h.rows → FitEach wanted (plain_word c w word h).0.rows
-    plain_fit idle word h f = f
-    plain_fit (option id) word h f = option_word_fit (arg_by_id c id) id word h f
-    plain_fit positional word h f = f
-
-    after_flag_fit : (w : Waiting) (word : Text) (h : Held) (o : Outcome) → FitEach wanted h.rows → FitEach wanted (after_flag c w word h o).0.rows
-    after_flag_fit w word h done f = f
-    after_flag_fit w word h (waits id) f = f
-    after_flag_fit w word h plain f = plain_fit w word h f
-    after_flag_fit w word h refused f = plain_fit w word h f
-
-    short_word_fit : (w : Waiting) (word : Text) (o : Option Text) (h : Held) → option_map_or (λ flags. bundle_fault c again flags h) o [] ≡ []
-        → FitEach wanted h.rows → FitEach wanted (short_or_plain c w word o h).0.rows
-    short_word_fit w word None h e f = plain_fit w word h f
-    short_word_fit w word (Some flags) h e f =
-        after_flag_fit w word (bundle c flags h).0 (bundle c flags h).1 (flags_fit (length flags) flags h.skip plain (record h { skip = 0 }) e f)
-
-    flag_word_fit : (w : Waiting) (word : Text) (o : Option (Text × Option Text)) (h : Held) → flag_word_fault c again o word h ≡ []
-        → FitEach wanted h.rows → FitEach wanted (long_or_other c w word o h).0.rows
-    flag_word_fit w word None h e f = short_word_fit w word (short_of word) h e f
-    flag_word_fit w word (Some p) h e f =
-        let met = long_met c (arg_by_long c p.0) p.1 h in
-        after_flag_fit w word met.0 met.1 (long_fit (arg_by_long c p.0) p.1 h (found_sound c all _) e f)
-
-  module _ (s : Shape) (all : SoundEach wanted s.rules) where
-    other_fit : (o : Option Text) (w : Waiting) (position : ℕ) (word : Text) (h : Held) → other_fault s o word h ≡ [] → FitEach wanted h.rows
-        → FitEach wanted (subcommand_or_other s.rules o w position word h).0.rows
-    other_fit (Some name) w position word h e f = f
-    other_fit None w position word h e f = go (bytes_eq word (45 ∷ 45 ∷ [])) e
-      where
-        go : (b : Bool) → cond b [] (flag_word_fault s.rules s.args_override_self (long_of word) word h) ≡ []
-            → FitEach wanted (cond b (h, trailing position) (long_or_other s.rules w word (long_of word) h)).0.rows
-        go true e = f
-        go false e = flag_word_fit s.rules all s.args_override_self w word (long_of word) h e f
-
-    word_fit : (names : Names) (is_trailing : Bool) (w : Waiting) (position : ℕ) (word : Text) (h : Held) → word_fault s names is_trailing w word h ≡ []
-        → FitEach wanted h.rows → FitEach wanted (word_met s.rules names is_trailing w position word h).0.rows
-    word_fit names true w position word h e f = f
-    word_fit names false w position word h e f = other_fit (subcommand_met names w word) w position word h e f
-
-    positional_fit : (o : Option Rule) (word : Text) (w : Walk) (h : Held) → SoundIfFound wanted o
-        → option_map_or (λ a. positional_fault s.rules s.args_override_self a h) o (stray_fault s) ≡ []
-        → FitEach wanted h.rows → FitEach wanted (to_positional s.rules o word w h).held.rows
-    positional_fit None word w h sound e f = f
-    positional_fit (Some a) word w h sound e f = go (is_pending a h.pending && takes_several a) e
-      where
-        go : (b : Bool) → cond b [] (settle_fault s.rules s.args_override_self h) ≡ [] → FitEach wanted (cond b h (settled s.rules h)).rows
-        go true e = f
-        go false e = settled_fit s.rules all s.args_override_self h e f
-
-    step_fit : (word : Text) (w : Walk) (h : Held) (step : Step) → step_fault s w.position h step ≡ [] → FitEach wanted h.rows
-        → FitEach wanted (after_step s.rules word w h step).held.rows
-    step_fit word w h (next waiting) e f = f
-    step_fit word w h (trailing position) e f = f
-    step_fit word w h (subcommand name) e f = f
-    step_fit word w h value e f = positional_fit (arg_by_index s.rules w.position) word w h (found_sound s.rules all _) e f
-
-    turn_fit : (names : Names) (w : Walk) (word : Text) → turn_fault s names w word ≡ [] → FitEach wanted w.held.rows
-        → FitEach wanted (walked s.rules names w word).held.rows
-    unfolding walked
-    turn_fit names w word e f = go w.stopped e
-      where
-        met : Held × Step
-        met = word_met s.rules names w.is_trailing w.waiting w.position word w.held
-
-        go : (o : Option (Text × List Text))
-            → cond (is_some o) [] (or_else (word_fault s names w.is_trailing w.waiting word w.held) (step_fault s w.position met.0 met.1)) ≡ []
-            → FitEach wanted (walked_from s.rules names o w word).held.rows
-        go (Some p) e = f
-        go None e =
-            let parts = or_nil (word_fault s names w.is_trailing w.waiting word w.held) (step_fault s w.position met.0 met.1) e in
-            step_fit word w met.0 met.1 parts.1 (word_fit names w.is_trailing w.waiting w.position word w.held parts.0 f)
-
-    walk_fit : (names : Names) (w : Walk) (words : List Text) → walk_fault s names w words ≡ [] → FitEach wanted w.held.rows
-        → FitEach wanted (fold (walked s.rules names) w words).held.rows
-    unfolding walk_fault
-    walk_fit names w [] e f = f
-    walk_fit names w (word ∷ rest) e f =
-        let parts = or_nil (turn_fault s names w word) (walk_fault s names (walked s.rules names w word) rest) e in
-        walk_fit names (walked s.rules names w word) rest parts.1 (turn_fit names w word parts.0 f)
-
-  default_values_fit : (a : Rule) (ds : List Text) (rows : List Row) → Sound wanted a → cond (is_empty ds) [] (given_default_fault a ds) ≡ [] → FitEach wanted rows
-      → FitEach wanted (default_rows a.id (reading_by a) ds rows)
-  default_values_fit a [] rows s e f = f
-  default_values_fit a (v ∷ vs) rows s e f =
-      let given : is_empty (v ∷ vs) ≡ false = ne_eqb (length (v ∷ vs)) 0 (λ z. absurd (omega arith)) in
-      let fault : given_default_fault a (v ∷ vs) ≡ [] =
-      sym (ap (λ b. cond b [] (given_default_fault a (v ∷ vs))) given) ∙ e in
-      with_values_fit a.id (reading_by a) DefaultValue (v ∷ vs) rows
-      (s.fits (v ∷ vs) (or_nil (request_kinds (action_of a)) (values_fault a (v ∷ vs)) fault).1) f
-
-  default_fit : (a : Rule) (rows : List Row) → Sound wanted a → default_fault rows a ≡ [] → FitEach wanted rows → FitEach wanted (with_default rows a)
-  default_fit a rows s e f = go (has_row a.id rows) e
-    where
-      go : (b : Bool) → cond (b || is_empty a.defaults) [] (given_default_fault a a.defaults) ≡ []
-          → FitEach wanted (cond b rows (default_rows a.id (reading_by a) a.defaults rows))
-      go true e = f
-      go false e = default_values_fit a a.defaults rows s e f
-
-  defaults_fit : (c : List Rule) (rows : List Row) → SoundEach wanted c → defaults_fault rows c ≡ [] → FitEach wanted rows → FitEach wanted (fold with_default rows c)
-  unfolding defaults_fault
-  defaults_fit [] rows all e f = f
-  defaults_fit (a ∷ rest) rows all e f =
-      let parts = or_nil (default_fault rows a) (defaults_fault (with_default rows a) rest) e in
-      defaults_fit rest (with_default rows a) all.1 parts.1 (default_fit a rows all.0 parts.0 f)
-
-  level_fit : (s : Shape) (names : Names) (words : List Text) (has_subcommand : Bool) (below : Kinds) → SoundEach wanted s.rules
-      → level_fault s names nothing_held words has_subcommand below ≡ [] → FitEach wanted (rows_after s.rules names words)
-  level_fit s names words has_subcommand below all e =
-      let end = (walk s.rules names nothing_held words).held in
-      let rows = (settled s.rules end).rows in
-      let checks = check_fault s (finished s.rules end) has_subcommand in
-      let a = or_nil (walk_fault s names (walk_from nothing_held) words)
-      (or_else below (or_else (settle_fault s.rules s.args_override_self end) (or_else (defaults_fault rows s.rules) checks))) e in
-      let b = or_nil below (or_else (settle_fault s.rules s.args_override_self end) (or_else (defaults_fault rows s.rules) checks)) a.1 in
-      let d = or_nil (settle_fault s.rules s.args_override_self end) (or_else (defaults_fault rows s.rules) checks) b.1 in
-      let g = or_nil (defaults_fault rows s.rules) checks d.1 in
-      defaults_fit s.rules rows all g.0
-      (settled_fit s.rules all s.args_override_self end d.0 (walk_fit s all names (walk_from nothing_held) words a.0 tt))
-
-  -- the rows of a command without fault fit
-  app_fit : (a : App) (words : List Text) → SoundEach wanted a.top.rules → built_fault a nothing_held words ≡ [] → FitEach wanted (rows_after a.top.rules (names_of a) words)
-  app_fit a words all e =
-      let stop = (walk a.top.rules (names_of a) nothing_held words).stopped in
-      level_fit a.top (names_of a) words (is_some (entered a stop)) (entered_fault a stop) all e
+  sound_by : (a : Rule) → ((vs : List Text) → values_fault a vs ≡ [] → Fit wanted a.id (reading_by a) vs) → (action_of a ≡ action.Count → ⊥)
+      → Sound (Fit wanted) a
+  sound_by a fits n = record {
+    uses = λ vs acts range e. fits (values_or_missing a vs) e;
+    defaults = λ v vs e. fits (v ∷ vs) e;
+    counts = n;
+  }
 
   accepted : (vs : List Text) → values_kinds false (bounds_of wanted) vs ≡ [] → Pass wanted vs
   accepted [] e = tt
@@ -340,31 +71,26 @@ module _ (wanted : Wanted) where
       go true is e = is
       go false is e = cc
 
-  -- a word without (bounds_of wanted)
-  free : (a : Rule) → is_named wanted a.id ≡ false → (action_of a ≡ action.Count → ⊥) → Sound wanted a
-  free a is n = record {
-    fits = λ vs e. record {
-      as_written = λ ranged. absurd (false≢true (sym is ∙ ranged));
-      pass = λ ranged. absurd (false≢true (sym is ∙ ranged));
-    };
-    counts = n;
-  }
+  -- an argument without bounds
+  free : (a : Rule) → is_named wanted a.id ≡ false → (action_of a ≡ action.Count → ⊥) → Sound (Fit wanted) a
+  free a is n = sound_by a (λ vs e. record {
+    as_written = λ ranged. absurd (false≢true (sym is ∙ ranged));
+    pass = λ ranged. absurd (false≢true (sym is ∙ ranged));
+  }) n
 
-  -- a word with (bounds_of wanted)
-  ranged : (a : Rule) → reading_by a ≡ reading.AsWritten → a.ignore_case ≡ false → parser_of_value a.parser ≡ (bounds_of wanted) → (action_of a ≡ action.Count → ⊥) → Sound wanted a
-  ranged a as_written cased parsed n = record {
-    fits = λ vs e. record {
-      as_written = λ _. as_written;
-      pass = λ _. accepted vs (sym ((λ i. values_kinds (cased i) (parsed i) vs)) ∙ e);
-    };
-    counts = n;
-  }
+  -- an argument with these bounds
+  ranged : (a : Rule) → reading_by a ≡ reading.AsWritten → a.ignore_case ≡ false → parser_of_value a.parser ≡ bounds_of wanted → (action_of a ≡ action.Count → ⊥)
+      → Sound (Fit wanted) a
+  ranged a as_written cased parsed n = sound_by a (λ vs e. record {
+    as_written = λ _. as_written;
+    pass = λ _. accepted vs (sym ((λ i. values_kinds (cased i) (parsed i) vs)) ∙ e);
+  }) n
 
   -- the rules of a command, filled in
-  sound_other : (a : Rule) (i : ℕ) → is_named wanted a.id ≡ false → (action_of (filled a) ≡ action.Count → ⊥) → Sound wanted (with_index i (filled a))
+  sound_other : (a : Rule) (i : ℕ) → is_named wanted a.id ≡ false → (action_of (filled a) ≡ action.Count → ⊥) → Sound (Fit wanted) (with_index i (filled a))
   sound_other a i is n = free (with_index i (filled a)) is n
 
-  sound_number : (name : Text) (i : ℕ) → Sound wanted (with_index i (filled (rule_for (record { name = name; form = number wanted.low wanted.high }))))
+  sound_number : (name : Text) (i : ℕ) → Sound (Fit wanted) (with_index i (filled (rule_for (record { name = name; form = number wanted.low wanted.high }))))
   sound_number name i = ranged (with_index i (filled (rule_for (record { name = name; form = number wanted.low wanted.high })))) refl refl refl (λ e. cc)
 
   no_count : (form : Form) (name : Text) → action_of (filled (rule_by form name)) ≡ action.Count → ⊥
@@ -383,20 +109,12 @@ module _ (wanted : Wanted) where
   id_is positional name = refl
   id_is (positionals required) name = refl
 
-  sound_argument : (a : Argument) (i : ℕ) → (a.name ≡ wanted.name → a.form ≡ number wanted.low wanted.high) → Sound wanted (with_index i (filled (rule_for a)))
+  sound_argument : (a : Argument) (i : ℕ) → (a.name ≡ wanted.name → a.form ≡ number wanted.low wanted.high) → Sound (Fit wanted) (with_index i (filled (rule_for a)))
   sound_argument a i takes = go (is_named wanted a.name) refl
     where
-      go : (b : Bool) → is_named wanted a.name ≡ b → Sound wanted (with_index i (filled (rule_for a)))
-      go true e = subst (λ (f : Form). Sound wanted (with_index i (filled (rule_by f a.name)))) (sym (takes (same_text a.name wanted.name e))) (sound_number a.name i)
+      go : (b : Bool) → is_named wanted a.name ≡ b → Sound (Fit wanted) (with_index i (filled (rule_for a)))
+      go true e = subst (λ (f : Form). Sound (Fit wanted) (with_index i (filled (rule_by f a.name)))) (sym (takes (same_text a.name wanted.name e))) (sound_number a.name i)
       go false e = sound_other (rule_for a) i (ap (is_named wanted) (id_is a.form a.name) ∙ e) (no_count a.form a.name)
-
-  sound_rules : (arguments : List Argument) (rest : List Rule) (i : ℕ) → All (IsNumbered wanted) arguments
-      → ((k : ℕ) → SoundEach wanted (filled_from k rest)) → SoundEach wanted (filled_from i (map rule_for arguments ++ rest))
-  sound_rules [] rest i all more = more i
-  sound_rules (a ∷ others) rest i all more = (
-    sound_argument a i (All-head (IsNumbered wanted) a others all),
-    sound_rules others rest (index_after i (filled (rule_for a))) (All-tail (IsNumbered wanted) a others all) more,
-  )
 
   ne_bytes : (id : Text) → (id ≡ wanted.name → ⊥) → is_named wanted id ≡ false
   ne_bytes id other = go (bytes_eq id wanted.name) refl
@@ -405,21 +123,18 @@ module _ (wanted : Wanted) where
       go true e = absurd (other (same_text id wanted.name e))
       go false e = refl
 
-  help_sound : (wanted.name ≡ codes "help" → ⊥) → (i : ℕ) → Sound wanted (with_index i (filled help_rule))
+  help_sound : (wanted.name ≡ codes "help" → ⊥) → IsSoundRule (Fit wanted) help_rule
   help_sound other i = sound_other help_rule i (ne_bytes (codes "help") (λ e. other (sym e))) (λ e. cc)
 
-  version_sound : (wanted.name ≡ codes "version" → ⊥) → (i : ℕ) → Sound wanted (with_index i (filled version_rule))
+  version_sound : (wanted.name ≡ codes "version" → ⊥) → IsSoundRule (Fit wanted) version_rule
   version_sound other i = sound_other version_rule i (ne_bytes (codes "version") (λ e. other (sym e))) (λ e. cc)
 
-  rules_sound : (c : Command) → Takes wanted c → SoundEach wanted (built (app_of_command c)).top.rules
-  rules_sound c takes =
-      subst (λ (rs : List Rule). SoundEach wanted (filled_from 1 rs)) (sym (append_assoc (map rule_for c.arguments) (help_rule ∷ []) (version_rule ∷ [])))
-      (sound_rules c.arguments (help_rule ∷ version_rule ∷ []) 1 takes.arguments
-      (λ k. (help_sound takes.no_help k, (version_sound takes.no_version (index_after k (filled help_rule)), tt))))
-
-  rows_fit : (c : Command) (words : List Text) → Takes wanted c → faults_of c words ≡ [] → FitEach wanted (rows_of c words)
-  unfolding faults_of rows_of
-  rows_fit c words takes e = app_fit (built (app_of_command c)) (argument_words (app_of_command c) (named c words)) (rules_sound c takes) e
+  sound : (c : Command) → Takes wanted c → SoundCommand (Fit wanted) c
+  sound c takes = record {
+    arguments = All-weaker (IsNumbered wanted) (IsSound (Fit wanted)) (λ a numbered i. sound_argument a i numbered) c.arguments takes.arguments;
+    help = help_sound takes.no_help;
+    version = version_sound takes.no_version;
+  }
 
   natural_within : (word : Text) → accepts false (bounds_of wanted) word ≡ true → IfSome (natural_of (without_leading_plus word)) (IsWithin wanted.low wanted.high)
   unfolding natural_of
@@ -437,7 +152,7 @@ module _ (wanted : Wanted) where
   first_within how [] is h = tt
   first_within how (v ∷ vs) is h = rw is (natural_within v h.0)
 
-  number_within : (rows : List Row) → FitEach wanted rows → IfSome (number_at wanted.name rows) (IsWithin wanted.low wanted.high)
+  number_within : (rows : List Row) → FitEach (Fit wanted) rows → IfSome (number_at wanted.name rows) (IsWithin wanted.low wanted.high)
   number_within [] h = tt
   number_within (row ∷ rows) h = go (number_within rows h.1) (bytes_eq row.id wanted.name) refl
     where
@@ -448,4 +163,48 @@ module _ (wanted : Wanted) where
       go later false e = later
 
 pub within_bounds : NumbersAreWithinBounds
-within_bounds c wanted words takes e = number_within wanted (rows_of c words) (rows_fit wanted c words takes e)
+within_bounds c wanted words takes e = number_within wanted (rows_of c words) (rows_fit (Fit wanted) (joined wanted) c words (sound wanted c takes) e)
+
+-- ---- that a command takes these numbers, by computing it
+abbrev is_number : Wanted → Form → Bool
+is_number w (number low high) = low == w.low && high == w.high
+is_number w form = false
+
+abbrev pub is_numbered : Wanted → Argument → Bool
+is_numbered w a = if is_named w a.name then is_number w a.form else true
+
+number_is : (w : Wanted) (form : Form) → is_number w form ≡ true → form ≡ number w.low w.high
+number_is w (number low high) e =
+    let parts = both (low == w.low) (high == w.high) e in
+    ap₂ number (eqb-true low w.low parts.0) (eqb-true high w.high parts.1)
+number_is w flag e = cc
+number_is w any_text e = cc
+number_is w (one_of words) e = cc
+number_is w positional e = cc
+number_is w (positionals required) e = cc
+
+numbered : (w : Wanted) (a : Argument) → is_numbered w a ≡ true → IsNumbered w a
+numbered w a e same =
+    number_is w a.form (sym (ap (λ (b : Bool). if b then is_number w a.form else true) ((bytes_eq-Decides a.name w.name).1 same)) ∙ e)
+
+numbered_each : (w : Wanted) (arguments : List Argument) → list_all (is_numbered w) arguments ≡ true → All (IsNumbered w) arguments
+numbered_each w [] e = All-nil (IsNumbered w)
+numbered_each w (a ∷ others) e =
+    let parts = both (is_numbered w a) (list_all (is_numbered w) others) e in
+    All-cons (IsNumbered w) a others (numbered w a parts.0) (numbered_each w others parts.1)
+
+other_text : (a b : Text) → bytes_eq a b ≡ false → a ≡ b → ⊥
+other_text a b e same = false≢true (sym e ∙ (bytes_eq-Decides a b).1 same)
+
+pub takes_from : (c : Command) (w : Wanted) → list_all (is_numbered w) c.arguments ≡ true → bytes_eq w.name (codes "help") ≡ false
+    → bytes_eq w.name (codes "version") ≡ false → Takes w c
+takes_from c w arguments help version = record {
+  arguments = numbered_each w c.arguments arguments;
+  no_help = other_text w.name (codes "help") help;
+  no_version = other_text w.name (codes "version") version;
+}
+
+-- a number that is this one where none is given
+pub or_default : (low high default : ℕ) (o : Option ℕ) → IsWithin low high default → IfSome o (IsWithin low high) → IsWithin low high (unwrap_or o default)
+or_default low high default None is h = is
+or_default low high default (Some n) is h = h

@@ -5,3 +5,5 @@ pub mod ExampleWords
 pub mod Faults
 pub mod Meaning
 pub mod Numbers
+pub mod Required
+pub mod Rows

@@ -17,8 +17,8 @@ use Rattle.dk_merge.specs.Merged.{AreTaken}
 use Rattle.dk_merge.specs.Outputs.{IsDoneOutput, IsRefusedInTurns, IsRefusedOutput}
 use Rattle.dk_merge.specs.Statuses.{AreRead, CompletesCalmly, EndsAs, IsComplete, IsRefused, IsRefusedLater, IsUnread, Says, helds_of}
 use Rattle.dk_merge_words.specs.declared.command.Command.{Command}
-use Rattle.dk_merge_words.specs.declared.command.Request.{Request}
-use Rattle.dk_merge_words.specs.declared.command.Request.TheVariants.{Run}
+use Rattle.dk_arguments.specs.declared.request.Request.{Request}
+use Rattle.dk_arguments.specs.declared.request.Request.TheVariants.{Run}
 
 -- a file that is held is not left unread
 not_unread : (command : Command) (before after : Outside) (output : Output) (n : ℕ) (contents : List (List ℕ)) → IsCalm before after → AreHeldFiles (take n (helds_of command before.file)) contents
@@ -118,6 +118,6 @@ module _ (command : Command) (before after : Outside) (calm : IsCalm before afte
 pub complete_of : (command : Command) (before after : Outside) (result : Ended) → Says result (Some (Run command)) before after → IsCalm before after → IsComplete command before after result
 complete_of command before after result says calm = record { whole = whole_of command before after calm result says; refused = refused_of command before after calm result says }
 
-pub complete_says : (asked : Option Request) (command : Command) (before after : Outside) (result : Ended) → asked ≡ Some (Run command) → Says result (Some (Run command)) before after
+pub complete_says : (asked : Option (Request Command)) (command : Command) (before after : Outside) (result : Ended) → asked ≡ Some (Run command) → Says result (Some (Run command)) before after
     → CompletesCalmly asked before after result
-complete_says asked command before after result is says = subst (λ (r : Option Request). CompletesCalmly r before after result) (sym is) (complete_of command before after result says)
+complete_says asked command before after result is says = subst (λ (r : Option (Request Command)). CompletesCalmly r before after result) (sym is) (complete_of command before after result says)

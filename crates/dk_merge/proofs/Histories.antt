@@ -39,8 +39,8 @@ use Rattle.dk_merge.specs.Merged.{AreMergedTo, IsNoState, IsRefusedBehind, Merge
 use Rattle.dk_merge.specs.Outputs.{IsDoneOutput, IsMergedOutput, IsRefusedInTurns, IsRefusedOutput, IsStateOutput, state_output}
 use Rattle.dk_merge.specs.Statuses.{EndsAs, IsComplete}
 use Rattle.dk_merge_words.specs.declared.command.Command.{Command}
-use Rattle.dk_merge_words.specs.declared.command.Request.{Request}
-use Rattle.dk_merge_words.specs.declared.command.Request.TheVariants.{Run}
+use Rattle.dk_arguments.specs.declared.request.Request.{Request}
+use Rattle.dk_arguments.specs.declared.request.Request.TheVariants.{Run}
 
 -- the own samples of a point in all of these
 abbrev pub all_at : List OwnSamples → ℕ → List (List Value)
@@ -286,6 +286,6 @@ histories_of command before after result named complete h hs calm none has held 
   by (inr (inr (inl (is, (output, refused, written))))) = let turns = refused.turns in absurd (cc (none, turns))
   by (inr (inr (inr is))) = inr is
 
-pub histories_say : (asked : Option Request) (command : Command) (before after : Outside) (result : Ended) → asked ≡ Some (Run command) → 0 < length command.files
+pub histories_say : (asked : Option (Request Command)) (command : Command) (before after : Outside) (result : Ended) → asked ≡ Some (Run command) → 0 < length command.files
     → (IsCalm before after → IsComplete command before after result) → MergesHistories asked before after result
-histories_say asked command before after result is named complete = subst (λ (r : Option Request). MergesHistories r before after result) (sym is) (histories_of command before after result named complete)
+histories_say asked command before after result is named complete = subst (λ (r : Option (Request Command)). MergesHistories r before after result) (sym is) (histories_of command before after result named complete)

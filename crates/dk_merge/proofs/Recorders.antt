@@ -18,8 +18,8 @@ use Rattle.dk_merge.specs.Outputs.{IsDoneOutput, IsRefusedInTurns, IsRefusedOutp
 use Rattle.dk_merge.specs.Recorders.{WritesAsWithoutTurns}
 use Rattle.dk_merge.specs.Statuses.{EndsAs, IsComplete}
 use Rattle.dk_merge_words.specs.declared.command.Command.{Command}
-use Rattle.dk_merge_words.specs.declared.command.Request.{Request}
-use Rattle.dk_merge_words.specs.declared.command.Request.TheVariants.{Run}
+use Rattle.dk_arguments.specs.declared.request.Request.{Request}
+use Rattle.dk_arguments.specs.declared.request.Request.TheVariants.{Run}
 
 tells_at_the_end : (least : ℕ) → TellsAtTheEnd (turns_command least)
 tells_at_the_end least = record { every = refl; stats = refl; ignores = refl }
@@ -67,6 +67,6 @@ written_of command before after result some complete n contents h calm turns hel
   by (inr (inr (inl (is, (output, refused, written))))) = absurd (no_line_refused command n contents h turns one accepted are output refused)
   by (inr (inr (inr is))) = inr is
 
-pub recorders_say : (asked : Option Request) (command : Command) (before after : Outside) (result : Ended) → asked ≡ Some (Run command) → IfSome command.turns (λ n. 1 ≤ n)
+pub recorders_say : (asked : Option (Request Command)) (command : Command) (before after : Outside) (result : Ended) → asked ≡ Some (Run command) → IfSome command.turns (λ n. 1 ≤ n)
     → (IsCalm before after → IsComplete command before after result) → WritesAsWithoutTurns asked before after result
-recorders_say asked command before after result is some complete = subst (λ (r : Option Request). WritesAsWithoutTurns r before after result) (sym is) (written_of command before after result some complete)
+recorders_say asked command before after result is some complete = subst (λ (r : Option (Request Command)). WritesAsWithoutTurns r before after result) (sym is) (written_of command before after result some complete)

@@ -31,11 +31,11 @@ use Rattle.dk_merge.specs.declared.reading.Trouble.{Trouble}
 use Rattle.dk_merge.specs.declared.reading.Trouble.TheVariants as t
 use Rattle.dk_merge_words.specs.Texts.{help_text, usage_line, version_text}
 use Rattle.dk_merge_words.specs.declared.command.Command.{Command}
-use Rattle.dk_merge_words.specs.declared.command.Request.{Request}
-use Rattle.dk_merge_words.specs.declared.command.Request.TheVariants.{Run, Help, Version}
+use Rattle.dk_arguments.specs.declared.request.Request.{Request}
+use Rattle.dk_arguments.specs.declared.request.Request.TheVariants.{Run, Help, Version}
 
 -- a run that comes to an end and told its output says so
-comes_to_says : (status : Ended) (request : Option Request) (before after : Outside) (output : Output)
+comes_to_says : (status : Ended) (request : Option (Request Command)) (before after : Outside) (output : Output)
     → ComesTo status request before after output → OutputIsWritten before after output → Says status request before after
 comes_to_says Done request before after output comes e = (output, comes, e)
 comes_to_says Refused request before after output comes e = (output, comes, e)
@@ -51,7 +51,7 @@ comes_to_says NoMemory (Some Version) before after output comes e = absurd comes
 comes_to_says NoMemory None before after output comes e = absurd comes
 
 -- a text alone
-only_says : (status : Ended) (request : Option Request) (before after : Outside) (stream : Stream) (text : List ℕ) (result : Ended) → ComesTo status request before after (only_on stream text)
+only_says : (status : Ended) (request : Option (Request Command)) (before after : Outside) (stream : Stream) (text : List ℕ) (result : Ended) → ComesTo status request before after (only_on stream text)
     → EndsWith status stream text before.written after.written before.write_faults after.write_faults result → Says result request before after
 only_says status request before after stream text result comes (inl (is, e, calm)) =
     subst (λ (s : Ended). Says s request before after) (sym is) (comes_to_says status request before after (only_on stream text) comes (e ∙ followed_only before.written stream text, calm))
@@ -61,7 +61,7 @@ only_says status request before after stream text result comes (inr (inl (is, ro
 only_says status request before after stream text result comes (inr (inr (is, e, calm))) = subst (λ (s : Ended). Says s request before after) (sym is) (calm, inl e)
 
 -- nothing was written where memory ran out
-pub memory_says : (request : Option Request) (before after : Outside) (result : Ended) → result ≡ NoMemory → after.written ≡ before.written → after.write_faults ≡ before.write_faults → Says result request before after
+pub memory_says : (request : Option (Request Command)) (before after : Outside) (result : Ended) → result ≡ NoMemory → after.written ≡ before.written → after.write_faults ≡ before.write_faults → Says result request before after
 memory_says request before after result is e calm = subst (λ (s : Ended). Says s request before after) (sym is) (calm, inl e)
 
 -- ---- all files were read
@@ -208,23 +208,23 @@ trouble_says command before after place trouble name result is within gives ende
     (subst (λ (n : List ℕ). EndsBy n trouble before.written after.written before.write_faults after.write_faults result) is ended)
 
 -- ---- texts that the words ask for
-text_says : (status : Ended) (request asked : Option Request) (before after : Outside) (stream : Stream) (own text : List ℕ) (result : Ended) → asked ≡ request → own ≡ text
+text_says : (status : Ended) (request asked : Option (Request Command)) (before after : Outside) (stream : Stream) (own text : List ℕ) (result : Ended) → asked ≡ request → own ≡ text
     → ComesTo status request before after (only_on stream text)
     → EndsWith status stream own before.written after.written before.write_faults after.write_faults result → Says result asked before after
 text_says status request asked before after stream own text result is same comes ended =
-    subst (λ (r : Option Request). Says result r before after) (sym is)
+    subst (λ (r : Option (Request Command)). Says result r before after) (sym is)
     (only_says status request before after stream text result comes
     (subst (λ (l : List ℕ). EndsWith status stream l before.written after.written before.write_faults after.write_faults result) same ended))
 
-pub help_says : (asked : Option Request) (before after : Outside) (text : List ℕ) (result : Ended) → asked ≡ Some Help → text ≡ help_text
+pub help_says : (asked : Option (Request Command)) (before after : Outside) (text : List ℕ) (result : Ended) → asked ≡ Some Help → text ≡ help_text
     → EndsWith Done Report text before.written after.written before.write_faults after.write_faults result → Says result asked before after
 help_says asked before after text result is same ended = text_says Done (Some Help) asked before after Report text help_text result is same refl ended
 
-pub version_says : (asked : Option Request) (before after : Outside) (text : List ℕ) (result : Ended) → asked ≡ Some Version → text ≡ version_text
+pub version_says : (asked : Option (Request Command)) (before after : Outside) (text : List ℕ) (result : Ended) → asked ≡ Some Version → text ≡ version_text
     → EndsWith Done Report text before.written after.written before.write_faults after.write_faults result → Says result asked before after
 version_says asked before after text result is same ended = text_says Done (Some Version) asked before after Report text version_text result is same refl ended
 
-pub usage_says : (asked : Option Request) (before after : Outside) (result : Ended) → asked ≡ None
+pub usage_says : (asked : Option (Request Command)) (before after : Outside) (result : Ended) → asked ≡ None
     → EndsWith Usage Messages usage_line before.written after.written before.write_faults after.write_faults result → Says result asked before after
 usage_says asked before after result is ended = text_says Usage None asked before after Messages usage_line usage_line result is refl refl ended
 

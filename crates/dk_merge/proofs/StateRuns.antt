@@ -19,7 +19,7 @@ use Rattle.dk_run.specs.declared.status.Status.{Status}
 use Rattle.dk_run.specs.declared.status.Status.TheVariants.{Done, Refused, Usage, Read, Write, NoMemory}
 use Rattle.dk_state.specs.Spelling.{IsSpelling}
 use Rattle.dk_words.specs.declared.command.Command.{Command}
-use Rattle.dk_words.specs.declared.request.Request.TheVariants.{Run}
+use Rattle.dk_arguments.specs.declared.request.Request.TheVariants.{Run}
 use Rattle.dk_merge.proofs.Ending.{ends_early, followed_nothing, followed_state, front_of_nothing, only_report}
 use Rattle.dk_merge.specs.Ending.{EndsWith}
 use Rattle.dk_merge.specs.Outputs.{IsStateFront, IsStateOutput, no_output, plain_command}

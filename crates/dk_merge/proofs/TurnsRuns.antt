@@ -17,7 +17,7 @@ use Rattle.dk_run.specs.Outputs.{IsFront, Output, only_on, output_at, output_of,
 use Rattle.dk_run.specs.Statuses.{AtStart, Break, ComesTo, HasBroken, IsCutShort, IsUnread, Outside, Says, Within, held_file_at}
 use Rattle.dk_run.specs.declared.status.Status.{Status}
 use Rattle.dk_run.specs.declared.status.Status.TheVariants.{Done, Refused, Usage, Read, Write, NoMemory}
-use Rattle.dk_words.specs.declared.request.Request.TheVariants.{Run}
+use Rattle.dk_arguments.specs.declared.request.Request.TheVariants.{Run}
 use Rattle.dk_merge.proofs.Ending.{ends_early, followed_nothing, front_of_nothing, nothing_front}
 use Rattle.dk_merge.specs.Outputs.{no_output, turns_command, turns_fault, turns_name, turns_output}
 use Rattle.dk_merge.specs.Running.{TurnsEnd, ended_of, status_over}

@@ -11,8 +11,9 @@ use Rattle.dk_run.specs.Statuses.{IsCalm, Outside}
 use Rattle.dk_merge.specs.Merged.{bytes_in, whole_limit}
 use Rattle.dk_merge.specs.Outputs.{state_output}
 use Rattle.dk_merge.specs.Statuses.{helds_of}
-use Rattle.dk_merge_words.specs.declared.command.Request.{Request}
-use Rattle.dk_merge_words.specs.declared.command.Request.TheVariants.{Run}
+use Rattle.dk_arguments.specs.declared.request.Request.{Request}
+use Rattle.dk_arguments.specs.declared.request.Request.TheVariants.{Run}
+use Rattle.dk_merge_words.specs.declared.command.Command.{Command}
 
 -- a history of the same table, comparability word and grammar
 pub record IsAlike (h other : History) : Type 0 where
@@ -30,7 +31,7 @@ pub record HasAllOf (h : History) (hs : List History) : Type 0 where
 
 -- Without turns, let the files be the state files of histories, in any order, and let no fault of the outside rise. Then the state is that
 -- of the history with the samples of all, and the report is its last one; or memory runs out.
-abbrev pub MergesHistories : Option Request → Outside → Outside → Ended → Type 0
+abbrev pub MergesHistories : Option (Request Command) → Outside → Outside → Ended → Type 0
 MergesHistories (Some (Run command)) before after result =
     (h : History) (hs : List History) → IsCalm before after → command.turns ≡ None → HasAllOf h hs
     → AreHeldFiles (helds_of command before.file) (map state_file hs) → bytes_in (map state_file hs) ≤ whole_limit

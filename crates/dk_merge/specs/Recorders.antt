@@ -11,12 +11,13 @@ use Rattle.dk_run.specs.Statuses.{IsCalm, Outside}
 use Rattle.dk_merge.specs.Merged.{bytes_in, whole_limit}
 use Rattle.dk_merge.specs.Outputs.{turns_output}
 use Rattle.dk_merge.specs.Statuses.{helds_of}
-use Rattle.dk_merge_words.specs.declared.command.Request.{Request}
-use Rattle.dk_merge_words.specs.declared.command.Request.TheVariants.{Run}
+use Rattle.dk_arguments.specs.declared.request.Request.{Request}
+use Rattle.dk_arguments.specs.declared.request.Request.TheVariants.{Run}
+use Rattle.dk_merge_words.specs.declared.command.Command.{Command}
 
 -- With turns, let the files be those of recorders that are accepted as one file without turns, and let no fault of the outside rise. Then
 -- each stream gets what daikon writes of that file, whatever the number of turns; or memory runs out.
-abbrev pub WritesAsWithoutTurns : Option Request → Outside → Outside → Ended → Type 0
+abbrev pub WritesAsWithoutTurns : Option (Request Command) → Outside → Outside → Ended → Type 0
 WritesAsWithoutTurns (Some (Run command)) before after result =
     (n : ℕ) (contents : List (List ℕ)) (h : History) → IsCalm before after → command.turns ≡ Some n
     → AreHeldFiles (helds_of command before.file) contents → bytes_in contents ≤ whole_limit

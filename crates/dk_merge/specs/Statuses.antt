@@ -15,8 +15,8 @@ use Rattle.dk_merge.specs.Merged.{AreTaken, IsReason, IsRefusedBehind, bytes_in,
 use Rattle.dk_merge.specs.Outputs.{IsDoneFront, IsDoneOutput, IsRefusedInTurns, IsRefusedOutput, turns_fault, turns_name, turns_output}
 use Rattle.dk_merge_words.specs.Texts.{help_text, usage_line, version_text}
 use Rattle.dk_merge_words.specs.declared.command.Command.{Command}
-use Rattle.dk_merge_words.specs.declared.command.Request.{Request}
-use Rattle.dk_merge_words.specs.declared.command.Request.TheVariants.{Run, Help, Version}
+use Rattle.dk_arguments.specs.declared.request.Request.{Request}
+use Rattle.dk_arguments.specs.declared.request.Request.TheVariants.{Run, Help, Version}
 
 -- ---- what was read
 -- what is told of the files that the words name, in order
@@ -88,7 +88,7 @@ pub record IsUnread (command : Command) (before after : Outside) (output : Outpu
   pub message : output ≡ only_on stream.Messages (unread_line (file_name_at command.files place))
 
 -- A run that is asked for so comes to this status, and has this output, unless a write fails or memory runs out before.
-abbrev pub ComesTo : Ended → Option Request → Outside → Outside → Output → Type 0
+abbrev pub ComesTo : Ended → Option (Request Command) → Outside → Outside → Output → Type 0
 ComesTo Done (Some (Run command)) before after output = IsDone command before after output
 ComesTo Done (Some Help) before after output = output ≡ only_on stream.Report help_text
 ComesTo Done (Some Version) before after output = output ≡ only_on stream.Report version_text
@@ -107,12 +107,12 @@ pub record IsCutAtEnd (command : Command) (before after : Outside) : Type 0 wher
   pub of_output : (contents : List (List ℕ)) → AreHeldFiles (helds_of command before.file) contents
       → IsDoneFront command.turns command.least contents front
 
-abbrev pub IsCutInRun : Option Request → Outside → Outside → Type 0
+abbrev pub IsCutInRun : Option (Request Command) → Outside → Outside → Type 0
 IsCutInRun (Some (Run command)) before after = IsCutAtEnd command before after
 IsCutInRun request before after = ⊥
 
 -- Each stream got nothing; or a front of what follows when all files were read; or a front of the output that the run comes to.
-abbrev pub IsCutShort : Option Request → Outside → Outside → Type 0
+abbrev pub IsCutShort : Option (Request Command) → Outside → Outside → Type 0
 IsCutShort request before after =
     (after.written ≡ before.written)
     ⊎ IsCutInRun request before after
@@ -120,7 +120,7 @@ IsCutShort request before after =
     × FollowedByFront before.written after.written output)
 
 -- ---- what each status says
-abbrev pub Says : Ended → Option Request → Outside → Outside → Type 0
+abbrev pub Says : Ended → Option (Request Command) → Outside → Outside → Type 0
 Says Write request before after = Rose before.write_faults after.write_faults × IsCutShort request before after
 Says NoMemory request before after = (after.write_faults ≡ before.write_faults) × IsCutShort request before after
 Says status request before after = (output : Output) × ComesTo status request before after output × OutputIsWritten before after output
@@ -144,11 +144,11 @@ pub record IsComplete (command : Command) (before after : Outside) (result : End
       → EndsAs Refused (IsRefusedOutput command contents) result before after ⊎ (result ≡ NoMemory)
 
 -- what is asked for is a run
-abbrev pub IsARun : Option Request → Type 0
+abbrev pub IsARun : Option (Request Command) → Type 0
 IsARun (Some (Run command)) = Unit {0}
 IsARun request = ⊥
 
 -- The run is complete, where one is asked for.
-abbrev pub CompletesCalmly : Option Request → Outside → Outside → Ended → Type 0
+abbrev pub CompletesCalmly : Option (Request Command) → Outside → Outside → Ended → Type 0
 CompletesCalmly (Some (Run command)) before after result = IsCalm before after → IsComplete command before after result
 CompletesCalmly request before after result = Unit {0}

@@ -15,7 +15,7 @@ pub(crate) enum Gathered {
     /// Of states the one that they come to, merged from the left; none of no files.
     State(Option<Text>),
     /// Of traces all, and how many blocks of each are taken in turn.
-    Traces(u32, List<Text>),
+    Traces(u64, List<Text>),
 }
 
 fn trouble_of_merge(fault: MergeFault) -> Trouble
@@ -68,7 +68,7 @@ fn state_behind(alloc: Global, before: Option<Text>, file: Text) -> Result<Text,
 }
 
 // The traces with one more.
-fn with_trace(n: u32, files: List<Text>, file: Text) -> Result<Gathered, Trouble>
+fn with_trace(n: u64, files: List<Text>, file: Text) -> Result<Gathered, Trouble>
     ensures { TakesFile (Gathered.Traces n files) file result }
 {
     let mut files = files;
@@ -80,7 +80,7 @@ fn with_trace(n: u32, files: List<Text>, file: Text) -> Result<Gathered, Trouble
 
 impl Gathered {
     /// Of no files: of states, or of traces, so many blocks of each of which are taken in turn.
-    pub(crate) fn nothing(alloc: Global, turns: Option<u32>) -> Gathered
+    pub(crate) fn nothing(alloc: Global, turns: Option<u64>) -> Gathered
         ensures turns { turns_by result ≡ turns }
         ensures sound { IsSound result }
         ensures nothing { HoldsAll [] result }

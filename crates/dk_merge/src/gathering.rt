@@ -6,10 +6,10 @@ ghost use Rattle.dk_merge.specs.Gathering.{FilesGive, HasTaken, IsSound, NotTake
 
 use crate::gathered::Gathered;
 use crate::reading::{Trouble, read_whole};
+use dk_arguments::Word;
 use dk_base::Text;
 use dk_io::Inputs;
 use dk_merge_words::Command;
-use dk_words::Word;
 use std::alloc::Global;
 
 /// What is kept of the files that were read, and how many bytes the others may have.

@@ -5,11 +5,12 @@ ghost use Rattle.dk_state.specs.Spelling.{IsSpelling};
 ghost use Rattle.dk_merge.specs.Outputs.{plain_command};
 ghost use Rattle.dk_merge.specs.Running.{ReportEnds, TurnsEnd, ended_of, holding};
 
+use dk_arguments::Word;
 use dk_base::{List, NoMemory, Text};
 use dk_events::Ended;
 use dk_io::{Sinks, SteadyInputs};
 use dk_run::{Status, run_command};
-use dk_words::{Command, Word};
+use dk_words::Command;
 use std::alloc::Global;
 
 /// How many bytes a read moves.

@@ -91,7 +91,7 @@ fn tell_state<S: Sinks>(alloc: Global, least: u64, state: &[u8], sinks: &mut S) 
 fn tell_turns<S: Sinks>(
     alloc: Global,
     least: u64,
-    n: u32,
+    n: u64,
     traces: &List<Text>,
     sinks: &mut S,
 ) -> Ended

@@ -8,14 +8,14 @@ ghost use Rattle.dk_merge.specs.Recorders.{WritesAsWithoutTurns};
 ghost use Rattle.dk_merge.specs.Statuses.{CompletesCalmly, IsARun, Says};
 ghost use Rattle.dk_merge_words.specs.Requests.{request_of};
 ghost use Rattle.dk_merge_words.specs.Texts.{usage_line as usage_text};
-ghost use Rattle.dk_merge_words.specs.declared.command.Request.TheVariants as request;
+ghost use Rattle.dk_arguments.specs.declared.request.Request.TheVariants as request;
 
 use crate::gathering::{FilesTrouble, gather, name_at};
 use crate::telling::{end_with, tell_gathered, tell_trouble};
+use dk_arguments::{ArgumentsFault, Request};
 use dk_events::Ended;
 use dk_io::{Inputs, Sinks, Stream};
-use dk_merge_words::{Command, Request, help_text, read_words, usage_line, version_text};
-use dk_words::WordsFault;
+use dk_merge_words::{Command, help_text, read_words, usage_line, version_text};
 use std::alloc::Global;
 
 /// Tells that the words are refused.
@@ -90,7 +90,7 @@ pub fn run_merge<I: Inputs, S: Sinks>(
             version_text().as_bytes(),
             Ended::Done,
         ),
-        Err(WordsFault::Refused) => tell_usage(sinks),
-        Err(WordsFault::NoMemory) => Ended::NoMemory,
+        Err(ArgumentsFault::Refused) => tell_usage(sinks),
+        Err(ArgumentsFault::NoMemory) => Ended::NoMemory,
     }
 }

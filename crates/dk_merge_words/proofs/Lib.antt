@@ -1,4 +1,2 @@
-mod Asked
-pub mod Faults
-pub mod Answering
-pub mod Ranges
+mod Examples
+pub mod Whole

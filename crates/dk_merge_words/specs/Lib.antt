@@ -2,5 +2,3 @@
 pub mod Laws
 pub mod Requests
 pub mod Texts
--- what those are made of
-pub mod Accepted

@@ -2,11 +2,11 @@
 ghost use Rattle.std.specs.Prelude.{◌≡◌};
 ghost use Rattle.dk_merge_words.specs.Texts.{help_text, usage_line, version_text};
 
-const USAGE_LINE: &str = "usage: dk_merge [--min-samples N] [--turns N] FILE...\n";
+pub(crate) const USAGE_LINE: &str = "usage: dk_merge [--min-samples N] [--turns N] FILE...\n";
 
-const VERSION_TEXT: &str = "dk_merge 0.1.0\n";
+pub(crate) const VERSION_TEXT: &str = "dk_merge 0.1.0\n";
 
-const HELP_TEXT: &str = "\
+pub(crate) const HELP_TEXT: &str = "\
 usage: dk_merge [--min-samples N] [--turns N] FILE...
 
 Merges the FILEs, states that daikon --save wrote of runs with the same

@@ -9,8 +9,8 @@ use Rattle.dk_io.specs.declared.outside.Stream.TheVariants.{Messages}
 use Rattle.dk_blocks.specs.History.{History, file_ended}
 use Rattle.dk_core.proofs.Resuming.{table_spelled}
 use Rattle.dk_words.specs.declared.command.Command.{Command}
-use Rattle.dk_words.specs.declared.request.Request.{Request}
-use Rattle.dk_words.specs.declared.request.Request.TheVariants.{Run, Help, Version}
+use Rattle.dk_arguments.specs.declared.request.Request.{Request}
+use Rattle.dk_arguments.specs.declared.request.Request.TheVariants.{Run, Help, Version}
 use Rattle.dk_run.specs.Commands.{file_names, helds_of}
 use Rattle.dk_run.specs.Courses.{Course, Outset, behind_histories, course_end, course_of, course_of_file, course_of_files, fault_in, first_fault, then_files}
 use Rattle.dk_run.specs.Starts.{Begins, BeginsLike, HasBegun, IsRefusedAs, IsState}
@@ -237,6 +237,6 @@ complete_of command before after NoMemory cut calm = record {
   state_refused = λ name xs why named holds bad. inr refl;
 }
 
-pub complete_says : (asked : Option Request) (command : Command) (before after : Outside) (result : Status) → asked ≡ Some (Run command) → Says result (Some (Run command)) before after
+pub complete_says : (asked : Option (Request Command)) (command : Command) (before after : Outside) (result : Status) → asked ≡ Some (Run command) → Says result (Some (Run command)) before after
     → CompletesCalmly asked before after result
-complete_says asked command before after result is says = subst (λ (r : Option Request). CompletesCalmly r before after result) (sym is) (complete_of command before after result says)
+complete_says asked command before after result is says = subst (λ (r : Option (Request Command)). CompletesCalmly r before after result) (sym is) (complete_of command before after result says)

@@ -16,8 +16,8 @@ use Rattle.dk_core.specs.Standing.{SessionStandsFor, blocks_of}
 use Rattle.dk_core.specs.declared.session.Session.{Session}
 use Rattle.dk_words.specs.Texts.{help_text, usage_line, version_text}
 use Rattle.dk_words.specs.declared.command.Command.{Command}
-use Rattle.dk_words.specs.declared.request.Request.{Request}
-use Rattle.dk_words.specs.declared.request.Request.TheVariants.{Run, Help, Version}
+use Rattle.dk_arguments.specs.declared.request.Request.{Request}
+use Rattle.dk_arguments.specs.declared.request.Request.TheVariants.{Run, Help, Version}
 use Rattle.dk_run.specs.AllFiles.{AreCalmUnless, AreReadTo, FilesGive, FilesTroubleGives, HasBrokenAt, IsRefusedAt, IsShortTo, IsTroubleOf, IsUnreadAt, RunGives}
 use Rattle.dk_run.specs.Commands.{file_names, generated_count, helds_of}
 use Rattle.dk_run.specs.declared.starting.Beginning.{Beginning}
@@ -76,7 +76,7 @@ only_front State n text h = record { report = refl; messages = refl; state = fro
 
 -- ---- ends with a text
 -- a run that comes to an end and told its output says so
-comes_to_says : (status : Status) (request : Option Request) (before after : Outside) (output : Output)
+comes_to_says : (status : Status) (request : Option (Request Command)) (before after : Outside) (output : Output)
     → ComesTo status request before after output → OutputIsWritten before after output → Says status request before after
 comes_to_says Done request before after output comes e = (output, comes, e)
 comes_to_says Refused request before after output comes e = (output, comes, e)
@@ -92,7 +92,7 @@ comes_to_says NoMemory (Some Version) before after output comes e = absurd comes
 comes_to_says NoMemory None before after output comes e = absurd comes
 
 -- a text alone
-pub only_says : (status : Status) (request : Option Request) (before after : Outside) (stream : Stream) (text : List ℕ) (result : Status) → ComesTo status request before after (only_on stream text)
+pub only_says : (status : Status) (request : Option (Request Command)) (before after : Outside) (stream : Stream) (text : List ℕ) (result : Status) → ComesTo status request before after (only_on stream text)
     → EndsWith status stream text before.written after.written before.write_faults after.write_faults result → Says result request before after
 only_says status request before after stream text result comes (inl (is, e, calm)) =
     subst (λ (s : Status). Says s request before after) (sym is) (comes_to_says status request before after (only_on stream text) comes (e ∙ followed_only before.written stream text, calm))
@@ -102,7 +102,7 @@ only_says status request before after stream text result comes (inr (inl (is, ro
 only_says status request before after stream text result comes (inr (inr (is, e, calm))) = subst (λ (s : Status). Says s request before after) (sym is) (calm, inl e)
 
 -- a message behind the first line and a report
-message_says : (status : Status) (request : Option Request) (before after : Outside) (line report text : List ℕ) (mid : Texts) (between : ℕ) (result : Status)
+message_says : (status : Status) (request : Option (Request Command)) (before after : Outside) (line report text : List ℕ) (mid : Texts) (between : ℕ) (result : Status)
     → ComesTo status request before after (so_far (line ++ text) report) → mid ≡ with_bytes (with_bytes before.written Messages line) Report report → between ≡ before.write_faults
     → EndsWith status Messages text mid after.written between after.write_faults result → Says result request before after
 message_says status request before after line report text mid between result comes is calm (inl (same, e, unfailed)) =
@@ -418,20 +418,20 @@ run_gives command file before rest text (Ok session) new gives = (room_of new, g
 run_gives command file before rest text (Err trouble) new gives = gives
 
 -- ---- words that ask for no run
-pub help_says : (asked : Option Request) (before after : Outside) (text : List ℕ) (result : Status) → asked ≡ Some Help → text ≡ help_text
+pub help_says : (asked : Option (Request Command)) (before after : Outside) (text : List ℕ) (result : Status) → asked ≡ Some Help → text ≡ help_text
     → EndsWith Done Report text before.written after.written before.write_faults after.write_faults result → Says result asked before after
 help_says asked before after text result is same ended =
-    subst (λ (r : Option Request). Says result r before after) (sym is) (only_says Done (Some Help) before after Report text result (ap (only_on Report) same) ended)
+    subst (λ (r : Option (Request Command)). Says result r before after) (sym is) (only_says Done (Some Help) before after Report text result (ap (only_on Report) same) ended)
 
-pub version_says : (asked : Option Request) (before after : Outside) (text : List ℕ) (result : Status) → asked ≡ Some Version → text ≡ version_text
+pub version_says : (asked : Option (Request Command)) (before after : Outside) (text : List ℕ) (result : Status) → asked ≡ Some Version → text ≡ version_text
     → EndsWith Done Report text before.written after.written before.write_faults after.write_faults result → Says result asked before after
 version_says asked before after text result is same ended =
-    subst (λ (r : Option Request). Says result r before after) (sym is) (only_says Done (Some Version) before after Report text result (ap (only_on Report) same) ended)
+    subst (λ (r : Option (Request Command)). Says result r before after) (sym is) (only_says Done (Some Version) before after Report text result (ap (only_on Report) same) ended)
 
-pub usage_says : (asked : Option Request) (before after : Outside) (result : Status) → asked ≡ None
+pub usage_says : (asked : Option (Request Command)) (before after : Outside) (result : Status) → asked ≡ None
     → EndsWith Usage Messages usage_line before.written after.written before.write_faults after.write_faults result → Says result asked before after
 usage_says asked before after result is ended =
-    subst (λ (r : Option Request). Says result r before after) (sym is) (only_says Usage None before after Messages usage_line result refl ended)
+    subst (λ (r : Option (Request Command)). Says result r before after) (sym is) (only_says Usage None before after Messages usage_line result refl ended)
 
 -- ---- ends behind a trouble
 pub unread_ends : (text other : List ℕ) (old new : Texts) (before after : ℕ) (result : Status) → text ≡ other → EndsWith Read Messages text old new before after result → EndsWith Read Messages other old new before after result

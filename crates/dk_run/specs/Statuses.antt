@@ -8,8 +8,8 @@ use Rattle.dk_io.specs.Streams.{Texts}
 use Rattle.dk_io.specs.declared.outside.Stream.TheVariants as stream
 use Rattle.dk_words.specs.Texts.{help_text, version_text}
 use Rattle.dk_words.specs.declared.command.Command.{Command}
-use Rattle.dk_words.specs.declared.request.Request.{Request}
-use Rattle.dk_words.specs.declared.request.Request.TheVariants.{Run, Help, Version}
+use Rattle.dk_arguments.specs.declared.request.Request.{Request}
+use Rattle.dk_arguments.specs.declared.request.Request.TheVariants.{Run, Help, Version}
 use Rattle.dk_run.specs.Commands.{file_names, generated_count, helds_of}
 use Rattle.dk_run.specs.Courses.{Outset, course_of, first_fault, total_limit}
 use Rattle.dk_run.specs.Starts.{Begins, BeginsLike, HasBegun, IsRefusedAs, rest_begun}
@@ -177,7 +177,7 @@ pub record IsUnread (command : Command) (before after : Outside) (output : Outpu
       UnreadGives by start command place (held_file_at (helds_of command before.file) place) before after output contents
 
 -- A run that is asked for so comes to this status, and has this output, unless a write fails or memory runs out before.
-abbrev pub ComesTo : Status → Option Request → Outside → Outside → Output → Type 0
+abbrev pub ComesTo : Status → Option (Request Command) → Outside → Outside → Output → Type 0
 ComesTo Done (Some (Run command)) before after output = IsDone command before after output
 ComesTo Done (Some Help) before after output = output ≡ only_on stream.Report help_text
 ComesTo Done (Some Version) before after output = output ≡ only_on stream.Report version_text
@@ -218,12 +218,12 @@ pub record IsCutAtEnd (command : Command) (before after : Outside) : Type 0 wher
       → AreHeldFiles (helds_of command before.file) contents
       → IsFront front (output_of start command (map ended_file contents))
 
-abbrev pub IsCutInRun : Option Request → Outside → Outside → Type 0
+abbrev pub IsCutInRun : Option (Request Command) → Outside → Outside → Type 0
 IsCutInRun (Some (Run command)) before after = IsCutWithin command before after ⊎ IsCutAtEnd command before after
 IsCutInRun request before after = ⊥
 
 -- Each stream got a front of its text: nothing; or as far as a run came; or a front of the output that the run comes to.
-abbrev pub IsCutShort : Option Request → Outside → Outside → Type 0
+abbrev pub IsCutShort : Option (Request Command) → Outside → Outside → Type 0
 IsCutShort request before after =
     (after.written ≡ before.written)
     ⊎ IsCutInRun request before after
@@ -235,7 +235,7 @@ IsCutShort request before after =
 abbrev pub OutputIsWritten : Outside → Outside → Output → Type 0
 OutputIsWritten before after output = (after.written ≡ texts_followed_by before.written output) × (after.write_faults ≡ before.write_faults)
 
-abbrev pub Says : Status → Option Request → Outside → Outside → Type 0
+abbrev pub Says : Status → Option (Request Command) → Outside → Outside → Type 0
 Says Write request before after = Rose before.write_faults after.write_faults × IsCutShort request before after
 Says NoMemory request before after = (after.write_faults ≡ before.write_faults) × IsCutShort request before after
 Says status request before after = (output : Output) × ComesTo status request before after output × OutputIsWritten before after output
@@ -279,11 +279,11 @@ pub record IsComplete (command : Command) (before after : Outside) (result : Sta
       → GivesOutput Refused (only_on stream.Messages (fault_line name 0 why)) result before after
 
 -- what is asked for is a run
-abbrev pub IsARun : Option Request → Type 0
+abbrev pub IsARun : Option (Request Command) → Type 0
 IsARun (Some (Run command)) = Unit {0}
 IsARun request = ⊥
 
 -- The run is complete, where one is asked for.
-abbrev pub CompletesCalmly : Option Request → Outside → Outside → Status → Type 0
+abbrev pub CompletesCalmly : Option (Request Command) → Outside → Outside → Status → Type 0
 CompletesCalmly (Some (Run command)) before after result = IsCalm before after → IsComplete command before after result
 CompletesCalmly request before after result = Unit {0}

@@ -7,7 +7,7 @@ ghost use Rattle.dk_core.specs.Selecting.{SelectsBy};
 ghost use Rattle.dk_core.specs.Standing.{select_of};
 ghost use Rattle.dk_words.specs.Requests.{request_of};
 ghost use Rattle.dk_words.specs.Texts.{usage_line as usage_text};
-ghost use Rattle.dk_words.specs.declared.request.Request.TheVariants as request;
+ghost use Rattle.dk_arguments.specs.declared.request.Request.TheVariants as request;
 ghost use Rattle.dk_run.specs.AllFiles.{AreCalmBut, IsCaused, IsTroubleOf, RunGives};
 ghost use Rattle.dk_run.specs.Commands.{file_names, helds_of, is_selected as selects_name};
 ghost use Rattle.dk_run.specs.Beginning.{HasCome, IsBegun};
@@ -24,13 +24,14 @@ use crate::reading::{FilesTrouble, read_files, read_generated};
 use crate::reporting::{Halt, tell_last, tell_state, write};
 use crate::starting::{Beginning, StartTrouble, begin};
 use crate::status::Status;
+use dk_arguments::{ArgumentsFault, Request};
 use dk_base::Why;
 use dk_core::Session;
 use dk_generate::generated_line;
 use dk_io::{Failed, Inputs, Sinks, Stream, write_all};
 use dk_lines::{Limits, Lines};
 use dk_print::fault;
-use dk_words::{Command, Request, WordsFault, help_text, read_words, usage_line, version_text};
+use dk_words::{Command, help_text, read_words, usage_line, version_text};
 use std::alloc::Global;
 
 // Writes a text and answers the status, or that the write failed.
@@ -295,7 +296,7 @@ pub fn run<I: Inputs, S: Sinks>(
             version_text().as_bytes(),
             Status::Done,
         ),
-        Err(WordsFault::Refused) => tell_usage(sinks),
-        Err(WordsFault::NoMemory) => Status::NoMemory,
+        Err(ArgumentsFault::Refused) => tell_usage(sinks),
+        Err(ArgumentsFault::NoMemory) => Status::NoMemory,
     }
 }

@@ -65,7 +65,7 @@ fn from_sample(bytes: &[u8]) -> &[u8]
 /// no sample block is left.
 pub(crate) fn push_sample_blocks<'a>(
     text: &mut Text,
-    n: u32,
+    n: u64,
     file: &'a [u8],
 ) -> Result<&'a [u8], NoMemory>
     ensures text { OnOk result (text.new ≡ fold with_block text.old (take n (sample_blocks file.entry.now))) }

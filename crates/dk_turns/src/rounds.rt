@@ -25,7 +25,7 @@ fn keep_some<'a>(left: &mut Vec<&'a [u8]>, file: &'a [u8]) -> Result<(), NoMemor
 fn push_round<'a>(
     alloc: Global,
     text: &mut Text,
-    n: u32,
+    n: u64,
     files: &[&'a [u8]],
 ) -> Result<Vec<&'a [u8]>, NoMemory>
     ensures text { OnOk result (text.new ≡ fold with_block text.old (flat_map (take n) (map (λ file. sample_blocks file.now) files.now))) }
@@ -41,7 +41,7 @@ fn push_round<'a>(
 }
 
 // The sample blocks of all files go behind the text, in rounds until none is left.
-fn push_rounds(alloc: Global, text: &mut Text, n: u32, files: Vec<&[u8]>) -> Result<(), NoMemory>
+fn push_rounds(alloc: Global, text: &mut Text, n: u64, files: Vec<&[u8]>) -> Result<(), NoMemory>
     requires { 0 < n }
     ensures { OnOk result (text.new ≡ fold with_block text.old (in_rounds n (map (λ file. sample_blocks file.now) files.entry.items))) }
 {
@@ -55,7 +55,7 @@ fn push_rounds(alloc: Global, text: &mut Text, n: u32, files: Vec<&[u8]>) -> Res
 /// The files as one text: file by file the blocks without a sample, and then `n` sample blocks of the first file, `n` of the second
 /// and so on, in rounds until none is left. A block keeps its header lines and those of its record, without the blanks and tabs at
 /// their ends; comments in front of these are left out. One blank line stands between two blocks, and each line is ended by LF.
-pub fn turns(alloc: Global, n: u32, files: &List<Text>) -> Result<Text, NoMemory>
+pub fn turns(alloc: Global, n: u64, files: &List<Text>) -> Result<Text, NoMemory>
     requires { 1 ≤ n }
     ensures { IfOk result (λ text. text ≡ turns_of n files.now) }
 {

@@ -2,10 +2,11 @@
 use Rattle.std.proofs.Common.{◌≡◌, ◌∷◌, [], true, false, Some, None, codes, refl}
 use Rattle.clap.proofs.OnLiterals.{clap_on_literals}
 use Rattle.clap.specs.declared.error.kind.ErrorKind.TheVariants as kind
+use Rattle.dk_arguments.specs.Commands.{faults_of, rows_of}
+use Rattle.dk_arguments.specs.Requests.{request_of as asked_of}
+use Rattle.dk_arguments.specs.declared.request.Request.TheVariants.{Run, Help, Version}
 use Rattle.dk_base.specs.Numbers.{natural_of}
-use Rattle.dk_words.specs.Accepted.{daikon, faults_at, matches_at, named}
-use Rattle.dk_words.specs.Requests.{request_of}
-use Rattle.dk_words.specs.declared.request.Request.TheVariants.{Run, Help, Version}
+use Rattle.dk_words.specs.Requests.{daikon, request_of}
 
 -- options may stand between files, and a number may have zeros in front
 run : request_of (codes "t" ∷ codes "--min-samples" ∷ codes "001" ∷ codes "--stats" ∷ codes "--every=20" ∷ codes "u" ∷ codes "t" ∷ []) ≡ Some (Run (record {
@@ -24,7 +25,7 @@ run : request_of (codes "t" ∷ codes "--min-samples" ∷ codes "001" ∷ codes 
   generate = None;
   files = codes "t" ∷ codes "u" ∷ codes "t" ∷ [];
 }))
-unfolding request_of faults_at matches_at daikon clap_on_literals natural_of
+unfolding request_of asked_of faults_of rows_of clap_on_literals natural_of
 run = refl
 
 -- no words
@@ -44,7 +45,7 @@ default : request_of [] ≡ Some (Run (record {
   generate = None;
   files = [];
 }))
-unfolding request_of faults_at matches_at daikon clap_on_literals natural_of
+unfolding request_of asked_of faults_of rows_of clap_on_literals natural_of
 default = refl
 
 -- behind `--` each word is a file
@@ -64,7 +65,7 @@ behind : request_of (codes "--select=P" ∷ codes "--keep-parent" ∷ codes "--"
   generate = None;
   files = codes "--stats" ∷ [];
 }))
-unfolding request_of faults_at matches_at daikon clap_on_literals natural_of
+unfolding request_of asked_of faults_of rows_of clap_on_literals natural_of
 behind = refl
 
 -- a state to begin with, and one to be written
@@ -84,62 +85,62 @@ resumed : request_of (codes "--resume" ∷ codes "s" ∷ codes "--save" ∷ code
   generate = None;
   files = codes "t" ∷ [];
 }))
-unfolding request_of faults_at matches_at daikon clap_on_literals natural_of
+unfolding request_of asked_of faults_of rows_of clap_on_literals natural_of
 resumed = refl
 
 help : request_of (codes "--help" ∷ []) ≡ Some Help
-unfolding request_of faults_at matches_at daikon clap_on_literals
+unfolding request_of asked_of faults_of rows_of clap_on_literals
 help = refl
 
 help_letter : request_of (codes "t" ∷ codes "-h" ∷ []) ≡ Some Help
-unfolding request_of faults_at matches_at daikon clap_on_literals
+unfolding request_of asked_of faults_of rows_of clap_on_literals
 help_letter = refl
 
 version : request_of (codes "--version" ∷ []) ≡ Some Version
-unfolding request_of faults_at matches_at daikon clap_on_literals
+unfolding request_of asked_of faults_of rows_of clap_on_literals
 version = refl
 
 version_letter : request_of (codes "-V" ∷ []) ≡ Some Version
-unfolding request_of faults_at matches_at daikon clap_on_literals
+unfolding request_of asked_of faults_of rows_of clap_on_literals
 version_letter = refl
 
 -- an earlier fault is the only one
 unknown_first : request_of (codes "--colour" ∷ codes "--help" ∷ []) ≡ None
-unfolding request_of faults_at matches_at daikon clap_on_literals
+unfolding request_of asked_of faults_of rows_of clap_on_literals
 unknown_first = refl
 
-unknown : faults_at (named (codes "--colour" ∷ codes "t" ∷ [])) ≡ kind.UnknownArgument ∷ []
-unfolding faults_at daikon clap_on_literals
+unknown : faults_of daikon (codes "--colour" ∷ codes "t" ∷ []) ≡ kind.UnknownArgument ∷ []
+unfolding faults_of clap_on_literals
 unknown = refl
 
-too_small : faults_at (named (codes "--min-samples" ∷ codes "0" ∷ codes "t" ∷ [])) ≡ kind.ValueValidation ∷ []
-unfolding faults_at daikon clap_on_literals
+too_small : faults_of daikon (codes "--min-samples" ∷ codes "0" ∷ codes "t" ∷ []) ≡ kind.ValueValidation ∷ []
+unfolding faults_of clap_on_literals
 too_small = refl
 
-too_large : faults_at (named (codes "--every=1000000001" ∷ codes "t" ∷ [])) ≡ kind.ValueValidation ∷ []
-unfolding faults_at daikon clap_on_literals
+too_large : faults_of daikon (codes "--every=1000000001" ∷ codes "t" ∷ []) ≡ kind.ValueValidation ∷ []
+unfolding faults_of clap_on_literals
 too_large = refl
 
-twice : faults_at (named (codes "--stats" ∷ codes "--stats" ∷ [])) ≡ kind.ArgumentConflict ∷ []
-unfolding faults_at daikon clap_on_literals
+twice : faults_of daikon (codes "--stats" ∷ codes "--stats" ∷ []) ≡ kind.ArgumentConflict ∷ []
+unfolding faults_of clap_on_literals
 twice = refl
 
-resumed_twice : faults_at (named (codes "--resume" ∷ codes "s" ∷ codes "--resume=s" ∷ [])) ≡ kind.ArgumentConflict ∷ []
-unfolding faults_at daikon clap_on_literals
+resumed_twice : faults_of daikon (codes "--resume" ∷ codes "s" ∷ codes "--resume=s" ∷ []) ≡ kind.ArgumentConflict ∷ []
+unfolding faults_of clap_on_literals
 resumed_twice = refl
 
 with_value : request_of (codes "--stats=1" ∷ []) ≡ None
-unfolding request_of faults_at matches_at daikon clap_on_literals
+unfolding request_of asked_of faults_of rows_of clap_on_literals
 with_value = refl
 
 front_of_a_word : request_of (codes "--min" ∷ codes "1" ∷ codes "t" ∷ []) ≡ None
-unfolding request_of faults_at matches_at daikon clap_on_literals
+unfolding request_of asked_of faults_of rows_of clap_on_literals
 front_of_a_word = refl
 
 no_prefix : request_of (codes "--select" ∷ codes "--" ∷ codes "t" ∷ []) ≡ None
-unfolding request_of faults_at matches_at daikon clap_on_literals
+unfolding request_of asked_of faults_of rows_of clap_on_literals
 no_prefix = refl
 
 past_64_bits : request_of (codes "--generate" ∷ codes "18446744073709551616" ∷ []) ≡ None
-unfolding request_of faults_at matches_at daikon clap_on_literals
+unfolding request_of asked_of faults_of rows_of clap_on_literals
 past_64_bits = refl

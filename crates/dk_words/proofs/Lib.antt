@@ -1,5 +1,2 @@
-pub mod Answering
 pub mod Bounds
-pub mod Faults
-pub mod Numbers
 pub mod Examples

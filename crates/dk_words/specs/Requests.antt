@@ -1,33 +1,52 @@
 -- What the words of the command ask for.
-use Rattle.std.specs.Prelude.{◌≡◌, ◌≢◌, ◌∷◌, [], ℕ, Bool, List, Option, Some, None, Result, Ok, Err, codes, false, option_and_then, unwrap_or}
-use Rattle.std.specs.Option.{option_map_or}
-use Rattle.std.specs.Str.{bytes_eq}
-use Rattle.std.specs.Str.Parse.{without_leading_plus}
-use Rattle.clap.specs.Words.{Kinds, Row, Text, all_of, first_of, one_of}
-use Rattle.clap.specs.declared.error.kind.ErrorKind.{ErrorKind}
-use Rattle.clap.specs.declared.error.kind.ErrorKind.TheVariants as kind
-use Rattle.dk_base.specs.Numbers.{natural_of}
-use Rattle.dk_words.specs.Accepted.{faults_at, matches_at, named}
+use Rattle.std.specs.Prelude.{◌∷◌, [], ℕ, List, Option, Some, codes, false, unwrap_or}
+use Rattle.clap.specs.Words.{Row, Text}
+use Rattle.dk_arguments.specs.Descriptions.{Command as Described, Form, flag, number, positionals, text}
+use Rattle.dk_arguments.specs.Given.{is_given, number_at, text_at, texts_at}
+use Rattle.dk_arguments.specs.Requests.{request_of as asked_of}
+use Rattle.dk_arguments.specs.declared.request.Request.{Request}
+use Rattle.dk_words.specs.Texts.{help_text, usage_line, version_text}
 use Rattle.dk_words.specs.declared.command.Command.{Command}
-use Rattle.dk_words.specs.declared.fault.WordsFault.{WordsFault}
-use Rattle.dk_words.specs.declared.fault.WordsFault.TheVariants.{Refused, NoMemory}
-use Rattle.dk_words.specs.declared.request.Request.{Request}
-use Rattle.dk_words.specs.declared.request.Request.TheVariants.{Run, Help, Version}
 
--- the word that stands alone is given
-abbrev pub is_given : Text → List Row → Bool
-is_given name rows = option_map_or (λ text. bytes_eq text (codes "true")) (first_of name rows) false
+-- the most samples, or blocks, that words can name
+abbrev pub most : ℕ
+most = 1000000000
 
--- the number under the name; it may have a plus in front
-abbrev pub number_at : Text → List Row → Option ℕ
-number_at name rows = option_and_then (λ text. natural_of (without_leading_plus text)) (one_of name rows)
+-- the numbers of them
+abbrev pub count : Form
+count = number 1 most
 
--- what the rows of the accepted words say
+-- the command: which words it accepts
+abbrev pub daikon : Described
+daikon = record {
+  name = codes "daikon";
+  arguments =
+      record { name = codes "min-samples"; form = count }
+      ∷ record { name = codes "every"; form = count }
+      ∷ record { name = codes "select"; form = text }
+      ∷ record { name = codes "keep-implied"; form = flag }
+      ∷ record { name = codes "keep-incomparable"; form = flag }
+      ∷ record { name = codes "keep-members"; form = flag }
+      ∷ record { name = codes "keep-constant"; form = flag }
+      ∷ record { name = codes "keep-parent"; form = flag }
+      ∷ record { name = codes "ignore-missing-entry"; form = flag }
+      ∷ record { name = codes "stats"; form = flag }
+      ∷ record { name = codes "save"; form = flag }
+      ∷ record { name = codes "resume"; form = text }
+      ∷ record { name = codes "generate"; form = number 0 18446744073709551615 }
+      ∷ record { name = codes "file"; form = positionals false }
+      ∷ [];
+  usage = usage_line;
+  help = help_text;
+  version = version_text;
+}
+
+-- what the rows of the accepted words say; the least number is 5 where none is given
 abbrev pub command_of : List Row → Command
 command_of rows = record {
   least = unwrap_or (number_at (codes "min-samples") rows) 5;
   every = number_at (codes "every") rows;
-  select = first_of (codes "select") rows;
+  select = text_at (codes "select") rows;
   keep_implied = is_given (codes "keep-implied") rows;
   keep_incomparable = is_given (codes "keep-incomparable") rows;
   keep_members = is_given (codes "keep-members") rows;
@@ -36,35 +55,11 @@ command_of rows = record {
   ignore_missing_entry = is_given (codes "ignore-missing-entry") rows;
   stats = is_given (codes "stats") rows;
   save = is_given (codes "save") rows;
-  resume = first_of (codes "resume") rows;
+  resume = text_at (codes "resume") rows;
   generate = number_at (codes "generate") rows;
-  files = unwrap_or (all_of (codes "file") rows) [];
+  files = texts_at (codes "file") rows;
 }
 
--- what a fault asks for; most ask for nothing
-abbrev pub request_for : ErrorKind → Option Request
-request_for kind.DisplayHelp = Some Help
-request_for kind.DisplayVersion = Some Version
-request_for _ = None
-
--- a run where there is no fault, and else what the only fault asks for
-abbrev pub request_by : Kinds → List Row → Option Request
-request_by [] rows = Some (Run (command_of rows))
-request_by (k ∷ []) rows = request_for k
-request_by (k ∷ _) rows = None
-
--- the answer to a fault of this kind; want of memory asks for nothing
-abbrev pub AnswersFault : ErrorKind → Result Request WordsFault → Type 0
-AnswersFault k (Ok request) = request_for k ≡ Some request
-AnswersFault k (Err Refused) = (request_for k ≡ None) × (k ≢ kind.OutOfMemory)
-AnswersFault k (Err NoMemory) = Unit {0}
-
--- the answer where the words ask for this, or for nothing; memory may be wanting at any words
-abbrev pub RequestAnswers : Option Request → Result Request WordsFault → Type 0
-RequestAnswers asked (Ok request) = asked ≡ Some request
-RequestAnswers asked (Err Refused) = asked ≡ None
-RequestAnswers asked (Err NoMemory) = Unit {0}
-
 -- what the words behind the program's name ask for
-unfoldable pub request_of : List Text → Option Request
-request_of words = request_by (faults_at (named words)) (matches_at (named words))
+unfoldable pub request_of : List Text → Option (Request Command)
+request_of words = asked_of daikon (λ rows. Some (command_of rows)) words

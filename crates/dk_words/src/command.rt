@@ -1,6 +1,8 @@
 // What a run is to do.
-use crate::Word;
+use crate::texts::{HELP_TEXT, USAGE_LINE, VERSION_TEXT};
+use dk_arguments::{Argument, Arguments, ArgumentsFault, Description, Form, Matches, Word};
 use dk_base::List;
+use std::alloc::Global;
 
 /// What a run is to do.
 #[derive(Debug, Drop)]
@@ -33,4 +35,116 @@ pub struct Command {
     pub generate: Option<u64>,
     /// The names of the files, in order. One that stands twice is read twice.
     pub files: List<Word>,
+}
+
+/// The numbers of `--min-samples` and `--every`.
+const COUNT: Form = Form::Number {
+    least: 1,
+    most: 1_000_000_000,
+};
+
+const DESCRIPTION: Description = Description {
+    name: "daikon",
+    arguments: &[
+        Argument {
+            name: "min-samples",
+            form: COUNT,
+        },
+        Argument {
+            name: "every",
+            form: COUNT,
+        },
+        Argument {
+            name: "select",
+            form: Form::Text,
+        },
+        Argument {
+            name: "keep-implied",
+            form: Form::Flag,
+        },
+        Argument {
+            name: "keep-incomparable",
+            form: Form::Flag,
+        },
+        Argument {
+            name: "keep-members",
+            form: Form::Flag,
+        },
+        Argument {
+            name: "keep-constant",
+            form: Form::Flag,
+        },
+        Argument {
+            name: "keep-parent",
+            form: Form::Flag,
+        },
+        Argument {
+            name: "ignore-missing-entry",
+            form: Form::Flag,
+        },
+        Argument {
+            name: "stats",
+            form: Form::Flag,
+        },
+        Argument {
+            name: "save",
+            form: Form::Flag,
+        },
+        Argument {
+            name: "resume",
+            form: Form::Text,
+        },
+        Argument {
+            name: "generate",
+            form: Form::Number {
+                least: 0,
+                most: u64::MAX,
+            },
+        },
+        Argument {
+            name: "file",
+            form: Form::Positionals { required: false },
+        },
+    ],
+    usage: USAGE_LINE,
+    help: HELP_TEXT,
+    version: VERSION_TEXT,
+};
+
+impl Arguments for Command {
+    ghost use Rattle.std.specs.Prelude.{Some, refl};
+    ghost use Rattle.dk_words.specs.Requests.{command_of, daikon};
+
+    ghost command = { daikon };
+
+    ghost meant = { λ rows. Some (command_of rows) };
+
+    ghost is_defined = { refl };
+
+    #[tactic(auto, unfolding(crate::specs::Texts::usage_line, crate::specs::Texts::help_text, crate::specs::Texts::version_text))]
+    fn description() -> Description {
+        DESCRIPTION
+    }
+
+    fn from_matches(alloc: Global, matches: &Matches<'_>) -> Result<Self, ArgumentsFault> {
+        let select = matches.text(alloc, "select")?;
+        let resume = matches.text(alloc, "resume")?;
+        let files = matches.texts(alloc, "file")?;
+        Ok(Command {
+            least: matches.number("min-samples").unwrap_or(5),
+            every: matches.number("every"),
+            select,
+            keep_implied: matches.is_given("keep-implied"),
+            keep_incomparable: matches.is_given("keep-incomparable"),
+            keep_members: matches.is_given("keep-members"),
+            keep_constant: matches.is_given("keep-constant"),
+            keep_parent: matches.is_given("keep-parent"),
+            ignore_missing_entry: matches.is_given("ignore-missing-entry"),
+            stats: matches.is_given("stats"),
+            save: matches.is_given("save"),
+            resume,
+            generate: matches.number("generate"),
+            files,
+        })
+    }
 }

@@ -2,12 +2,12 @@
 ghost use Rattle.std.specs.Prelude.{◌≡◌};
 ghost use Rattle.dk_words.specs.Texts.{help_text, usage_line, version_text};
 
-const USAGE_LINE: &str =
+pub(crate) const USAGE_LINE: &str =
     "usage: daikon [--min-samples N] [--every N] [--select PREFIX] [--keep-implied] [--keep-incomparable] [--keep-members] [--keep-constant] [--keep-parent] [--ignore-missing-entry] [--stats] [--save] [--resume NAME] [--generate N] [FILE]...\n";
 
-const VERSION_TEXT: &str = "daikon 0.1.0\n";
+pub(crate) const VERSION_TEXT: &str = "daikon 0.1.0\n";
 
-const HELP_TEXT: &str = "\
+pub(crate) const HELP_TEXT: &str = "\
 usage: daikon [--min-samples N] [--every N] [--select PREFIX] [--keep-implied]
               [--keep-incomparable] [--keep-members] [--keep-constant]
               [--keep-parent] [--ignore-missing-entry] [--stats] [--save]

@@ -4,7 +4,7 @@ use Rattle.dk_io.specs.NamedFiles.{Files, held_or_empty}
 use Rattle.dk_run.proofs.Placing.{own_held}
 use Rattle.dk_run.specs.Statuses.{Outside, Says, outside}
 use Rattle.dk_words.specs.declared.command.Command.{Command}
-use Rattle.dk_words.specs.declared.request.Request.TheVariants.{Run}
+use Rattle.dk_arguments.specs.declared.request.Request.TheVariants.{Run}
 use Rattle.dk_merge.proofs.StateRuns.{report_early, report_ends}
 use Rattle.dk_merge.specs.Running.{ReportEnds}
 use Rattle.dk_merge.proofs.running.report_state.Goals as goal

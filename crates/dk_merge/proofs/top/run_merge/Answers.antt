@@ -4,9 +4,9 @@ use Rattle.dk_merge.proofs.Complete.{complete_of, complete_says}
 use Rattle.dk_merge.proofs.Histories.{histories_say}
 use Rattle.dk_merge.proofs.Recorders.{recorders_say}
 use Rattle.dk_merge.proofs.Saying.{help_says, usage_says, version_says}
-use Rattle.dk_merge_words.proofs.Ranges.{file_named, numbers_within}
+use Rattle.dk_merge_words.proofs.Whole.{file_named, numbers_within}
 use Rattle.dk_merge_words.specs.Requests.{request_of}
-use Rattle.dk_merge_words.specs.declared.command.Request.TheVariants.{Run, Help, Version}
+use Rattle.dk_arguments.specs.declared.request.Request.TheVariants.{Run, Help, Version}
 use Rattle.dk_merge.proofs.top.run_merge.Goals as goal
 
 one_at_least : (turns : Option ℕ) → IfSome turns IsWithinBounds → IfSome turns (λ n. 1 ≤ n)

@@ -1,4 +1,4 @@
-use Rattle.dk_merge_words.proofs.Ranges.{numbers_within}
+use Rattle.dk_merge_words.proofs.Whole.{numbers_within}
 use Rattle.dk_merge_words.proofs.laws.numbers_are_within_bounds.Goals as goal
 
 pub returns : goal.returns

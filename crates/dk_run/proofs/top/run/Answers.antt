@@ -1,6 +1,6 @@
 use Rattle.std.proofs.Common.{rules, ◌≡◌, ◌∙◌, map, string_bytes, Some, None}
 use Rattle.dk_words.specs.Requests.{request_of}
-use Rattle.dk_words.specs.declared.request.Request.TheVariants.{Run, Help, Version}
+use Rattle.dk_arguments.specs.declared.request.Request.TheVariants.{Run, Help, Version}
 use Rattle.dk_run.proofs.Complete.{complete_says}
 use Rattle.dk_run.proofs.Saying.{help_says, usage_says, version_says}
 use Rattle.dk_run.proofs.top.run.Goals as goal
