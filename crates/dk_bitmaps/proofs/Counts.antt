@@ -1,15 +1,15 @@
 -- Counts by bitmaps are the sums of the patterns' counts.
-use Rattle.std.proofs.Common.{◌≡◌, ◌<◌, ◌≤◌, ◌+◌, ◌*◌, ◌/◌, ◌%◌, ◌^◌, ◌&&◌, ◌++◌, ◌∙◌, ◌==◌, ℕ, zero, suc, Bool, true, false, cond, All, List, [], ◌∷◌, arith, ap, sym, refl, inl, inr, bit_and, count_by, count_ones, drop, eqb, get_or, length, sum_by, take}
+use Rattle.std.proofs.Common.{◌≡◌, ◌<◌, ◌≤◌, ◌+◌, ◌*◌, ◌/◌, ◌%◌, ◌^◌, ◌&&◌, ◌++◌, ◌∙◌, ◌==◌, ℕ, Bool, true, false, cond, All, IfSome, List, [], ◌∷◌, Option, None, Some, arith, ap, sym, refl, inl, inr, bit_and, count_by, count_ones, drop, get_or, length, sum_by, take}
 use Rattle.std.proofs.Math.Nat.{div-eq_of_lt, div-one}
 use Rattle.std.proofs.lemmas.Bool.{cases_eq, eq-eqb, ne_eqb}
 use Rattle.std.proofs.lemmas.List.{drop-take, take-append-drop, take-take, take_all}
-use Rattle.std.proofs.lemmas.List.Elements.{All-head, All-tail}
+use Rattle.std.proofs.lemmas.List.Elements.{All-head, All-tail, All-take}
 use Rattle.std.proofs.lemmas.List.Sums.{sum_by-append, sum_by-cons}
 use Rattle.std.proofs.lemmas.Nat.{shr-shr}
 use Rattle.dk_base.specs.declared.kinds.VarId.{VarId}
 use Rattle.dk_presence.specs.Patterns.{capped, counted_by, has, has_all}
 use Rattle.dk_presence.specs.declared.held.Held.{Held}
-use Rattle.dk_bitmaps.specs.Bitmaps.{AreDigitMaps, IsBitmap, block_at, digits, is_one_at}
+use Rattle.dk_bitmaps.specs.Bitmaps.{IsBitmap, block_at, digits, is_one_at}
 use Rattle.dk_bitmaps.proofs.Words.{digits_common, digits_ones}
 
 sums_same : (f g : Held → ℕ) → ((h : Held) → f h ≡ g h) → (held : List Held) → sum_by f held ≡ sum_by g held
@@ -21,7 +21,7 @@ sums_same f g same (h ∷ held) =
 
 -- ---- the patterns that four bitmaps have in common
 module _ (p q r s : Held → Bool) where
-  abbrev all : Held → Bool
+  abbrev pub all : Held → Bool
   all h = (p h && (q h && r h)) && s h
 
   -- in one word
@@ -69,12 +69,12 @@ module _ (test : Held → Bool) where
   none_before [] place below = refl
   none_before (h ∷ held) place below =
       let first : h.count / 2 ^ place ≡ 0 = div-eq_of_lt (All-head (λ (x : Held). x.count < 2 ^ place) h held below) in
-      let here : cond (test h) (h.count / 2 ^ place) 0 ≡ 0 = ap (λ n. cond (test h) n 0) first ∙ none (test h) in
+      let here : cond (test h) (h.count / 2 ^ place) 0 ≡ 0 = ap {A = ℕ} (λ n. cond (test h) n 0) first ∙ none (test h) in
       let others = none_before held place (All-tail (λ (x : Held). x.count < 2 ^ place) h held below) in
       let whole = sum_by-cons (rest_at place) h held in
       omega (arith, here, others, whole)
     where
-      none : (b : Bool) → cond b 0 0 ≡ 0
+      none : (b : Bool) → ◌≡◌ {A = ℕ} (cond b 0 0) 0
       none true = refl
       none false = refl
 
@@ -103,10 +103,13 @@ module _ (test : Held → Bool) where
   all_places held = sums_same (rest_at 0) (λ h. cond (test h) h.count 0) (λ h. ap (λ n. cond (test h) n 0) (div-one h.count)) held
 
 -- ---- the counts of one, two and three leaders
+same_counts : (held : List Held) (p q : Held → Bool) → ((h : Held) → p h ≡ q h) → sum_by (λ h. cond (p h) h.count 0) held ≡ sum_by (λ h. cond (q h) h.count 0) held
+same_counts held p q same = sums_same (λ h. cond (p h) h.count 0) (λ h. cond (q h) h.count 0) (λ h. ap (λ b. cond b h.count 0) (same h)) held
+
 pub three_counted : (held : List Held) (x y z : VarId) → capped (sum_by (λ h. cond (has h.leaders x && (has h.leaders y && has h.leaders z)) h.count 0) held) ≡ counted_by held (x ∷ y ∷ z ∷ [])
 three_counted held x y z =
-    ap capped (sums_same (λ h. cond (has h.leaders x && (has h.leaders y && has h.leaders z)) h.count 0) (λ h. cond (has_all h.leaders (x ∷ y ∷ z ∷ [])) h.count 0)
-    (λ h. ap (λ b. cond b h.count 0) (same (has h.leaders x) (has h.leaders y) (has h.leaders z))) held)
+    ap capped (same_counts held (λ h. has h.leaders x && (has h.leaders y && has h.leaders z)) (λ h. has_all h.leaders (x ∷ y ∷ z ∷ []))
+    (λ h. same (has h.leaders x) (has h.leaders y) (has h.leaders z)))
   where
     same : (a b c : Bool) → (a && (b && c)) ≡ (a && (b && (c && true)))
     same true true true = refl
@@ -115,20 +118,46 @@ three_counted held x y z =
     same false b c = refl
 
 counted_same : (held : List Held) (vs ws : List VarId) → ((h : Held) → has_all h.leaders vs ≡ has_all h.leaders ws) → counted_by held vs ≡ counted_by held ws
-counted_same held vs ws same =
-    ap capped (sums_same (λ h. cond (has_all h.leaders vs) h.count 0) (λ h. cond (has_all h.leaders ws) h.count 0) (λ h. ap (λ b. cond b h.count 0) (same h)) held)
+counted_same held vs ws same = ap capped (same_counts held (λ h. has_all h.leaders vs) (λ h. has_all h.leaders ws) same)
 
-pub one_counted : (held : List Held) (x : VarId) → counted_by held (x ∷ x ∷ x ∷ []) ≡ counted_by held (x ∷ [])
+one_counted : (held : List Held) (x : VarId) → counted_by held (x ∷ x ∷ x ∷ []) ≡ counted_by held (x ∷ [])
 one_counted held x = counted_same held (x ∷ x ∷ x ∷ []) (x ∷ []) (λ h. same (has h.leaders x))
   where
     same : (b : Bool) → (b && (b && (b && true))) ≡ (b && true)
     same true = refl
     same false = refl
 
-pub two_counted : (held : List Held) (x y : VarId) → counted_by held (x ∷ y ∷ y ∷ []) ≡ counted_by held (x ∷ y ∷ [])
+two_counted : (held : List Held) (x y : VarId) → counted_by held (x ∷ y ∷ y ∷ []) ≡ counted_by held (x ∷ y ∷ [])
 two_counted held x y = counted_same held (x ∷ y ∷ y ∷ []) (x ∷ y ∷ []) (λ h. same (has h.leaders x) (has h.leaders y))
   where
     same : (b c : Bool) → (b && (c && (c && true))) ≡ (b && (c && true))
     same true true = refl
     same true false = refl
     same false c = refl
+
+-- what is told of three leaders of which some are the same
+abbrev pub IsTold : List Held → List VarId → List VarId → Option ℕ → Type 0
+IsTold held leaders vars told = IfSome told (λ n. n ≡ counted_by held vars) × IfSome told (λ _. All (λ v. has leaders v ≡ true) vars)
+
+pub one_told : (held : List Held) (leaders vars : List VarId) (d : VarId) (told : Option ℕ) → 1 ≤ length vars → length vars < 2
+    → IsTold held leaders (get_or vars 0 d ∷ get_or vars 0 d ∷ get_or vars 0 d ∷ []) told → IsTold held leaders vars told
+one_told held leaders [] d told least most is = absurd (omega (arith, least))
+one_told held leaders (x ∷ []) d None least most is = (tt, tt)
+one_told held leaders (x ∷ []) d (Some n) least most is = (is.0 ∙ one_counted held x, All-take (λ v. has leaders v ≡ true) 1 (x ∷ x ∷ x ∷ []) is.1)
+one_told held leaders (x ∷ y ∷ vars) d told least most is = absurd (omega (arith, most))
+
+pub two_told : (held : List Held) (leaders vars : List VarId) (d e : VarId) (told : Option ℕ) → 2 ≤ length vars → length vars < 3
+    → IsTold held leaders (get_or vars 0 d ∷ get_or vars 1 e ∷ get_or vars 1 e ∷ []) told → IsTold held leaders vars told
+two_told held leaders [] d e told least most is = absurd (omega (arith, least))
+two_told held leaders (x ∷ []) d e told least most is = absurd (omega (arith, least))
+two_told held leaders (x ∷ y ∷ []) d e None least most is = (tt, tt)
+two_told held leaders (x ∷ y ∷ []) d e (Some n) least most is = (is.0 ∙ two_counted held x y, All-take (λ v. has leaders v ≡ true) 2 (x ∷ y ∷ y ∷ []) is.1)
+two_told held leaders (x ∷ y ∷ z ∷ vars) d e told least most is = absurd (omega (arith, most))
+
+pub three_told : (held : List Held) (leaders vars : List VarId) (d e f : VarId) (told : Option ℕ) → 3 ≤ length vars → length vars < 4
+    → IsTold held leaders (get_or vars 0 d ∷ get_or vars 1 e ∷ get_or vars 2 f ∷ []) told → IsTold held leaders vars told
+three_told held leaders [] d e f told least most is = absurd (omega (arith, least))
+three_told held leaders (x ∷ []) d e f told least most is = absurd (omega (arith, least))
+three_told held leaders (x ∷ y ∷ []) d e f told least most is = absurd (omega (arith, least))
+three_told held leaders (x ∷ y ∷ z ∷ []) d e f told least most is = is
+three_told held leaders (x ∷ y ∷ z ∷ w ∷ vars) d e f told least most is = absurd (omega (arith, most))

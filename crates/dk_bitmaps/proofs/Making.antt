@@ -1,23 +1,10 @@
--- Bitmaps one after another, and word after word.
-use Rattle.std.proofs.Common.{◌≡◌, ◌<◌, ◌≤◌, ◌+◌, ◌*◌, ◌/◌, ◌++◌, ◌∙◌, ℕ, Bool, List, [], ◌∷◌, arith, ap, sym, subst, inl, inr, get_or, length}
+-- Bitmaps one after another.
+use Rattle.std.proofs.Common.{◌≡◌, ◌+◌, ◌++◌, ◌∙◌, ℕ, Bool, List, [], ◌∷◌, arith, ap, sym, subst, inl, inr, get_or}
 use Rattle.std.specs.Global.{Vec}
 use Rattle.std.proofs.lemmas.Bool.{cases_lt}
 use Rattle.std.proofs.lemmas.List.{get_or_append_left, get_or_push, length_push}
 use Rattle.dk_presence.specs.declared.held.Held.{Held}
-use Rattle.dk_bitmaps.specs.Bitmaps.{AreMaps, AreWords, IsBitmap, block_at, digits}
-
--- one word more
-pub words_more : (held : List Held) (test : Held → Bool) (j : ℕ) (words : List ℕ) (word : ℕ) → AreWords held test j words → word ≡ digits test (block_at held j)
-    → AreWords held test (j + 1) (words ++ word ∷ [])
-words_more held test j words word are is = record {
-  long = length_push words word ∙ ap (λ n. n + 1) are.long;
-  each = λ k l. elim (cases_lt k j) as (λ _. get_or (words ++ word ∷ []) k 0 ≡ digits test (block_at held k)) [
-    | inl before ↦ get_or_append_left words (word ∷ []) k 0 (omega (arith, before, are.long)) ∙ are.each k before
-    | inr past ↦
-        (let here : k ≡ j = omega (arith, past, l) in
-        get_or_push words word 0 k (are.long ∙ sym here) ∙ (is ∙ ap (λ n. digits test (block_at held n)) (sym here)))
-  ];
-}
+use Rattle.dk_bitmaps.specs.Bitmaps.{AreMaps, IsBitmap}
 
 -- one bitmap more
 pub maps_more : (held : List Held) (test : ℕ → Held → Bool) (k : ℕ) (maps : List (Vec ℕ)) (map : Vec ℕ) → AreMaps held test k maps → IsBitmap held (test k) map.items
@@ -26,7 +13,7 @@ maps_more held test k maps map are is = record {
   long = length_push maps map ∙ ap (λ n. n + 1) are.long;
   each = λ i d l. elim (cases_lt i k) as (λ _. IsBitmap held (test i) (get_or (maps ++ map ∷ []) i d).items) [
     | inl before ↦
-        subst (λ (m : Vec ℕ). IsBitmap held (test i) m.items) (sym (get_or_append_left maps (map ∷ []) i d (omega (arith, before, are.long)))) (are.each i d before)
+        subst (λ (m : Vec ℕ). IsBitmap held (test i) m.items) (sym (get_or_append_left maps (map ∷ []) d i (omega (arith, before, are.long)))) (are.each i d before)
     | inr past ↦
         (let here : i ≡ k = omega (arith, past, l) in
         subst (λ (m : Vec ℕ). IsBitmap held (test i) m.items) (sym (get_or_push maps map d i (are.long ∙ sym here)))

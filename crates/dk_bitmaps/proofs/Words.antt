@@ -1,5 +1,5 @@
 -- What the words of bitmaps say: their digits, one after another.
-use Rattle.std.proofs.Common.{◌≡◌, ◌<◌, ◌≤◌, ◌+◌, ◌*◌, ◌/◌, ◌%◌, ◌^◌, ◌&&◌, ◌∙◌, ℕ, zero, suc, min, Bool, true, false, cond, List, [], ◌∷◌, arith, ap, sym, refl, bit_and, count_by, count_ones, fold, get_or, length, take}
+use Rattle.std.proofs.Common.{◌≡◌, ◌<◌, ◌+◌, ◌*◌, ◌/◌, ◌%◌, ◌^◌, ◌&&◌, ◌∙◌, ℕ, suc, min, Bool, true, false, cond, List, [], ◌∷◌, arith, ap, refl, bit_and, count_by, count_ones, fold, get_or, length, take}
 use Rattle.std.proofs.lemmas.List.{take_more}
 use Rattle.std.proofs.lemmas.List.Sums.{fold-append, sum_by-cons}
 use Rattle.std.specs.Int.Bits.{and_step}
@@ -61,10 +61,14 @@ ones_behind p n (h ∷ block) =
     let all = sum_by-cons (λ x. cond (p x) 1 0) h block in
     omega (arith, rest, here, all)
 
+no_ones : count_ones 0 ≡ 0
+unfolding lib.Count.ones
+no_ones = refl
+
 -- as many digits are 1 as patterns meet the test
 pub digits_ones : (p : Held → Bool) (block : List Held) → count_ones (digits p block) ≡ count_by p block
 unfolding behind
-digits_ones p block = let none : count_ones 0 ≡ 0 = refl in omega (arith, none, ones_behind p 0 block)
+digits_ones p block = omega (arith, no_ones, ones_behind p 0 block)
 
 -- ---- one pattern more
 pub digits_more : (test : Held → Bool) (block : List Held) (i : ℕ) (d : Held) → i < length block
@@ -74,5 +78,7 @@ digits_more test block i d l = ap (digits test) (take_more block i d l) ∙ fold
 -- so many digits are below that power of 2
 pub digit_fits : (n i : ℕ) (b : Bool) → n < 2 ^ i → n * 2 + cond b 1 0 < 2 ^ (i + 1)
 digit_fits n i b l =
-    let twice : 2 ^ (i + 1) ≡ 2 ^ i * 2 = omega arith in
-    omega (arith, bit_below b, l, twice)
+    let next : i + 1 ≡ suc i = omega arith in
+    let twice : 2 ^ suc i ≡ 2 ^ i * 2 = omega arith in
+    let power : 2 ^ (i + 1) ≡ 2 ^ suc i = ap (λ k. 2 ^ k) next in
+    omega (arith, bit_below b, l, twice, power)
