@@ -11,6 +11,9 @@ use std::alloc::Global;
 // How many patterns have a digit in one word.
 const BLOCK: usize = 64;
 
+// How many binary digits a count has at most.
+const COUNT_DIGITS: u32 = 64;
+
 // 1 for yes, 0 for no.
 fn digit(yes: bool) -> u64
     ensures { result ≡ cond yes 1 0 }
@@ -89,7 +92,7 @@ fn most(held: &[Held]) -> u64
 fn width(number: u64) -> u32
     ensures { number < 2 ^ result }
 {
-    64 - number.leading_zeros()
+    COUNT_DIGITS - number.leading_zeros()
 }
 
 /// A bitmap for each binary digit of the counts, the last digit first.
