@@ -89,46 +89,23 @@ impl<'p> PatternIndex<'p> {
 #[cfg(test)]
 mod tests {
     use super::*;
-    use dk_base::List;
-
-    // The variables whose binary digits in the number are 1.
-    fn digits_of(alloc: Global, number: u32) -> Result<List<VarId>, NoMemory> {
-        let mut vars = List::new(alloc);
-        for v in 0..7u32 {
-            if (number >> v) % 2 == 1 {
-                vars.push(VarId(v))?;
-            }
-        }
-        Ok(vars)
-    }
-
-    // For each number from 1 to 127 the pattern of its binary digits, as often as the number says.
-    fn patterns(alloc: Global) -> Result<List<Held>, NoMemory> {
-        let mut held = List::new(alloc);
-        for number in 1..128u32 {
-            held.push(Held {
-                count: u64::from(number),
-                leaders: digits_of(alloc, number)?,
-            })?;
-        }
-        Ok(held)
-    }
+    use std::process::Abort;
+    use std::test::Fail;
 
     #[test]
-    fn counts_are_sums_of_numbers_with_these_digits(rt: HostRuntime) {
+    fn an_index_tells_the_counts_of_its_leaders(rt: HostRuntime) -> Result<(), Fail> {
         let alloc = rt.alloc();
-        let presence = Presence::from_held(alloc, patterns(alloc).unwrap()).unwrap();
-        let leaders = [0, 1, 2, 3, 4, 5, 6].map(|v| VarId(v));
-        let index = PatternIndex::of(alloc, &presence, &leaders).unwrap();
-        let cases: [(&[VarId], Option<u64>); 5] = [
-            (&[VarId(0)], Some(4096)),
-            (&[VarId(6), VarId(0)], Some(3072)),
-            (&[VarId(0), VarId(1), VarId(2)], Some(1072)),
-            (&[VarId(7)], None),
-            (&[], None),
-        ];
-        for (vars, want) in cases {
-            assert_eq!(rt; index.count(vars), want);
-        }
+        let none = Presence::new(alloc)?;
+        let one = none.add(&[VarId(0), VarId(1), VarId(2)])?;
+        let two = one.add(&[VarId(0), VarId(1)])?;
+        let three = two.add(&[VarId(2)])?;
+        let four = three.add(&[VarId(0), VarId(1), VarId(2)])?;
+        let leaders = [VarId(0), VarId(1), VarId(2)];
+        let index = PatternIndex::of(alloc, &four, &leaders)?;
+        assert!(rt; index.count(&[VarId(1)]) == Some(3));
+        assert!(rt; index.count(&[VarId(2), VarId(0)]) == Some(2));
+        assert!(rt; index.count(&leaders) == Some(2));
+        assert!(rt; index.count(&[VarId(0), VarId(3)]) == None);
+        Ok(())
     }
 }

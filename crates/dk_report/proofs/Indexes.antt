@@ -1,5 +1,5 @@
 -- Counts of several variables by an index of the patterns are those of what the engines keep.
-use Rattle.std.specs.Prelude.{◌≡◌, ◌<◌, ◌+◌, ◌*◌, ◌++◌, ℕ, true, All, List, [], ◌∷◌, get_or, length, sum_by, take, Option, Some}
+use Rattle.std.specs.Prelude.{◌≡◌, ◌<◌, ◌+◌, ◌*◌, ◌++◌, ℕ, true, All, IfSome, List, [], ◌∷◌, get_or, length, sum_by, take, Option, Some, None}
 use Rattle.std.specs.Option.{option_map_or}
 use Rattle.std.proofs.Common.{◌∙◌, ap, arith, inl, inr, refl, subst, sym}
 use Rattle.std.proofs.lemmas.Bool.{cases_lt}
@@ -19,7 +19,14 @@ use Rattle.dk_hierarchy.specs.Merging.{Joint, count_through, engine_at}
 use Rattle.dk_hierarchy.specs.declared.way.Way.{Way}
 use Rattle.dk_presence.proofs.Refining.{contains-has}
 use Rattle.dk_presence.specs.Patterns.{capped, counted_by, has}
+use Rattle.dk_presence.specs.declared.held.Held.{Held}
 use Rattle.dk_report.specs.Counting.{AreIndexes, IsIndexOf, brought_together}
+
+-- the index of an engine's patterns by the leaders of its classes
+pub index-is : (kept : Kept) (held : List Held) (leaders : List VarId) (index : Indexed) → held ≡ kept.held → leaders ≡ own_leaders kept.leaders
+    → index ≡ record { held = held; leaders = leaders } → IsIndexOf kept index
+index-is kept held leaders index same led is =
+    is ∙ (ap (λ (hs : List Held). let i : Indexed = record { held = hs; leaders = leaders } in i) same ∙ ap (λ (ls : List VarId). let i : Indexed = record { held = kept.held; leaders = ls } in i) led)
 
 -- leaders have themselves as leaders
 lead_themselves : (leaders vars : List VarId) → All (λ v. has (own_leaders leaders) v ≡ true) vars → leaders_of leaders vars ≡ vars
@@ -29,15 +36,25 @@ lead_themselves leaders (v ∷ vars) all =
     let same : leader_of leaders v ≡ v = ap (λ n. record { 0 = n }) led.1 in
     ap (λ w. w ∷ leaders_of leaders vars) same ∙ ap (λ ws. v ∷ ws) (lead_themselves leaders vars (All-tail (λ w. has (own_leaders leaders) w ≡ true) v vars all))
 
--- what an index tells of the partners is what the way brings
-pub indexed : (kept : Kept) (index : Indexed) (way : Way) (vars there : List VarId) (once : ℕ) → IsIndexOf kept index → partners_at way.partners vars ≡ Some there
-    → once ≡ counted_by index.held there → All (λ v. has index.leaders v ≡ true) there → capped (once * way.paths) ≡ capped (brought_together kept way vars)
-indexed kept index way vars there once is told counted lead =
+-- what an index tells of leaders
+pub told-read : (kept : Kept) (index : Indexed) (there : List VarId) (told : Option ℕ) → IsIndexOf kept index
+    → IfSome told (λ n. n ≡ counted_by index.held there) → IfSome told (λ _. All (λ v. has index.leaders v ≡ true) there) → IfSome told (λ n. n ≡ count_read kept there)
+told-read kept index there None is counted lead = tt
+told-read kept index there (Some n) is counted lead =
     let leads : All (λ v. has (own_leaders kept.leaders) v ≡ true) there = subst (λ (i : Indexed). All (λ v. has i.leaders v ≡ true) there) is lead in
-    let read : once ≡ count_read kept there =
     counted ∙ (ap (λ (i : Indexed). counted_by i.held there) is ∙ ap (counted_by kept.held) (sym (lead_themselves kept.leaders there leads)))
-    in
-    ap (λ n. capped (n * way.paths)) (read ∙ ap (λ (o : Option (List VarId)). option_map_or (count_read kept) o 0) (sym told))
+
+-- what a way brings of variables with partners
+pub brought-there : (kept : Kept) (way : Way) (vars there : List VarId) → partners_at way.partners vars ≡ Some there → count_read kept there * way.paths ≡ brought_together kept way vars
+brought-there kept way vars there told = ap (λ (o : Option (List VarId)). option_map_or (count_read kept) o 0 * way.paths) (sym told)
+
+-- of others it brings nothing
+pub none-brought : (kept : Kept) (way : Way) (vars : List VarId) → partners_at way.partners vars ≡ None → 0 ≡ capped (brought_together kept way vars)
+none-brought kept way vars none =
+    let once : option_map_or (count_read kept) (partners_at way.partners vars) 0 ≡ 0 = ap (λ (o : Option (List VarId)). option_map_or (count_read kept) o 0) none in
+    let all : brought_together kept way vars ≡ 0 * way.paths = ap (λ n. n * way.paths) once in
+    let nothing : 0 * way.paths ≡ 0 = omega arith in
+    omega (arith, all, nothing)
 
 -- ---- the ways one after another
 -- one index more

@@ -1,5 +1,5 @@
 // In how many samples of a point variables are present: of each single variable found once, and of several by an index of the patterns.
-ghost use Rattle.std.specs.Prelude.{◌≡◌, ◌<◌, ◌+◌, ◌*◌, ℕ, [], ◌∷◌, All, IfOk, IfSome, List, None, Some, length, replicate, slice_get, slice_index_or};
+ghost use Rattle.std.specs.Prelude.{◌≡◌, ◌<◌, ◌≤◌, ◌+◌, ◌*◌, ℕ, [], ◌∷◌, All, IfOk, IfSome, List, None, Some, length, replicate, slice_get, slice_index_or};
 ghost use Rattle.dk_base.specs.declared.values.Value.{Value as SampleValue};
 ghost use Rattle.dk_engine.specs.Exact.{AreOfPoint};
 ghost use Rattle.dk_engine.specs.Reading.{count_read};
@@ -174,11 +174,11 @@ fn found_at(found: &[Option<u64>], v: VarId) -> Option<u64>
 
 // ---- several variables
 
-// With fewer patterns a walk over them is no slower.
+// With fewer patterns a walk over them is about as fast.
 const MANY_PATTERNS: u64 = 256;
 
-// Whether making an index of what the engine keeps takes no longer than what it saves: where there are many patterns, and slots enough for
-// as many questions as there are leaders.
+// Whether an index of what the engine keeps saves more than it takes: where there are many patterns, and slots for as many questions as
+// there are leaders.
 fn is_index_worth(engine: &Engine) -> bool {
     let counts = engine.counts();
     MANY_PATTERNS <= counts.patterns && u64::from(counts.leaders) <= counts.slots
@@ -216,7 +216,9 @@ fn all_indexes<'n>(
     let mut indexes = Vec::new(alloc);
     let ways = merged.ways();
     for way in ways {
-        indexes.push(index_of(alloc, engine_at(merged, engines, way))?)?;
+        let engine = engine_at(merged, engines, way);
+        let index = index_of(alloc, engine)?;
+        indexes.push(index)?;
     }
     Ok(indexes)
 }
@@ -237,25 +239,30 @@ fn indexes_of<'n>(
     }
 }
 
-// The partners of two or three variables, if each has one.
+// The partners of at most three variables, if each has one.
 fn partners_at(way: &Way, vars: &[VarId]) -> Option<Tuple>
-    ensures { IfSome result (λ there. partners_at way.now.partners vars.now ≡ Some there) }
+    requires { length vars.now ≤ 3 }
+    ensures { result ≡ partners_at way.now.partners vars.now }
 {
     let partner = |v: VarId| partner_at(way, v.0 as usize);
     match vars {
+        [] => Some(Tuple::of(&[])),
+        [v] => Some(Tuple::of(&[partner(*v)?])),
         [v, w] => Some(Tuple::of(&[partner(*v)?, partner(*w)?])),
         [v, w, x] => Some(Tuple::of(&[partner(*v)?, partner(*w)?, partner(*x)?])),
-        _ => None,
+        _ => unreachable!(),
     }
 }
 
-// In how many of the samples that a way brings all of two or three variables are present, if the index tells.
+// In how many of the samples that a way brings all of the variables are present, if the index tells.
 fn indexed_through(index: &PatternIndex<'_>, way: &Way, vars: &[VarId]) -> Option<u64>
+    requires { length vars.now ≤ 3 }
     ensures { (kept : Kept) → IsIndexOf kept index.now → IfSome result (λ count. count ≡ capped (brought_together kept way.now vars.now)) }
 {
-    let there = partners_at(way, vars)?;
-    let once = index.count(there.as_slice())?;
-    Some(once.saturating_mul(way.paths))
+    match partners_at(way, vars) {
+        None => Some(0),
+        Some(there) => times(index.count(there.as_slice()), way.paths),
+    }
 }
 
 // ---- both
@@ -324,6 +331,7 @@ impl<'e> Counted<'e> {
 
     // The count of several variables by the indexes, if there is one for each way and all of them tell.
     fn indexed_count(&self, vars: &[VarId]) -> Option<u64>
+        requires { length vars.now ≤ 3 }
         ensures { IfSome result (λ n. n ≡ merged_count self.now vars.now) }
     {
         let ways = self.ways();
@@ -341,6 +349,7 @@ impl<'e> Counted<'e> {
 
     // The count that is found of these variables.
     fn found_count(&self, vars: &[VarId]) -> Option<u64>
+        requires { length vars.now ≤ 3 }
         ensures { IfSome result (λ n. n ≡ merged_count self.now vars.now) }
     {
         match vars {
