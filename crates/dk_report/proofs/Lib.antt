@@ -26,4 +26,5 @@ pub mod Viewed
 pub mod Rules
 pub mod Shown
 pub mod Counts
+pub mod Indexes
 pub mod Listable

@@ -1,20 +1,22 @@
-// In how many samples of a point each single variable is present, found once.
-ghost use Rattle.std.specs.Prelude.{◌≡◌, ◌<◌, ◌+◌, ◌*◌, ℕ, [], ◌∷◌, All, IfOk, IfSome, List, None, Some, length, replicate, slice_get, slice_index_or};
+// In how many samples of a point variables are present: of each single variable found once, and of several by an index of the patterns.
+ghost use Rattle.std.specs.Prelude.{◌≡◌, ◌<◌, ◌≤◌, ◌+◌, ◌*◌, ℕ, [], ◌∷◌, All, IfOk, IfSome, List, None, Some, length, replicate, slice_get, slice_index_or};
 ghost use Rattle.dk_base.specs.declared.values.Value.{Value as SampleValue};
 ghost use Rattle.dk_engine.specs.Exact.{AreOfPoint};
 ghost use Rattle.dk_engine.specs.Reading.{count_read};
+ghost use Rattle.dk_engine.specs.declared.kept.Kept.{Kept};
 ghost use Rattle.dk_hierarchy.specs.Descent.{IsDescent};
+ghost use Rattle.dk_hierarchy.specs.Edges.{partners_at};
 ghost use Rattle.dk_hierarchy.specs.Merging.{AreWays, IsWay, engine_at, merged_agree, merged_count, merged_state};
 ghost use Rattle.dk_hierarchy.specs.Standing.{AreEnginesOf, EngineStandsFor, IsMergedAt, JointStandsFor};
-ghost use Rattle.dk_presence.specs.Patterns.{capped, counted_by, has};
-ghost use Rattle.dk_report.specs.Counting.{AreAt, AreFound, added, brought, partner_count, single_count};
-ghost use Rattle.dk_samples.specs.Leaders.{VarsAscend};
+ghost use Rattle.dk_presence.specs.Patterns.{capped, counted_by};
+ghost use Rattle.dk_report.specs.Counting.{AreAt, AreFound, AreIndexes, IsIndexOf, added, brought, brought_together, partner_count, single_count};
 
 use dk_base::{NoMemory, PointId, VarId, VarInfo};
+use dk_bitmaps::{PatternIndex, contains};
 use dk_engine::Engine;
 use dk_hierarchy::{Merged, Way, merge};
 use dk_points::Points;
-use dk_template::{Answers, RowId, State};
+use dk_template::{Answers, RowId, State, Tuple};
 use std::alloc::Global;
 use std::marker::Model;
 use std::slice;
@@ -48,14 +50,6 @@ fn leader_counts(alloc: Global, engine: &Engine) -> Result<Vec<u64>, NoMemory>
         add_count(&mut counts, pattern.leaders.as_slice(), pattern.count);
     }
     Ok(counts)
-}
-
-// Whether the variable is one of these, which ascend.
-fn contains(vars: &[VarId], v: VarId) -> bool
-    requires { VarsAscend vars.now }
-    ensures { result ≡ has vars.now v }
-{
-    vars.binary_search_by_key(&v.0, |w| w.0).is_ok()
 }
 
 // The count of a variable that leads its class.
@@ -178,22 +172,119 @@ fn found_at(found: &[Option<u64>], v: VarId) -> Option<u64>
     }
 }
 
-/// What answers for all samples of a point, with the counts of single variables found once.
+// ---- several variables
+
+// With fewer patterns a walk over them is about as fast.
+const MANY_PATTERNS: u64 = 256;
+
+// Whether an index of what the engine keeps saves more than it takes: where there are many patterns, and slots for as many questions as
+// there are leaders.
+fn is_index_worth(engine: &Engine) -> bool {
+    let counts = engine.counts();
+    MANY_PATTERNS <= counts.patterns && u64::from(counts.leaders) <= counts.slots
+}
+
+// Whether it is, for one of the engines that the ways lead to.
+fn is_some_index_worth(merged: &Merged<'_>, engines: &[Engine]) -> bool
+    requires { merged.now.engines ≡ engines.now }
+{
+    let ways = merged.ways();
+    for way in ways {
+        if is_index_worth(engine_at(merged, engines, way)) {
+            return true;
+        }
+    }
+    false
+}
+
+// The index of what an engine keeps.
+fn index_of<'n>(alloc: Global, engine: &'n Engine) -> Result<PatternIndex<'n>, NoMemory>
+    ensures { IfOk result (λ index. IsIndexOf engine.now.kept index) }
+{
+    PatternIndex::of(alloc, engine.presence(), engine.classes().leaders())
+}
+
+// For each way the index of its engine.
+fn all_indexes<'n>(
+    alloc: Global,
+    merged: &Merged<'_>,
+    engines: &'n [Engine],
+) -> Result<Vec<PatternIndex<'n>>, NoMemory>
+    requires { merged.now.engines ≡ engines.now }
+    ensures { IfOk result (λ indexes. AreIndexes merged.now indexes.items) }
+{
+    let mut indexes = Vec::new(alloc);
+    let ways = merged.ways();
+    for way in ways {
+        let engine = engine_at(merged, engines, way);
+        let index = index_of(alloc, engine)?;
+        indexes.push(index)?;
+    }
+    Ok(indexes)
+}
+
+// The same where some index is worth its making, and else none.
+fn indexes_of<'n>(
+    alloc: Global,
+    merged: &Merged<'_>,
+    engines: &'n [Engine],
+) -> Result<Vec<PatternIndex<'n>>, NoMemory>
+    requires { merged.now.engines ≡ engines.now }
+    ensures { IfOk result (λ indexes. AreIndexes merged.now indexes.items) }
+{
+    if is_some_index_worth(merged, engines) {
+        all_indexes(alloc, merged, engines)
+    } else {
+        Ok(Vec::new(alloc))
+    }
+}
+
+// The partners of at most three variables, if each has one.
+fn partners_at(way: &Way, vars: &[VarId]) -> Option<Tuple>
+    requires { length vars.now ≤ 3 }
+    ensures { result ≡ partners_at way.now.partners vars.now }
+{
+    let partner = |v: VarId| partner_at(way, v.0 as usize);
+    match vars {
+        [] => Some(Tuple::of(&[])),
+        [v] => Some(Tuple::of(&[partner(*v)?])),
+        [v, w] => Some(Tuple::of(&[partner(*v)?, partner(*w)?])),
+        [v, w, x] => Some(Tuple::of(&[partner(*v)?, partner(*w)?, partner(*x)?])),
+        _ => unreachable!(),
+    }
+}
+
+// In how many of the samples that a way brings all of the variables are present, if the index tells.
+fn indexed_through(index: &PatternIndex<'_>, way: &Way, vars: &[VarId]) -> Option<u64>
+    requires { length vars.now ≤ 3 }
+    ensures { (kept : Kept) → IsIndexOf kept index.now → IfSome result (λ count. count ≡ capped (brought_together kept way.now vars.now)) }
+{
+    match partners_at(way, vars) {
+        None => Some(0),
+        Some(there) => times(index.count(there.as_slice()), way.paths),
+    }
+}
+
+// ---- both
+
+/// What answers for all samples of a point, with the counts of single variables found once, and those of several by an index where
+/// that is worth its making.
 #[derive(Drop)]
 pub(crate) struct Counted<'e> {
     merged: Merged<'e>,
     found: Vec<Option<u64>>,
+    indexes: Vec<PatternIndex<'e>>,
 }
 
 impl<'e> Model for Counted<'e> {
     ghost use Rattle.dk_hierarchy.specs.Merging.{Joint};
-    ghost use Rattle.dk_report.specs.Counting.{AreFound, single_count};
+    ghost use Rattle.dk_report.specs.Counting.{AreFound, AreIndexes, single_count};
 
     ghost Value = { Joint };
 
     ghost view = { λ c. c.merged };
 
-    ghost invariant = { λ c. AreFound (single_count c.merged) c.found.items };
+    ghost invariant = { λ c. AreFound (single_count c.merged) c.found.items × AreIndexes c.merged c.indexes.items };
 }
 
 impl<'e> Counted<'e> {
@@ -210,12 +301,17 @@ impl<'e> Counted<'e> {
     }
 
     // The same with these counts.
-    fn of(alloc: Global, merged: Merged<'e>, engines: &[Engine]) -> Result<Counted<'e>, NoMemory>
+    fn of(alloc: Global, merged: Merged<'e>, engines: &'e [Engine]) -> Result<Counted<'e>, NoMemory>
         requires { merged.engines ≡ engines.now }
         ensures { IfOk result (λ counted. counted ≡ merged.entry) }
     {
         let found = single_counts(alloc, &merged, engines)?;
-        Ok(Counted { merged, found })
+        let indexes = indexes_of(alloc, &merged, engines)?;
+        Ok(Counted {
+            merged,
+            found,
+            indexes,
+        })
     }
 
     /// The point's variables.
@@ -233,13 +329,32 @@ impl<'e> Counted<'e> {
         self.merged.ways()
     }
 
+    // The count of several variables by the indexes, if there is one for each way and all of them tell.
+    fn indexed_count(&self, vars: &[VarId]) -> Option<u64>
+        requires { length vars.now ≤ 3 }
+        ensures { IfSome result (λ n. n ≡ merged_count self.now vars.now) }
+    {
+        let ways = self.ways();
+        let indexes = self.indexes.as_slice();
+        if indexes.len() != ways.len() {
+            return None;
+        }
+        let mut count: u64 = 0;
+        for place in 0..ways.len() {
+            let more = indexed_through(&indexes[place], &ways[place], vars)?;
+            count = count.saturating_add(more);
+        }
+        Some(count)
+    }
+
     // The count that is found of these variables.
     fn found_count(&self, vars: &[VarId]) -> Option<u64>
+        requires { length vars.now ≤ 3 }
         ensures { IfSome result (λ n. n ≡ merged_count self.now vars.now) }
     {
         match vars {
             [v] => found_at(self.found.as_slice(), *v),
-            _ => None,
+            _ => self.indexed_count(vars),
         }
     }
 }

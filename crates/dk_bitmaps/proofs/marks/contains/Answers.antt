@@ -1,7 +1,7 @@
 use Rattle.std.proofs.Common.{rules, ◌∙◌}
 use Rattle.std.proofs.lemmas.List.Sorted.{answers_always}
 use Rattle.dk_presence.proofs.Finding.{found}
-use Rattle.dk_report.proofs.counting.contains.Goals as goal
+use Rattle.dk_bitmaps.proofs.marks.contains.Goals as goal
 
 pub returns : goal.returns
 returns c =

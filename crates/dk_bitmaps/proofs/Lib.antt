@@ -1,0 +1,4 @@
+mod Examples
+pub mod Words
+pub mod Making
+pub mod Counts

@@ -1,0 +1,111 @@
+// The bitmap index of patterns.
+ghost use Rattle.std.specs.Prelude.{◌≡◌, ◌∷◌, [], true, All, IfOk, IfSome};
+ghost use Rattle.dk_bitmaps.specs.Bitmaps.{IsBitmap};
+ghost use Rattle.dk_presence.specs.Patterns.{counted_by, has};
+
+use crate::counting::common_sum;
+use crate::maps::{digit_maps, leader_maps};
+use dk_base::{NoMemory, VarId};
+use dk_presence::{Held, Presence};
+use std::alloc::Global;
+use std::marker::Model;
+
+/// A bitmap of the patterns for each of some leaders, and one for each binary digit of the counts (a bit-sliced index). With it the
+/// count of some leaders takes one step for 64 patterns and a digit. Contracts see the patterns and
+/// the leaders.
+#[derive(Drop)]
+pub struct PatternIndex<'p> {
+    held: &'p [Held],
+    leaders: &'p [VarId],
+    maps: Vec<Vec<u64>>,
+    digits: Vec<Vec<u64>>,
+}
+
+impl<'p> Model for PatternIndex<'p> {
+    ghost use Rattle.dk_bitmaps.specs.Bitmaps.{AreDigitMaps, AreLeaderMaps, Indexed};
+
+    ghost Value = { Indexed };
+
+    ghost view = { λ index. record { held = index.held.now; leaders = index.leaders.now } };
+
+    ghost invariant = { λ index. AreLeaderMaps index.held.now index.leaders.now index.maps.items × AreDigitMaps index.held.now index.digits.items };
+}
+
+impl<'p> PatternIndex<'p> {
+    /// The index of these patterns by these leaders, which ascend. It takes a bit for each leader and pattern, and a search for each.
+    pub fn of(
+        alloc: Global,
+        presence: &'p Presence,
+        leaders: &'p [VarId],
+    ) -> Result<PatternIndex<'p>, NoMemory>
+        ensures { IfOk result (λ index. index ≡ record { held = presence.now; leaders = leaders.now }) }
+    {
+        let held = presence.held();
+        Ok(PatternIndex {
+            held,
+            leaders,
+            maps: leader_maps(alloc, leaders, held)?,
+            digits: digit_maps(alloc, held)?,
+        })
+    }
+
+    // The bitmap of a leader.
+    fn map(&self, v: VarId) -> Option<&[u64]>
+        ensures map { IfSome result (λ words. IsBitmap self.now.held (λ h. has h.leaders v) words.now) }
+        ensures leads { IfSome result (λ _. has self.now.leaders v ≡ true) }
+    {
+        match self.leaders.binary_search_by_key(&v.0, |w| w.0) {
+            Ok(place) => Some(self.maps[place].as_slice()),
+            Err(_) => None,
+        }
+    }
+
+    // The count of three leaders, if they are indexed.
+    fn count_three(&self, x: VarId, y: VarId, z: VarId) -> Option<u64>
+        ensures count { IfSome result (λ count. count ≡ counted_by self.now.held (x ∷ y ∷ z ∷ [])) }
+        ensures lead { IfSome result (λ _. All (λ v. has self.now.leaders v ≡ true) (x ∷ y ∷ z ∷ [])) }
+    {
+        match (self.map(x), self.map(y), self.map(z)) {
+            (Some(a), Some(b), Some(c)) => Some(common_sum(self.digits.as_slice(), a, b, c)),
+            _ => None,
+        }
+    }
+
+    /// In how many samples all of these leaders are present, or 2^64 - 1 if there are more; none where one isn't indexed, or
+    /// where they aren't one, two or three.
+    pub fn count(&self, leaders: &[VarId]) -> Option<u64>
+        ensures count { IfSome result (λ count. count ≡ counted_by self.now.held leaders.now) }
+        ensures lead { IfSome result (λ _. All (λ v. has self.now.leaders v ≡ true) leaders.now) }
+    {
+        match leaders {
+            [x] => self.count_three(*x, *x, *x),
+            [x, y] => self.count_three(*x, *y, *y),
+            [x, y, z] => self.count_three(*x, *y, *z),
+            _ => None,
+        }
+    }
+}
+
+#[cfg(test)]
+mod tests {
+    use super::*;
+    use std::process::Abort;
+    use std::test::Fail;
+
+    #[test]
+    fn an_index_tells_the_counts_of_its_leaders(rt: HostRuntime) -> Result<(), Fail> {
+        let alloc = rt.alloc();
+        let none = Presence::new(alloc)?;
+        let one = none.add(&[VarId(0), VarId(1), VarId(2)])?;
+        let two = one.add(&[VarId(0), VarId(1)])?;
+        let three = two.add(&[VarId(2)])?;
+        let four = three.add(&[VarId(0), VarId(1), VarId(2)])?;
+        let leaders = [VarId(0), VarId(1), VarId(2)];
+        let index = PatternIndex::of(alloc, &four, &leaders)?;
+        assert!(rt; index.count(&[VarId(1)]) == Some(3));
+        assert!(rt; index.count(&[VarId(2), VarId(0)]) == Some(2));
+        assert!(rt; index.count(&leaders) == Some(2));
+        assert!(rt; index.count(&[VarId(0), VarId(3)]) == None);
+        Ok(())
+    }
+}
