@@ -2,7 +2,7 @@
 pub mod Reads
 pub mod Consuming
 pub mod Standing
-pub mod Ends
+pub mod Walks
 pub mod Files
 -- what holds within a file, and between files
 pub mod WholeFile

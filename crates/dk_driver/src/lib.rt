@@ -12,7 +12,7 @@ mod reading;
 mod traces;
 
 pub use consumer::Consumer;
-pub use fault::FilesFault;
+pub use fault::{FileFault, FilesFault};
 pub use feed::Feed;
 pub use reading::read_files;
 pub use traces::Traces;

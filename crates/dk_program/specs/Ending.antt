@@ -8,6 +8,9 @@ use Rattle.dk_io.specs.Streams.{AddsFront, Texts, with_bytes}
 use Rattle.dk_io.specs.declared.outside.Stream.{Stream}
 use Rattle.dk_io.specs.declared.outside.Stream.TheVariants.{Messages}
 use Rattle.dk_driver.specs.Files.{file_name_at}
+use Rattle.dk_driver.specs.Consuming.{Record}
+use Rattle.dk_driver.specs.declared.fault.FileFault.{FileFault}
+use Rattle.dk_driver.specs.declared.fault.FileFault.TheVariants as one
 use Rattle.dk_driver.specs.declared.fault.FilesFault.{FilesFault}
 use Rattle.dk_driver.specs.declared.fault.FilesFault.TheVariants as f
 use Rattle.dk_program.specs.Messages.{fault_line, unread_line}
@@ -32,13 +35,22 @@ EndsBy names (f.Read place) old new before after result =
     EndsWith Read Messages (unread_line (file_name_at names place)) old new before after result
 EndsBy names f.NoMemory old new before after result = (result ≡ NoMemory) × (new ≡ old) × (after ≡ before)
 
+-- or behind a fault of the file of this name
+abbrev pub EndsByFault : List ℕ → FileFault → Texts → Texts → ℕ → ℕ → Ended → Type 0
+EndsByFault name (one.Refused line why) old new before after result =
+    EndsWith Refused Messages (fault_line name line why) old new before after result
+EndsByFault name one.Start old new before after result = EndsWith Read Messages (unread_line name) old new before after result
+EndsByFault name one.Read old new before after result = EndsWith Read Messages (unread_line name) old new before after result
+EndsByFault name one.NoMemory old new before after result = (result ≡ NoMemory) × (new ≡ old) × (after ≡ before)
+
 -- the status of a run in which the report is not written whole
 abbrev pub status_of : Halt → Ended
 status_of halt.Write = Write
 status_of halt.NoMemory = NoMemory
 
--- The report that is due was written whole, and the run is done; or it was cut off.
-abbrev pub ReportEnds : (History → Type 0) → (History → List ℕ) → Texts → Texts → ℕ → ℕ → Ended → Type 0
-ReportEnds Stands due old new before after result =
-    ((result ≡ Done) × ToldWhole Stands due old new before after)
-    ⊎ ((halt : Halt) × (result ≡ status_of halt) × CutOff Stands due old new before after halt)
+-- The report was written whole, and the run is done; or it was cut off.
+abbrev pub ReportEnds : (History → List Record → Type 0) → (History → List Record → List ℕ → Type 0) → Texts → Texts → ℕ → ℕ → Ended
+    → Type 0
+ReportEnds Stands IsDue old new before after result =
+    ((result ≡ Done) × ToldWhole Stands IsDue old new before after)
+    ⊎ ((halt : Halt) × (result ≡ status_of halt) × CutOff Stands IsDue old new before after halt)

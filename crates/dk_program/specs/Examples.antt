@@ -1,5 +1,6 @@
 -- A program that lists points, for worked examples.
-use Rattle.std.specs.Prelude.{◌∷◌, ◌++◌, [], ℕ, List, codes, false, slice_get, unwrap_or}
+use Rattle.std.specs.Prelude.{◌∷◌, ◌++◌, [], ℕ, List, codes, false, flat_map, length, slice_get, unwrap_or}
+use Rattle.std.specs.List.{range_with_len}
 use Rattle.dk_arguments.specs.Descriptions.{Command, positionals}
 use Rattle.dk_points.specs.Table.{Point, names}
 
@@ -15,3 +16,7 @@ listing = record {
 -- the line of the point at a place
 abbrev pub point_line : List Point → ℕ → List ℕ
 point_line ps p = unwrap_or (slice_get (names ps) p) [] ++ codes "\n"
+
+-- the lines of all points
+abbrev pub listed : List Point → List ℕ
+listed ps = flat_map (point_line ps) (range_with_len 0 (length ps))

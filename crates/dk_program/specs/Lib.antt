@@ -1,6 +1,7 @@
 -- cited by public clauses
 pub mod Statuses
 pub mod Tasks
+pub mod Openings
 pub mod Moments
 pub mod Ending
 pub mod Messages

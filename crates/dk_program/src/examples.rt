@@ -1,10 +1,10 @@
 // Worked examples: a program that lists the points that files declare, with how its runs end and what they write.
-use crate::{Program, run_program};
+use crate::{Begins, InParts, Program, run_program, tell_parts};
 use dk_arguments::{Argument, Arguments, ArgumentsFault, Description, Form, Matches};
 use dk_base::{List, NoMemory, PointId, Text};
 use dk_driver::{Consumer, Feed, Traces};
 use dk_events::{Ended, Event};
-use dk_io::{MemoryInputs, MemorySinks, Stream};
+use dk_io::{MemoryInputs, MemorySinks, Sinks, Stream};
 use dk_points::Points;
 use std::alloc::Global;
 use std::process::Abort;
@@ -58,34 +58,55 @@ impl Arguments for Listing {
 struct Blind;
 
 impl Consumer for Blind {
+    ghost given = { λ _. tt };
+
     ghost fits = { λ _ _. Unit {0} };
 
-    ghost stands = { λ _ _ _. Unit {0} };
+    ghost stands = { λ _ _. Unit {0} };
 
-    fn take(&mut self, _points: &Points, _event: Event<'_>) -> Result<(), NoMemory> {
+    fn take(
+        &mut self,
+        _points: &Points,
+        _file: usize,
+        _event: Event<'_>,
+    ) -> Result<(), NoMemory> {
         Ok(())
     }
 }
 
 impl Program for Listing {
-    ghost use Rattle.std.specs.Prelude.{length};
-    ghost use Rattle.dk_program.specs.Examples.{point_line};
+    ghost use Rattle.dk_program.specs.Examples.{listed};
 
     type Kept = Blind;
 
     ghost traces = { λ run. run.traces };
 
-    ghost part_count = { λ _ ps. length ps };
-
-    ghost part = { λ _ ps _ p. point_line ps p };
+    ghost is_report = { λ _ _ told text. text ≡ listed told.points };
 
     fn traces(&self) -> &Traces {
         &self.traces
     }
 
-    fn start(&self, _alloc: Global) -> Result<Blind, NoMemory> {
+    fn tell<S: Sinks>(&self, alloc: Global, feed: Feed<Blind>, sinks: &mut S) -> Ended {
+        tell_parts(alloc, self, &feed, sinks)
+    }
+}
+
+impl Begins for Listing {
+    ghost begins_with = { λ _. tt };
+
+    fn begin(&self, _alloc: Global) -> Result<Blind, NoMemory> {
         Ok(Blind)
     }
+}
+
+impl InParts for Listing {
+    ghost use Rattle.std.specs.Prelude.{length};
+    ghost use Rattle.dk_program.specs.Examples.{point_line};
+
+    ghost part_count = { λ _ ps. length ps };
+
+    ghost part = { λ _ told p. point_line told.points p };
 
     fn part_count(&self, feed: &Feed<Blind>) -> u64 {
         u64::from(feed.points().len())

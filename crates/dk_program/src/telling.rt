@@ -3,12 +3,12 @@ ghost use Rattle.std.specs.Prelude.{◌≡◌, IfOk, length, string_bytes};
 ghost use Rattle.dk_io.specs.declared.outside.Stream.TheVariants as stream;
 ghost use Rattle.dk_driver.specs.Reads.{IsPlaced};
 ghost use Rattle.dk_driver.specs.Files.{file_name_at};
-ghost use Rattle.dk_program.specs.Ending.{EndsBy, EndsWith};
+ghost use Rattle.dk_program.specs.Ending.{EndsBy, EndsByFault, EndsWith};
 ghost use Rattle.dk_program.specs.Messages.{fault_line as fault_text, unread_line as unread_text};
 
 use dk_arguments::{Arguments, Word, usage};
 use dk_base::Why;
-use dk_driver::FilesFault;
+use dk_driver::{FileFault, FilesFault};
 use dk_events::Ended;
 use dk_io::{Failed, Sinks, Stream, write_all};
 use std::alloc::{AllocError, Global};
@@ -33,6 +33,22 @@ pub fn tell_usage<A: Arguments, S: Sinks>(sinks: &mut S) -> Ended
         usage::<A>().as_bytes(),
         Ended::Usage,
     )
+}
+
+/// Tells what the program is and how to use it.
+pub fn tell_help<A: Arguments, S: Sinks>(sinks: &mut S) -> Ended
+    ensures { EndsWith Ended.Done stream.Report A.command.help (S.written sinks.old) (S.written sinks.new) (S.faults sinks.old) (S.faults sinks.new) result }
+{
+    let help = A::description().help;
+    end_with(sinks, Stream::Report, help.as_bytes(), Ended::Done)
+}
+
+/// Tells the program's version.
+pub fn tell_version<A: Arguments, S: Sinks>(sinks: &mut S) -> Ended
+    ensures { EndsWith Ended.Done stream.Report A.command.version (S.written sinks.old) (S.written sinks.new) (S.faults sinks.old) (S.faults sinks.new) result }
+{
+    let version = A::description().version;
+    end_with(sinks, Stream::Report, version.as_bytes(), Ended::Done)
 }
 
 // The line that tells that a file can't be read.
@@ -74,6 +90,22 @@ fn name_at(names: &[Word], place: usize) -> &str
     ensures { result.now ≡ file_name_at names.now place }
 {
     names[place].as_str()
+}
+
+/// Tells a fault of the file of this name.
+pub fn tell_file_fault<S: Sinks>(
+    alloc: Global,
+    name: &str,
+    fault: FileFault,
+    sinks: &mut S,
+) -> Ended
+    ensures { EndsByFault name.now fault (S.written sinks.old) (S.written sinks.new) (S.faults sinks.old) (S.faults sinks.new) result }
+{
+    match fault {
+        FileFault::Refused { line, why } => tell_refused(alloc, name, line, why, sinks),
+        FileFault::Start | FileFault::Read => tell_unread(alloc, name, sinks),
+        FileFault::NoMemory => Ended::NoMemory,
+    }
 }
 
 /// Tells a fault of one of these files.

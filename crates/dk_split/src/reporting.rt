@@ -2,29 +2,45 @@
 use crate::{Command, Splits};
 use dk_base::{NoMemory, PointId, Text};
 use dk_driver::{Feed, Traces};
-use dk_program::Program;
+use dk_events::Ended;
+use dk_io::Sinks;
+use dk_program::{Begins, InParts, Program, tell_parts};
 use std::alloc::Global;
 
 impl Program for Command {
-    ghost use Rattle.std.specs.Prelude.{length};
-    ghost use Rattle.dk_halves.specs.Reports.{implications_at};
-    ghost use Rattle.dk_template.specs.declared.grammar.Grammar.TheVariants.{Two};
+    ghost use Rattle.dk_split.specs.Statuses.{report_of};
 
     type Kept = Splits;
 
     ghost traces = { λ command. command.traces };
 
-    ghost part_count = { λ _ ps. length ps };
-
-    ghost part = { λ command ps samples p. implications_at Two command.least ps samples p };
+    ghost is_report = { λ command _ told text. text ≡ report_of command told };
 
     fn traces(&self) -> &Traces {
         &self.traces
     }
 
-    fn start(&self, alloc: Global) -> Result<Splits, NoMemory> {
+    fn tell<S: Sinks>(&self, alloc: Global, feed: Feed<Splits>, sinks: &mut S) -> Ended {
+        tell_parts(alloc, self, &feed, sinks)
+    }
+}
+
+impl Begins for Command {
+    ghost begins_with = { λ _. tt };
+
+    fn begin(&self, alloc: Global) -> Result<Splits, NoMemory> {
         Ok(Splits::new(alloc))
     }
+}
+
+impl InParts for Command {
+    ghost use Rattle.std.specs.Prelude.{length};
+    ghost use Rattle.dk_halves.specs.Reports.{implications_at};
+    ghost use Rattle.dk_template.specs.declared.grammar.Grammar.TheVariants.{Two};
+
+    ghost part_count = { λ _ ps. length ps };
+
+    ghost part = { λ command told p. implications_at Two command.least told.points told.samples p };
 
     fn part_count(&self, feed: &Feed<Splits>) -> u64 {
         u64::from(feed.points().len())

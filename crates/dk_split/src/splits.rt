@@ -85,11 +85,13 @@ impl Splits {
 impl Consumer for Splits {
     ghost use Rattle.dk_split.specs.Standing.{AreSplitsOf, StandsFor};
 
+    ghost given = { λ _. tt };
+
     ghost fits = { λ s ps. AreSplitsOf ps s.splits.items };
 
-    ghost stands = { StandsFor };
+    ghost stands = { λ s told. StandsFor s told.points told.samples };
 
-    fn take(&mut self, points: &Points, event: Event<'_>) -> Result<(), NoMemory> {
+    fn take(&mut self, points: &Points, _file: usize, event: Event<'_>) -> Result<(), NoMemory> {
         self.take_event(points, event)
     }
 }
