@@ -10,10 +10,11 @@ use dk_points::Points;
 
 /// What is made of the points that files declare and of their samples.
 pub trait Consumer: Drop + Sized {
-    /// What it was given before all files, as the claims that it checks. Taking leaves it.
-    ghost Given: { Type 0 } = { Unit {0} };
+    /// What it is given before all files, as claims that it checks.
+    type Given;
 
-    ghost given: { Self → Given };
+    /// What it was given. Taking leaves it.
+    ghost given: { Self → Self.Given };
 
     /// It is over the points of this table, so that a sample of each of them can be taken.
     ghost fits: { Self → List Point → Type 0 };

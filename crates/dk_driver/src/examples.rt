@@ -17,6 +17,8 @@ struct Tally {
 }
 
 impl Consumer for Tally {
+    type Given = ();
+
     ghost given = { λ _. tt };
 
     ghost fits = { λ _ _. Unit {0} };

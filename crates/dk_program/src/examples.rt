@@ -58,6 +58,8 @@ impl Arguments for Listing {
 struct Blind;
 
 impl Consumer for Blind {
+    type Given = ();
+
     ghost given = { λ _. tt };
 
     ghost fits = { λ _ _. Unit {0} };

@@ -85,6 +85,8 @@ impl Splits {
 impl Consumer for Splits {
     ghost use Rattle.dk_split.specs.Standing.{AreSplitsOf, StandsFor};
 
+    type Given = ();
+
     ghost given = { λ _. tt };
 
     ghost fits = { λ s ps. AreSplitsOf ps s.splits.items };
