@@ -1,6 +1,7 @@
 -- What each end of a run says.
 use Rattle.std.proofs.Common.{◌≡◌, ◌≢◌, ◌≤◌, ◌<◌, ◌⊎◌, ◌+◌, inl, inr, ℕ, zero, suc, List, [], ◌∷◌, map, take, length, get_or, Option, Some, None, All, refl, sym, ◌∙◌, ap, subst, arith}
 use Rattle.std.proofs.lemmas.List.{length-take}
+use Rattle.std.specs.Io.{StartsWith}
 use Rattle.dk_base.specs.declared.why.Why.{Why}
 use Rattle.dk_blocks.specs.History.{History}
 use Rattle.dk_events.specs.declared.ended.Ended.{Ended}
@@ -14,19 +15,21 @@ use Rattle.dk_arguments.specs.declared.request.Request.{Request}
 use Rattle.dk_arguments.specs.declared.request.Request.TheVariants.{Run, Help, Version}
 use Rattle.dk_driver.proofs.Complete.{front_held}
 use Rattle.dk_driver.proofs.Running.{helds_length}
-use Rattle.dk_driver.specs.Ends.{fault_in}
-use Rattle.dk_driver.specs.Files.{AreHeldFiles, ended_file, file_name_at}
+use Rattle.dk_driver.specs.Consuming.{Record}
+use Rattle.dk_driver.specs.Files.{AreHeldFiles, FaultAt, ended_file, file_name_at}
 use Rattle.dk_driver.specs.Reads.{AreRead, AtStart, Break, FaultSays, HasBroken, HasCause, IsPlaced, IsRefusedAt, IsUnreadAt, Within, held_file_at, helds_of}
+use Rattle.dk_driver.specs.Standing.{told_by}
+use Rattle.dk_driver.specs.Walks.{Walk, fault_in}
 use Rattle.dk_driver.specs.declared.fault.FilesFault.{FilesFault}
 use Rattle.dk_driver.specs.declared.fault.FilesFault.TheVariants as f
 use Rattle.dk_program.proofs.Writing.{front_all, front_take, known_nothing}
 use Rattle.dk_program.specs.Ending.{EndsBy, EndsWith, ReportEnds, status_of}
 use Rattle.dk_program.specs.Messages.{fault_line, unread_line}
 use Rattle.dk_program.specs.Moments.{Outside}
-use Rattle.dk_program.specs.Outputs.{IsFront, Output, only_on, texts_followed_by}
-use Rattle.dk_program.specs.Statuses.{ComesTo, IsCutShort, IsDone, IsRefused, IsUnread, OutputIsWritten, Says}
-use Rattle.dk_program.specs.Tasks.{Task, output_at, output_of}
-use Rattle.dk_program.specs.Telling.{CutOff, HaltHasCause}
+use Rattle.dk_program.specs.Outputs.{FollowedByFront, IsFront, Output, only_on, texts_followed_by}
+use Rattle.dk_program.specs.Statuses.{Coming, ComesTo, IsCutShort, IsDone, IsRefused, IsUnread, OutputIsWritten, RunComesTo, Says, StatusSays}
+use Rattle.dk_program.specs.Tasks.{IsOutput, IsOutputBy, Task}
+use Rattle.dk_program.specs.Telling.{BeginsOne, CutOff, HaltHasCause}
 use Rattle.dk_program.specs.declared.reporting.Halt.{Halt}
 use Rattle.dk_program.specs.declared.reporting.Halt.TheVariants as w
 
@@ -82,19 +85,25 @@ same_contents (x ∷ xs) [] e = absurd (cc e)
 same_contents (x ∷ xs) (y ∷ ys) e = let more = same_contents xs ys (cc e) in let first : x ≡ y = cc e in cc (first, more)
 
 -- ---- a run over all files
-abbrev pub due_of : Task → History → List ℕ
-due_of task h = task.report h.table h.samples
+-- what is due of a history and its records
+abbrev pub due_of : Task → History → List Record → List ℕ → Type 0
+due_of task h records text = task.is_report (told_by h records) text
 
--- the output of a run that was read to its end
-pub read_output : (task : Task) (file : List ℕ → HeldFile) (before rest : Option (List ℕ)) (Stands : History → Type 0) → AreRead task.traces file before rest Stands
-    → (contents : List (List ℕ)) → AreHeldFiles (helds_of task.traces file) contents → (h : History) × Stands h × (output_of task (map ended_file contents) ≡ only_on Report (due_of task h))
-unfolding output_of
+-- a report that is due is the output of a run that was read to its end
+pub read_output : (task : Task) (file : List ℕ → HeldFile) (before rest : Option (List ℕ)) (Stands : History → List Record → Type 0) → AreRead task.traces task.room file before rest Stands
+    → (contents : List (List ℕ)) → AreHeldFiles (helds_of task.traces file) contents
+    → (h : History) × (records : List Record) × Stands h records × ((text : List ℕ) → due_of task h records text → IsOutput task (map ended_file contents) (only_on Report text))
+unfolding IsOutput
 read_output task file before rest Stands read contents held =
-    let to = read.come_to contents held in
-    (to.history, to.stands, ap (output_at task) to.end)
+    let to = read.come_to contents held in (
+      to.history,
+      to.records,
+      to.stands,
+      λ text due. subst (λ (w : Walk FaultAt). IsOutputBy task w (only_on Report text)) (sym to.walk) (text, due, refl),
+    )
 
-done_comes : (task : Task) (before after : Outside) (Stands : History → Type 0) (text : List ℕ) → AreRead task.traces before.file before.rest after.rest Stands
-    → ((contents : List (List ℕ)) → AreHeldFiles (helds_of task.traces before.file) contents → only_on Report text ≡ output_of task (map ended_file contents))
+done_comes : (task : Task) (before after : Outside) (Stands : History → List Record → Type 0) (text : List ℕ) → AreRead task.traces task.room before.file before.rest after.rest Stands
+    → ((contents : List (List ℕ)) → AreHeldFiles (helds_of task.traces before.file) contents → IsOutput task (map ended_file contents) (only_on Report text))
     → IsDone task before after (only_on Report text)
 done_comes task before after Stands text read defined = record {
   none_absent = all_there (helds_of task.traces before.file) (λ k h. read.there k (omega (arith, h, helds_length task.traces before.file)));
@@ -105,7 +114,7 @@ done_comes task before after Stands text read defined = record {
 }
 
 -- ---- faults
-refused_comes : (task : Task) (before : Outside) (place line : ℕ) (why : Why) → place < length task.traces.names → IsRefusedAt task.traces before.file place line why
+refused_comes : (task : Task) (before : Outside) (place line : ℕ) (why : Why) → place < length task.traces.names → IsRefusedAt task.traces task.room before.file place line why
     → IsRefused task before (only_on Messages (fault_line (file_name_at task.traces.names place) line why))
 refused_comes task before place line why within at = record {
   fault = record { file = place; line = line; why = why };
@@ -116,7 +125,7 @@ refused_comes task before place line why within at = record {
   message = refl;
 }
 
-unread_comes : (by : Break) (task : Task) (before after : Outside) (place : ℕ) → place < length task.traces.names → IsUnreadAt by task.traces before.file before.rest after.rest place
+unread_comes : (by : Break) (task : Task) (before after : Outside) (place : ℕ) → place < length task.traces.names → IsUnreadAt by task.traces task.room before.file before.rest after.rest place
     → HasBroken by (held_file_at (helds_of task.traces before.file) place) (Rose before.read_faults after.read_faults)
     → IsUnread task before after (only_on Messages (unread_line (file_name_at task.traces.names place)))
 unread_comes by task before after place within at cause = record {
@@ -130,109 +139,134 @@ unread_comes by task before after place within at cause = record {
   message = refl;
 }
 
-module _ {A : Type 0} (task_of : A → Task) (c : Command) where
-  -- a run that comes to an end and told its output says so
-  comes_to_says : (status : Ended) (request : Option (Request A)) (before after : Outside) (output : Output)
-      → ComesTo task_of c status request before after output → OutputIsWritten before after output → Says task_of c status request before after
-  comes_to_says Done request before after output comes e = (output, comes, e)
-  comes_to_says Refused request before after output comes e = (output, comes, e)
-  comes_to_says Usage request before after output comes e = (output, comes, e)
-  comes_to_says Read request before after output comes e = (output, comes, e)
-  comes_to_says Write (Some (Run a)) before after output comes e = absurd comes
-  comes_to_says Write (Some Help) before after output comes e = absurd comes
-  comes_to_says Write (Some Version) before after output comes e = absurd comes
-  comes_to_says Write None before after output comes e = absurd comes
-  comes_to_says NoMemory (Some (Run a)) before after output comes e = absurd comes
-  comes_to_says NoMemory (Some Help) before after output comes e = absurd comes
-  comes_to_says NoMemory (Some Version) before after output comes e = absurd comes
-  comes_to_says NoMemory None before after output comes e = absurd comes
+-- ---- what is said
+-- a status other than those of failed writes and of memory says that the output was written
+abbrev pub IsSaidBy : Coming → Ended → Type 0
+IsSaidBy Comes status = (before after : Outside) (output : Output) → Comes status before after output → OutputIsWritten before after output → StatusSays Comes status before after
 
+module _ (Comes : Coming) (before after : Outside) where
   -- a text alone
-  only_says : (status : Ended) (request : Option (Request A)) (before after : Outside) (stream : Stream) (text : List ℕ) (result : Ended) → ComesTo task_of c status request before after (only_on stream text)
-      → EndsWith status stream text before.written after.written before.write_faults after.write_faults result → Says task_of c result request before after
-  only_says status request before after stream text result comes (inl (is, e, calm)) =
-      subst (λ (s : Ended). Says task_of c s request before after) (sym is) (comes_to_says status request before after (only_on stream text) comes (e ∙ followed_only before.written stream text, calm))
-  only_says status request before after stream text result comes (inr (inl (is, rose, (n, short, e)))) =
-      subst (λ (s : Ended). Says task_of c s request before after) (sym is)
+  pub only_says : (status : Ended) (stream : Stream) (text : List ℕ) (result : Ended) → IsSaidBy Comes status → Comes status before after (only_on stream text)
+      → EndsWith status stream text before.written after.written before.write_faults after.write_faults result → StatusSays Comes result before after
+  only_says status stream text result said comes (inl (is, e, calm)) =
+      subst (λ (s : Ended). StatusSays Comes s before after) (sym is) (said before after (only_on stream text) comes (e ∙ followed_only before.written stream text, calm))
+  only_says status stream text result said comes (inr (inl (is, rose, (n, short, e)))) =
+      subst (λ (s : Ended). StatusSays Comes s before after) (sym is)
       (rose, inr (status, only_on stream text, comes, record { front = only_on stream (take n text); is_front = only_front stream n text short; written = e ∙ followed_only before.written stream (take n text) }))
-  only_says status request before after stream text result comes (inr (inr (is, e, calm))) = subst (λ (s : Ended). Says task_of c s request before after) (sym is) (calm, inl e)
+  only_says status stream text result said comes (inr (inr (is, e, calm))) = subst (λ (s : Ended). StatusSays Comes s before after) (sym is) (calm, inl e)
 
+  halt_says : (halt : Halt) → IsCutShort Comes before after → HaltHasCause before.write_faults after.write_faults halt → StatusSays Comes (status_of halt) before after
+  halt_says w.Write short rose = (rose, short)
+  halt_says w.NoMemory short calm = (calm, short)
+
+  -- memory ran out
+  pub memory_says : (result : Ended) → result ≡ NoMemory → after.written ≡ before.written → after.write_faults ≡ before.write_faults → StatusSays Comes result before after
+  memory_says result is e calm = subst (λ (s : Ended). StatusSays Comes s before after) (sym is) (calm, inl e)
+
+-- what is said of what comes so is said of what comes from there
+pub says_on : (Comes Other : Coming) (result : Ended) (before between after : Outside) → between.written ≡ before.written → between.write_faults ≡ before.write_faults
+    → ((status : Ended) (output : Output) → Comes status between after output → Other status before after output)
+    → StatusSays Comes result between after → StatusSays Other result before after
+says_on Comes Other result before between after same calm more says = go result says where
+  written : (output : Output) → OutputIsWritten between after output → OutputIsWritten before after output
+  written output (e, still) = (e ∙ ap (λ (t : Texts). texts_followed_by t output) same, still ∙ calm)
+
+  short : IsCutShort Comes between after → IsCutShort Other before after
+  short (inl e) = inl (e ∙ same)
+  short (inr (status, output, comes, front)) =
+      inr (status, output, more status output comes, record { front = front.front; is_front = front.is_front; written = front.written ∙ ap (λ (t : Texts). texts_followed_by t front.front) same })
+
+  go : (result : Ended) → StatusSays Comes result between after → StatusSays Other result before after
+  go Write (rose, cut) = (subst (λ (n : ℕ). Rose n after.write_faults) calm rose, short cut)
+  go NoMemory (still, cut) = (still ∙ calm, short cut)
+  go Done (output, comes, e) = (output, more Done output comes, written output e)
+  go Refused (output, comes, e) = (output, more Refused output comes, written output e)
+  go Usage (output, comes, e) = (output, more Usage output comes, written output e)
+  go Read (output, comes, e) = (output, more Read output comes, written output e)
+
+-- ---- a run with a task
+module _ (task : Task) (before after : Outside) where
   -- a report that is cut off is a front of the one that the run comes to
-  cut_comes : (a : A) (before after : Outside) (Stands : History → Type 0) (halt : Halt) → AreRead (task_of a).traces before.file before.rest after.rest Stands
-      → CutOff Stands (due_of (task_of a)) before.written after.written before.write_faults after.write_faults halt → IsCutShort task_of c (Some (Run a)) before after
-  cut_comes a before after Stands halt read cut = elim (held_or_not (helds_of (task_of a).traces before.file)) [
-    | inl here ↦
-        let (h, stands, e) = read_output (task_of a) before.file before.rest after.rest Stands read here.0 here.1 in
+  cut_comes : (Stands : History → List Record → Type 0) (halt : Halt) → AreRead task.traces task.room before.file before.rest after.rest Stands
+      → CutOff Stands (due_of task) before.written after.written before.write_faults after.write_faults halt → IsCutShort (RunComesTo task) before after
+  cut_comes Stands halt read cut = go cut.written where
+    front : (text whole : List ℕ) → after.written ≡ with_bytes before.written Report text → StartsWith whole text → FollowedByFront before.written after.written (only_on Report whole)
+    front text whole e starts = record {
+      front = only_on Report text;
+      is_front = record { report = starts; messages = refl; state = refl; in_order = inr refl };
+      written = e ∙ followed_only before.written Report text;
+    }
+
+    begun : (text : List ℕ) → after.written ≡ with_bytes before.written Report text
+        → ((h : History) (records : List Record) → Stands h records → BeginsOne (due_of task h records) text)
+        → ((contents : List (List ℕ)) × AreHeldFiles (helds_of task.traces before.file) contents) ⊎ ((contents : List (List ℕ)) → AreHeldFiles (helds_of task.traces before.file) contents → ⊥)
+        → IsCutShort (RunComesTo task) before after
+    begun text e begins (inl (contents, held)) =
+        let (h, records, stands, gives) = read_output task before.file before.rest after.rest Stands read contents held in
+        let (whole, due, starts) = begins h records stands in
         inr (
           Done,
-          only_on Report (due_of (task_of a) h),
-          done_comes (task_of a) before after Stands (due_of (task_of a) h) read
-              (λ contents held. sym e ∙ ap (λ (l : List (List ℕ)). output_of (task_of a) (map ended_file l)) (same_contents here.0 contents (sym here.1 ∙ held))),
-          record {
-            front = only_on Report cut.text;
-            is_front = record { report = cut.holds h stands; messages = refl; state = refl; in_order = inr refl };
-            written = cut.written ∙ followed_only before.written Report cut.text;
-          },
+          only_on Report whole,
+          done_comes task before after Stands whole read
+              (λ others same. subst (λ (l : List (List ℕ)). IsOutput task (map ended_file l) (only_on Report whole)) (same_contents contents others (sym held ∙ same)) (gives whole due)),
+          front text whole e starts,
         )
-    | inr none ↦
-        inr (
-          Done,
-          only_on Report cut.text,
-          done_comes (task_of a) before after Stands cut.text read (λ contents held. absurd (none contents held)),
-          record {
-            front = only_on Report cut.text;
-            is_front = record { report = front_all cut.text; messages = refl; state = refl; in_order = inr refl };
-            written = cut.written ∙ followed_only before.written Report cut.text;
-          },
-        )
-  ]
+    begun text e begins (inr none) =
+        inr (Done, only_on Report text, done_comes task before after Stands text read (λ contents held. absurd (none contents held)), front text text e (front_all text))
 
-  halt_says : (a : A) (before after : Outside) (halt : Halt) → IsCutShort task_of c (Some (Run a)) before after → HaltHasCause before.write_faults after.write_faults halt → Says task_of c (status_of halt) (Some (Run a)) before after
-  halt_says a before after w.Write short rose = (rose, short)
-  halt_says a before after w.NoMemory short calm = (calm, short)
+    go : (after.written ≡ before.written) ⊎ ((text : List ℕ) × (after.written ≡ with_bytes before.written Report text)
+        × ((h : History) (records : List Record) → Stands h records → BeginsOne (due_of task h records) text)) → IsCutShort (RunComesTo task) before after
+    go (inl e) = inl e
+    go (inr (text, e, begins)) = begun text e begins (held_or_not (helds_of task.traces before.file))
 
-  pub report_says : (a : A) (before after : Outside) (Stands : History → Type 0) (result : Ended) → AreRead (task_of a).traces before.file before.rest after.rest Stands
-      → ReportEnds Stands (due_of (task_of a)) before.written after.written before.write_faults after.write_faults result → Says task_of c result (Some (Run a)) before after
-  report_says a before after Stands result read (inl (is, whole)) =
-      subst (λ (s : Ended). Says task_of c s (Some (Run a)) before after) (sym is) (
+  pub report_says : (Stands : History → List Record → Type 0) (result : Ended) → AreRead task.traces task.room before.file before.rest after.rest Stands
+      → ReportEnds Stands (due_of task) before.written after.written before.write_faults after.write_faults result → StatusSays (RunComesTo task) result before after
+  report_says Stands result read (inl (is, whole)) =
+      subst (λ (s : Ended). StatusSays (RunComesTo task) s before after) (sym is) (
         only_on Report whole.text,
-        done_comes (task_of a) before after Stands whole.text read
-            (λ contents held. let (h, stands, e) = read_output (task_of a) before.file before.rest after.rest Stands read contents held in ap (only_on Report) (whole.holds h stands) ∙ sym e),
+        done_comes task before after Stands whole.text read
+            (λ contents held. let (h, records, stands, gives) = read_output task before.file before.rest after.rest Stands read contents held in gives whole.text (whole.holds h records stands)),
         (whole.written ∙ followed_only before.written Report whole.text, whole.calm),
       )
-  report_says a before after Stands result read (inr (halt, is, cut)) =
-      subst (λ (s : Ended). Says task_of c s (Some (Run a)) before after) (sym is) (halt_says a before after halt (cut_comes a before after Stands halt read cut) cut.cause)
+  report_says Stands result read (inr (halt, is, cut)) =
+      subst (λ (s : Ended). StatusSays (RunComesTo task) s before after) (sym is) (halt_says (RunComesTo task) before after halt (cut_comes Stands halt read cut) cut.cause)
 
-  pub fault_says : (a : A) (before after : Outside) (fault : FilesFault) (result : Ended) → FaultSays (task_of a).traces before.file before.rest fault after.rest
-      → IsPlaced (length (task_of a).traces.names) fault → HasCause (task_of a).traces before.file (Rose before.read_faults after.read_faults) fault
-      → EndsBy (task_of a).traces.names fault before.written after.written before.write_faults after.write_faults result → Says task_of c result (Some (Run a)) before after
-  fault_says a before after (f.Refused place line why) result says within cause ended =
-      only_says Refused (Some (Run a)) before after Messages (fault_line (file_name_at (task_of a).traces.names place) line why) result (refused_comes (task_of a) before place line why within says) ended
-  fault_says a before after (f.Start place) result says within cause ended =
-      only_says Read (Some (Run a)) before after Messages (unread_line (file_name_at (task_of a).traces.names place)) result (unread_comes AtStart (task_of a) before after place within says cause) ended
-  fault_says a before after (f.Read place) result says within cause ended =
-      only_says Read (Some (Run a)) before after Messages (unread_line (file_name_at (task_of a).traces.names place)) result (unread_comes Within (task_of a) before after place within says cause) ended
-  fault_says a before after f.NoMemory result says within cause (is, e, calm) = subst (λ (s : Ended). Says task_of c s (Some (Run a)) before after) (sym is) (calm, inl e)
+  pub fault_says : (fault : FilesFault) (result : Ended) → FaultSays task.traces task.room before.file before.rest fault after.rest
+      → IsPlaced (length task.traces.names) fault → HasCause task.traces before.file (Rose before.read_faults after.read_faults) fault
+      → EndsBy task.traces.names fault before.written after.written before.write_faults after.write_faults result → StatusSays (RunComesTo task) result before after
+  fault_says (f.Refused place line why) result says within cause ended =
+      only_says (RunComesTo task) before after Refused Messages (fault_line (file_name_at task.traces.names place) line why) result (λ b a output comes e. (output, comes, e))
+      (refused_comes task before place line why within says) ended
+  fault_says (f.Start place) result says within cause ended =
+      only_says (RunComesTo task) before after Read Messages (unread_line (file_name_at task.traces.names place)) result (λ b a output comes e. (output, comes, e))
+      (unread_comes AtStart task before after place within says cause) ended
+  fault_says (f.Read place) result says within cause ended =
+      only_says (RunComesTo task) before after Read Messages (unread_line (file_name_at task.traces.names place)) result (λ b a output comes e. (output, comes, e))
+      (unread_comes Within task before after place within says cause) ended
+  fault_says f.NoMemory result says within cause (is, e, calm) = memory_says (RunComesTo task) before after result is e calm
 
-  -- memory ran out in front of all
-  pub memory_says : (request : Option (Request A)) (before after : Outside) → after.written ≡ before.written → after.write_faults ≡ before.write_faults → Says task_of c NoMemory request before after
-  memory_says request before after e calm = (calm, inl e)
+-- ---- what was asked for
+module _ {A : Type 0} (Comes : A → Coming) (c : Command) (asked : Option (Request A)) (before after : Outside) (result : Ended) where
+  -- a run
+  pub run_says : (a : A) → asked ≡ Some (Run a) → StatusSays (Comes a) result before after → Says Comes c result asked before after
+  run_says a is says =
+      subst (λ (r : Option (Request A)). Says Comes c result r before after) (sym is)
+      (says_on (Comes a) (ComesTo Comes c (Some (Run a))) result before before after refl refl (λ status output comes. comes) says)
 
-  -- ---- arguments that ask for no run
-  pub help_says : (asked : Option (Request A)) (before after : Outside) (text : List ℕ) (result : Ended) → asked ≡ Some Help → text ≡ c.help
-      → EndsWith Done Report text before.written after.written before.write_faults after.write_faults result → Says task_of c result asked before after
-  help_says asked before after text result is same ended =
-      subst (λ (r : Option (Request A)). Says task_of c result r before after) (sym is) (only_says Done (Some Help) before after Report text result (ap (only_on Report) same) ended)
+  pub help_says : asked ≡ Some Help → EndsWith Done Report c.help before.written after.written before.write_faults after.write_faults result → Says Comes c result asked before after
+  help_says is ended =
+      subst (λ (r : Option (Request A)). Says Comes c result r before after) (sym is)
+      (only_says (ComesTo Comes c (Some Help)) before after Done Report c.help result (λ b a output comes e. (output, comes, e)) (refl, refl) ended)
 
-  pub version_says : (asked : Option (Request A)) (before after : Outside) (text : List ℕ) (result : Ended) → asked ≡ Some Version → text ≡ c.version
-      → EndsWith Done Report text before.written after.written before.write_faults after.write_faults result → Says task_of c result asked before after
-  version_says asked before after text result is same ended =
-      subst (λ (r : Option (Request A)). Says task_of c result r before after) (sym is) (only_says Done (Some Version) before after Report text result (ap (only_on Report) same) ended)
+  pub version_says : asked ≡ Some Version → EndsWith Done Report c.version before.written after.written before.write_faults after.write_faults result → Says Comes c result asked before after
+  version_says is ended =
+      subst (λ (r : Option (Request A)). Says Comes c result r before after) (sym is)
+      (only_says (ComesTo Comes c (Some Version)) before after Done Report c.version result (λ b a output comes e. (output, comes, e)) (refl, refl) ended)
 
-  pub usage_says : (asked : Option (Request A)) (before after : Outside) (result : Ended) → asked ≡ None
-      → EndsWith Usage Messages c.usage before.written after.written before.write_faults after.write_faults result → Says task_of c result asked before after
-  usage_says asked before after result is ended =
-      subst (λ (r : Option (Request A)). Says task_of c result r before after) (sym is) (only_says Usage None before after Messages c.usage result refl ended)
+  pub usage_says : asked ≡ None → EndsWith Usage Messages c.usage before.written after.written before.write_faults after.write_faults result → Says Comes c result asked before after
+  usage_says is ended =
+      subst (λ (r : Option (Request A)). Says Comes c result r before after) (sym is)
+      (only_says (ComesTo Comes c None) before after Usage Messages c.usage result (λ b a output comes e. (output, comes, e)) (refl, refl) ended)
 
 -- ---- messages
 pub unread_ends : (text other : List ℕ) (old new : Texts) (before after : ℕ) (result : Ended) → text ≡ other → EndsWith Read Messages text old new before after result → EndsWith Read Messages other old new before after result

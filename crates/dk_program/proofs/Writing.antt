@@ -1,5 +1,5 @@
 -- Writing texts one behind another.
-use Rattle.std.proofs.Common.{◌≡◌, ◌≤◌, ◌<◌, ◌+◌, ◌-◌, ℕ, zero, suc, List, [], ◌∷◌, ◌++◌, length, take, Option, Some, None, refl, sym, ◌∙◌, ap, subst, arith, append_assoc, length-append}
+use Rattle.std.proofs.Common.{◌≡◌, ◌≤◌, ◌<◌, ◌⊎◌, ◌+◌, ◌-◌, inl, inr, ℕ, zero, suc, List, [], ◌∷◌, ◌++◌, length, take, Option, Some, None, refl, sym, ◌∙◌, ap, subst, arith, append_assoc, length-append}
 use Rattle.std.proofs.Math.Seq.{take-append-add}
 use Rattle.std.proofs.lemmas.Grind.{flat_map-append}
 use Rattle.std.proofs.lemmas.List.{append-nil, length-take, take-append-le, take_all}
@@ -11,7 +11,8 @@ use Rattle.dk_io.specs.Outside.{Rose}
 use Rattle.dk_io.specs.Streams.{Texts, with_bytes}
 use Rattle.dk_io.specs.declared.outside.Stream.{Stream}
 use Rattle.dk_io.specs.declared.outside.Stream.TheVariants.{Report, Messages, State}
-use Rattle.dk_program.specs.Telling.{CutOff, CutsText, HaltHasCause, ToldWhole}
+use Rattle.dk_driver.specs.Consuming.{Record}
+use Rattle.dk_program.specs.Telling.{BeginsOne, CutOff, CutsText, HaltHasCause, ToldWhole}
 use Rattle.dk_program.specs.declared.reporting.Halt.{Halt}
 use Rattle.dk_program.specs.declared.reporting.Halt.TheVariants.{Write, NoMemory}
 
@@ -49,65 +50,96 @@ pub front_take : (n : ℕ) (a : List ℕ) → n ≤ length a → StartsWith a (t
 front_take n a h = ap (λ (k : ℕ). take k a) (length-take n a ∙ omega arith)
 
 -- ---- a part
-pub told_text : (Stands : History → Type 0) (due : History → List ℕ) (text : List ℕ) (old new : Texts) (before after : ℕ) → ((h : History) → Stands h → text ≡ due h)
-    → new ≡ with_bytes old Report text → after ≡ before → ToldWhole Stands due old new before after
-told_text Stands due text old new before after same e calm = record { text = text; written = e; holds = same; calm = calm }
+-- the text that is due
+abbrev pub Only : (History → List Record → List ℕ) → History → List Record → List ℕ → Type 0
+Only due h records text = text ≡ due h records
 
-pub cut_text : (Stands : History → Type 0) (due : History → List ℕ) (text : List ℕ) (old new : Texts) (before after : ℕ) (halt : Halt) → ((h : History) → Stands h → text ≡ due h)
-    → CutsText Report text old new before after halt → CutOff Stands due old new before after halt
-cut_text Stands due text old new before after Write same ((n, short, e), rose) = record {
-  text = take n text;
-  written = e;
-  holds = λ h stands. subst (λ (l : List ℕ). StartsWith l (take n text)) (same h stands) (front_take n text short);
-  cause = rose;
-}
-cut_text Stands due text old new before after NoMemory same (e, calm) = record { text = []; written = e ∙ sym (added_nothing old); holds = λ h stands. refl; cause = calm }
+module _ (Stands : History → List Record → Type 0) where
+  pub told_text : (due : History → List Record → List ℕ) (text : List ℕ) (old new : Texts) (before after : ℕ) → ((h : History) (records : List Record) → Stands h records → text ≡ due h records)
+      → new ≡ with_bytes old Report text → after ≡ before → ToldWhole Stands (Only due) old new before after
+  told_text due text old new before after same e calm = record { text = text; written = e; holds = same; calm = calm }
 
--- nothing is written
-pub cut_nothing : (Stands : History → Type 0) (due : History → List ℕ) (old : Texts) (before : ℕ) → CutOff Stands due old old before before NoMemory
-cut_nothing Stands due old before = record { text = []; written = sym (added_nothing old); holds = λ h stands. refl; cause = refl }
+  pub cut_text : (due : History → List Record → List ℕ) (text : List ℕ) (old new : Texts) (before after : ℕ) (halt : Halt) → ((h : History) (records : List Record) → Stands h records → text ≡ due h records)
+      → CutsText Report text old new before after halt → CutOff Stands (Only due) old new before after halt
+  cut_text due text old new before after Write same ((n, short, e), rose) = record {
+    written = inr (take n text, e, λ h records stands. (text, same h records stands, front_take n text short));
+    cause = rose;
+  }
+  cut_text due text old new before after NoMemory same (e, calm) = record { written = inl e; cause = calm }
 
--- ---- one text behind another
-pub told_then : (Stands : History → Type 0) (first more : History → List ℕ) (old mid new : Texts) (before between after : ℕ)
-    → ToldWhole Stands first old mid before between → ToldWhole Stands more mid new between after → ToldWhole Stands (λ h. first h ++ more h) old new before after
-told_then Stands first more old mid new before between after a b = record {
-  text = a.text ++ b.text;
-  written = written_behind old mid new a.text b.text a.written b.written;
-  holds = λ h stands. ap (λ (l : List ℕ). l ++ b.text) (a.holds h stands) ∙ ap (λ (l : List ℕ). first h ++ l) (b.holds h stands);
-  calm = b.calm ∙ a.calm;
-}
+  -- nothing is written
+  pub cut_nothing : (due : History → List Record → List ℕ) (old : Texts) (before : ℕ) → CutOff Stands (Only due) old old before before NoMemory
+  cut_nothing due old before = record { written = inl refl; cause = refl }
 
-has_cause : (before between after : ℕ) (halt : Halt) → between ≡ before → HaltHasCause between after halt → HaltHasCause before after halt
-has_cause before between after Write same rose = subst (λ (n : ℕ). Rose n after) same rose
-has_cause before between after NoMemory same calm = calm ∙ same
+  -- ---- one text behind another
+  pub told_then : (first more : History → List Record → List ℕ) (old mid new : Texts) (before between after : ℕ)
+      → ToldWhole Stands (Only first) old mid before between → ToldWhole Stands (Only more) mid new between after → ToldWhole Stands (Only (λ h records. first h records ++ more h records)) old new before after
+  told_then first more old mid new before between after a b = record {
+    text = a.text ++ b.text;
+    written = written_behind old mid new a.text b.text a.written b.written;
+    holds = λ h records stands. ap (λ (l : List ℕ). l ++ b.text) (a.holds h records stands) ∙ ap (λ (l : List ℕ). first h records ++ l) (b.holds h records stands);
+    calm = b.calm ∙ a.calm;
+  }
 
-pub cut_then : (Stands : History → Type 0) (first more : History → List ℕ) (old mid new : Texts) (before between after : ℕ) (halt : Halt)
-    → ToldWhole Stands first old mid before between → CutOff Stands more mid new between after halt → CutOff Stands (λ h. first h ++ more h) old new before after halt
-cut_then Stands first more old mid new before between after halt a b = record {
-  text = a.text ++ b.text;
-  written = written_behind old mid new a.text b.text a.written b.written;
-  holds = λ h stands. subst (λ (l : List ℕ). StartsWith (first h ++ more h) (l ++ b.text)) (sym (a.holds h stands)) (front_behind (first h) (more h) b.text (b.holds h stands));
-  cause = has_cause before between after halt a.calm b.cause;
-}
+  has_cause : (before between after : ℕ) (halt : Halt) → between ≡ before → HaltHasCause between after halt → HaltHasCause before after halt
+  has_cause before between after Write same rose = subst (λ (n : ℕ). Rose n after) same rose
+  has_cause before between after NoMemory same calm = calm ∙ same
 
--- a text that is not written whole is not, whatever is to follow
-pub cut_short : (Stands : History → Type 0) (first all : History → List ℕ) (old new : Texts) (before after : ℕ) (halt : Halt)
-    → ((h : History) → Stands h → (more : List ℕ) × (all h ≡ first h ++ more)) → CutOff Stands first old new before after halt → CutOff Stands all old new before after halt
-cut_short Stands first all old new before after halt goes a = record {
-  text = a.text;
-  written = a.written;
-  holds = λ h stands. let (more, e) = goes h stands in subst (λ (l : List ℕ). StartsWith l a.text) (sym e) (front_more (first h) more a.text (a.holds h stands));
-  cause = a.cause;
-}
+  pub cut_then : (first more : History → List Record → List ℕ) (old mid new : Texts) (before between after : ℕ) (halt : Halt)
+      → ToldWhole Stands (Only first) old mid before between → CutOff Stands (Only more) mid new between after halt
+      → CutOff Stands (Only (λ h records. first h records ++ more h records)) old new before after halt
+  cut_then first more old mid new before between after halt a b = record { written = go b.written; cause = has_cause before between after halt a.calm b.cause } where
+    go : (new ≡ mid) ⊎ ((text : List ℕ) × (new ≡ with_bytes mid Report text) × ((h : History) (records : List Record) → Stands h records → BeginsOne (Only more h records) text))
+        → (new ≡ old) ⊎ ((text : List ℕ) × (new ≡ with_bytes old Report text) × ((h : History) (records : List Record) → Stands h records → BeginsOne (Only (λ h records. first h records ++ more h records) h records) text))
+    go (inl e) = inr (
+      a.text,
+      e ∙ a.written,
+      λ h records stands. (
+        first h records ++ more h records,
+        refl,
+        front_more (first h records) (more h records) a.text (subst (λ (l : List ℕ). StartsWith l a.text) (a.holds h records stands) (front_all a.text)),
+      ),
+    )
+    go (inr (text, e, begins)) = inr (
+      a.text ++ text,
+      written_behind old mid new a.text text a.written e,
+      λ h records stands.
+          let (whole, is, starts) = begins h records stands in (
+            first h records ++ more h records,
+            refl,
+            subst (λ (l : List ℕ). StartsWith (first h records ++ more h records) (l ++ text)) (sym (a.holds h records stands))
+                (front_behind (first h records) (more h records) text (subst (λ (l : List ℕ). StartsWith l text) is starts)),
+          ),
+    )
 
--- nothing is due yet
-pub told_nothing : (Stands : History → Type 0) (due : History → List ℕ) (old : Texts) (before : ℕ) → ((h : History) → Stands h → [] ≡ due h) → ToldWhole Stands due old old before before
-told_nothing Stands due old before none = record { text = []; written = sym (added_nothing old); holds = none; calm = refl }
+  -- a text that is not written whole is not, whatever is to follow
+  pub cut_short : (first all : History → List Record → List ℕ) (old new : Texts) (before after : ℕ) (halt : Halt)
+      → ((h : History) (records : List Record) → Stands h records → (more : List ℕ) × (all h records ≡ first h records ++ more))
+      → CutOff Stands (Only first) old new before after halt → CutOff Stands (Only all) old new before after halt
+  cut_short first all old new before after halt goes a = record { written = go a.written; cause = a.cause } where
+    go : (new ≡ old) ⊎ ((text : List ℕ) × (new ≡ with_bytes old Report text) × ((h : History) (records : List Record) → Stands h records → BeginsOne (Only first h records) text))
+        → (new ≡ old) ⊎ ((text : List ℕ) × (new ≡ with_bytes old Report text) × ((h : History) (records : List Record) → Stands h records → BeginsOne (Only all h records) text))
+    go (inl e) = inl e
+    go (inr (text, e, begins)) = inr (
+      text,
+      e,
+      λ h records stands.
+          let (more, same) = goes h records stands in
+          let (whole, is, starts) = begins h records stands in (
+            all h records,
+            refl,
+            subst (λ (l : List ℕ). StartsWith l text) (sym same) (front_more (first h records) more text (subst (λ (l : List ℕ). StartsWith l text) is starts)),
+          ),
+    )
 
--- what is due is also this
-pub told_same : (Stands : History → Type 0) (due other : History → List ℕ) (old new : Texts) (before after : ℕ) → ((h : History) → Stands h → due h ≡ other h)
-    → ToldWhole Stands due old new before after → ToldWhole Stands other old new before after
-told_same Stands due other old new before after same a = record { text = a.text; written = a.written; holds = λ h stands. a.holds h stands ∙ same h stands; calm = a.calm }
+  -- nothing is due yet
+  pub told_nothing : (due : History → List Record → List ℕ) (old : Texts) (before : ℕ) → ((h : History) (records : List Record) → Stands h records → [] ≡ due h records) → ToldWhole Stands (Only due) old old before before
+  told_nothing due old before none = record { text = []; written = sym (added_nothing old); holds = none; calm = refl }
+
+  -- what is due is also this
+  pub told_same : (due other : History → List Record → List ℕ) (old new : Texts) (before after : ℕ) → ((h : History) (records : List Record) → Stands h records → due h records ≡ other h records)
+      → ToldWhole Stands (Only due) old new before after → ToldWhole Stands (Only other) old new before after
+  told_same due other old new before after same a = record { text = a.text; written = a.written; holds = λ h records stands. a.holds h records stands ∙ same h records stands; calm = a.calm }
 
 -- ---- the parts, one after another
 abbrev pub parts_to : (ℕ → List ℕ) → ℕ → List ℕ

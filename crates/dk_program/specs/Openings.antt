@@ -48,18 +48,25 @@ pub record Opened (Given : Type 0) : Type 0 where
   pub room : ℕ
   pub rest : Option (List ℕ)
 
+abbrev pub opened_with : {Given : Type 0} → Given → ℕ → Option (List ℕ) → Opened Given
+opened_with given room rest = record { given = given; room = room; rest = rest }
+
 pub record IsOpened {Given : Type 0} (opening : Opening Given) (file : List ℕ → HeldFile) (opened : Opened Given) : Type 0 where
   pub there : file opening.name ≢ Absent
   pub by_bytes : (bytes : List ℕ) → file opening.name ≡ Holds bytes
       → (opening.given_in (ended_file bytes) ≡ Ok opened.given) × (opened.room ≡ total_limit - length bytes) × (opened.rest ≡ Some [])
 
 -- ---- how a run ends
+-- The first file is there, and where it is held it is refused with this fault.
+pub record HasFault {Given : Type 0} (opening : Opening Given) (held : HeldFile) (fault : LineFault) : Type 0 where
+  pub there : held ≢ Absent
+  pub may : opening.may_refuse fault.why
+  pub first : (bytes : List ℕ) → held ≡ Holds bytes → opening.given_in (ended_file bytes) ≡ Err fault
+
 -- The first file is refused, and that is all that the run says.
 pub record IsFirstRefused {Given : Type 0} (opening : Opening Given) (before : Outside) (output : Output) : Type 0 where
-  pub there : before.file opening.name ≢ Absent
   pub fault : LineFault
-  pub may : opening.may_refuse fault.why
-  pub first : (bytes : List ℕ) → before.file opening.name ≡ Holds bytes → opening.given_in (ended_file bytes) ≡ Err fault
+  pub has : HasFault opening (before.file opening.name) fault
   pub message : output ≡ only_on stream.Messages (fault_line opening.name fault.line fault.why)
 
 -- What was read of a first file that can't be read: nothing, or a part that holds no fault.
@@ -119,6 +126,13 @@ OpeningGives given_in given xs (Err (Refused line why)) new left = given_in (end
 OpeningGives given_in given xs (Err Start) new left = ⊥
 OpeningGives given_in given xs (Err Read) new left = IsBroken given_in xs left
 OpeningGives given_in given xs (Err NoMemory) new left = Unit {0}
+
+-- what a fault of the first file says, of which this is told
+abbrev pub FirstFaultSays : {Given : Type 0} → Opening Given → HeldFile → Option (List ℕ) → Type 0 → FileFault → Option (List ℕ) → Type 0
+FirstFaultSays opening held before rose (Refused line why) after = HasFault opening held (record { line = line; why = why })
+FirstFaultSays opening held before rose Start after = HasBroken AtStart held rose × UnreadFirstLeaves opening AtStart held before after
+FirstFaultSays opening held before rose Read after = HasBroken Within held rose × UnreadFirstLeaves opening Within held before after
+FirstFaultSays opening held before rose NoMemory after = Unit {0}
 
 -- why it may be refused
 abbrev pub IsOfMay : (Why → Type 0) → FileFault → Type 0

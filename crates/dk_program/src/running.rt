@@ -1,13 +1,14 @@
 // Runs of programs.
-ghost use Rattle.std.specs.Prelude.{◌≡◌, ◌≤◌, [], ℕ, List, Option, Some, map, string_bytes};
+ghost use Rattle.std.specs.Prelude.{◌≡◌, ◌≤◌, [], IfErr, IfOk, Some, map, string_bytes};
 ghost use Rattle.dk_arguments.specs.Requests.{request_of};
 ghost use Rattle.dk_driver.specs.Consuming.{nothing_told};
-ghost use Rattle.dk_driver.specs.Walks.{line_limit, total_limit};
+ghost use Rattle.dk_driver.specs.Walks.{line_limit, standard_limits, total_limit};
+ghost use Rattle.dk_io.specs.Outside.{Rose};
 ghost use Rattle.dk_lines.specs.Reading.{room_of};
 ghost use Rattle.dk_program.specs.Moments.{Outside, outside};
-ghost use Rattle.dk_program.specs.Openings.{IsOpeningCalmlyComplete, OpeningComesTo, opening_by};
+ghost use Rattle.dk_program.specs.Openings.{FirstFaultSays, IsOpened, IsOpeningCalmlyComplete, OpeningComesTo, opened_with, opening_by};
 ghost use Rattle.dk_program.specs.Statuses.{Completes, IsARun, IsCalmlyComplete, RunComesTo, Says, StatusSays};
-ghost use Rattle.dk_program.specs.Tasks.{Task, task_by};
+ghost use Rattle.dk_program.specs.Tasks.{task_by};
 
 use crate::program::{Begins, Opens, Program};
 use crate::telling::{tell_fault, tell_file_fault, tell_help, tell_usage, tell_version};
@@ -77,6 +78,17 @@ fn read_first<P: Opens, I: Inputs>(
     inputs: &mut I,
     lines: &mut Lines,
 ) -> Result<P::Kept, FileFault>
+    requires limits { lines.old.limits ≡ standard_limits }
+    requires room { room_of lines.old ≡ total_limit }
+    ensures fits { IfOk result (λ kept. P.Kept.fits kept []) }
+    ensures stands { IfOk result (λ kept. P.Kept.stands kept nothing_told) }
+    ensures opened { IfOk result (λ kept. IsOpened (opening_by P.first P.given_in P.may_refuse P.traces P.is_report program.now) (I.file inputs.old)
+        (opened_with (P.Kept.given kept) (room_of lines.new) (I.rest inputs.new))) }
+    ensures fault { IfErr result (λ fault. FirstFaultSays (opening_by P.first P.given_in P.may_refuse P.traces P.is_report program.now)
+        (I.file inputs.old (P.first program.now)) (I.rest inputs.old) (Rose (I.faults inputs.old) (I.faults inputs.new)) fault (I.rest inputs.new)) }
+    ensures limits { lines.new.limits ≡ standard_limits }
+    ensures files { I.file inputs.new ≡ I.file inputs.old }
+    ensures later { I.faults inputs.old ≤ I.faults inputs.new }
 {
     match lines.start(inputs, program.first()) {
         Ok(()) => program.open(alloc, inputs, lines),
