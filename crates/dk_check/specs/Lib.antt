@@ -5,3 +5,5 @@ pub mod Texts
 -- what those are made of
 pub mod Assertions
 pub mod Standing
+-- inner: cited by the clauses of bodies and in proofs alone
+pub mod Taking

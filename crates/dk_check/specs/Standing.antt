@@ -19,6 +19,7 @@ IsKeptUp c ps = verdicts.IsKeptUp ps c.checker
 abbrev pub checked : Record → Checked
 checked r = record { table = r.table; file = r.file; line = r.line; point = r.point; values = r.values }
 
--- It has taken the records that were told.
-abbrev pub StandsFor : Checking → Told → Type 0
-StandsFor c told = verdicts.StandsFor c.checker told.points (map checked told.records)
+-- It is over the points that were told, and has taken the records.
+pub record StandsFor (c : Checking) (told : Told) : Type 0 where
+  pub kept_up : IsKeptUp c told.points
+  pub checker : verdicts.StandsFor c.checker told.points (map checked told.records)

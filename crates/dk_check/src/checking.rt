@@ -1,7 +1,9 @@
 // The checker of the claims, which takes the samples of files.
-ghost use Rattle.std.specs.Prelude.{◌≡◌, [], IfOk};
+ghost use Rattle.std.specs.Prelude.{◌≡◌, [], IfOk, OnOk, Some};
 ghost use Rattle.dk_driver.specs.Consuming.{nothing_told};
+ghost use Rattle.dk_events.specs.Telling.{EventFits};
 ghost use Rattle.dk_check.specs.Standing.{IsKeptUp, StandsFor, claims_of};
+ghost use Rattle.dk_check.specs.Taking.{TakesEvent};
 
 use dk_base::{List, NoMemory};
 use dk_claims::Claim;
@@ -30,6 +32,24 @@ impl Checking {
     }
 }
 
+impl Checking {
+    // Takes what a block of the file at this place does: the checker is given a record. It finds new points by itself.
+    fn take_event(&mut self, points: &Points, file: usize, event: Event<'_>) -> Result<(), NoMemory>
+        requires kept_up { IsKeptUp self.old points.now }
+        requires fits { EventFits points.now (Some event) }
+        ensures { OnOk result (TakesEvent points.now file event.entry self.old.checker self.new.checker) }
+    {
+        match event {
+            Event::Sample {
+                point,
+                line,
+                values,
+            } => self.checker.take(points, point, file, line, values),
+            _ => Ok(()),
+        }
+    }
+}
+
 impl Consumer for Checking {
     ghost use Rattle.dk_check.specs.Standing.{IsKeptUp, StandsFor, claims_of};
 
@@ -41,15 +61,7 @@ impl Consumer for Checking {
 
     ghost stands = { StandsFor };
 
-    // The checker finds new points by itself.
     fn take(&mut self, points: &Points, file: usize, event: Event<'_>) -> Result<(), NoMemory> {
-        match event {
-            Event::Sample {
-                point,
-                line,
-                values,
-            } => self.checker.take(points, point, file, line, values),
-            _ => Ok(()),
-        }
+        self.take_event(points, file, event)
     }
 }
