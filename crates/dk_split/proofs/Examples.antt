@@ -7,13 +7,13 @@ use Rattle.dk_arguments.specs.Requests.{request_of as asked_of}
 use Rattle.dk_arguments.specs.declared.request.Request.TheVariants.{Run, Help, Version}
 use Rattle.dk_base.specs.Numbers.{natural_of}
 use Rattle.dk_blocks.specs.History.{no_history}
-use Rattle.dk_driver.specs.Ends.{end_of}
+use Rattle.dk_driver.specs.Walks.{walk_of}
 use Rattle.dk_events.specs.declared.ended.Ended.TheVariants.{Done}
 use Rattle.dk_halves.specs.Reports.{implications_report}
 use Rattle.dk_io.specs.declared.outside.Stream.TheVariants.{Report}
 use Rattle.dk_program.specs.Moments.{Outside}
 use Rattle.dk_program.specs.Outputs.{only_on}
-use Rattle.dk_program.specs.Tasks.{output_of}
+use Rattle.dk_program.specs.Tasks.{IsOutput}
 use Rattle.dk_split.specs.Requests.{dk_split, request_of}
 use Rattle.dk_split.specs.Statuses.{CompletesCalmly, task_of}
 use Rattle.dk_split.specs.declared.command.Command.{Command}
@@ -46,9 +46,9 @@ too_small = refl
 
 -- ---- outputs
 -- no files, no report
-none : output_of (task_of command) [] ≡ only_on Report []
-unfolding output_of end_of implications_report no_history
-none = refl
+none : IsOutput (task_of command) [] (only_on Report [])
+unfolding IsOutput walk_of implications_report no_history
+none = ([], refl, refl)
 
 -- a run that is asked for help says so
 asked_for_help : (before after : Outside) → CompletesCalmly (Some Help) before after Done

@@ -7,7 +7,7 @@ use Rattle.dk_base.specs.declared.kinds.VarInfo.{VarInfo}
 use Rattle.dk_base.specs.declared.values.Value.{Value}
 use Rattle.dk_blocks.specs.History.{own_samples_with}
 use Rattle.dk_derive.specs.Laws.{var_kinds}
-use Rattle.dk_driver.specs.Consuming.{DeclaresMore, IsBehind, SamplesMore, Tells}
+use Rattle.dk_driver.specs.Consuming.{DeclaresMore, IsBehind, SamplesMore, Tells, Told}
 use Rattle.dk_events.specs.Telling.{PointsGoOn}
 use Rattle.dk_events.specs.declared.event.Event.{Event}
 use Rattle.dk_events.specs.declared.event.Event.TheVariants as event
@@ -58,42 +58,44 @@ behind_fit ps' e splits all (ps, are, goes) takes = still_fit ps ps' e splits al
 
 -- ---- what the splits stand for
 
-grown_stand : (s new : Splits) (ps : List Point) (samples : OwnSamples) (ps' : List Point) (all : OwnSamples) → StandsFor s ps samples → DeclaresMore ps samples ps' all
-    → AreGrown ps' s.splits.items new.splits.items → StandsFor new ps' all
-grown_stand s new ps samples ps' all stands more grown = record {
+grown_stand : (s new : Splits) (old all : Told) → StandsFor s old.points old.samples → DeclaresMore old all → AreGrown all.points s.splits.items new.splits.items → StandsFor new all.points all.samples
+grown_stand s new old all stands more grown = record {
   long = grown.long;
-  many = omega (arith, ap length more.samples_are, length-append samples (replicate (length more.more) []), length-replicate (length more.more) [], ap length more.table, length-append ps more.more, stands.many);
-  splits = subst (λ (own : OwnSamples). SplitsStandFor new.splits.items (own_samples_of ps' own)) (sym more.samples_are)
-      (stand_grown ps ps' s.splits.items new.splits.items samples (length more.more) (more.more, more.table) stands.many stands.long grown stands.splits);
+  many = omega (arith, ap length more.samples_are, length-append old.samples (replicate (length more.more) []), length-replicate (length more.more) [], ap length more.points_are, length-append old.points more.more, stands.many);
+  splits = subst (λ (own : OwnSamples). SplitsStandFor new.splits.items (own_samples_of all.points own)) (sym more.samples_are)
+      (stand_grown old.points all.points s.splits.items new.splits.items old.samples (length more.more) (more.more, more.points_are) stands.many stands.long grown stands.splits);
 }
 
-none_more : (ps ps' : List Point) (samples all : OwnSamples) → (ps' ≡ ps) × (all ≡ samples) → DeclaresMore ps samples ps' all
-none_more ps ps' samples all (table, same) = record { more = []; table = table ∙ sym (append-nil ps); samples_are = same ∙ sym (append-nil samples) }
+none_more : (told : Told) → DeclaresMore told told
+none_more told = record { more = []; points_are = sym (append-nil told.points); samples_are = sym (append-nil told.samples); records_are = refl }
 
-fed_stand : (s new : Splits) (p : ℕ) (values : List Value) (ps : List Point) (samples : OwnSamples) (ps' : List Point) (all : OwnSamples) → StandsFor s ps samples
-    → SamplesMore p values ps samples ps' all → IsFed s.splits.items new.splits.items p values → StandsFor new ps' all
-fed_stand s new p values ps samples ps' all stands more fed =
+fed_stand : (s new : Splits) (file line p : ℕ) (values : List Value) (old all : Told) → StandsFor s old.points old.samples → SamplesMore file line p values old all
+    → IsFed s.splits.items new.splits.items p values → StandsFor new all.points all.samples
+fed_stand s new file line p values old all stands more fed =
     let within = get_within s.splits.items p fed.old fed.there in
     record {
-      long = ap length fed.is ∙ length-set s.splits.items p fed.new ∙ stands.long ∙ ap length (sym more.table);
-      many = ap length more.samples_are ∙ samples_with_length samples p more.base ∙ stands.many ∙ ap length (sym more.table);
-      splits = subst (λ (l : List Point). SplitsStandFor new.splits.items (own_samples_of l all)) (sym more.table)
-          (subst (λ (own : OwnSamples). SplitsStandFor new.splits.items (own_samples_of ps own)) (sym more.samples_are)
-          (splits_fed ps s.splits.items new.splits.items samples p more.base values (omega (arith, within, stands.long, stands.many)) more.derived fed stands.splits));
+      long = ap length fed.is ∙ length-set s.splits.items p fed.new ∙ stands.long ∙ ap length (sym more.points_are);
+      many = ap length more.samples_are ∙ samples_with_length old.samples p more.base ∙ stands.many ∙ ap length (sym more.points_are);
+      splits = subst (λ (l : List Point). SplitsStandFor new.splits.items (own_samples_of l all.samples)) (sym more.points_are)
+          (subst (λ (own : OwnSamples). SplitsStandFor new.splits.items (own_samples_of old.points own)) (sym more.samples_are)
+          (splits_fed old.points s.splits.items new.splits.items old.samples p more.base values (omega (arith, within, stands.long, stands.many)) more.derived fed stands.splits));
     }
   where
     samples_with_length : (own : OwnSamples) (p : ℕ) (base : List Value) → length (own_samples_with own p base) ≡ length own
     samples_with_length own p base = length-set own p _
 
 -- what is told of a block is what the splits take
-told_stand : (s new : Splits) (e : Event) (ps : List Point) (samples : OwnSamples) (ps' : List Point) (all : OwnSamples) → StandsFor s ps samples → Tells e ps samples ps' all
-    → TakesEvent ps' e s.splits.items new.splits.items → StandsFor new ps' all
-told_stand s new event.Nothing ps samples ps' all stands tells takes = grown_stand s new ps samples ps' all stands (none_more ps ps' samples all tells) takes
-told_stand s new event.Declared ps samples ps' all stands tells takes = grown_stand s new ps samples ps' all stands tells takes
-told_stand s new (event.Sample point line values) ps samples ps' all stands tells takes =
-    fed_stand s new point.0 (values_of values.now) ps samples ps' all stands tells takes
+told_stand : (s new : Splits) (file : ℕ) (e : Event) (old all : Told) → StandsFor s old.points old.samples → Tells file e old all
+    → TakesEvent all.points e s.splits.items new.splits.items → StandsFor new all.points all.samples
+told_stand s new file event.Nothing old all stands same takes =
+    let own = subst (λ (told : Told). StandsFor s told.points told.samples) (sym same) stands in
+    grown_stand s new all all own (none_more all) takes
+told_stand s new file event.Declared old all stands tells takes = grown_stand s new old all stands tells takes
+told_stand s new file (event.Sample point line values) old all stands tells takes =
+    fed_stand s new file line point.0 (values_of values.now) old all stands tells takes
 
-pub taken_stand : {E : Type 0} (r : Result (Unit {0}) E) (s new : Splits) (e : Event) (ps' : List Point) → OnOk r (TakesEvent ps' e s.splits.items new.splits.items)
-    → OnOk r ((ps : List Point) (samples : OwnSamples) (all : OwnSamples) → StandsFor s ps samples → Tells e ps samples ps' all → StandsFor new ps' all)
-taken_stand (Ok u) s new e ps' takes = λ ps samples all stands tells. told_stand s new e ps samples ps' all stands tells takes
-taken_stand (Err x) s new e ps' takes = tt
+pub taken_stand : {E : Type 0} (r : Result (Unit {0}) E) (s new : Splits) (file : ℕ) (e : Event) (ps' : List Point) → OnOk r (TakesEvent ps' e s.splits.items new.splits.items)
+    → OnOk r ((old all : Told) → all.points ≡ ps' → StandsFor s old.points old.samples → Tells file e old all → StandsFor new all.points all.samples)
+taken_stand (Ok u) s new file e ps' takes =
+    λ old all points stands tells. told_stand s new file e old all stands tells (subst (λ (ps : List Point). TakesEvent ps e s.splits.items new.splits.items) (sym points) takes)
+taken_stand (Err x) s new file e ps' takes = tt
