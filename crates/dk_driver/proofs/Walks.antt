@@ -1,16 +1,18 @@
 -- Walks, a block after another.
-use Rattle.std.proofs.Common.{◌≡◌, ℕ, List, [], ◌++◌, Bool, is_some, Option, Some, None, Result, Ok, Err, refl, sym, ◌∙◌, ap, if◌then◌else◌, append_assoc}
+use Rattle.std.proofs.Common.{◌≡◌, ◌+◌, ◌-◌, ℕ, List, [], ◌∷◌, ◌++◌, length, Bool, is_some, Option, Some, None, Result, Ok, Err, refl, sym, ◌∙◌, ap, if◌then◌else◌, append_assoc}
 use Rattle.std.specs.Option.{option_map_or}
 use Rattle.dk_base.specs.Reading.{LineFault, Reads, ◌>>=◌}
 use Rattle.dk_base.specs.declared.why.Why.{Why}
 use Rattle.dk_base.specs.declared.why.Why.TheVariants.{LongLine as WhyLong, TooLong as WhyMany}
 use Rattle.dk_blocks.specs.Blocks.{Group, Groups, Last}
-use Rattle.dk_blocks.specs.History.{Effect, History, Taken, effect_of, no_block}
+use Rattle.dk_blocks.specs.History.{Effect, History, Taken, effect_of, file_ended, no_block, no_history}
 use Rattle.dk_blocks.specs.Reading.{Stepped, after_last, after_next, stepped, stop_or}
 use Rattle.dk_blocks.specs.Steps.{IsNoBlock}
 use Rattle.dk_lines.specs.Left.{End, Over, Broken, LongLine, TooLong}
 use Rattle.dk_driver.specs.Consuming.{Record}
-use Rattle.dk_driver.specs.Walks.{Walk, behind_records, goes_on, records_by, records_in, walk_behind, walk_end, walk_of_groups}
+use Rattle.dk_driver.specs.Files.{File}
+use Rattle.dk_driver.specs.Laws.{RecordsGoOn}
+use Rattle.dk_driver.specs.Walks.{Walk, behind_records, goes_on, records_by, records_in, then_files, walk_behind, walk_end, walk_of, walk_of_file, walk_of_files, walk_of_groups}
 
 -- no lines are no block
 pub no_lines : (ignores : Bool) (h : History) (close : Option ℕ) → effect_of ignores h [] close ≡ Ok (no_block h)
@@ -85,3 +87,24 @@ no_block_ends ignores place read gs none = go (after_next ignores read gs) none 
   go : (r : Result Stepped LineFault) → IsNoBlock r → Follows ignores place read gs r → (h : History) × (walk_of_groups ignores place read gs ≡ walk_end (Ok h))
   go (Ok step) none f = (step.history, f.1 none)
   go (Err e) none f = absurd none
+
+-- ---- records behind records
+files_go_on : (ignores : Bool) (room : ℕ) (h : History) (place : ℕ) (front files : List File) (mid : History) → (walk_of_files ignores room h place front).end ≡ Ok mid
+    → (more : List Record) × ((walk_of_files ignores room h place (front ++ files)).records ≡ (walk_of_files ignores room h place front).records ++ more)
+files_go_on ignores room h place [] files mid e = ((walk_of_files ignores room h place files).records, refl)
+files_go_on ignores room h place (x ∷ xs) files mid e =
+    go (walk_of_file ignores room h place x).records (walk_of_file ignores room h place x).end (λ next. files_go_on ignores (room - length x.bytes) (file_ended next) (place + 1) xs files mid) e where
+      go : (records : List Record) (end : Result History LineFault)
+          → ((next : History) → (walk_of_files ignores (room - length x.bytes) (file_ended next) (place + 1) xs).end ≡ Ok mid
+          → (more : List Record) × ((walk_of_files ignores (room - length x.bytes) (file_ended next) (place + 1) (xs ++ files)).records ≡ (walk_of_files ignores (room - length x.bytes) (file_ended next) (place + 1) xs).records ++ more))
+          → (then_files place end (λ next. walk_of_files ignores (room - length x.bytes) (file_ended next) (place + 1) xs)).end ≡ Ok mid
+          → (more : List Record) × (records ++ (then_files place end (λ next. walk_of_files ignores (room - length x.bytes) (file_ended next) (place + 1) (xs ++ files))).records
+          ≡ (records ++ (then_files place end (λ next. walk_of_files ignores (room - length x.bytes) (file_ended next) (place + 1) xs)).records) ++ more)
+      go records (Ok next) later e =
+          let (more, same) = later next e in
+          (more, ap (λ (l : List Record). records ++ l) same ∙ sym (append_assoc records (walk_of_files ignores (room - length x.bytes) (file_ended next) (place + 1) xs).records more))
+      go records (Err fault) later e = absurd (cc e)
+
+pub go_on : RecordsGoOn
+unfolding walk_of
+go_on ignores room front files mid e = files_go_on ignores room no_history 0 front files mid e

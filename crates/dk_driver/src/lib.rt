@@ -8,6 +8,7 @@ mod consumer;
 mod examples;
 mod fault;
 mod feed;
+pub mod laws;
 mod reading;
 mod traces;
 
