@@ -176,11 +176,11 @@ unstarted_on traces whole file before mid rest Stands place room read same = rec
 }
 
 -- a read of a file failed
-unread_on : (traces : Traces) (whole : ℕ) (whole : ℕ) (file : List ℕ → HeldFile) (before mid rest : Option (List ℕ)) (Stands : History → List Record → Type 0) (place : ℕ) (r : Reading)
+unread_on : (traces : Traces) (whole : ℕ) (file : List ℕ → HeldFile) (before mid rest : Option (List ℕ)) (Stands : History → List Record → Type 0) (place : ℕ) (r : Reading)
     → r.limits.line ≡ line_limit → AreReadTo traces whole file before mid Stands (room_of r) place
     → ((h : History) (records : List Record) → Stands h records → (xs : List ℕ) → held_file_at (helds_of traces file) place ≡ Holds xs → IsBroken traces.ignore_missing_entry place h (fresh_reading r) xs rest)
     → IsUnreadAt Within traces whole file before rest place
-unread_on traces whole whole file before mid rest Stands place r limits read gives = record {
+unread_on traces whole file before mid rest Stands place r limits read gives = record {
   there = read.there;
   clean = read.clean;
   left = λ contents held xs holds.
@@ -261,7 +261,7 @@ named_fault traces whole file before mid rest Stands place r name fault is withi
       go (t.Refused line why) below here there unstarted gives = refused_on traces whole file before mid Stands place line why r limits below
           (λ absent. there (λ e. cc (e)) (sym here ∙ absent)) read (λ h records stands xs holds. gives h records stands xs (sym here ∙ holds))
       go t.Start below here there unstarted gives = unstarted_on traces whole file before mid rest Stands place (room_of r) read (unstarted refl)
-      go t.Read below here there unstarted gives = unread_on traces whole whole file before mid rest Stands place r limits read (λ h records stands xs holds. gives h records stands xs (sym here ∙ holds))
+      go t.Read below here there unstarted gives = unread_on traces whole file before mid rest Stands place r limits read (λ h records stands xs holds. gives h records stands xs (sym here ∙ holds))
       go t.NoMemory below here there unstarted gives = tt
 
 pub named_cause : {A : Type 0} (traces : Traces) (file : List ℕ → HeldFile) (place : ℕ) (name : List ℕ) (r : Result A FileFault) (fault : FileFault) (a b c : ℕ) → r ≡ Err fault
