@@ -15,6 +15,7 @@ use Rattle.dk_driver.specs.Walks.{Walk, fault_in, first_fault, walk_of}
 use Rattle.dk_driver.specs.declared.fault.FilesFault.{FilesFault}
 use Rattle.dk_driver.specs.declared.fault.FilesFault.TheVariants as f
 use Rattle.dk_driver.specs.declared.feed.Feed.{Feed}
+use Rattle.dk_driver.specs.declared.traces.Traces.{Traces}
 use Rattle.dk_program.proofs.Saying.{due_of, followed_only, read_output}
 use Rattle.dk_program.specs.Ending.{EndsBy, EndsWith, ReportEnds, status_of}
 use Rattle.dk_program.specs.Messages.{fault_line}
@@ -48,10 +49,17 @@ module _ {C : Type 0} (task : Task) (before after : Outside) (Stands : History �
     refused = λ n contents fault held first. absurd (complete.refused n contents fault held first);
   }
 
-  pub report_completes : AreRead task.traces task.room before.file before.rest after.rest Stands → IsReadingComplete task.traces task.room before.file (Ok feed) → (result : Ended)
+  read_completes : AreRead task.traces task.room before.file before.rest after.rest Stands → IsReadingComplete task.traces task.room before.file (Ok feed) → (result : Ended)
       → ReportEnds Stands (due_of task) before.written after.written before.write_faults after.write_faults result → IsCalm before after → IsComplete task before after result
-  report_completes read complete result (inl (is, whole)) calm = whole_done read complete whole result is
-  report_completes read complete result (inr (halt, is, cut)) calm = short_of task before after result (is ∙ halt_short before after halt calm cut.cause)
+  read_completes read complete result (inl (is, whole)) calm = whole_done read complete whole result is
+  read_completes read complete result (inr (halt, is, cut)) calm = short_of task before after result (is ∙ halt_short before after halt calm cut.cause)
+
+  -- the traces may be known by another name
+  pub report_completes : (traces : Traces) (result : Ended) → traces ≡ task.traces → AreRead traces task.room before.file before.rest after.rest Stands → IsReadingComplete traces task.room before.file (Ok feed)
+      → ReportEnds Stands (due_of task) before.written after.written before.write_faults after.write_faults result → IsCalm before after → IsComplete task before after result
+  report_completes traces result same read complete ended calm =
+      read_completes (subst (λ (t : Traces). AreRead t task.room before.file before.rest after.rest Stands) same read)
+      (subst (λ (t : Traces). IsReadingComplete t task.room before.file (Ok feed)) same complete) result ended calm
 
 -- ---- a fault
 fault_is : (r : Result History FaultAt) (fault : FaultAt) → fault_in r ≡ Some fault → r ≡ Err fault
@@ -88,15 +96,22 @@ module _ (task : Task) (before after : Outside) where
       (subst (λ (x : FilesFault). EndsBy task.traces.names x before.written after.written before.write_faults after.write_faults result) is ended)
   fault_gives fault result at files first calm (inr is) ended = inr (memory_ends fault result is ended)
 
-  pub fault_completes : {C : Type 0} (fault : FilesFault) (result : Ended) → IsReadingComplete {C = C} task.traces task.room before.file (Err fault)
+  fault_of_completes : {C : Type 0} (fault : FilesFault) (result : Ended) → IsReadingComplete {C = C} task.traces task.room before.file (Err fault)
       → EndsBy task.traces.names fault before.written after.written before.write_faults after.write_faults result → IsCalm before after → IsComplete task before after result
-  fault_completes fault result complete ended calm = record {
+  fault_of_completes fault result complete ended calm = record {
     done = λ contents held none. inr (memory_ends fault result (complete.read contents held none) ended);
     refused = λ n contents at held first. fault_gives fault result at (map ended_file contents) first calm (complete.refused n contents at held first) ended;
   }
 
+  pub fault_completes : {C : Type 0} (traces : Traces) (names : List (List ℕ)) (fault : FilesFault) (result : Ended) → traces ≡ task.traces → names ≡ traces.names
+      → IsReadingComplete {C = C} traces task.room before.file (Err fault)
+      → EndsBy names fault before.written after.written before.write_faults after.write_faults result → IsCalm before after → IsComplete task before after result
+  fault_completes {C = C} traces names fault result same named complete ended calm =
+      fault_of_completes fault result (subst (λ (t : Traces). IsReadingComplete {C = C} t task.room before.file (Err fault)) same complete)
+      (subst (λ (l : List (List ℕ)). EndsBy l fault before.written after.written before.write_faults after.write_faults result) (named ∙ ap (λ (t : Traces). t.names) same) ended) calm
+
 -- ---- what was asked for
 pub asked_completes : {A : Type 0} (Complete : A → Outside → Outside → Ended → Type 0) (asked : Option (Request A)) (a : A) (before after : Outside) (result : Ended) → asked ≡ Some (Run a)
     → Complete a before after result → Completes Complete asked before after result
-asked_completes Complete asked a before after result is complete =
+asked_completes {A = A} Complete asked a before after result is complete =
     subst (λ (r : Option (Request A)). Completes Complete r before after result) (sym is) complete

@@ -1,5 +1,5 @@
 -- A run that reads a file in front of its others.
-use Rattle.std.proofs.Common.{◌≡◌, ◌≢◌, ◌≤◌, ◌×◌, ◌⊎◌, ◌-◌, inl, inr, ℕ, List, [], length, Bool, true, false, Option, Some, IfSome, IsErrOf, Result, Ok, Err, refl, sym, ◌∙◌, ap, subst}
+use Rattle.std.proofs.Common.{◌≡◌, ◌≢◌, ◌≤◌, ◌⊎◌, ◌-◌, inl, inr, ℕ, List, [], length, Bool, true, false, Option, Some, IfSome, IsErrOf, Result, Ok, Err, refl, sym, ◌∙◌, ap, subst}
 use Rattle.dk_base.specs.Reading.{LineFault}
 use Rattle.dk_base.specs.declared.why.Why.{Why}
 use Rattle.dk_events.specs.declared.ended.Ended.{Ended}

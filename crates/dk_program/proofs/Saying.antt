@@ -22,6 +22,7 @@ use Rattle.dk_driver.specs.Standing.{told_by}
 use Rattle.dk_driver.specs.Walks.{Walk, fault_in}
 use Rattle.dk_driver.specs.declared.fault.FilesFault.{FilesFault}
 use Rattle.dk_driver.specs.declared.fault.FilesFault.TheVariants as f
+use Rattle.dk_driver.specs.declared.traces.Traces.{Traces}
 use Rattle.dk_program.proofs.Writing.{front_all, front_take, known_nothing}
 use Rattle.dk_program.specs.Ending.{EndsBy, EndsWith, ReportEnds, status_of}
 use Rattle.dk_program.specs.Messages.{fault_line, unread_line}
@@ -219,31 +220,48 @@ module _ (task : Task) (before after : Outside) where
     go (inl e) = inl e
     go (inr (text, e, begins)) = begun text e begins (held_or_not (helds_of task.traces before.file))
 
-  pub report_says : (Stands : History → List Record → Type 0) (result : Ended) → AreRead task.traces task.room before.file before.rest after.rest Stands
+  read_says : (Stands : History → List Record → Type 0) (result : Ended) → AreRead task.traces task.room before.file before.rest after.rest Stands
       → ReportEnds Stands (due_of task) before.written after.written before.write_faults after.write_faults result → StatusSays (RunComesTo task) result before after
-  report_says Stands result read (inl (is, whole)) =
+  read_says Stands result read (inl (is, whole)) =
       subst (λ (s : Ended). StatusSays (RunComesTo task) s before after) (sym is) (
         only_on Report whole.text,
         done_comes task before after Stands whole.text read
             (λ contents held. let (h, records, stands, gives) = read_output task before.file before.rest after.rest Stands read contents held in gives whole.text (whole.holds h records stands)),
         (whole.written ∙ followed_only before.written Report whole.text, whole.calm),
       )
-  report_says Stands result read (inr (halt, is, cut)) =
+  read_says Stands result read (inr (halt, is, cut)) =
       subst (λ (s : Ended). StatusSays (RunComesTo task) s before after) (sym is) (halt_says (RunComesTo task) before after halt (cut_comes Stands halt read cut) cut.cause)
 
-  pub fault_says : (fault : FilesFault) (result : Ended) → FaultSays task.traces task.room before.file before.rest fault after.rest
+  -- the traces may be known by another name
+  pub report_says : (traces : Traces) (Stands : History → List Record → Type 0) (result : Ended) → traces ≡ task.traces → AreRead traces task.room before.file before.rest after.rest Stands
+      → ReportEnds Stands (due_of task) before.written after.written before.write_faults after.write_faults result → StatusSays (RunComesTo task) result before after
+  report_says traces Stands result same read ended =
+      read_says Stands result (subst (λ (t : Traces). AreRead t task.room before.file before.rest after.rest Stands) same read) ended
+
+  fault_of_says : (fault : FilesFault) (result : Ended) → FaultSays task.traces task.room before.file before.rest fault after.rest
       → IsPlaced (length task.traces.names) fault → HasCause task.traces before.file (Rose before.read_faults after.read_faults) fault
       → EndsBy task.traces.names fault before.written after.written before.write_faults after.write_faults result → StatusSays (RunComesTo task) result before after
-  fault_says (f.Refused place line why) result says within cause ended =
+  fault_of_says (f.Refused place line why) result says within cause ended =
       only_says (RunComesTo task) before after Refused Messages (fault_line (file_name_at task.traces.names place) line why) result (λ b a output comes e. (output, comes, e))
       (refused_comes task before place line why within says) ended
-  fault_says (f.Start place) result says within cause ended =
+  fault_of_says (f.Start place) result says within cause ended =
       only_says (RunComesTo task) before after Read Messages (unread_line (file_name_at task.traces.names place)) result (λ b a output comes e. (output, comes, e))
       (unread_comes AtStart task before after place within says cause) ended
-  fault_says (f.Read place) result says within cause ended =
+  fault_of_says (f.Read place) result says within cause ended =
       only_says (RunComesTo task) before after Read Messages (unread_line (file_name_at task.traces.names place)) result (λ b a output comes e. (output, comes, e))
       (unread_comes Within task before after place within says cause) ended
-  fault_says f.NoMemory result says within cause (is, e, calm) = memory_says (RunComesTo task) before after result is e calm
+  fault_of_says f.NoMemory result says within cause (is, e, calm) = memory_says (RunComesTo task) before after result is e calm
+
+  pub fault_says : (traces : Traces) (names : List (List ℕ)) (fault : FilesFault) (result : Ended) → traces ≡ task.traces → names ≡ traces.names
+      → FaultSays traces task.room before.file before.rest fault after.rest → IsPlaced (length traces.names) fault
+      → HasCause traces before.file (Rose before.read_faults after.read_faults) fault
+      → EndsBy names fault before.written after.written before.write_faults after.write_faults result → StatusSays (RunComesTo task) result before after
+  fault_says traces names fault result same named says within cause ended =
+      fault_of_says fault result
+      (subst (λ (t : Traces). FaultSays t task.room before.file before.rest fault after.rest) same says)
+      (subst (λ (t : Traces). IsPlaced (length t.names) fault) same within)
+      (subst (λ (t : Traces). HasCause t before.file (Rose before.read_faults after.read_faults) fault) same cause)
+      (subst (λ (l : List (List ℕ)). EndsBy l fault before.written after.written before.write_faults after.write_faults result) (named ∙ ap (λ (t : Traces). t.names) same) ended)
 
 -- ---- what was asked for
 module _ {A : Type 0} (Comes : A → Coming) (c : Command) (asked : Option (Request A)) (before after : Outside) (result : Ended) where
@@ -274,3 +292,11 @@ unread_ends text other old new before after result same ended = subst (λ (l : L
 
 pub refused_ends : (text other : List ℕ) (old new : Texts) (before after : ℕ) (result : Ended) → text ≡ other → EndsWith Refused Messages text old new before after result → EndsWith Refused Messages other old new before after result
 refused_ends text other old new before after result same ended = subst (λ (l : List ℕ). EndsWith Refused Messages l old new before after result) same ended
+
+-- a file that could not be started, or not read, is told in the same words
+pub unread_by : (names : List (List ℕ)) (fault : FilesFault) (place : ℕ) (name : List ℕ) (old new : Texts) (before after : ℕ) (result : Ended) → (fault ≡ f.Start place) ⊎ (fault ≡ f.Read place)
+    → name ≡ file_name_at names place → EndsWith Read Messages (unread_line name) old new before after result → EndsBy names fault old new before after result
+unread_by names fault place name old new before after result (inl is) named ended =
+    subst (λ (x : FilesFault). EndsBy names x old new before after result) (sym is) (subst (λ (n : List ℕ). EndsWith Read Messages (unread_line n) old new before after result) named ended)
+unread_by names fault place name old new before after result (inr is) named ended =
+    subst (λ (x : FilesFault). EndsBy names x old new before after result) (sym is) (subst (λ (n : List ℕ). EndsWith Read Messages (unread_line n) old new before after result) named ended)

@@ -22,7 +22,7 @@ use Rattle.dk_program.specs.Tasks.{Task, task_by}
 
 -- What such a run is to do: the name of the first file, what a file of these bytes or what was delivered of one gives or where it is
 -- refused, why it may be, and the task behind it, by what it gives and how many bytes may still come.
-pub record Opening (Given : Type 0) : Type 0 where
+pub record Opening (Given : Type 0) : Type 1 where
   pub name : List ℕ
   pub given_in : File → Result Given LineFault
   pub may_refuse : Why → Type 0

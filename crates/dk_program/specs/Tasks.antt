@@ -11,7 +11,7 @@ use Rattle.dk_program.specs.Messages.{fault_line}
 use Rattle.dk_program.specs.Outputs.{Output, only_on}
 
 -- What a run is to do: the files that it reads, how many bytes they may have together, and which text is the report of what they tell.
-pub record Task : Type 0 where
+pub record Task : Type 1 where
   pub traces : Traces
   pub room : ℕ
   pub is_report : Told → List ℕ → Type 0

@@ -41,9 +41,10 @@ fn run_from<P: Program, I: Inputs, S: Sinks>(
     ensures later { I.faults inputs.old ≤ I.faults inputs.new }
     ensures files { I.file inputs.new ≡ I.file inputs.old }
 {
-    match read_files(alloc, program.traces(), kept, inputs, lines) {
+    let traces = program.traces();
+    match read_files(alloc, traces, kept, inputs, lines) {
         Ok(feed) => program.tell(alloc, feed, sinks),
-        Err(fault) => tell_fault(alloc, program.traces().names.as_slice(), fault, sinks),
+        Err(fault) => tell_fault(alloc, traces.names.as_slice(), fault, sinks),
     }
 }
 

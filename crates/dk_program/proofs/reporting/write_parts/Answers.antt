@@ -9,12 +9,12 @@ use Rattle.dk_program.specs.Telling.{in_parts}
 use Rattle.dk_program.proofs.reporting.write_parts.Goals as goal
 
 pub loop-place-init : goal.loop-place-init
-loop-place-init g c = told_nothing (StandsFor g.P.Program.Kept.Consumer.stands c.args.feed.now) _ _ _ (λ h records stands. refl)
+loop-place-init g c = told_nothing (StandsFor g.P.Kept.Consumer.stands c.args.feed.now) _ _ _ (λ h records stands. refl)
 
 pub loop-place-preserved : goal.loop-place-preserved
 loop-place-preserved g c =
     let at : History → List Record → ℕ → List ℕ = λ h records. g.P.InParts.part c.args.program.now (told_by h records) in
-    let Stands : History → List Record → Type 0 = StandsFor g.P.Program.Kept.Consumer.stands c.args.feed.now in
+    let Stands : History → List Record → Type 0 = StandsFor g.P.Kept.Consumer.stands c.args.feed.now in
     told_same Stands (λ h records. parts_to (at h records) c.loop-place.place ++ at h records c.loop-place.place) _ _ _ _ _
     (λ h records stands. parts_more (at h records) c.loop-place.place)
     (told_then Stands (λ h records. parts_to (at h records) c.loop-place.place) (λ h records. at h records c.loop-place.place) _ _ _ _ _ _ c.loop-place.invariant c.in-Ok.ensures)
@@ -22,9 +22,9 @@ loop-place-preserved g c =
 pub returns-in-Err : goal.returns-in-Err
 returns-in-Err g c =
     let at : History → List Record → ℕ → List ℕ = λ h records. g.P.InParts.part c.args.program.now (told_by h records) in
-    let Stands : History → List Record → Type 0 = StandsFor g.P.Program.Kept.Consumer.stands c.args.feed.now in
+    let Stands : History → List Record → Type 0 = StandsFor g.P.Kept.Consumer.stands c.args.feed.now in
     let count : List Point → ℕ = g.P.InParts.part_count c.args.program.now in
-    let within : c.loop-place.place < count (points_of c.args.feed.now) = omega (arith, c.part_count.ensures) in
+    let within : c.loop-place.place < count (points_of c.args.feed.now) = omega (arith, c.part_count-place-end.ensures) in
     cut_short Stands (λ h records. parts_to (at h records) c.loop-place.place ++ at h records c.loop-place.place)
     (λ h records. in_parts g.P.InParts.part_count g.P.InParts.part c.args.program.now (told_by h records)) _ _ _ _ _
     (λ h records stands. parts_behind (at h records) c.loop-place.place (count h.table)
@@ -34,9 +34,9 @@ returns-in-Err g c =
 pub returns : goal.returns
 returns g c =
     let at : History → List Record → ℕ → List ℕ = λ h records. g.P.InParts.part c.args.program.now (told_by h records) in
-    let Stands : History → List Record → Type 0 = StandsFor g.P.Program.Kept.Consumer.stands c.args.feed.now in
+    let Stands : History → List Record → Type 0 = StandsFor g.P.Kept.Consumer.stands c.args.feed.now in
     let count : List Point → ℕ = g.P.InParts.part_count c.args.program.now in
-    let all : c.loop-place.place ≡ count (points_of c.args.feed.now) = omega (arith, c.part_count.ensures) in
+    let all : c.loop-place.place ≡ count (points_of c.args.feed.now) = omega (arith, c.part_count-place-end.ensures) in
     told_same Stands (λ h records. parts_to (at h records) c.loop-place.place)
     (λ h records. in_parts g.P.InParts.part_count g.P.InParts.part c.args.program.now (told_by h records)) _ _ _ _
     (λ h records stands. ap (parts_to (at h records)) (all ∙ ap count (table_of c.args.feed.now.events.reader h stands.events)))
