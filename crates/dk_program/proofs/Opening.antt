@@ -85,7 +85,7 @@ module _ {Given : Type 0} (opening : Opening Given) (before after : Outside) (op
       place = d.place;
       named = d.named;
       by = d.by;
-      cause = cause d.by d.cause;
+      cause = cause _ d.by d.cause;
       none_absent = d.none_absent;
       clean_before = d.clean_before;
       left = d.left;
@@ -93,10 +93,10 @@ module _ {Given : Type 0} (opening : Opening Given) (before after : Outside) (op
     },
   )
     where
-      cause : {held : HeldFile} (by : Break) → HasBroken by held (Rose n after.read_faults) → HasBroken by held (Rose before.read_faults after.read_faults)
-      cause AtStart (inl absent) = inl absent
-      cause AtStart (inr rose) = inr (rose_since before.read_faults n after.read_faults later rose)
-      cause Within (some, rose) = (some, rose_since before.read_faults n after.read_faults later rose)
+      cause : (held : HeldFile) (by : Break) → HasBroken by held (Rose n after.read_faults) → HasBroken by held (Rose before.read_faults after.read_faults)
+      cause held AtStart (inl absent) = inl absent
+      cause held AtStart (inr rose) = inr (rose_since before.read_faults n after.read_faults later rose)
+      cause held Within (some, rose) = (some, rose_since before.read_faults n after.read_faults later rose)
   behind ended.Usage output d = absurd d
   behind ended.Write output d = absurd d
   behind ended.NoMemory output d = absurd d
