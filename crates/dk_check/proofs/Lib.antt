@@ -1,4 +1,5 @@
 mod Asked
 mod Claiming
+mod Reporting
 mod Taking
 mod VerdictLines
