@@ -1,5 +1,5 @@
 mod Asked
 mod Claiming
-mod Reporting
+mod Judged
 mod Taking
 mod VerdictLines
