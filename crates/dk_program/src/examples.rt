@@ -1,4 +1,9 @@
 // Worked examples: a program that lists the points that files declare, with how its runs end and what they write.
+ghost use Rattle.std.specs.Prelude.{◌≡◌};
+ghost use Rattle.dk_driver.specs.Standing.{StandsFor};
+ghost use Rattle.dk_program.specs.Ending.{ReportEnds};
+ghost use Rattle.dk_program.specs.Examples.{listed};
+
 use crate::{Begins, InParts, Program, run_program, tell_parts};
 use dk_arguments::{Argument, Arguments, ArgumentsFault, Description, Form, Matches};
 use dk_base::{List, NoMemory, PointId, Text};
@@ -77,6 +82,7 @@ impl Consumer for Blind {
 }
 
 impl Program for Listing {
+    ghost use Rattle.std.specs.Prelude.{◌≡◌};
     ghost use Rattle.dk_program.specs.Examples.{listed};
 
     type Kept = Blind;
@@ -89,7 +95,10 @@ impl Program for Listing {
         &self.traces
     }
 
-    fn tell<S: Sinks>(&self, alloc: Global, feed: Feed<Blind>, sinks: &mut S) -> Ended {
+    fn tell<S: Sinks>(&self, alloc: Global, feed: Feed<Blind>, sinks: &mut S) -> Ended
+        ensures { ReportEnds (StandsFor (λ _ _. Unit {0}) feed) (λ h records text. text ≡ listed h.table)
+            (S.written sinks.old) (S.written sinks.new) (S.faults sinks.old) (S.faults sinks.new) result }
+    {
         tell_parts(alloc, self, &feed, sinks)
     }
 }
