@@ -68,11 +68,11 @@ fn run_dk_merge(
 }
 
 // The number of blocks in a turn that the first word says.
-fn blocks_in_turn(words: &[String]) -> u64
+fn blocks_in_turn(words: &[String]) -> u32
     ensures { 0 < result }
 {
     match words {
-        [word, ..] => word.as_str().parse::<u64>().unwrap_or(1).max(1),
+        [word, ..] => word.as_str().parse::<u32>().unwrap_or(1).max(1),
         [] => 1,
     }
 }

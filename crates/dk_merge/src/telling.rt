@@ -18,7 +18,7 @@ use dk_events::Ended;
 use dk_io::{Failed, Sinks, Stream, write_all};
 use dk_lines::Limits;
 use dk_print::fault;
-use dk_turns::turns;
+use dk_turns::in_turns;
 use std::alloc::Global;
 
 /// Writes a text and answers the status, or that the write failed.
@@ -98,7 +98,7 @@ fn tell_turns<S: Sinks>(
     requires { 1 ≤ n }
     ensures { TurnsEnd least (turns_of n traces.now) (S.written sinks.old) (S.written sinks.new) (S.faults sinks.old) (S.faults sinks.new) result }
 {
-    match turns(alloc, n, traces) {
+    match in_turns(alloc, n, traces) {
         Ok(text) => run_over(alloc, least, text, sinks),
         Err(NoMemory) => Ended::NoMemory,
     }

@@ -8,4 +8,4 @@ mod lines;
 mod rounds;
 mod writing;
 
-pub use rounds::turns;
+pub use rounds::{in_turns, turns};

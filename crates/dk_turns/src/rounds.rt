@@ -55,7 +55,15 @@ fn push_rounds(alloc: Global, text: &mut Text, n: u64, files: Vec<&[u8]>) -> Res
 /// The files as one text: file by file the blocks without a sample, and then `n` sample blocks of the first file, `n` of the second
 /// and so on, in rounds until none is left. A block keeps its header lines and those of its record, without the blanks and tabs at
 /// their ends; comments in front of these are left out. One blank line stands between two blocks, and each line is ended by LF.
-pub fn turns(alloc: Global, n: u64, files: &List<Text>) -> Result<Text, NoMemory>
+pub fn turns(alloc: Global, n: u32, files: &List<Text>) -> Result<Text, NoMemory>
+    requires { 1 ≤ n }
+    ensures { IfOk result (λ text. text ≡ turns_of n files.now) }
+{
+    in_turns(alloc, u64::from(n), files)
+}
+
+/// The same for a number of 64 bits, as arguments tell it.
+pub fn in_turns(alloc: Global, n: u64, files: &List<Text>) -> Result<Text, NoMemory>
     requires { 1 ≤ n }
     ensures { IfOk result (λ text. text ≡ turns_of n files.now) }
 {

@@ -6,7 +6,7 @@ use Rattle.dk_turns.specs.Reading.{with_block}
 use Rattle.dk_turns.specs.Turns.{in_rounds}
 use Rattle.dk_turns.proofs.Joining.{all_turns}
 use Rattle.dk_turns.proofs.Rounding.{bytes_at, bytes_on, samples_at}
-use Rattle.dk_turns.proofs.rounds.turns.Goals as goal
+use Rattle.dk_turns.proofs.rounds.in_turns.Goals as goal
 
 pub loop-file-init : goal.loop-file-init
 loop-file-init c = record {

@@ -2,7 +2,7 @@ use Rattle.std.proofs.Common.{◌≡◌, ◌++◌, [], drop, flat_map, fold}
 use Rattle.dk_turns.specs.Blocks.{plain_blocks}
 use Rattle.dk_turns.specs.Reading.{with_block}
 use Rattle.dk_turns.proofs.Rounding.{bytes_at}
-use Rattle.dk_turns.proofs.rounds.turns.Given as goal
+use Rattle.dk_turns.proofs.rounds.in_turns.Given as goal
 
 abbrev pub invariant-loop-file : goal.invariant-loop-file
 invariant-loop-file l = record {
