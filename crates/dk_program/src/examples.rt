@@ -71,12 +71,7 @@ impl Consumer for Blind {
 
     ghost stands = { λ _ _. Unit {0} };
 
-    fn take(
-        &mut self,
-        _points: &Points,
-        _file: usize,
-        _event: Event<'_>,
-    ) -> Result<(), NoMemory> {
+    fn take(&mut self, _points: &Points, _file: usize, _event: Event<'_>) -> Result<(), NoMemory> {
         Ok(())
     }
 }
