@@ -110,6 +110,8 @@ impl InParts for Listing {
     ghost use Rattle.std.specs.Prelude.{length};
     ghost use Rattle.dk_program.specs.Examples.{point_line};
 
+    type Kept = Blind;
+
     ghost part_count = { λ _ ps. length ps };
 
     ghost part = { λ _ told p. point_line told.points p };

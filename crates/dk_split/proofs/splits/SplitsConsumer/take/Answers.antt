@@ -14,4 +14,4 @@ returns-clause-fits c =
     (behind_fit c.args.points.now c.args.event c.args.self.now.splits.items c.take_event.new.self.splits.items c.requires.behind) c.take_event.ensures
 
 pub returns-clause-stands : goal.returns-clause-stands
-returns-clause-stands c = taken_stand c.take_event.result c.args.self.now c.take_event.new.self c.args.file c.args.event c.args.points.now c.take_event.ensures
+returns-clause-stands c = taken_stand c.take_event.result c.args.self.now c.take_event.new.self c.args._file c.args.event c.args.points.now c.take_event.ensures
