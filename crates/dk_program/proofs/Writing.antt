@@ -14,7 +14,7 @@ use Rattle.dk_io.specs.declared.outside.Stream.TheVariants.{Report, Messages, St
 use Rattle.dk_driver.specs.Consuming.{Record}
 use Rattle.dk_events.specs.declared.ended.Ended.{Ended}
 use Rattle.dk_events.specs.declared.ended.Ended.TheVariants.{Done}
-use Rattle.dk_program.specs.Ending.{EndsWith, ReportEnds, status_of}
+use Rattle.dk_program.specs.Ending.{EndsWith, ReportEnds}
 use Rattle.dk_program.specs.Telling.{BeginsOne, CutOff, CutsText, HaltHasCause, ToldWhole}
 use Rattle.dk_program.specs.declared.reporting.Halt.{Halt}
 use Rattle.dk_program.specs.declared.reporting.Halt.TheVariants.{Write, NoMemory}
@@ -153,10 +153,6 @@ module _ (Stands : History → List Record → Type 0) (IsDue : History → List
   whole_ends text due (inr (inl (is, rose, (n, short, e)))) =
       inr (Write, is, record { written = inr (take n text, e, λ h records stands. (text, due h records stands, front_take n text short)); cause = rose })
   whole_ends text due (inr (inr (is, e, calm))) = inr (NoMemory, is, record { written = inl e; cause = calm })
-
-  -- memory ran out before it was made
-  pub none_ends : result ≡ status_of NoMemory → new ≡ old → after ≡ before → ReportEnds Stands IsDue old new before after result
-  none_ends is e calm = inr (NoMemory, is, record { written = inl e; cause = calm })
 
 -- ---- the parts, one after another
 abbrev pub parts_to : (ℕ → List ℕ) → ℕ → List ℕ

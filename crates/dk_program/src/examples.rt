@@ -71,12 +71,7 @@ impl Consumer for Blind {
 
     ghost stands = { λ _ _. Unit {0} };
 
-    fn take(
-        &mut self,
-        _points: &Points,
-        _file: usize,
-        _event: Event<'_>,
-    ) -> Result<(), NoMemory> {
+    fn take(&mut self, _points: &Points, _file: usize, _event: Event<'_>) -> Result<(), NoMemory> {
         Ok(())
     }
 }
@@ -114,6 +109,8 @@ impl Begins for Listing {
 impl InParts for Listing {
     ghost use Rattle.std.specs.Prelude.{length};
     ghost use Rattle.dk_program.specs.Examples.{point_line};
+
+    type Kept = Blind;
 
     ghost part_count = { λ _ ps. length ps };
 

@@ -49,6 +49,8 @@ impl InParts for Command {
     ghost use Rattle.dk_halves.specs.Reports.{implications_at};
     ghost use Rattle.dk_template.specs.declared.grammar.Grammar.TheVariants.{Two};
 
+    type Kept = Splits;
+
     ghost part_count = { λ _ ps. length ps };
 
     ghost part = { λ command told p. implications_at Two command.least told.points told.samples p };
