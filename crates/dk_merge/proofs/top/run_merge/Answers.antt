@@ -1,15 +1,15 @@
 use Rattle.std.proofs.Common.{rules, ◌≡◌, ◌≤◌, ◌∙◌, ℕ, map, string_bytes, IfSome, Option, Some, None}
-use Rattle.dk_words.specs.Laws.{IsWithinBounds}
+use Rattle.dk_arguments.specs.Laws.{IsWithin}
 use Rattle.dk_merge.proofs.Complete.{complete_of, complete_says}
 use Rattle.dk_merge.proofs.Histories.{histories_say}
 use Rattle.dk_merge.proofs.Recorders.{recorders_say}
 use Rattle.dk_merge.proofs.Saying.{help_says, usage_says, version_says}
 use Rattle.dk_merge_words.proofs.Whole.{file_named, numbers_within}
-use Rattle.dk_merge_words.specs.Requests.{request_of}
+use Rattle.dk_merge_words.specs.Requests.{most, request_of}
 use Rattle.dk_arguments.specs.declared.request.Request.TheVariants.{Run, Help, Version}
 use Rattle.dk_merge.proofs.top.run_merge.Goals as goal
 
-one_at_least : (turns : Option ℕ) → IfSome turns IsWithinBounds → IfSome turns (λ n. 1 ≤ n)
+one_at_least : (turns : Option ℕ) → IfSome turns (IsWithin 1 most) → IfSome turns (λ n. 1 ≤ n)
 one_at_least None within = tt
 one_at_least (Some n) within = within.0
 
