@@ -1,15 +1,15 @@
 -- Counts by bitmaps are the sums of the patterns' counts.
-use Rattle.std.proofs.Common.{◌≡◌, ◌<◌, ◌≤◌, ◌+◌, ◌*◌, ◌/◌, ◌%◌, ◌^◌, ◌&&◌, ◌++◌, ◌∙◌, ◌==◌, ℕ, Bool, true, false, cond, All, IfSome, List, [], ◌∷◌, Option, None, Some, arith, ap, sym, refl, inl, inr, bit_and, count_by, count_ones, drop, get_or, length, sum_by, take}
+use Rattle.std.proofs.Common.{◌≡◌, ◌<◌, ◌≤◌, ◌+◌, ◌*◌, ◌/◌, ◌%◌, ◌^◌, ◌&&◌, ◌++◌, ◌∙◌, ◌==◌, ℕ, Bool, true, false, cond, All, List, [], ◌∷◌, None, Some, arith, ap, sym, refl, inl, inr, bit_and, count_by, count_ones, drop, get_or, length, sum_by, take, if◌then◌else◌}
 use Rattle.std.proofs.Math.Nat.{div-eq_of_lt, div-one}
 use Rattle.std.proofs.lemmas.Bool.{cases_eq, eq-eqb, ne_eqb}
 use Rattle.std.proofs.lemmas.List.{drop-take, take-append-drop, take-take, take_all}
-use Rattle.std.proofs.lemmas.List.Elements.{All-head, All-tail, All-take}
+use Rattle.std.proofs.lemmas.List.Elements.{All-head, All-tail}
 use Rattle.std.proofs.lemmas.List.Sums.{sum_by-append, sum_by-cons}
 use Rattle.std.proofs.lemmas.Nat.{shr-shr}
 use Rattle.dk_base.specs.declared.kinds.VarId.{VarId}
 use Rattle.dk_presence.specs.Patterns.{capped, counted_by, has, has_all}
 use Rattle.dk_presence.specs.declared.held.Held.{Held}
-use Rattle.dk_bitmaps.specs.Bitmaps.{IsBitmap, block_at, digits, is_one_at}
+use Rattle.dk_bitmaps.specs.Bitmaps.{IsBitmap, block_at, digits, is_one_at, Indexed, told}
 use Rattle.dk_bitmaps.proofs.Words.{digits_common, digits_ones}
 
 sums_same : (f g : Held → ℕ) → ((h : Held) → f h ≡ g h) → (held : List Held) → sum_by f held ≡ sum_by g held
@@ -117,47 +117,49 @@ three_counted held x y z =
     same true false c = refl
     same false b c = refl
 
-counted_same : (held : List Held) (vs ws : List VarId) → ((h : Held) → has_all h.leaders vs ≡ has_all h.leaders ws) → counted_by held vs ≡ counted_by held ws
-counted_same held vs ws same = ap capped (same_counts held (λ h. has_all h.leaders vs) (λ h. has_all h.leaders ws) same)
+-- ---- what an index tells
+-- leaders that the same patterns have
+told_same : (index : Indexed) (vs ws : List VarId) → ((leaders : List VarId) → has_all leaders vs ≡ has_all leaders ws) → told index vs ≡ told index ws
+told_same index vs ws same =
+    let counted : counted_by index.held vs ≡ counted_by index.held ws = ap capped (same_counts index.held (λ h. has_all h.leaders vs) (λ h. has_all h.leaders ws) (λ h. same h.leaders)) in
+    ap (λ b. if b then Some (counted_by index.held vs) else None) (same index.leaders) ∙ ap (λ n. if has_all index.leaders ws then Some n else None) counted
 
-one_counted : (held : List Held) (x : VarId) → counted_by held (x ∷ x ∷ x ∷ []) ≡ counted_by held (x ∷ [])
-one_counted held x = counted_same held (x ∷ x ∷ x ∷ []) (x ∷ []) (λ h. same (has h.leaders x))
+one_alike : (index : Indexed) (x : VarId) → told index (x ∷ x ∷ x ∷ []) ≡ told index (x ∷ [])
+one_alike index x = told_same index (x ∷ x ∷ x ∷ []) (x ∷ []) (λ leaders. same (has leaders x))
   where
     same : (b : Bool) → (b && (b && (b && true))) ≡ (b && true)
     same true = refl
     same false = refl
 
-two_counted : (held : List Held) (x y : VarId) → counted_by held (x ∷ y ∷ y ∷ []) ≡ counted_by held (x ∷ y ∷ [])
-two_counted held x y = counted_same held (x ∷ y ∷ y ∷ []) (x ∷ y ∷ []) (λ h. same (has h.leaders x) (has h.leaders y))
+two_alike : (index : Indexed) (x y : VarId) → told index (x ∷ y ∷ y ∷ []) ≡ told index (x ∷ y ∷ [])
+two_alike index x y = told_same index (x ∷ y ∷ y ∷ []) (x ∷ y ∷ []) (λ leaders. same (has leaders x) (has leaders y))
   where
     same : (b c : Bool) → (b && (c && (c && true))) ≡ (b && (c && true))
     same true true = refl
     same true false = refl
     same false c = refl
 
--- what is told of three leaders of which some are the same
-abbrev pub IsTold : List Held → List VarId → List VarId → Option ℕ → Type 0
-IsTold held leaders vars told = IfSome told (λ n. n ≡ counted_by held vars) × IfSome told (λ _. All (λ v. has leaders v ≡ true) vars)
+module _ (index : Indexed) (x y z : VarId) where
+  all_there : has index.leaders x ≡ true → has index.leaders y ≡ true → has index.leaders z ≡ true → has_all index.leaders (x ∷ y ∷ z ∷ []) ≡ true
+  all_there hx hy hz = ap (λ b. b && (has index.leaders y && (has index.leaders z && true))) hx ∙ (ap (λ b. b && (has index.leaders z && true)) hy ∙ ap (λ b. b && true) hz)
 
-pub one_told : (held : List Held) (leaders vars : List VarId) (d : VarId) (told : Option ℕ) → 1 ≤ length vars → length vars < 2
-    → IsTold held leaders (get_or vars 0 d ∷ get_or vars 0 d ∷ get_or vars 0 d ∷ []) told → IsTold held leaders vars told
-one_told held leaders [] d told least most is = absurd (omega (arith, least))
-one_told held leaders (x ∷ []) d None least most is = (tt, tt)
-one_told held leaders (x ∷ []) d (Some n) least most is = (is.0 ∙ one_counted held x, All-take (λ v. has leaders v ≡ true) 1 (x ∷ x ∷ x ∷ []) is.1)
-one_told held leaders (x ∷ y ∷ vars) d told least most is = absurd (omega (arith, most))
+  pub three_told : (n : ℕ) → has index.leaders x ≡ true → has index.leaders y ≡ true → has index.leaders z ≡ true → n ≡ counted_by index.held (x ∷ y ∷ z ∷ []) → Some n ≡ told index (x ∷ y ∷ z ∷ [])
+  three_told n hx hy hz is = ap Some is ∙ sym (ap (λ b. if b then Some (counted_by index.held (x ∷ y ∷ z ∷ [])) else None) (all_there hx hy hz))
 
-pub two_told : (held : List Held) (leaders vars : List VarId) (d e : VarId) (told : Option ℕ) → 2 ≤ length vars → length vars < 3
-    → IsTold held leaders (get_or vars 0 d ∷ get_or vars 1 e ∷ get_or vars 1 e ∷ []) told → IsTold held leaders vars told
-two_told held leaders [] d e told least most is = absurd (omega (arith, least))
-two_told held leaders (x ∷ []) d e told least most is = absurd (omega (arith, least))
-two_told held leaders (x ∷ y ∷ []) d e None least most is = (tt, tt)
-two_told held leaders (x ∷ y ∷ []) d e (Some n) least most is = (is.0 ∙ two_counted held x y, All-take (λ v. has leaders v ≡ true) 2 (x ∷ y ∷ y ∷ []) is.1)
-two_told held leaders (x ∷ y ∷ z ∷ vars) d e told least most is = absurd (omega (arith, most))
+pub one_long : (index : Indexed) (vars : List VarId) (d : VarId) → 1 ≤ length vars → length vars < 2 → told index (get_or vars 0 d ∷ get_or vars 0 d ∷ get_or vars 0 d ∷ []) ≡ told index vars
+one_long index [] d least most = absurd (omega (arith, least))
+one_long index (x ∷ []) d least most = one_alike index x
+one_long index (x ∷ y ∷ vars) d least most = absurd (omega (arith, most))
 
-pub three_told : (held : List Held) (leaders vars : List VarId) (d e f : VarId) (told : Option ℕ) → 3 ≤ length vars → length vars < 4
-    → IsTold held leaders (get_or vars 0 d ∷ get_or vars 1 e ∷ get_or vars 2 f ∷ []) told → IsTold held leaders vars told
-three_told held leaders [] d e f told least most is = absurd (omega (arith, least))
-three_told held leaders (x ∷ []) d e f told least most is = absurd (omega (arith, least))
-three_told held leaders (x ∷ y ∷ []) d e f told least most is = absurd (omega (arith, least))
-three_told held leaders (x ∷ y ∷ z ∷ []) d e f told least most is = is
-three_told held leaders (x ∷ y ∷ z ∷ w ∷ vars) d e f told least most is = absurd (omega (arith, most))
+pub two_long : (index : Indexed) (vars : List VarId) (d e : VarId) → 2 ≤ length vars → length vars < 3 → told index (get_or vars 0 d ∷ get_or vars 1 e ∷ get_or vars 1 e ∷ []) ≡ told index vars
+two_long index [] d e least most = absurd (omega (arith, least))
+two_long index (x ∷ []) d e least most = absurd (omega (arith, least))
+two_long index (x ∷ y ∷ []) d e least most = two_alike index x y
+two_long index (x ∷ y ∷ z ∷ vars) d e least most = absurd (omega (arith, most))
+
+pub three_long : (index : Indexed) (vars : List VarId) (d e f : VarId) → 3 ≤ length vars → length vars < 4 → told index (get_or vars 0 d ∷ get_or vars 1 e ∷ get_or vars 2 f ∷ []) ≡ told index vars
+three_long index [] d e f least most = absurd (omega (arith, least))
+three_long index (x ∷ []) d e f least most = absurd (omega (arith, least))
+three_long index (x ∷ y ∷ []) d e f least most = absurd (omega (arith, least))
+three_long index (x ∷ y ∷ z ∷ []) d e f least most = refl
+three_long index (x ∷ y ∷ z ∷ w ∷ vars) d e f least most = absurd (omega (arith, most))

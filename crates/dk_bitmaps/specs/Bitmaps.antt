@@ -1,16 +1,20 @@
 -- Bitmaps of patterns: a binary digit for each pattern, 64 of them in a word.
-use Rattle.std.specs.Prelude.{◌≡◌, ◌==◌, ◌<◌, ◌+◌, ◌*◌, ◌/◌, ◌%◌, ◌^◌, ℕ, All, Bool, List, cond, drop, fold, get_or, length, slice_index_or, take}
+use Rattle.std.specs.Prelude.{◌≡◌, ◌==◌, ◌<◌, ◌+◌, ◌*◌, ◌/◌, ◌%◌, ◌^◌, ℕ, All, Bool, List, Option, Some, None, cond, drop, fold, get_or, if◌then◌else◌, length, slice_index_or, take}
 use Rattle.std.specs.Global.{Vec}
 use Rattle.dk_base.specs.declared.kinds.VarId.{VarId}
 use Rattle.dk_bitmaps.specs.declared.marks.Mark.{Mark}
 use Rattle.dk_bitmaps.specs.declared.marks.Mark.TheVariants.{Digit, Leader}
-use Rattle.dk_presence.specs.Patterns.{has}
+use Rattle.dk_presence.specs.Patterns.{counted_by, has, has_all}
 use Rattle.dk_presence.specs.declared.held.Held.{Held}
 
 -- what an index is seen as: the patterns, and the leaders that it has
 pub record Indexed : Type 0 where
   pub held : List Held
   pub leaders : List VarId
+
+-- what an index tells of some leaders: in how many samples all of them are present, if it has them all
+abbrev pub told : Indexed → List VarId → Option ℕ
+told index vars = if has_all index.leaders vars then Some (counted_by index.held vars) else None
 
 -- whether a number has the binary digit 1 at a place, counted from 0 at the last digit
 abbrev pub is_one_at : ℕ → ℕ → Bool

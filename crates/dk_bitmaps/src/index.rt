@@ -1,12 +1,13 @@
 // The bitmap index of patterns.
-ghost use Rattle.std.specs.Prelude.{◌≡◌, ◌∷◌, [], true, All, IfOk, IfSome};
-ghost use Rattle.dk_bitmaps.specs.Bitmaps.{IsBitmap};
-ghost use Rattle.dk_presence.specs.Patterns.{counted_by, has};
+ghost use Rattle.std.specs.Prelude.{◌≡◌, ◌≤◌, ◌∷◌, [], IfOk, IfSome, is_some, length};
+ghost use Rattle.dk_bitmaps.specs.Bitmaps.{IsBitmap, told};
+ghost use Rattle.dk_presence.specs.Patterns.{has};
+ghost use Rattle.dk_samples.specs.Leaders.{VarsAscend};
 
 use crate::counting::common_sum;
 use crate::maps::{digit_maps, leader_maps};
 use dk_base::{NoMemory, VarId};
-use dk_presence::{Held, Presence};
+use dk_presence::Presence;
 use std::alloc::Global;
 use std::marker::Model;
 
@@ -15,7 +16,7 @@ use std::marker::Model;
 /// the leaders.
 #[derive(Drop)]
 pub struct PatternIndex<'p> {
-    held: &'p [Held],
+    presence: &'p Presence,
     leaders: &'p [VarId],
     maps: Vec<Vec<u64>>,
     digits: Vec<Vec<u64>>,
@@ -23,12 +24,13 @@ pub struct PatternIndex<'p> {
 
 impl<'p> Model for PatternIndex<'p> {
     ghost use Rattle.dk_bitmaps.specs.Bitmaps.{AreDigitMaps, AreLeaderMaps, Indexed};
+    ghost use Rattle.dk_samples.specs.Leaders.{VarsAscend};
 
     ghost Value = { Indexed };
 
-    ghost view = { λ index. record { held = index.held.now; leaders = index.leaders.now } };
+    ghost view = { λ index. record { held = index.presence.now; leaders = index.leaders.now } };
 
-    ghost invariant = { λ index. AreLeaderMaps index.held.now index.leaders.now index.maps.items × AreDigitMaps index.held.now index.digits.items };
+    ghost invariant = { λ index. VarsAscend index.leaders.now × AreLeaderMaps index.presence.now index.leaders.now index.maps.items × AreDigitMaps index.presence.now index.digits.items };
 }
 
 impl<'p> PatternIndex<'p> {
@@ -38,11 +40,12 @@ impl<'p> PatternIndex<'p> {
         presence: &'p Presence,
         leaders: &'p [VarId],
     ) -> Result<PatternIndex<'p>, NoMemory>
+        requires { VarsAscend leaders.now }
         ensures { IfOk result (λ index. index ≡ record { held = presence.now; leaders = leaders.now }) }
     {
         let held = presence.held();
         Ok(PatternIndex {
-            held,
+            presence,
             leaders,
             maps: leader_maps(alloc, leaders, held)?,
             digits: digit_maps(alloc, held)?,
@@ -52,7 +55,7 @@ impl<'p> PatternIndex<'p> {
     // The bitmap of a leader.
     fn map(&self, v: VarId) -> Option<&[u64]>
         ensures map { IfSome result (λ words. IsBitmap self.now.held (λ h. has h.leaders v) words.now) }
-        ensures leads { IfSome result (λ _. has self.now.leaders v ≡ true) }
+        ensures there { is_some result ≡ has self.now.leaders v }
     {
         match self.leaders.binary_search_by_key(&v.0, |w| w.0) {
             Ok(place) => Some(self.maps[place].as_slice()),
@@ -62,26 +65,25 @@ impl<'p> PatternIndex<'p> {
 
     // The count of three leaders, if they are indexed.
     fn count_three(&self, x: VarId, y: VarId, z: VarId) -> Option<u64>
-        ensures count { IfSome result (λ count. count ≡ counted_by self.now.held (x ∷ y ∷ z ∷ [])) }
-        ensures lead { IfSome result (λ _. All (λ v. has self.now.leaders v ≡ true) (x ∷ y ∷ z ∷ [])) }
+        ensures { result ≡ told self.now (x ∷ y ∷ z ∷ []) }
     {
-        match (self.map(x), self.map(y), self.map(z)) {
-            (Some(a), Some(b), Some(c)) => Some(common_sum(self.digits.as_slice(), a, b, c)),
-            _ => None,
-        }
+        let a = self.map(x)?;
+        let b = self.map(y)?;
+        let c = self.map(z)?;
+        Some(common_sum(self.digits.as_slice(), a, b, c))
     }
 
-    /// In how many samples all of these leaders are present, or 2^64 - 1 if there are more; none where one isn't indexed, or
-    /// where they aren't one, two or three.
+    /// In how many samples all of at most three leaders are present, or 2^64 - 1 if there are more; None where one of them isn't indexed.
     pub fn count(&self, leaders: &[VarId]) -> Option<u64>
-        ensures count { IfSome result (λ count. count ≡ counted_by self.now.held leaders.now) }
-        ensures lead { IfSome result (λ _. All (λ v. has self.now.leaders v ≡ true) leaders.now) }
+        requires { length leaders.now ≤ 3 }
+        ensures { result ≡ told self.now leaders.now }
     {
         match leaders {
+            [] => Some(self.presence.count(&[])),
             [x] => self.count_three(*x, *x, *x),
             [x, y] => self.count_three(*x, *y, *y),
             [x, y, z] => self.count_three(*x, *y, *z),
-            _ => None,
+            _ => unreachable!(),
         }
     }
 }
@@ -105,6 +107,7 @@ mod tests {
         assert!(rt; index.count(&[VarId(1)]) == Some(3));
         assert!(rt; index.count(&[VarId(2), VarId(0)]) == Some(2));
         assert!(rt; index.count(&leaders) == Some(2));
+        assert!(rt; index.count(&[]) == Some(4));
         assert!(rt; index.count(&[VarId(0), VarId(3)]) == None);
         Ok(())
     }

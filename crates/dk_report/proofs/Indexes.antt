@@ -1,13 +1,12 @@
 -- Counts of several variables by an index of the patterns are those of what the engines keep.
-use Rattle.std.specs.Prelude.{◌≡◌, ◌<◌, ◌+◌, ◌*◌, ◌++◌, ℕ, true, All, IfSome, List, [], ◌∷◌, get_or, length, sum_by, take, Option, Some, None}
+use Rattle.std.specs.Prelude.{◌≡◌, ◌<◌, ◌+◌, ◌*◌, ◌++◌, ℕ, true, IfSome, List, [], ◌∷◌, get_or, length, sum_by, take, Option, Some, None, ◌&&◌, false, if◌then◌else◌}
 use Rattle.std.specs.Option.{option_map_or}
 use Rattle.std.proofs.Common.{◌∙◌, ap, arith, inl, inr, refl, subst, sym}
-use Rattle.std.proofs.lemmas.Bool.{cases_lt}
+use Rattle.std.proofs.lemmas.Bool.{cases_Bool, cases_lt, false≢true}
 use Rattle.std.proofs.lemmas.List.{get_or_append_left, get_or_default, get_or_push, length_push, take_more}
-use Rattle.std.proofs.lemmas.List.Elements.{All-head, All-tail}
 use Rattle.std.proofs.lemmas.List.Sums.{sum_by_push}
 use Rattle.dk_base.specs.declared.kinds.VarId.{VarId}
-use Rattle.dk_bitmaps.specs.Bitmaps.{Indexed}
+use Rattle.dk_bitmaps.specs.Bitmaps.{Indexed, told}
 use Rattle.dk_classes.proofs.OwnLeaders.{leads_from_own}
 use Rattle.dk_classes.specs.Leaders.{own_leaders}
 use Rattle.dk_engine.specs.Levels.{Whole}
@@ -18,7 +17,7 @@ use Rattle.dk_hierarchy.specs.Edges.{partners_at}
 use Rattle.dk_hierarchy.specs.Merging.{Joint, count_through, engine_at}
 use Rattle.dk_hierarchy.specs.declared.way.Way.{Way}
 use Rattle.dk_presence.proofs.Refining.{contains-has}
-use Rattle.dk_presence.specs.Patterns.{capped, counted_by, has}
+use Rattle.dk_presence.specs.Patterns.{capped, counted_by, has, has_all}
 use Rattle.dk_presence.specs.declared.held.Held.{Held}
 use Rattle.dk_report.specs.Counting.{AreIndexes, IsIndexOf, brought_together}
 
@@ -29,20 +28,26 @@ index-is kept held leaders index same led is =
     is ∙ (ap (λ (hs : List Held). let i : Indexed = record { held = hs; leaders = leaders } in i) same ∙ ap (λ (ls : List VarId). let i : Indexed = record { held = kept.held; leaders = ls } in i) led)
 
 -- leaders have themselves as leaders
-lead_themselves : (leaders vars : List VarId) → All (λ v. has (own_leaders leaders) v ≡ true) vars → leaders_of leaders vars ≡ vars
+lead_themselves : (leaders vars : List VarId) → has_all (own_leaders leaders) vars ≡ true → leaders_of leaders vars ≡ vars
 lead_themselves leaders [] all = refl
-lead_themselves leaders (v ∷ vars) all =
-    let led = leads_from_own leaders v (contains-has (own_leaders leaders) v (All-head (λ w. has (own_leaders leaders) w ≡ true) v vars all)) in
-    let same : leader_of leaders v ≡ v = ap (λ n. record { 0 = n }) led.1 in
-    ap (λ w. w ∷ leaders_of leaders vars) same ∙ ap (λ ws. v ∷ ws) (lead_themselves leaders vars (All-tail (λ w. has (own_leaders leaders) w ≡ true) v vars all))
+lead_themselves leaders (v ∷ vars) all = elim (cases_Bool (has (own_leaders leaders) v)) as (λ _. leaders_of leaders (v ∷ vars) ≡ v ∷ vars) [
+  | inl e ↦
+      (let led = leads_from_own leaders v (contains-has (own_leaders leaders) v e) in
+      let same : leader_of leaders v ≡ v = ap (λ n. record { 0 = n }) led.1 in
+      let others : has_all (own_leaders leaders) vars ≡ true = ap (λ b. b && has_all (own_leaders leaders) vars) (sym e) ∙ all in
+      ap (λ w. w ∷ leaders_of leaders vars) same ∙ ap (λ ws. v ∷ ws) (lead_themselves leaders vars others))
+  | inr n ↦ absurd (false≢true (ap (λ b. b && has_all (own_leaders leaders) vars) (sym n) ∙ all))
+]
 
 -- what an index tells of leaders
-pub told-read : (kept : Kept) (index : Indexed) (there : List VarId) (told : Option ℕ) → IsIndexOf kept index
-    → IfSome told (λ n. n ≡ counted_by index.held there) → IfSome told (λ _. All (λ v. has index.leaders v ≡ true) there) → IfSome told (λ n. n ≡ count_read kept there)
-told-read kept index there None is counted lead = tt
-told-read kept index there (Some n) is counted lead =
-    let leads : All (λ v. has (own_leaders kept.leaders) v ≡ true) there = subst (λ (i : Indexed). All (λ v. has i.leaders v ≡ true) there) is lead in
-    counted ∙ (ap (λ (i : Indexed). counted_by i.held there) is ∙ ap (counted_by kept.held) (sym (lead_themselves kept.leaders there leads)))
+pub told-read : (kept : Kept) (index : Indexed) (there : List VarId) → IsIndexOf kept index → IfSome (told index there) (λ n. n ≡ count_read kept there)
+told-read kept index there is =
+    subst (λ (i : Indexed). IfSome (told i there) (λ n. n ≡ count_read kept there)) (sym is)
+    (elim (cases_Bool (has_all (own_leaders kept.leaders) there)) as (λ _. IfSome (told (record { held = kept.held; leaders = own_leaders kept.leaders }) there) (λ n. n ≡ count_read kept there)) [
+      | inl e ↦
+          subst (λ b. IfSome (if b then Some (counted_by kept.held there) else None) (λ n. n ≡ count_read kept there)) (sym e) (ap (counted_by kept.held) (sym (lead_themselves kept.leaders there e)))
+      | inr n ↦ subst (λ b. IfSome (if b then Some (counted_by kept.held there) else None) (λ n. n ≡ count_read kept there)) (sym n) tt
+    ])
 
 -- what a way brings of variables with partners
 pub brought-there : (kept : Kept) (way : Way) (vars there : List VarId) → partners_at way.partners vars ≡ Some there → count_read kept there * way.paths ≡ brought_together kept way vars

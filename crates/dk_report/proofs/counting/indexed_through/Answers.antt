@@ -1,7 +1,7 @@
-use Rattle.std.proofs.Common.{◌∙◌, ◌≡◌, All, IfSome, List, subst, sym, true}
-use Rattle.dk_base.specs.declared.kinds.VarId.{VarId}
+use Rattle.std.proofs.Common.{◌∙◌, ◌≡◌, IfSome, Option, ap, subst, sym, ℕ}
+use Rattle.dk_bitmaps.specs.Bitmaps.{told}
 use Rattle.dk_engine.specs.Reading.{count_read}
-use Rattle.dk_presence.specs.Patterns.{capped, counted_by, has}
+use Rattle.dk_presence.specs.Patterns.{capped}
 use Rattle.dk_report.proofs.Indexes.{brought-there, none-brought, told-read}
 use Rattle.dk_report.proofs.counting.indexed_through.Goals as goal
 
@@ -13,10 +13,8 @@ returns-in-Some c = λ kept is.
     let way = c.args.way.now in
     let vars = c.args.vars.now in
     let there = c.in-Some.there in
-    let items = c.as_slice.ensures.items in
     let index = c.args.index.now in
-    let told = sym c.partners_at.ensures ∙ c.in-Some.is in
-    let counted = subst (λ (vs : List VarId). IfSome c.count.result (λ n. n ≡ counted_by index.held vs)) items c.count.ensures.count in
-    let lead = subst (λ (vs : List VarId). IfSome c.count.result (λ _. All (λ v. has index.leaders v ≡ true) vs)) items c.count.ensures.lead in
-    subst (λ n. IfSome c.times.result (λ count. count ≡ capped n)) (brought-there kept way vars there told)
-    (c.times.ensures (count_read kept there) (told-read kept index there c.count.result is counted lead))
+    let partners = sym c.partners_at.ensures ∙ c.in-Some.is in
+    let counted : c.count.result ≡ told index there = c.count.ensures ∙ ap (told index) c.as_slice.ensures.items in
+    let read = subst (λ (o : Option ℕ). IfSome o (λ n. n ≡ count_read kept there)) (sym counted) (told-read kept index there is) in
+    subst (λ n. IfSome c.times.result (λ count. count ≡ capped n)) (brought-there kept way vars there partners) (c.times.ensures (count_read kept there) read)
