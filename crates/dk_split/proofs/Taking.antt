@@ -62,7 +62,7 @@ grown_stand : (s new : Splits) (ps : List Point) (samples : OwnSamples) (ps' : L
     → AreGrown ps' s.splits.items new.splits.items → StandsFor new ps' all
 grown_stand s new ps samples ps' all stands more grown = record {
   long = grown.long;
-  many = omega (arith, ap length more.samples_are, length-append samples (replicate (length more.more) []), length-replicate (length more.more) [], ap length more.table, length-append ps more.more, stands.many);
+  many = omega (arith, ap length more.samples_are, length-append samples (replicate (length more.more) []), length-replicate {A = List (List Value)} (length more.more) [], ap length more.table, length-append ps more.more, stands.many);
   splits = subst (λ (own : OwnSamples). SplitsStandFor new.splits.items (own_samples_of ps' own)) (sym more.samples_are)
       (stand_grown ps ps' s.splits.items new.splits.items samples (length more.more) (more.more, more.table) stands.many stands.long grown stands.splits);
 }
