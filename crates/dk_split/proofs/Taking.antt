@@ -1,5 +1,5 @@
 -- The splits behind what a block does.
-use Rattle.std.proofs.Common.{◌≡◌, ◌∙◌, ℕ, List, [], ◌∷◌, ◌++◌, length, replicate, slice_get, Some, OnOk, Result, Ok, Err, ap, arith, refl, subst, sym, length-append}
+use Rattle.std.proofs.Common.{◌≡◌, ◌∙◌, ℕ, List, [], ◌∷◌, length, replicate, slice_get, Some, OnOk, Result, Ok, Err, ap, arith, subst, sym, length-append}
 use Rattle.std.proofs.lemmas.List.{append-nil, length-replicate, length-set}
 use Rattle.std.specs.List.{AllZip}
 use Rattle.dk_base.specs.Values.{IsOfKind, values_of}
