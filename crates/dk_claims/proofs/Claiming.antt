@@ -1,6 +1,5 @@
 -- Claims of lines, one after another.
-use Rattle.std.proofs.Common.{◌≡◌, ◌∙◌, ◌&&◌, ◌||◌, ◌++◌, not, sym, ap, refl, ℕ, Bool, true, false, cond, List, [], ◌∷◌, filter, map, append_assoc}
-use Rattle.std.proofs.lemmas.List.{append-nil}
+use Rattle.std.proofs.Common.{◌≡◌, ◌∙◌, ◌||◌, ◌++◌, not, sym, ap, refl, ℕ, Bool, true, false, cond, List, [], ◌∷◌, filter, map, append_assoc}
 use Rattle.std.proofs.lemmas.List.Elements.{All-head, All-tail, filter-append}
 use Rattle.dk_claims.specs.Claims.{claim_in, claims_below, claims_of, is_blank_line, is_remark, is_ruler, name_below, written_lines}
 use Rattle.dk_claims.specs.Counts.{without_count}

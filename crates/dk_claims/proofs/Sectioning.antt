@@ -195,37 +195,37 @@ unfolding sections_below claims_below
 claims_by_sections behind section [] = ended_claims section ∙ sym (append-nil (section_claims section))
 claims_by_sections true section (line ∷ lines) =
     go (is_ruler line) refl (claims_by_sections true section lines) (claims_by_sections false (section_at line) lines) where
-  go : (b : Bool) → is_ruler line ≡ b
-      → flat_map section_claims (sections_below true section lines) ≡ section_claims section ++ claims_below true section.point lines
-      → flat_map section_claims (sections_below false (section_at line) lines) ≡ section_claims (section_at line) ++ claims_below false (without_count line) lines
-      → flat_map section_claims (sections_below true section (line ∷ lines)) ≡ section_claims section ++ claims_below true section.point (line ∷ lines)
-  go true e same next =
-      ap (flat_map section_claims) (ruler_below true section line lines e)
-      ∙ same
-      ∙ ap (λ (l : List Claim). section_claims section ++ l) (sym (ruler_claims true section.point line lines e))
-  go false e same next =
-      ap (flat_map section_claims) (heading_below section line lines e)
-      ∙ flat_map-append section_claims (ended section) (sections_below false (section_at line) lines)
-      ∙ ap (λ (l : List Claim). l ++ flat_map section_claims (sections_below false (section_at line) lines)) (ended_claims section)
-      ∙ ap (λ (l : List Claim). section_claims section ++ l)
-      (next ∙ sym (heading_claims section.point line lines e))
+      go : (b : Bool) → is_ruler line ≡ b
+          → flat_map section_claims (sections_below true section lines) ≡ section_claims section ++ claims_below true section.point lines
+          → flat_map section_claims (sections_below false (section_at line) lines) ≡ section_claims (section_at line) ++ claims_below false (without_count line) lines
+          → flat_map section_claims (sections_below true section (line ∷ lines)) ≡ section_claims section ++ claims_below true section.point (line ∷ lines)
+      go true e same next =
+          ap (flat_map section_claims) (ruler_below true section line lines e)
+          ∙ same
+          ∙ ap (λ (l : List Claim). section_claims section ++ l) (sym (ruler_claims true section.point line lines e))
+      go false e same next =
+          ap (flat_map section_claims) (heading_below section line lines e)
+          ∙ flat_map-append section_claims (ended section) (sections_below false (section_at line) lines)
+          ∙ ap (λ (l : List Claim). l ++ flat_map section_claims (sections_below false (section_at line) lines)) (ended_claims section)
+          ∙ ap (λ (l : List Claim). section_claims section ++ l)
+          (next ∙ sym (heading_claims section.point line lines e))
 claims_by_sections false section (line ∷ lines) =
     go (is_ruler line) refl (claims_by_sections true section lines)
     (claims_by_sections false (record section { lines = section.lines ++ cond (is_remark line) [] (report_line line ∷ []) }) lines) where
-  go : (b : Bool) → is_ruler line ≡ b
-      → flat_map section_claims (sections_below true section lines) ≡ section_claims section ++ claims_below true section.point lines
-      → flat_map section_claims (sections_below false (record section { lines = section.lines ++ cond (is_remark line) [] (report_line line ∷ []) }) lines) ≡ section_claims (record section { lines = section.lines ++ cond (is_remark line) [] (report_line line ∷ []) }) ++ claims_below false section.point lines
-      → flat_map section_claims (sections_below false section (line ∷ lines)) ≡ section_claims section ++ claims_below false section.point (line ∷ lines)
-  go true e same next =
-      ap (flat_map section_claims) (ruler_below false section line lines e)
-      ∙ same
-      ∙ ap (λ (l : List Claim). section_claims section ++ l) (sym (ruler_claims false section.point line lines e))
-  go false e same next =
-      ap (flat_map section_claims) (said_below section line lines e)
-      ∙ next
-      ∙ ap (λ (l : List Claim). l ++ claims_below false section.point lines) (more_claims section line)
-      ∙ append_assoc (section_claims section) (cond (is_remark line) [] (record { point = section.point; text = without_count line } ∷ [])) (claims_below false section.point lines)
-      ∙ ap (λ (l : List Claim). section_claims section ++ l) (sym (said_claims section.point line lines e))
+      go : (b : Bool) → is_ruler line ≡ b
+          → flat_map section_claims (sections_below true section lines) ≡ section_claims section ++ claims_below true section.point lines
+          → flat_map section_claims (sections_below false (record section { lines = section.lines ++ cond (is_remark line) [] (report_line line ∷ []) }) lines) ≡ section_claims (record section { lines = section.lines ++ cond (is_remark line) [] (report_line line ∷ []) }) ++ claims_below false section.point lines
+          → flat_map section_claims (sections_below false section (line ∷ lines)) ≡ section_claims section ++ claims_below false section.point (line ∷ lines)
+      go true e same next =
+          ap (flat_map section_claims) (ruler_below false section line lines e)
+          ∙ same
+          ∙ ap (λ (l : List Claim). section_claims section ++ l) (sym (ruler_claims false section.point line lines e))
+      go false e same next =
+          ap (flat_map section_claims) (said_below section line lines e)
+          ∙ next
+          ∙ ap (λ (l : List Claim). l ++ claims_below false section.point lines) (more_claims section line)
+          ∙ append_assoc (section_claims section) (cond (is_remark line) [] (record { point = section.point; text = without_count line } ∷ [])) (claims_below false section.point lines)
+          ∙ ap (λ (l : List Claim). section_claims section ++ l) (sym (said_claims section.point line lines e))
 
 pub claims_are_of_sections : ClaimsAreOfSections
 unfolding sections_of claims_of

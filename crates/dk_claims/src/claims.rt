@@ -17,11 +17,7 @@ pub struct Claim {
 }
 
 // What the section claims of its point, behind the others.
-fn push_claims(
-    alloc: Global,
-    claims: &mut List<Claim>,
-    section: &Section,
-) -> Result<(), NoMemory>
+fn push_claims(alloc: Global, claims: &mut List<Claim>, section: &Section) -> Result<(), NoMemory>
     ensures { OnOk result (claims.new ≡ claims.old ++ section_claims section.now) }
 {
     let lines = section.lines.as_slice();

@@ -148,7 +148,9 @@ impl Sections {
         ensures { IfOk result (λ sections. (lines : List (List ℕ)) → StandsFor self lines → sections ≡ sections_of lines) }
     {
         let Sections {
-            closed, current, ..
+            closed,
+            current,
+            ..
         } = self;
         if is_nothing(&current) {
             return Ok(closed);
