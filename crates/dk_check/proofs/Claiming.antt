@@ -1,67 +1,74 @@
 -- Reading the assertion file.
-use Rattle.std.proofs.Common.{◌≡◌, ◌≢◌, ◌-◌, ◌∙◌, ℕ, List, [], length, inl, inr, Bool, false, Option, Some, IfSome, Result, Ok, Err, refl, sym, ap, subst}
+use Rattle.std.proofs.Common.{◌≡◌, ◌-◌, ◌∙◌, ℕ, List, length, inl, inr, Bool, false, Option, Some, None, IfSome, Ok, Err, refl, sym, ap}
 use Rattle.dk_claims.specs.Reading.{ClaimsGive, claims_left}
 use Rattle.dk_claims.specs.declared.claims.Claim.{Claim}
-use Rattle.dk_io.specs.Outside.{HeldFile, Absent, Holds, Starts}
+use Rattle.dk_driver.specs.Walks.{line_limit, standard_limits, total_limit}
+use Rattle.dk_driver.specs.WholeFile.{fresh_reading}
+use Rattle.dk_driver.specs.declared.fault.FileFault.TheVariants as file
 use Rattle.dk_lines.specs.Left.{lined, lines_left}
-use Rattle.dk_lines.specs.Reading.{Reading, left_of, room_of}
+use Rattle.dk_lines.specs.Reading.{Reading, room_of}
 use Rattle.dk_lines.specs.declared.lines.Limits.{Limits}
 use Rattle.dk_lines.specs.declared.lines.LineFault.{LineFault}
 use Rattle.dk_lines.specs.declared.lines.LineFault.TheVariants as fault
-use Rattle.dk_run.proofs.Filing.{nothing_ahead, nothing_left, told}
-use Rattle.dk_run.specs.Courses.{line_limit, standard_limits, total_limit}
-use Rattle.dk_run.specs.WholeFile.{fresh_reading}
-use Rattle.dk_check.specs.Assertions.{claims_in}
-use Rattle.dk_check.specs.WholeClaims.{AreClaimsOf, ClaimsTroubleGives, trouble_of_claims}
-
--- a file that is not absent
-there : (held : HeldFile) (rest : Option (List ℕ)) → Starts held rest → held ≢ Absent
-there held rest starts absent = subst (λ (h : HeldFile). Starts h rest) absent starts
+use Rattle.dk_program.specs.Openings.{IsOfMay, OpeningGives}
+use Rattle.dk_check.specs.Assertions.{IsOfBytes, claims_in, fault_of}
+use Rattle.dk_check.specs.Standing.{claims_of}
+use Rattle.dk_check.specs.declared.checking.Checking.{Checking}
 
 -- the claims of the lines of a started file are those of its bytes
-started_claims : (r : Reading) (is_ended : Bool) (xs : List ℕ) → r.limits ≡ standard_limits → room_of r ≡ total_limit
-    → claims_left (lines_left (fresh_reading r) is_ended xs) ≡ claims_in (record { bytes = xs; is_ended = is_ended })
-started_claims r is_ended xs limits room =
-    ap (λ (l : Limits). claims_left (lined l.line (room_of r) 0 is_ended xs)) limits
+started_claims : (r : Reading) (is_ended : Bool) (xs : List ℕ) → r ≡ fresh_reading r → r.limits ≡ standard_limits → room_of r ≡ total_limit
+    → claims_left (lines_left r is_ended xs) ≡ claims_in (record { bytes = xs; is_ended = is_ended })
+started_claims r is_ended xs fresh limits room =
+    ap (λ (m : Reading). claims_left (lines_left m is_ended xs)) fresh
+    ∙ ap (λ (l : Limits). claims_left (lined l.line (room_of r) 0 is_ended xs)) limits
     ∙ ap (λ (n : ℕ). claims_left (lined line_limit n 0 is_ended xs)) room
 
 -- what reading it says, whatever its bytes are
-module _ (r mid last : Reading) (held : HeldFile) (rest after before : Option (List ℕ)) (rose : Type 0)
-    (limits : r.limits ≡ standard_limits) (room : room_of r ≡ total_limit) (is : mid ≡ fresh_reading r) (starts : Starts held rest) where
-  gives_at : (result : Result (List Claim) LineFault) (xs : List ℕ) → held ≡ Holds xs → IfSome (left_of mid rest) (λ xs. ClaimsGive mid xs result last (left_of last after))
-      → ClaimsGive (fresh_reading r) xs result last (left_of last after)
-  gives_at result xs holds gives = told (λ m ys. ClaimsGive m ys result last (left_of last after)) r mid held xs rest is starts holds gives
-
-  pub claims_told : (claims : List Claim) → IfSome (left_of mid rest) (λ xs. ClaimsGive mid xs (Ok claims) last (left_of last after)) → AreClaimsOf held after (room_of last) claims
-  claims_told claims gives = record {
-    there = there held rest starts;
-    are = λ xs holds.
-        let e = gives_at (Ok claims) xs holds gives in (
-          sym (started_claims r _ xs limits room) ∙ e.all,
-          nothing_left last.ahead after e.nothing_left,
-          e.room ∙ ap (λ (n : ℕ). n - length xs) room,
-        );
-  }
-
-  pub claims_trouble_told : (x : LineFault) → (x ≡ fault.Read → last.ahead ≡ []) → (x ≡ fault.Read → rose)
-      → IfSome (left_of mid rest) (λ xs. ClaimsGive mid xs (Err x) last (left_of last after)) → ClaimsTroubleGives held before rose (trouble_of_claims x) after
-  claims_trouble_told (fault.LongLine n) emptied cause gives = record {
-    there = there held rest starts;
-    of_bytes = inl refl;
-    first = λ xs holds. sym (started_claims r _ xs limits room) ∙ gives_at (Err (fault.LongLine n)) xs holds gives;
-  }
-  claims_trouble_told (fault.TooLong n) emptied cause gives = record {
-    there = there held rest starts;
-    of_bytes = inr refl;
-    first = λ xs holds. sym (started_claims r _ xs limits room) ∙ gives_at (Err (fault.TooLong n)) xs holds gives;
-  }
-  claims_trouble_told fault.Read emptied cause gives = (
-    (there held rest starts, cause refl),
-    λ xs holds.
-        let e = gives_at (Err fault.Read) xs holds gives in (
-          record { bytes = e.front; is_ended = false },
-          (e.rest, nothing_ahead last.ahead after (Some e.rest) (emptied refl) e.left_is, e.split, λ ended. absurd (cc ended)),
-          (e.claims, sym (started_claims r false e.front limits room) ∙ e.all),
-        ),
+module _ (r last : Reading) (left : Option (List ℕ)) (fresh : r ≡ fresh_reading r) (limits : r.limits ≡ standard_limits) (room : room_of r ≡ total_limit) where
+  -- its claims
+  pub claims_told : (o : Option (List ℕ)) (claims : List Claim) (c : Checking) → claims_of c ≡ claims → IfSome o (λ xs. ClaimsGive r xs (Ok claims) last left)
+      → IfSome o (λ xs. OpeningGives claims_in claims_of xs (Ok c) last left)
+  claims_told None claims c same gives = tt
+  claims_told (Some xs) claims c same e = (
+    sym (started_claims r _ xs fresh limits room) ∙ e.all ∙ ap (λ (l : List Claim). Ok l) (sym same),
+    e.room ∙ ap (λ (n : ℕ). n - length xs) room,
+    e.nothing_left,
   )
-  claims_trouble_told fault.NoMemory emptied cause gives = tt
+
+  -- or why they are not read
+  pub fault_told : (o : Option (List ℕ)) (x : LineFault) → IfSome o (λ xs. ClaimsGive r xs (Err x) last left)
+      → IfSome o (λ xs. OpeningGives {K = Checking} claims_in claims_of xs (Err (fault_of x)) last left)
+  fault_told None x gives = tt
+  fault_told (Some xs) (fault.LongLine n) e = sym (started_claims r _ xs fresh limits room) ∙ e
+  fault_told (Some xs) (fault.TooLong n) e = sym (started_claims r _ xs fresh limits room) ∙ e
+  fault_told (Some xs) fault.Read e = record {
+    delivered = record { bytes = e.front; is_ended = false };
+    is_delivered = (e.rest, e.left_is, e.split, λ ended. absurd (cc ended));
+    given = e.claims;
+    fine = sym (started_claims r false e.front fresh limits room) ∙ e.all;
+  }
+  fault_told (Some xs) fault.NoMemory e = tt
+
+  -- or memory ran out
+  pub memory_told : (o : Option (List ℕ)) → IfSome o (λ xs. OpeningGives {K = Checking} claims_in claims_of xs (Err file.NoMemory) last left)
+  memory_told None = tt
+  memory_told (Some xs) = tt
+
+-- ---- which faults come
+pub of_bytes : (x : LineFault) → IsOfMay IsOfBytes (fault_of x)
+of_bytes (fault.LongLine n) = inl refl
+of_bytes (fault.TooLong n) = inr refl
+of_bytes fault.Read = tt
+of_bytes fault.NoMemory = tt
+
+pub not_start : (x : LineFault) → fault_of x ≡ file.Start → ⊥
+not_start (fault.LongLine n) e = cc e
+not_start (fault.TooLong n) e = cc e
+not_start fault.Read e = cc e
+not_start fault.NoMemory e = cc e
+
+pub read_of : (x : LineFault) → fault_of x ≡ file.Read → x ≡ fault.Read
+read_of (fault.LongLine n) e = absurd (cc e)
+read_of (fault.TooLong n) e = absurd (cc e)
+read_of fault.Read e = refl
+read_of fault.NoMemory e = absurd (cc e)

@@ -1,49 +1,38 @@
 -- The checker behind what a block does.
-use Rattle.std.proofs.Common.{◌≡◌, ◌∙◌, ◌++◌, ℕ, true, false, List, [], ◌∷◌, Option, Some, None, is_some, Result, Ok, Err, IfSome, OnOk, ap, refl, subst, sym}
-use Rattle.std.proofs.lemmas.List.{append-nil}
+use Rattle.std.proofs.Common.{◌≡◌, ◌∙◌, ◌++◌, ◌∷◌, [], ℕ, List, map, Some, Result, Ok, Err, OnOk, ap, refl, subst, sym}
+use Rattle.std.proofs.lemmas.List.{map-append}
 use Rattle.std.specs.List.{AllZip}
 use Rattle.dk_base.specs.Values.{IsOfKind, values_of}
-use Rattle.dk_base.specs.declared.faults.Fault.{Fault}
-use Rattle.dk_base.specs.declared.faults.Fault.TheVariants as f
 use Rattle.dk_base.specs.declared.kinds.VarInfo.{VarInfo}
 use Rattle.dk_base.specs.declared.values.Value.{Value}
-use Rattle.dk_blocks.proofs.Added.{next_added}
-use Rattle.dk_blocks.specs.Adding.{Adds, AddsNothing}
 use Rattle.dk_blocks.specs.Fitting.{Extends}
-use Rattle.dk_blocks.specs.History.{Declares, Effect, History, Nothing, Samples, Taken, effect_of}
-use Rattle.dk_blocks.specs.Reading.{stepped}
-use Rattle.dk_blocks.specs.Standing.{ReaderStandsFor, Stands as ReaderKeeps, points_of as points_in}
-use Rattle.dk_blocks.specs.Steps.{Steps, groups_left}
-use Rattle.dk_blocks.specs.declared.reader.Reader.{Reader}
 use Rattle.dk_derive.specs.Laws.{var_kinds}
 use Rattle.dk_derive.specs.Values.{values_by_form}
-use Rattle.dk_events.specs.Following.{Following}
-use Rattle.dk_events.specs.Standing.{EventsStandFor, NextEvent, ignores_of, over_of, points_of}
-use Rattle.dk_events.specs.Telling.{PointsGoOn, derived_effect, told}
+use Rattle.dk_driver.specs.Consuming.{IsBehind, Record, SamplesMore, Tells, Told}
+use Rattle.dk_events.specs.Telling.{PointsGoOn}
 use Rattle.dk_events.specs.declared.event.Event.{Event}
 use Rattle.dk_events.specs.declared.event.Event.TheVariants as event
 use Rattle.dk_fits.specs.Laws.{IsSample}
 use Rattle.dk_hierarchy.specs.Samples.{all_vars_of}
-use Rattle.dk_lines.specs.Reading.{Reading}
 use Rattle.dk_points.specs.Table.{Point}
 use Rattle.dk_trace.specs.Fitting.{FitKinds}
 use Rattle.dk_verdicts.proofs.Growth.{kept_up_on, stands_on}
-use Rattle.dk_verdicts.specs.Records.{Record}
 use Rattle.dk_verdicts.specs.Standing as verdicts
 use Rattle.dk_verdicts.specs.declared.checker.Checker.{Checker}
-use Rattle.dk_check.specs.Standing.{IsKeptUp, StandsFor}
-use Rattle.dk_check.specs.Steps.{NextBlock}
+use Rattle.dk_check.specs.Standing.{StandsFor, checked}
 use Rattle.dk_check.specs.Taking.{HasTaken, TakesEvent}
-use Rattle.dk_check.specs.Walks.{records_in}
 use Rattle.dk_check.specs.declared.checking.Checking.{Checking}
 
--- the reader has the table of the history that it stands for
-pub table_of : (r : Reader) (h : History) → ReaderStandsFor r h → points_in r ≡ h.table
-unfolding ReaderKeeps
-table_of r h stands = stands.table
+-- ---- what holds where a call succeeds
+pub if_ok : {A E : Type 0} (r : Result A E) (P Q : Type 0) → (P → Q) → OnOk r P → OnOk r Q
+if_ok (Ok x) P Q f p = f p
+if_ok (Err e) P Q f p = tt
+
+pub on_ok : {A E : Type 0} (r : Result A E) (P Q R S : Type 0) → (P → Q → R → S) → OnOk r P → OnOk r Q → OnOk r R → OnOk r S
+on_ok (Ok x) P Q R S f p q r = f p q r
+on_ok (Err e) P Q R S f p q r = tt
 
 -- ---- a sample
-
 zipped : (vars : List VarInfo) (values : List Value) → AllZip IsOfKind (var_kinds vars) values → AllZip (λ (v : VarInfo) x. IsOfKind v.kind x) vars values
 zipped [] [] h = tt
 zipped [] (x ∷ xs) h = absurd h
@@ -55,135 +44,72 @@ pub sample_fits : (vars : List VarInfo) (values : List Value) → FitKinds (var_
 sample_fits vars values fits = record { kinds = zipped vars values fits.0; written = fits.1 }
 
 -- ---- over which points
+still_over : (ps ps' : List Point) (e : Event) (c : Checker) → PointsGoOn ps (Some e) ps' → verdicts.IsKeptUp ps c → verdicts.IsKeptUp ps' c
+still_over ps ps' event.Nothing c extends up = kept_up_on ps ps' c extends up
+still_over ps ps' event.Declared c extends up = kept_up_on ps ps' c extends up
+still_over ps ps' (event.Sample point line values) c same up = subst (λ (l : List Point). verdicts.IsKeptUp l c) (sym same) up
 
 -- no point goes: the checker is over those behind the block too
-pub still_over : (ps ps' : List Point) (e : Option Event) (c : Checker) → PointsGoOn ps e ps' → verdicts.IsKeptUp ps c → verdicts.IsKeptUp ps' c
-still_over ps ps' None c same up = subst (λ (l : List Point). verdicts.IsKeptUp l c) (sym same) up
-still_over ps ps' (Some event.Nothing) c extends up = kept_up_on ps ps' c extends up
-still_over ps ps' (Some event.Declared) c extends up = kept_up_on ps ps' c extends up
-still_over ps ps' (Some (event.Sample point line values)) c same up = subst (λ (l : List Point). verdicts.IsKeptUp l c) (sym same) up
+pub kept_up : (ps' : List Point) (e : Event) (c : Checker) → IsBehind (λ ps. verdicts.IsKeptUp ps c) ps' e → verdicts.IsKeptUp ps' c
+kept_up ps' e c (ps, up, goes) = still_over ps ps' e c goes up
 
--- so is what it has taken
-pub taken_over : (ps : List Point) (place : ℕ) (e : Event) (c c' : Checker) → TakesEvent ps place e c c' → verdicts.IsKeptUp ps c → verdicts.IsKeptUp ps c'
-taken_over ps place event.Nothing c c' same up = subst (verdicts.IsKeptUp ps) (sym same) up
-taken_over ps place event.Declared c c' same up = subst (verdicts.IsKeptUp ps) (sym same) up
-taken_over ps place (event.Sample point line values) c c' taken up = taken.kept_up
+-- ---- what was told
+-- the same checker, where no record is told
+no_record : (c : Checking) (old new : Told) → Extends old.points new.points → new.records ≡ old.records → StandsFor c old → StandsFor c new
+no_record c old new extends same stands = record {
+  kept_up = kept_up_on old.points new.points c.checker extends stands.kept_up;
+  checker = subst (λ (l : List Record). verdicts.StandsFor c.checker new.points (map checked l)) (sym same)
+      (stands_on old.points new.points c.checker (map checked old.records) extends stands.kept_up stands.checker);
+}
+
+one_record : (c c' : Checking) (ps : List Point) (old new : Told) (file line p : ℕ) (sample : List Value) → new.points ≡ ps → HasTaken ps c.checker c'.checker file p line sample
+    → SamplesMore file line p sample old new → StandsFor c old → StandsFor c' new
+one_record c c' ps old new file line p sample now taken more stands =
+    let here : old.points ≡ ps = sym more.points_are ∙ now in
+    let behind = taken.stands (map checked old.records) more.base (more.derived ∙ ap (λ (l : List Point). values_by_form (all_vars_of l p) more.base) here)
+    (subst (λ (l : List Point). verdicts.StandsFor c.checker l (map checked old.records)) here stands.checker) in
+    let records : map checked old.records ++ record { table = ps; file = file; line = line; point = p; values = more.base } ∷ [] ≡ map checked new.records =
+    ap (λ (l : List Point). map checked old.records ++ record { table = l; file = file; line = line; point = p; values = more.base } ∷ []) (sym here)
+    ∙ sym (map-append checked old.records (record { table = old.points; file = file; line = line; point = p; values = more.base } ∷ []))
+    ∙ ap (map checked) (sym more.records_are) in
+    record {
+      kept_up = subst (λ (l : List Point). verdicts.IsKeptUp l c'.checker) (sym now) taken.kept_up;
+      checker = subst (λ (l : List Point). verdicts.StandsFor c'.checker l (map checked new.records)) (sym now)
+          (subst (verdicts.StandsFor c'.checker ps) records behind);
+    }
+
+same_stands : (c c' : Checking) (told : Told) → c'.checker ≡ c.checker → StandsFor c told → StandsFor c' told
+same_stands c c' told same stands = record {
+  kept_up = subst (λ (k : Checker). verdicts.IsKeptUp told.points k) (sym same) stands.kept_up;
+  checker = subst (λ (k : Checker). verdicts.StandsFor k told.points (map checked told.records)) (sym same) stands.checker;
+}
+
+-- what an event tells is what the checker stands for
+taken_told : (c c' : Checking) (ps : List Point) (file : ℕ) (e : Event) → TakesEvent ps file e c.checker c'.checker
+    → (old new : Told) → new.points ≡ ps → StandsFor c old → Tells file e old new → StandsFor c' new
+taken_told c c' ps file event.Nothing taken old new now stands same = same_stands c c' new taken (subst (StandsFor c) (sym same) stands)
+taken_told c c' ps file event.Declared taken old new now stands more = same_stands c c' new taken (no_record c old new (more.more, more.points_are) more.records_are stands)
+taken_told c c' ps file (event.Sample point line values) taken old new now stands more = one_record c c' ps old new file line point.0 (values_of values.now) now taken more stands
+
+pub taken_stands : {A E : Type 0} (c c' : Checking) (r : Result A E) (ps : List Point) (file : ℕ) (e : Event) → OnOk r (TakesEvent ps file e c.checker c'.checker)
+    → OnOk r ((old new : Told) → new.points ≡ ps → StandsFor c old → Tells file e old new → StandsFor c' new)
+taken_stands c c' r ps file e taken = if_ok r _ _ (taken_told c c' ps file e) taken
+
+-- ---- claims, and points
+claims_told : (ps : List Point) (file : ℕ) (e : Event) (c c' : Checker) → TakesEvent ps file e c c' → verdicts.claims_of c' ≡ verdicts.claims_of c
+claims_told ps file event.Nothing c c' same = ap verdicts.claims_of same
+claims_told ps file event.Declared c c' same = ap verdicts.claims_of same
+claims_told ps file (event.Sample point line values) c c' taken = taken.claims
+
+over_told : (ps : List Point) (file : ℕ) (e : Event) (c c' : Checker) → verdicts.IsKeptUp ps c → TakesEvent ps file e c c' → verdicts.IsKeptUp ps c'
+over_told ps file event.Nothing c c' up same = subst (verdicts.IsKeptUp ps) (sym same) up
+over_told ps file event.Declared c c' up same = subst (verdicts.IsKeptUp ps) (sym same) up
+over_told ps file (event.Sample point line values) c c' up taken = taken.kept_up
 
 -- its claims stay
-pub claims_stay : (ps : List Point) (place : ℕ) (e : Event) (c c' : Checker) → TakesEvent ps place e c c' → verdicts.claims_of c' ≡ verdicts.claims_of c
-claims_stay ps place event.Nothing c c' same = ap verdicts.claims_of same
-claims_stay ps place event.Declared c c' same = ap verdicts.claims_of same
-claims_stay ps place (event.Sample point line values) c c' taken = taken.claims
+pub claims_stay : {A E : Type 0} (r : Result A E) (ps : List Point) (file : ℕ) (e : Event) (c c' : Checker) → OnOk r (TakesEvent ps file e c c') → OnOk r (verdicts.claims_of c' ≡ verdicts.claims_of c)
+claims_stay r ps file e c c' taken = if_ok r _ _ (claims_told ps file e c c') taken
 
--- ---- which records
-
-none_more : (h h' : History) → AddsNothing h h' → Extends h.table h'.table
-none_more h h' adds = ([], adds.table ∙ sym (append-nil h.table))
-
-no_record : (c c' : Checker) (h h' : History) (records : List Record) → Extends h.table h'.table → verdicts.IsKeptUp h.table c → c' ≡ c → verdicts.StandsFor c h.table records
-    → verdicts.StandsFor c' h'.table (records ++ [])
-no_record c c' h h' records extends up same stands =
-    subst (verdicts.StandsFor c' h'.table) (sym (append-nil records))
-    (subst (λ (x : Checker). verdicts.StandsFor x h'.table records) (sym same) (stands_on h.table h'.table c records extends up stands))
-
-one_record : (c c' : Checker) (h h' : History) (records : List Record) (place p n : ℕ) (base sample : List Value) → h'.table ≡ h.table
-    → sample ≡ values_by_form (all_vars_of h'.table p) base → HasTaken h'.table c c' place p n sample → verdicts.StandsFor c h.table records
-    → verdicts.StandsFor c' h'.table (records ++ record { table = h'.table; file = place; line = n; point = p; values = base } ∷ [])
-one_record c c' h h' records place p n base sample same is taken stands =
-    taken.stands records base is (subst (λ (ps : List Point). verdicts.StandsFor c ps records) (sym same) stands)
-
--- what an event tells is what the block adds
-effect_taken : (c c' : Checker) (h h' : History) (records : List Record) (place : ℕ) (e : Event) (effect : Option Effect) → verdicts.IsKeptUp h.table c
-    → told (Some e) ≡ derived_effect h'.table effect → Adds h effect h' → TakesEvent h'.table place e c c' → verdicts.StandsFor c h.table records
-    → verdicts.StandsFor c' h'.table (records ++ records_in place (record { history = h'; effect = effect }))
-effect_taken c c' h h' records place e None up is adds takes stands = absurd (cc is)
-effect_taken c c' h h' records place event.Nothing (Some Nothing) up is adds takes stands = no_record c c' h h' records (none_more h h' adds) up takes stands
-effect_taken c c' h h' records place event.Nothing (Some Declares) up is adds takes stands = absurd (cc is)
-effect_taken c c' h h' records place event.Nothing (Some (Samples p n base)) up is adds takes stands = absurd (cc is)
-effect_taken c c' h h' records place event.Declared (Some Nothing) up is adds takes stands = absurd (cc is)
-effect_taken c c' h h' records place event.Declared (Some Declares) up is adds takes stands = no_record c c' h h' records (adds.more, adds.table) up takes stands
-effect_taken c c' h h' records place event.Declared (Some (Samples p n base)) up is adds takes stands = absurd (cc is)
-effect_taken c c' h h' records place (event.Sample point line values) (Some Nothing) up is adds takes stands = absurd (cc is)
-effect_taken c c' h h' records place (event.Sample point line values) (Some Declares) up is adds takes stands = absurd (cc is)
-effect_taken c c' h h' records place (event.Sample point line values) (Some (Samples p n base)) up is adds takes stands =
-    let at : point.0 ≡ p = cc is in
-    let number : line ≡ n = cc is in
-    let sample : values_of values.now ≡ values_by_form (all_vars_of h'.table p) base = cc is in
-    one_record c c' h h' records place p n base (values_of values.now) adds.table sample
-    (subst (λ (k : ℕ). HasTaken h'.table c c' place p k (values_of values.now)) number
-    (subst (λ (k : ℕ). HasTaken h'.table c c' place k line (values_of values.now)) at takes)) stands
-
--- ---- what the next block tells
-
--- a block that is taken
-pub taken_on : (c c' : Checking) (events : Following) (place : ℕ) (h : History) (records : List Record) (r new : Reading) (o left : Option (List ℕ)) (e : Event) → c'.events ≡ events → IsKeptUp c
-    → TakesEvent (points_of events) place e c.checker c'.checker → StandsFor c h records
-    → IfSome o (λ xs. NextEvent c.events h r xs (Ok (events, Some e)) new left) → IfSome o (λ xs. NextBlock c place h records r xs (Ok (c', true)) new left)
-taken_on c c' events place h records r new None left e same up takes stands gives = tt
-taken_on c c' events place h records r new (Some xs) left e same up takes stands (h', holds, (effect, is, (ys, at, steps))) =
-    let taken : Taken = record { history = h'; effect = effect } in
-    let adds = next_added (ignores_of c.events) h (groups_left (over_of c.events) r true xs) (stepped taken (groups_left (over_of events) new true ys)) steps.takes in
-    let here : points_of c.events ≡ h.table = table_of c.events.reader h stands.events in
-    let now : points_of events ≡ h'.table = table_of events.reader h' holds in
-    let found : true ≡ is_some effect = some_told h'.table effect is in (
-      h',
-      (
-        effect,
-        record {
-          events = subst (λ (f : Following). EventsStandFor f h') (sym same) holds;
-          checker = effect_taken c.checker c'.checker h h' records place e effect (subst (λ (ps : List Point). verdicts.IsKeptUp ps c.checker) here up) is adds.0
-              (subst (λ (ps : List Point). TakesEvent ps place e c.checker c'.checker) now takes) stands.checker;
-        },
-        found,
-        (ys, at, subst (λ (f : Following). Steps (ignores_of c.events) (effect_of (ignores_of c.events) h) (over_of c.events) r xs (Ok taken) (over_of f) new ys) (sym same) steps),
-      ),
-    )
-  where
-    some_told : (ps : List Point) (effect : Option Effect) → told (Some e) ≡ derived_effect ps effect → true ≡ is_some effect
-    some_told ps None is = absurd (cc is)
-    some_told ps (Some x) is = refl
-
--- no block
-pub none_on : (c c' : Checking) (place : ℕ) (h : History) (records : List Record) (r new : Reading) (o left : Option (List ℕ)) → c'.checker ≡ c.checker → IsKeptUp c → StandsFor c h records
-    → IfSome o (λ xs. NextEvent c.events h r xs (Ok (c'.events, None)) new left) → IfSome o (λ xs. NextBlock c place h records r xs (Ok (c', false)) new left)
-none_on c c' place h records r new None left same up stands gives = tt
-none_on c c' place h records r new (Some xs) left same up stands (h', holds, (effect, is, (ys, at, steps))) =
-    let none : effect ≡ None = nothing_told h'.table effect is in
-    let taken : Taken = record { history = h'; effect = effect } in
-    let adds = next_added (ignores_of c.events) h (groups_left (over_of c.events) r true xs) (stepped taken (groups_left (over_of c'.events) new true ys)) steps.takes in
-    let nothing = subst (λ (o : Option Effect). Adds h o h') none adds.0 in
-    let here : points_of c.events ≡ h.table = table_of c.events.reader h stands.events in
-    let own = no_record c.checker c'.checker h h' records (none_more h h' nothing) (subst (λ (ps : List Point). verdicts.IsKeptUp ps c.checker) here up) same stands.checker in (
-      h',
-      (
-        effect,
-        record {
-          events = holds;
-          checker = subst (λ (o : Option Effect). verdicts.StandsFor c'.checker h'.table (records ++ records_in place (record { history = h'; effect = o }))) (sym none) own;
-        },
-        sym (ap (λ (o : Option Effect). is_some o) none),
-        (ys, at, steps),
-      ),
-    )
-  where
-    nothing_told : (ps : List Point) (effect : Option Effect) → told None ≡ derived_effect ps effect → effect ≡ None
-    nothing_told ps None is = refl
-    nothing_told ps (Some x) is = absurd (cc is)
-
--- a fault is that of the events
-pub fault_on : (c : Checking) (place : ℕ) (h : History) (records : List Record) (r new : Reading) (o left : Option (List ℕ)) (fault : Fault)
-    → IfSome o (λ xs. NextEvent c.events h r xs (Err fault) new left) → IfSome o (λ xs. NextBlock c place h records r xs (Err fault) new left)
-fault_on c place h records r new None left fault gives = tt
-fault_on c place h records r new (Some xs) left fault gives = gives
-
--- want of memory tells nothing
-pub memory_on : (c : Checking) (place : ℕ) (h : History) (records : List Record) (r new : Reading) (o left : Option (List ℕ)) (fault : Fault)
-    → fault ≡ f.NoMemory → IfSome o (λ xs. NextBlock c place h records r xs (Err fault) new left)
-memory_on c place h records r new None left fault is = tt
-memory_on c place h records r new (Some xs) left fault is = subst (λ (x : Fault). NextBlock c place h records r xs (Err x) new left) (sym is) tt
-
--- ---- one record
--- what holds where a call succeeds
-pub on_ok : {A E : Type 0} (r : Result A E) (P Q R S : Type 0) → (P → Q → R → S) → OnOk r P → OnOk r Q → OnOk r R → OnOk r S
-on_ok (Ok x) P Q R S f p q r = f p q r
-on_ok (Err e) P Q R S f p q r = tt
+-- it is over the points of the table
+pub still_over_all : {A E : Type 0} (r : Result A E) (ps : List Point) (file : ℕ) (e : Event) (c c' : Checker) → verdicts.IsKeptUp ps c → OnOk r (TakesEvent ps file e c c') → OnOk r (verdicts.IsKeptUp ps c')
+still_over_all r ps file e c c' up taken = if_ok r _ _ (over_told ps file e c c' up) taken

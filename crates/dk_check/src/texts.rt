@@ -2,11 +2,11 @@
 ghost use Rattle.std.specs.Prelude.{◌≡◌};
 ghost use Rattle.dk_check.specs.Texts.{help_text, usage_line, version_text};
 
-const USAGE_LINE: &str = "usage: dk_check [--ignore-missing-entry] ASSERTIONS [FILE]...\n";
+pub(crate) const USAGE_LINE: &str = "usage: dk_check [--ignore-missing-entry] ASSERTIONS [FILE]...\n";
 
-const VERSION_TEXT: &str = "dk_check 0.1.0\n";
+pub(crate) const VERSION_TEXT: &str = "dk_check 0.1.0\n";
 
-const HELP_TEXT: &str = "\
+pub(crate) const HELP_TEXT: &str = "\
 usage: dk_check [--ignore-missing-entry] ASSERTIONS [FILE]...
 
 Reads ASSERTIONS, and then declarations of program points and records of their

@@ -2,20 +2,30 @@
 //! whether it holds in all samples of its point.
 #![tactic(auto)]
 
-use dk_check::{run_check, tell_usage};
 use dk_events::Ended;
-use dk_host::{FileInputs, HostSinks};
-use dk_run::words_of;
-use std::io::ErrorKind;
+use dk_io::{Inputs, Sinks};
+use dk_main::{Main, run_main};
+use dk_check::{run_check, tell_usage};
+use std::alloc::Global;
 use std::process::ExitCode;
 
+struct Check;
+
+impl Main for Check {
+    fn run<I: Inputs, S: Sinks>(
+        alloc: Global,
+        words: &[String],
+        inputs: &mut I,
+        sinks: &mut S,
+    ) -> Ended {
+        run_check(alloc, words, inputs, sinks)
+    }
+
+    fn refuse<S: Sinks>(sinks: &mut S) -> Ended {
+        tell_usage(sinks)
+    }
+}
+
 fn main(rt: HostRuntime) -> ExitCode {
-    let mut inputs = FileInputs::new(&rt);
-    let mut sinks = HostSinks::new(&rt, rt.stdout(), rt.stderr());
-    let ended = match words_of(&rt) {
-        Ok(words) => run_check(rt.alloc(), words.as_slice(), &mut inputs, &mut sinks),
-        Err(error) if error.kind() == ErrorKind::InvalidData => tell_usage(&mut sinks),
-        Err(_) => Ended::NoMemory,
-    };
-    ExitCode::from(sinks.finish(ended.code()))
+    run_main::<Check, _, _, _>(&rt, rt.stdout(), rt.stderr())
 }

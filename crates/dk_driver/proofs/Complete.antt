@@ -6,36 +6,35 @@ use Rattle.dk_base.specs.Reading.{LineFault}
 use Rattle.dk_base.specs.declared.why.Why.{Why}
 use Rattle.dk_blocks.specs.History.{History, file_ended, no_history}
 use Rattle.dk_io.specs.Outside.{HeldFile, Holds}
-use Rattle.dk_points.specs.Table.{Point}
 use Rattle.dk_driver.proofs.Running.{helds_length}
-use Rattle.dk_driver.specs.Consuming.{Samples}
-use Rattle.dk_driver.specs.Ends.{end_of, end_of_file, end_of_files, fault_in, first_fault, then_files, total_limit}
+use Rattle.dk_driver.specs.Consuming.{Told}
 use Rattle.dk_driver.specs.Files.{AreHeldFiles, FaultAt, File, ended_file}
 use Rattle.dk_driver.specs.Reads.{AreClean, AtStart, Break, HasBroken, HasCause, IsComplete, IsPlaced, IsRefusedAt, ReadingSays, Within, held_file_at, helds_of}
+use Rattle.dk_driver.specs.Walks.{Walk, end_of, fault_in, first_fault, then_files, walk_of, walk_of_file, walk_of_files}
 use Rattle.dk_driver.specs.declared.fault.FilesFault.{FilesFault}
 use Rattle.dk_driver.specs.declared.fault.FilesFault.TheVariants.{Refused, Start, Read, NoMemory}
 use Rattle.dk_driver.specs.declared.feed.Feed.{Feed}
 use Rattle.dk_driver.specs.declared.traces.Traces.{Traces}
 
 -- ---- later files don't change a fault
-then_same : (place : ℕ) (r : Result History LineFault) (more other : History → Result History FaultAt) (f : FaultAt)
-    → ((h : History) → more h ≡ Err f → other h ≡ Err f) → then_files place r more ≡ Err f → then_files place r other ≡ Err f
+then_same : (place : ℕ) (r : Result History LineFault) (more other : History → Walk FaultAt) (f : FaultAt)
+    → ((h : History) → (more h).end ≡ Err f → (other h).end ≡ Err f) → (then_files place r more).end ≡ Err f → (then_files place r other).end ≡ Err f
 then_same place (Ok h) more other f same e = same h e
 then_same place (Err l) more other f same e = e
 
-front_end : (ignores : Bool) (room : ℕ) (h : History) (place : ℕ) (k : ℕ) (fs : List File) (f : FaultAt) → end_of_files ignores room h place (take k fs) ≡ Err f
-    → end_of_files ignores room h place fs ≡ Err f
+front_end : (ignores : Bool) (room : ℕ) (h : History) (place : ℕ) (k : ℕ) (fs : List File) (f : FaultAt) → (walk_of_files ignores room h place (take k fs)).end ≡ Err f
+    → (walk_of_files ignores room h place fs).end ≡ Err f
 front_end ignores room h place zero fs f e = absurd (cc (e))
 front_end ignores room h place (suc k) [] f e = e
 front_end ignores room h place (suc k) (x ∷ xs) f e =
-    then_same place (end_of_file ignores room h x) (λ next. end_of_files ignores (room - length x.bytes) (file_ended next) (place + 1) (take k xs))
-    (λ next. end_of_files ignores (room - length x.bytes) (file_ended next) (place + 1) xs) f
+    then_same place (walk_of_file ignores room h place x).end (λ next. walk_of_files ignores (room - length x.bytes) (file_ended next) (place + 1) (take k xs))
+    (λ next. walk_of_files ignores (room - length x.bytes) (file_ended next) (place + 1) xs) f
     (λ next. front_end ignores (room - length x.bytes) (file_ended next) (place + 1) k xs f) e
 
 -- the first fault of a front of the files is that of all of them
-first_front : (ignores : Bool) (k : ℕ) (fs : List File) (f : FaultAt) → end_of ignores (take k fs) ≡ Err f → end_of ignores fs ≡ Err f
-unfolding end_of
-first_front ignores k fs f e = front_end ignores total_limit no_history 0 k fs f e
+first_front : (ignores : Bool) (whole : ℕ) (k : ℕ) (fs : List File) (f : FaultAt) → end_of ignores whole (take k fs) ≡ Err f → end_of ignores whole fs ≡ Err f
+unfolding walk_of
+first_front ignores whole k fs f e = front_end ignores whole no_history 0 k fs f e
 
 -- ---- files that are held
 held_take : (k : ℕ) (helds : List HeldFile) (contents : List (List ℕ)) → AreHeldFiles helds contents → AreHeldFiles (take k helds) (take k contents)
@@ -56,7 +55,7 @@ front_held [] (suc n) k h = refl
 front_held (x ∷ xs) (suc n) zero h = refl
 front_held (x ∷ xs) (suc n) (suc k) h = front_held xs n k (omega arith)
 
-module _ {C : Type 0} (Stands : C → List Point → Samples → Type 0) (traces : Traces) (file : List ℕ → HeldFile) where
+module _ {C : Type 0} (Stands : C → Told → Type 0) (traces : Traces) (whole : ℕ) (file : List ℕ → HeldFile) where
   -- no file that is held is left unread where no fault of the inputs rises
   not_unread : (by : Break) (rose : Type 0) (place n : ℕ) (contents : List (List ℕ)) → (rose → ⊥) → AreHeldFiles (take n (helds_of traces file)) contents → place < n → place < length traces.names
       → HasBroken by (held_file_at (helds_of traces file) place) rose → ⊥
@@ -68,45 +67,45 @@ module _ {C : Type 0} (Stands : C → List Point → Samples → Type 0) (traces
       cc (absent, same, there.1)
 
   -- of clean files there is no first fault
-  not_clean : (k n : ℕ) (contents : List (List ℕ)) (f : FaultAt) → AreClean traces file k → AreHeldFiles (take n (helds_of traces file)) contents
-      → first_fault traces.ignore_missing_entry (map ended_file contents) ≡ Some f → n ≤ k → ⊥
+  not_clean : (k n : ℕ) (contents : List (List ℕ)) (f : FaultAt) → AreClean traces whole file k → AreHeldFiles (take n (helds_of traces file)) contents
+      → first_fault traces.ignore_missing_entry whole (map ended_file contents) ≡ Some f → n ≤ k → ⊥
   not_clean k n contents f clean held first h = let none = clean n contents h held in cc (none, first)
 
-  whole : (contents : List (List ℕ)) → AreHeldFiles (helds_of traces file) contents → AreHeldFiles (take (length traces.names) (helds_of traces file)) contents
-  whole contents held = held_whole (helds_of traces file) contents (length traces.names) (omega (arith, helds_length traces file)) held
+  whole_held : (contents : List (List ℕ)) → AreHeldFiles (helds_of traces file) contents → AreHeldFiles (take (length traces.names) (helds_of traces file)) contents
+  whole_held contents held = held_whole (helds_of traces file) contents (length traces.names) (omega (arith, helds_length traces file)) held
 
   -- of more files than there are the same is held
   all_of_more : (n : ℕ) (contents : List (List ℕ)) → length traces.names ≤ n → AreHeldFiles (take n (helds_of traces file)) contents
       → AreHeldFiles (take (length traces.names) (helds_of traces file)) contents
   all_of_more n contents h held =
-      whole contents (subst (λ (l : List HeldFile). AreHeldFiles l contents) (take_all n (helds_of traces file) (omega (arith, h, helds_length traces file))) held)
+      whole_held contents (subst (λ (l : List HeldFile). AreHeldFiles l contents) (take_all n (helds_of traces file) (omega (arith, h, helds_length traces file))) held)
 
   -- what is said of a refused file holds of all files that are held
-  refused_in : (place line : ℕ) (why : Why) → IsRefusedAt traces file place line why → (n : ℕ) (contents : List (List ℕ)) → place < n → AreHeldFiles (take n (helds_of traces file)) contents
-      → end_of traces.ignore_missing_entry (map ended_file contents) ≡ Err (record { file = place; line = line; why = why })
+  refused_in : (place line : ℕ) (why : Why) → IsRefusedAt traces whole file place line why → (n : ℕ) (contents : List (List ℕ)) → place < n → AreHeldFiles (take n (helds_of traces file)) contents
+      → end_of traces.ignore_missing_entry whole (map ended_file contents) ≡ Err (record { file = place; line = line; why = why })
   refused_in place line why says n contents h held =
       let front : AreHeldFiles (take (place + 1) (helds_of traces file)) (take (place + 1) contents) =
       subst (λ (l : List HeldFile). AreHeldFiles l (take (place + 1) contents)) (take-take (place + 1) n (helds_of traces file) (omega (arith, h))) (held_take (place + 1) (take n (helds_of traces file)) contents held) in
-      first_front traces.ignore_missing_entry (place + 1) (map ended_file contents) (record { file = place; line = line; why = why })
-      (ap (end_of traces.ignore_missing_entry) (take-map ended_file (place + 1) contents) ∙ says.first (take (place + 1) contents) front)
+      first_front traces.ignore_missing_entry whole (place + 1) (map ended_file contents) (record { file = place; line = line; why = why })
+      (ap (end_of traces.ignore_missing_entry whole) (take-map ended_file (place + 1) contents) ∙ says.first (take (place + 1) contents) front)
 
   same_first : (r : Result History FaultAt) (f g : FaultAt) → r ≡ Err f → fault_in r ≡ Some g → g ≡ f
   same_first (Ok h) f g e first = absurd (cc (e))
   same_first (Err x) f g e first = cc (e, first)
 
-  unread : (by : Break) (rose : Type 0) (place : ℕ) (fault : FilesFault) → (rose → ⊥) → place < length traces.names → AreClean traces file place
-      → HasBroken by (held_file_at (helds_of traces file) place) rose → IsComplete {C = C} traces file (Err fault)
+  unread : (by : Break) (rose : Type 0) (place : ℕ) (fault : FilesFault) → (rose → ⊥) → place < length traces.names → AreClean traces whole file place
+      → HasBroken by (held_file_at (helds_of traces file) place) rose → IsComplete {C = C} traces whole file (Err fault)
   unread by rose place fault calm named clean cause = record {
-    read = λ contents held none. absurd (not_unread by rose place (length traces.names) contents calm (whole contents held) named named cause);
+    read = λ contents held none. absurd (not_unread by rose place (length traces.names) contents calm (whole_held contents held) named named cause);
     refused = λ n contents f held first. elim (cases_lt place n) [
       | inl below ↦ absurd (not_unread by rose place n contents calm held below named cause)
       | inr above ↦ absurd (not_clean place n contents f clean held first above)
     ];
   }
 
-  pub complete : (before rest : Option (List ℕ)) (rose : Type 0) (r : Result (Feed C) FilesFault) → ReadingSays Stands traces file before r rest
+  pub complete : (before rest : Option (List ℕ)) (rose : Type 0) (r : Result (Feed C) FilesFault) → ReadingSays Stands traces whole file before r rest
       → ((fault : FilesFault) → r ≡ Err fault → IsPlaced (length traces.names) fault) → ((fault : FilesFault) → r ≡ Err fault → HasCause traces file rose fault)
-      → (rose → ⊥) → IsComplete traces file r
+      → (rose → ⊥) → IsComplete traces whole file r
   complete before rest rose (Ok feed) says placed cause calm = record {
     read = λ contents held none. tt;
     refused = λ n contents f held first. elim (cases_lt n (length traces.names)) [
@@ -116,7 +115,7 @@ module _ {C : Type 0} (Stands : C → List Point → Samples → Type 0) (traces
   }
   complete before rest rose (Err (Refused place line why)) says placed cause calm = record {
     read = λ contents held none.
-        let fault = refused_in place line why says (length traces.names) contents (placed (Refused place line why) refl) (whole contents held) in
+        let fault = refused_in place line why says (length traces.names) contents (placed (Refused place line why) refl) (whole_held contents held) in
         absurd (cc (none, ap fault_in fault));
     refused = λ n contents f held first. elim (cases_lt place n) [
       | inl below ↦
@@ -139,8 +138,8 @@ if_err (Ok a) P h e is = absurd (cc (is))
 if_err (Err x) P h e is = let same : x ≡ e = cc (is) in subst P same h
 
 -- from the clauses of the reading
-pub complete_by : {C : Type 0} (Stands : C → List Point → Samples → Type 0) (traces : Traces) (file : List ℕ → HeldFile) (before rest : Option (List ℕ)) (rose : Type 0)
-    (r : Result (Feed C) FilesFault) → ReadingSays Stands traces file before r rest → IfErr r (IsPlaced (length traces.names)) → IfErr r (HasCause traces file rose)
-    → (rose → ⊥) → IsComplete traces file r
-complete_by Stands traces file before rest rose r says placed cause calm =
-    complete Stands traces file before rest rose r says (if_err r _ placed) (if_err r _ cause) calm
+pub complete_by : {C : Type 0} (Stands : C → Told → Type 0) (traces : Traces) (whole : ℕ) (file : List ℕ → HeldFile) (before rest : Option (List ℕ)) (rose : Type 0)
+    (r : Result (Feed C) FilesFault) → ReadingSays Stands traces whole file before r rest → IfErr r (IsPlaced (length traces.names)) → IfErr r (HasCause traces file rose)
+    → (rose → ⊥) → IsComplete traces whole file r
+complete_by Stands traces whole file before rest rose r says placed cause calm =
+    complete Stands traces whole file before rest rose r says (if_err r _ placed) (if_err r _ cause) calm

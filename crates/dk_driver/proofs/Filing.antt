@@ -2,11 +2,11 @@
 use Rattle.std.proofs.Common.{◌≡◌, ◌+◌, ◌-◌, ℕ, List, [], ◌∷◌, ◌++◌, length, inl, inr, Bool, true, false, is_some, Option, Some, None, IfSome, IsErrOf, Result, Ok, Err, refl, sym, ◌∙◌, ap, subst, arith, append_assoc, length-append}
 use Rattle.std.specs.Io.KnownBytes.{prepend_known}
 use Rattle.std.proofs.lemmas.List.{append-nil}
-use Rattle.dk_base.specs.Reading.{LineFault, ◌>>=◌}
+use Rattle.dk_base.specs.Reading.{LineFault}
 use Rattle.dk_base.specs.declared.faults.Fault.{Fault}
 use Rattle.dk_base.specs.declared.faults.Fault.TheVariants as f
 use Rattle.dk_blocks.specs.Blocks.{Groups, Last, groups_of}
-use Rattle.dk_blocks.specs.History.{Effect, History, Taken, effect_of, file_ended}
+use Rattle.dk_blocks.specs.History.{Effect, History, effect_of, file_ended}
 use Rattle.dk_blocks.specs.Reading.{after_next}
 use Rattle.dk_blocks.specs.Steps.{FaultAnswers, Steps, groups_left}
 use Rattle.dk_events.specs.Standing.{ignores_of, over_of}
@@ -14,12 +14,11 @@ use Rattle.dk_io.specs.Outside.{HeldFile, Holds, Starts}
 use Rattle.dk_lines.proofs.Lined.{at_end}
 use Rattle.dk_lines.specs.Left.{Left, Over}
 use Rattle.dk_lines.specs.Reading.{Reading, room_of, left_of}
-use Rattle.dk_points.specs.Table.{Point}
-use Rattle.dk_driver.proofs.Ends.{Follows, follows, no_block_ends, no_lines}
-use Rattle.dk_driver.specs.Consuming.{Samples}
-use Rattle.dk_driver.specs.Ends.{end_behind}
+use Rattle.dk_driver.proofs.Walks.{Follows, follows, no_block_ends, no_lines, onto_more}
+use Rattle.dk_driver.specs.Consuming.{Record, Told}
 use Rattle.dk_driver.specs.Standing.{StandsFor}
 use Rattle.dk_driver.specs.Steps.{NextBlock}
+use Rattle.dk_driver.specs.Walks.{Walk, behind_records, goes_on, records_in, walk_behind, walk_end}
 use Rattle.dk_driver.specs.WholeFile.{ComesToEnd, FaultGives, FileGives, FileGoesOn, HasFault, IsBroken, StartedGives, Within, file_fault_of, fresh_reading}
 use Rattle.dk_driver.specs.declared.fault.FileFault.{FileFault}
 use Rattle.dk_driver.specs.declared.fault.FileFault.TheVariants as t
@@ -45,56 +44,63 @@ no_effect : (effect : Option Effect) → false ≡ is_some effect → effect ≡
 no_effect (Some e) found = absurd (cc found)
 no_effect None found = refl
 
--- what the next block says of the end
-end_on : (ignores : Bool) (h next : History) (effect : Effect) (gs left : Groups) → after_next ignores (effect_of ignores h) gs ≡ Ok (record { effect = Some effect; history = next; left = left })
-    → end_behind ignores h gs ≡ end_behind ignores next left
-end_on ignores h next effect gs left takes =
-    (subst (Follows ignores (effect_of ignores h) gs) takes (follows ignores (effect_of ignores h) gs)).0
+-- what the next block says of the walk
+walk_on : (ignores : Bool) (place : ℕ) (h next : History) (effect : Effect) (gs left : Groups) → after_next ignores (effect_of ignores h) gs ≡ Ok (record { effect = Some effect; history = next; left = left })
+    → walk_behind ignores place h gs ≡ behind_records (records_in place (record { history = next; effect = Some effect })) (walk_behind ignores place next left)
+walk_on ignores place h next effect gs left takes = (subst (Follows ignores place (effect_of ignores h) gs) takes (follows ignores place (effect_of ignores h) gs)).0
 
-end_over : (ignores : Bool) (h next : History) (gs left : Groups) → after_next ignores (effect_of ignores h) gs ≡ Ok (record { effect = None; history = next; left = left })
-    → end_behind ignores h gs ≡ Ok next
-end_over ignores h next gs left takes =
-    (subst (Follows ignores (effect_of ignores h) gs) takes (follows ignores (effect_of ignores h) gs)).1 refl
+walk_over : (ignores : Bool) (place : ℕ) (h next : History) (gs left : Groups) → after_next ignores (effect_of ignores h) gs ≡ Ok (record { effect = None; history = next; left = left })
+    → walk_behind ignores place h gs ≡ walk_end (Ok next)
+walk_over ignores place h next gs left takes = (subst (Follows ignores place (effect_of ignores h) gs) takes (follows ignores place (effect_of ignores h) gs)).1 refl
 
-end_fault : (ignores : Bool) (h : History) (gs : Groups) (fault : LineFault) → after_next ignores (effect_of ignores h) gs ≡ Err fault → end_behind ignores h gs ≡ Err fault
-end_fault ignores h gs fault takes =
-    subst (Follows ignores (effect_of ignores h) gs) takes (follows ignores (effect_of ignores h) gs)
+walk_fault : (ignores : Bool) (place : ℕ) (h : History) (gs : Groups) (fault : LineFault) → after_next ignores (effect_of ignores h) gs ≡ Err fault → walk_behind ignores place h gs ≡ walk_end (Err fault)
+walk_fault ignores place h gs fault takes = subst (Follows ignores place (effect_of ignores h) gs) takes (follows ignores place (effect_of ignores h) gs)
 
 -- nothing is left of an ended file
-nothing_more : (ignores : Bool) (h : History) (line : ℕ) → end_behind ignores h (Last [] (Over line)) ≡ Ok h
-nothing_more ignores h line = ap (λ (r : Result Taken LineFault). r >>= λ t. Ok t.history) (no_lines ignores h (Some line))
+nothing_more : (ignores : Bool) (place : ℕ) (h : History) (line : ℕ) → walk_behind ignores place h (Last [] (Over line)) ≡ walk_end (Ok h)
+nothing_more ignores place h line = ap (λ e. goes_on place e (λ h. walk_end (Ok h))) (no_lines ignores h (Some line))
 
-end_done : (ignores : Bool) (h : History) (over : Bool) (r : Reading) → end_behind ignores h (groups_left over r true []) ≡ Ok h
-end_done ignores h true r = nothing_more ignores h (r.number + 1)
-end_done ignores h false r = ap (λ (l : Left). end_behind ignores h (groups_of l)) (at_end r) ∙ nothing_more ignores h (r.number + 1)
+walk_done : (ignores : Bool) (place : ℕ) (h : History) (over : Bool) (r : Reading) → walk_behind ignores place h (groups_left over r true []) ≡ walk_end (Ok h)
+walk_done ignores place h true r = nothing_more ignores place h (r.number + 1)
+walk_done ignores place h false r = ap (λ (l : Left). walk_behind ignores place h (groups_of l)) (at_end r) ∙ nothing_more ignores place h (r.number + 1)
 
-within_on : (ignores : Bool) (h h1 h2 : History) (r new last : Reading) (xs ys zs : List ℕ) (effect : Effect) (over over2 : Bool)
-    → Within ignores h r xs h1 over new ys → Steps ignores (effect_of ignores h1) over new ys (Ok (record { history = h2; effect = Some effect })) over2 last zs → Within ignores h r xs h2 over2 last zs
-within_on ignores h h1 h2 r new last xs ys zs effect over over2 a b = record {
-  front = a.front ++ b.front;
-  split = split_on xs a.front ys b.front zs a.split b.split;
-  room = room_on (room_of r) (room_of new) (room_of last) a.front b.front a.room b.room;
-  nothing = b.nothing a.nothing;
-  same = a.same ∙ end_on ignores h1 h2 effect (groups_left over new true ys) (groups_left over2 last true zs) b.takes;
-  cut = λ d rest e. elim (a.cut (b.front ++ d) rest (split_on ys b.front zs d rest b.split e)) [
-    | inl same ↦ elim (b.cut d rest e) [
-      | inl more ↦ inl (
-          ap (λ (l : List ℕ). end_behind ignores h (groups_left false r false l)) (append_assoc a.front b.front d)
-          ∙ same ∙ end_on ignores h1 h2 effect (groups_left over new false (b.front ++ d)) (groups_left over2 last false d) more)
-      | inr none ↦ inr none.0
-    ]
-    | inr none ↦ inr (nothing_behind b.front zs (sym none ∙ b.split))
-  ];
-}
+-- these records, and then the end
+onto_end : {F : Type 0} (found : List Record) (e : Result History F) → behind_records found (walk_end e) ≡ record { records = found; end = e }
+onto_end found e = ap (λ (l : List Record). record { records = l; end = e }) (append-nil found)
+
+within_on : (ignores : Bool) (place : ℕ) (h h1 h2 : History) (r new last : Reading) (xs ys zs : List ℕ) (found : List Record) (effect : Effect) (over over2 : Bool)
+    → Within ignores place h r xs found h1 over new ys → Steps ignores (effect_of ignores h1) over new ys (Ok (record { history = h2; effect = Some effect })) over2 last zs
+    → Within ignores place h r xs (found ++ records_in place (record { history = h2; effect = Some effect })) h2 over2 last zs
+within_on ignores place h h1 h2 r new last xs ys zs found effect over over2 a b =
+    let one : List Record = records_in place (record { history = h2; effect = Some effect }) in
+    record {
+      front = a.front ++ b.front;
+      split = split_on xs a.front ys b.front zs a.split b.split;
+      room = room_on (room_of r) (room_of new) (room_of last) a.front b.front a.room b.room;
+      nothing = b.nothing a.nothing;
+      same = a.same ∙ ap (behind_records found) (walk_on ignores place h1 h2 effect (groups_left over new true ys) (groups_left over2 last true zs) b.takes)
+          ∙ onto_more found one (walk_behind ignores place h2 (groups_left over2 last true zs));
+      cut = λ d rest e. elim (a.cut (b.front ++ d) rest (split_on ys b.front zs d rest b.split e)) [
+        | inl same ↦ elim (b.cut d rest e) [
+          | inl more ↦ inl (
+              ap (λ (l : List ℕ). walk_behind ignores place h (groups_left false r false l)) (append_assoc a.front b.front d)
+              ∙ same ∙ ap (behind_records found) (walk_on ignores place h1 h2 effect (groups_left over new false (b.front ++ d)) (groups_left over2 last false d) more)
+              ∙ onto_more found one (walk_behind ignores place h2 (groups_left over2 last false d)))
+          | inr none ↦ inr none.0
+        ]
+        | inr none ↦ inr (nothing_behind b.front zs (sym none ∙ b.split))
+      ];
+    }
 
 -- ---- a file
 -- in front of the first block
-pub not_begun : (ignores : Bool) (h : History) (r : Reading) (o : Option (List ℕ)) (Stands : History → Type 0) (over : Bool) → over ≡ false → Stands h
-    → IfSome o (λ xs. FileGoesOn ignores h r xs Stands over r o)
-not_begun ignores h r None Stands over begun stands = tt
-not_begun ignores h r (Some xs) Stands over begun stands = record {
+pub not_begun : (ignores : Bool) (place : ℕ) (h : History) (before : List Record) (r : Reading) (o : Option (List ℕ)) (Stands : History → List Record → Type 0) (over : Bool) → over ≡ false → Stands h before
+    → IfSome o (λ xs. FileGoesOn ignores place h before r xs Stands over r o)
+not_begun ignores place h before r None Stands over begun stands = tt
+not_begun ignores place h before r (Some xs) Stands over begun stands = record {
+  found = [];
   next = h;
-  stands = stands;
+  stands = subst (Stands h) (sym (append-nil before)) stands;
   ys = xs;
   left_is = refl;
   within = record {
@@ -102,71 +108,79 @@ not_begun ignores h r (Some xs) Stands over begun stands = record {
     split = refl;
     room = omega arith;
     nothing = λ is. absurd (cc (begun, is));
-    same = ap (λ (b : Bool). end_behind ignores h (groups_left b r true xs)) (sym begun);
-    cut = λ d rest e. inl (ap (λ (b : Bool). end_behind ignores h (groups_left b r false d)) (sym begun));
+    same = ap (λ (b : Bool). walk_behind ignores place h (groups_left b r true xs)) (sym begun);
+    cut = λ d rest e. inl (ap (λ (b : Bool). walk_behind ignores place h (groups_left b r false d)) (sym begun));
   };
 }
 
 -- what the next block says, of the bytes that are left
-answers_at : {C : Type 0} (Stands : C → List Point → Samples → Type 0) (s : Feed C) (new last : Reading) (mid left : Option (List ℕ)) (r : Result (Feed C × Bool) Fault) (h : History) (ys : List ℕ) → mid ≡ Some ys → StandsFor Stands s h
-    → ((h : History) → StandsFor Stands s h → IfSome mid (λ ys. NextBlock Stands s h new ys r last left)) → NextBlock Stands s h new ys r last left
-answers_at Stands s new last mid left r h ys is stands answers = subst (λ (o : Option (List ℕ)). IfSome o (λ ys. NextBlock Stands s h new ys r last left)) is (answers h stands)
+answers_at : {C : Type 0} (Stands : C → Told → Type 0) (c : Feed C) (place : ℕ) (new last : Reading) (mid left : Option (List ℕ)) (r : Result (Feed C × Bool) Fault) (h : History) (records : List Record) (ys : List ℕ) → mid ≡ Some ys → StandsFor Stands c h records
+    → ((h : History) (records : List Record) → StandsFor Stands c h records → IfSome mid (λ ys. NextBlock Stands c place h records new ys r last left)) → NextBlock Stands c place h records new ys r last left
+answers_at Stands c place new last mid left r h records ys is stands answers = subst (λ (o : Option (List ℕ)). IfSome o (λ ys. NextBlock Stands c place h records new ys r last left)) is (answers h records stands)
 
 -- one block more
-pub file_on : {C : Type 0} (Stands : C → List Point → Samples → Type 0) (ignores : Bool) (h : History) (r new last : Reading) (o mid left : Option (List ℕ)) (s next : Feed C) → ignores_of s.events ≡ ignores
-    → IfSome o (λ xs. FileGoesOn ignores h r xs (StandsFor Stands s) (over_of s.events) new mid)
-    → ((h : History) → StandsFor Stands s h → IfSome mid (λ ys. NextBlock Stands s h new ys (Ok (next, true)) last left))
-    → IfSome o (λ xs. FileGoesOn ignores h r xs (StandsFor Stands next) (over_of next.events) last left)
-file_on Stands ignores h r new last None mid left s next same goes answers = tt
-file_on Stands ignores h r new last (Some xs) mid left s next same a answers =
-    let (h2, stands, (effect, found, (zs, is, steps))) = answers_at Stands s new last mid left (Ok (next, true)) a.next a.ys a.left_is a.stands answers in
+pub file_on : {C : Type 0} (Stands : C → Told → Type 0) (ignores : Bool) (place : ℕ) (h : History) (before : List Record) (r new last : Reading) (o mid left : Option (List ℕ)) (c next : Feed C) → ignores_of c.events ≡ ignores
+    → IfSome o (λ xs. FileGoesOn ignores place h before r xs (StandsFor Stands c) (over_of c.events) new mid)
+    → ((h : History) (records : List Record) → StandsFor Stands c h records → IfSome mid (λ ys. NextBlock Stands c place h records new ys (Ok (next, true)) last left))
+    → IfSome o (λ xs. FileGoesOn ignores place h before r xs (StandsFor Stands next) (over_of next.events) last left)
+file_on Stands ignores place h before r new last None mid left c next same goes answers = tt
+file_on Stands ignores place h before r new last (Some xs) mid left c next same a answers =
+    let (h2, (effect, stands, found, (zs, is, steps))) = answers_at Stands c place new last mid left (Ok (next, true)) a.next (before ++ a.found) a.ys a.left_is a.stands answers in
     let there = some_effect effect found in
+    let one : List Record = records_in place (record { history = h2; effect = Some there.0 }) in
     record {
+      found = a.found ++ one;
       next = h2;
-      stands = stands;
+      stands = subst (StandsFor Stands next h2) (append_assoc before a.found one)
+          (subst (λ (o : Option Effect). StandsFor Stands next h2 ((before ++ a.found) ++ records_in place (record { history = h2; effect = o }))) there.1 stands);
       ys = zs;
       left_is = is;
-      within = within_on ignores h a.next h2 r new last xs a.ys zs there.0 (over_of s.events) (over_of next.events) a.within
-          (subst (λ (o : Option Effect). Steps ignores (effect_of ignores a.next) (over_of s.events) new a.ys (Ok (record { history = h2; effect = o })) (over_of next.events) last zs) there.1
-          (subst (λ (b : Bool). Steps b (effect_of b a.next) (over_of s.events) new a.ys (Ok (record { history = h2; effect = effect })) (over_of next.events) last zs) same steps));
+      within = within_on ignores place h a.next h2 r new last xs a.ys zs a.found there.0 (over_of c.events) (over_of next.events) a.within
+          (subst (λ (o : Option Effect). Steps ignores (effect_of ignores a.next) (over_of c.events) new a.ys (Ok (record { history = h2; effect = o })) (over_of next.events) last zs) there.1
+          (subst (λ (b : Bool). Steps b (effect_of b a.next) (over_of c.events) new a.ys (Ok (record { history = h2; effect = effect })) (over_of next.events) last zs) same steps));
     }
 
 -- no block more
-pub file_end : {C : Type 0} (Stands : C → List Point → Samples → Type 0) (ignores : Bool) (h : History) (r new last : Reading) (o mid left : Option (List ℕ)) (s next done : Feed C) → ignores_of s.events ≡ ignores
-    → IfSome o (λ xs. FileGoesOn ignores h r xs (StandsFor Stands s) (over_of s.events) new mid)
-    → ((h : History) → StandsFor Stands s h → IfSome mid (λ ys. NextBlock Stands s h new ys (Ok (next, false)) last left))
-    → over_of next.events ≡ true → ((h : History) → StandsFor Stands next h → StandsFor Stands done (file_ended h))
-    → IfSome o (λ xs. ComesToEnd ignores h r xs (StandsFor Stands done) last left)
-file_end Stands ignores h r new last None mid left s next done same goes answers over ended = tt
-file_end Stands ignores h r new last (Some xs) mid left s next done same a answers over ended =
-    let (h2, stands, (effect, found, (zs, is, read))) = answers_at Stands s new last mid left (Ok (next, false)) a.next a.ys a.left_is a.stands answers in
-    let steps = subst (λ (o : Option Effect). Steps ignores (effect_of ignores a.next) (over_of s.events) new a.ys (Ok (record { history = h2; effect = o })) (over_of next.events) last zs) (no_effect effect found)
-    (subst (λ (b : Bool). Steps b (effect_of b a.next) (over_of s.events) new a.ys (Ok (record { history = h2; effect = effect })) (over_of next.events) last zs) same read) in
+pub file_end : {C : Type 0} (Stands : C → Told → Type 0) (ignores : Bool) (place : ℕ) (h : History) (before : List Record) (r new last : Reading) (o mid left : Option (List ℕ)) (c next done : Feed C) → ignores_of c.events ≡ ignores
+    → IfSome o (λ xs. FileGoesOn ignores place h before r xs (StandsFor Stands c) (over_of c.events) new mid)
+    → ((h : History) (records : List Record) → StandsFor Stands c h records → IfSome mid (λ ys. NextBlock Stands c place h records new ys (Ok (next, false)) last left))
+    → over_of next.events ≡ true → ((h : History) (records : List Record) → StandsFor Stands next h records → StandsFor Stands done (file_ended h) records)
+    → IfSome o (λ xs. ComesToEnd ignores place h before r xs (StandsFor Stands done) last left)
+file_end Stands ignores place h before r new last None mid left c next done same goes answers over ended = tt
+file_end Stands ignores place h before r new last (Some xs) mid left c next done same a answers over ended =
+    let (h2, (effect, stands, found, (zs, is, read))) = answers_at Stands c place new last mid left (Ok (next, false)) a.next (before ++ a.found) a.ys a.left_is a.stands answers in
+    let none = no_effect effect found in
+    let steps = subst (λ (o : Option Effect). Steps ignores (effect_of ignores a.next) (over_of c.events) new a.ys (Ok (record { history = h2; effect = o })) (over_of next.events) last zs) none
+    (subst (λ (b : Bool). Steps b (effect_of b a.next) (over_of c.events) new a.ys (Ok (record { history = h2; effect = effect })) (over_of next.events) last zs) same read) in
+    let own = subst (λ (o : Option Effect). StandsFor Stands next h2 ((before ++ a.found) ++ records_in place (record { history = h2; effect = o }))) none stands in
     let nothing = steps.nothing a.within.nothing over in
     let all : xs ≡ a.within.front ++ steps.front =
     split_on xs a.within.front a.ys steps.front zs a.within.split steps.split ∙ ap (λ (l : List ℕ). (a.within.front ++ steps.front) ++ l) nothing ∙ append-nil (a.within.front ++ steps.front) in
     record {
+      found = a.found;
       next = h2;
-      stands = ended h2 stands;
+      stands = ended h2 (before ++ a.found) (subst (StandsFor Stands next h2) (append-nil (before ++ a.found)) own);
       nothing_left = is ∙ ap (λ (l : List ℕ). Some l) nothing;
       room = room_on (room_of r) (room_of new) (room_of last) a.within.front steps.front a.within.room steps.room ∙ ap (λ (l : List ℕ). room_of r - length l) (sym all);
-      all = a.within.same ∙ end_over ignores a.next h2 (groups_left (over_of s.events) new true a.ys) (groups_left (over_of next.events) last true zs) steps.takes;
+      all = a.within.same ∙ ap (behind_records a.found) (walk_over ignores place a.next h2 (groups_left (over_of c.events) new true a.ys) (groups_left (over_of next.events) last true zs) steps.takes)
+          ∙ onto_end a.found (Ok h2);
     }
 
 -- a fault of the next block is the file's
-pub file_fault : {C : Type 0} (Stands : C → List Point → Samples → Type 0) (ignores : Bool) (h : History) (r new last : Reading) (o mid left : Option (List ℕ)) (s : Feed C) (fault : Fault) → ignores_of s.events ≡ ignores
-    → IfSome o (λ xs. FileGoesOn ignores h r xs (StandsFor Stands s) (over_of s.events) new mid)
-    → ((h : History) → StandsFor Stands s h → IfSome mid (λ ys. FaultAnswers (ignores_of s.events) (effect_of (ignores_of s.events) h) (over_of s.events) new ys fault left))
-    → IfSome o (λ xs. FaultGives ignores h r xs (file_fault_of fault) left)
-file_fault Stands ignores h r new last None mid left s fault same goes answers = tt
-file_fault Stands ignores h r new last (Some xs) mid left s fault same a answers =
-    go fault (subst (λ (b : Bool). FaultAnswers b (effect_of b a.next) (over_of s.events) new a.ys fault left) same
-    (subst (λ (o : Option (List ℕ)). IfSome o (λ ys. FaultAnswers (ignores_of s.events) (effect_of (ignores_of s.events) a.next) (over_of s.events) new ys fault left)) a.left_is (answers a.next a.stands))) where
-      go : (fault : Fault) → FaultAnswers ignores (effect_of ignores a.next) (over_of s.events) new a.ys fault left → FaultGives ignores h r xs (file_fault_of fault) left
-      go (f.Refused file line why) takes = a.within.same ∙ end_fault ignores a.next (groups_left (over_of s.events) new true a.ys) (record { line = line; why = why }) takes
+pub file_fault : {C : Type 0} (Stands : C → Told → Type 0) (ignores : Bool) (place : ℕ) (h : History) (before : List Record) (r new last : Reading) (o mid left : Option (List ℕ)) (c : Feed C) (fault : Fault) → ignores_of c.events ≡ ignores
+    → IfSome o (λ xs. FileGoesOn ignores place h before r xs (StandsFor Stands c) (over_of c.events) new mid)
+    → ((h : History) (records : List Record) → StandsFor Stands c h records → IfSome mid (λ ys. FaultAnswers (ignores_of c.events) (effect_of (ignores_of c.events) h) (over_of c.events) new ys fault left))
+    → IfSome o (λ xs. FaultGives ignores place h r xs (file_fault_of fault) left)
+file_fault Stands ignores place h before r new last None mid left c fault same goes answers = tt
+file_fault Stands ignores place h before r new last (Some xs) mid left c fault same a answers =
+    go fault (subst (λ (b : Bool). FaultAnswers b (effect_of b a.next) (over_of c.events) new a.ys fault left) same
+    (subst (λ (o : Option (List ℕ)). IfSome o (λ ys. FaultAnswers (ignores_of c.events) (effect_of (ignores_of c.events) a.next) (over_of c.events) new ys fault left)) a.left_is (answers a.next (before ++ a.found) a.stands))) where
+      go : (fault : Fault) → FaultAnswers ignores (effect_of ignores a.next) (over_of c.events) new a.ys fault left → FaultGives ignores place h r xs (file_fault_of fault) left
+      go (f.Refused file line why) takes =
+          ap (λ (w : Walk LineFault). w.end) (a.within.same ∙ ap (behind_records a.found) (walk_fault ignores place a.next (groups_left (over_of c.events) new true a.ys) (record { line = line; why = why }) takes))
       go (f.Read file) stops = elim (a.within.cut stops.front stops.rest stops.split) [
         | inl same ↦
-            let (last_h, none) = no_block_ends ignores (effect_of ignores a.next) (groups_left (over_of s.events) new false stops.front) stops.fine in
+            let (last_h, none) = no_block_ends ignores place (effect_of ignores a.next) (groups_left (over_of c.events) new false stops.front) stops.fine in
             record {
               front = a.within.front ++ stops.front;
               rest = stops.rest;
@@ -175,7 +189,7 @@ file_fault Stands ignores h r new last (Some xs) mid left s fault same a answers
               is_ended = false;
               ended = λ e. absurd (cc (e));
               next = last_h;
-              all = same ∙ none;
+              all = ap (λ (w : Walk LineFault). w.end) (same ∙ ap (behind_records a.found) none);
             }
         | inr nothing ↦
             record {
@@ -186,15 +200,16 @@ file_fault Stands ignores h r new last (Some xs) mid left s fault same a answers
               is_ended = true;
               ended = λ e. refl;
               next = a.next;
-              all = a.within.same ∙ ap (λ (l : List ℕ). end_behind ignores a.next (groups_left (over_of s.events) new true l)) nothing
-                  ∙ end_done ignores a.next (over_of s.events) new;
+              all = ap (λ (w : Walk LineFault). w.end)
+                  (a.within.same
+                  ∙ ap (behind_records a.found) (ap (λ (l : List ℕ). walk_behind ignores place a.next (groups_left (over_of c.events) new true l)) nothing ∙ walk_done ignores place a.next (over_of c.events) new));
             }
       ]
       go f.NoMemory gives = tt
 
 -- ---- a whole file
 -- what holds of a started file holds of its bytes, where they are told
-told : (P : Reading → List ℕ → Type 0) (r mid : Reading) (held : HeldFile) (xs : List ℕ) (rest : Option (List ℕ))
+pub told : (P : Reading → List ℕ → Type 0) (r mid : Reading) (held : HeldFile) (xs : List ℕ) (rest : Option (List ℕ))
     → mid ≡ fresh_reading r → Starts held rest → held ≡ Holds xs → IfSome (left_of mid rest) (λ xs. P mid xs) → P (fresh_reading r) xs
 told P r mid held xs rest is starts holds gives =
     let bytes : rest ≡ Some xs = subst (λ (h : HeldFile). Starts h rest) holds starts in
@@ -205,26 +220,26 @@ front_nil : (o : Option (List ℕ)) → prepend_known [] o ≡ o
 front_nil None = refl
 front_nil (Some xs) = refl
 
-nothing_left : (ahead : List ℕ) (after : Option (List ℕ)) → prepend_known ahead after ≡ Some [] → after ≡ Some []
+pub nothing_left : (ahead : List ℕ) (after : Option (List ℕ)) → prepend_known ahead after ≡ Some [] → after ≡ Some []
 nothing_left ahead None e = absurd (cc (e))
 nothing_left [] (Some xs) e = e
 nothing_left (b ∷ bs) (Some xs) e = absurd (cc (e))
 
-nothing_ahead : (ahead : List ℕ) (after left : Option (List ℕ)) → ahead ≡ [] → prepend_known ahead after ≡ left → after ≡ left
+pub nothing_ahead : (ahead : List ℕ) (after left : Option (List ℕ)) → ahead ≡ [] → prepend_known ahead after ≡ left → after ≡ left
 nothing_ahead ahead after left none e = sym (front_nil after) ∙ ap (λ (a : List ℕ). prepend_known a after) (sym none) ∙ e
 
-pub told_started : {C : Type 0} (Stands : C → List Point → Samples → Type 0) (ignores : Bool) (h : History) (r mid last : Reading) (held : HeldFile) (xs : List ℕ) (rest after : Option (List ℕ)) (result : Result (Feed C) FileFault)
+pub told_started : {C : Type 0} (Stands : C → Told → Type 0) (ignores : Bool) (place : ℕ) (h : History) (before : List Record) (r mid last : Reading) (held : HeldFile) (xs : List ℕ) (rest after : Option (List ℕ)) (result : Result (Feed C) FileFault)
     → (result ≡ Err t.Start → ⊥) → mid ≡ fresh_reading r → Starts held rest → held ≡ Holds xs → (IsErrOf result t.Read → last.ahead ≡ [])
-    → IfSome (left_of mid rest) (λ xs. StartedGives Stands ignores h mid xs result last (left_of last after))
-    → FileGives Stands ignores h r xs result last after
-told_started Stands ignores h r mid last held xs rest after (Ok s) started is starts holds emptied gives =
-    let e = told (λ m ys. ComesToEnd ignores h m ys (StandsFor Stands s) last (left_of last after)) r mid held xs rest is starts holds gives in
-    record { next = e.next; stands = e.stands; nothing_left = nothing_left last.ahead after e.nothing_left; room = e.room; all = e.all }
-told_started Stands ignores h r mid last held xs rest after (Err (t.Refused line why)) started is starts holds emptied gives =
-    told (λ m ys. HasFault ignores h m ys (record { line = line; why = why })) r mid held xs rest is starts holds gives
-told_started Stands ignores h r mid last held xs rest after (Err t.Start) started is starts holds emptied gives = tt
-told_started Stands ignores h r mid last held xs rest after (Err t.Read) started is starts holds emptied gives =
-    let e = told (λ m ys. IsBroken ignores h m ys (left_of last after)) r mid held xs rest is starts holds gives in
+    → IfSome (left_of mid rest) (λ xs. StartedGives Stands ignores place h before mid xs result last (left_of last after))
+    → FileGives Stands ignores place h before r xs result last after
+told_started Stands ignores place h before r mid last held xs rest after (Ok c) started is starts holds emptied gives =
+    let e = told (λ m ys. ComesToEnd ignores place h before m ys (StandsFor Stands c) last (left_of last after)) r mid held xs rest is starts holds gives in
+    record { found = e.found; next = e.next; stands = e.stands; nothing_left = nothing_left last.ahead after e.nothing_left; room = e.room; all = e.all }
+told_started Stands ignores place h before r mid last held xs rest after (Err (t.Refused line why)) started is starts holds emptied gives =
+    told (λ m ys. HasFault ignores place h m ys (record { line = line; why = why })) r mid held xs rest is starts holds gives
+told_started Stands ignores place h before r mid last held xs rest after (Err t.Start) started is starts holds emptied gives = tt
+told_started Stands ignores place h before r mid last held xs rest after (Err t.Read) started is starts holds emptied gives =
+    let e = told (λ m ys. IsBroken ignores place h m ys (left_of last after)) r mid held xs rest is starts holds gives in
     record {
       front = e.front;
       rest = e.rest;
@@ -235,24 +250,24 @@ told_started Stands ignores h r mid last held xs rest after (Err t.Read) started
       next = e.next;
       all = e.all;
     }
-told_started Stands ignores h r mid last held xs rest after (Err t.NoMemory) started is starts holds emptied gives = tt
+told_started Stands ignores place h before r mid last held xs rest after (Err t.NoMemory) started is starts holds emptied gives = tt
 
--- ---- which troubles come
+-- ---- which faults come
 faulted_not_start : (fault : Fault) → file_fault_of fault ≡ t.Start → ⊥
 faulted_not_start (f.Refused file line why) e = cc (e)
 faulted_not_start (f.Read file) e = cc (e)
 faulted_not_start f.NoMemory e = cc (e)
 
-pub faulted_started : (fault : Fault) (trouble : FileFault) → trouble ≡ file_fault_of fault → trouble ≡ t.Start → ⊥
-faulted_started fault trouble is e = faulted_not_start fault (sym is ∙ e)
+pub faulted_started : (fault : Fault) (own : FileFault) → own ≡ file_fault_of fault → own ≡ t.Start → ⊥
+faulted_started fault own is e = faulted_not_start fault (sym is ∙ e)
 
 read_of : (fault : Fault) → file_fault_of fault ≡ t.Read → (file : ℕ) × (fault ≡ f.Read file)
 read_of (f.Refused file line why) e = absurd (cc (e))
 read_of (f.Read file) e = (file, refl)
 read_of f.NoMemory e = absurd (cc (e))
 
-pub faulted_read : (fault : Fault) (trouble : FileFault) → trouble ≡ file_fault_of fault → trouble ≡ t.Read → (file : ℕ) × (fault ≡ f.Read file)
-faulted_read fault trouble is e = read_of fault (sym is ∙ e)
+pub faulted_read : (fault : Fault) (own : FileFault) → own ≡ file_fault_of fault → own ≡ t.Read → (file : ℕ) × (fault ≡ f.Read file)
+faulted_read fault own is e = read_of fault (sym is ∙ e)
 
 pub same_fault : {A : Type 0} (a b : FileFault) (r : Result A FileFault) → r ≡ Err a → r ≡ Err b → a ≡ b
 same_fault a b r first more = let e = sym first ∙ more in cc (e)

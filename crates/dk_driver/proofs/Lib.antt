@@ -1,5 +1,5 @@
 pub mod Complete
-pub mod Ends
+pub mod Walks
 pub mod Filing
 pub mod Running
 pub mod Taking

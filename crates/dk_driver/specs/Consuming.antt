@@ -1,5 +1,5 @@
--- What events tell a consumer.
-use Rattle.std.specs.Prelude.{◌≡◌, ◌++◌, [], ℕ, List, Some, length, replicate}
+-- What files tell a consumer, a block after another.
+use Rattle.std.specs.Prelude.{◌≡◌, ◌++◌, ◌∷◌, [], ℕ, List, Some, length, replicate}
 use Rattle.dk_base.specs.Values.{values_of}
 use Rattle.dk_base.specs.declared.values.Value.{Value}
 use Rattle.dk_blocks.specs.History.{own_samples_with}
@@ -14,25 +14,48 @@ use Rattle.dk_points.specs.Table.{Point}
 abbrev pub Samples : Type 0
 Samples = List (List (List Value))
 
+-- A sample record.
+pub record Record : Type 0 where
+  -- the points that the blocks before it declare
+  pub table : List Point
+  -- the place of its file among the files, and its first line there
+  pub file : ℕ
+  pub line : ℕ
+  -- the place of its point, and the values of that point's base variables
+  pub point : ℕ
+  pub values : List Value
+
+-- what files told so far: the points that they declare, the own samples of each, and the records of these samples in their order
+pub record Told : Type 0 where
+  pub points : List Point
+  pub samples : Samples
+  pub records : List Record
+
+-- nothing yet
+abbrev pub nothing_told : Told
+nothing_told = record { points = []; samples = []; records = [] }
+
 -- points behind the others, which have no samples
-pub record DeclaresMore (ps : List Point) (samples : Samples) (ps' : List Point) (all : Samples) : Type 0 where
+pub record DeclaresMore (old new : Told) : Type 0 where
   pub more : List Point
-  pub table : ps' ≡ ps ++ more
-  pub samples_are : all ≡ samples ++ replicate (length more) []
+  pub points_are : new.points ≡ old.points ++ more
+  pub samples_are : new.samples ≡ old.samples ++ replicate (length more) []
+  pub records_are : new.records ≡ old.records
 
 -- a sample behind those of a point; the base values are those that the told ones are derived from
-pub record SamplesMore (p : ℕ) (values : List Value) (ps : List Point) (samples : Samples) (ps' : List Point) (all : Samples)
-    : Type 0 where
+pub record SamplesMore (file line p : ℕ) (values : List Value) (old new : Told) : Type 0 where
   pub base : List Value
-  pub table : ps' ≡ ps
-  pub derived : values ≡ values_by_form (all_vars_of ps p) base
-  pub samples_are : all ≡ own_samples_with samples p base
+  pub points_are : new.points ≡ old.points
+  pub derived : values ≡ values_by_form (all_vars_of old.points p) base
+  pub samples_are : new.samples ≡ own_samples_with old.samples p base
+  pub records_are : new.records
+      ≡ old.records ++ record { table = old.points; file = file; line = line; point = p; values = base } ∷ []
 
--- The event tells how points and samples go on: those before it, and those behind it.
-abbrev pub Tells : Event → List Point → Samples → List Point → Samples → Type 0
-Tells event.Nothing ps samples ps' all = (ps' ≡ ps) × (all ≡ samples)
-Tells event.Declared ps samples ps' all = DeclaresMore ps samples ps' all
-Tells (event.Sample point line values) ps samples ps' all = SamplesMore point.0 (values_of values.now) ps samples ps' all
+-- The event of a block of the file at a place tells more: what was told before it, and what is behind it.
+abbrev pub Tells : ℕ → Event → Told → Told → Type 0
+Tells file event.Nothing old new = new ≡ old
+Tells file event.Declared old new = DeclaresMore old new
+Tells file (event.Sample point line values) old new = SamplesMore file line point.0 (values_of values.now) old new
 
 -- The table goes on with the event from one that this holds of.
 abbrev pub IsBehind : (List Point → Type 0) → List Point → Event → Type 0

@@ -2,8 +2,9 @@
 pub mod Reads
 pub mod Consuming
 pub mod Standing
-pub mod Ends
+pub mod Walks
 pub mod Files
+pub mod Laws
 -- what holds within a file, and between files
 pub mod WholeFile
 pub mod AllFiles

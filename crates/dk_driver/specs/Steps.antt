@@ -1,23 +1,24 @@
 -- What the next block of a file comes to.
-use Rattle.std.specs.Prelude.{◌≡◌, not, is_some, Bool, true, false, List, ℕ, Option, Some, Result, Ok, Err}
+use Rattle.std.specs.Prelude.{◌≡◌, ◌++◌, not, is_some, Bool, true, false, List, ℕ, Option, Some, Result, Ok, Err}
 use Rattle.dk_base.specs.declared.faults.Fault.{Fault}
 use Rattle.dk_blocks.specs.History.{Effect, History, effect_of}
 use Rattle.dk_blocks.specs.Steps.{FaultAnswers, Grown, Steps}
 use Rattle.dk_events.specs.Standing.{ignores_of, over_of}
 use Rattle.dk_lines.specs.Reading.{Reading}
-use Rattle.dk_points.specs.Table.{Point}
-use Rattle.dk_driver.specs.Consuming.{Samples}
+use Rattle.dk_driver.specs.Consuming.{Record, Told}
 use Rattle.dk_driver.specs.Standing.{StandsFor}
+use Rattle.dk_driver.specs.Walks.{records_in}
 use Rattle.dk_driver.specs.declared.feed.Feed.{Feed}
 
--- what `next` answers: what is kept behind the next block, and whether there was one
-abbrev pub NextBlock : {C : Type 0} → (C → List Point → Samples → Type 0) → Feed C → History → Reading → List ℕ
+-- What `next` answers in the file at a place: what is kept behind the next block, and whether there was one.
+abbrev pub NextBlock : {C : Type 0} → (C → Told → Type 0) → Feed C → ℕ → History → List Record → Reading → List ℕ
     → Result (Feed C × Bool) Fault → Reading → Option (List ℕ) → Type 0
-NextBlock Stands s h r xs (Ok a) r' left' =
-    (h' : History) × StandsFor Stands a.0 h' × ((effect : Option Effect) × (a.1 ≡ is_some effect)
+NextBlock Stands s place h records r xs (Ok a) r' left' =
+    (h' : History) × ((effect : Option Effect)
+    × StandsFor Stands a.0 h' (records ++ records_in place (record { history = h'; effect = effect })) × (a.1 ≡ is_some effect)
     × ((ys : List ℕ) × (left' ≡ Some ys) × Steps (ignores_of s.events) (effect_of (ignores_of s.events) h) (over_of s.events) r xs
     (Ok (record { history = h'; effect = effect })) (over_of a.0.events) r' ys))
-NextBlock Stands s h r xs (Err fault) r' left' =
+NextBlock Stands s place h records r xs (Err fault) r' left' =
     FaultAnswers (ignores_of s.events) (effect_of (ignores_of s.events) h) (over_of s.events) r xs fault left'
 
 -- numbers of lines and bytes, whatever is told

@@ -6,53 +6,55 @@ use Rattle.dk_base.specs.declared.faults.Fault.TheVariants as fault
 use Rattle.dk_blocks.specs.History.{History, file_ended}
 use Rattle.dk_blocks.specs.Steps.{groups_left}
 use Rattle.dk_lines.specs.Reading.{Reading, room_of}
-use Rattle.dk_points.specs.Table.{Point}
-use Rattle.dk_driver.specs.Consuming.{Samples}
-use Rattle.dk_driver.specs.Ends.{end_behind}
+use Rattle.dk_driver.specs.Consuming.{Record, Told}
 use Rattle.dk_driver.specs.Standing.{StandsFor}
+use Rattle.dk_driver.specs.Walks.{behind_records, walk_behind}
 use Rattle.dk_driver.specs.declared.fault.FileFault.{FileFault}
 use Rattle.dk_driver.specs.declared.fault.FileFault.TheVariants.{Refused, Start, Read, NoMemory}
 use Rattle.dk_driver.specs.declared.fault.FilesFault.{FilesFault}
 use Rattle.dk_driver.specs.declared.fault.FilesFault.TheVariants as files
 use Rattle.dk_driver.specs.declared.feed.Feed.{Feed}
 
--- Within a file: what the first history says of what was left is what the next one says of what is left now. So it is of a file that is
--- cut off, unless it is cut off behind its last line and no LF ends that.
-pub record Within (ignores : Bool) (history : History) (old : Reading) (xs : List ℕ) (next : History) (is_over : Bool) (new : Reading)
-    (ys : List ℕ) : Type 0 where
+-- Within a file: behind these records, what the first history says of what was left is what the next one says of what is left now. So it
+-- is of a file that is cut off, unless it is cut off behind its last line and no LF ends that.
+pub record Within (ignores : Bool) (place : ℕ) (history : History) (old : Reading) (xs : List ℕ) (found : List Record) (next : History)
+    (is_over : Bool) (new : Reading) (ys : List ℕ) : Type 0 where
   pub front : List ℕ
   pub split : xs ≡ front ++ ys
   pub room : room_of new ≡ room_of old - length front
   pub nothing : is_over ≡ true → ys ≡ []
-  pub same : end_behind ignores history (groups_left false old true xs) ≡ end_behind ignores next (groups_left is_over new true ys)
+  pub same : walk_behind ignores place history (groups_left false old true xs)
+      ≡ behind_records found (walk_behind ignores place next (groups_left is_over new true ys))
   pub cut : (d rest : List ℕ) → ys ≡ d ++ rest →
-      (end_behind ignores history (groups_left false old false (front ++ d)) ≡ end_behind ignores next (groups_left is_over new false d))
-      ⊎ (ys ≡ [])
+      (walk_behind ignores place history (groups_left false old false (front ++ d))
+      ≡ behind_records found (walk_behind ignores place next (groups_left is_over new false d))) ⊎ (ys ≡ [])
 
--- What is kept stands for a history within the file.
-pub record FileGoesOn (ignores : Bool) (history : History) (old : Reading) (xs : List ℕ) (Stands : History → Type 0) (is_over : Bool)
-    (new : Reading) (left : Option (List ℕ)) : Type 0 where
+-- What is kept stands for a history within the file and the records up to it, of which these stood before the file.
+pub record FileGoesOn (ignores : Bool) (place : ℕ) (history : History) (before : List Record) (old : Reading) (xs : List ℕ)
+    (Stands : History → List Record → Type 0) (is_over : Bool) (new : Reading) (left : Option (List ℕ)) : Type 0 where
+  pub found : List Record
   pub next : History
-  pub stands : Stands next
+  pub stands : Stands next (before ++ found)
   pub ys : List ℕ
   pub left_is : left ≡ Some ys
-  pub within : Within ignores history old xs next is_over new ys
+  pub within : Within ignores place history old xs found next is_over new ys
 
--- The file's bytes xs up to its end come to a history.
-pub record ComesToEnd (ignores : Bool) (history : History) (old : Reading) (xs : List ℕ) (Stands : History → Type 0) (new : Reading)
-    (left : Option (List ℕ)) : Type 0 where
+-- the file's bytes xs up to its end come to a history and these records
+pub record ComesToEnd (ignores : Bool) (place : ℕ) (history : History) (before : List Record) (old : Reading) (xs : List ℕ)
+    (Stands : History → List Record → Type 0) (new : Reading) (left : Option (List ℕ)) : Type 0 where
+  pub found : List Record
   pub next : History
-  pub stands : Stands (file_ended next)
+  pub stands : Stands (file_ended next) (before ++ found)
   pub nothing_left : left ≡ Some []
   pub room : room_of new ≡ room_of old - length xs
-  pub all : end_behind ignores history (groups_left false old true xs) ≡ Ok next
+  pub all : walk_behind ignores place history (groups_left false old true xs) ≡ record { records = found; end = Ok next }
 
--- The file's bytes xs hold this fault.
-abbrev pub HasFault : Bool → History → Reading → List ℕ → LineFault → Type 0
-HasFault ignores history old xs fault = end_behind ignores history (groups_left false old true xs) ≡ Err fault
+-- the file's bytes xs hold this fault
+abbrev pub HasFault : Bool → ℕ → History → Reading → List ℕ → LineFault → Type 0
+HasFault ignores place history old xs fault = (walk_behind ignores place history (groups_left false old true xs)).end ≡ Err fault
 
 -- Of the file's bytes xs a front without a fault was delivered. Where it is all, it may count as ended.
-pub record IsBroken (ignores : Bool) (history : History) (old : Reading) (xs : List ℕ) (left : Option (List ℕ)) : Type 0 where
+pub record IsBroken (ignores : Bool) (place : ℕ) (history : History) (old : Reading) (xs : List ℕ) (left : Option (List ℕ)) : Type 0 where
   pub front : List ℕ
   pub rest : List ℕ
   pub left_is : left ≡ Some rest
@@ -60,38 +62,41 @@ pub record IsBroken (ignores : Bool) (history : History) (old : Reading) (xs : L
   pub is_ended : Bool
   pub ended : is_ended ≡ true → rest ≡ []
   pub next : History
-  pub all : end_behind ignores history (groups_left false old is_ended front) ≡ Ok next
+  pub all : (walk_behind ignores place history (groups_left false old is_ended front)).end ≡ Ok next
 
 -- a reader in front of the first line of a file
 abbrev pub fresh_reading : Reading → Reading
 fresh_reading r = record r { is_started = true; number = 0; ahead = []; line = [] }
 
 -- what a fault of the started file says, where the bytes xs are left
-abbrev pub FaultGives : Bool → History → Reading → List ℕ → FileFault → Option (List ℕ) → Type 0
-FaultGives ignores history old xs (Refused line why) left = HasFault ignores history old xs (record { line = line; why = why })
-FaultGives ignores history old xs Start left = ⊥
-FaultGives ignores history old xs Read left = IsBroken ignores history old xs left
-FaultGives ignores history old xs NoMemory left = Unit {0}
+abbrev pub FaultGives : Bool → ℕ → History → Reading → List ℕ → FileFault → Option (List ℕ) → Type 0
+FaultGives ignores place history old xs (Refused line why) left =
+    HasFault ignores place history old xs (record { line = line; why = why })
+FaultGives ignores place history old xs Start left = ⊥
+FaultGives ignores place history old xs Read left = IsBroken ignores place history old xs left
+FaultGives ignores place history old xs NoMemory left = Unit {0}
 
 -- what reading the started file to its end comes to
-abbrev pub StartedGives : {C : Type 0} → (C → List Point → Samples → Type 0) → Bool → History → Reading → List ℕ → Result (Feed C) FileFault
-    → Reading → Option (List ℕ) → Type 0
-StartedGives Stands ignores history old xs (Ok s) new left = ComesToEnd ignores history old xs (StandsFor Stands s) new left
-StartedGives Stands ignores history old xs (Err fault) new left = FaultGives ignores history old xs fault left
+abbrev pub StartedGives : {C : Type 0} → (C → Told → Type 0) → Bool → ℕ → History → List Record → Reading → List ℕ
+    → Result (Feed C) FileFault → Reading → Option (List ℕ) → Type 0
+StartedGives Stands ignores place history before old xs (Ok s) new left =
+    ComesToEnd ignores place history before old xs (StandsFor Stands s) new left
+StartedGives Stands ignores place history before old xs (Err fault) new left = FaultGives ignores place history old xs fault left
 
 -- what a fault of a file of the bytes xs says
-abbrev pub FileFaultGives : Bool → History → Reading → List ℕ → FileFault → Option (List ℕ) → Type 0
-FileFaultGives ignores history old xs Start rest = Unit {0}
-FileFaultGives ignores history old xs (Refused line why) rest =
-    HasFault ignores history (fresh_reading old) xs (record { line = line; why = why })
-FileFaultGives ignores history old xs Read rest = IsBroken ignores history (fresh_reading old) xs rest
-FileFaultGives ignores history old xs NoMemory rest = Unit {0}
+abbrev pub FileFaultGives : Bool → ℕ → History → Reading → List ℕ → FileFault → Option (List ℕ) → Type 0
+FileFaultGives ignores place history old xs Start rest = Unit {0}
+FileFaultGives ignores place history old xs (Refused line why) rest =
+    HasFault ignores place history (fresh_reading old) xs (record { line = line; why = why })
+FileFaultGives ignores place history old xs Read rest = IsBroken ignores place history (fresh_reading old) xs rest
+FileFaultGives ignores place history old xs NoMemory rest = Unit {0}
 
 -- what reading a file of the bytes xs comes to
-abbrev pub FileGives : {C : Type 0} → (C → List Point → Samples → Type 0) → Bool → History → Reading → List ℕ → Result (Feed C) FileFault
-    → Reading → Option (List ℕ) → Type 0
-FileGives Stands ignores history old xs (Ok s) new rest = ComesToEnd ignores history (fresh_reading old) xs (StandsFor Stands s) new rest
-FileGives Stands ignores history old xs (Err fault) new rest = FileFaultGives ignores history old xs fault rest
+abbrev pub FileGives : {C : Type 0} → (C → Told → Type 0) → Bool → ℕ → History → List Record → Reading → List ℕ
+    → Result (Feed C) FileFault → Reading → Option (List ℕ) → Type 0
+FileGives Stands ignores place history before old xs (Ok s) new rest =
+    ComesToEnd ignores place history before (fresh_reading old) xs (StandsFor Stands s) new rest
+FileGives Stands ignores place history before old xs (Err fault) new rest = FileFaultGives ignores place history old xs fault rest
 
 -- a block is not read
 abbrev pub file_fault_of : Fault → FileFault

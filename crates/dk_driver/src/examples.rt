@@ -4,6 +4,7 @@ use dk_arguments::Word;
 use dk_base::{List, NoMemory, Text, Why};
 use dk_events::Event;
 use dk_io::MemoryInputs;
+use dk_lines::{Limits, Lines};
 use dk_points::Points;
 use std::alloc::Global;
 use std::test::Fail;
@@ -16,11 +17,15 @@ struct Tally {
 }
 
 impl Consumer for Tally {
+    type Given = ();
+
+    ghost given = { λ _. tt };
+
     ghost fits = { λ _ _. Unit {0} };
 
-    ghost stands = { λ _ _ _. Unit {0} };
+    ghost stands = { λ _ _. Unit {0} };
 
-    fn take(&mut self, _points: &Points, event: Event<'_>) -> Result<(), NoMemory> {
+    fn take(&mut self, _points: &Points, _file: usize, event: Event<'_>) -> Result<(), NoMemory> {
         match event {
             Event::Nothing => {}
             Event::Declared => self.declared = self.declared.saturating_add(1),
@@ -100,7 +105,8 @@ fn read(alloc: Global, names: &[&str]) -> Result<Result<(u64, u64), FilesFault>,
         samples: 0,
     };
     let mut inputs = inputs(alloc)?;
-    match read_files(alloc, &traces, tally, &mut inputs) {
+    let mut lines = Lines::new(alloc, Limits::STANDARD)?;
+    match read_files(alloc, &traces, tally, &mut inputs, &mut lines) {
         Ok(feed) => Ok(Ok((feed.consumer().declared, feed.consumer().samples))),
         Err(fault) => Ok(Err(fault)),
     }

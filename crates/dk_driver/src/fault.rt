@@ -9,8 +9,8 @@ use thiserror::Error;
 
 /// Why a file is not read to its end.
 #[derive(Clone, Copy, Debug, PartialEq, Eq)]
-pub(crate) enum FileFault {
-    /// A line of it is refused.
+pub enum FileFault {
+    /// A line of it is refused. Lines are numbered from 1.
     Refused { line: u64, why: Why },
     /// It could not be started.
     Start,

@@ -8,11 +8,12 @@ mod consumer;
 mod examples;
 mod fault;
 mod feed;
+pub mod laws;
 mod reading;
 mod traces;
 
 pub use consumer::Consumer;
-pub use fault::FilesFault;
+pub use fault::{FileFault, FilesFault};
 pub use feed::Feed;
 pub use reading::read_files;
 pub use traces::Traces;

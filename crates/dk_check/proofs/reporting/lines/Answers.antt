@@ -3,7 +3,7 @@ use Rattle.std.proofs.lemmas.List.{append-nil}
 use Rattle.std.proofs.lemmas.Slice.Zip.{zip_end, zip_turn}
 use Rattle.std.specs.Iterator.Adapters.{zip_first, zip_second}
 use Rattle.std.specs.Slice.Iter.{iter_rest}
-use Rattle.dk_run.specs.Files.{file_name_at}
+use Rattle.dk_driver.specs.Files.{file_name_at}
 use Rattle.dk_verdicts.specs.Reports.{verdict_line, verdict_lines}
 use Rattle.dk_check.proofs.VerdictLines.{lines_more, lines_over}
 use Rattle.dk_check.proofs.reporting.lines.Goals as goal

@@ -1,5 +1,5 @@
 use Rattle.std.proofs.Common.{◌≡◌, ◌++◌, drop, length}
-use Rattle.dk_run.specs.Files.{file_name_at}
+use Rattle.dk_driver.specs.Files.{file_name_at}
 use Rattle.dk_verdicts.specs.Reports.{verdict_lines}
 use Rattle.dk_check.proofs.reporting.lines.Given as goal
 

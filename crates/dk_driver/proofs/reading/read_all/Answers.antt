@@ -20,7 +20,8 @@ loop-place-init g c = record {
   ignores = search rules;
   files = search rules;
   later = search rules;
-  goes = λ read. read;
+  given = search rules;
+  goes = λ room read. read;
 }
 
 pub loop-place-preserved : goal.loop-place-preserved
@@ -38,24 +39,25 @@ loop-place-preserved g c =
       ignores = search rules;
       files = search rules;
       later = search rules;
-      goes = λ read. named_on c.args.traces.now (g.I.Inputs.file c.args.inputs.now) _ _ _ (StandsFor g.C.Consumer.stands c.loop-place.feed) (StandsFor g.C.Consumer.stands c.in-Ok.next) c.loop-place.place c.loop-place.lines c.read_file.new.lines c.name_at.result.now
-          named within c.loop-place.invariant.limits there (c.loop-place.invariant.goes read)
-          (λ h stands xs holds. subst (λ (b : Bool). ComesToEnd b h (fresh_reading c.loop-place.lines) xs (StandsFor g.C.Consumer.stands c.in-Ok.next) c.read_file.new.lines (g.I.Inputs.rest c.read_file.new.inputs)) c.loop-place.invariant.ignores
-          (e.gives h stands xs (ap (λ (f : List ℕ → HeldFile). f c.name_at.result.now) files ∙ holds)));
+      given = c.in-Ok.ensures.given ∙ c.loop-place.invariant.given;
+      goes = λ room read. named_on c.args.traces.now room (g.I.Inputs.file c.args.inputs.now) _ _ _ (StandsFor g.C.Consumer.stands c.loop-place.feed) (StandsFor g.C.Consumer.stands c.in-Ok.next) c.loop-place.place c.loop-place.lines c.read_file.new.lines c.name_at.result.now
+          named within c.loop-place.invariant.limits there (c.loop-place.invariant.goes room read)
+          (λ h records stands xs holds. subst (λ (b : Bool). ComesToEnd b c.loop-place.place h records (fresh_reading c.loop-place.lines) xs (StandsFor g.C.Consumer.stands c.in-Ok.next) c.read_file.new.lines (g.I.Inputs.rest c.read_file.new.inputs)) c.loop-place.invariant.ignores
+          (e.gives h records stands xs (ap (λ (f : List ℕ → HeldFile). f c.name_at.result.now) files ∙ holds)));
     }
 
 pub returns-in-Err-clause-gives : goal.returns-in-Err-clause-gives
-returns-in-Err-clause-gives g c read =
+returns-in-Err-clause-gives g c room read =
     let files = c.loop-place.invariant.files in
     let e = c.in-Err.ensures in
     let named : c.name_at.result.now ≡ file_name_at c.args.traces.now.names c.loop-place.place =
     c.name_at.ensures ∙ ap (λ (l : List (List ℕ)). file_name_at l c.loop-place.place) c.as_slice-names.ensures in
     let within : c.loop-place.place < length c.args.traces.now.names = omega (arith, ap length c.as_slice-names.ensures) in
-    subst (λ (f : FilesFault). FaultSays c.args.traces.now (g.I.Inputs.file c.args.inputs.now) (g.I.Inputs.rest c.args.inputs.now) f (g.I.Inputs.rest c.read_file.new.inputs)) (sym c.at.ensures)
-    (named_fault c.args.traces.now (g.I.Inputs.file c.args.inputs.now) _ _ _ (StandsFor g.C.Consumer.stands c.loop-place.feed) c.loop-place.place c.loop-place.lines c.name_at.result.now c.in-Err.fault
-    named within c.loop-place.invariant.limits (λ started. rw files at (e.there (λ e. started (cc (e))))) (λ start. e.unstarted (ap Err start)) (c.loop-place.invariant.goes read)
-    (λ h stands xs holds. subst (λ (b : Bool). FileFaultGives b h c.loop-place.lines xs c.in-Err.fault (g.I.Inputs.rest c.read_file.new.inputs)) c.loop-place.invariant.ignores
-    (e.gives h stands xs (ap (λ (f : List ℕ → HeldFile). f c.name_at.result.now) files ∙ holds))))
+    subst (λ (f : FilesFault). FaultSays c.args.traces.now room (g.I.Inputs.file c.args.inputs.now) (g.I.Inputs.rest c.args.inputs.now) f (g.I.Inputs.rest c.read_file.new.inputs)) (sym c.at.ensures)
+    (named_fault c.args.traces.now room (g.I.Inputs.file c.args.inputs.now) _ _ _ (StandsFor g.C.Consumer.stands c.loop-place.feed) c.loop-place.place c.loop-place.lines c.name_at.result.now c.in-Err.fault
+    named within c.loop-place.invariant.limits (λ started. rw files at (e.there (λ e. started (cc (e))))) (λ start. e.unstarted (ap Err start)) (c.loop-place.invariant.goes room read)
+    (λ h records stands xs holds. subst (λ (b : Bool). FileFaultGives b c.loop-place.place h c.loop-place.lines xs c.in-Err.fault (g.I.Inputs.rest c.read_file.new.inputs)) c.loop-place.invariant.ignores
+    (e.gives h records stands xs (ap (λ (f : List ℕ → HeldFile). f c.name_at.result.now) files ∙ holds))))
 
 pub returns-in-Err-clause-placed : goal.returns-in-Err-clause-placed
 returns-in-Err-clause-placed g c =
@@ -74,6 +76,6 @@ returns-in-Err-clause-cause g c =
     named within c.loop-place.invariant.later (rw files at e.there) (rw files at e.start) e.read)
 
 pub returns-clause-gives : goal.returns-clause-gives
-returns-clause-gives g c read =
+returns-clause-gives g c room read =
     let all : c.loop-place.place ≡ length c.args.traces.now.names = omega (arith, ap length c.as_slice-names.ensures) in
-    subst (λ (n : ℕ). AreReadTo c.args.traces.now (g.I.Inputs.file c.args.inputs.now) (g.I.Inputs.rest c.args.inputs.now) (g.I.Inputs.rest c.loop-place.inputs) (StandsFor g.C.Consumer.stands c.loop-place.feed) (room_of c.loop-place.lines) n) all (c.loop-place.invariant.goes read)
+    subst (λ (n : ℕ). AreReadTo c.args.traces.now room (g.I.Inputs.file c.args.inputs.now) (g.I.Inputs.rest c.args.inputs.now) (g.I.Inputs.rest c.loop-place.inputs) (StandsFor g.C.Consumer.stands c.loop-place.feed) (room_of c.loop-place.lines) n) all (c.loop-place.invariant.goes room read)

@@ -1,9 +1,9 @@
-use Rattle.std.proofs.Common.{◌≡◌, ◌≤◌, false}
+use Rattle.std.proofs.Common.{◌≡◌, ◌≤◌, ℕ, false}
 use Rattle.dk_events.specs.Standing.{ignores_of, over_of}
 use Rattle.dk_lines.specs.Reading.{room_of}
 use Rattle.dk_driver.specs.AllFiles.{AreReadTo}
-use Rattle.dk_driver.specs.Ends.{line_limit}
 use Rattle.dk_driver.specs.Standing.{StandsFor, points_of}
+use Rattle.dk_driver.specs.Walks.{line_limit}
 use Rattle.dk_driver.proofs.reading.read_all.Given as goal
 
 abbrev pub invariant-loop-place : goal.invariant-loop-place
@@ -14,6 +14,7 @@ invariant-loop-place g l = record {
   ignores : ignores_of l.feed.events ≡ l.traces.ignore_missing_entry;
   files : g.I.Inputs.file l.inputs ≡ g.I.Inputs.file l.fn.inputs;
   later : g.I.Inputs.faults l.fn.inputs ≤ g.I.Inputs.faults l.inputs;
-  goes : AreReadTo l.traces (g.I.Inputs.file l.fn.inputs) (g.I.Inputs.rest l.fn.inputs) (g.I.Inputs.rest l.fn.inputs) (StandsFor g.C.Consumer.stands l.fn.feed) (room_of l.fn.lines) 0
-      → AreReadTo l.traces (g.I.Inputs.file l.fn.inputs) (g.I.Inputs.rest l.fn.inputs) (g.I.Inputs.rest l.inputs) (StandsFor g.C.Consumer.stands l.feed) (room_of l.lines) l.place;
+  given : g.C.Consumer.given l.feed.consumer ≡ g.C.Consumer.given l.fn.feed.consumer;
+  goes : (room : ℕ) → AreReadTo l.traces room (g.I.Inputs.file l.fn.inputs) (g.I.Inputs.rest l.fn.inputs) (g.I.Inputs.rest l.fn.inputs) (StandsFor g.C.Consumer.stands l.fn.feed) (room_of l.fn.lines) 0
+      → AreReadTo l.traces room (g.I.Inputs.file l.fn.inputs) (g.I.Inputs.rest l.fn.inputs) (g.I.Inputs.rest l.inputs) (StandsFor g.C.Consumer.stands l.feed) (room_of l.lines) l.place;
 }

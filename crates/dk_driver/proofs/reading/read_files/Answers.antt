@@ -1,6 +1,4 @@
-use Rattle.std.proofs.Common.{◌≡◌, rules}
-use Rattle.dk_lines.specs.Reading.{room_of}
-use Rattle.dk_driver.specs.Ends.{total_limit}
+use Rattle.std.proofs.Common.{refl}
 use Rattle.dk_driver.specs.Standing.{StandsFor}
 use Rattle.dk_driver.proofs.Complete.{complete_by}
 use Rattle.dk_driver.proofs.Running.{files_say, read_none}
@@ -8,14 +6,12 @@ use Rattle.dk_driver.proofs.reading.read_files.Goals as goal
 
 pub returns-clause-says : goal.returns-clause-says
 returns-clause-says g c =
-    let room : room_of c.in_ok-lines.lines ≡ total_limit = search rules in
-    files_say g.C.Consumer.stands c.args.traces.now _ _ _ c.read_all.result c.read_all.new.lines
-    (c.read_all.ensures.gives (read_none c.args.traces.now _ _ (StandsFor g.C.Consumer.stands c.in_ok-feed.feed) _ c.in_ok-feed.ensures.stands room))
+    files_say g.C.Consumer.stands c.args.traces.now _ _ _ _ c.read_all.result c.read_all.new.lines
+    (c.read_all.ensures.gives _ (read_none c.args.traces.now _ _ _ (StandsFor g.C.Consumer.stands c.in_ok-feed.feed) _ c.in_ok-feed.ensures.stands refl))
 
 pub returns-clause-complete : goal.returns-clause-complete
 returns-clause-complete g c calm =
-    let room : room_of c.in_ok-lines.lines ≡ total_limit = search rules in
-    complete_by g.C.Consumer.stands c.args.traces.now _ _ _ _ c.read_all.result
-    (files_say g.C.Consumer.stands c.args.traces.now _ _ _ c.read_all.result c.read_all.new.lines
-    (c.read_all.ensures.gives (read_none c.args.traces.now _ _ (StandsFor g.C.Consumer.stands c.in_ok-feed.feed) _ c.in_ok-feed.ensures.stands room)))
+    complete_by g.C.Consumer.stands c.args.traces.now _ _ _ _ _ c.read_all.result
+    (files_say g.C.Consumer.stands c.args.traces.now _ _ _ _ c.read_all.result c.read_all.new.lines
+    (c.read_all.ensures.gives _ (read_none c.args.traces.now _ _ _ (StandsFor g.C.Consumer.stands c.in_ok-feed.feed) _ c.in_ok-feed.ensures.stands refl)))
     c.read_all.ensures.placed c.read_all.ensures.cause calm

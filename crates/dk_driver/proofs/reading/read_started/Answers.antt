@@ -1,4 +1,4 @@
-use Rattle.std.proofs.Common.{rules, subst, sym, ◌≡◌, Bool, true, false, IfSome, Result, Ok, Err, refl, ap}
+use Rattle.std.proofs.Common.{rules, subst, sym, ◌≡◌, Bool, true, false, List, IfSome, Result, Ok, Err, refl, ap}
 use Rattle.dk_base.specs.declared.faults.Fault.{Fault}
 use Rattle.dk_blocks.specs.History.{History}
 use Rattle.dk_blocks.specs.Standing.{left_with_answer}
@@ -6,6 +6,7 @@ use Rattle.dk_events.specs.Standing.{ignores_of, over_of}
 use Rattle.dk_lines.specs.Reading.{left_of}
 use Rattle.dk_driver.proofs.Running.{rose_since}
 use Rattle.dk_driver.proofs.Filing.{faulted_read, faulted_started, file_end, file_fault, file_on, not_begun, same_fault}
+use Rattle.dk_driver.specs.Consuming.{Record}
 use Rattle.dk_driver.specs.Standing.{StandsFor}
 use Rattle.dk_driver.specs.Steps.{NextBlock}
 use Rattle.dk_driver.specs.WholeFile.{FaultGives}
@@ -21,14 +22,15 @@ steps-init g c = record {
   ignores = search rules;
   files = search rules;
   later = search rules;
-  goes = λ h stands. not_begun (ignores_of c.args.feed.events) h c.args.lines.now _ (StandsFor g.C.Consumer.stands c.args.feed) _ c.requires.begins stands;
+  given = search rules;
+  goes = λ h records stands. not_begun (ignores_of c.args.feed.events) c.args.place h records c.args.lines.now _ (StandsFor g.C.Consumer.stands c.args.feed) _ c.requires.begins stands;
 }
 
 pub steps-preserved : goal.steps-preserved
 steps-preserved g c =
     let is : c.next.result ≡ Ok true = search rules in
-    let answers = λ (h : History) (stands : StandsFor g.C.Consumer.stands c.steps.feed h).
-    subst (λ (a : Result Bool Fault). IfSome (left_of c.steps.lines (g.I.Inputs.rest c.steps.inputs)) (λ ys. NextBlock g.C.Consumer.stands c.steps.feed h c.steps.lines ys (left_with_answer c.next.new.self a) c.next.new.lines (left_of c.next.new.lines (g.I.Inputs.rest c.next.new.inputs)))) is (c.next.ensures.gives h stands) in
+    let answers = λ (h : History) (records : List Record) (stands : StandsFor g.C.Consumer.stands c.steps.feed h records).
+    subst (λ (a : Result Bool Fault). IfSome (left_of c.steps.lines (g.I.Inputs.rest c.steps.inputs)) (λ ys. NextBlock g.C.Consumer.stands c.steps.feed c.args.place h records c.steps.lines ys (left_with_answer c.next.new.self a) c.next.new.lines (left_of c.next.new.lines (g.I.Inputs.rest c.next.new.inputs)))) is (c.next.ensures.gives h records stands) in
     record {
       fits = search rules;
       started = search rules;
@@ -36,22 +38,23 @@ steps-preserved g c =
       ignores = search rules;
       files = search rules;
       later = search rules;
-      goes = λ h stands. file_on g.C.Consumer.stands (ignores_of c.args.feed.events) h c.args.lines.now c.steps.lines c.next.new.lines _ _ _ c.steps.feed c.next.new.self c.steps.invariant.ignores (c.steps.invariant.goes h stands) answers;
+      given = search rules;
+      goes = λ h records stands. file_on g.C.Consumer.stands (ignores_of c.args.feed.events) c.args.place h records c.args.lines.now c.steps.lines c.next.new.lines _ _ _ c.steps.feed c.next.new.self c.steps.invariant.ignores (c.steps.invariant.goes h records stands) answers;
     }
 
 pub returns-in-Ok-false-clause-gives : goal.returns-in-Ok-false-clause-gives
-returns-in-Ok-false-clause-gives g c h stands =
+returns-in-Ok-false-clause-gives g c h records stands =
     let is : c.next.result ≡ Ok false = search rules in
-    let answers = λ (h : History) (stands : StandsFor g.C.Consumer.stands c.steps.feed h).
-    subst (λ (a : Result Bool Fault). IfSome (left_of c.steps.lines (g.I.Inputs.rest c.steps.inputs)) (λ ys. NextBlock g.C.Consumer.stands c.steps.feed h c.steps.lines ys (left_with_answer c.next.new.self a) c.next.new.lines (left_of c.next.new.lines (g.I.Inputs.rest c.next.new.inputs)))) is (c.next.ensures.gives h stands) in
+    let answers = λ (h : History) (records : List Record) (stands : StandsFor g.C.Consumer.stands c.steps.feed h records).
+    subst (λ (a : Result Bool Fault). IfSome (left_of c.steps.lines (g.I.Inputs.rest c.steps.inputs)) (λ ys. NextBlock g.C.Consumer.stands c.steps.feed c.args.place h records c.steps.lines ys (left_with_answer c.next.new.self a) c.next.new.lines (left_of c.next.new.lines (g.I.Inputs.rest c.next.new.inputs)))) is (c.next.ensures.gives h records stands) in
     let over : over_of c.next.new.self.events ≡ true = search rules in
-    file_end g.C.Consumer.stands (ignores_of c.args.feed.events) h c.args.lines.now c.steps.lines c.next.new.lines _ _ _ c.steps.feed c.next.new.self c.end_file.result c.steps.invariant.ignores
-    (c.steps.invariant.goes h stands) answers over c.end_file.ensures.stands
+    file_end g.C.Consumer.stands (ignores_of c.args.feed.events) c.args.place h records c.args.lines.now c.steps.lines c.next.new.lines _ _ _ c.steps.feed c.next.new.self c.end_file.result c.steps.invariant.ignores
+    (c.steps.invariant.goes h records stands) answers over c.end_file.ensures.stands
 
 pub returns-in-Err-clause-gives : goal.returns-in-Err-clause-gives
-returns-in-Err-clause-gives g c h stands =
-    subst (λ (t : FileFault). IfSome (left_of c.args.lines.now (g.I.Inputs.rest c.args.inputs.now)) (λ xs. FaultGives (ignores_of c.args.feed.events) h c.args.lines.now xs t (left_of c.next.new.lines (g.I.Inputs.rest c.next.new.inputs)))) (sym c.from.ensures)
-    (file_fault g.C.Consumer.stands (ignores_of c.args.feed.events) h c.args.lines.now c.steps.lines c.next.new.lines _ _ _ c.steps.feed c.in-Err.fault c.steps.invariant.ignores (c.steps.invariant.goes h stands) c.in-Err.ensures.gives)
+returns-in-Err-clause-gives g c h records stands =
+    subst (λ (t : FileFault). IfSome (left_of c.args.lines.now (g.I.Inputs.rest c.args.inputs.now)) (λ xs. FaultGives (ignores_of c.args.feed.events) c.args.place h c.args.lines.now xs t (left_of c.next.new.lines (g.I.Inputs.rest c.next.new.inputs)))) (sym c.from.ensures)
+    (file_fault g.C.Consumer.stands (ignores_of c.args.feed.events) c.args.place h records c.args.lines.now c.steps.lines c.next.new.lines _ _ _ c.steps.feed c.in-Err.fault c.steps.invariant.ignores (c.steps.invariant.goes h records stands) c.in-Err.ensures.gives)
 
 pub returns-in-Err-clause-started : goal.returns-in-Err-clause-started
 returns-in-Err-clause-started g c = λ e. faulted_started c.in-Err.fault c.from.result c.from.ensures (same_fault c.from.result t.Start _ refl e)

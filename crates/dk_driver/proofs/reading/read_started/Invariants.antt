@@ -1,7 +1,8 @@
-use Rattle.std.proofs.Common.{◌≡◌, ◌≤◌, ◌-◌, ◌+◌, ◌*◌, not, IfSome, if◌then◌else◌}
+use Rattle.std.proofs.Common.{◌≡◌, ◌≤◌, ◌-◌, ◌+◌, ◌*◌, List, not, IfSome, if◌then◌else◌}
 use Rattle.dk_blocks.specs.History.{History}
 use Rattle.dk_events.specs.Standing.{ignores_of, over_of}
 use Rattle.dk_lines.specs.Reading.{left_of}
+use Rattle.dk_driver.specs.Consuming.{Record}
 use Rattle.dk_driver.specs.Standing.{StandsFor, points_of}
 use Rattle.dk_driver.specs.WholeFile.{FileGoesOn}
 use Rattle.dk_driver.proofs.reading.read_started.Given as goal
@@ -14,8 +15,9 @@ invariant-steps g l = record {
   ignores : ignores_of l.feed.events ≡ ignores_of l.fn.feed.events;
   files : g.I.Inputs.file l.inputs ≡ g.I.Inputs.file l.fn.inputs;
   later : g.I.Inputs.faults l.fn.inputs ≤ g.I.Inputs.faults l.inputs;
-  goes : (h : History) → StandsFor g.C.Consumer.stands l.fn.feed h → IfSome (left_of l.fn.lines (g.I.Inputs.rest l.fn.inputs))
-      (λ xs. FileGoesOn (ignores_of l.fn.feed.events) h l.fn.lines xs (StandsFor g.C.Consumer.stands l.feed) (over_of l.feed.events) l.lines (left_of l.lines (g.I.Inputs.rest l.inputs)));
+  given : g.C.Consumer.given l.feed.consumer ≡ g.C.Consumer.given l.fn.feed.consumer;
+  goes : (h : History) (records : List Record) → StandsFor g.C.Consumer.stands l.fn.feed h records → IfSome (left_of l.fn.lines (g.I.Inputs.rest l.fn.inputs))
+      (λ xs. FileGoesOn (ignores_of l.fn.feed.events) l.fn.place h records l.fn.lines xs (StandsFor g.C.Consumer.stands l.feed) (over_of l.feed.events) l.lines (left_of l.lines (g.I.Inputs.rest l.inputs)));
 }
 
 abbrev pub decreases-steps : goal.decreases-steps

@@ -1,4 +1,4 @@
-use Rattle.std.proofs.Common.{◌≡◌, IfSome, List, Option, Some, None, Result, Ok, refl, rules, subst, sym}
+use Rattle.std.proofs.Common.{◌≡◌, ◌∙◌, IfSome, List, Option, Some, None, Result, Ok, refl, rules, subst, sym}
 use Rattle.dk_base.specs.declared.faults.Fault.{Fault}
 use Rattle.dk_blocks.specs.Standing.{left_with_answer}
 use Rattle.dk_events.specs.Standing.{NextEvent, points_of}
@@ -6,7 +6,6 @@ use Rattle.dk_events.specs.Telling.{PointsGoOn}
 use Rattle.dk_events.specs.declared.event.Event.{Event}
 use Rattle.dk_lines.specs.Reading.{left_of}
 use Rattle.dk_points.specs.Table.{Point}
-use Rattle.dk_driver.specs.Consuming.{Tells}
 use Rattle.dk_driver.proofs.Taking.{none_on, taken_on}
 use Rattle.dk_driver.proofs.feed.Feed.next.Goals as goal
 
@@ -20,11 +19,10 @@ take-requires-clause-behind g c =
     )
 
 pub returns-in-Ok-clause-gives : goal.returns-in-Ok-clause-gives
-returns-in-Ok-clause-gives g c h stands =
+returns-in-Ok-clause-gives g c h records stands =
     let is : c.next.result ≡ Ok (Some c.in-Ok-Some.event) = search rules in
-    taken_on g.C.Consumer.stands c.args.self.now (record c.args.self.now { events = c.next.new.self; consumer = c.take.new.self }) c.next.new.self h c.args.lines.now c.next.new.lines _ _ c.in-Ok-Some.event refl
-    (λ ps samples all stand tells. subst (λ (l : List Point). g.C.Consumer.stands c.take.new.self l all) c.points.ensures.points
-    (c.in-Ok.ensures.stands ps samples all stand (subst (λ (l : List Point). Tells c.in-Ok-Some.event ps samples l all) (sym c.points.ensures.points) tells)))
+    taken_on g.C.Consumer.stands c.args.place c.args.self.now (record c.args.self.now { events = c.next.new.self; consumer = c.take.new.self }) c.next.new.self h records c.args.lines.now c.next.new.lines _ _ c.in-Ok-Some.event refl
+    (λ old all points stand tells. c.in-Ok.ensures.stands old all (points ∙ sym c.points.ensures.points) stand tells)
     stands
     (subst (λ (r : Result (Option Event) Fault). IfSome (left_of c.args.lines.now (g.I.Inputs.rest c.args.inputs.now)) (λ xs. NextEvent c.args.self.now.events h c.args.lines.now xs (left_with_answer c.next.new.self r) c.next.new.lines (left_of c.next.new.lines (g.I.Inputs.rest c.next.new.inputs)))) is
     (c.next.ensures.gives h stands.events))
@@ -37,8 +35,8 @@ returns-in-Ok-None-clause-fits g c =
     subst (λ (ps : List Point). g.C.Consumer.fits c.args.self.now.consumer ps) (sym same) c.requires.fits
 
 pub returns-in-Ok-None-clause-gives : goal.returns-in-Ok-None-clause-gives
-returns-in-Ok-None-clause-gives g c h stands =
+returns-in-Ok-None-clause-gives g c h records stands =
     let is : c.next.result ≡ Ok None = search rules in
-    none_on g.C.Consumer.stands c.args.self.now (record c.args.self.now { events = c.next.new.self }) h c.args.lines.now c.next.new.lines _ _ refl stands
+    none_on g.C.Consumer.stands c.args.place c.args.self.now (record c.args.self.now { events = c.next.new.self }) h records c.args.lines.now c.next.new.lines _ _ refl stands
     (subst (λ (r : Result (Option Event) Fault). IfSome (left_of c.args.lines.now (g.I.Inputs.rest c.args.inputs.now)) (λ xs. NextEvent c.args.self.now.events h c.args.lines.now xs (left_with_answer c.next.new.self r) c.next.new.lines (left_of c.next.new.lines (g.I.Inputs.rest c.next.new.inputs)))) is
     (c.next.ensures.gives h stands.events))

@@ -1,5 +1,0 @@
-use Rattle.dk_check.proofs.Walks.{go_on}
-use Rattle.dk_check.proofs.laws.records_go_on.Goals as goal
-
-pub returns : goal.returns
-returns c = go_on

@@ -1,0 +1,4 @@
+pub mod Completing
+pub mod Opening
+pub mod Saying
+pub mod Writing

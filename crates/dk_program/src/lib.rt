@@ -1,0 +1,20 @@
+//! Programs that read files of declarations and records, and then write a report.
+//!
+//! A program implements `Arguments` and `Consumer`, `Program` for its report, which may be in parts, and `Begins`, or `Opens` where it reads
+//! another file in front; `run_program` or `run_opening` does the rest: words, help and version, files, messages, and the status. A program
+//! of another kind may end by `end_with`, `tell_usage` and `tell_fault`.
+#![tactic(auto)]
+
+#[cfg(test)]
+mod examples;
+mod program;
+mod reporting;
+mod running;
+mod telling;
+
+pub use program::{Begins, Opens, Program};
+pub use reporting::{InParts, tell_parts};
+pub use running::{run_opening, run_program};
+pub use telling::{
+    end_with, tell_fault, tell_file_fault, tell_help, tell_usage, tell_version,
+};
