@@ -10,11 +10,17 @@ use Rattle.dk_expr.specs.Reads.{HasNone, IsRead}
 use Rattle.dk_expr.specs.declared.assertions.Assertion.{Assertion}
 use Rattle.dk_functions.specs.Functions.{assertion_if, closing, comment_if, opening}
 use Rattle.dk_languages.specs.declared.languages.Language.{Language}
-use Rattle.dk_formats.specs.Saying.{AreSaid, Said, Says}
-use Rattle.dk_formats.specs.Steps.{AddsJson, AddsSection, AreParts}
-use Rattle.dk_formats.specs.Telling.{assertion_of, comment_of, expression_of, json_line}
+use Rattle.dk_formats.specs.Saying.{AreSaid, Said, SaidSection, Says, vars_under}
+use Rattle.dk_formats.specs.Steps.{AddsJson, AddsSection, AddsSections, AreParts}
+use Rattle.dk_formats.specs.Telling.{assertion_of, comment_of, expression_of, json_line, section_text}
+use Rattle.dk_points.specs.Table.{Point}
+use Rattle.dk_formats.specs.declared.formats.Format.{Format}
 use Rattle.dk_formats.specs.declared.formats.Format.TheVariants as format
 use Rattle.dk_formats.specs.declared.functions.Parts.{Parts}
+
+-- what is said of a section
+abbrev IsSaidAt : List Point → SaidSection → Type 0
+IsSaidAt ps s = AreSaid (vars_under ps s.section.point) s.section.lines s.lines
 
 -- ---- what is read
 pub says_by : (infos : List VarInfo) (text given : List ℕ) (says : Option Assertion) → given ≡ text → IfSome says (λ a. IsRead infos given a)
@@ -100,4 +106,29 @@ function_added l infos section parts old one two three new are first second thir
       said = are.said;
       are_said = are.are_said;
       added = fourth ∙ ap (λ (t : List ℕ). t ++ closing l) three_is ∙ append_assoc old ((comments ++ begins) ++ assertions) (closing l);
+    }
+
+-- ---- reports
+pub no_sections : (f : Format) (ps : List Point) (text : List ℕ) → AddsSections f ps [] text text
+no_sections f ps text = record {
+  said = [];
+  are_said = record { sections_are = refl; each = All-nil (IsSaidAt ps) };
+  added = sym (append-nil text);
+}
+
+pub more_sections : (f : Format) (ps : List Point) (sections : List Section) (i : ℕ) (section : Section) → i < length sections
+    → section ≡ get_or sections i section → (old mid new : List ℕ) → AddsSections f ps (take i sections) old mid
+    → AddsSection f (vars_under ps section.point) section mid new → AddsSections f ps (take (i + 1) sections) old new
+more_sections f ps sections i section within here old mid new adds one =
+    let last : SaidSection = record { section = section; lines = one.said } in
+    let longer : take i sections ++ section ∷ [] ≡ take (i + 1) sections =
+    ap (λ (s : Section). take i sections ++ s ∷ []) here ∙ sym (take_more sections i section within) in
+    record {
+      said = adds.said ++ last ∷ [];
+      are_said = record {
+        sections_are = map-append (λ (s : SaidSection). s.section) adds.said (last ∷ [])
+            ∙ ap (λ (l : List Section). l ++ section ∷ []) adds.are_said.sections_are ∙ longer;
+        each = All-push (IsSaidAt ps) adds.said last adds.are_said.each one.are_said;
+      };
+      added = one.added ∙ ap (λ (t : List ℕ). t ++ section_text f ps last) adds.added ∙ flat_map_more (section_text f ps) old adds.said last;
     }

@@ -1,29 +1,17 @@
-// The sections of a report.
+// A section of a report.
 ghost use Rattle.std.specs.Prelude.{◌≡◌, ◌<◌, ◌^◌, OnOk, length};
 ghost use Rattle.dk_formats.specs.Steps.{AddsSection};
-ghost use Rattle.dk_formats.specs.Telling.{front_text};
 
 use crate::Format;
 use crate::functions::push_function;
 use crate::json::push_json;
 use dk_base::{NoMemory, Text, VarInfo};
 use dk_claims::Section;
-use dk_functions::preamble;
 use std::alloc::Global;
-
-/// What stands in front of all sections.
-pub fn front_text(format: Format) -> &'static str
-    ensures { result.now ≡ front_text format }
-{
-    match format {
-        Format::Json => "",
-        Format::In(language) => preamble(language),
-    }
-}
 
 /// A section, behind the text. The variables are those of its point, derived ones included; none where the point is not known, as of a
 /// name that no declaration has. There must be fewer than 2^32 of them.
-pub fn push_section(
+pub(crate) fn push_section(
     alloc: Global,
     text: &mut Text,
     format: Format,

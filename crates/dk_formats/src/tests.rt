@@ -1,5 +1,6 @@
 // A section of a small report in each format, put together by hand.
-use crate::{Format, push_section};
+use crate::Format;
+use crate::sections::push_section;
 use dk_base::{Compar, Form, Kind, List, NoMemory, Text, VarId, VarInfo};
 use dk_claims::Sections;
 use dk_languages::Language;

@@ -31,6 +31,10 @@ function_name l point = codes "holds_at_" ++ map word_byte point
 abbrev pub joined : List ℕ → List (List ℕ) → List ℕ
 joined between texts = join_by (λ (text : List ℕ). text) between texts
 
+-- where one of SMT-LIB begins, up to its parameters
+abbrev pub smtlib_head : List ℕ → List ℕ
+smtlib_head point = codes "; " ++ quoted point ++ codes "\n(define-fun " ++ function_name language.Smtlib point ++ codes " ("
+
 -- where it begins; a macro of C speaks of the names that are in scope where it stands
 abbrev pub opening : Language → List VarInfo → List ℕ → List ℕ
 opening language.Python infos point =
@@ -40,8 +44,7 @@ opening language.C infos point =
     codes "// " ++ quoted point ++ codes ", of " ++ joined (codes ", ") (parameter_texts language.C infos) ++ codes "\n#define "
     ++ function_name language.C point ++ codes "() do { \\\n"
 opening language.Smtlib infos point =
-    codes "; " ++ quoted point ++ codes "\n(define-fun " ++ function_name language.Smtlib point ++ codes " ("
-    ++ joined (codes " ") (parameter_texts language.Smtlib infos) ++ codes ") Bool (and true\n"
+    smtlib_head point ++ joined (codes " ") (parameter_texts language.Smtlib infos) ++ codes ") Bool (and true\n"
 
 abbrev pub closing : Language → List ℕ
 closing language.Python = codes "\n\n"

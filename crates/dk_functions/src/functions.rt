@@ -1,6 +1,6 @@
 // The function of a point.
 ghost use Rattle.std.specs.Prelude.{◌≡◌, ◌++◌, OnOk, map};
-ghost use Rattle.dk_functions.specs.Functions.{assertion, closing, comment, function_name, mark, opening, preamble, symbol_byte};
+ghost use Rattle.dk_functions.specs.Functions.{assertion, closing, comment, function_name, mark, opening, preamble, smtlib_head, symbol_byte};
 
 use crate::parameters::push_parameters;
 use crate::quoting::push_quoted;
@@ -89,6 +89,17 @@ fn push_c_opening(
     text.append(b"() do { \\\n")
 }
 
+// Where a function of SMT-LIB begins, up to its parameters.
+fn push_smtlib_head(text: &mut Text, point: &[u8]) -> Result<(), NoMemory>
+    ensures { OnOk result (text.new ≡ text.old ++ smtlib_head point.now) }
+{
+    text.append(b"; ")?;
+    push_quoted(text, point)?;
+    text.append(b"\n(define-fun ")?;
+    push_symbol_name(text, point)?;
+    text.append(b" (")
+}
+
 fn push_smtlib_opening(
     alloc: Global,
     text: &mut Text,
@@ -97,11 +108,7 @@ fn push_smtlib_opening(
 ) -> Result<(), NoMemory>
     ensures { OnOk result (text.new ≡ text.old ++ opening Language.Smtlib infos.now point.now) }
 {
-    text.append(b"; ")?;
-    push_quoted(text, point)?;
-    text.append(b"\n(define-fun ")?;
-    push_symbol_name(text, point)?;
-    text.append(b" (")?;
+    push_smtlib_head(text, point)?;
     push_parameters(alloc, text, Language::Smtlib, infos, " ")?;
     text.append(b") Bool (and true\n")
 }

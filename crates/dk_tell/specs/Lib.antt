@@ -1,0 +1,6 @@
+-- cited by public clauses
+pub mod Statuses
+pub mod Requests
+pub mod Texts
+-- what those are made of
+pub mod Reports

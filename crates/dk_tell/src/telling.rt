@@ -1,0 +1,31 @@
+// The report in its format.
+use crate::{Command, Reported};
+use dk_base::NoMemory;
+use dk_driver::{Feed, Traces};
+use dk_events::Ended;
+use dk_formats::report;
+use dk_io::{Sinks, Stream};
+use dk_program::{Program, end_with};
+use std::alloc::Global;
+
+impl Program for Command {
+    ghost use Rattle.dk_tell.specs.Reports.{IsToldOf};
+
+    type Kept = Reported;
+
+    ghost traces = { λ command. command.traces };
+
+    ghost is_report = { λ command sections told text. IsToldOf command.format sections told text };
+
+    fn traces(&self) -> &Traces {
+        &self.traces
+    }
+
+    fn tell<S: Sinks>(&self, alloc: Global, feed: Feed<Reported>, sinks: &mut S) -> Ended {
+        let sections = feed.consumer().sections.as_slice();
+        match report(alloc, self.format, feed.points(), sections) {
+            Ok(text) => end_with(sinks, Stream::Report, text.as_slice(), Ended::Done),
+            Err(NoMemory) => Ended::NoMemory,
+        }
+    }
+}
