@@ -25,17 +25,7 @@ started_claims r is_ended xs fresh limits room =
 
 -- what reading it says, whatever its bytes are
 module _ (r last : Reading) (left : Option (List ℕ)) (fresh : r ≡ fresh_reading r) (limits : r.limits ≡ standard_limits) (room : room_of r ≡ total_limit) where
-  -- its claims
-  pub claims_told : (o : Option (List ℕ)) (claims : List Claim) (c : Checking) → claims_of c ≡ claims → IfSome o (λ xs. ClaimsGive r xs (Ok claims) last left)
-      → IfSome o (λ xs. OpeningGives claims_in claims_of xs (Ok c) last left)
-  claims_told None claims c same gives = tt
-  claims_told (Some xs) claims c same e = (
-    sym (started_claims r _ xs fresh limits room) ∙ e.all ∙ ap (λ (l : List Claim). Ok l) (sym same),
-    e.room ∙ ap (λ (n : ℕ). n - length xs) room,
-    e.nothing_left,
-  )
-
-  -- or why they are not read
+  -- why its claims are not read
   pub fault_told : (o : Option (List ℕ)) (x : LineFault) → IfSome o (λ xs. ClaimsGive r xs (Err x) last left)
       → IfSome o (λ xs. OpeningGives {K = Checking} claims_in claims_of xs (Err (fault_of x)) last left)
   fault_told None x gives = tt
@@ -48,27 +38,3 @@ module _ (r last : Reading) (left : Option (List ℕ)) (fresh : r ≡ fresh_read
     fine = sym (started_claims r false e.front fresh limits room) ∙ e.all;
   }
   fault_told (Some xs) fault.NoMemory e = tt
-
-  -- or memory ran out
-  pub memory_told : (o : Option (List ℕ)) → IfSome o (λ xs. OpeningGives {K = Checking} claims_in claims_of xs (Err file.NoMemory) last left)
-  memory_told None = tt
-  memory_told (Some xs) = tt
-
--- ---- which faults come
-pub of_bytes : (x : LineFault) → IsOfMay IsOfBytes (fault_of x)
-of_bytes (fault.LongLine n) = inl refl
-of_bytes (fault.TooLong n) = inr refl
-of_bytes fault.Read = tt
-of_bytes fault.NoMemory = tt
-
-pub not_start : (x : LineFault) → fault_of x ≡ file.Start → ⊥
-not_start (fault.LongLine n) e = cc e
-not_start (fault.TooLong n) e = cc e
-not_start fault.Read e = cc e
-not_start fault.NoMemory e = cc e
-
-pub read_of : (x : LineFault) → fault_of x ≡ file.Read → x ≡ fault.Read
-read_of (fault.LongLine n) e = absurd (cc e)
-read_of (fault.TooLong n) e = absurd (cc e)
-read_of fault.Read e = refl
-read_of fault.NoMemory e = absurd (cc e)

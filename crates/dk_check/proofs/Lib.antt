@@ -1,4 +1,5 @@
 mod Asked
 mod Claiming
+mod Judged
 mod Taking
 mod VerdictLines

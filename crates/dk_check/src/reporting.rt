@@ -4,6 +4,7 @@ ghost use Rattle.dk_blocks.specs.History.{History};
 ghost use Rattle.dk_driver.specs.Consuming.{Record};
 ghost use Rattle.dk_driver.specs.Files.{file_name_at};
 ghost use Rattle.dk_driver.specs.Standing.{StandsFor as FeedStandsFor, points_of, told_by};
+ghost use Rattle.dk_program.specs.Ending.{ReportEnds};
 ghost use Rattle.dk_verdicts.specs.Reports.{IsNamed, verdict_lines};
 ghost use Rattle.dk_check.specs.Standing.{IsKeptUp, StandsFor, claims_of};
 ghost use Rattle.dk_check.specs.Statuses.{IsReportOf};
@@ -74,7 +75,11 @@ impl Program for Command {
         &self.traces
     }
 
-    fn tell<S: Sinks>(&self, alloc: Global, feed: Feed<Checking>, sinks: &mut S) -> Ended {
+    fn tell<S: Sinks>(&self, alloc: Global, feed: Feed<Checking>, sinks: &mut S) -> Ended
+        requires { IsKeptUp feed.consumer (points_of feed) }
+        ensures { ReportEnds (FeedStandsFor StandsFor feed) (λ h records. IsReportOf self.now.traces.names (claims_of feed.consumer) (told_by h records))
+            (S.written sinks.old) (S.written sinks.new) (S.faults sinks.old) (S.faults sinks.new) result }
+    {
         match report(alloc, self.traces.names.as_slice(), feed) {
             Ok(text) => end_with(sinks, Stream::Report, text.as_slice(), Ended::Done),
             Err(NoMemory) => Ended::NoMemory,

@@ -2,10 +2,10 @@
 //! whether it holds in all samples of its point.
 #![tactic(auto)]
 
+use dk_check::{run_check, tell_usage};
 use dk_events::Ended;
 use dk_io::{Inputs, Sinks};
 use dk_main::{Main, run_main};
-use dk_check::{run_check, tell_usage};
 use std::alloc::Global;
 use std::process::ExitCode;
 

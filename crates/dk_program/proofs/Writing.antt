@@ -12,6 +12,9 @@ use Rattle.dk_io.specs.Streams.{Texts, with_bytes}
 use Rattle.dk_io.specs.declared.outside.Stream.{Stream}
 use Rattle.dk_io.specs.declared.outside.Stream.TheVariants.{Report, Messages, State}
 use Rattle.dk_driver.specs.Consuming.{Record}
+use Rattle.dk_events.specs.declared.ended.Ended.{Ended}
+use Rattle.dk_events.specs.declared.ended.Ended.TheVariants.{Done}
+use Rattle.dk_program.specs.Ending.{EndsWith, ReportEnds}
 use Rattle.dk_program.specs.Telling.{BeginsOne, CutOff, CutsText, HaltHasCause, ToldWhole}
 use Rattle.dk_program.specs.declared.reporting.Halt.{Halt}
 use Rattle.dk_program.specs.declared.reporting.Halt.TheVariants.{Write, NoMemory}
@@ -140,6 +143,16 @@ module _ (Stands : History → List Record → Type 0) where
   pub told_same : (due other : History → List Record → List ℕ) (old new : Texts) (before after : ℕ) → ((h : History) (records : List Record) → Stands h records → due h records ≡ other h records)
       → ToldWhole Stands (Only due) old new before after → ToldWhole Stands (Only other) old new before after
   told_same due other old new before after same a = record { text = a.text; written = a.written; holds = λ h records stands. a.holds h records stands ∙ same h records stands; calm = a.calm }
+
+-- ---- a report that is made whole
+module _ (Stands : History → List Record → Type 0) (IsDue : History → List Record → List ℕ → Type 0) (old new : Texts) (before after : ℕ) (result : Ended) where
+  -- it was written, or a front of it
+  pub whole_ends : (text : List ℕ) → ((h : History) (records : List Record) → Stands h records → IsDue h records text) → EndsWith Done Report text old new before after result
+      → ReportEnds Stands IsDue old new before after result
+  whole_ends text due (inl (is, e, calm)) = inl (is, record { text = text; written = e; holds = due; calm = calm })
+  whole_ends text due (inr (inl (is, rose, (n, short, e)))) =
+      inr (Write, is, record { written = inr (take n text, e, λ h records stands. (text, due h records stands, front_take n text short)); cause = rose })
+  whole_ends text due (inr (inr (is, e, calm))) = inr (NoMemory, is, record { written = inl e; cause = calm })
 
 -- ---- the parts, one after another
 abbrev pub parts_to : (ℕ → List ℕ) → ℕ → List ℕ

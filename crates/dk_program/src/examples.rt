@@ -1,4 +1,9 @@
 // Worked examples: a program that lists the points that files declare, with how its runs end and what they write.
+ghost use Rattle.std.specs.Prelude.{◌≡◌};
+ghost use Rattle.dk_driver.specs.Standing.{StandsFor};
+ghost use Rattle.dk_program.specs.Ending.{ReportEnds};
+ghost use Rattle.dk_program.specs.Examples.{listed};
+
 use crate::{Begins, InParts, Program, run_program, tell_parts};
 use dk_arguments::{Argument, Arguments, ArgumentsFault, Description, Form, Matches};
 use dk_base::{List, NoMemory, PointId, Text};
@@ -66,17 +71,13 @@ impl Consumer for Blind {
 
     ghost stands = { λ _ _. Unit {0} };
 
-    fn take(
-        &mut self,
-        _points: &Points,
-        _file: usize,
-        _event: Event<'_>,
-    ) -> Result<(), NoMemory> {
+    fn take(&mut self, _points: &Points, _file: usize, _event: Event<'_>) -> Result<(), NoMemory> {
         Ok(())
     }
 }
 
 impl Program for Listing {
+    ghost use Rattle.std.specs.Prelude.{◌≡◌};
     ghost use Rattle.dk_program.specs.Examples.{listed};
 
     type Kept = Blind;
@@ -89,7 +90,10 @@ impl Program for Listing {
         &self.traces
     }
 
-    fn tell<S: Sinks>(&self, alloc: Global, feed: Feed<Blind>, sinks: &mut S) -> Ended {
+    fn tell<S: Sinks>(&self, alloc: Global, feed: Feed<Blind>, sinks: &mut S) -> Ended
+        ensures { ReportEnds (StandsFor (λ _ _. Unit {0}) feed) (λ h records text. text ≡ listed h.table)
+            (S.written sinks.old) (S.written sinks.new) (S.faults sinks.old) (S.faults sinks.new) result }
+    {
         tell_parts(alloc, self, &feed, sinks)
     }
 }
@@ -105,6 +109,8 @@ impl Begins for Listing {
 impl InParts for Listing {
     ghost use Rattle.std.specs.Prelude.{length};
     ghost use Rattle.dk_program.specs.Examples.{point_line};
+
+    type Kept = Blind;
 
     ghost part_count = { λ _ ps. length ps };
 

@@ -15,6 +15,4 @@ mod telling;
 pub use program::{Begins, Opens, Program};
 pub use reporting::{InParts, tell_parts};
 pub use running::{run_opening, run_program};
-pub use telling::{
-    end_with, tell_fault, tell_file_fault, tell_help, tell_usage, tell_version,
-};
+pub use telling::{end_with, tell_fault, tell_file_fault, tell_help, tell_usage, tell_version};

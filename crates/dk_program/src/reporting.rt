@@ -7,15 +7,17 @@ ghost use Rattle.dk_points.specs.Table.{Point};
 ghost use Rattle.dk_program.specs.Ending.{ReportEnds, status_of as status_by};
 ghost use Rattle.dk_program.specs.Telling.{TellsOutcome, WritesText, in_parts};
 
-use crate::Program;
 use dk_base::{NoMemory, Text};
-use dk_driver::Feed;
+use dk_driver::{Consumer, Feed};
 use dk_events::Ended;
 use dk_io::{Failed, Sinks, Stream, write_all};
 use std::alloc::Global;
 
-/// A program whose report has parts.
-pub trait InParts: Program {
+/// A report that has parts.
+pub trait InParts: Sized {
+    /// What took the points and samples.
+    type Kept: Consumer;
+
     /// How many parts the report on these points has.
     ghost part_count: { Self → List Point → ℕ };
 

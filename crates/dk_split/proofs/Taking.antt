@@ -61,7 +61,7 @@ behind_fit ps' e splits all (ps, are, goes) takes = still_fit ps ps' e splits al
 grown_stand : (s new : Splits) (old all : Told) → StandsFor s old.points old.samples → DeclaresMore old all → AreGrown all.points s.splits.items new.splits.items → StandsFor new all.points all.samples
 grown_stand s new old all stands more grown = record {
   long = grown.long;
-  many = omega (arith, ap length more.samples_are, length-append old.samples (replicate (length more.more) []), length-replicate (length more.more) [], ap length more.points_are, length-append old.points more.more, stands.many);
+  many = omega (arith, ap length more.samples_are, length-append old.samples (replicate (length more.more) []), length-replicate {A = List (List Value)} (length more.more) [], ap length more.points_are, length-append old.points more.more, stands.many);
   splits = subst (λ (own : OwnSamples). SplitsStandFor new.splits.items (own_samples_of all.points own)) (sym more.samples_are)
       (stand_grown old.points all.points s.splits.items new.splits.items old.samples (length more.more) (more.more, more.points_are) stands.many stands.long grown stands.splits);
 }

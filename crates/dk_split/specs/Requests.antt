@@ -1,5 +1,5 @@
 -- What the words of the command ask for.
-use Rattle.std.specs.Prelude.{◌∷◌, [], List, Option, Some, codes, unwrap_or}
+use Rattle.std.specs.Prelude.{◌∷◌, [], List, Option, Some, codes, false, unwrap_or}
 use Rattle.clap.specs.Words.{Row, Text}
 use Rattle.dk_arguments.specs.Descriptions.{Command as Described, flag, number, positionals}
 use Rattle.dk_arguments.specs.Given.{is_given, number_at, texts_at}

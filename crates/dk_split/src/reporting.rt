@@ -1,4 +1,10 @@
 // The report: a section for each point.
+ghost use Rattle.std.specs.Prelude.{◌≡◌};
+ghost use Rattle.dk_driver.specs.Standing.{StandsFor as FeedStandsFor, points_of, told_by};
+ghost use Rattle.dk_program.specs.Ending.{ReportEnds};
+ghost use Rattle.dk_split.specs.Standing.{AreSplitsOf, StandsFor};
+ghost use Rattle.dk_split.specs.Statuses.{report_of};
+
 use crate::{Command, Splits};
 use dk_base::{NoMemory, PointId, Text};
 use dk_driver::{Feed, Traces};
@@ -8,6 +14,7 @@ use dk_program::{Begins, InParts, Program, tell_parts};
 use std::alloc::Global;
 
 impl Program for Command {
+    ghost use Rattle.std.specs.Prelude.{◌≡◌};
     ghost use Rattle.dk_split.specs.Statuses.{report_of};
 
     type Kept = Splits;
@@ -20,7 +27,11 @@ impl Program for Command {
         &self.traces
     }
 
-    fn tell<S: Sinks>(&self, alloc: Global, feed: Feed<Splits>, sinks: &mut S) -> Ended {
+    fn tell<S: Sinks>(&self, alloc: Global, feed: Feed<Splits>, sinks: &mut S) -> Ended
+        requires { AreSplitsOf (points_of feed) feed.consumer.splits.items }
+        ensures { ReportEnds (FeedStandsFor (λ s told. StandsFor s told.points told.samples) feed) (λ h records text. text ≡ report_of self.now (told_by h records))
+            (S.written sinks.old) (S.written sinks.new) (S.faults sinks.old) (S.faults sinks.new) result }
+    {
         tell_parts(alloc, self, &feed, sinks)
     }
 }
@@ -37,6 +48,8 @@ impl InParts for Command {
     ghost use Rattle.std.specs.Prelude.{length};
     ghost use Rattle.dk_halves.specs.Reports.{implications_at};
     ghost use Rattle.dk_template.specs.declared.grammar.Grammar.TheVariants.{Two};
+
+    type Kept = Splits;
 
     ghost part_count = { λ _ ps. length ps };
 

@@ -15,5 +15,5 @@ returns c =
     let table : c.points-points.result.now ≡ h.table = c.points-points.ensures.table h records stands in
     subst (λ (ps : List Point). c.push_section.new.text ≡ c.args.text.now ++ implications_at Two c.args.self.now.least ps h.samples c.args.place) table
     (says h.samples (subst (λ (ps : List Point). StandsFor c.consumer.result.now ps h.samples) (sym table)
-        (subst (λ (s : Splits). StandsFor s h.table h.samples) (sym c.consumer.ensures) stands.consumer))))
+    (subst (λ (s : Splits). StandsFor s h.table h.samples) (sym c.consumer.ensures) stands.consumer))))
     c.push_section.ensures
