@@ -12,13 +12,15 @@ pub struct Reported {
 }
 
 impl Consumer for Reported {
+    ghost use Rattle.dk_tell.specs.Standing.{Fits, Stands, sections_of};
+
     type Given = List<Section>;
 
-    ghost given = { λ reported. reported.sections };
+    ghost given = { sections_of };
 
-    ghost fits = { λ _ _. Unit {0} };
+    ghost fits = { Fits };
 
-    ghost stands = { λ _ _. Unit {0} };
+    ghost stands = { Stands };
 
     fn take(
         &mut self,

@@ -1,4 +1,9 @@
 // The report in its format.
+ghost use Rattle.dk_driver.specs.Standing.{StandsFor as FeedStandsFor, told_by};
+ghost use Rattle.dk_program.specs.Ending.{ReportEnds};
+ghost use Rattle.dk_tell.specs.Reports.{IsToldOf};
+ghost use Rattle.dk_tell.specs.Standing.{Stands, sections_of};
+
 use crate::{Command, Reported};
 use dk_base::NoMemory;
 use dk_driver::{Feed, Traces};
@@ -21,7 +26,10 @@ impl Program for Command {
         &self.traces
     }
 
-    fn tell<S: Sinks>(&self, alloc: Global, feed: Feed<Reported>, sinks: &mut S) -> Ended {
+    fn tell<S: Sinks>(&self, alloc: Global, feed: Feed<Reported>, sinks: &mut S) -> Ended
+        ensures { ReportEnds (FeedStandsFor Stands feed) (λ h records. IsToldOf self.now.format (sections_of feed.consumer) (told_by h records))
+            (S.written sinks.old) (S.written sinks.new) (S.faults sinks.old) (S.faults sinks.new) result }
+    {
         let sections = feed.consumer().sections.as_slice();
         match report(alloc, self.format, feed.points(), sections) {
             Ok(text) => end_with(sinks, Stream::Report, text.as_slice(), Ended::Done),

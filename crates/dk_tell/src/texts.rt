@@ -17,9 +17,9 @@ another language.
   REPORT                  a report, or lines like its lines: one of =, the name
                           of a point, and the texts that are claimed of it
   FILE                    a file to read; one that is named twice is read twice
-  --format FORMAT         json: an object a line, the default; python: a
-                          function of asserts a point; c: a macro a point;
-                          smtlib: a function a point, for a solver
+  --format FORMAT         tell the lines as json, an object a line (default);
+                          python, a function of asserts a point; c, a macro a
+                          point; or smtlib, a function a point
   --ignore-missing-entry  leave out exits without an entry, default refuse them
   -h, --help              print this text and read nothing
   -V, --version           print the name and the version and read nothing
