@@ -32,7 +32,7 @@ module _ (r last : Reading) (left : Option (List ℕ)) (fresh : r ≡ fresh_read
   fault_told (Some xs) fault.Read e = record {
     delivered = record { bytes = e.front; is_ended = false };
     is_delivered = (e.rest, e.left_is, e.split, λ ended. absurd (cc ended));
-    given = e.claims;
+    given = e.made;
     fine = sym (started_claims r false e.front fresh limits room) ∙ e.all;
   }
   fault_told (Some xs) fault.NoMemory e = tt

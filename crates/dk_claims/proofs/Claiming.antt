@@ -1,29 +1,19 @@
 -- Claims of lines, one after another.
-use Rattle.std.proofs.Common.{◌≡◌, ◌∙◌, ◌&&◌, ◌||◌, ◌++◌, not, sym, ap, refl, ℕ, Bool, true, false, cond, List, [], ◌∷◌, filter, map, append_assoc}
-use Rattle.std.proofs.lemmas.List.{append-nil}
+use Rattle.std.proofs.Common.{◌≡◌, ◌∙◌, ◌||◌, ◌++◌, not, sym, ap, refl, ℕ, Bool, true, false, cond, List, [], ◌∷◌, filter, map, append_assoc}
 use Rattle.std.proofs.lemmas.List.Elements.{All-head, All-tail, filter-append}
 use Rattle.dk_claims.specs.Claims.{claim_in, claims_below, claims_of, is_blank_line, is_remark, is_ruler, name_below, written_lines}
 use Rattle.dk_claims.specs.Counts.{without_count}
 use Rattle.dk_claims.specs.Laws.{HeadingsPart, LinesBelowAHeadingClaim}
-use Rattle.dk_claims.specs.Standing.{StandsFor}
-use Rattle.dk_claims.specs.Steps.{IsBehind}
 use Rattle.dk_claims.specs.declared.claims.Claim.{Claim}
-use Rattle.dk_claims.specs.declared.claims.Claims.{Claims}
 
 -- ---- blank lines
-blank_left_out : (line : List ℕ) (rest : List (List ℕ)) → is_blank_line line ≡ true → written_lines (line ∷ rest) ≡ written_lines rest
+pub blank_left_out : (line : List ℕ) (rest : List (List ℕ)) → is_blank_line line ≡ true → written_lines (line ∷ rest) ≡ written_lines rest
 blank_left_out line rest h = ap (λ (b : Bool). cond (not b) (line ∷ written_lines rest) (written_lines rest)) h
 
-written_kept : (line : List ℕ) (rest : List (List ℕ)) → is_blank_line line ≡ false → written_lines (line ∷ rest) ≡ line ∷ written_lines rest
+pub written_kept : (line : List ℕ) (rest : List (List ℕ)) → is_blank_line line ≡ false → written_lines (line ∷ rest) ≡ line ∷ written_lines rest
 written_kept line rest h = ap (λ (b : Bool). cond (not b) (line ∷ written_lines rest) (written_lines rest)) h
 
 -- ---- what single lines do
-name_at_ruler : (behind : Bool) (name line : List ℕ) → is_ruler line ≡ true → name_below behind name line ≡ name
-name_at_ruler behind name line h = ap (λ (b : Bool). cond (behind && not b) (without_count line) name) h ∙ none behind where
-  none : (b : Bool) → cond (b && false) (without_count line) name ≡ name
-  none true = refl
-  none false = refl
-
 no_claim_at_ruler : (behind : Bool) (name line : List ℕ) → is_ruler line ≡ true → claim_in behind name line ≡ []
 no_claim_at_ruler behind name line h = ap (λ (b : Bool). cond (behind || b || is_remark line) [] (own ∷ [])) h ∙ none behind where
   own : Claim
@@ -32,49 +22,6 @@ no_claim_at_ruler behind name line h = ap (λ (b : Bool). cond (behind || b || i
   none : (b : Bool) → cond (b || true || is_remark line) [] (own ∷ []) ≡ []
   none true = refl
   none false = refl
-
--- ---- lines so far
-pub stands_for_none : (c : Claims) → c.found ≡ [] → c.heading ≡ [] → c.behind_ruler ≡ false → StandsFor c []
-unfolding claims_of
-stands_for_none c found heading ruler rest =
-    sym (ap (λ (l : List Claim). l ++ claims_below c.behind_ruler c.heading (written_lines rest)) found
-    ∙ ap (λ (b : Bool). claims_below b c.heading (written_lines rest)) ruler
-    ∙ ap (λ (n : List ℕ). claims_below false n (written_lines rest)) heading)
-
-pub all_claims : (c : Claims) (lines : List (List ℕ)) → StandsFor c lines → c.found ≡ claims_of lines
-unfolding claims_below
-all_claims c lines stands =
-    sym (append-nil c.found) ∙ sym (stands []) ∙ ap claims_of (append-nil lines)
-
--- a line in front of the rest
-one_more : (c : Claims) (lines rest : List (List ℕ)) (line : List ℕ) → StandsFor c lines
-    → claims_of ((lines ++ line ∷ []) ++ rest) ≡ c.found ++ claims_below c.behind_ruler c.heading (written_lines (line ∷ rest))
-one_more c lines rest line stands = ap claims_of (append_assoc lines (line ∷ []) rest) ∙ stands (line ∷ rest)
-
-pub stands_at_blank : (c : Claims) (line : List ℕ) → is_blank_line line ≡ true → (lines : List (List ℕ)) → StandsFor c lines → StandsFor c (lines ++ line ∷ [])
-stands_at_blank c line blank lines stands rest =
-    one_more c lines rest line stands
-    ∙ ap (λ (ls : List (List ℕ)). c.found ++ claims_below c.behind_ruler c.heading ls) (blank_left_out line rest blank)
-
-pub stands_behind : (old new : Claims) (line : List ℕ) → is_blank_line line ≡ false → IsBehind old line new
-    → (lines : List (List ℕ)) → StandsFor old lines → StandsFor new (lines ++ line ∷ [])
-unfolding claims_below
-stands_behind old new line written b lines stands rest =
-    one_more old lines rest line stands
-    ∙ ap (λ (ls : List (List ℕ)). old.found ++ claims_below old.behind_ruler old.heading ls) (written_kept line rest written)
-    ∙ sym (append_assoc old.found (claim_in old.behind_ruler old.heading line) (claims_below (is_ruler line) (name_below old.behind_ruler old.heading line) (written_lines rest)))
-    ∙ ap (λ (l : List Claim). l ++ claims_below (is_ruler line) (name_below old.behind_ruler old.heading line) (written_lines rest)) (sym b.found)
-    ∙ ap (λ (r : Bool). new.found ++ claims_below r (name_below old.behind_ruler old.heading line) (written_lines rest)) (sym b.ruler)
-    ∙ ap (λ (n : List ℕ). new.found ++ claims_below new.behind_ruler n (written_lines rest)) (sym b.heading)
-
--- a line of `=`
-pub ruler_behind : (old new : Claims) (line : List ℕ) → is_ruler line ≡ true → new.heading ≡ old.heading → new.found ≡ old.found → new.behind_ruler ≡ true
-    → IsBehind old line new
-ruler_behind old new line is heading found ruler = record {
-  heading = heading ∙ sym (name_at_ruler old.behind_ruler old.heading line is);
-  found = found ∙ sym (append-nil old.found) ∙ ap (λ (l : List Claim). old.found ++ l) (sym (no_claim_at_ruler old.behind_ruler old.heading line is));
-  ruler = ruler ∙ sym is;
-}
 
 -- ---- headings
 -- a heading behind a line of `=`

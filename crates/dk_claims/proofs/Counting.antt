@@ -118,6 +118,14 @@ unfolding without_count
 last_count_is_taken_off [] number h = rw (count_is number h) refl
 last_count_is_taken_off (b ∷ bs) number h = rw (not_yet b bs number) (ap (λ (l : List ℕ). b ∷ l) (last_count_is_taken_off bs number h))
 
+pub without_count_fits : (text : List ℕ) → length (without_count text) ≤ length text
+unfolding without_count
+without_count_fits [] = omega arith
+without_count_fits (b ∷ bs) = go (is_count (b ∷ bs)) (without_count_fits bs) where
+  go : (x : Bool) → length (without_count bs) ≤ length bs → length (cond x [] (b ∷ without_count bs)) ≤ length (b ∷ bs)
+  go true rest = omega arith
+  go false rest = omega (arith, rest)
+
 -- no count is at the end of a text
 abbrev pub HasNone : List ℕ → Type 0
 HasNone text = (front number : List ℕ) → is_number number ≡ true → text ≡ front ++ count_of number → ⊥

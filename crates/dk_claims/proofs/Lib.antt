@@ -1,4 +1,5 @@
 mod Examples
 pub mod Counting
 pub mod Claiming
+pub mod Sectioning
 pub mod Lining

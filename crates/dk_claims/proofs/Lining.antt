@@ -1,4 +1,4 @@
--- Claims of a file whose lines are read one after another.
+-- Sections of a file whose lines are read one after another.
 use Rattle.std.proofs.Common.{◌≡◌, ◌≤◌, ◌<◌, ◌∙◌, ◌+◌, ◌-◌, ◌||◌, ◌++◌, ◌⊎◌, sym, ap, subst, refl, inl, inr, arith, length, map, ℕ, Bool, true, false, cond, List, [], ◌∷◌, append_assoc, length-append, IfSome, Option, Some, None, Result, Ok, Err}
 use Rattle.std.proofs.lemmas.List.{append-nil}
 use Rattle.dk_base.specs.Reading.{Line, LineFault as Fault, ◌>>=◌}
@@ -7,14 +7,18 @@ use Rattle.dk_lines.specs.Left.{Broken, Ends, Left, LongLine, Next, OneLine, Too
 use Rattle.dk_lines.specs.Reading.{Reading, room_of}
 use Rattle.dk_lines.specs.declared.lines.LineFault.{LineFault}
 use Rattle.dk_lines.specs.declared.lines.LineFault.TheVariants as fault
+use Rattle.std.specs.List.{flat_map}
 use Rattle.dk_lines.proofs.Lined.{at_end}
+use Rattle.dk_claims.proofs.Sectioning.{claims_are_of_sections}
 use Rattle.dk_claims.specs.Claims.{claims_of}
 use Rattle.dk_claims.specs.Laws.{WholeFileHasItsClaims}
-use Rattle.dk_claims.specs.Reading.{ClaimsGive, HasClaims, IsBroken, lines_in}
+use Rattle.dk_claims.specs.Reading.{ClaimsGive, IsBroken, IsMade, SectionsGive, lines_in}
+use Rattle.dk_claims.specs.Sections.{section_claims, sections_of}
 use Rattle.dk_claims.specs.Standing.{StandsFor}
 use Rattle.dk_claims.specs.Steps.{Takes, TakesLine}
 use Rattle.dk_claims.specs.declared.claims.Claim.{Claim}
-use Rattle.dk_claims.specs.declared.claims.Claims.{Claims}
+use Rattle.dk_claims.specs.declared.sections.Section.{Section}
+use Rattle.dk_claims.specs.declared.sections.Sections.{Sections}
 
 -- lines, or a fault
 abbrev Found : Type 0
@@ -36,10 +40,10 @@ abbrev IsCut : Reading → List ℕ → List (List ℕ) → Reading → List ℕ
 IsCut old front read new d =
     (lines_in (lines_left old false (front ++ d)) ≡ behind read (lines_in (lines_left new false d))) ⊎ IsFine (lines_in (lines_left old false (front ++ d)))
 
--- within a file: the claims stand for the lines that were read
-pub record GoesTo (old : Reading) (xs : List ℕ) (claims : Claims) (new : Reading) (left : Option (List ℕ)) : Type 0 where
+-- within a file: the kept stand for the lines that were read
+pub record GoesTo (old : Reading) (xs : List ℕ) (kept : Sections) (new : Reading) (left : Option (List ℕ)) : Type 0 where
   pub read : List (List ℕ)
-  pub stands : StandsFor claims read
+  pub stands : StandsFor kept read
   pub ys : List ℕ
   pub left_is : left ≡ Some ys
   pub front : List ℕ
@@ -53,8 +57,8 @@ behind_none (Ok lines) = refl
 behind_none (Err e) = refl
 
 -- in front of the first line
-begins : (old : Reading) (xs : List ℕ) (claims : Claims) → StandsFor claims [] → GoesTo old xs claims old (Some xs)
-begins old xs claims stands = record {
+begins : (old : Reading) (xs : List ℕ) (kept : Sections) → StandsFor kept [] → GoesTo old xs kept old (Some xs)
+begins old xs kept stands = record {
   read = [];
   stands = stands;
   ys = xs;
@@ -66,9 +70,9 @@ begins old xs claims stands = record {
   cut = λ d rest e. inl (behind_none _);
 }
 
-pub all_begin : (old : Reading) (left : Option (List ℕ)) (claims : Claims) → StandsFor claims [] → IfSome left (λ xs. GoesTo old xs claims old left)
-all_begin old None claims stands = tt
-all_begin old (Some xs) claims stands = begins old xs claims stands
+pub all_begin : (old : Reading) (left : Option (List ℕ)) (kept : Sections) → StandsFor kept [] → IfSome left (λ xs. GoesTo old xs kept old left)
+all_begin old None kept stands = tt
+all_begin old (Some xs) kept stands = begins old xs kept stands
 
 -- what the next line says of what is left
 cut_on : (mid new : Reading) (ys zs d rest : List ℕ) (line : Line) → (o : OneLine mid ys line new zs) → zs ≡ d ++ rest → IsCut mid o.front (line.bytes ∷ []) new d
@@ -100,10 +104,10 @@ cuts old mid new front more d read lines first second =
       go (inl e) (inl e') = inl (e ∙ ap (behind read) e' ∙ behind_both read lines _)
       go (inl e) (inr fine) = inr (subst IsFine (sym e) (behind_fine read _ fine))
 
-goes_on : (old mid new : Reading) (xs ys zs : List ℕ) (claims claims' : Claims) (line : Line) (left left' : Option (List ℕ))
-    → (g : GoesTo old xs claims mid left) → ys ≡ g.ys → left' ≡ Some zs → OneLine mid ys line new zs
-    → ((lines : List (List ℕ)) → StandsFor claims lines → StandsFor claims' (lines ++ line.bytes ∷ [])) → GoesTo old xs claims' new left'
-goes_on old mid new xs ys zs claims claims' line left left' g same left_is o stands =
+goes_on : (old mid new : Reading) (xs ys zs : List ℕ) (kept kept' : Sections) (line : Line) (left left' : Option (List ℕ))
+    → (g : GoesTo old xs kept mid left) → ys ≡ g.ys → left' ≡ Some zs → OneLine mid ys line new zs
+    → ((lines : List (List ℕ)) → StandsFor kept lines → StandsFor kept' (lines ++ line.bytes ∷ [])) → GoesTo old xs kept' new left'
+goes_on old mid new xs ys zs kept kept' line left left' g same left_is o stands =
     let split : g.ys ≡ o.front ++ zs = sym same ∙ o.split in
     record {
       read = g.read ++ line.bytes ∷ [];
@@ -120,95 +124,95 @@ goes_on old mid new xs ys zs claims claims' line left left' g same left_is o sta
           (cut_on mid new ys zs d rest line o e);
     }
 
-step_by : (old mid new : Reading) (xs : List ℕ) (claims claims' : Claims) (left left' : Option (List ℕ)) (answer : Result (Option Line) LineFault)
-    → (g : GoesTo old xs claims mid left) → NextGives mid g.ys answer new left' → Takes claims answer (Ok true) claims' → GoesTo old xs claims' new left'
-step_by old mid new xs claims claims' left left' (Ok (Some line)) g gives takes =
-    goes_on old mid new xs g.ys gives.0 claims claims' line left left' g refl gives.1 gives.2 takes
-step_by old mid new xs claims claims' left left' (Ok None) g gives takes = absurd takes
-step_by old mid new xs claims claims' left left' (Err e) g gives takes = absurd takes
+step_by : (old mid new : Reading) (xs : List ℕ) (kept kept' : Sections) (left left' : Option (List ℕ)) (answer : Result (Option Line) LineFault)
+    → (g : GoesTo old xs kept mid left) → NextGives mid g.ys answer new left' → Takes kept answer (Ok true) kept' → GoesTo old xs kept' new left'
+step_by old mid new xs kept kept' left left' (Ok (Some line)) g gives takes =
+    goes_on old mid new xs g.ys gives.0 kept kept' line left left' g refl gives.1 gives.2 takes
+step_by old mid new xs kept kept' left left' (Ok None) g gives takes = absurd takes
+step_by old mid new xs kept kept' left left' (Err e) g gives takes = absurd takes
 
 -- what is said of what was left
 gives_at : (mid new : Reading) (left left' : Option (List ℕ)) (answer : Result (Option Line) LineFault) (ys : List ℕ) → left ≡ Some ys → IsNextLine mid left answer new left'
     → NextGives mid ys answer new left'
 gives_at mid new left left' answer ys is next = subst (λ (o : Option (List ℕ)). IfSome o (λ ys'. NextGives mid ys' answer new left')) is next.gives
 
-pub steps : (old mid new : Reading) (before left left' : Option (List ℕ)) (claims claims' : Claims) → IfSome before (λ xs. GoesTo old xs claims mid left)
-    → TakesLine claims mid left (Ok true) claims' new left' → IfSome before (λ xs. GoesTo old xs claims' new left')
-steps old mid new None left left' claims claims' goes t = tt
-steps old mid new (Some xs) left left' claims claims' goes t =
-    step_by old mid new xs claims claims' left left' t.answer goes (gives_at mid new left left' t.answer goes.ys goes.left_is t.is_next) t.takes
+pub steps : (old mid new : Reading) (before left left' : Option (List ℕ)) (kept kept' : Sections) → IfSome before (λ xs. GoesTo old xs kept mid left)
+    → TakesLine kept mid left (Ok true) kept' new left' → IfSome before (λ xs. GoesTo old xs kept' new left')
+steps old mid new None left left' kept kept' goes t = tt
+steps old mid new (Some xs) left left' kept kept' goes t =
+    step_by old mid new xs kept kept' left left' t.answer goes (gives_at mid new left left' t.answer goes.ys goes.left_is t.is_next) t.takes
 
 -- ---- the file's end
 nothing_more : (read : List (List ℕ)) (r : Reading) → behind read (lines_in (lines_left r true [])) ≡ Ok read
 nothing_more read r = ap (λ (l : Left). behind read (lines_in l)) (at_end r) ∙ ap (λ (l : List (List ℕ)). Ok l) (append-nil read)
 
-abbrev claims_found : Found → Result (List Claim) Fault
-claims_found found = found >>= λ lines. Ok (claims_of lines)
+abbrev sections_found : Found → Result (List Section) Fault
+sections_found found = found >>= λ lines. Ok (sections_of lines)
 
 room_stays : (mid new : Reading) → new.limits ≡ mid.limits → new.total ≡ mid.total → room_of new ≡ room_of mid
 room_stays mid new limits total = omega (arith, ap (λ l. l.total) limits, total)
 
-ends_by : (old mid new : Reading) (xs : List ℕ) (claims claims' : Claims) (left left' : Option (List ℕ)) (answer : Result (Option Line) LineFault)
-    (found : List Claim) → (g : GoesTo old xs claims mid left) → IsNextLine mid left answer new left' → NextGives mid g.ys answer new left'
-    → Takes claims answer (Ok false) claims' → ((lines : List (List ℕ)) → StandsFor claims' lines → found ≡ claims_of lines) → HasClaims old xs found new left'
-ends_by old mid new xs claims claims' left left' (Ok (Some line)) found g next gives takes are = absurd takes
-ends_by old mid new xs claims claims' left left' (Err e) found g next gives takes are = absurd takes
-ends_by old mid new xs claims claims' left left' (Ok None) found g next gives takes are =
+ends_by : (old mid new : Reading) (xs : List ℕ) (kept kept' : Sections) (left left' : Option (List ℕ)) (answer : Result (Option Line) LineFault)
+    (found : List Section) → (g : GoesTo old xs kept mid left) → IsNextLine mid left answer new left' → NextGives mid g.ys answer new left'
+    → Takes kept answer (Ok false) kept' → ((lines : List (List ℕ)) → StandsFor kept' lines → found ≡ sections_of lines) → IsMade sections_of old xs found new left'
+ends_by old mid new xs kept kept' left left' (Ok (Some line)) found g next gives takes are = absurd takes
+ends_by old mid new xs kept kept' left left' (Err e) found g next gives takes are = absurd takes
+ends_by old mid new xs kept kept' left left' (Ok None) found g next gives takes are =
     let lines : lines_in (lines_left old true xs) ≡ Ok g.read =
     g.all ∙ ap (λ (l : List ℕ). behind g.read (lines_in (lines_left mid true l))) gives.0 ∙ nothing_more g.read mid in
-    let claimed : found ≡ claims_of g.read = are g.read (subst (λ (c : Claims). StandsFor c g.read) (sym takes) g.stands) in
+    let sectioned : found ≡ sections_of g.read = are g.read (subst (λ (c : Sections). StandsFor c g.read) (sym takes) g.stands) in
     let size : length xs ≡ length g.front = ap length g.split ∙ ap (λ (l : List ℕ). length (g.front ++ l)) gives.0 ∙ ap length (append-nil g.front) in
     record {
-      all = ap claims_found lines ∙ ap (λ (l : List Claim). Ok l) (sym claimed);
+      all = ap sections_found lines ∙ ap (λ (l : List Section). Ok l) (sym sectioned);
       nothing_left = gives.1;
       room = room_stays mid new next.limits_stay next.counts.1 ∙ g.room ∙ ap (λ (n : ℕ). room_of old - n) (sym size);
     }
 
-pub all_end : (old mid new : Reading) (before left left' : Option (List ℕ)) (claims claims' : Claims) (found : List Claim)
-    → IfSome before (λ xs. GoesTo old xs claims mid left) → TakesLine claims mid left (Ok false) claims' new left'
-    → ((lines : List (List ℕ)) → StandsFor claims' lines → found ≡ claims_of lines) → IfSome before (λ xs. ClaimsGive old xs (Ok found) new left')
-all_end old mid new None left left' claims claims' found goes t are = tt
-all_end old mid new (Some xs) left left' claims claims' found goes t are =
-    ends_by old mid new xs claims claims' left left' t.answer found goes t.is_next (gives_at mid new left left' t.answer goes.ys goes.left_is t.is_next) t.takes are
+pub all_end : (old mid new : Reading) (before left left' : Option (List ℕ)) (kept kept' : Sections) (found : List Section)
+    → IfSome before (λ xs. GoesTo old xs kept mid left) → TakesLine kept mid left (Ok false) kept' new left'
+    → ((lines : List (List ℕ)) → StandsFor kept' lines → found ≡ sections_of lines) → IfSome before (λ xs. SectionsGive old xs (Ok found) new left')
+all_end old mid new None left left' kept kept' found goes t are = tt
+all_end old mid new (Some xs) left left' kept kept' found goes t are =
+    ends_by old mid new xs kept kept' left left' t.answer found goes t.is_next (gives_at mid new left left' t.answer goes.ys goes.left_is t.is_next) t.takes are
 
 -- ---- faults
-broken_by : (old mid : Reading) (xs : List ℕ) (claims : Claims) (left left' : Option (List ℕ)) → (g : GoesTo old xs claims mid left)
-    → (front rest : List ℕ) → g.ys ≡ front ++ rest → left' ≡ Some rest → lines_left mid false front ≡ Ends Broken → IsBroken old xs left'
-broken_by old mid xs claims left left' g front rest split left_is broken =
+broken_by : (old mid : Reading) (xs : List ℕ) (kept : Sections) (left left' : Option (List ℕ)) → (g : GoesTo old xs kept mid left)
+    → (front rest : List ℕ) → g.ys ≡ front ++ rest → left' ≡ Some rest → lines_left mid false front ≡ Ends Broken → IsBroken sections_of old xs left'
+broken_by old mid xs kept left left' g front rest split left_is broken =
     let fine : IsFine (lines_in (lines_left old false (g.front ++ front))) = go (g.cut front rest split) in
     record {
       front = g.front ++ front;
       rest = rest;
       left_is = left_is;
       split = g.split ∙ ap (λ (l : List ℕ). g.front ++ l) split ∙ sym (append_assoc g.front front rest);
-      claims = claims_of fine.0;
-      all = ap claims_found fine.1;
+      made = sections_of fine.0;
+      all = ap sections_found fine.1;
     } where
       go : IsCut old g.front g.read mid front → IsFine (lines_in (lines_left old false (g.front ++ front)))
       go (inr fine) = fine
       go (inl e) = (g.read ++ [], e ∙ ap (λ (l : Left). behind g.read (lines_in l)) broken)
 
-faulty_by : (old mid new : Reading) (xs : List ℕ) (claims claims' : Claims) (left left' : Option (List ℕ)) (answer : Result (Option Line) LineFault) (e : LineFault)
-    → (g : GoesTo old xs claims mid left) → NextGives mid g.ys answer new left' → Takes claims answer (Err e) claims' → ClaimsGive old xs (Err e) new left'
-faulty_by old mid new xs claims claims' left left' (Ok (Some line)) fault.NoMemory g gives takes = tt
-faulty_by old mid new xs claims claims' left left' (Ok (Some line)) fault.Read g gives takes = absurd takes
-faulty_by old mid new xs claims claims' left left' (Ok (Some line)) (fault.LongLine n) g gives takes = absurd takes
-faulty_by old mid new xs claims claims' left left' (Ok (Some line)) (fault.TooLong n) g gives takes = absurd takes
-faulty_by old mid new xs claims claims' left left' (Ok None) e g gives takes = absurd takes
-faulty_by old mid new xs claims claims' left left' (Err f) e g gives takes =
-    subst (λ (x : LineFault). ClaimsGive old xs (Err x) new left') takes (own f gives) where
-      own : (f : LineFault) → NextGives mid g.ys (Err f) new left' → ClaimsGive old xs (Err f) new left'
-      own fault.Read (front, (rest, split, left_is, broken, total)) = broken_by old mid xs claims left left' g front rest split left_is broken
-      own (fault.LongLine n) ends = ap claims_found (g.all ∙ ap (λ (l : Left). behind g.read (lines_in l)) (ends true))
-      own (fault.TooLong n) ends = ap claims_found (g.all ∙ ap (λ (l : Left). behind g.read (lines_in l)) (ends true))
+faulty_by : (old mid new : Reading) (xs : List ℕ) (kept kept' : Sections) (left left' : Option (List ℕ)) (answer : Result (Option Line) LineFault) (e : LineFault)
+    → (g : GoesTo old xs kept mid left) → NextGives mid g.ys answer new left' → Takes kept answer (Err e) kept' → SectionsGive old xs (Err e) new left'
+faulty_by old mid new xs kept kept' left left' (Ok (Some line)) fault.NoMemory g gives takes = tt
+faulty_by old mid new xs kept kept' left left' (Ok (Some line)) fault.Read g gives takes = absurd takes
+faulty_by old mid new xs kept kept' left left' (Ok (Some line)) (fault.LongLine n) g gives takes = absurd takes
+faulty_by old mid new xs kept kept' left left' (Ok (Some line)) (fault.TooLong n) g gives takes = absurd takes
+faulty_by old mid new xs kept kept' left left' (Ok None) e g gives takes = absurd takes
+faulty_by old mid new xs kept kept' left left' (Err f) e g gives takes =
+    subst (λ (x : LineFault). SectionsGive old xs (Err x) new left') takes (own f gives) where
+      own : (f : LineFault) → NextGives mid g.ys (Err f) new left' → SectionsGive old xs (Err f) new left'
+      own fault.Read (front, (rest, split, left_is, broken, total)) = broken_by old mid xs kept left left' g front rest split left_is broken
+      own (fault.LongLine n) ends = ap sections_found (g.all ∙ ap (λ (l : Left). behind g.read (lines_in l)) (ends true))
+      own (fault.TooLong n) ends = ap sections_found (g.all ∙ ap (λ (l : Left). behind g.read (lines_in l)) (ends true))
       own fault.NoMemory ends = tt
 
-pub all_faulty : (old mid new : Reading) (before left left' : Option (List ℕ)) (claims claims' : Claims) (e : LineFault)
-    → IfSome before (λ xs. GoesTo old xs claims mid left) → TakesLine claims mid left (Err e) claims' new left'
-    → IfSome before (λ xs. ClaimsGive old xs (Err e) new left')
-all_faulty old mid new None left left' claims claims' e goes t = tt
-all_faulty old mid new (Some xs) left left' claims claims' e goes t =
-    faulty_by old mid new xs claims claims' left left' t.answer e goes (gives_at mid new left left' t.answer goes.ys goes.left_is t.is_next) t.takes
+pub all_faulty : (old mid new : Reading) (before left left' : Option (List ℕ)) (kept kept' : Sections) (e : LineFault)
+    → IfSome before (λ xs. GoesTo old xs kept mid left) → TakesLine kept mid left (Err e) kept' new left'
+    → IfSome before (λ xs. SectionsGive old xs (Err e) new left')
+all_faulty old mid new None left left' kept kept' e goes t = tt
+all_faulty old mid new (Some xs) left left' kept kept' e goes t =
+    faulty_by old mid new xs kept kept' left left' t.answer e goes (gives_at mid new left left' t.answer goes.ys goes.left_is t.is_next) t.takes
 
 -- ---- the lines of a whole file
 lines_by : (limit room n : ℕ) (ps : List Piece) (lines : List (List ℕ)) → lines_in (lined_by limit room true n ps) ≡ Ok lines
@@ -238,6 +242,9 @@ lines_by limit room n (p ∷ ps) lines e =
       go false false true h s = one _ h s
       go false false false h s = one _ h s
 
+abbrev claims_found : Found → Result (List Claim) Fault
+claims_found found = found >>= λ lines. Ok (claims_of lines)
+
 claims_by : (found : Found) (claims : List Claim) → claims_found found ≡ Ok claims → (lines : List (List ℕ)) × (found ≡ Ok lines) × (claims ≡ claims_of lines)
 claims_by (Ok lines) claims e = (lines, refl, cc)
 claims_by (Err x) claims e = absurd (cc (e))
@@ -248,6 +255,53 @@ whole_file limit room n bytes claims e =
     let found = claims_by (lines_in (lined_by limit room true n (pieces bytes))) claims e in
     found.2 ∙ ap claims_of (lines_by limit room n (pieces bytes) found.0 found.1)
 
+-- ---- the claims of sections
+sections_by : (found : Found) (sections : List Section) → sections_found found ≡ Ok sections → (lines : List (List ℕ)) × (found ≡ Ok lines) × (sections ≡ sections_of lines)
+sections_by (Ok lines) sections e = (lines, refl, cc)
+sections_by (Err x) sections e = absurd (cc (e))
+
+fault_by : (found : Found) (x : Fault) → sections_found found ≡ Err x → found ≡ Err x
+fault_by (Ok lines) x e = absurd (cc (e))
+fault_by (Err y) x e = cc
+
+claims_made : (old : Reading) (xs : List ℕ) (sections : List Section) (claims : List Claim) (new : Reading) (left : Option (List ℕ))
+    → IsMade sections_of old xs sections new left → claims ≡ flat_map section_claims sections → IsMade claims_of old xs claims new left
+claims_made old xs sections claims new left made is =
+    let found = sections_by (lines_in (lines_left old true xs)) sections made.all in
+    let same : claims_of found.0 ≡ claims = claims_are_of_sections found.0 ∙ ap (flat_map section_claims) (sym found.2) ∙ sym is in
+    record {
+      all = ap claims_found found.1 ∙ ap (λ (l : List Claim). Ok l) same;
+      nothing_left = made.nothing_left;
+      room = made.room;
+    }
+
+claims_faulty : (old : Reading) (xs : List ℕ) (e : LineFault) (new : Reading) (left : Option (List ℕ)) → SectionsGive old xs (Err e) new left
+    → ClaimsGive old xs (Err e) new left
+claims_faulty old xs fault.Read new left broken =
+    let found = sections_by (lines_in (lines_left old false broken.front)) broken.made broken.all in
+    record {
+      front = broken.front;
+      rest = broken.rest;
+      left_is = broken.left_is;
+      split = broken.split;
+      made = claims_of found.0;
+      all = ap claims_found found.1;
+    }
+claims_faulty old xs (fault.LongLine n) new left e = ap claims_found (fault_by _ _ e)
+claims_faulty old xs (fault.TooLong n) new left e = ap claims_found (fault_by _ _ e)
+claims_faulty old xs fault.NoMemory new left e = tt
+
+pub claims_given : (old : Reading) (before : Option (List ℕ)) (sections : List Section) (claims : List Claim) (new : Reading) (left : Option (List ℕ))
+    → IfSome before (λ xs. SectionsGive old xs (Ok sections) new left) → claims ≡ flat_map section_claims sections
+    → IfSome before (λ xs. ClaimsGive old xs (Ok claims) new left)
+claims_given old None sections claims new left made is = tt
+claims_given old (Some xs) sections claims new left made is = claims_made old xs sections claims new left made is
+
+pub claims_refused : (old : Reading) (before : Option (List ℕ)) (e : LineFault) (new : Reading) (left : Option (List ℕ))
+    → IfSome before (λ xs. SectionsGive old xs (Err e) new left) → IfSome before (λ xs. ClaimsGive old xs (Err e) new left)
+claims_refused old None e new left faulty = tt
+claims_refused old (Some xs) e new left faulty = claims_faulty old xs e new left faulty
+
 -- ---- numbers
 -- a line more was taken
 pub record Grew (mid new : Reading) : Type 0 where
@@ -256,18 +310,18 @@ pub record Grew (mid new : Reading) : Type 0 where
   pub more : mid.total < new.total
   pub within : new.total ≤ mid.limits.total
 
-pub grew : (mid new : Reading) (left left' : Option (List ℕ)) (claims claims' : Claims) → TakesLine claims mid left (Ok true) claims' new left' → Grew mid new
-grew mid new left left' claims claims' t = go t.answer t.is_next.counts t.takes where
-  go : (answer : Result (Option Line) LineFault) → NextCounts mid answer new → Takes claims answer (Ok true) claims' → Grew mid new
+pub grew : (mid new : Reading) (left left' : Option (List ℕ)) (kept kept' : Sections) → TakesLine kept mid left (Ok true) kept' new left' → Grew mid new
+grew mid new left left' kept kept' t = go t.answer t.is_next.counts t.takes where
+  go : (answer : Result (Option Line) LineFault) → NextCounts mid answer new → Takes kept answer (Ok true) kept' → Grew mid new
   go (Ok (Some line)) counts takes = record { started = counts.2; limits = t.is_next.limits_stay; more = counts.4; within = counts.5 }
   go (Ok None) counts takes = absurd takes
   go (Err e) counts takes = absurd takes
 
 -- ---- behind the last answer
-pub no_more : (mid new : Reading) (left left' : Option (List ℕ)) (claims claims' : Claims) → TakesLine claims mid left (Ok false) claims' new left'
+pub no_more : (mid new : Reading) (left left' : Option (List ℕ)) (kept kept' : Sections) → TakesLine kept mid left (Ok false) kept' new left'
     → new.is_started ≡ false
-no_more mid new left left' claims claims' t = go t.answer t.is_next.counts t.takes where
-  go : (answer : Result (Option Line) LineFault) → NextCounts mid answer new → Takes claims answer (Ok false) claims' → new.is_started ≡ false
+no_more mid new left left' kept kept' t = go t.answer t.is_next.counts t.takes where
+  go : (answer : Result (Option Line) LineFault) → NextCounts mid answer new → Takes kept answer (Ok false) kept' → new.is_started ≡ false
   go (Ok (Some line)) counts takes = absurd takes
   go (Ok None) counts takes = counts.0
   go (Err e) counts takes = absurd takes
@@ -279,10 +333,10 @@ ended_by mid new (fault.TooLong n) counts = counts.1
 ended_by mid new fault.NoMemory counts = counts.0
 
 -- only of want of memory it isn't known whether a line was read
-pub no_more_behind : (mid new : Reading) (left left' : Option (List ℕ)) (claims claims' : Claims) (e : LineFault)
-    → TakesLine claims mid left (Err e) claims' new left' → ¬ (e ≡ fault.NoMemory) → new.is_started ≡ false
-no_more_behind mid new left left' claims claims' e t other = go t.answer e t.is_next.counts t.takes other where
-  go : (answer : Result (Option Line) LineFault) (e : LineFault) → NextCounts mid answer new → Takes claims answer (Err e) claims' → ¬ (e ≡ fault.NoMemory)
+pub no_more_behind : (mid new : Reading) (left left' : Option (List ℕ)) (kept kept' : Sections) (e : LineFault)
+    → TakesLine kept mid left (Err e) kept' new left' → ¬ (e ≡ fault.NoMemory) → new.is_started ≡ false
+no_more_behind mid new left left' kept kept' e t other = go t.answer e t.is_next.counts t.takes other where
+  go : (answer : Result (Option Line) LineFault) (e : LineFault) → NextCounts mid answer new → Takes kept answer (Err e) kept' → ¬ (e ≡ fault.NoMemory)
       → new.is_started ≡ false
   go (Ok (Some line)) fault.NoMemory counts takes other = absurd (other refl)
   go (Ok (Some line)) fault.Read counts takes other = absurd takes

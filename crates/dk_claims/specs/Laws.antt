@@ -1,9 +1,10 @@
 -- What the definitions come to, in the words of the format.
-use Rattle.std.specs.Prelude.{◌≡◌, ◌++◌, not, ℕ, All, true, false, List, ◌∷◌, filter, map, Ok}
+use Rattle.std.specs.Prelude.{◌≡◌, ◌++◌, not, ℕ, All, true, false, List, ◌∷◌, filter, flat_map, map, Ok}
 use Rattle.dk_lines.specs.Left.{lined, lines_of}
 use Rattle.dk_claims.specs.Claims.{claims_below, claims_of, is_blank_line, is_remark, is_ruler, written_lines}
 use Rattle.dk_claims.specs.Counts.{count_of, is_number, without_count}
 use Rattle.dk_claims.specs.Reading.{claims_left}
+use Rattle.dk_claims.specs.Sections.{section_claims, sections_of}
 use Rattle.dk_claims.specs.declared.claims.Claim.{Claim}
 
 -- A last count is taken off, and it alone: of two counts the first stays.
@@ -36,3 +37,7 @@ abbrev pub WholeFileHasItsClaims : Type 0
 WholeFileHasItsClaims =
     (limit room n : ℕ) (bytes : List ℕ) (claims : List Claim) → claims_left (lined limit room n true bytes) ≡ Ok claims
     → claims ≡ claims_of (lines_of bytes)
+
+-- Lines claim what their sections claim, one after another.
+abbrev pub ClaimsAreOfSections : Type 0
+ClaimsAreOfSections = (lines : List (List ℕ)) → claims_of lines ≡ flat_map section_claims (sections_of lines)

@@ -1,5 +1,6 @@
 -- cited by public clauses
 pub mod Claims
+pub mod Sections
 pub mod Standing
 pub mod Reading
 pub mod Laws

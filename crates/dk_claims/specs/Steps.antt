@@ -7,9 +7,8 @@ use Rattle.dk_lines.specs.Answers.{IsNextLine}
 use Rattle.dk_lines.specs.Reading.{Reading}
 use Rattle.dk_lines.specs.declared.lines.LineFault.{LineFault}
 use Rattle.dk_lines.specs.declared.lines.LineFault.TheVariants as fault
-use Rattle.dk_claims.specs.Claims.{claim_in, is_ruler, name_below}
 use Rattle.dk_claims.specs.Standing.{StandsFor}
-use Rattle.dk_claims.specs.declared.claims.Claims.{Claims}
+use Rattle.dk_claims.specs.declared.sections.Sections.{Sections}
 
 -- a text without all digits at its end
 pub record IsWithoutDigits (text front : List ℕ) : Type 0 where
@@ -18,14 +17,8 @@ pub record IsWithoutDigits (text front : List ℕ) : Type 0 where
   pub are_digits : list_all is_ascii_digit digits ≡ true
   pub are_all : length digits ≡ suffix_len is_ascii_digit text
 
--- what is kept behind a line that isn't blank
-pub record IsBehind (old : Claims) (line : List ℕ) (new : Claims) : Type 0 where
-  pub heading : new.heading ≡ name_below old.behind_ruler old.heading line
-  pub found : new.found ≡ old.found ++ claim_in old.behind_ruler old.heading line
-  pub ruler : new.behind_ruler ≡ is_ruler line
-
--- what an answer of the reader of lines does to the claims
-abbrev pub Takes : Claims → Result (Option Line) LineFault → Result Bool LineFault → Claims → Type 0
+-- what an answer of the reader of lines does to the sections
+abbrev pub Takes : Sections → Result (Option Line) LineFault → Result Bool LineFault → Sections → Type 0
 Takes old (Ok (Some line)) (Ok true) new = (lines : List (List ℕ)) → StandsFor old lines → StandsFor new (lines ++ line.bytes ∷ [])
 Takes old (Ok (Some line)) (Err fault.NoMemory) new = ⊤
 Takes old (Ok None) (Ok false) new = new ≡ old
@@ -33,7 +26,7 @@ Takes old (Err e) (Err e') new = e ≡ e'
 Takes old answer result new = ⊥
 
 -- a line was taken, or there is none
-pub record TakesLine (old : Claims) (r : Reading) (before : Option (List ℕ)) (result : Result Bool LineFault) (new : Claims) (r' : Reading)
+pub record TakesLine (old : Sections) (r : Reading) (before : Option (List ℕ)) (result : Result Bool LineFault) (new : Sections) (r' : Reading)
     (after : Option (List ℕ)) : Type 0 where
   pub answer : Result (Option Line) LineFault
   pub is_next : IsNextLine r before answer r' after

@@ -1,11 +1,8 @@
-// Claims, line by line.
-ghost use Rattle.std.specs.Prelude.{◌≡◌, ◌∷◌, [], ◌++◌, ℕ, List, OnOk, false};
-ghost use Rattle.dk_claims.specs.Claims.{claims_of, is_ruler};
-ghost use Rattle.dk_claims.specs.Standing.{StandsFor};
-ghost use Rattle.dk_claims.specs.Steps.{IsBehind};
+// Claims, section by section.
+ghost use Rattle.std.specs.Prelude.{◌≡◌, ◌++◌, IfOk, OnOk, flat_map};
+ghost use Rattle.dk_claims.specs.Sections.{section_claims};
 
-use crate::counts::without_count;
-use crate::marks::{is_blank_line, is_remark, is_ruler};
+use crate::Section;
 use dk_base::{List, NoMemory, Text};
 use std::alloc::Global;
 
@@ -19,71 +16,26 @@ pub struct Claim {
     pub text: Text,
 }
 
-/// Takes the lines of an assertion file, one after another, without their LF and one CR in front of it:
-///
-/// - a blank line is nothing, and a line of `=` alone is passed over;
-/// - the next line behind one of `=` that isn't one is a heading, whatever it says: the name of a point, without a last count;
-/// - other lines that begin with `--- ` or `stats ` are passed over;
-/// - every other line is a claim about the point of the last heading: its text is the line without a last count.
-///
-/// A count is two blanks and a number in brackets, such as `  [12]`. Lines aren't trimmed, and names aren't unescaped.
-#[derive(Drop)]
-pub struct Claims {
-    alloc: Global,
-    heading: Text,
-    behind_ruler: bool,
-    found: List<Claim>,
+// What the section claims of its point, behind the others.
+fn push_claims(alloc: Global, claims: &mut List<Claim>, section: &Section) -> Result<(), NoMemory>
+    ensures { OnOk result (claims.new ≡ claims.old ++ section_claims section.now) }
+{
+    let lines = section.lines.as_slice();
+    for line in lines {
+        let point = Text::from_slice(alloc, section.point.as_slice())?;
+        let text = Text::from_slice(alloc, line.text.as_slice())?;
+        claims.push(Claim { point, text })?;
+    }
+    Ok(())
 }
 
-impl Claims {
-    /// No line was taken. It takes no memory.
-    pub fn new(alloc: Global) -> Claims
-        ensures { StandsFor result [] }
-    {
-        Claims {
-            alloc,
-            heading: Text::new(alloc),
-            behind_ruler: false,
-            found: List::new(alloc),
-        }
+/// What the sections claim, in the order of their lines.
+pub(crate) fn claims_of(alloc: Global, sections: &[Section]) -> Result<List<Claim>, NoMemory>
+    ensures { IfOk result (λ claims. claims ≡ flat_map section_claims sections.now) }
+{
+    let mut claims = List::new(alloc);
+    for section in sections {
+        push_claims(alloc, &mut claims, section)?;
     }
-
-    /// Takes the next line. After want of memory nothing is said of the claims.
-    pub fn line(&mut self, line: &[u8]) -> Result<(), NoMemory>
-        ensures { OnOk result ((lines : List (List ℕ)) → StandsFor self.old lines → StandsFor self.new (lines ++ line.now ∷ [])) }
-    {
-        if is_blank_line(line) {
-            return Ok(());
-        }
-        if is_ruler(line) {
-            self.behind_ruler = true;
-            return Ok(());
-        }
-        self.words(line)
-    }
-
-    /// The claims, in the order of their lines.
-    pub fn into_list(self) -> List<Claim>
-        ensures { (lines : List (List ℕ)) → StandsFor self lines → result ≡ claims_of lines }
-    {
-        self.found
-    }
-
-    // Takes a line that isn't one of `=`: a heading, a remark or a claim.
-    fn words(&mut self, line: &[u8]) -> Result<(), NoMemory>
-        requires { is_ruler line.now ≡ false }
-        ensures { OnOk result (IsBehind self.old line.now self.new) }
-    {
-        let text = Text::from_slice(self.alloc, without_count(line))?;
-        if self.behind_ruler {
-            self.heading = text;
-            self.behind_ruler = false;
-            return Ok(());
-        }
-        if is_remark(line) {
-            return Ok(());
-        }
-        let point = Text::from_slice(self.alloc, self.heading.as_slice())?;
-        self.found.push(Claim { point, text })
-    }
+    Ok(claims)
 }

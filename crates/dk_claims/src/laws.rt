@@ -1,5 +1,5 @@
 //! What the definitions come to, in the words of the format.
-ghost use Rattle.dk_claims.specs.Laws.{HeadingsPart, LastCountIsTakenOff, LinesBelowAHeadingClaim, OtherTextsStay, WholeFileHasItsClaims};
+ghost use Rattle.dk_claims.specs.Laws.{ClaimsAreOfSections, HeadingsPart, LastCountIsTakenOff, LinesBelowAHeadingClaim, OtherTextsStay, WholeFileHasItsClaims};
 
 /// A last count is taken off a text, and it alone.
 pub fn last_count_is_taken_off()
@@ -24,4 +24,9 @@ pub fn lines_below_a_heading_claim()
 /// An ended file that holds no fault has the claims of its lines.
 pub fn whole_file()
     ensures { WholeFileHasItsClaims }
+{}
+
+/// Lines claim what their sections claim, one after another.
+pub fn claims_are_of_sections()
+    ensures { ClaimsAreOfSections }
 {}

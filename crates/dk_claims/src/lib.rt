@@ -6,6 +6,8 @@ mod counts;
 pub mod laws;
 mod marks;
 mod reading;
+mod sections;
 
-pub use claims::{Claim, Claims};
-pub use reading::read_claims;
+pub use claims::Claim;
+pub use reading::{read_claims, read_sections};
+pub use sections::{ReportLine, Section, Sections};

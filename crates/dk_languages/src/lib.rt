@@ -21,5 +21,7 @@ mod tests;
 mod variables;
 
 pub use languages::Language;
+pub use literals::push_octal;
+pub use paths::{is_symbol_byte, push_words};
 pub use tellings::telling;
 pub use variables::{Base, Parameter, bases, parameters};

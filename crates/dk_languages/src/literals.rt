@@ -32,8 +32,8 @@ fn is_ascii_text(text: &[u8]) -> bool
     text.iter().all(|byte| *byte < 128)
 }
 
-// A backslash and the byte's three octal digits, behind the text.
-fn push_octal(text: &mut Text, byte: u8) -> Result<(), NoMemory>
+/// A backslash and the byte's three octal digits, behind the text.
+pub fn push_octal(text: &mut Text, byte: u8) -> Result<(), NoMemory>
     ensures { OnOk result (text.new ≡ text.old ++ octal byte) }
 {
     text.append(&[

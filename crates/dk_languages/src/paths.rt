@@ -186,8 +186,8 @@ fn word_byte_or(byte: u8, other: u8) -> u8
     if is_word_byte(byte) { byte } else { other }
 }
 
-// The bytes of words, and the other byte for each other one, behind the text.
-fn push_words(text: &mut Text, bytes: &[u8], other: u8) -> Result<(), NoMemory>
+/// The bytes of words, and the other byte for each other one, behind the text.
+pub fn push_words(text: &mut Text, bytes: &[u8], other: u8) -> Result<(), NoMemory>
     ensures { OnOk result (text.new ≡ text.old ++ map (λ b. if is_word_byte b then b else other) bytes.now) }
 {
     for byte in bytes {
@@ -226,7 +226,8 @@ fn has_free_words(alloc: Global, language: Language, path: &[u8]) -> Result<bool
     Ok(are_free(language, &found))
 }
 
-fn is_symbol_byte(byte: u8) -> bool
+/// Whether it is a byte of a quoted symbol of SMT-LIB.
+pub fn is_symbol_byte(byte: u8) -> bool
     ensures { result ≡ is_symbol_byte byte }
 {
     32 <= byte && byte != 127 && byte != b'|' && byte != b'\\'

@@ -1,53 +1,14 @@
-use Rattle.std.proofs.Common.{◌≡◌, ◌∙◌, ap, arith, refl, rules, subst, Bool, true, false, Result, Ok, Err}
-use Rattle.dk_lines.specs.Reading.{left_of}
-use Rattle.dk_lines.specs.declared.lines.LineFault.{LineFault}
-use Rattle.dk_claims.specs.Steps.{TakesLine}
-use Rattle.dk_claims.proofs.Lining.{all_begin, all_end, all_faulty, grew, no_more, no_more_behind, steps}
+use Rattle.std.proofs.Common.{◌∙◌, ap}
+use Rattle.std.specs.List.{flat_map}
+use Rattle.dk_claims.specs.Sections.{section_claims}
+use Rattle.dk_claims.proofs.Lining.{claims_given, claims_refused}
 use Rattle.dk_claims.proofs.reading.read_claims.Goals as goal
 
-pub reading-init : goal.reading-init
-reading-init g c = record {
-  started = c.requires;
-  limits = refl;
-  files = refl;
-  later = omega arith;
-  goes = all_begin c.args.lines.now _ c.new-claims.result c.new-claims.ensures;
-}
+pub returns-in-Ok-claims_of-clause-gives : goal.returns-in-Ok-claims_of-clause-gives
+returns-in-Ok-claims_of-clause-gives g c =
+    claims_given c.args.lines.now _ c.in-Ok.sections _ _ _ c.in-Ok.ensures.gives
+    (c.in-Ok-claims_of.ensures ∙ ap (flat_map section_claims) c.as_slice.ensures)
 
-pub reading-preserved : goal.reading-preserved
-reading-preserved g c =
-    let is : c.take_line.result ≡ Ok true = search rules in
-    let took = subst (λ (r : Result Bool LineFault). TakesLine c.reading.claims c.reading.lines (left_of c.reading.lines (g.I.Inputs.rest c.reading.inputs)) r c.take_line.new.claims c.take_line.new.lines (left_of c.take_line.new.lines (g.I.Inputs.rest c.take_line.new.inputs))) is c.take_line.ensures.takes in
-    let numbers = grew _ _ _ _ _ _ took in
-    record {
-      started = numbers.started;
-      limits = numbers.limits ∙ c.reading.invariant.limits;
-      files = c.take_line.ensures.files ∙ c.reading.invariant.files;
-      later = omega (arith, c.take_line.ensures.later, c.reading.invariant.later);
-      goes = steps c.args.lines.now c.reading.lines c.take_line.new.lines _ _ _ c.reading.claims c.take_line.new.claims c.reading.invariant.goes took;
-    }
-
-pub returns-in-Ok-false-clause-gives : goal.returns-in-Ok-false-clause-gives
-returns-in-Ok-false-clause-gives g c =
-    let is : c.take_line.result ≡ Ok false = search rules in
-    let took = subst (λ (r : Result Bool LineFault). TakesLine c.reading.claims c.reading.lines (left_of c.reading.lines (g.I.Inputs.rest c.reading.inputs)) r c.take_line.new.claims c.take_line.new.lines (left_of c.take_line.new.lines (g.I.Inputs.rest c.take_line.new.inputs))) is c.take_line.ensures.takes in
-    all_end c.args.lines.now c.reading.lines c.take_line.new.lines _ _ _ c.reading.claims c.take_line.new.claims c.into_list.result c.reading.invariant.goes took c.into_list.ensures
-
-pub returns-in-Err-clause-gives : goal.returns-in-Err-clause-gives
-returns-in-Err-clause-gives g c =
-    let is : c.take_line.result ≡ Err c.in-Err.fault = search rules in
-    let took = subst (λ (r : Result Bool LineFault). TakesLine c.reading.claims c.reading.lines (left_of c.reading.lines (g.I.Inputs.rest c.reading.inputs)) r c.take_line.new.claims c.take_line.new.lines (left_of c.take_line.new.lines (g.I.Inputs.rest c.take_line.new.inputs))) is c.take_line.ensures.takes in
-    all_faulty c.args.lines.now c.reading.lines c.take_line.new.lines _ _ _ c.reading.claims c.take_line.new.claims c.in-Err.fault c.reading.invariant.goes took
-
-pub returns-in-Ok-false-clause-ended : goal.returns-in-Ok-false-clause-ended
-returns-in-Ok-false-clause-ended g c other =
-    let is : c.take_line.result ≡ Ok false = search rules in
-    let took = subst (λ (r : Result Bool LineFault). TakesLine c.reading.claims c.reading.lines (left_of c.reading.lines (g.I.Inputs.rest c.reading.inputs)) r c.take_line.new.claims c.take_line.new.lines (left_of c.take_line.new.lines (g.I.Inputs.rest c.take_line.new.inputs))) is c.take_line.ensures.takes in
-    no_more c.reading.lines c.take_line.new.lines _ _ c.reading.claims c.take_line.new.claims took
-
-pub returns-in-Err-clause-ended : goal.returns-in-Err-clause-ended
-returns-in-Err-clause-ended g c other =
-    let is : c.take_line.result ≡ Err c.in-Err.fault = search rules in
-    let took = subst (λ (r : Result Bool LineFault). TakesLine c.reading.claims c.reading.lines (left_of c.reading.lines (g.I.Inputs.rest c.reading.inputs)) r c.take_line.new.claims c.take_line.new.lines (left_of c.take_line.new.lines (g.I.Inputs.rest c.take_line.new.inputs))) is c.take_line.ensures.takes in
-    no_more_behind c.reading.lines c.take_line.new.lines _ _ c.reading.claims c.take_line.new.claims c.in-Err.fault took
-    (λ e. other (ap (λ (f : LineFault). Err f) e))
+pub returns-clause-gives : goal.returns-clause-gives
+returns-clause-gives g c =
+    claims_refused c.args.lines.now _ c.in-Err.fault _ _ c.in-Err.ensures.gives

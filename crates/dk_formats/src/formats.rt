@@ -1,0 +1,11 @@
+// The formats in which reports are told.
+use dk_languages::Language;
+
+/// A format in which a report is told.
+#[derive(Clone, Copy, Debug, PartialEq, Eq)]
+pub enum Format {
+    /// An object of JSON a line.
+    Json,
+    /// A function, or a macro, for each point.
+    In(Language),
+}
