@@ -1,4 +1,4 @@
-use Rattle.std.proofs.Common.{◌≡◌, [], refl}
+use Rattle.std.proofs.Common.{[], refl}
 use Rattle.dk_split.proofs.Keeping.{no_splits, none_stand}
 use Rattle.dk_split.proofs.splits.Splits.new.Goals as goal
 
