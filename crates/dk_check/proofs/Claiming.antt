@@ -1,17 +1,15 @@
 -- Reading the assertion file.
-use Rattle.std.proofs.Common.{◌≡◌, ◌-◌, ◌∙◌, ℕ, List, length, inl, inr, Bool, false, Option, Some, None, IfSome, Ok, Err, refl, sym, ap}
+use Rattle.std.proofs.Common.{◌≡◌, ◌∙◌, ℕ, List, Bool, false, Option, Some, None, IfSome, Err, sym, ap}
 use Rattle.dk_claims.specs.Reading.{ClaimsGive, claims_left}
-use Rattle.dk_claims.specs.declared.claims.Claim.{Claim}
 use Rattle.dk_driver.specs.Walks.{line_limit, standard_limits, total_limit}
 use Rattle.dk_driver.specs.WholeFile.{fresh_reading}
-use Rattle.dk_driver.specs.declared.fault.FileFault.TheVariants as file
 use Rattle.dk_lines.specs.Left.{lined, lines_left}
 use Rattle.dk_lines.specs.Reading.{Reading, room_of}
 use Rattle.dk_lines.specs.declared.lines.Limits.{Limits}
 use Rattle.dk_lines.specs.declared.lines.LineFault.{LineFault}
 use Rattle.dk_lines.specs.declared.lines.LineFault.TheVariants as fault
-use Rattle.dk_program.specs.Openings.{IsOfMay, OpeningGives}
-use Rattle.dk_check.specs.Assertions.{IsOfBytes, claims_in, fault_of}
+use Rattle.dk_program.specs.Openings.{OpeningGives}
+use Rattle.dk_check.specs.Assertions.{claims_in, fault_of}
 use Rattle.dk_check.specs.Standing.{claims_of}
 use Rattle.dk_check.specs.declared.checking.Checking.{Checking}
 

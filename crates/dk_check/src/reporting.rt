@@ -9,8 +9,8 @@ ghost use Rattle.dk_verdicts.specs.Reports.{IsNamed, verdict_lines};
 ghost use Rattle.dk_check.specs.Standing.{IsKeptUp, StandsFor, claims_of};
 ghost use Rattle.dk_check.specs.Statuses.{IsReportOf};
 
-use crate::checking::Checking;
 use crate::Command;
+use crate::checking::Checking;
 use dk_arguments::Word;
 use dk_base::{NoMemory, Text};
 use dk_claims::Claim;

@@ -2,7 +2,8 @@
 ghost use Rattle.std.specs.Prelude.{◌≡◌};
 ghost use Rattle.dk_check.specs.Texts.{help_text, usage_line, version_text};
 
-pub(crate) const USAGE_LINE: &str = "usage: dk_check [--ignore-missing-entry] ASSERTIONS [FILE]...\n";
+pub(crate) const USAGE_LINE: &str =
+    "usage: dk_check [--ignore-missing-entry] ASSERTIONS [FILE]...\n";
 
 pub(crate) const VERSION_TEXT: &str = "dk_check 0.1.0\n";
 
