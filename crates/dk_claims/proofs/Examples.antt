@@ -1,8 +1,12 @@
 -- Small assertion files, line by line, and texts with a number in brackets at their ends.
-use Rattle.std.proofs.Common.{◌≡◌, [], ◌∷◌, refl, codes, ℕ, List}
+use Rattle.std.proofs.Common.{◌≡◌, [], ◌∷◌, refl, codes, ℕ, List, Option, Some, None}
+use Rattle.dk_base.specs.Numbers.{natural_of}
 use Rattle.dk_claims.specs.Claims.{claims_below, claims_of}
-use Rattle.dk_claims.specs.Counts.{without_count}
+use Rattle.dk_claims.specs.Counts.{last_count, without_count}
+use Rattle.dk_claims.specs.Sections.{sections_below, sections_of}
 use Rattle.dk_claims.specs.declared.claims.Claim.{Claim}
+use Rattle.dk_claims.specs.declared.sections.ReportLine.{ReportLine}
+use Rattle.dk_claims.specs.declared.sections.Section.{Section}
 
 -- a claim about the point of this name
 abbrev of : List ℕ → List ℕ → Claim
@@ -50,3 +54,28 @@ no_counts = (refl, refl, refl, refl)
 bare_counts : (without_count (codes "  [1]") ≡ []) × (without_count (codes "   [1]") ≡ codes " ")
 unfolding without_count
 bare_counts = (refl, refl)
+
+-- a section of this name, number and lines, and a line of this text and number
+abbrev below : List ℕ → Option ℕ → List ReportLine → Section
+below point samples lines = record { point = point; samples = samples; lines = lines }
+
+abbrev told : List ℕ → Option ℕ → ReportLine
+told text samples = record { text = text; samples = samples }
+
+-- headings with a number and without one, the second without lines; no line stands above the first
+two_sections : sections_of (codes "=" ∷ codes "P  [4]" ∷ codes "x >= 1  [3]" ∷ codes "y == 1" ∷ codes "=" ∷ codes "Q" ∷ [])
+    ≡ below (codes "P") (Some 4) (told (codes "x >= 1") (Some 3) ∷ told (codes "y == 1") None ∷ []) ∷ below (codes "Q") None [] ∷ []
+unfolding sections_of sections_below without_count natural_of
+two_sections = refl
+
+-- a line above the first heading is of a section of the empty name
+front : sections_of (codes "a" ∷ codes "=" ∷ codes "P" ∷ [])
+    ≡ below [] None (told (codes "a") None ∷ []) ∷ below (codes "P") None [] ∷ []
+unfolding sections_of sections_below without_count natural_of
+front = refl
+
+-- 64 bits hold the number, or there is none
+numbers : (last_count (codes "a  [18446744073709551615]") ≡ Some 18446744073709551615)
+    × (last_count (codes "a  [18446744073709551616]") ≡ None) × (last_count (codes "a [1]") ≡ None)
+unfolding without_count natural_of
+numbers = (refl, refl, refl)

@@ -1,7 +1,6 @@
 -- A report in a format.
 use Rattle.std.specs.Prelude.{◌≡◌, ◌++◌, ℕ, List, [], Option, Some, None, codes, flat_map}
 use Rattle.dk_base.specs.declared.kinds.VarInfo.{VarInfo}
-use Rattle.dk_claims.specs.declared.sections.ReportLine.{ReportLine}
 use Rattle.dk_claims.specs.declared.sections.Section.{Section}
 use Rattle.dk_expr.specs.declared.assertions.Assertion.{Assertion}
 use Rattle.dk_functions.specs.Functions.{assertion_if, closing, comment_if, opening, preamble}

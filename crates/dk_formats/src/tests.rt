@@ -78,6 +78,9 @@ fn sections_are_told(rt: HostRuntime) {
     ];
     for (format, wanted) in cases.iter() {
         let found = told(rt.alloc(), *format).expect(&rt, "");
-        assert_eq!(rt; std::str::from_utf8(found.as_slice()).expect(&rt, ""), *wanted);
+        assert_eq!(rt;
+            std::str::from_utf8(found.as_slice()).expect(&rt, ""),
+            *wanted
+        );
     }
 }

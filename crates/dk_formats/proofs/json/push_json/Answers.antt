@@ -1,4 +1,4 @@
-use Rattle.std.proofs.Common.{◌++◌, ℕ, List, subst}
+use Rattle.std.proofs.Common.{ℕ, List, subst}
 use Rattle.std.proofs.lemmas.Result.{on_ok_weaker}
 use Rattle.dk_claims.specs.declared.sections.ReportLine.{ReportLine}
 use Rattle.dk_formats.specs.Steps.{AddsJson}

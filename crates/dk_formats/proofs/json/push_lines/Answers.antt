@@ -1,4 +1,4 @@
-use Rattle.std.proofs.Common.{◌≡◌, subst}
+use Rattle.std.proofs.Common.{subst}
 use Rattle.std.proofs.lemmas.List.{take_all}
 use Rattle.dk_formats.specs.Steps.{AddsJson}
 use Rattle.dk_formats.proofs.Adding.{more_json, no_json, says_by}

@@ -2,7 +2,7 @@ use Rattle.std.proofs.Common.{◌≡◌, ◌∙◌, ℕ, List, subst, sym}
 use Rattle.std.proofs.lemmas.List.{take_all}
 use Rattle.dk_claims.specs.declared.sections.Section.{Section}
 use Rattle.dk_formats.specs.Steps.{AddsSections}
-use Rattle.dk_formats.specs.Telling.{IsTold, front_text}
+use Rattle.dk_formats.specs.Telling.{front_text}
 use Rattle.dk_formats.proofs.Adding.{more_sections, no_sections}
 use Rattle.dk_formats.proofs.reports.report.Goals as goal
 
