@@ -1,0 +1,113 @@
+-- The trace of a table.
+use Rattle.std.specs.Prelude.{◌&&◌, ◌+◌, ◌^◌, ◌++◌, ◌∷◌, [], ℕ, Bool, false, not, negsuc, List, Option, Some, None, Result, Ok, Err, codes, is_some, length, map, replicate, slice_get, take, unwrap_or, if◌then◌else◌}
+use Rattle.std.specs.List.{list_all, range_with_len, zip}
+use Rattle.std.specs.Option.{option_map_or}
+use Rattle.dk_base.specs.declared.kinds.Compar.{Compar}
+use Rattle.dk_base.specs.declared.kinds.Kind.{Kind}
+use Rattle.dk_base.specs.declared.kinds.Kind.TheVariants as own
+use Rattle.dk_base.specs.declared.values.Value.{Value}
+use Rattle.dk_base.specs.declared.values.Value.TheVariants as value
+use Rattle.dk_decl.specs.declared.decls.PointDecl.{PointDecl}
+use Rattle.dk_decl.specs.declared.decls.VarDecl.{VarDecl}
+use Rattle.dk_write.specs.Records.{Recorded}
+use Rattle.dk_write.specs.Texts.{Begins, Declares, Records, Write}
+use Rattle.dk_write.specs.Writable.{can_declare, can_record}
+use Rattle.dk_table.specs.Columns.{cell_value, kind_of_column}
+use Rattle.dk_table.specs.Placed.{Placed}
+use Rattle.dk_table.specs.declared.columns.ColumnKind.{ColumnKind}
+use Rattle.dk_table.specs.declared.columns.ColumnKind.TheVariants as kind
+use Rattle.dk_table.specs.declared.faults.TableFault.{TableFault}
+use Rattle.dk_table.specs.declared.faults.TableFault.TheVariants.{Refused}
+use Rattle.dk_table.specs.declared.faults.TableWhy.TheVariants.{BadCell, BadName}
+
+-- the cell of a row at a place; an empty one, where there is none
+abbrev pub cell_at : ℕ → Placed → List ℕ
+cell_at place row = unwrap_or (slice_get row.cells place) []
+
+-- the cells of a column
+abbrev pub cells_at : List Placed → ℕ → List (List ℕ)
+cells_at rows place = map (cell_at place) rows
+
+-- the rows by which kinds are found: so many, or all
+abbrev pub judged : Option ℕ → List Placed → List Placed
+judged None rows = rows
+judged (Some n) rows = take n rows
+
+-- the kinds of the columns
+abbrev pub kinds_of : List Placed → ℕ → List ColumnKind
+kinds_of rows columns = map (λ place. kind_of_column (cells_at rows place)) (range_with_len 0 columns)
+
+-- ---- the declaration
+
+abbrev pub own_kind : ColumnKind → Kind
+own_kind kind.Whole = own.Int
+own_kind (kind.Truth words) = own.Bool
+own_kind (kind.Decimal places) = own.Int
+own_kind kind.Text = own.Str
+
+-- the name of a column's variable; that of decimals says by what they are taken, as `price * 100`; 48 is the digit 0
+abbrev pub var_name : List ℕ → ColumnKind → List ℕ
+var_name name (kind.Decimal places) = name ++ (codes " * 1" ++ replicate places 48)
+var_name name _ = name
+
+-- a number's comparability that says nothing
+abbrev pub any_compar : Compar
+any_compar = record { elem = negsuc 0; index = negsuc 0 }
+
+abbrev pub var_of : List ℕ × ColumnKind → VarDecl
+var_of e = record {
+  name = var_name e.0 e.1;
+  kind = Some (own_kind e.1);
+  compar = any_compar;
+  constant = None;
+  constant_line = false;
+  parents = [];
+}
+
+-- one point, with a variable for each column
+abbrev pub declaration_of : List ℕ → List (List ℕ) → List ColumnKind → PointDecl
+declaration_of point names kinds = record { name = point; edges = []; vars = map var_of (zip names kinds) }
+
+-- ---- the records
+
+abbrev pub value_at : ColumnKind × List ℕ → Value
+value_at e = unwrap_or (cell_value e.0 e.1) value.Missing
+
+abbrev pub record_of : PointDecl → List ColumnKind → Placed → Recorded
+record_of d kinds row = record { decl = d; nonce = None; values = map value_at (zip kinds row.cells) }
+
+abbrev pub records_of : PointDecl → List ColumnKind → List Placed → List Write
+records_of d kinds rows = map (λ row. Records (record_of d kinds row)) rows
+
+-- the header lines, the declaration, and a record for each row
+abbrev pub writes_of : PointDecl → List ColumnKind → List Placed → List Write
+writes_of d kinds rows = Begins ∷ (Declares d ∷ records_of d kinds rows)
+
+-- ---- what can't be told
+
+-- each cell writes a value of its column's kind
+abbrev pub is_told : List ColumnKind → Placed → Bool
+is_told kinds row = list_all (λ e. is_some (cell_value e.0 e.1)) (zip kinds row.cells)
+
+-- a record with no value
+abbrev pub empty_record : PointDecl → Recorded
+empty_record d = record { decl = d; nonce = None; values = replicate (length d.vars) value.Missing }
+
+-- the point and the variables have names that lines tell
+abbrev pub are_named : PointDecl → Bool
+are_named d = can_declare d && can_record (empty_record d)
+
+-- the first row with a cell that is none of its column's kind is refused
+abbrev pub if_told : List ColumnKind → List Placed → List Write → Result (List Write) TableFault
+if_told kinds [] ws = Ok ws
+if_told kinds (row ∷ rows) ws = if is_told kinds row then if_told kinds rows ws else Err (Refused row.file row.number BadCell)
+
+-- The trace of a table with columns of these kinds, or why there is none.
+abbrev pub trace_with : List ℕ → List (List ℕ) → List ColumnKind → List Placed → Result (List Write) TableFault
+trace_with point names kinds rows =
+    let d : PointDecl = declaration_of point names kinds in
+    if are_named d then if_told kinds rows (writes_of d kinds rows) else Err (Refused 0 1 BadName)
+
+-- The trace of a table, or why there is none. Kinds are found by so many rows, or by all.
+abbrev pub trace_of_table : List ℕ → Option ℕ → List (List ℕ) → List Placed → Result (List Write) TableFault
+trace_of_table point types names rows = trace_with point names (kinds_of (judged types rows) (length names)) rows

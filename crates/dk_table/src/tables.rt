@@ -1,0 +1,134 @@
+// The rows and the columns' names of the tables in some files.
+ghost use Rattle.std.specs.Prelude.{◌≡◌, ◌≢◌, ◌+◌, ◌-◌, ◌^◌, ◌<◌, ◌++◌, [], IfOk, codes, if◌then◌else◌};
+ghost use Rattle.std.specs.Fmt.{decimal};
+ghost use Rattle.dk_table.specs.Outcomes.{Answers};
+ghost use Rattle.dk_table.specs.Tables.{behind_header, first_of, names_by, names_of, rows_in as rows_in_file, rows_of, rows_of_all, same_cells, uneven_row};
+
+use crate::command::Command;
+use crate::faults::{TableFault, TableWhy};
+use crate::rows::{Row, rows_in};
+use dk_base::{List, NoMemory, Text, same_bytes};
+use itoa::Buffer;
+use std::alloc::Global;
+
+// Whether the row has these names as its cells.
+fn are_cells(names: &[Text], row: &Row) -> bool
+    ensures { result ≡ same_cells names.now row.now.cells }
+{
+    if names.len() != row.len() {
+        return false;
+    }
+    for i in 0..names.len() {
+        if !same_bytes(names[i].as_slice(), row.cell(i)) {
+            return false;
+        }
+    }
+    true
+}
+
+// The number of the first row with another number of cells than there are columns.
+fn uneven_row(columns: usize, rows: &[Row]) -> Option<u64>
+    ensures { result ≡ uneven_row columns rows.now }
+{
+    for row in rows {
+        if row.len() != columns {
+            return Some(row.number());
+        }
+    }
+    None
+}
+
+// The rows behind the header, where there is one.
+fn body_of(has_header: bool, mut rows: Vec<Row>) -> Vec<Row>
+    requires { rows.items ≢ [] }
+    ensures { result.items ≡ behind_header has_header rows.items }
+{
+    if has_header {
+        rows.remove(0);
+    }
+    rows
+}
+
+// The rows of a file at this place that belong to a table with columns of these names.
+fn rows_of(
+    has_header: bool,
+    names: &[Text],
+    file: usize,
+    rows: Vec<Row>,
+) -> Result<Vec<Row>, TableFault>
+    ensures { Answers (λ own. own.items) (rows_of has_header names.now file rows.items) result }
+{
+    let Some(first) = rows.first() else {
+        return Err(TableFault::Refused(file, 1, TableWhy::NoHeader));
+    };
+    if has_header && !are_cells(names, first) {
+        return Err(TableFault::Refused(file, 1, TableWhy::OtherHeader));
+    }
+    match uneven_row(names.len(), rows.as_slice()) {
+        Some(number) => Err(TableFault::Refused(file, number, TableWhy::RowLength)),
+        None => Ok(body_of(has_header, rows)),
+    }
+}
+
+/// The rows of all files.
+pub(crate) fn rows_of_all(
+    alloc: Global,
+    command: &Command,
+    names: &[Text],
+    files: &[Text],
+) -> Result<Vec<Row>, TableFault>
+    ensures { Answers (λ rows. rows.items) (rows_of_all command.now names.now 0 files.now) result }
+{
+    let mut all = Vec::new(alloc);
+    for file in 0..files.len() {
+        let rows = rows_in(alloc, command.separator, file, files[file].as_slice())?;
+        let mut own = rows_of(command.has_header, names, file, rows)?;
+        all.append(&mut own)?;
+    }
+    Ok(all)
+}
+
+// `column1` and so on.
+fn made_name(alloc: Global, place: usize) -> Result<Text, NoMemory>
+    requires { place < 2 ^ 64 - 1 }
+    ensures { IfOk result (λ name. name ≡ codes "column" ++ decimal (place + 1)) }
+{
+    let mut buffer = Buffer::new();
+    let mut name = Text::from_slice(alloc, b"column")?;
+    name.append(buffer.format(place as u64 + 1).as_bytes())?;
+    Ok(name)
+}
+
+// The names of the columns by the first row.
+fn names_by(alloc: Global, has_header: bool, row: &Row) -> Result<List<Text>, NoMemory>
+    ensures { IfOk result (λ names. names ≡ names_by has_header row.now.cells) }
+{
+    let mut names = List::new(alloc);
+    for place in 0..row.len() {
+        if has_header {
+            names.push(Text::from_slice(alloc, row.cell(place))?)?;
+        } else {
+            names.push(made_name(alloc, place)?)?;
+        }
+    }
+    Ok(names)
+}
+
+/// The names that the first file's first row gives.
+pub(crate) fn names_of(
+    alloc: Global,
+    command: &Command,
+    files: &[Text],
+) -> Result<List<Text>, TableFault>
+    ensures { Answers (λ names. names) (names_of command.now.has_header (rows_in_file command.now.separator 0 (first_of files.now))) result }
+{
+    let bytes: &[u8] = match files.first() {
+        Some(text) => text.as_slice(),
+        None => b"",
+    };
+    let rows = rows_in(alloc, command.separator, 0, bytes)?;
+    match rows.first() {
+        Some(first) => Ok(names_by(alloc, command.has_header, first)?),
+        None => Err(TableFault::Refused(0, 1, TableWhy::NoHeader)),
+    }
+}
