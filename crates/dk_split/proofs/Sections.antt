@@ -4,12 +4,11 @@ use Rattle.std.proofs.lemmas.List.{append-nil, length-map}
 use Rattle.dk_base.specs.Pieces.{is_empty}
 use Rattle.dk_base.specs.declared.kinds.VarInfo.{VarInfo}
 use Rattle.dk_base.specs.declared.values.Value.{Value}
-use Rattle.dk_blocks.specs.History.{History}
 use Rattle.dk_derive.specs.Values.{values_by_form}
 use Rattle.dk_halves.specs.Reports.{implications_at, implications_text}
 use Rattle.dk_halves.specs.Standing.{Engines, StandFor}
-use Rattle.dk_hierarchy.specs.Samples.{all_vars_of, own_samples_of}
-use Rattle.dk_points.specs.Table.{names}
+use Rattle.dk_hierarchy.specs.Samples.{OwnSamples, all_vars_of, own_samples_of}
+use Rattle.dk_points.specs.Table.{Point, names}
 use Rattle.dk_presence.specs.Patterns.{capped}
 use Rattle.dk_report.proofs.Stated.{name_at}
 use Rattle.dk_report.specs.Reports.{name_in_table}
@@ -34,24 +33,24 @@ some_of : (own : List (List Value)) (n : ℕ) → n ≡ capped (length own) → 
 some_of [] n number some = absurd (some number)
 some_of (x ∷ xs) n number some = refl
 
-module _ (h : History) (p : ℕ) (split : Engines) (least : ℕ) (stands : StandFor split (own_samples_of h.table h.samples p)) where
+module _ (ps : List Point) (samples : OwnSamples) (p : ℕ) (split : Engines) (least : ℕ) (stands : StandFor split (own_samples_of ps samples p)) where
   abbrev own : List (List Value)
-  own = slice_index_or h.samples p []
+  own = slice_index_or samples p []
 
   number : split.whole.kept.samples ≡ capped (length own)
-  number = stands.whole.kept_is.number ∙ ap capped (length-map own (values_by_form (all_vars_of h.table p)))
+  number = stands.whole.kept_is.number ∙ ap capped (length-map own (values_by_form (all_vars_of ps p)))
 
   -- a point without own samples has none
-  pub none_written : (text : List ℕ) → split.whole.kept.samples ≡ 0 → text ≡ text ++ implications_at Two least h.table h.samples p
+  pub none_written : (text : List ℕ) → split.whole.kept.samples ≡ 0 → text ≡ text ++ implications_at Two least ps samples p
   unfolding implications_at
-  none_written text nil = sym (ap (λ (b : Bool). text ++ (if b then [] else implications_text Two least (name_in_table h.table p) (all_vars_of h.table p) (own_samples_of h.table h.samples p))) (none_of own split.whole.kept.samples number nil)
+  none_written text nil = sym (ap (λ (b : Bool). text ++ (if b then [] else implications_text Two least (name_in_table ps p) (all_vars_of ps p) (own_samples_of ps samples p))) (none_of own split.whole.kept.samples number nil)
       ∙ append-nil text)
 
-  pub some_written : (name : List ℕ) → (split.whole.kept.samples ≡ 0 → ⊥) → slice_get (names h.table) p ≡ Some name → split.whole.grammar ≡ Two → split.whole.infos ≡ all_vars_of h.table p
-      → implications_text split.whole.grammar least name split.whole.infos (own_samples_of h.table h.samples p) ≡ implications_at Two least h.table h.samples p
+  pub some_written : (name : List ℕ) → (split.whole.kept.samples ≡ 0 → ⊥) → slice_get (names ps) p ≡ Some name → split.whole.grammar ≡ Two → split.whole.infos ≡ all_vars_of ps p
+      → implications_text split.whole.grammar least name split.whole.infos (own_samples_of ps samples p) ≡ implications_at Two least ps samples p
   unfolding implications_at
   some_written name some named grammar infos =
-      ap (λ (g : Grammar). implications_text g least name split.whole.infos (own_samples_of h.table h.samples p)) grammar
-      ∙ ap (λ (n : List ℕ). implications_text Two least n split.whole.infos (own_samples_of h.table h.samples p)) (sym (name_at (names h.table) p name named))
-      ∙ ap (λ (vars : List VarInfo). implications_text Two least (name_in_table h.table p) vars (own_samples_of h.table h.samples p)) infos
-      ∙ sym (ap (λ (b : Bool). if b then [] else implications_text Two least (name_in_table h.table p) (all_vars_of h.table p) (own_samples_of h.table h.samples p)) (some_of own split.whole.kept.samples number some))
+      ap (λ (g : Grammar). implications_text g least name split.whole.infos (own_samples_of ps samples p)) grammar
+      ∙ ap (λ (n : List ℕ). implications_text Two least n split.whole.infos (own_samples_of ps samples p)) (sym (name_at (names ps) p name named))
+      ∙ ap (λ (vars : List VarInfo). implications_text Two least (name_in_table ps p) vars (own_samples_of ps samples p)) infos
+      ∙ sym (ap (λ (b : Bool). if b then [] else implications_text Two least (name_in_table ps p) (all_vars_of ps p) (own_samples_of ps samples p)) (some_of own split.whole.kept.samples number some))

@@ -1,13 +1,11 @@
--- What is kept while files are read, and what it stands for.
+-- What the splits of points stand for.
 use Rattle.std.specs.Prelude.{◌≡◌, ℕ, List, length, slice_get, Some}
 use Rattle.dk_base.specs.declared.values.Value.{Value}
-use Rattle.dk_blocks.specs.History.{History}
-use Rattle.dk_events.specs.Standing.{EventsStandFor}
 use Rattle.dk_halves.specs.Standing.{Engines, StandFor}
-use Rattle.dk_hierarchy.specs.Samples.{all_vars_of, own_samples_of}
+use Rattle.dk_hierarchy.specs.Samples.{OwnSamples, all_vars_of, own_samples_of}
 use Rattle.dk_points.specs.Table.{Point}
 use Rattle.dk_template.specs.declared.grammar.Grammar.TheVariants.{Two}
-use Rattle.dk_split.specs.declared.splitting.Splitting.{Splitting}
+use Rattle.dk_split.specs.declared.splits.Splits.{Splits}
 
 -- the engines of a split are over the variables of the point at a place, by the second grammar
 pub record IsSplitAt (ps : List Point) (p : ℕ) (split : Engines) : Type 0 where
@@ -23,7 +21,8 @@ pub record AreSplitsOf (ps : List Point) (splits : List Engines) : Type 0 where
 abbrev pub SplitsStandFor : List Engines → (ℕ → List (List Value)) → Type 0
 SplitsStandFor splits samples = (i : ℕ) (split : Engines) → slice_get splits i ≡ Some split → StandFor split (samples i)
 
--- What is kept stands for a history: the events do, and each split stands for the own samples of its point, with derived values.
-pub record StandsFor (s : Splitting) (h : History) : Type 0 where
-  pub events : EventsStandFor s.events h
-  pub splits : SplitsStandFor s.splits.items (own_samples_of h.table h.samples)
+-- There is a split for each point, which stands for the point's own samples, with derived values.
+pub record StandsFor (s : Splits) (ps : List Point) (samples : OwnSamples) : Type 0 where
+  pub long : length s.splits.items ≡ length ps
+  pub many : length samples ≡ length ps
+  pub splits : SplitsStandFor s.splits.items (own_samples_of ps samples)

@@ -1,25 +1,64 @@
-// What the words of the command ask for.
-use crate::FileName;
-use dk_base::List;
+// What the arguments of the command ask for.
+use crate::texts::{HELP_TEXT, USAGE_LINE, VERSION_TEXT};
+use dk_arguments::{Argument, Arguments, ArgumentsFault, Description, Form, Matches};
+use dk_driver::Traces;
+use std::alloc::Global;
 
 /// What a run is to do.
 #[derive(Debug, Drop)]
 pub struct Command {
     /// The least number of samples of a half that a printed instance has, from 1 to 1,000,000,000.
     pub least: u64,
-    /// Whether an exit record without an entry is left out, instead of refused.
-    pub ignore_missing_entry: bool,
-    /// The names of the files, in order. One that stands twice is read twice.
-    pub files: List<FileName>,
+    /// The files, in order. One that stands twice is read twice.
+    pub traces: Traces,
 }
 
-/// What the words of the command ask for.
-#[derive(Debug, Drop)]
-pub enum Request {
-    /// A run.
-    Run(Command),
-    /// The help text.
-    Help,
-    /// The version text.
-    Version,
+const DESCRIPTION: Description = Description {
+    name: "dk_split",
+    arguments: &[
+        Argument {
+            name: "min-samples",
+            form: Form::Number {
+                least: 1,
+                most: 1_000_000_000,
+            },
+        },
+        Argument {
+            name: "ignore-missing-entry",
+            form: Form::Flag,
+        },
+        Argument {
+            name: "file",
+            form: Form::Positionals { required: false },
+        },
+    ],
+    usage: USAGE_LINE,
+    help: HELP_TEXT,
+    version: VERSION_TEXT,
+};
+
+impl Arguments for Command {
+    ghost use Rattle.std.specs.Prelude.{Some, refl};
+    ghost use Rattle.dk_split.specs.Requests.{command_of, dk_split};
+
+    ghost command = { dk_split };
+
+    ghost meant = { λ rows. Some (command_of rows) };
+
+    ghost is_defined = { refl };
+
+    fn description() -> Description {
+        DESCRIPTION
+    }
+
+    fn from_matches(alloc: Global, matches: &Matches<'_>) -> Result<Self, ArgumentsFault> {
+        let names = matches.texts(alloc, "file")?;
+        Ok(Command {
+            least: matches.number("min-samples").unwrap_or(5),
+            traces: Traces {
+                names,
+                ignore_missing_entry: matches.is_given("ignore-missing-entry"),
+            },
+        })
+    }
 }

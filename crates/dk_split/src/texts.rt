@@ -2,11 +2,12 @@
 ghost use Rattle.std.specs.Prelude.{◌≡◌};
 ghost use Rattle.dk_split.specs.Texts.{help_text, usage_line, version_text};
 
-const USAGE_LINE: &str = "usage: dk_split [--min-samples N] [--ignore-missing-entry] [FILE]...\n";
+pub(crate) const USAGE_LINE: &str =
+    "usage: dk_split [--min-samples N] [--ignore-missing-entry] [FILE]...\n";
 
-const VERSION_TEXT: &str = "dk_split 0.1.0\n";
+pub(crate) const VERSION_TEXT: &str = "dk_split 0.1.0\n";
 
-const HELP_TEXT: &str = "\
+pub(crate) const HELP_TEXT: &str = "\
 usage: dk_split [--min-samples N] [--ignore-missing-entry] [FILE]...
 
 Reads declarations of program points and records of their samples from the

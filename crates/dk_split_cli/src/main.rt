@@ -3,19 +3,29 @@
 #![tactic(auto)]
 
 use dk_events::Ended;
-use dk_host::{FileInputs, HostSinks};
-use dk_run::words_of;
+use dk_io::{Inputs, Sinks};
+use dk_main::{Main, run_main};
 use dk_split::{run_split, tell_usage};
-use std::io::ErrorKind;
+use std::alloc::Global;
 use std::process::ExitCode;
 
+struct Split;
+
+impl Main for Split {
+    fn run<I: Inputs, S: Sinks>(
+        alloc: Global,
+        words: &[String],
+        inputs: &mut I,
+        sinks: &mut S,
+    ) -> Ended {
+        run_split(alloc, words, inputs, sinks)
+    }
+
+    fn refuse<S: Sinks>(sinks: &mut S) -> Ended {
+        tell_usage(sinks)
+    }
+}
+
 fn main(rt: HostRuntime) -> ExitCode {
-    let mut inputs = FileInputs::new(&rt);
-    let mut sinks = HostSinks::new(&rt, rt.stdout(), rt.stderr());
-    let ended = match words_of(&rt) {
-        Ok(words) => run_split(rt.alloc(), words.as_slice(), &mut inputs, &mut sinks),
-        Err(error) if error.kind() == ErrorKind::InvalidData => tell_usage(&mut sinks),
-        Err(_) => Ended::NoMemory,
-    };
-    ExitCode::from(sinks.finish(ended.code()))
+    run_main::<Split, _, _, _>(&rt, rt.stdout(), rt.stderr())
 }

@@ -1,13 +1,11 @@
 -- Tables: the rows of cells of some files.
-use Rattle.std.specs.Prelude.{◌&&◌, ◌==◌, ◌+◌, ◌++◌, ◌∷◌, [], ℕ, Bool, true, false, not, List, Option, Some, None, Result, Ok, Err, codes, drop, find, length, map, option_map, unwrap_or, if◌then◌else◌}
+use Rattle.std.specs.Prelude.{◌&&◌, ◌==◌, ◌+◌, ◌++◌, ◌∷◌, [], ℕ, Bool, true, false, not, List, Option, Some, None, Result, Ok, Err, codes, drop, find, length, map, option_map, if◌then◌else◌}
 use Rattle.std.specs.Fmt.{decimal}
 use Rattle.std.specs.List.{range_with_len}
 use Rattle.std.specs.Str.{bytes_eq}
 use Rattle.csv.specs.Reading.{default_config, records, strip_bom}
 use Rattle.csv.specs.declared.parser.Config.{Config}
-use Rattle.dk_write.specs.Texts.{Write}
 use Rattle.dk_table.specs.Placed.{Placed}
-use Rattle.dk_table.specs.Traces.{trace_of_table}
 use Rattle.dk_table.specs.declared.faults.TableFault.{TableFault}
 use Rattle.dk_table.specs.declared.faults.TableFault.TheVariants.{Refused}
 use Rattle.dk_table.specs.declared.faults.TableWhy.TheVariants.{NoHeader, OtherHeader, RowLength}
@@ -85,10 +83,3 @@ names_of header (first ∷ rest) = Ok (names_by header first.cells)
 abbrev pub first_of : List (List ℕ) → List ℕ
 first_of [] = []
 first_of (bytes ∷ more) = bytes
-
--- The trace of the tables in files of these bytes, or why there is none: names by the first row, the rows of all files, and then the trace. The
--- point's name is the one that is asked for, or this one.
-abbrev pub trace_of : Command → List ℕ → List (List ℕ) → Result (List Write) TableFault
-trace_of c name files =
-    names_of c.has_header (rows_in c.separator 0 (first_of files)) >>= λ names. rows_of_all c names 0 files >>= λ rows.
-    trace_of_table (unwrap_or c.point name) c.types names rows

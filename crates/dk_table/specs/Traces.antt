@@ -13,20 +13,14 @@ use Rattle.dk_write.specs.Records.{Recorded}
 use Rattle.dk_write.specs.Texts.{Begins, Declares, Records, Write}
 use Rattle.dk_write.specs.Writable.{can_declare, can_record}
 use Rattle.dk_table.specs.Columns.{cell_value, kind_of_column}
-use Rattle.dk_table.specs.Placed.{Placed}
+use Rattle.dk_table.specs.Placed.{Placed, cells_at}
+use Rattle.dk_table.specs.Tables.{◌>>=◌, first_of, names_of, rows_in, rows_of_all}
+use Rattle.dk_table.specs.declared.command.Command.{Command}
 use Rattle.dk_table.specs.declared.columns.ColumnKind.{ColumnKind}
 use Rattle.dk_table.specs.declared.columns.ColumnKind.TheVariants as kind
 use Rattle.dk_table.specs.declared.faults.TableFault.{TableFault}
 use Rattle.dk_table.specs.declared.faults.TableFault.TheVariants.{Refused}
 use Rattle.dk_table.specs.declared.faults.TableWhy.TheVariants.{BadCell, BadName}
-
--- the cell of a row at a place; an empty one, where there is none
-abbrev pub cell_at : ℕ → Placed → List ℕ
-cell_at place row = unwrap_or (slice_get row.cells place) []
-
--- the cells of a column
-abbrev pub cells_at : List Placed → ℕ → List (List ℕ)
-cells_at rows place = map (cell_at place) rows
 
 -- the rows by which kinds are found: so many, or all
 abbrev pub judged : Option ℕ → List Placed → List Placed
@@ -111,3 +105,10 @@ trace_with point names kinds rows =
 -- The trace of a table, or why there is none. Kinds are found by so many rows, or by all.
 abbrev pub trace_of_table : List ℕ → Option ℕ → List (List ℕ) → List Placed → Result (List Write) TableFault
 trace_of_table point types names rows = trace_with point names (kinds_of (judged types rows) (length names)) rows
+
+-- The trace of the tables in files of these bytes, or why there is none: names by the first row, the rows of all files, and then the trace. The
+-- point's name is the one that is asked for, or this one.
+abbrev pub trace_of : Command → List ℕ → List (List ℕ) → Result (List Write) TableFault
+trace_of c name files =
+    names_of c.has_header (rows_in c.separator 0 (first_of files)) >>= λ names. rows_of_all c names 0 files >>= λ rows.
+    trace_of_table (unwrap_or c.point name) c.types names rows

@@ -5,7 +5,7 @@ ghost use Rattle.dk_base.specs.Pieces.{is_empty};
 ghost use Rattle.dk_base.specs.Values.{value_of as value_shown};
 ghost use Rattle.dk_base.specs.declared.values.Value.TheVariants as value;
 ghost use Rattle.dk_table.specs.Columns.{all_write, cell_value, kind_of_column, written_value};
-ghost use Rattle.dk_table.specs.Traces.{cells_at};
+ghost use Rattle.dk_table.specs.Placed.{cells_at};
 
 use crate::cells::{TruthWords, decimal, quoted, truth, whole};
 use crate::rows::Row;

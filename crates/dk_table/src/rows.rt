@@ -2,7 +2,7 @@
 ghost use Rattle.std.specs.Prelude.{◌≡◌, IfOk, [], length, slice_get, unwrap_or};
 ghost use Rattle.csv.specs.Records.{fields_of};
 ghost use Rattle.dk_table.specs.Tables.{rows_in};
-ghost use Rattle.dk_table.specs.Traces.{cell_at};
+ghost use Rattle.dk_table.specs.Placed.{cell_at};
 
 use csv::{ByteRecord, ReaderBuilder};
 use dk_base::NoMemory;

@@ -1,6 +1,6 @@
 use Rattle.std.proofs.Common.{◌≡◌, drop}
 use Rattle.dk_table.specs.Columns.{all_write}
-use Rattle.dk_table.specs.Traces.{cells_at}
+use Rattle.dk_table.specs.Placed.{cells_at}
 use Rattle.dk_table.proofs.columns.all_write.Given as goal
 
 abbrev pub invariant-loop-row : goal.invariant-loop-row

@@ -1,0 +1,11 @@
+-- cited by public clauses
+pub mod Statuses
+pub mod Tasks
+pub mod Moments
+pub mod Ending
+pub mod Messages
+-- what those are made of
+pub mod Outputs
+pub mod Telling
+-- for worked examples
+pub mod Examples

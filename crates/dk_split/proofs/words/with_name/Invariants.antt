@@ -1,6 +1,0 @@
-use Rattle.std.proofs.Common.{◌≡◌, map, take, string_bytes}
-use Rattle.dk_split.specs.Accepted.{named}
-use Rattle.dk_split.proofs.words.with_name.Given as goal
-
-abbrev pub invariant-loop-word : goal.invariant-loop-word
-invariant-loop-word l = map (λ text. text.now) l.texts.items ≡ named (map string_bytes (take l.word-index l.words))
