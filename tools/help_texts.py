@@ -1,4 +1,4 @@
-"""The help texts of the four programs, as their sources have them."""
+"""The help texts of the five programs, as their sources have them."""
 import os
 import re
 
@@ -8,6 +8,7 @@ SOURCES: dict[str, str] = {
     "dk_split": "crates/dk_split/src/texts.rt",
     "dk_check": "crates/dk_check/src/texts.rt",
     "dk_merge": "crates/dk_merge_words/src/texts.rt",
+    "dk_table": "crates/dk_table/src/texts.rt",
 }
 ESCAPES = {"\\n": "\n", '\\"': '"', "\\\\": "\\", "\\\n": ""}
 

@@ -1,1 +1,6 @@
-pub mod Telling
+pub mod AllRecords
+pub mod Contents
+pub mod Getting
+pub mod Pairs
+pub mod Saying
+pub mod Steps

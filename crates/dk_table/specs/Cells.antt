@@ -30,12 +30,13 @@ truth w cell = if bytes_eq cell (yes w) then Some true else if bytes_eq cell (no
 unfoldable pub is_front : List ℕ → Bool
 is_front front = is_some (whole front) || bytes_eq front (codes "-0")
 
--- Where the dot (46) of a decimal with so many places stands. Behind it stand digits alone.
+-- at this place stands a decimal's dot (46), and behind it stand digits alone
+unfoldable pub is_dot : List ℕ → ℕ → Bool
+is_dot cell dot = slice_index cell dot == 46 && (is_front (take dot cell) && list_all is_ascii_digit (drop (dot + 1) cell))
+
+-- where the dot of a decimal with so many places stands
 unfoldable pub dot_of : ℕ → List ℕ → Option ℕ
-dot_of places cell =
-    let dot = length cell - places - 1 in
-    if nat_lt places (length cell) && (slice_index cell dot == 46 && (is_front (take dot cell) && list_all is_ascii_digit (drop (dot + 1) cell)))
-    then Some dot else None
+dot_of places cell = let dot = length cell - places - 1 in if nat_lt places (length cell) && is_dot cell dot then Some dot else None
 
 -- the decimal with so many places that the cell writes, times 10 to their number, within 64 bits
 unfoldable pub decimal_of : ℕ → List ℕ → Option ℤ

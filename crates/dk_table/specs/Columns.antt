@@ -5,7 +5,7 @@ use Rattle.dk_base.specs.Pieces.{is_empty}
 use Rattle.dk_base.specs.declared.values.Value.{Value}
 use Rattle.dk_base.specs.declared.values.Value.TheVariants as value
 use Rattle.dk_table.specs.Cells.{decimal_of, quoted, truth, whole}
-use Rattle.dk_table.specs.declared.TheConstants.{CANDIDATES}
+use Rattle.dk_table.specs.declared.columns.TheConstants.{CANDIDATES}
 use Rattle.dk_table.specs.declared.columns.ColumnKind.{ColumnKind}
 use Rattle.dk_table.specs.declared.columns.ColumnKind.TheVariants as kind
 
@@ -24,6 +24,10 @@ cell_value k cell = if is_empty cell then Some value.Missing else written_value 
 abbrev pub all_write : ColumnKind → List (List ℕ) → Bool
 all_write k cells = list_all (λ cell. is_some (cell_value k cell)) cells
 
--- The kind of a column by its cells: the first candidate that all of them write. Where all are empty, or write none, it has texts.
+-- the first of these kinds that all of them write, or else texts
+abbrev pub first_kind : List ColumnKind → List (List ℕ) → ColumnKind
+first_kind kinds cells = unwrap_or (find (λ k. all_write k cells) kinds) kind.Text
+
+-- The kind of a column by its cells. Where all are empty, it has texts.
 abbrev pub kind_of_column : List (List ℕ) → ColumnKind
-kind_of_column cells = if list_all is_empty cells then kind.Text else unwrap_or (find (λ k. all_write k cells) CANDIDATES) kind.Text
+kind_of_column cells = if list_all is_empty cells then kind.Text else first_kind CANDIDATES cells

@@ -1,14 +1,14 @@
 -- Tables: the rows of cells of some files.
-use Rattle.std.specs.Prelude.{◌&&◌, ◌==◌, ◌+◌, ◌++◌, ◌∷◌, [], ℕ, Bool, true, false, not, List, Option, Some, None, Result, Ok, Err, codes, drop, find, length, map, option_map, if◌then◌else◌}
+use Rattle.std.specs.Prelude.{◌&&◌, ◌==◌, ◌+◌, ◌%◌, ◌++◌, ◌∷◌, [], ℕ, Bool, not, List, Option, Some, None, Result, Ok, Err, codes, count_by, drop, find, length, map, option_map, if◌then◌else◌}
 use Rattle.std.specs.Fmt.{decimal}
-use Rattle.std.specs.List.{range_with_len}
+use Rattle.std.specs.List.{list_all, range_with_len, zip}
 use Rattle.std.specs.Str.{bytes_eq}
 use Rattle.csv.specs.Reading.{default_config, records, strip_bom}
 use Rattle.csv.specs.declared.parser.Config.{Config}
 use Rattle.dk_table.specs.Placed.{Placed}
-use Rattle.dk_table.specs.declared.faults.TableFault.{TableFault}
-use Rattle.dk_table.specs.declared.faults.TableFault.TheVariants.{Refused}
-use Rattle.dk_table.specs.declared.faults.TableWhy.TheVariants.{NoHeader, OtherHeader, RowLength}
+use Rattle.dk_table.specs.declared.faults.Refusal.{Refusal}
+use Rattle.dk_table.specs.declared.faults.TableWhy.{TableWhy}
+use Rattle.dk_table.specs.declared.faults.TableWhy.TheVariants.{NoHeader, OpenQuote, OtherHeader, RowLength}
 use Rattle.dk_table.specs.declared.command.Command.{Command}
 
 -- ---- the rows of a file
@@ -28,11 +28,9 @@ rows_in separator file bytes = placed_from file 1 (records (config_by separator)
 
 -- ---- the rows of a table
 
--- the same bytes in each cell
+-- as many cells, and the same bytes in each
 abbrev pub same_cells : List (List ℕ) → List (List ℕ) → Bool
-same_cells [] [] = true
-same_cells (a ∷ as) (b ∷ bs) = bytes_eq a b && same_cells as bs
-same_cells _ _ = false
+same_cells names cells = length names == length cells && list_all (λ e. bytes_eq e.0 e.1) (zip names cells)
 
 abbrev pub is_uneven : ℕ → Placed → Bool
 is_uneven columns row = not (length row.cells == columns)
@@ -41,9 +39,13 @@ is_uneven columns row = not (length row.cells == columns)
 abbrev pub uneven_row : ℕ → List Placed → Option ℕ
 uneven_row columns rows = option_map (λ row. row.number) (find (is_uneven columns) rows)
 
+-- a table is refused at a row of a file
+abbrev pub refused : {A : Type 0} → ℕ → ℕ → TableWhy → Result A Refusal
+refused file row why = Err (record { file = file; row = row; why = why })
+
 -- such a row is refused
-abbrev pub if_even : ℕ → Option ℕ → Result (List Placed) TableFault → Result (List Placed) TableFault
-if_even file (Some number) rows = Err (Refused file number RowLength)
+abbrev pub if_even : ℕ → Option ℕ → Result (List Placed) Refusal → Result (List Placed) Refusal
+if_even file (Some row) rows = refused file row RowLength
 if_even file None rows = rows
 
 -- the rows behind the header, where there is one
@@ -51,32 +53,48 @@ abbrev pub behind_header : Bool → List Placed → List Placed
 behind_header header rows = if header then drop 1 rows else rows
 
 -- The rows of the file at this place that belong to a table with columns of these names. A header has to name them.
-abbrev pub rows_of : Bool → List (List ℕ) → ℕ → List Placed → Result (List Placed) TableFault
-rows_of header names file [] = Err (Refused file 1 NoHeader)
+abbrev pub rows_of : Bool → List (List ℕ) → ℕ → List Placed → Result (List Placed) Refusal
+rows_of header names file [] = refused file 1 NoHeader
 rows_of header names file (first ∷ rest) =
-    if header && not (same_cells names first.cells) then Err (Refused file 1 OtherHeader)
+    if header && not (same_cells names first.cells) then refused file 1 OtherHeader
     else if_even file (uneven_row (length names) (first ∷ rest)) (Ok (behind_header header (first ∷ rest)))
 
+-- the quotes (34) go in pairs
+abbrev pub are_paired : List ℕ → Bool
+are_paired bytes = count_by (λ b. b == 34) bytes % 2 == 0
+
+-- the rows of the file at this place, of these bytes
+abbrev pub file_rows : Command → List (List ℕ) → ℕ → List ℕ → Result (List Placed) Refusal
+file_rows c names file bytes =
+    let rows = rows_in c.separator file bytes in
+    if are_paired bytes then rows_of c.has_header names file rows else refused file (length rows) OpenQuote
+
 infixl 10 ◌>>=◌
-abbrev pub ◌>>=◌ : {A B : Type 0} → Result A TableFault → (A → Result B TableFault) → Result B TableFault
+abbrev pub ◌>>=◌ : {A B : Type 0} → Result A Refusal → (A → Result B Refusal) → Result B Refusal
 Ok x >>= f = f x
-Err fault >>= f = Err fault
+Err refusal >>= f = Err refusal
 
 -- the rows of all files, the first of which has this place
-abbrev pub rows_of_all : Command → List (List ℕ) → ℕ → List (List ℕ) → Result (List Placed) TableFault
+abbrev pub rows_of_all : Command → List (List ℕ) → ℕ → List (List ℕ) → Result (List Placed) Refusal
 rows_of_all c names file [] = Ok []
-rows_of_all c names file (bytes ∷ more) =
-    rows_of c.has_header names file (rows_in c.separator file bytes) >>= λ front. rows_of_all c names (file + 1) more >>= λ rest. Ok (front ++ rest)
+rows_of_all c names file (bytes ∷ more) = file_rows c names file bytes >>= λ front. rows_of_all c names (file + 1) more >>= λ rest. Ok (front ++ rest)
 
 -- ---- the columns
 
--- the names of the columns by the first row: its cells, or `column1` and so on
+-- `column1` and so on
+abbrev pub made_name : ℕ → List ℕ
+made_name place = codes "column" ++ decimal (place + 1)
+
+abbrev pub made_names : ℕ → List (List ℕ)
+made_names count = map made_name (range_with_len 0 count)
+
+-- the names of the columns by the first row: its cells, or made ones
 abbrev pub names_by : Bool → List (List ℕ) → List (List ℕ)
-names_by header cells = if header then cells else map (λ i. codes "column" ++ decimal (i + 1)) (range_with_len 0 (length cells))
+names_by header cells = if header then cells else made_names (length cells)
 
 -- the names that the first file's first row gives
-abbrev pub names_of : Bool → List Placed → Result (List (List ℕ)) TableFault
-names_of header [] = Err (Refused 0 1 NoHeader)
+abbrev pub names_of : Bool → List Placed → Result (List (List ℕ)) Refusal
+names_of header [] = refused 0 1 NoHeader
 names_of header (first ∷ rest) = Ok (names_by header first.cells)
 
 -- the bytes of the first file

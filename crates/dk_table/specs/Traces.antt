@@ -1,7 +1,6 @@
 -- The trace of a table.
-use Rattle.std.specs.Prelude.{◌&&◌, ◌+◌, ◌^◌, ◌++◌, ◌∷◌, [], ℕ, Bool, false, not, negsuc, List, Option, Some, None, Result, Ok, Err, codes, is_some, length, map, replicate, slice_get, take, unwrap_or, if◌then◌else◌}
+use Rattle.std.specs.Prelude.{◌&&◌, ◌+◌, ◌++◌, ◌∷◌, [], ℕ, Bool, false, not, negsuc, List, Option, Some, None, Result, Ok, Err, codes, find, is_some, length, map, replicate, take, unwrap_or, if◌then◌else◌}
 use Rattle.std.specs.List.{list_all, range_with_len, zip}
-use Rattle.std.specs.Option.{option_map_or}
 use Rattle.dk_base.specs.declared.kinds.Compar.{Compar}
 use Rattle.dk_base.specs.declared.kinds.Kind.{Kind}
 use Rattle.dk_base.specs.declared.kinds.Kind.TheVariants as own
@@ -14,13 +13,13 @@ use Rattle.dk_write.specs.Texts.{Begins, Declares, Records, Write}
 use Rattle.dk_write.specs.Writable.{can_declare, can_record}
 use Rattle.dk_table.specs.Columns.{cell_value, kind_of_column}
 use Rattle.dk_table.specs.Placed.{Placed, cells_at}
-use Rattle.dk_table.specs.Tables.{◌>>=◌, first_of, names_of, rows_in, rows_of_all}
+use Rattle.dk_table.specs.Tables.{◌>>=◌, first_of, names_of, refused, rows_in, rows_of_all}
 use Rattle.dk_table.specs.declared.command.Command.{Command}
 use Rattle.dk_table.specs.declared.columns.ColumnKind.{ColumnKind}
 use Rattle.dk_table.specs.declared.columns.ColumnKind.TheVariants as kind
-use Rattle.dk_table.specs.declared.faults.TableFault.{TableFault}
-use Rattle.dk_table.specs.declared.faults.TableFault.TheVariants.{Refused}
+use Rattle.dk_table.specs.declared.faults.Refusal.{Refusal}
 use Rattle.dk_table.specs.declared.faults.TableWhy.TheVariants.{BadCell, BadName}
+use Rattle.dk_table.specs.declared.traces.Table.{Table}
 
 -- the rows by which kinds are found: so many, or all
 abbrev pub judged : Option ℕ → List Placed → List Placed
@@ -39,10 +38,16 @@ own_kind (kind.Truth words) = own.Bool
 own_kind (kind.Decimal places) = own.Int
 own_kind kind.Text = own.Str
 
--- the name of a column's variable; that of decimals says by what they are taken, as `price * 100`; 48 is the digit 0
+-- the name of decimals that are taken times 10 to their places, as in `price * 100`; 48 is the digit 0
+abbrev pub scaled_name : List ℕ → ℕ → List ℕ
+scaled_name name places = name ++ codes " * 1" ++ replicate places 48
+
+-- the name of a column's variable
 abbrev pub var_name : List ℕ → ColumnKind → List ℕ
-var_name name (kind.Decimal places) = name ++ (codes " * 1" ++ replicate places 48)
-var_name name _ = name
+var_name name kind.Whole = name
+var_name name (kind.Truth words) = name
+var_name name (kind.Decimal places) = scaled_name name places
+var_name name kind.Text = name
 
 -- a number's comparability that says nothing
 abbrev pub any_compar : Compar
@@ -91,24 +96,36 @@ empty_record d = record { decl = d; nonce = None; values = replicate (length d.v
 abbrev pub are_named : PointDecl → Bool
 are_named d = can_declare d && can_record (empty_record d)
 
--- the first row with a cell that is none of its column's kind is refused
-abbrev pub if_told : List ColumnKind → List Placed → List Write → Result (List Write) TableFault
-if_told kinds [] ws = Ok ws
-if_told kinds (row ∷ rows) ws = if is_told kinds row then if_told kinds rows ws else Err (Refused row.file row.number BadCell)
+-- the first row with a cell that is none of its column's kind
+abbrev pub untold_row : List ColumnKind → List Placed → Option Placed
+untold_row kinds rows = find (λ row. not (is_told kinds row)) rows
 
--- The trace of a table with columns of these kinds, or why there is none.
-abbrev pub trace_with : List ℕ → List (List ℕ) → List ColumnKind → List Placed → Result (List Write) TableFault
+abbrev pub bad_cell : Placed → Refusal
+bad_cell row = record { file = row.file; row = row.number; why = BadCell }
+
+-- such a row is refused
+abbrev pub if_told : Option Placed → List Write → Result (List Write) Refusal
+if_told (Some row) ws = Err (bad_cell row)
+if_told None ws = Ok ws
+
+-- ---- the trace
+-- the trace of a table with columns of these kinds, or why there is none
+abbrev pub trace_with : List ℕ → List (List ℕ) → List ColumnKind → List Placed → Result (List Write) Refusal
 trace_with point names kinds rows =
     let d : PointDecl = declaration_of point names kinds in
-    if are_named d then if_told kinds rows (writes_of d kinds rows) else Err (Refused 0 1 BadName)
+    if are_named d then if_told (untold_row kinds rows) (writes_of d kinds rows) else refused 0 1 BadName
 
 -- The trace of a table, or why there is none. Kinds are found by so many rows, or by all.
-abbrev pub trace_of_table : List ℕ → Option ℕ → List (List ℕ) → List Placed → Result (List Write) TableFault
+abbrev pub trace_of_table : List ℕ → Option ℕ → List (List ℕ) → List Placed → Result (List Write) Refusal
 trace_of_table point types names rows = trace_with point names (kinds_of (judged types rows) (length names)) rows
 
 -- The trace of the tables in files of these bytes, or why there is none: names by the first row, the rows of all files, and then the trace. The
 -- point's name is the one that is asked for, or this one.
-abbrev pub trace_of : Command → List ℕ → List (List ℕ) → Result (List Write) TableFault
+abbrev pub trace_of : Command → List ℕ → List (List ℕ) → Result (List Write) Refusal
 trace_of c name files =
     names_of c.has_header (rows_in c.separator 0 (first_of files)) >>= λ names. rows_of_all c names 0 files >>= λ rows.
     trace_of_table (unwrap_or c.point name) c.types names rows
+
+-- the trace of a table that is kept
+abbrev pub kept_writes : Table → List Write
+kept_writes t = writes_of t.decl t.kinds t.rows.items

@@ -1,6 +1,8 @@
 // What a cell writes.
 ghost use Rattle.std.specs.Prelude.{◌≡◌, ◌<◌, ◌++◌, IfOk, IfSome, OnOk, length};
-ghost use Rattle.dk_table.specs.Cells.{decimal_of, dot_of, is_front, no, quoted, quoted_byte, truth, whole, yes};
+ghost use Rattle.std.specs.Char.{is_ascii_digit};
+ghost use Rattle.std.specs.List.{list_all};
+ghost use Rattle.dk_table.specs.Cells.{decimal_of, dot_of, is_dot, is_front, no, quoted, quoted_byte, truth, whole, yes};
 
 use dk_base::{NoMemory, Text, parse_integer, same_bytes};
 use itoa::Buffer;
@@ -78,6 +80,21 @@ fn is_front(front: &[u8]) -> bool
     whole(front).is_some() || same_bytes(front, b"-0")
 }
 
+fn are_digits(text: &[u8]) -> bool
+    ensures { result ≡ list_all is_ascii_digit text.now }
+{
+    text.iter().all(|byte| byte.is_ascii_digit())
+}
+
+// Whether the byte at this place is the dot of a decimal.
+#[tactic(auto, unfolding(crate::specs::Cells::is_dot))]
+fn is_dot(cell: &[u8], dot: usize) -> bool
+    requires { dot < length cell.now }
+    ensures { result ≡ is_dot cell.now dot }
+{
+    cell[dot] == b'.' && is_front(&cell[..dot]) && are_digits(&cell[dot + 1..])
+}
+
 // Where the dot of a decimal with so many places stands.
 #[tactic(auto, unfolding(crate::specs::Cells::dot_of))]
 fn dot_of(places: usize, cell: &[u8]) -> Option<usize>
@@ -88,10 +105,7 @@ fn dot_of(places: usize, cell: &[u8]) -> Option<usize>
         return None;
     }
     let dot = cell.len() - places - 1;
-    if cell[dot] == b'.'
-        && is_front(&cell[..dot])
-        && cell[dot + 1..].iter().all(|byte| byte.is_ascii_digit())
-    {
+    if is_dot(cell, dot) {
         Some(dot)
     } else {
         None

@@ -4,7 +4,7 @@ ghost use Rattle.std.specs.List.{list_all};
 ghost use Rattle.dk_base.specs.Pieces.{is_empty};
 ghost use Rattle.dk_base.specs.Values.{value_of as value_shown};
 ghost use Rattle.dk_base.specs.declared.values.Value.TheVariants as value;
-ghost use Rattle.dk_table.specs.Columns.{all_write, cell_value, kind_of_column, written_value};
+ghost use Rattle.dk_table.specs.Columns.{all_write, cell_value, first_kind, kind_of_column, written_value};
 ghost use Rattle.dk_table.specs.Placed.{cells_at};
 
 use crate::cells::{TruthWords, decimal, quoted, truth, whole};
@@ -131,6 +131,23 @@ fn all_are_empty(rows: &[Row], place: usize) -> bool
     true
 }
 
+// The first of these kinds that each cell of a column writes, or else texts.
+fn first_kind(
+    alloc: Global,
+    kinds: &[ColumnKind],
+    rows: &[Row],
+    place: usize,
+) -> Result<ColumnKind, NoMemory>
+    ensures { IfOk result (λ kind. kind ≡ first_kind kinds.now (cells_at rows.now place)) }
+{
+    for kind in kinds {
+        if all_write(alloc, *kind, rows, place)? {
+            return Ok(*kind);
+        }
+    }
+    Ok(ColumnKind::Text)
+}
+
 /// The kind of a column of these rows.
 pub(crate) fn kind_of_column(
     alloc: Global,
@@ -142,10 +159,5 @@ pub(crate) fn kind_of_column(
     if all_are_empty(rows, place) {
         return Ok(ColumnKind::Text);
     }
-    for kind in &CANDIDATES {
-        if all_write(alloc, *kind, rows, place)? {
-            return Ok(*kind);
-        }
-    }
-    Ok(ColumnKind::Text)
+    first_kind(alloc, &CANDIDATES, rows, place)
 }

@@ -1,11 +1,11 @@
-// What a run is asked for.
-use dk_base::Text;
+// What a trace of tables is to be.
+use dk_arguments::Word;
 
-/// What a run is asked for.
+/// What a trace of tables is to be.
 #[derive(Debug, Drop)]
 pub struct Command {
     /// The point's name; that of the first file where none is given.
-    pub point: Option<Text>,
+    pub point: Option<Word>,
     /// What separates the cells of a row.
     pub separator: u8,
     /// By how many rows the kinds are found; by all where none is given.

@@ -1,110 +1,125 @@
-// A run: the files are read whole, and then their trace is written.
+// A run: the files are read whole, and then the trace of their tables is written.
+ghost use Rattle.std.specs.Prelude.{◌≡◌, IfOk, Some, string_bytes, unwrap_or};
+ghost use Rattle.dk_arguments.specs.declared.request.Request.TheVariants as request;
+ghost use Rattle.dk_driver.specs.Files.{file_name_at};
+ghost use Rattle.dk_io.specs.declared.outside.Stream.TheVariants as stream;
+ghost use Rattle.dk_program.specs.Ending.{EndsWith};
+ghost use Rattle.dk_program.specs.Moments.{Outside, outside};
+ghost use Rattle.dk_write.specs.Texts.{trace_text as trace_text_of};
+ghost use Rattle.dk_table.specs.Messages.{refusal_line};
+ghost use Rattle.dk_table.specs.Outcomes.{Answers};
+ghost use Rattle.dk_table.specs.Statuses.{Completes, Outcome, Says, outcome_of};
+ghost use Rattle.dk_table.specs.Traces.{kept_writes, trace_of};
+
 use crate::command::Command;
-use crate::faults::{Ended, TableFault, TableWhy, push_refusal, push_unread};
+use crate::faults::{Refusal, TableFault, TableWhy};
+use crate::reading::{name_at, read_texts};
 use crate::tables::{names_of, rows_of_all};
-use crate::traces::write_table;
-use dk_base::{List, NoMemory, Text};
-use dk_io::{AllFault, Inputs, Sinks, Stream, read_all, write_all};
-use std::alloc::Global;
+use crate::traces::{Table, table_of, trace_text};
+use crate::words::TableArguments;
+use dk_arguments::Word;
+use dk_base::{NoMemory, Text};
+use dk_events::Ended;
+use dk_io::{Inputs, Sinks, Stream};
+use dk_program::{end_with, tell_fault};
+use std::alloc::{AllocError, Global};
 
-/// How many bytes a file may have.
-const LIMIT: u64 = 1_073_741_824;
+fn point_of<'a>(command: &'a Command, name: &'a str) -> &'a [u8]
+    ensures { result.now ≡ unwrap_or command.now.point name.now }
+{
+    match &command.point {
+        Some(point) => point.as_str().as_bytes(),
+        None => name.as_bytes(),
+    }
+}
 
-fn read_file<I: Inputs>(
+// The table in files of these bytes, the first of which has this name.
+fn table_in(
     alloc: Global,
-    inputs: &mut I,
-    place: usize,
+    command: &Command,
     name: &str,
-) -> Result<Text, TableFault> {
-    if inputs.start(name).is_err() {
-        return Err(TableFault::Read(place));
-    }
-    match read_all(alloc, inputs, LIMIT) {
-        Ok(text) => Ok(text),
-        Err(AllFault::Read) => Err(TableFault::Read(place)),
-        Err(AllFault::TooLong) => Err(TableFault::Refused(place, 0, TableWhy::TooLong)),
-        Err(AllFault::NoMemory) => Err(TableFault::NoMemory),
+    texts: &[Text],
+) -> Result<Table, TableFault>
+    ensures { Answers kept_writes (trace_of command.now name.now texts.now) result }
+{
+    let names = names_of(alloc, command, texts)?;
+    let rows = rows_of_all(alloc, command, names.as_slice(), texts)?;
+    let point = point_of(command, name);
+    table_of(alloc, point, command.types, names.as_slice(), rows)
+}
+
+// Writes the trace of a table.
+fn tell_table<S: Sinks>(alloc: Global, table: &Table, sinks: &mut S) -> Ended
+    ensures { EndsWith Ended.Done stream.Report (trace_text_of (kept_writes table.now)) (S.written sinks.old) (S.written sinks.new) (S.faults sinks.old) (S.faults sinks.new) result }
+{
+    match trace_text(alloc, table) {
+        Ok(text) => end_with(sinks, Stream::Report, text.as_slice(), Ended::Done),
+        Err(NoMemory) => Ended::NoMemory,
     }
 }
 
-fn read_files<I: Inputs>(
+fn refusal_line(
     alloc: Global,
-    inputs: &mut I,
-    files: &[&str],
-) -> Result<List<Text>, TableFault> {
-    let mut texts = List::new(alloc);
-    for (place, name) in files.iter().enumerate() {
-        texts.push(read_file(alloc, inputs, place, name)?)?;
-    }
-    Ok(texts)
+    name: &str,
+    row: u64,
+    why: TableWhy,
+) -> Result<String, AllocError>
+    ensures { IfOk result (λ text. string_bytes text ≡ refusal_line name.now row why) }
+{
+    format!(in alloc; "daikon: {name}: row {row}: {why}\n")
 }
 
-fn file_name<'a>(files: &[&'a str], place: usize) -> &'a [u8] {
-    match files.get(place) {
-        Some(name) => name.as_bytes(),
-        None => b"",
-    }
-}
-
-fn run_files<I: Inputs, S: Sinks>(
+// Tells that a table is refused.
+fn tell_refused<S: Sinks>(
     alloc: Global,
-    command: &Command,
-    files: &[&str],
+    names: &[Word],
+    refusal: Refusal,
+    sinks: &mut S,
+) -> Ended
+    ensures { EndsWith Ended.Refused stream.Messages (refusal_line (file_name_at names.now refusal.file) refusal.row refusal.why) (S.written sinks.old) (S.written sinks.new) (S.faults sinks.old) (S.faults sinks.new) result }
+{
+    match refusal_line(alloc, name_at(names, refusal.file), refusal.row, refusal.why) {
+        Ok(text) => end_with(sinks, Stream::Messages, text.as_bytes(), Ended::Refused),
+        Err(_) => Ended::NoMemory,
+    }
+}
+
+// Tells what files of these bytes come to.
+fn tell_texts<S: Sinks>(
+    alloc: Global,
+    arguments: &TableArguments,
+    texts: &[Text],
+    sinks: &mut S,
+) -> Ended
+    ensures { let outcome : Outcome = outcome_of arguments.now texts.now in
+        EndsWith outcome.status outcome.stream outcome.text (S.written sinks.old) (S.written sinks.new) (S.faults sinks.old) (S.faults sinks.new) result }
+{
+    let names = arguments.files.as_slice();
+    match table_in(alloc, &arguments.command, name_at(names, 0), texts) {
+        Ok(table) => tell_table(alloc, &table, sinks),
+        Err(TableFault::Refused(refusal)) => tell_refused(alloc, names, refusal, sinks),
+        Err(TableFault::NoMemory) => Ended::NoMemory,
+    }
+}
+
+/// Writes the trace of the tables in the files, or a message.
+pub(crate) fn run_over<I: Inputs, S: Sinks>(
+    alloc: Global,
+    arguments: &TableArguments,
     inputs: &mut I,
     sinks: &mut S,
-) -> Result<(), TableFault> {
-    let texts = read_files(alloc, inputs, files)?;
-    let names = names_of(alloc, command, texts.as_slice())?;
-    let rows = rows_of_all(alloc, command, names.as_slice(), texts.as_slice())?;
-    let name = file_name(files, 0);
-    write_table(
-        alloc,
-        command,
-        name,
-        names.as_slice(),
-        rows.as_slice(),
-        sinks,
-    )
-}
-
-fn message(alloc: Global, files: &[&str], fault: TableFault) -> Result<Text, NoMemory> {
-    let mut text = Text::new(alloc);
-    match fault {
-        TableFault::Refused(file, row, why) => {
-            push_refusal(&mut text, file_name(files, file), row, why)?
-        }
-        TableFault::Read(file) => push_unread(&mut text, file_name(files, file))?,
-        TableFault::Write => {}
-        TableFault::NoMemory => {}
-    }
-    Ok(text)
-}
-
-fn ended_by(fault: TableFault) -> Ended {
-    match fault {
-        TableFault::Refused(..) => Ended::Refused,
-        TableFault::Read(_) => Ended::Read,
-        TableFault::Write => Ended::Write,
-        TableFault::NoMemory => Ended::NoMemory,
-    }
-}
-
-/// Writes the trace of the files' tables to Report, or a message.
-pub fn run_command<I: Inputs, S: Sinks>(
-    alloc: Global,
-    command: &Command,
-    files: &[&str],
-    inputs: &mut I,
-    sinks: &mut S,
-) -> Ended {
-    match run_files(alloc, command, files, inputs, sinks) {
-        Ok(()) => Ended::Done,
-        Err(fault) => match message(alloc, files, fault) {
-            Ok(text) => match write_all(sinks, Stream::Messages, text.as_slice()) {
-                Ok(()) => ended_by(fault),
-                Err(_) => Ended::Write,
-            },
-            Err(_) => Ended::NoMemory,
-        },
+) -> Ended
+    ensures says { let before : Outside = outside (I.file inputs.old) (I.rest inputs.old) (I.faults inputs.old) (S.written sinks.old) (S.faults sinks.old) in
+        let after : Outside = outside (I.file inputs.new) (I.rest inputs.new) (I.faults inputs.new) (S.written sinks.new) (S.faults sinks.new) in
+        Says result (Some (request.Run arguments.now)) before after }
+    ensures complete { let before : Outside = outside (I.file inputs.old) (I.rest inputs.old) (I.faults inputs.old) (S.written sinks.old) (S.faults sinks.old) in
+        let after : Outside = outside (I.file inputs.new) (I.rest inputs.new) (I.faults inputs.new) (S.written sinks.new) (S.faults sinks.new) in
+        Completes (Some (request.Run arguments.now)) before after result }
+    ensures files { I.file inputs.new ≡ I.file inputs.old }
+{
+    let names = arguments.files.as_slice();
+    match read_texts(alloc, names, inputs) {
+        Ok(texts) => tell_texts(alloc, arguments, texts.as_slice(), sinks),
+        Err(fault) => tell_fault(alloc, names, fault, sinks),
     }
 }

@@ -1,26 +1,26 @@
 // The trace of a table.
-ghost use Rattle.std.specs.Prelude.{◌≡◌, ◌<◌, ◌++◌, [], IfOk, IsErrOf, OnOk, Some, false, length, list_all, map, not, position, replicate, slice_get};
+ghost use Rattle.std.specs.Prelude.{◌≡◌, ◌++◌, IfOk, OnOk, map, option_map, replicate};
 ghost use Rattle.std.specs.List.{zip};
-ghost use Rattle.dk_base.specs.Values.{values_of as values_shown};
-ghost use Rattle.dk_decl.specs.declared.decls.PointDecl.{PointDecl};
-ghost use Rattle.dk_io.specs.Outside.{Rose};
-ghost use Rattle.dk_io.specs.Streams.{with_bytes};
-ghost use Rattle.dk_io.specs.declared.outside.Stream.TheVariants.{Report};
-ghost use Rattle.dk_write.specs.Texts.{Records, block_text, trace_text};
-ghost use Rattle.dk_write.specs.Writable.{can_record as can_record_of};
-ghost use Rattle.dk_write.specs.Writing.{Adds};
-ghost use Rattle.dk_table.specs.Outcomes.{WritesTrace};
-ghost use Rattle.dk_table.specs.Traces.{are_named, declaration_of, is_told, judged, kinds_of, own_kind, record_of, records_of, trace_of_table, value_at, var_name, var_of, writes_of};
+ghost use Rattle.dk_base.specs.Values.{value_of as value_shown, values_of as values_shown};
+ghost use Rattle.dk_write.specs.Texts.{Declares, Records, block_text, trace_text};
+ghost use Rattle.dk_table.specs.Outcomes.{Answers};
+ghost use Rattle.dk_table.specs.Traces.{are_named, bad_cell, declaration_of, is_told, judged, kept_writes, kinds_of, own_kind, record_of, records_of, scaled_name, trace_of_table, untold_row, value_at, var_name, var_of};
 
 use crate::columns::{ColumnKind, cell_value, kind_of_column, writes};
-use crate::command::Command;
-use crate::faults::{TableFault, TableWhy};
+use crate::faults::{Refusal, TableFault, TableWhy};
 use crate::rows::Row;
 use dk_base::{Arena, Compar, Kind, List, NoMemory, Text, View};
 use dk_decl::{PointDecl, VarDecl};
-use dk_io::Sinks;
-use dk_write::{WriteFault, Writer, can_declare, can_record};
+use dk_write::{can_declare, can_record, header_text, push_declaration, push_record};
 use std::alloc::Global;
+
+/// A table that has a trace: the declaration of its point, the kinds of its columns, and its rows.
+#[derive(Drop)]
+pub(crate) struct Table {
+    decl: PointDecl,
+    kinds: List<ColumnKind>,
+    rows: Vec<Row>,
+}
 
 // The rows by which kinds are found.
 fn judged(types: Option<u64>, rows: &[Row]) -> &[Row]
@@ -38,7 +38,8 @@ fn judged(types: Option<u64>, rows: &[Row]) -> &[Row]
     }
 }
 
-/// The kinds of the columns, by these rows.
+// The kinds of the columns, by these rows.
+#[tactic(auto, using(crate::proofs::Steps::kinds_more))]
 fn kinds_of(alloc: Global, rows: &[Row], columns: usize) -> Result<List<ColumnKind>, NoMemory>
     ensures { IfOk result (λ kinds. kinds ≡ kinds_of rows.now columns) }
 {
@@ -60,25 +61,36 @@ fn own_kind(kind: ColumnKind) -> Kind
     }
 }
 
+#[tactic(auto, using(crate::proofs::Steps::zeros_more))]
 fn push_zeros(text: &mut Text, count: u32) -> Result<(), NoMemory>
     ensures { OnOk result (text.new ≡ text.old ++ replicate count 48) }
 {
-    for _ in 0..count {
+    for _place in 0..count {
         text.push(b'0')?;
     }
     Ok(())
+}
+
+// The name of decimals that are taken times 10 to their places.
+fn scaled_name(alloc: Global, name: &[u8], places: u32) -> Result<Text, NoMemory>
+    ensures { IfOk result (λ text. text ≡ scaled_name name.now places) }
+{
+    let mut text = Text::from_slice(alloc, name)?;
+    text.append(b" * 1")?;
+    push_zeros(&mut text, places)?;
+    Ok(text)
 }
 
 // The name of a column's variable.
 fn var_name(alloc: Global, name: &[u8], kind: ColumnKind) -> Result<Text, NoMemory>
     ensures { IfOk result (λ text. text ≡ var_name name.now kind) }
 {
-    let mut text = Text::from_slice(alloc, name)?;
-    if let ColumnKind::Decimal(places) = kind {
-        text.append(b" * 1")?;
-        push_zeros(&mut text, places)?;
+    match kind {
+        ColumnKind::Whole => Text::from_slice(alloc, name),
+        ColumnKind::Truth(_) => Text::from_slice(alloc, name),
+        ColumnKind::Decimal(places) => scaled_name(alloc, name, places),
+        ColumnKind::Text => Text::from_slice(alloc, name),
     }
-    Ok(text)
 }
 
 fn var_of(alloc: Global, name: &[u8], kind: ColumnKind) -> Result<VarDecl, NoMemory>
@@ -102,7 +114,8 @@ fn vars_of(alloc: Global, names: &[Text], kinds: &[ColumnKind]) -> Result<List<V
 {
     let mut vars = List::new(alloc);
     for i in 0..names.len().min(kinds.len()) {
-        vars.push(var_of(alloc, names[i].as_slice(), kinds[i])?)?;
+        let var = var_of(alloc, names[i].as_slice(), kinds[i])?;
+        vars.push(var)?;
     }
     Ok(vars)
 }
@@ -122,12 +135,15 @@ fn declaration_of(
     })
 }
 
-// Whether the point and the variables have names that lines tell.
+// Whether lines tell the names of the point and of the variables.
+#[tactic(auto, using(crate::proofs::Steps::shown_missing))]
 fn are_named(alloc: Global, decl: &PointDecl) -> Result<bool, NoMemory>
     ensures { IfOk result (λ are. are ≡ are_named decl.now) }
 {
     let none = vec![in alloc; View::Missing; decl.vars.len()]?;
-    Ok(can_declare(alloc, decl)? && can_record(alloc, decl, None, none.as_slice())?)
+    let is_declared = can_declare(alloc, decl)?;
+    let is_recorded = can_record(alloc, decl, None, none.as_slice())?;
+    Ok(is_declared && is_recorded)
 }
 
 // Whether each cell writes a value of its column's kind.
@@ -142,16 +158,63 @@ fn is_told(alloc: Global, kinds: &[ColumnKind], row: &Row) -> Result<bool, NoMem
     Ok(true)
 }
 
-// The place of the first row with a cell that is none of its column's kind.
-fn untold_row(alloc: Global, kinds: &[ColumnKind], rows: &[Row]) -> Result<Option<usize>, NoMemory>
-    ensures { IfOk result (λ place. place ≡ position (λ row. not (is_told kinds.now row)) rows.now) }
+// The refusal of the first row with a cell that is none of its column's kind.
+fn untold_row(
+    alloc: Global,
+    kinds: &[ColumnKind],
+    rows: &[Row],
+) -> Result<Option<Refusal>, NoMemory>
+    ensures { IfOk result (λ refusal. refusal ≡ option_map bad_cell (untold_row kinds.now rows.now)) }
 {
-    for (i, row) in rows.iter().enumerate() {
+    for row in rows {
         if !is_told(alloc, kinds, row)? {
-            return Ok(Some(i));
+            return Ok(Some(Refusal {
+                file: row.file(),
+                row: row.number(),
+                why: TableWhy::BadCell,
+            }));
         }
     }
     Ok(None)
+}
+
+/// The table of these rows, whose columns have these names, at the point of this name.
+pub(crate) fn table_of(
+    alloc: Global,
+    point: &[u8],
+    types: Option<u64>,
+    names: &[Text],
+    rows: Vec<Row>,
+) -> Result<Table, TableFault>
+    ensures { Answers kept_writes (trace_of_table point.now types names.now rows.items) result }
+{
+    let kinds = kinds_of(alloc, judged(types, rows.as_slice()), names.len())?;
+    let decl = declaration_of(alloc, point, names, kinds.as_slice())?;
+    if !are_named(alloc, &decl)? {
+        return Err(TableFault::Refused(Refusal {
+            file: 0,
+            row: 1,
+            why: TableWhy::BadName,
+        }));
+    }
+    match untold_row(alloc, kinds.as_slice(), rows.as_slice())? {
+        Some(refusal) => Err(TableFault::Refused(refusal)),
+        None => Ok(Table { decl, kinds, rows }),
+    }
+}
+
+fn value_at<'a>(
+    alloc: Global,
+    arena: &'a Arena,
+    kind: ColumnKind,
+    cell: &[u8],
+) -> Result<View<'a>, NoMemory>
+    ensures { IfOk result (λ value. value_shown value ≡ value_at (kind, cell.now)) }
+{
+    match cell_value(alloc, arena, kind, cell)? {
+        Some(value) => Ok(value),
+        None => Ok(View::Missing),
+    }
 }
 
 fn values_of<'a>(
@@ -159,109 +222,66 @@ fn values_of<'a>(
     arena: &'a Arena,
     kinds: &[ColumnKind],
     row: &Row,
-) -> Result<Vec<View<'a>>, NoMemory>
-    ensures { IfOk result (λ values. values_shown values.items ≡ map value_at (zip kinds.now row.now.cells)) }
+) -> Result<List<View<'a>>, NoMemory>
+    ensures { IfOk result (λ values. values_shown values ≡ map value_at (zip kinds.now row.now.cells)) }
 {
-    let mut values: Vec<View<'a>> = Vec::new(alloc);
+    let mut values: List<View<'a>> = List::new(alloc);
     for i in 0..kinds.len().min(row.len()) {
-        let value = match cell_value(alloc, arena, kinds[i], row.cell(i))? {
-            Some(value) => value,
-            None => View::Missing,
-        };
+        let value = value_at(alloc, arena, kinds[i], row.cell(i))?;
         values.push(value)?;
     }
     Ok(values)
 }
 
-// The record of a row, at the first point of the writer.
-fn write_row<S: Sinks>(
+// The declaration.
+#[tactic(auto, unfolding(dk_write::specs::Texts::block_text))]
+fn push_decl(alloc: Global, text: &mut Text, decl: &PointDecl) -> Result<(), NoMemory>
+    ensures { OnOk result (text.new ≡ text.old ++ block_text (Declares decl.now)) }
+{
+    push_declaration(alloc, text, decl)?;
+    text.push(b'\n')
+}
+
+// The record of a row.
+#[tactic(auto, unfolding(dk_write::specs::Texts::block_text))]
+fn push_row(
     alloc: Global,
-    writer: &Writer,
+    text: &mut Text,
+    decl: &PointDecl,
     kinds: &[ColumnKind],
     row: &Row,
-    sinks: &mut S,
-) -> Result<(), WriteFault>
-    requires { 0 < length writer.now }
-    ensures text { (d : PointDecl) → slice_get writer.now 0 ≡ Some d →
-        Adds (S.written sinks.old) (S.written sinks.new) (block_text (Records (record_of d kinds.now row.now))) result }
-    ensures unwritable { (d : PointDecl) → slice_get writer.now 0 ≡ Some d →
-        IsErrOf result WriteFault.Unwritable → can_record_of (record_of d kinds.now row.now) ≡ false }
-    ensures known { IsErrOf result WriteFault.Known → ⊥ }
-    ensures cause { IsErrOf result WriteFault.Write → Rose (S.faults sinks.old) (S.faults sinks.new) }
+) -> Result<(), NoMemory>
+    ensures { OnOk result (text.new ≡ text.old ++ block_text (Records (record_of decl.now kinds.now row.now))) }
 {
     let arena = Arena::new(alloc);
     let values = values_of(alloc, &arena, kinds, row)?;
-    writer.record(sinks, 0, None, values.as_slice())
+    push_record(alloc, text, decl, None, values.as_slice())?;
+    text.push(b'\n')
 }
 
 // The records of the rows, one after another.
-fn write_rows<S: Sinks>(
+fn push_rows(
     alloc: Global,
-    writer: &Writer,
+    text: &mut Text,
+    decl: &PointDecl,
     kinds: &[ColumnKind],
     rows: &[Row],
-    sinks: &mut S,
-) -> Result<(), WriteFault>
-    requires { 0 < length writer.now }
-    ensures text { (d : PointDecl) → slice_get writer.now 0 ≡ Some d →
-        OnOk result (S.written sinks.new ≡ with_bytes (S.written sinks.old) Report (trace_text (records_of d kinds.now rows.now))) }
-    ensures unwritable { (d : PointDecl) → slice_get writer.now 0 ≡ Some d →
-        IsErrOf result WriteFault.Unwritable → list_all (λ row. can_record_of (record_of d kinds.now row)) rows.now ≡ false }
-    ensures known { IsErrOf result WriteFault.Known → ⊥ }
-    ensures cause { IsErrOf result WriteFault.Write → Rose (S.faults sinks.old) (S.faults sinks.new) }
+) -> Result<(), NoMemory>
+    ensures { OnOk result (text.new ≡ text.old ++ trace_text (records_of decl.now kinds.now rows.now)) }
 {
     for row in rows {
-        write_row(alloc, writer, kinds, row, sinks)?;
+        push_row(alloc, text, decl, kinds, row)?;
     }
     Ok(())
 }
 
-// The fault of a block that lines tell.
-fn fault_of(fault: WriteFault) -> TableFault {
-    match fault {
-        WriteFault::Unwritable => TableFault::NoMemory,
-        WriteFault::Known => TableFault::NoMemory,
-        WriteFault::Write => TableFault::Write,
-        WriteFault::NoMemory => TableFault::NoMemory,
-    }
-}
-
-/// Writes the trace of a table with columns of these kinds to Report.
-fn write_trace<S: Sinks>(
-    alloc: Global,
-    decl: PointDecl,
-    kinds: &[ColumnKind],
-    rows: &[Row],
-    sinks: &mut S,
-) -> Result<(), WriteFault> {
-    let mut writer = Writer::begin(alloc, sinks)?;
-    writer.declare(sinks, decl)?;
-    write_rows(alloc, &writer, kinds, rows, sinks)
-}
-
-/// Writes the trace of a table to Report, where it has one.
-pub(crate) fn write_table<S: Sinks>(
-    alloc: Global,
-    command: &Command,
-    name: &[u8],
-    names: &[Text],
-    rows: &[Row],
-    sinks: &mut S,
-) -> Result<(), TableFault> {
-    let kinds = kinds_of(alloc, judged(command.types, rows), names.len())?;
-    let point = match &command.point {
-        Some(point) => point.as_slice(),
-        None => name,
-    };
-    let decl = declaration_of(alloc, point, names, kinds.as_slice())?;
-    if !are_named(alloc, &decl)? {
-        return Err(TableFault::Refused(0, 1, TableWhy::BadName));
-    }
-    if let Some(i) = untold_row(alloc, kinds.as_slice(), rows)? {
-        return Err(TableFault::Refused(rows[i].file(), rows[i].number(), TableWhy::BadCell));
-    }
-    match write_trace(alloc, decl, kinds.as_slice(), rows, sinks) {
-        Ok(()) => Ok(()),
-        Err(fault) => Err(fault_of(fault)),
-    }
+/// The text of a table's trace.
+pub(crate) fn trace_text(alloc: Global, table: &Table) -> Result<Text, NoMemory>
+    ensures { IfOk result (λ text. text ≡ trace_text (kept_writes table.now)) }
+{
+    let kinds = table.kinds.as_slice();
+    let mut text = Text::from_slice(alloc, header_text())?;
+    push_decl(alloc, &mut text, &table.decl)?;
+    push_rows(alloc, &mut text, &table.decl, kinds, table.rows.as_slice())?;
+    Ok(text)
 }

@@ -1,19 +1,30 @@
-//! The command `dk_table`: it writes traces of tables.
+//! The command `dk_table`: it writes tables of comma-separated values as traces.
 #![tactic(auto)]
 
-use dk_host::{FileInputs, HostSinks};
-use dk_run::words_of;
-use dk_table::{Ended, run_table, tell_usage};
-use std::io::ErrorKind;
+use dk_events::Ended;
+use dk_io::{Inputs, Sinks};
+use dk_main::{Main, run_main};
+use dk_table::{run_table, tell_usage};
+use std::alloc::Global;
 use std::process::ExitCode;
 
+struct Table;
+
+impl Main for Table {
+    fn run<I: Inputs, S: Sinks>(
+        alloc: Global,
+        words: &[String],
+        inputs: &mut I,
+        sinks: &mut S,
+    ) -> Ended {
+        run_table(alloc, words, inputs, sinks)
+    }
+
+    fn refuse<S: Sinks>(sinks: &mut S) -> Ended {
+        tell_usage(sinks)
+    }
+}
+
 fn main(rt: HostRuntime) -> ExitCode {
-    let mut inputs = FileInputs::new(&rt);
-    let mut sinks = HostSinks::new(&rt, rt.stdout(), rt.stderr());
-    let ended = match words_of(&rt) {
-        Ok(words) => run_table(rt.alloc(), words.as_slice(), &mut inputs, &mut sinks),
-        Err(error) if error.kind() == ErrorKind::InvalidData => tell_usage(&mut sinks),
-        Err(_) => Ended::NoMemory,
-    };
-    ExitCode::from(sinks.finish(ended.code()))
+    run_main::<Table, _, _, _>(&rt, rt.stdout(), rt.stderr())
 }

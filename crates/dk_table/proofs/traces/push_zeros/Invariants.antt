@@ -1,5 +1,5 @@
 use Rattle.std.proofs.Common.{◌≡◌, ◌++◌, replicate}
 use Rattle.dk_table.proofs.traces.push_zeros.Given as goal
 
-abbrev pub invariant-loop-count : goal.invariant-loop-count
-invariant-loop-count l = l.text ≡ l.fn.text ++ replicate l.count 48
+abbrev pub invariant-loop-place : goal.invariant-loop-place
+invariant-loop-place l = l.text ≡ l.fn.text ++ replicate l.place 48

@@ -1,0 +1,32 @@
+use Rattle.std.proofs.Common.{Bor, List, ℕ, ◌≡◌, ◌∙◌, ap, sym, refl, rules, inl, inr, true, Some, ◌∷◌, []}
+use Rattle.std.specs.Result.{is_ok}
+use Rattle.csv.specs.Reading.{Reached, strip_bom}
+use Rattle.csv.specs.Records.{fields_of}
+use Rattle.csv.specs.declared.parser.State.TheVariants as st
+use Rattle.csv.proofs.ReadFacts.{rows-end, rows-more}
+use Rattle.dk_table.proofs.AllRecords.{all_records, row_added}
+use Rattle.dk_table.specs.Tables.{config_by, placed_from}
+use Rattle.dk_table.proofs.rows.rows_in.Goals as goal
+
+pub loop-row-init : goal.loop-row-init
+unfolding Reached
+loop-row-init c =
+    let fr = c.from_reader-reader.ensures in
+    let e = (c.delimiter.ensures, c.flexible.ensures, c.has_headers.ensures) in
+    let start = c.into_iter-row-iterator.ensures.into_iter_gives ∙ refl in
+    let rdr = c.into_byte_records-row-items.ensures.rdr in
+    let left = c.into_byte_records-row-items.ensures.left in
+    ?
+
+pub loop-row-preserved : goal.loop-row-preserved
+loop-row-preserved c =
+    let inv = c.loop-row.invariant in
+    ?
+
+pub returns : goal.returns
+returns c =
+    let inv = c.loop-row.invariant in
+    let s = rw c.in-None.is at ((c.next.ensures.steps inv.2 inv.0).0 inv.1) in
+    let cfg = config_by c.args.separator in
+    inv.8 ∙ sym (ap (placed_from c.args.file 1) (all_records cfg (strip_bom c.args.bytes.now) inv.6 c.loop-row.row-iterator.rdr.state inv.4 inv.7
+    (rows-end (λ (s : Bor (List ℕ)). Some s.now) c.loop-row.row-iterator.rdr c.next.new.self.rdr [] cfg inv.4 inv.3 inv.5 s)))
