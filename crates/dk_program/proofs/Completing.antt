@@ -1,19 +1,18 @@
 -- Where no fault of the outside rises, a run over files that are held comes to its end.
-use Rattle.std.proofs.Common.{◌≡◌, ◌⊎◌, inl, inr, ℕ, List, map, length, take, Option, Some, None, Result, Ok, Err, refl, sym, ◌∙◌, ap, subst}
+use Rattle.std.proofs.Common.{◌≡◌, ◌⊎◌, inl, inr, ℕ, List, map, Option, Some, Result, Ok, Err, refl, sym, ◌∙◌, ap, subst}
 use Rattle.dk_blocks.specs.History.{History}
 use Rattle.dk_events.specs.declared.ended.Ended.{Ended}
-use Rattle.dk_events.specs.declared.ended.Ended.TheVariants.{Done, Refused, Usage, Read, Write, NoMemory}
-use Rattle.dk_io.specs.Outside.{HeldFile, Rose}
-use Rattle.dk_io.specs.declared.outside.Stream.{Stream}
+use Rattle.dk_events.specs.declared.ended.Ended.TheVariants.{Done, Refused, NoMemory}
 use Rattle.dk_io.specs.declared.outside.Stream.TheVariants.{Report, Messages}
 use Rattle.dk_arguments.specs.declared.request.Request.{Request}
 use Rattle.dk_arguments.specs.declared.request.Request.TheVariants.{Run}
 use Rattle.dk_driver.specs.Ends.{end_of, fault_in, first_fault}
-use Rattle.dk_driver.specs.Files.{AreHeldFiles, FaultAt, File, ended_file, file_name_at}
-use Rattle.dk_driver.specs.Reads.{AreRead, IsComplete as IsReadingComplete, IsRefusedOrShort, helds_of}
+use Rattle.dk_driver.specs.Files.{FaultAt, File, ended_file, file_name_at}
+use Rattle.dk_driver.specs.Reads.{AreRead, IsComplete as IsReadingComplete}
 use Rattle.dk_driver.specs.declared.fault.FilesFault.{FilesFault}
 use Rattle.dk_driver.specs.declared.fault.FilesFault.TheVariants as f
 use Rattle.dk_driver.specs.declared.feed.Feed.{Feed}
+use Rattle.dk_driver.specs.declared.traces.Traces.{Traces}
 use Rattle.dk_program.proofs.Saying.{due_of, followed_only, read_output}
 use Rattle.dk_program.specs.Ending.{EndsBy, EndsWith, ReportEnds, status_of}
 use Rattle.dk_program.specs.Messages.{fault_line}
@@ -21,7 +20,7 @@ use Rattle.dk_program.specs.Moments.{IsCalm, Outside}
 use Rattle.dk_program.specs.Outputs.{Output, only_on, texts_followed_by}
 use Rattle.dk_program.specs.Statuses.{CompletesCalmly, GivesOutput, IsCalmlyComplete, IsComplete}
 use Rattle.dk_program.specs.Tasks.{Task, output_at, output_of}
-use Rattle.dk_program.specs.Telling.{CutOff, HaltHasCause, ToldWhole}
+use Rattle.dk_program.specs.Telling.{HaltHasCause, ToldWhole}
 use Rattle.dk_program.specs.declared.reporting.Halt.{Halt}
 use Rattle.dk_program.specs.declared.reporting.Halt.TheVariants as w
 
@@ -51,10 +50,17 @@ module _ {C : Type 0} (task : Task) (before after : Outside) (Stands : History �
     refused = λ n contents fault held first. absurd (complete.refused n contents fault held first);
   }
 
-  pub report_completes : AreRead task.traces before.file before.rest after.rest Stands → IsReadingComplete task.traces before.file (Ok feed) → (result : Ended)
+  read_completes : AreRead task.traces before.file before.rest after.rest Stands → IsReadingComplete task.traces before.file (Ok feed) → (result : Ended)
       → ReportEnds Stands (due_of task) before.written after.written before.write_faults after.write_faults result → IsCalm before after → IsComplete task before after result
-  report_completes read complete result (inl (is, whole)) calm = whole_done read complete whole result is
-  report_completes read complete result (inr (halt, is, cut)) calm = short_of task before after result (is ∙ halt_short before after halt calm cut.cause)
+  read_completes read complete result (inl (is, whole)) calm = whole_done read complete whole result is
+  read_completes read complete result (inr (halt, is, cut)) calm = short_of task before after result (is ∙ halt_short before after halt calm cut.cause)
+
+  -- the traces may be known by another name
+  pub report_completes : (traces : Traces) (result : Ended) → traces ≡ task.traces → AreRead traces before.file before.rest after.rest Stands → IsReadingComplete traces before.file (Ok feed)
+      → ReportEnds Stands (due_of task) before.written after.written before.write_faults after.write_faults result → IsCalm before after → IsComplete task before after result
+  report_completes traces result same read complete ended calm =
+      read_completes (subst (λ (t : Traces). AreRead t before.file before.rest after.rest Stands) same read)
+      (subst (λ (t : Traces). IsReadingComplete t before.file (Ok feed)) same complete) result ended calm
 
 -- ---- a fault
 fault_is : (r : Result History FaultAt) (fault : FaultAt) → fault_in r ≡ Some fault → r ≡ Err fault
@@ -89,15 +95,22 @@ module _ (task : Task) (before after : Outside) where
       (subst (λ (x : FilesFault). EndsBy task.traces.names x before.written after.written before.write_faults after.write_faults result) is ended)
   fault_gives fault result at files first calm (inr is) ended = inr (memory_ends fault result is ended)
 
-  pub fault_completes : {C : Type 0} (fault : FilesFault) (result : Ended) → IsReadingComplete {C = C} task.traces before.file (Err fault)
+  fault_of_completes : {C : Type 0} (fault : FilesFault) (result : Ended) → IsReadingComplete {C = C} task.traces before.file (Err fault)
       → EndsBy task.traces.names fault before.written after.written before.write_faults after.write_faults result → IsCalm before after → IsComplete task before after result
-  fault_completes fault result complete ended calm = record {
+  fault_of_completes fault result complete ended calm = record {
     done = λ contents held none. inr (memory_ends fault result (complete.read contents held none) ended);
     refused = λ n contents at held first. fault_gives fault result at (map ended_file contents) first calm (complete.refused n contents at held first) ended;
   }
 
+  pub fault_completes : {C : Type 0} (traces : Traces) (names : List (List ℕ)) (fault : FilesFault) (result : Ended) → traces ≡ task.traces → names ≡ traces.names
+      → IsReadingComplete {C = C} traces before.file (Err fault)
+      → EndsBy names fault before.written after.written before.write_faults after.write_faults result → IsCalm before after → IsComplete task before after result
+  fault_completes {C = C} traces names fault result same named complete ended calm =
+      fault_of_completes fault result (subst (λ (t : Traces). IsReadingComplete {C = C} t before.file (Err fault)) same complete)
+      (subst (λ (l : List (List ℕ)). EndsBy l fault before.written after.written before.write_faults after.write_faults result) (named ∙ ap (λ (t : Traces). t.names) same) ended) calm
+
 -- ---- what was asked for
 pub asked_completes : {A : Type 0} (task_of : A → Task) (asked : Option (Request A)) (a : A) (before after : Outside) (result : Ended) → asked ≡ Some (Run a)
     → IsCalmlyComplete (task_of a) before after result → CompletesCalmly task_of asked before after result
-asked_completes task_of asked a before after result is complete =
+asked_completes {A = A} task_of asked a before after result is complete =
     subst (λ (r : Option (Request A)). CompletesCalmly task_of r before after result) (sym is) complete

@@ -19,6 +19,7 @@ use Rattle.dk_driver.specs.Files.{AreHeldFiles, ended_file, file_name_at}
 use Rattle.dk_driver.specs.Reads.{AreRead, AtStart, Break, FaultSays, HasBroken, HasCause, IsPlaced, IsRefusedAt, IsUnreadAt, Within, held_file_at, helds_of}
 use Rattle.dk_driver.specs.declared.fault.FilesFault.{FilesFault}
 use Rattle.dk_driver.specs.declared.fault.FilesFault.TheVariants as f
+use Rattle.dk_driver.specs.declared.traces.Traces.{Traces}
 use Rattle.dk_program.proofs.Writing.{front_all, front_take, known_nothing}
 use Rattle.dk_program.specs.Ending.{EndsBy, EndsWith, ReportEnds, status_of}
 use Rattle.dk_program.specs.Messages.{fault_line, unread_line}
@@ -191,28 +192,46 @@ module _ {A : Type 0} (task_of : A → Task) (c : Command) where
   halt_says a before after w.Write short rose = (rose, short)
   halt_says a before after w.NoMemory short calm = (calm, short)
 
-  pub report_says : (a : A) (before after : Outside) (Stands : History → Type 0) (result : Ended) → AreRead (task_of a).traces before.file before.rest after.rest Stands
+  read_says : (a : A) (before after : Outside) (Stands : History → Type 0) (result : Ended) → AreRead (task_of a).traces before.file before.rest after.rest Stands
       → ReportEnds Stands (due_of (task_of a)) before.written after.written before.write_faults after.write_faults result → Says task_of c result (Some (Run a)) before after
-  report_says a before after Stands result read (inl (is, whole)) =
+  read_says a before after Stands result read (inl (is, whole)) =
       subst (λ (s : Ended). Says task_of c s (Some (Run a)) before after) (sym is) (
         only_on Report whole.text,
         done_comes (task_of a) before after Stands whole.text read
             (λ contents held. let (h, stands, e) = read_output (task_of a) before.file before.rest after.rest Stands read contents held in ap (only_on Report) (whole.holds h stands) ∙ sym e),
         (whole.written ∙ followed_only before.written Report whole.text, whole.calm),
       )
-  report_says a before after Stands result read (inr (halt, is, cut)) =
+  read_says a before after Stands result read (inr (halt, is, cut)) =
       subst (λ (s : Ended). Says task_of c s (Some (Run a)) before after) (sym is) (halt_says a before after halt (cut_comes a before after Stands halt read cut) cut.cause)
 
-  pub fault_says : (a : A) (before after : Outside) (fault : FilesFault) (result : Ended) → FaultSays (task_of a).traces before.file before.rest fault after.rest
+  -- the traces may be known by another name
+  pub report_says : (a : A) (traces : Traces) (before after : Outside) (Stands : History → Type 0) (result : Ended) → traces ≡ (task_of a).traces
+      → AreRead traces before.file before.rest after.rest Stands
+      → ReportEnds Stands (due_of (task_of a)) before.written after.written before.write_faults after.write_faults result → Says task_of c result (Some (Run a)) before after
+  report_says a traces before after Stands result same read ended =
+      read_says a before after Stands result (subst (λ (t : Traces). AreRead t before.file before.rest after.rest Stands) same read) ended
+
+  fault_of_says : (a : A) (before after : Outside) (fault : FilesFault) (result : Ended) → FaultSays (task_of a).traces before.file before.rest fault after.rest
       → IsPlaced (length (task_of a).traces.names) fault → HasCause (task_of a).traces before.file (Rose before.read_faults after.read_faults) fault
       → EndsBy (task_of a).traces.names fault before.written after.written before.write_faults after.write_faults result → Says task_of c result (Some (Run a)) before after
-  fault_says a before after (f.Refused place line why) result says within cause ended =
+  fault_of_says a before after (f.Refused place line why) result says within cause ended =
       only_says Refused (Some (Run a)) before after Messages (fault_line (file_name_at (task_of a).traces.names place) line why) result (refused_comes (task_of a) before place line why within says) ended
-  fault_says a before after (f.Start place) result says within cause ended =
+  fault_of_says a before after (f.Start place) result says within cause ended =
       only_says Read (Some (Run a)) before after Messages (unread_line (file_name_at (task_of a).traces.names place)) result (unread_comes AtStart (task_of a) before after place within says cause) ended
-  fault_says a before after (f.Read place) result says within cause ended =
+  fault_of_says a before after (f.Read place) result says within cause ended =
       only_says Read (Some (Run a)) before after Messages (unread_line (file_name_at (task_of a).traces.names place)) result (unread_comes Within (task_of a) before after place within says cause) ended
-  fault_says a before after f.NoMemory result says within cause (is, e, calm) = subst (λ (s : Ended). Says task_of c s (Some (Run a)) before after) (sym is) (calm, inl e)
+  fault_of_says a before after f.NoMemory result says within cause (is, e, calm) = subst (λ (s : Ended). Says task_of c s (Some (Run a)) before after) (sym is) (calm, inl e)
+
+  pub fault_says : (a : A) (traces : Traces) (names : List (List ℕ)) (before after : Outside) (fault : FilesFault) (result : Ended) → traces ≡ (task_of a).traces → names ≡ traces.names
+      → FaultSays traces before.file before.rest fault after.rest → IsPlaced (length traces.names) fault
+      → HasCause traces before.file (Rose before.read_faults after.read_faults) fault
+      → EndsBy names fault before.written after.written before.write_faults after.write_faults result → Says task_of c result (Some (Run a)) before after
+  fault_says a traces names before after fault result same named says within cause ended =
+      fault_of_says a before after fault result
+      (subst (λ (t : Traces). FaultSays t before.file before.rest fault after.rest) same says)
+      (subst (λ (t : Traces). IsPlaced (length t.names) fault) same within)
+      (subst (λ (t : Traces). HasCause t before.file (Rose before.read_faults after.read_faults) fault) same cause)
+      (subst (λ (l : List (List ℕ)). EndsBy l fault before.written after.written before.write_faults after.write_faults result) (named ∙ ap (λ (t : Traces). t.names) same) ended)
 
   -- memory ran out in front of all
   pub memory_says : (request : Option (Request A)) (before after : Outside) → after.written ≡ before.written → after.write_faults ≡ before.write_faults → Says task_of c NoMemory request before after
@@ -240,3 +259,11 @@ unread_ends text other old new before after result same ended = subst (λ (l : L
 
 pub refused_ends : (text other : List ℕ) (old new : Texts) (before after : ℕ) (result : Ended) → text ≡ other → EndsWith Refused Messages text old new before after result → EndsWith Refused Messages other old new before after result
 refused_ends text other old new before after result same ended = subst (λ (l : List ℕ). EndsWith Refused Messages l old new before after result) same ended
+
+-- a file that could not be started, or not read, is told in the same words
+pub unread_by : (names : List (List ℕ)) (fault : FilesFault) (place : ℕ) (name : List ℕ) (old new : Texts) (before after : ℕ) (result : Ended) → (fault ≡ f.Start place) ⊎ (fault ≡ f.Read place)
+    → name ≡ file_name_at names place → EndsWith Read Messages (unread_line name) old new before after result → EndsBy names fault old new before after result
+unread_by names fault place name old new before after result (inl is) named ended =
+    subst (λ (x : FilesFault). EndsBy names x old new before after result) (sym is) (subst (λ (n : List ℕ). EndsWith Read Messages (unread_line n) old new before after result) named ended)
+unread_by names fault place name old new before after result (inr is) named ended =
+    subst (λ (x : FilesFault). EndsBy names x old new before after result) (sym is) (subst (λ (n : List ℕ). EndsWith Read Messages (unread_line n) old new before after result) named ended)

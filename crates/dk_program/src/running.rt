@@ -34,9 +34,10 @@ fn run_from<P: Program, I: Inputs, S: Sinks>(
         IsCalmlyComplete (task_by P.traces P.part_count P.part program.now) before after result }
     ensures files { I.file inputs.new ≡ I.file inputs.old }
 {
-    match read_files(alloc, program.traces(), kept, inputs) {
+    let traces = program.traces();
+    match read_files(alloc, traces, kept, inputs) {
         Ok(feed) => tell_report(alloc, program, &feed, sinks),
-        Err(fault) => tell_fault(alloc, program.traces().names.as_slice(), fault, sinks),
+        Err(fault) => tell_fault(alloc, traces.names.as_slice(), fault, sinks),
     }
 }
 

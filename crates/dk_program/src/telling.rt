@@ -1,5 +1,5 @@
 // Texts that end a run.
-ghost use Rattle.std.specs.Prelude.{◌≡◌, IfOk, length, string_bytes};
+ghost use Rattle.std.specs.Prelude.{◌≡◌, ◌<◌, IfOk, length, string_bytes};
 ghost use Rattle.dk_io.specs.declared.outside.Stream.TheVariants as stream;
 ghost use Rattle.dk_driver.specs.Reads.{IsPlaced};
 ghost use Rattle.dk_driver.specs.Files.{file_name_at};
@@ -46,7 +46,8 @@ fn unread_line(alloc: Global, name: &str) -> Result<String, AllocError>
 fn fault_line(alloc: Global, name: &str, line: u64, why: Why) -> Result<String, AllocError>
     ensures { IfOk result (λ text. string_bytes text ≡ fault_text name.now line why) }
 {
-    format!(in alloc; "daikon: {name}:{line}: {why}\n")
+    let reason = why.to_string(alloc)?;
+    format!(in alloc; "daikon: {name}:{line}: {reason}\n")
 }
 
 // Tells that a file can't be read.

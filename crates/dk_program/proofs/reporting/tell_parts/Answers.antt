@@ -24,7 +24,7 @@ returns-in-Err g c =
     let at : History → ℕ → List ℕ = λ h. g.P.Program.part c.args.program.now h.table h.samples in
     let Stands : History → Type 0 = StandsFor g.P.Kept.Consumer.stands c.args.feed.now in
     let count : List Point → ℕ = g.P.Program.part_count c.args.program.now in
-    let within : c.loop-place.place < count (points_of c.args.feed.now) = omega (arith, c.part_count.ensures) in
+    let within : c.loop-place.place < count (points_of c.args.feed.now) = omega (arith, c.part_count-place-end.ensures) in
     cut_short Stands (λ h. parts_to (at h) c.loop-place.place ++ at h c.loop-place.place)
     (due_of (task_by g.P.Program.traces g.P.Program.part_count g.P.Program.part c.args.program.now)) _ _ _ _ _
     (λ h stands. parts_behind (at h) c.loop-place.place (count h.table)
@@ -36,7 +36,7 @@ returns g c =
     let at : History → ℕ → List ℕ = λ h. g.P.Program.part c.args.program.now h.table h.samples in
     let Stands : History → Type 0 = StandsFor g.P.Kept.Consumer.stands c.args.feed.now in
     let count : List Point → ℕ = g.P.Program.part_count c.args.program.now in
-    let all : c.loop-place.place ≡ count (points_of c.args.feed.now) = omega (arith, c.part_count.ensures) in
+    let all : c.loop-place.place ≡ count (points_of c.args.feed.now) = omega (arith, c.part_count-place-end.ensures) in
     told_same Stands (λ h. parts_to (at h) c.loop-place.place)
     (due_of (task_by g.P.Program.traces g.P.Program.part_count g.P.Program.part c.args.program.now)) _ _ _ _
     (λ h stands. ap (parts_to (at h)) (all ∙ ap count (table_of c.args.feed.now.events.reader h stands.events)))
