@@ -1,5 +1,5 @@
 -- What each end of a run says.
-use Rattle.std.proofs.Common.{◌≡◌, ◌≤◌, ◌⊎◌, ◌∙◌, inl, inr, ℕ, List, [], length, take, Option, Some, None, Result, Ok, Err, refl, sym, ap, subst, arith}
+use Rattle.std.proofs.Common.{◌≡◌, ◌≤◌, ◌<◌, ◌⊎◌, ◌∙◌, inl, inr, ℕ, List, [], length, take, Option, Some, None, Result, Ok, Err, refl, sym, ap, subst, arith}
 use Rattle.dk_arguments.specs.declared.request.Request.{Request}
 use Rattle.dk_arguments.specs.declared.request.Request.TheVariants.{Run, Help, Version}
 use Rattle.dk_driver.specs.Files.{AreHeldFiles, file_name_at}
@@ -18,7 +18,9 @@ use Rattle.dk_program.specs.Messages.{unread_line}
 use Rattle.dk_program.specs.Moments.{IsCalm, Outside}
 use Rattle.dk_program.specs.Outputs.{IsFront, Output, only_on}
 use Rattle.dk_program.specs.Statuses.{GivesOutput, OutputIsWritten}
-use Rattle.dk_write.specs.Texts.{Write as Block}
+use Rattle.dk_io.specs.Streams.{Texts}
+use Rattle.dk_table.specs.Messages.{refusal_line}
+use Rattle.dk_write.specs.Texts.{Write as Block, trace_text}
 use Rattle.dk_table.proofs.Contents.{helds_length, not_absent, same_contents}
 use Rattle.dk_table.specs.Asked.{table_command}
 use Rattle.dk_table.specs.Contents.{AreReadAs, FaultSays, IsUnreadAt, helds_of}
@@ -108,6 +110,24 @@ read_completes a contents before after result read ended = λ calm held are.
     subst (λ (l : List (List ℕ)). GivesOutput (outcome_of a l).status (output_of (outcome_of a l)) result before after)
     (same_contents (helds_of a.files before.file) contents held read are)
     (gives (outcome_of a contents) before after result calm ended)
+
+-- ---- what files come to
+pub table_ends : (a : TableArguments) (contents : List (List ℕ)) (name : List ℕ) (blocks : List Block) (old new : Texts) (before after : ℕ) (result : Ended)
+    → name ≡ file_name_at a.files 0 → trace_of a.command name contents ≡ Ok blocks → EndsWith Done Report (trace_text blocks) old new before after result
+    → EndsWith (outcome_of a contents).status (outcome_of a contents).stream (outcome_of a contents).text old new before after result
+unfolding outcome_of
+table_ends a contents name blocks old new before after result is e ended =
+    subst (λ (r : Result (List Block) Refusal). EndsWith (outcome_by a.files r).status (outcome_by a.files r).stream (outcome_by a.files r).text old new before after result)
+    (sym (ap (λ (n : List ℕ). trace_of a.command n contents) (sym is) ∙ e)) ended
+
+pub refusal_ends : (a : TableArguments) (contents : List (List ℕ)) (name : List ℕ) (refusal : Refusal) (old new : Texts) (before after : ℕ) (result : Ended)
+    → name ≡ file_name_at a.files 0 → trace_of a.command name contents ≡ Err refusal
+    → EndsWith Refused Messages (refusal_line (file_name_at a.files refusal.file) refusal.row refusal.why) old new before after result
+    → EndsWith (outcome_of a contents).status (outcome_of a contents).stream (outcome_of a contents).text old new before after result
+unfolding outcome_of
+refusal_ends a contents name refusal old new before after result is e ended =
+    subst (λ (r : Result (List Block) Refusal). EndsWith (outcome_by a.files r).status (outcome_by a.files r).stream (outcome_by a.files r).text old new before after result)
+    (sym (ap (λ (n : List ℕ). trace_of a.command n contents) (sym is) ∙ e)) ended
 
 -- ---- files that were not
 unread_says : (a : TableArguments) (before after : Outside) (by : Break) (place : ℕ) (result : Ended)

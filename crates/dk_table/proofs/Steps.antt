@@ -1,5 +1,5 @@
 -- Steps of loops.
-use Rattle.std.proofs.Common.{◌≡◌, ◌<◌, ◌+◌, ◌∙◌, ◌∷◌, ◌++◌, [], ℕ, zero, suc, List, flat_map, get_or, length, map, replicate, take, refl, sym, ap, append_assoc, arith}
+use Rattle.std.proofs.Common.{◌≡◌, ◌<◌, ◌+◌, ◌∙◌, ◌∷◌, ◌++◌, [], ℕ, zero, suc, Bool, false, List, Result, subst, if◌then◌else◌, flat_map, get_or, length, map, replicate, take, refl, sym, ap, append_assoc, arith}
 use Rattle.std.proofs.lemmas.Grind.{flat_map-append}
 use Rattle.std.proofs.lemmas.List.{append-nil, map-append, replicate-append-replicate, take_more}
 use Rattle.std.proofs.lemmas.List.FromFn.{map-range_with_len_more}
@@ -11,7 +11,12 @@ use Rattle.dk_base.specs.declared.values.View.{View}
 use Rattle.dk_base.specs.declared.values.View.TheVariants as view
 use Rattle.dk_decl.specs.declared.decls.PointDecl.{PointDecl}
 use Rattle.dk_write.specs.Texts.{Records, Write, block_text, trace_text}
-use Rattle.dk_table.specs.Columns.{kind_of_column}
+use Rattle.dk_table.specs.Columns.{first_kind, kind_of_column}
+use Rattle.dk_table.specs.declared.columns.ColumnKind.TheVariants as kind
+use Rattle.dk_table.specs.declared.columns.TheConstants.{CANDIDATES}
+use Rattle.std.specs.Prelude.{IfOk}
+use Rattle.std.specs.List.{list_all}
+use Rattle.dk_base.specs.Pieces.{is_empty}
 use Rattle.dk_table.specs.Placed.{Placed, cell_at, cells_at}
 use Rattle.dk_table.specs.Tables.{made_name, made_names}
 use Rattle.dk_table.specs.Traces.{kinds_of, record_of, records_of}
@@ -25,6 +30,11 @@ cells_more row i cells lt is =
 -- one made name more
 pub names_more : (i : ℕ) (names : List (List ℕ)) → names ≡ made_names i → names ++ made_name i ∷ [] ≡ made_names (i + 1)
 names_more i names is = ap (λ (l : List (List ℕ)). l ++ made_name i ∷ []) is ∙ sym (map-range_with_len_more made_name 0 i i (omega arith))
+
+-- the kind of a column with a cell that isn't empty
+pub kind_by : {E : Type 0} (cells : List (List ℕ)) (r : Result ColumnKind E) → list_all is_empty cells ≡ false → IfOk r (λ k. k ≡ first_kind CANDIDATES cells)
+    → IfOk r (λ k. k ≡ kind_of_column cells)
+kind_by cells r e h = subst (λ (b : Bool). IfOk r (λ k. k ≡ (if b then kind.Text else first_kind CANDIDATES cells))) (sym e) h
 
 -- the kind of one column more
 pub kinds_more : (rows : List Placed) (i : ℕ) (kinds : List ColumnKind) → kinds ≡ kinds_of rows i → kinds ++ kind_of_column (cells_at rows i) ∷ [] ≡ kinds_of rows (i + 1)

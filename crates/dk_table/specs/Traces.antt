@@ -1,5 +1,5 @@
 -- The trace of a table.
-use Rattle.std.specs.Prelude.{◌&&◌, ◌+◌, ◌++◌, ◌∷◌, [], ℕ, Bool, false, not, negsuc, List, Option, Some, None, Result, Ok, Err, codes, find, is_some, length, map, replicate, take, unwrap_or, if◌then◌else◌}
+use Rattle.std.specs.Prelude.{◌&&◌, ◌+◌, ◌++◌, ◌∷◌, [], ℕ, Bool, false, not, negsuc, List, Option, Some, None, Result, Ok, Err, codes, find, is_some, length, map, option_map, replicate, take, unwrap_or, if◌then◌else◌}
 use Rattle.std.specs.List.{list_all, range_with_len, zip}
 use Rattle.dk_base.specs.declared.kinds.Compar.{Compar}
 use Rattle.dk_base.specs.declared.kinds.Kind.{Kind}
@@ -103,17 +103,17 @@ untold_row kinds rows = find (λ row. not (is_told kinds row)) rows
 abbrev pub bad_cell : Placed → Refusal
 bad_cell row = record { file = row.file; row = row.number; why = BadCell }
 
--- such a row is refused
-abbrev pub if_told : Option Placed → List Write → Result (List Write) Refusal
-if_told (Some row) ws = Err (bad_cell row)
+abbrev pub if_told : Option Refusal → List Write → Result (List Write) Refusal
+if_told (Some refusal) ws = Err refusal
 if_told None ws = Ok ws
 
 -- ---- the trace
--- the trace of a table with columns of these kinds, or why there is none
+-- the trace of a table with this declaration and columns of these kinds, or why there is none
+unfoldable pub trace_by : PointDecl → List ColumnKind → List Placed → Result (List Write) Refusal
+trace_by d kinds rows = if are_named d then if_told (option_map bad_cell (untold_row kinds rows)) (writes_of d kinds rows) else refused 0 1 BadName
+
 abbrev pub trace_with : List ℕ → List (List ℕ) → List ColumnKind → List Placed → Result (List Write) Refusal
-trace_with point names kinds rows =
-    let d : PointDecl = declaration_of point names kinds in
-    if are_named d then if_told (untold_row kinds rows) (writes_of d kinds rows) else refused 0 1 BadName
+trace_with point names kinds rows = trace_by (declaration_of point names kinds) kinds rows
 
 -- The trace of a table, or why there is none. Kinds are found by so many rows, or by all.
 abbrev pub trace_of_table : List ℕ → Option ℕ → List (List ℕ) → List Placed → Result (List Write) Refusal

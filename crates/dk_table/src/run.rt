@@ -66,7 +66,8 @@ fn refusal_line(
 ) -> Result<String, AllocError>
     ensures { IfOk result (λ text. string_bytes text ≡ refusal_line name.now row why) }
 {
-    format!(in alloc; "daikon: {name}: row {row}: {why}\n")
+    let reason = why.to_string(alloc)?;
+    format!(in alloc; "daikon: {name}: row {row}: {reason}\n")
 }
 
 // Tells that a table is refused.

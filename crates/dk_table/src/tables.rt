@@ -179,7 +179,8 @@ pub(crate) fn names_of(
     }
 }
 
-fn refused(file: usize, row: u64, why: TableWhy) -> TableFault
+/// The refusal of a row of a file.
+pub(crate) fn refused(file: usize, row: u64, why: TableWhy) -> TableFault
     ensures { result ≡ TableFault.Refused (record { file = file; row = row; why = why }) }
 {
     TableFault::Refused(Refusal { file, row, why })

@@ -4,11 +4,12 @@ ghost use Rattle.std.specs.List.{zip};
 ghost use Rattle.dk_base.specs.Values.{value_of as value_shown, values_of as values_shown};
 ghost use Rattle.dk_write.specs.Texts.{Declares, Records, block_text, trace_text};
 ghost use Rattle.dk_table.specs.Outcomes.{Answers};
-ghost use Rattle.dk_table.specs.Traces.{are_named, bad_cell, declaration_of, is_told, judged, kept_writes, kinds_of, own_kind, record_of, records_of, scaled_name, trace_of_table, untold_row, value_at, var_name, var_of};
+ghost use Rattle.dk_table.specs.Traces.{are_named, bad_cell, declaration_of, is_told, judged, kept_writes, kinds_of, own_kind, record_of, records_of, scaled_name, trace_by, trace_of_table, untold_row, value_at, var_name, var_of, writes_of};
 
 use crate::columns::{ColumnKind, cell_value, kind_of_column, writes};
 use crate::faults::{Refusal, TableFault, TableWhy};
 use crate::rows::Row;
+use crate::tables::refused;
 use dk_base::{Arena, Compar, Kind, List, NoMemory, Text, View};
 use dk_decl::{PointDecl, VarDecl};
 use dk_write::{can_declare, can_record, header_text, push_declaration, push_record};
@@ -178,6 +179,37 @@ fn untold_row(
     Ok(None)
 }
 
+// Whether a table with this declaration and columns of these kinds has a trace.
+#[tactic(auto, unfolding(crate::specs::Traces::trace_by))]
+fn judge(
+    alloc: Global,
+    decl: &PointDecl,
+    kinds: &[ColumnKind],
+    rows: &[Row],
+) -> Result<(), TableFault>
+    ensures { Answers (λ _. writes_of decl.now kinds.now rows.now) (trace_by decl.now kinds.now rows.now) result }
+{
+    if !are_named(alloc, decl)? {
+        return Err(refused(0, 1, TableWhy::BadName));
+    }
+    match untold_row(alloc, kinds, rows)? {
+        Some(refusal) => Err(TableFault::Refused(refusal)),
+        None => Ok(()),
+    }
+}
+
+// The kinds of the columns, by so many rows.
+fn kinds_by(
+    alloc: Global,
+    types: Option<u64>,
+    rows: &[Row],
+    columns: usize,
+) -> Result<List<ColumnKind>, NoMemory>
+    ensures { IfOk result (λ kinds. kinds ≡ kinds_of (judged types rows.now) columns) }
+{
+    kinds_of(alloc, judged(types, rows), columns)
+}
+
 /// The table of these rows, whose columns have these names, at the point of this name.
 pub(crate) fn table_of(
     alloc: Global,
@@ -188,19 +220,10 @@ pub(crate) fn table_of(
 ) -> Result<Table, TableFault>
     ensures { Answers kept_writes (trace_of_table point.now types names.now rows.items) result }
 {
-    let kinds = kinds_of(alloc, judged(types, rows.as_slice()), names.len())?;
+    let kinds = kinds_by(alloc, types, rows.as_slice(), names.len())?;
     let decl = declaration_of(alloc, point, names, kinds.as_slice())?;
-    if !are_named(alloc, &decl)? {
-        return Err(TableFault::Refused(Refusal {
-            file: 0,
-            row: 1,
-            why: TableWhy::BadName,
-        }));
-    }
-    match untold_row(alloc, kinds.as_slice(), rows.as_slice())? {
-        Some(refusal) => Err(TableFault::Refused(refusal)),
-        None => Ok(Table { decl, kinds, rows }),
-    }
+    judge(alloc, &decl, kinds.as_slice(), rows.as_slice())?;
+    Ok(Table { decl, kinds, rows })
 }
 
 fn value_at<'a>(

@@ -15,7 +15,7 @@ loop-place-preserved g c =
     let within : c.loop-place.place < length names = omega arith in
     record {
       read = read_more names (g.I.Inputs.file c.args.inputs.now) c.loop-place.texts c.push.new.self c.loop-place.place c.name_at.result.now c.in-Ok.text within c.name_at.ensures
-          c.loop-place.invariant.read (subst (λ (f : List ℕ → HeldFile). ReadAs (f c.name_at.result.now) c.in-Ok.text) files c.in-Ok.ensures.read) c.in_ok-push.ensures.ok;
+          c.loop-place.invariant.read (subst (λ (f : List ℕ → HeldFile). ReadAs (f c.name_at.result.now) c.in-Ok.text) files c.in-Ok.ensures.read) c.in_ok-push-in-Ok.ensures.ok;
       files = c.read_text.ensures.files ∙ files;
       later = omega (arith, c.loop-place.invariant.later, c.read_text.ensures.later);
     }

@@ -20,7 +20,7 @@ loop-i-preserved c =
     let k : ColumnKind = get_or kinds i kind.Whole in
     zip_more value_at kinds cells i k c.cell.result.now (values_of c.loop-i.values) (values_of c.push.new.self) lt more (get_or_default kinds i kind.Whole k lt)
     (cell_read c.args.row.now i c.cell.result.now more c.cell.ensures) c.loop-i.invariant
-    (ap values_of c.in_ok-push.ensures.ok ∙ map-append value_of c.loop-i.values (c.in_ok-value.field-0 ∷ [])
+    (ap values_of c.in_ok-push.ensures.ok ∙ map-append value_of c.loop-i.values (c.in_ok-value.value ∷ [])
     ∙ ap (λ (v : Value). values_of c.loop-i.values ++ v ∷ []) c.in_ok-value.ensures)
 
 pub returns : goal.returns
