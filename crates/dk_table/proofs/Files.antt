@@ -39,10 +39,10 @@ module _ (c : Command) (names files : List (List ℕ)) (i : ℕ) (bytes : List �
       (one_more lt is ∙ ap (λ (r : Result (List Placed) Refusal). r >>= λ front. rows_of_all c names (i + 1) (drop (i + 1) files) >>= λ rest. Ok (front ++ rest)) e)
 
   pub rows_fail : {A B : Type 0} (own : A → List Placed) (shown : B → List Placed) (fault : TableFault) → i < length files → bytes ≡ get_or files i bytes
-      → Answers own (file_rows c names i bytes) (Err fault)
+      → (given : List ℕ) → given ≡ bytes → Answers own (file_rows c names i given) (Err fault)
       → rows_of_all c names 0 files ≡ (rows_of_all c names i (drop i files) >>= λ rest. Ok (all ++ rest)) → Answers shown (rows_of_all c names 0 files) (Err fault)
-  rows_fail own shown (Refused refusal) lt is e so_far = rows_refused refusal lt is e so_far
-  rows_fail own shown NoMemory lt is e so_far = tt
+  rows_fail own shown (Refused refusal) lt is given same e so_far = rows_refused refusal lt is (ap (file_rows c names i) (sym same) ∙ e) so_far
+  rows_fail own shown NoMemory lt is given same e so_far = tt
 
 pub rows_ended : (c : Command) (names files : List (List ℕ)) (i : ℕ) (all : List Placed) → length files ≤ i
     → rows_of_all c names 0 files ≡ (rows_of_all c names i (drop i files) >>= λ rest. Ok (all ++ rest)) → rows_of_all c names 0 files ≡ Ok all

@@ -5,4 +5,3 @@ pub mod Getting
 pub mod Pairs
 pub mod Saying
 pub mod Steps
-pub mod Tabling

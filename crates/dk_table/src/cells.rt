@@ -105,11 +105,7 @@ fn dot_of(places: usize, cell: &[u8]) -> Option<usize>
         return None;
     }
     let dot = cell.len() - places - 1;
-    if is_dot(cell, dot) {
-        Some(dot)
-    } else {
-        None
-    }
+    if is_dot(cell, dot) { Some(dot) } else { None }
 }
 
 /// The decimal with so many places that the cell writes, times 10 to their number, within 64 bits.

@@ -58,12 +58,7 @@ fn tell_table<S: Sinks>(alloc: Global, table: &Table, sinks: &mut S) -> Ended
     }
 }
 
-fn refusal_line(
-    alloc: Global,
-    name: &str,
-    row: u64,
-    why: TableWhy,
-) -> Result<String, AllocError>
+fn refusal_line(alloc: Global, name: &str, row: u64, why: TableWhy) -> Result<String, AllocError>
     ensures { IfOk result (λ text. string_bytes text ≡ refusal_line name.now row why) }
 {
     let reason = why.to_string(alloc)?;
@@ -71,15 +66,15 @@ fn refusal_line(
 }
 
 // Tells that a table is refused.
-fn tell_refused<S: Sinks>(
-    alloc: Global,
-    names: &[Word],
-    refusal: Refusal,
-    sinks: &mut S,
-) -> Ended
+fn tell_refused<S: Sinks>(alloc: Global, names: &[Word], refusal: Refusal, sinks: &mut S) -> Ended
     ensures { EndsWith Ended.Refused stream.Messages (refusal_line (file_name_at names.now refusal.file) refusal.row refusal.why) (S.written sinks.old) (S.written sinks.new) (S.faults sinks.old) (S.faults sinks.new) result }
 {
-    match refusal_line(alloc, name_at(names, refusal.file), refusal.row, refusal.why) {
+    match refusal_line(
+        alloc,
+        name_at(names, refusal.file),
+        refusal.row,
+        refusal.why,
+    ) {
         Ok(text) => end_with(sinks, Stream::Messages, text.as_bytes(), Ended::Refused),
         Err(_) => Ended::NoMemory,
     }

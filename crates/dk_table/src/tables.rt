@@ -104,8 +104,10 @@ pub(crate) fn rows_of_all(
 {
     let mut all = Vec::new(alloc);
     for file in 0..files.len() {
-        let mut own = file_rows(alloc, command, names, file, files[file].as_slice())?;
-        all.append(&mut own)?;
+        match file_rows(alloc, command, names, file, files[file].as_slice()) {
+            Ok(mut own) => all.append(&mut own)?,
+            Err(fault) => return Err(fault),
+        }
     }
     Ok(all)
 }

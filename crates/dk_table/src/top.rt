@@ -47,7 +47,12 @@ pub fn run_table<I: Inputs, S: Sinks>(
     match read_arguments::<TableArguments>(alloc, words) {
         Ok(Request::Run(arguments)) => run_over(alloc, &arguments, inputs, sinks),
         Ok(Request::Help) => end_with(sinks, Stream::Report, HELP_TEXT.as_bytes(), Ended::Done),
-        Ok(Request::Version) => end_with(sinks, Stream::Report, VERSION_TEXT.as_bytes(), Ended::Done),
+        Ok(Request::Version) => end_with(
+            sinks,
+            Stream::Report,
+            VERSION_TEXT.as_bytes(),
+            Ended::Done,
+        ),
         Err(ArgumentsFault::Refused) => tell_usage(sinks),
         Err(ArgumentsFault::NoMemory) => Ended::NoMemory,
     }

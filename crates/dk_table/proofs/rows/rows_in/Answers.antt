@@ -1,4 +1,4 @@
-use Rattle.std.proofs.Common.{Bor, List, ℕ, ◌≡◌, ◌++◌, ◌∙◌, ap, sym, refl, rules, inl, inr, true, Some, ◌∷◌, []}
+use Rattle.std.proofs.Common.{Bor, List, ℕ, ◌≡◌, ◌++◌, ◌+◌, ◌∙◌, ap, length, sym, refl, rules, inl, inr, true, Some, ◌∷◌, []}
 use Rattle.std.specs.Result.{is_ok}
 use Rattle.csv.specs.Reading.{Reached, strip_bom}
 use Rattle.csv.specs.Records.{fields_of}
@@ -39,9 +39,10 @@ loop-row-preserved c =
     let items = rw good at c.push.ensures.items in
     let f = fields_of c.in-Ok.cells in
     let m = rows-more (λ (s : Bor (List ℕ)). Some s.now) c.loop-row.row-iterator.rdr c.next.new.self.rdr f (config_by c.args.separator) st.StartRecord (strip_bom c.args.bytes.now) inv.4 inv.6 inv.3 inv.5 inv.7 s.0 in
-    let ok = c.loop-row.rows.ok in
-    let len = c.len.ensures in
-    (s.0.3 ∙ inv.0, inl s.1, s.2, s.0.2 ∙ inv.3, m.0, m.1, inv.6 ++ f ∷ [], m.2, ?)
+    let many : c.len.result ≡ length c.loop-row.rows.items = c.len.ensures ∙ c.loop-row.rows.ok.0 in
+    let added : c.push.new.self.items ≡ c.loop-row.rows.items ++ record { file = c.args.file; number = c.len.result + 1; cells = f } ∷ [] = items in
+    let placed = added ∙ ap (λ (n : ℕ). c.loop-row.rows.items ++ record { file = c.args.file; number = n + 1; cells = f } ∷ []) many in
+    (s.0.3 ∙ inv.0, inl s.1, s.2, s.0.2 ∙ inv.3, m.0, m.1, inv.6 ++ f ∷ [], m.2, row_added c.args.file inv.6 f c.loop-row.rows.items c.push.new.self.items inv.8 placed)
 
 pub returns : goal.returns
 returns c =

@@ -19,6 +19,6 @@ returns-in-Err-Refused g c =
     let named : c.name_at.result.now ≡ file_name_at c.args.arguments.now.files 0 =
     c.name_at.ensures ∙ ap (λ (l : List (List ℕ)). file_name_at l 0) c.as_slice-names.ensures in
     let r = c.in-Err-Refused.refusal in
-    refusal_ends c.args.arguments.now c.args.texts.now c.name_at.result.now r _ _ _ _ c.tell_refused.result named c.in-Err-Refused.ensures
+    refusal_ends c.args.arguments.now c.args.texts.now c.name_at.result.now r _ _ _ _ c.tell_refused.result named (rw c.in-Err-Refused.field-0-is at c.in-Err-Refused.ensures)
     (subst (λ (l : List (List ℕ)). EndsWith Refused Messages (refusal_line (file_name_at l r.file) r.row r.why) (g.S.Sinks.written c.args.sinks.now) (g.S.Sinks.written c.tell_refused.new.sinks) (g.S.Sinks.faults c.args.sinks.now) (g.S.Sinks.faults c.tell_refused.new.sinks) c.tell_refused.result)
     c.as_slice-names.ensures c.tell_refused.ensures)
