@@ -9,6 +9,7 @@ SOURCES: dict[str, str] = {
     "dk_check": "crates/dk_check/src/texts.rt",
     "dk_merge": "crates/dk_merge_words/src/texts.rt",
     "dk_tell": "crates/dk_tell/src/texts.rt",
+    "dk_table": "crates/dk_table/src/texts.rt",
 }
 ESCAPES = {"\\n": "\n", '\\"': '"', "\\\\": "\\", "\\\n": ""}
 

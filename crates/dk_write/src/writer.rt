@@ -52,11 +52,11 @@ impl From<Failed> for WriteFault {
     }
 }
 
-// The text of the header lines with which a trace begins, and a blank line.
 const HEADER: &[u8] = b"decl-version 2.0\nvar-comparability implicit\n\n";
 
+/// The text of the header lines with which a trace begins, and a blank line.
 #[tactic(auto, unfolding(crate::specs::Texts::block_text))]
-fn header_text() -> &'static [u8]
+pub fn header_text() -> &'static [u8]
     ensures { result.now ≡ block_text Begins }
 {
     HEADER

@@ -1,0 +1,181 @@
+-- What each end of a run says.
+use Rattle.std.proofs.Common.{◌≡◌, ◌≤◌, ◌<◌, ◌⊎◌, ◌∙◌, inl, inr, ℕ, List, [], length, take, Option, Some, None, Result, Ok, Err, refl, sym, ap, subst, arith}
+use Rattle.dk_arguments.specs.declared.request.Request.{Request}
+use Rattle.dk_arguments.specs.declared.request.Request.TheVariants.{Run, Help, Version}
+use Rattle.dk_driver.specs.Files.{AreHeldFiles, file_name_at}
+use Rattle.dk_driver.specs.Reads.{AtStart, Break, HasBroken, Within, held_file_at}
+use Rattle.dk_driver.specs.declared.fault.FilesFault.{FilesFault}
+use Rattle.dk_driver.specs.declared.fault.FilesFault.TheVariants as f
+use Rattle.dk_events.specs.declared.ended.Ended.{Ended}
+use Rattle.dk_events.specs.declared.ended.Ended.TheVariants.{Done, Refused, Usage, Read, Write, NoMemory}
+use Rattle.dk_io.specs.Outside.{HeldFile, Absent, Rose}
+use Rattle.dk_io.specs.declared.outside.Stream.{Stream}
+use Rattle.dk_io.specs.declared.outside.Stream.TheVariants.{Report, Messages, State}
+use Rattle.dk_program.proofs.Saying.{followed_only}
+use Rattle.dk_program.proofs.Writing.{front_take}
+use Rattle.dk_program.specs.Ending.{EndsBy, EndsWith}
+use Rattle.dk_program.specs.Messages.{unread_line}
+use Rattle.dk_program.specs.Moments.{IsCalm, Outside}
+use Rattle.dk_program.specs.Outputs.{IsFront, Output, only_on}
+use Rattle.dk_program.specs.Statuses.{GivesOutput, OutputIsWritten}
+use Rattle.dk_io.specs.Streams.{Texts}
+use Rattle.dk_table.specs.Messages.{refusal_line}
+use Rattle.dk_write.specs.Texts.{Write as Block, trace_text}
+use Rattle.dk_table.proofs.Contents.{helds_length, not_absent, same_contents}
+use Rattle.dk_table.specs.Asked.{table_command}
+use Rattle.dk_table.specs.Contents.{AreReadAs, FaultSays, IsUnreadAt, helds_of}
+use Rattle.dk_table.specs.Statuses.{Completes, ComesTo, Outcome, Says, outcome_by, outcome_of, output_of}
+use Rattle.dk_table.specs.Traces.{trace_of}
+use Rattle.dk_table.specs.declared.faults.Refusal.{Refusal}
+use Rattle.dk_table.specs.declared.words.TableArguments.{TableArguments}
+
+only_front : (stream : Stream) (n : ℕ) (text : List ℕ) → n ≤ length text → IsFront (only_on stream (take n text)) (only_on stream text)
+only_front Report n text h = record { report = front_take n text h; messages = refl; state = refl; in_order = inr refl }
+only_front Messages n text h = record { report = refl; messages = front_take n text h; state = refl; in_order = inr refl }
+only_front State n text h = record { report = refl; messages = refl; state = front_take n text h; in_order = inl refl }
+
+-- a run that comes to its output, and wrote it, says so
+comes_says : (status : Ended) (request : Option (Request TableArguments)) (before after : Outside) (output : Output)
+    → ComesTo status request before after output → OutputIsWritten before after output → Says status request before after
+comes_says Done request before after output comes e = (output, comes, e)
+comes_says Refused request before after output comes e = (output, comes, e)
+comes_says Usage request before after output comes e = (output, comes, e)
+comes_says Read request before after output comes e = (output, comes, e)
+comes_says Write (Some (Run a)) before after output comes e = absurd comes
+comes_says Write (Some Help) before after output comes e = absurd comes
+comes_says Write (Some Version) before after output comes e = absurd comes
+comes_says Write None before after output comes e = absurd comes
+comes_says NoMemory (Some (Run a)) before after output comes e = absurd comes
+comes_says NoMemory (Some Help) before after output comes e = absurd comes
+comes_says NoMemory (Some Version) before after output comes e = absurd comes
+comes_says NoMemory None before after output comes e = absurd comes
+
+-- a run that ends with a text
+pub ends_says : (status : Ended) (request : Option (Request TableArguments)) (before after : Outside) (stream : Stream) (text : List ℕ) (result : Ended)
+    → ComesTo status request before after (only_on stream text)
+    → EndsWith status stream text before.written after.written before.write_faults after.write_faults result → Says result request before after
+ends_says status request before after stream text result comes (inl (is, e, calm)) =
+    subst (λ (s : Ended). Says s request before after) (sym is)
+    (comes_says status request before after (only_on stream text) comes (e ∙ followed_only before.written stream text, calm))
+ends_says status request before after stream text result comes (inr (inl (is, rose, (n, short, e)))) =
+    subst (λ (s : Ended). Says s request before after) (sym is) (
+      rose,
+      record {
+        status = status;
+        output = only_on stream text;
+        comes = comes;
+        front = record { front = only_on stream (take n text); is_front = only_front stream n text short; written = e ∙ followed_only before.written stream (take n text) };
+      },
+    )
+ends_says status request before after stream text result comes (inr (inr (is, e, calm))) = subst (λ (s : Ended). Says s request before after) (sym is) (e, calm)
+
+-- ---- files that were read
+read_comes : (a : TableArguments) (contents : List (List ℕ)) (before after : Outside) → AreReadAs (helds_of a.files before.file) contents
+    → ComesTo (outcome_of a contents).status (Some (Run a)) before after (output_of (outcome_of a contents))
+unfolding outcome_of
+read_comes a contents before after read = go (trace_of a.command (file_name_at a.files 0) contents) refl
+  where
+    go : (r : Result (List Block) Refusal) → trace_of a.command (file_name_at a.files 0) contents ≡ r
+        → ComesTo (outcome_by a.files r).status (Some (Run a)) before after (output_of (outcome_by a.files r))
+    go (Ok blocks) e = record {
+      contents = contents;
+      read = read;
+      status_is = ap (λ (r : Result (List Block) Refusal). (outcome_by a.files r).status) (sym e);
+      output_is = ap (λ (r : Result (List Block) Refusal). output_of (outcome_by a.files r)) (sym e);
+    }
+    go (Err refusal) e = record {
+      contents = contents;
+      read = read;
+      status_is = ap (λ (r : Result (List Block) Refusal). (outcome_by a.files r).status) (sym e);
+      output_is = ap (λ (r : Result (List Block) Refusal). output_of (outcome_by a.files r)) (sym e);
+    }
+
+pub read_says : (a : TableArguments) (contents : List (List ℕ)) (before after : Outside) (result : Ended) → AreReadAs (helds_of a.files before.file) contents
+    → EndsWith (outcome_of a contents).status (outcome_of a contents).stream (outcome_of a contents).text before.written after.written before.write_faults after.write_faults result
+    → Says result (Some (Run a)) before after
+read_says a contents before after result read ended =
+    ends_says (outcome_of a contents).status (Some (Run a)) before after (outcome_of a contents).stream (outcome_of a contents).text result (read_comes a contents before after read) ended
+
+gives : (outcome : Outcome) (before after : Outside) (result : Ended) → IsCalm before after
+    → EndsWith outcome.status outcome.stream outcome.text before.written after.written before.write_faults after.write_faults result
+    → GivesOutput outcome.status (output_of outcome) result before after
+gives outcome before after result calm (inl (is, e, same)) = inl (is, e ∙ followed_only before.written outcome.stream outcome.text)
+gives outcome before after result calm (inr (inl (is, rose, front))) = absurd (calm.write rose)
+gives outcome before after result calm (inr (inr (is, e, same))) = inr is
+
+pub read_completes : (a : TableArguments) (contents : List (List ℕ)) (before after : Outside) (result : Ended) → AreReadAs (helds_of a.files before.file) contents
+    → EndsWith (outcome_of a contents).status (outcome_of a contents).stream (outcome_of a contents).text before.written after.written before.write_faults after.write_faults result
+    → Completes (Some (Run a)) before after result
+read_completes a contents before after result read ended = λ calm held are.
+    subst (λ (l : List (List ℕ)). GivesOutput (outcome_of a l).status (output_of (outcome_of a l)) result before after)
+    (same_contents (helds_of a.files before.file) contents held read are)
+    (gives (outcome_of a contents) before after result calm ended)
+
+-- ---- what files come to
+pub table_ends : (a : TableArguments) (contents : List (List ℕ)) (name : List ℕ) (blocks : List Block) (old new : Texts) (before after : ℕ) (result : Ended)
+    → name ≡ file_name_at a.files 0 → trace_of a.command name contents ≡ Ok blocks → EndsWith Done Report (trace_text blocks) old new before after result
+    → EndsWith (outcome_of a contents).status (outcome_of a contents).stream (outcome_of a contents).text old new before after result
+unfolding outcome_of
+table_ends a contents name blocks old new before after result is e ended =
+    subst (λ (r : Result (List Block) Refusal). EndsWith (outcome_by a.files r).status (outcome_by a.files r).stream (outcome_by a.files r).text old new before after result)
+    (sym (ap (λ (n : List ℕ). trace_of a.command n contents) (sym is) ∙ e)) ended
+
+pub refusal_ends : (a : TableArguments) (contents : List (List ℕ)) (name : List ℕ) (refusal : Refusal) (old new : Texts) (before after : ℕ) (result : Ended)
+    → name ≡ file_name_at a.files 0 → trace_of a.command name contents ≡ Err refusal
+    → EndsWith Refused Messages (refusal_line (file_name_at a.files refusal.file) refusal.row refusal.why) old new before after result
+    → EndsWith (outcome_of a contents).status (outcome_of a contents).stream (outcome_of a contents).text old new before after result
+unfolding outcome_of
+refusal_ends a contents name refusal old new before after result is e ended =
+    subst (λ (r : Result (List Block) Refusal). EndsWith (outcome_by a.files r).status (outcome_by a.files r).stream (outcome_by a.files r).text old new before after result)
+    (sym (ap (λ (n : List ℕ). trace_of a.command n contents) (sym is) ∙ e)) ended
+
+-- ---- files that were not
+unread_says : (a : TableArguments) (before after : Outside) (by : Break) (place : ℕ) (result : Ended)
+    → IsUnreadAt a.files before.file (Rose before.read_faults after.read_faults) by place
+    → EndsWith Read Messages (unread_line (file_name_at a.files place)) before.written after.written before.write_faults after.write_faults result
+    → Says result (Some (Run a)) before after
+unread_says a before after by place result unread ended =
+    ends_says Read (Some (Run a)) before after Messages (unread_line (file_name_at a.files place)) result (record { by = by; place = place; unread = unread; message = refl }) ended
+
+pub fault_says : (a : TableArguments) (before after : Outside) (fault : FilesFault) (result : Ended)
+    → FaultSays a.files before.file (Rose before.read_faults after.read_faults) fault
+    → EndsBy a.files fault before.written after.written before.write_faults after.write_faults result → Says result (Some (Run a)) before after
+fault_says a before after (f.Refused place line why) result says ended = absurd says
+fault_says a before after (f.Start place) result says ended = unread_says a before after AtStart place result says ended
+fault_says a before after (f.Read place) result says ended = unread_says a before after Within place result says ended
+fault_says a before after f.NoMemory result says (is, e, calm) = subst (λ (s : Ended). Says s (Some (Run a)) before after) (sym is) (e, calm)
+
+no_start : (helds : List HeldFile) (held : List (List ℕ)) (place : ℕ) (rose : Type 0) → place < length helds → AreHeldFiles helds held → (rose → ⊥)
+    → HasBroken AtStart (held_file_at helds place) rose → ⊥
+no_start helds held place rose within are calm (inl absent) = not_absent helds held place within are absent
+no_start helds held place rose within are calm (inr rises) = calm rises
+
+pub fault_completes : (a : TableArguments) (before after : Outside) (fault : FilesFault) (result : Ended)
+    → FaultSays a.files before.file (Rose before.read_faults after.read_faults) fault
+    → EndsBy a.files fault before.written after.written before.write_faults after.write_faults result → Completes (Some (Run a)) before after result
+fault_completes a before after (f.Refused place line why) result says ended = λ calm held are. absurd says
+fault_completes a before after (f.Start place) result says ended = λ calm held are.
+    absurd (no_start (helds_of a.files before.file) held place _ (omega (arith, says.named, helds_length a.files before.file)) are calm.read says.cause)
+fault_completes a before after (f.Read place) result says ended = λ calm held are. absurd (calm.read says.cause.1)
+fault_completes a before after f.NoMemory result says (is, e, same) = λ calm held are. inr is
+
+-- ---- other words
+pub help_says : (asked : Option (Request TableArguments)) (before after : Outside) (text : List ℕ) (result : Ended) → asked ≡ Some Help → text ≡ table_command.help
+    → EndsWith Done Report text before.written after.written before.write_faults after.write_faults result → Says result asked before after
+help_says asked before after text result is same ended =
+    subst (λ (r : Option (Request TableArguments)). Says result r before after) (sym is) (ends_says Done (Some Help) before after Report text result (ap (only_on Report) same) ended)
+
+pub version_says : (asked : Option (Request TableArguments)) (before after : Outside) (text : List ℕ) (result : Ended) → asked ≡ Some Version → text ≡ table_command.version
+    → EndsWith Done Report text before.written after.written before.write_faults after.write_faults result → Says result asked before after
+version_says asked before after text result is same ended =
+    subst (λ (r : Option (Request TableArguments)). Says result r before after) (sym is) (ends_says Done (Some Version) before after Report text result (ap (only_on Report) same) ended)
+
+pub usage_says : (asked : Option (Request TableArguments)) (before after : Outside) (result : Ended) → asked ≡ None
+    → EndsWith Usage Messages table_command.usage before.written after.written before.write_faults after.write_faults result → Says result asked before after
+usage_says asked before after result is ended =
+    subst (λ (r : Option (Request TableArguments)). Says result r before after) (sym is) (ends_says Usage None before after Messages table_command.usage result refl ended)
+
+-- what is asked for is a run, or not
+pub asked_completes : (asked : Option (Request TableArguments)) (a : TableArguments) (before after : Outside) (result : Ended) → asked ≡ Some (Run a)
+    → Completes (Some (Run a)) before after result → Completes asked before after result
+asked_completes asked a before after result is complete = subst (λ (r : Option (Request TableArguments)). Completes r before after result) (sym is) complete

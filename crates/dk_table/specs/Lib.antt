@@ -1,0 +1,13 @@
+-- cited by public clauses
+pub mod Asked
+pub mod Statuses
+pub mod Traces
+pub mod Refusals
+-- what those are made of
+pub mod Cells
+pub mod Columns
+pub mod Contents
+pub mod Messages
+pub mod Outcomes
+pub mod Placed
+pub mod Tables

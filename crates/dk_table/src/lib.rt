@@ -1,0 +1,25 @@
+//! Traces of tables: what holds in the rows of a table of cells is found by writing each row as a sample.
+//!
+//! A column has whole numbers, truth values, decimals with one number of places, or texts, by what its cells that aren't empty write;
+//! an empty cell is a missing value. `run_table` is the run behind the program.
+#![tactic(auto)]
+
+mod cells;
+mod columns;
+mod command;
+mod faults;
+mod reading;
+mod rows;
+mod run;
+mod tables;
+mod texts;
+mod top;
+mod traces;
+mod words;
+
+pub use cells::TruthWords;
+pub use columns::{CANDIDATES, ColumnKind};
+pub use command::Command;
+pub use faults::{Refusal, TableFault, TableWhy};
+pub use top::{run_table, tell_usage};
+pub use words::TableArguments;

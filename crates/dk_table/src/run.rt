@@ -1,0 +1,121 @@
+// A run: the files are read whole, and then the trace of their tables is written.
+ghost use Rattle.std.specs.Prelude.{◌≡◌, IfOk, Some, string_bytes, unwrap_or};
+ghost use Rattle.dk_arguments.specs.declared.request.Request.TheVariants as request;
+ghost use Rattle.dk_driver.specs.Files.{file_name_at};
+ghost use Rattle.dk_io.specs.declared.outside.Stream.TheVariants as stream;
+ghost use Rattle.dk_program.specs.Ending.{EndsWith};
+ghost use Rattle.dk_program.specs.Moments.{Outside, outside};
+ghost use Rattle.dk_write.specs.Texts.{trace_text as trace_text_of};
+ghost use Rattle.dk_table.specs.Messages.{refusal_line};
+ghost use Rattle.dk_table.specs.Outcomes.{Answers};
+ghost use Rattle.dk_table.specs.Statuses.{Completes, Outcome, Says, outcome_of};
+ghost use Rattle.dk_table.specs.Traces.{kept_writes, trace_of};
+
+use crate::command::Command;
+use crate::faults::{Refusal, TableFault, TableWhy};
+use crate::reading::{name_at, read_texts};
+use crate::tables::{names_of, rows_of_all};
+use crate::traces::{Table, table_of, trace_text};
+use crate::words::TableArguments;
+use dk_arguments::Word;
+use dk_base::{NoMemory, Text};
+use dk_events::Ended;
+use dk_io::{Inputs, Sinks, Stream};
+use dk_program::{end_with, tell_fault};
+use std::alloc::{AllocError, Global};
+
+fn point_of<'a>(command: &'a Command, name: &'a str) -> &'a [u8]
+    ensures { result.now ≡ unwrap_or command.now.point name.now }
+{
+    match &command.point {
+        Some(point) => point.as_str().as_bytes(),
+        None => name.as_bytes(),
+    }
+}
+
+// The table in files of these bytes, the first of which has this name.
+fn table_in(
+    alloc: Global,
+    command: &Command,
+    name: &str,
+    texts: &[Text],
+) -> Result<Table, TableFault>
+    ensures { Answers kept_writes (trace_of command.now name.now texts.now) result }
+{
+    let names = names_of(alloc, command, texts)?;
+    let rows = rows_of_all(alloc, command, names.as_slice(), texts)?;
+    let point = point_of(command, name);
+    table_of(alloc, point, command.types, names.as_slice(), rows)
+}
+
+// Writes the trace of a table.
+fn tell_table<S: Sinks>(alloc: Global, table: &Table, sinks: &mut S) -> Ended
+    ensures { EndsWith Ended.Done stream.Report (trace_text_of (kept_writes table.now)) (S.written sinks.old) (S.written sinks.new) (S.faults sinks.old) (S.faults sinks.new) result }
+{
+    match trace_text(alloc, table) {
+        Ok(text) => end_with(sinks, Stream::Report, text.as_slice(), Ended::Done),
+        Err(NoMemory) => Ended::NoMemory,
+    }
+}
+
+fn refusal_line(alloc: Global, name: &str, row: u64, why: TableWhy) -> Result<String, AllocError>
+    ensures { IfOk result (λ text. string_bytes text ≡ refusal_line name.now row why) }
+{
+    let reason = why.to_string(alloc)?;
+    format!(in alloc; "daikon: {name}: row {row}: {reason}\n")
+}
+
+// Tells that a table is refused.
+fn tell_refused<S: Sinks>(alloc: Global, names: &[Word], refusal: Refusal, sinks: &mut S) -> Ended
+    ensures { EndsWith Ended.Refused stream.Messages (refusal_line (file_name_at names.now refusal.file) refusal.row refusal.why) (S.written sinks.old) (S.written sinks.new) (S.faults sinks.old) (S.faults sinks.new) result }
+{
+    match refusal_line(
+        alloc,
+        name_at(names, refusal.file),
+        refusal.row,
+        refusal.why,
+    ) {
+        Ok(text) => end_with(sinks, Stream::Messages, text.as_bytes(), Ended::Refused),
+        Err(_) => Ended::NoMemory,
+    }
+}
+
+// Tells what files of these bytes come to.
+fn tell_texts<S: Sinks>(
+    alloc: Global,
+    arguments: &TableArguments,
+    texts: &[Text],
+    sinks: &mut S,
+) -> Ended
+    ensures { let outcome : Outcome = outcome_of arguments.now texts.now in
+        EndsWith outcome.status outcome.stream outcome.text (S.written sinks.old) (S.written sinks.new) (S.faults sinks.old) (S.faults sinks.new) result }
+{
+    let names = arguments.files.as_slice();
+    match table_in(alloc, &arguments.command, name_at(names, 0), texts) {
+        Ok(table) => tell_table(alloc, &table, sinks),
+        Err(TableFault::Refused(refusal)) => tell_refused(alloc, names, refusal, sinks),
+        Err(TableFault::NoMemory) => Ended::NoMemory,
+    }
+}
+
+/// Writes the trace of the tables in the files, or a message.
+pub(crate) fn run_over<I: Inputs, S: Sinks>(
+    alloc: Global,
+    arguments: &TableArguments,
+    inputs: &mut I,
+    sinks: &mut S,
+) -> Ended
+    ensures says { let before : Outside = outside (I.file inputs.old) (I.rest inputs.old) (I.faults inputs.old) (S.written sinks.old) (S.faults sinks.old) in
+        let after : Outside = outside (I.file inputs.new) (I.rest inputs.new) (I.faults inputs.new) (S.written sinks.new) (S.faults sinks.new) in
+        Says result (Some (request.Run arguments.now)) before after }
+    ensures complete { let before : Outside = outside (I.file inputs.old) (I.rest inputs.old) (I.faults inputs.old) (S.written sinks.old) (S.faults sinks.old) in
+        let after : Outside = outside (I.file inputs.new) (I.rest inputs.new) (I.faults inputs.new) (S.written sinks.new) (S.faults sinks.new) in
+        Completes (Some (request.Run arguments.now)) before after result }
+    ensures files { I.file inputs.new ≡ I.file inputs.old }
+{
+    let names = arguments.files.as_slice();
+    match read_texts(alloc, names, inputs) {
+        Ok(texts) => tell_texts(alloc, arguments, texts.as_slice(), sinks),
+        Err(fault) => tell_fault(alloc, names, fault, sinks),
+    }
+}

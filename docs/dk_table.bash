@@ -1,0 +1,33 @@
+# Completions of dk_table for bash. In a shell: . docs/dk_table.bash
+# They give the words that may still stand (each may be given once) where a word begins with -, and names of files elsewhere.
+
+_dk_table() {
+    local word=${COMP_WORDS[COMP_CWORD]} before=${COMP_WORDS[COMP_CWORD - 1]} given=' ' other left=() i
+    COMPREPLY=()
+    for ((i = 1; i < COMP_CWORD; i++)); do
+        other=${COMP_WORDS[i]}
+        if [[ $other == -- ]]; then
+            break
+        fi
+        given+="$other "
+    done
+    if [[ $i -eq $COMP_CWORD ]]; then
+        # a value, which bash may have parted from its word at the =
+        [[ $word == = ]] && return
+        [[ $before == = ]] && before=${COMP_WORDS[COMP_CWORD - 2]}
+        case $before in
+            --separator | --types) return ;;
+        esac
+        if [[ $word == -* ]]; then
+            for other in --point --separator --types --no-header --help --version --; do
+                [[ $given == *" $other "* ]] || left+=("$other")
+            done
+            mapfile -t COMPREPLY < <(compgen -W "${left[*]}" -- "$word")
+            return
+        fi
+    fi
+    mapfile -t COMPREPLY < <(compgen -f -- "$word")
+    compopt -o filenames 2>/dev/null
+}
+
+complete -F _dk_table dk_table ./dk_table
