@@ -22,12 +22,7 @@ impl Consumer for Reported {
 
     ghost stands = { Stands };
 
-    fn take(
-        &mut self,
-        _points: &Points,
-        _file: usize,
-        _event: Event<'_>,
-    ) -> Result<(), NoMemory> {
+    fn take(&mut self, _points: &Points, _file: usize, _event: Event<'_>) -> Result<(), NoMemory> {
         Ok(())
     }
 }

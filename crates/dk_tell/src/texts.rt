@@ -2,7 +2,8 @@
 ghost use Rattle.std.specs.Prelude.{◌≡◌};
 ghost use Rattle.dk_tell.specs.Texts.{help_text, usage_line, version_text};
 
-pub(crate) const USAGE_LINE: &str = "usage: dk_tell [--format json|python|c|smtlib] [--ignore-missing-entry] REPORT [FILE]...\n";
+pub(crate) const USAGE_LINE: &str =
+    "usage: dk_tell [--format json|python|c|smtlib] [--ignore-missing-entry] REPORT [FILE]...\n";
 
 pub(crate) const VERSION_TEXT: &str = "dk_tell 0.1.0\n";
 

@@ -2,7 +2,7 @@ use Rattle.std.proofs.Common.{IfSome, Err, subst, sym}
 use Rattle.dk_driver.specs.declared.fault.FileFault.{FileFault}
 use Rattle.dk_lines.specs.Reading.{left_of}
 use Rattle.dk_program.specs.Openings.{OpeningGives}
-use Rattle.dk_tell.proofs.Opening.{fault_told, sections_told}
+use Rattle.dk_tell.proofs.Reading.{fault_told, sections_told}
 use Rattle.dk_tell.specs.Reports.{sections_in}
 use Rattle.dk_tell.specs.Standing.{sections_of}
 use Rattle.dk_tell.specs.declared.reported.Reported.{Reported}
