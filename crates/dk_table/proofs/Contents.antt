@@ -1,11 +1,10 @@
 -- What was read of the files.
-use Rattle.std.proofs.Common.{◌≡◌, ◌≤◌, ◌<◌, ◌+◌, ◌∙◌, ◌⊎◌, ◌∷◌, ◌++◌, [], inl, inr, ℕ, zero, suc, List, length, map, min, take, refl, sym, ap, subst, arith}
-use Rattle.std.specs.Prelude.{slice_get, unwrap_or}
+use Rattle.std.proofs.Common.{◌≡◌, ◌≤◌, ◌<◌, ◌+◌, ◌∙◌, ◌∷◌, ◌++◌, [], inl, inr, ℕ, zero, suc, List, length, map, min, take, refl, sym, ap, subst, arith}
 use Rattle.dk_driver.specs.Files.{AreHeldFiles, file_name_at}
 use Rattle.dk_driver.specs.Reads.{AtStart, Break, HasBroken, IsPlaced, Within, held_file_at}
 use Rattle.dk_driver.specs.declared.fault.FilesFault.{FilesFault}
 use Rattle.dk_driver.specs.declared.fault.FilesFault.TheVariants.{Refused, Start, Read, NoMemory}
-use Rattle.dk_io.specs.Outside.{HeldFile, Untold, Absent, Holds}
+use Rattle.dk_io.specs.Outside.{HeldFile, Absent, Holds}
 use Rattle.dk_table.specs.Contents.{AreReadAs, FaultSays, IsUnreadAt, OwnFaultSays, ReadAs, helds_of}
 
 -- what is told of the file at a place

@@ -1,8 +1,8 @@
 -- Loops over two lists side by side.
-use Rattle.std.proofs.Common.{◌≡◌, ◌≤◌, ◌<◌, ◌+◌, ◌&&◌, ◌∙◌, ◌==◌, ◌∷◌, ◌++◌, [], ℕ, Bool, true, false, List, drop, eq-eqb, get_or, length, map, min, take, refl, sym, ap, subst, arith}
+use Rattle.std.proofs.Common.{◌≡◌, ◌≤◌, ◌<◌, ◌+◌, ◌&&◌, ◌∙◌, ◌∷◌, ◌++◌, [], ℕ, Bool, true, List, drop, eq-eqb, get_or, length, map, min, take, sym, ap, subst, arith}
 use Rattle.std.specs.List.{list_all, zip}
 use Rattle.std.specs.Str.{bytes_eq}
-use Rattle.std.proofs.lemmas.List.{length-map, map-append, map-id, take_all, take_more}
+use Rattle.std.proofs.lemmas.List.{map-append, map-id, take_all, take_more}
 use Rattle.dk_table.specs.Tables.{same_cells}
 use Rattle.dk_write.proofs.Loops.{pair_passes, pairs_end, zip_at, zip_length}
 

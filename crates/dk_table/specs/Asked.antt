@@ -1,5 +1,5 @@
 -- The command `dk_table`, and what its arguments mean.
-use Rattle.std.specs.Prelude.{◌≡◌, ◌||◌, ◌==◌, ◌∷◌, [], ⊤, ℕ, Bool, codes, not, option_map, true, List, Option, Some, None, Result, Ok, Err, if◌then◌else◌}
+use Rattle.std.specs.Prelude.{◌≡◌, ◌||◌, ◌==◌, ◌∷◌, [], ℕ, Bool, codes, not, option_map, true, List, Option, Some, None, Result, Ok, Err, if◌then◌else◌}
 use Rattle.clap.specs.Words.{Row, Text}
 use Rattle.dk_arguments.specs.Descriptions.{Command as Accepted, flag, number, positionals, text}
 use Rattle.dk_arguments.specs.Given.{is_given, number_at, text_at, texts_at}

@@ -1,5 +1,5 @@
 -- What a column has.
-use Rattle.std.specs.Prelude.{Bool, ◌∷◌, [], ℕ, List, Option, Some, None, find, is_some, unwrap_or, option_map, if◌then◌else◌}
+use Rattle.std.specs.Prelude.{Bool, ℕ, List, Option, Some, find, is_some, unwrap_or, option_map, if◌then◌else◌}
 use Rattle.std.specs.List.{list_all}
 use Rattle.dk_base.specs.Pieces.{is_empty}
 use Rattle.dk_base.specs.declared.values.Value.{Value}

@@ -1,5 +1,5 @@
 -- The trace of a table.
-use Rattle.std.specs.Prelude.{◌&&◌, ◌+◌, ◌++◌, ◌∷◌, [], ℕ, Bool, false, not, negsuc, List, Option, Some, None, Result, Ok, Err, codes, find, is_some, length, map, option_map, replicate, take, unwrap_or, if◌then◌else◌}
+use Rattle.std.specs.Prelude.{◌&&◌, ◌++◌, ◌∷◌, [], ℕ, Bool, false, not, negsuc, List, Option, Some, None, Result, Ok, Err, codes, find, is_some, length, map, option_map, replicate, take, unwrap_or, if◌then◌else◌}
 use Rattle.std.specs.List.{list_all, range_with_len, zip}
 use Rattle.dk_base.specs.declared.kinds.Compar.{Compar}
 use Rattle.dk_base.specs.declared.kinds.Kind.{Kind}

@@ -1,4 +1,4 @@
-use Rattle.std.proofs.Common.{[], ◌≡◌, ◌≤◌, ◌<◌, ◌∙◌, ap, arith, length, List, ℕ, refl, subst, sym}
+use Rattle.std.proofs.Common.{[], ◌≤◌, ◌<◌, ◌∙◌, arith, length, List, ℕ, refl, subst, sym}
 use Rattle.std.proofs.lemmas.List.{take_all}
 use Rattle.dk_io.specs.Outside.{HeldFile, Rose}
 use Rattle.dk_table.proofs.Contents.{fault_at, helds_length, read_more, rose_since}

@@ -1,5 +1,4 @@
-use Rattle.std.proofs.Common.{◌≡◌, List, ℕ, subst, sym}
-use Rattle.dk_events.specs.declared.ended.Ended.{Ended}
+use Rattle.std.proofs.Common.{List, ℕ, subst, sym}
 use Rattle.dk_io.specs.Outside.{HeldFile, Rose}
 use Rattle.dk_program.specs.Ending.{EndsBy}
 use Rattle.dk_table.proofs.Contents.{fault_placed}

@@ -1,4 +1,4 @@
-use Rattle.std.proofs.Common.{◌≡◌, ◌∙◌, ap, List, ℕ}
+use Rattle.std.proofs.Common.{◌∙◌, ap, List, ℕ}
 use Rattle.dk_driver.specs.Files.{file_name_at}
 use Rattle.dk_program.proofs.Saying.{refused_ends}
 use Rattle.dk_table.specs.Messages.{refusal_line}

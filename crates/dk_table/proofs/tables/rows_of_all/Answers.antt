@@ -1,7 +1,6 @@
-use Rattle.std.proofs.Common.{◌≡◌, ◌<◌, ◌∙◌, ap, arith, length, List, ℕ, rules, subst, sym, true, Vec, Global}
+use Rattle.std.proofs.Common.{◌≡◌, ◌<◌, ◌∙◌, ap, arith, length, rules, sym, true, Vec, Global}
 use Rattle.std.specs.Result.{is_ok}
 use Rattle.dk_table.proofs.Files.{rows_begun, rows_ended, rows_fail, rows_joined}
-use Rattle.dk_table.specs.Outcomes.{Answers}
 use Rattle.dk_table.specs.declared.rows.Row.{Row}
 use Rattle.dk_table.specs.Tables.{file_rows, rows_of_all}
 use Rattle.dk_table.proofs.tables.rows_of_all.Goals as goal

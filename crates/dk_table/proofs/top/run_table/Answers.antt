@@ -1,4 +1,4 @@
-use Rattle.std.proofs.Common.{rules, ap, ◌≡◌, ◌∙◌, map, string_bytes, Some, None}
+use Rattle.std.proofs.Common.{rules, ◌≡◌, map, string_bytes, Some, None}
 use Rattle.dk_arguments.specs.Requests.{request_of}
 use Rattle.dk_arguments.specs.declared.request.Request.TheVariants.{Run, Help, Version}
 use Rattle.dk_table.proofs.Saying.{asked_completes, help_says, usage_says, version_says}

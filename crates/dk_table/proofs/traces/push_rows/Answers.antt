@@ -1,9 +1,5 @@
-use Rattle.std.proofs.Common.{◌≡◌, ◌<◌, ◌++◌, ◌∙◌, ap, arith, length, List, ℕ}
-use Rattle.std.proofs.lemmas.List.{take_all}
-use Rattle.dk_write.specs.Texts.{trace_text}
+use Rattle.std.proofs.Common.{◌<◌, arith, length}
 use Rattle.dk_table.proofs.Steps.{records_more}
-use Rattle.dk_table.specs.Placed.{Placed}
-use Rattle.dk_table.specs.Traces.{records_of}
 use Rattle.dk_table.proofs.traces.push_rows.Goals as goal
 
 pub loop-row-preserved : goal.loop-row-preserved

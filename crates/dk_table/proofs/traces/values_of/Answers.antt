@@ -1,8 +1,7 @@
-use Rattle.std.proofs.Common.{◌≡◌, ◌<◌, ◌∙◌, ◌∷◌, ◌++◌, [], ap, arith, get_or, length, List, ℕ}
+use Rattle.std.proofs.Common.{◌<◌, ◌∙◌, ◌∷◌, ◌++◌, [], ap, arith, get_or, length}
 use Rattle.std.proofs.lemmas.List.{get_or_default, map-append}
 use Rattle.dk_base.specs.Values.{value_of, values_of}
 use Rattle.dk_base.specs.declared.values.Value.{Value}
-use Rattle.dk_base.specs.declared.values.View.{View}
 use Rattle.dk_table.proofs.Getting.{cell_read}
 use Rattle.dk_table.proofs.Pairs.{zip_all, zip_more}
 use Rattle.dk_table.specs.Traces.{value_at}
