@@ -1,8 +1,8 @@
 // Worked examples: a program that lists the points that files declare, with how its runs end and what they write.
-ghost use Rattle.std.specs.Prelude.{◌≡◌};
+ghost use Rattle.std.specs.Prelude.{◌≡◌, ◌++◌, ◌<◌, OnOk, length};
 ghost use Rattle.dk_driver.specs.Standing.{StandsFor};
 ghost use Rattle.dk_program.specs.Ending.{ReportEnds};
-ghost use Rattle.dk_program.specs.Examples.{listed};
+ghost use Rattle.dk_program.specs.Examples.{listed, point_line};
 
 use crate::{Begins, InParts, Program, run_program, tell_parts};
 use dk_arguments::{Argument, Arguments, ArgumentsFault, Description, Form, Matches};
@@ -106,6 +106,17 @@ impl Begins for Listing {
     }
 }
 
+// The line of the point at a place.
+fn push_line(text: &mut Text, points: &Points, place: u64) -> Result<(), NoMemory>
+    requires { place < length points.now }
+    ensures { OnOk result (text.new ≡ text.old ++ point_line points.now place) }
+{
+    let few = points.len();
+    prove!(place < u64::from(few));
+    text.append(points.name(PointId(place as u32)))?;
+    text.append(b"\n")
+}
+
 impl InParts for Listing {
     ghost use Rattle.std.specs.Prelude.{length};
     ghost use Rattle.dk_program.specs.Examples.{point_line};
@@ -121,11 +132,7 @@ impl InParts for Listing {
     }
 
     fn push_part(&self, text: &mut Text, feed: &Feed<Blind>, place: u64) -> Result<(), NoMemory> {
-        let points = feed.points();
-        let few = points.len();
-        prove!(place < u64::from(few));
-        text.append(points.name(PointId(place as u32)))?;
-        text.append(b"\n")
+        push_line(text, feed.points(), place)
     }
 }
 
