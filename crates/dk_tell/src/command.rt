@@ -62,7 +62,7 @@ fn format_named(name: &str) -> Format
 
 // The format of the name that was given, or JSON.
 fn format_of(name: Option<&str>) -> Format
-    ensures { result ≡ option_map_or format_named (option_map (λ n. n.now) name) Format.Json }
+    ensures { result ≡ option_map_or format_named (option_map (λ n. n.now) name.entry) Format.Json }
 {
     match name {
         Some(name) => format_named(name),
