@@ -36,6 +36,11 @@ fn variables(alloc: Global) -> Result<List<VarInfo>, NoMemory> {
 // The report's sections in the format; the variables are the same at each point.
 fn told(alloc: Global, format: Format) -> Result<Text, NoMemory> {
     let infos = variables(alloc)?;
+    let vars = infos.as_slice();
+    // (There are four.)
+    if 4 < vars.len() {
+        return Err(NoMemory);
+    }
     let mut sections = Sections::new(alloc);
     let lines: [&[u8]; 6] = [
         b"====",
@@ -51,7 +56,7 @@ fn told(alloc: Global, format: Format) -> Result<Text, NoMemory> {
     let list = sections.into_list()?;
     let mut text = Text::new(alloc);
     for section in list.as_slice() {
-        push_section(alloc, &mut text, format, infos.as_slice(), section)?;
+        push_section(alloc, &mut text, format, vars, section)?;
     }
     Ok(text)
 }
