@@ -5,3 +5,5 @@ pub mod Getting
 pub mod Pairs
 pub mod Saying
 pub mod Steps
+pub mod Telling
+pub mod Traced

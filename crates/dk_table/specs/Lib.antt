@@ -3,6 +3,7 @@ pub mod Asked
 pub mod Statuses
 pub mod Traces
 pub mod Refusals
+pub mod Laws
 -- what those are made of
 pub mod Cells
 pub mod Columns

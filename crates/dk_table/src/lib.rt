@@ -8,6 +8,7 @@ mod cells;
 mod columns;
 mod command;
 mod faults;
+pub mod laws;
 mod reading;
 mod rows;
 mod run;
