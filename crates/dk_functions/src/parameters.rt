@@ -35,11 +35,7 @@ fn parameter_sort(kind: Kind, parameter: &Parameter) -> &'static str
 }
 
 // The name of a parameter with its sort.
-fn sorted_parameter(
-    alloc: Global,
-    kind: Kind,
-    parameter: &Parameter,
-) -> Result<Text, NoMemory>
+fn sorted_parameter(alloc: Global, kind: Kind, parameter: &Parameter) -> Result<Text, NoMemory>
     ensures { IfOk result (λ text. text ≡ parameter_text Language.Smtlib kind parameter.now) }
 {
     let mut text = Text::from_slice(alloc, b"(")?;
@@ -69,7 +65,9 @@ fn parameter_text(
 fn is_there(texts: &[Text], text: &Text) -> bool
     ensures { result ≡ list_any (bytes_eq text.now) texts.now }
 {
-    texts.iter().any(|other| text.as_slice() == other.as_slice())
+    texts
+        .iter()
+        .any(|other| text.as_slice() == other.as_slice())
 }
 
 // One text more, if it isn't there.
@@ -94,7 +92,10 @@ fn push_texts_of(
     let found = parameters(alloc, language, from_ref(info))?;
     let own = found.as_slice();
     for parameter in own {
-        push_text(texts, parameter_text(alloc, language, info.kind, parameter)?)?;
+        push_text(
+            texts,
+            parameter_text(alloc, language, info.kind, parameter)?,
+        )?;
     }
     Ok(())
 }

@@ -36,7 +36,12 @@ fn function(alloc: Global, language: Language) -> Result<Text, NoMemory> {
     let mut text = Text::new(alloc);
     push_comment(&mut text, language, b"x y >= 1")?;
     push_opening(alloc, &mut text, language, infos.as_slice(), b"R.push(int)")?;
-    push_assertion(&mut text, language, b"this.head == \"\xff?\"", b"EXPRESSION")?;
+    push_assertion(
+        &mut text,
+        language,
+        b"this.head == \"\xff?\"",
+        b"EXPRESSION",
+    )?;
     push_closing(&mut text, language)?;
     Ok(text)
 }
