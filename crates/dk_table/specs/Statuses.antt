@@ -83,5 +83,5 @@ Says status request before after = (output : Output) × ComesTo status request b
 abbrev pub Completes : Option (Request TableArguments) → Outside → Outside → Ended → Type 0
 Completes (Some (Run a)) before after result =
     IsCalm before after → (contents : List (List ℕ)) → AreHeldFiles (helds_of a.files before.file) contents
-    → let outcome = outcome_of a contents in GivesOutput outcome.status (output_of outcome) result before after
+    → let outcome = outcome_of a contents in GivesOutput outcome.status (λ output. output ≡ output_of outcome) result before after
 Completes request before after result = Unit {0}
