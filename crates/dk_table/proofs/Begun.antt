@@ -1,6 +1,6 @@
 -- What the declaration of a table comes to, where no other point is declared.
 use Rattle.std.proofs.Common.{◌≡◌, ◌≢◌, ◌-◌, ◌∙◌, ◌∷◌, ◌++◌, [], ℕ, Bool, true, false, List, Option, Some, None, Ok, codes, length, option_and_then, option_map, replicate, refl, sym, ap, subst, length-append, if◌then◌else◌, arith}
-use Rattle.std.specs.Prelude.{◌&&◌, filter_map, nat_le, nat_lt}
+use Rattle.std.specs.Prelude.{◌&&◌, filter_map, nat_le}
 use Rattle.std.specs.Str.{bytes_eq}
 use Rattle.std.proofs.lemmas.Bool.{false≢true}
 use Rattle.std.proofs.lemmas.Slice.Eq.{bytes_eq-Decides}
@@ -9,7 +9,6 @@ use Rattle.dk_decl.specs.declared.decls.PointDecl.{PointDecl}
 use Rattle.dk_graph.specs.Graphs.{Link, depth_of, edges, has_cycle, height, links, some_below}
 use Rattle.dk_graph.specs.Names.{place_of}
 use Rattle.dk_graph.specs.declared.nodes.Edge.{Edge}
-use Rattle.dk_graph.specs.declared.nodes.Node.{Node}
 use Rattle.dk_graph.proofs.Positions.{or_last, place_of-push}
 use Rattle.dk_points.specs.Declaring.{declared, has_many_points, has_many_vars}
 use Rattle.dk_points.specs.Links.{kept_edges, nodes}

@@ -7,11 +7,11 @@ use Rattle.dk_base.specs.Reading.{LineFault, ◌>>=◌}
 use Rattle.dk_base.specs.declared.values.Value.{Value}
 use Rattle.dk_base.specs.declared.why.Why.{Why}
 use Rattle.dk_base.specs.declared.why.Why.TheVariants.{UnknownPoint}
-use Rattle.dk_blocks.specs.History.{History, Taken, base_values, block_by, declared_effect, nothing_by, or_left_out, own_samples_with, with_declaration, with_record, with_table, with_values}
+use Rattle.dk_blocks.specs.History.{History, Taken, base_values, block_by, declared_effect, nothing_by, or_left_out, own_samples_with, with_record, with_table, with_values}
 use Rattle.dk_calls.specs.Records.{values_at_exit}
 use Rattle.dk_decl.specs.Outcomes.{or_refused}
 use Rattle.dk_decl.specs.declared.decls.PointDecl.{PointDecl}
-use Rattle.dk_points.specs.Declaring.{at_line, declared, has_many_vars}
+use Rattle.dk_points.specs.Declaring.{at_line, has_many_vars}
 use Rattle.dk_points.specs.Table.{Point, added_points}
 use Rattle.dk_points.specs.Vars.{entry_of}
 use Rattle.dk_points.specs.declared.declared.Declared.{Declared}
@@ -20,7 +20,7 @@ use Rattle.dk_trace.specs.Records.{Sample, declared_place}
 use Rattle.dk_write.specs.Course.{done, done_all, line_behind}
 use Rattle.dk_write.specs.Records.{Recorded, sample_at, sample_values, told_values}
 use Rattle.dk_write.specs.Texts.{Begins, Declares, Records, Write}
-use Rattle.dk_table.specs.Laws.{HasOnly, HasTable, RowsAreSamples, row_values}
+use Rattle.dk_table.specs.Laws.{HasOnly, RowsAreSamples, row_values}
 use Rattle.dk_table.specs.Placed.{Placed}
 use Rattle.dk_table.specs.Traces.{declaration_of, judged, kinds_of, record_of, records_of, value_at, var_of, writes_of}
 use Rattle.dk_table.specs.declared.columns.ColumnKind.{ColumnKind}

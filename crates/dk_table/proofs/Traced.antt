@@ -1,7 +1,6 @@
 -- A trace of a table is what a writer writes.
 use Rattle.std.proofs.Common.{◌≡◌, ◌+◌, ◌∙◌, ◌==◌, ◌&&◌, ◌∷◌, ◌++◌, [], ℕ, Bool, true, false, List, Option, Some, None, Result, Ok, Err, length, option_map, refl, sym, ap, subst, if◌then◌else◌}
-use Rattle.std.specs.Prelude.{⊤, find, map, not, unwrap_or}
-use Rattle.std.specs.List.{range_with_len}
+use Rattle.std.specs.Prelude.{find, not, unwrap_or}
 use Rattle.std.proofs.lemmas.Bool.{and_parts, eqb-true, not-false}
 use Rattle.std.proofs.lemmas.List.FromFn.{length-map-range_with_len}
 use Rattle.dk_blocks.specs.Blocks.{groups_of}
@@ -21,7 +20,7 @@ use Rattle.dk_table.specs.Traces.{are_named, bad_cell, declaration_of, empty_rec
 use Rattle.dk_table.specs.declared.columns.ColumnKind.{ColumnKind}
 use Rattle.dk_table.specs.declared.command.Command.{Command}
 use Rattle.dk_table.specs.declared.faults.Refusal.{Refusal}
-use Rattle.dk_table.specs.declared.faults.TableWhy.TheVariants.{BadName, NoHeader, OpenQuote, OtherHeader, RowLength}
+use Rattle.dk_table.specs.declared.faults.TableWhy.TheVariants.{BadName, OpenQuote, OtherHeader}
 use Rattle.dk_table.proofs.Telling.{AreEven, declaration_within, none_found, rows_written}
 
 -- ---- steps that are not refused
