@@ -7,3 +7,5 @@ pub mod Saying
 pub mod Steps
 pub mod Telling
 pub mod Traced
+pub mod Begun
+pub mod Sampled

@@ -24,7 +24,7 @@ use Rattle.dk_write.specs.Texts.{Write as Block, trace_text}
 use Rattle.dk_table.proofs.Contents.{helds_length, not_absent, same_contents}
 use Rattle.dk_table.specs.Asked.{table_command}
 use Rattle.dk_table.specs.Contents.{AreReadAs, FaultSays, IsUnreadAt, helds_of}
-use Rattle.dk_table.specs.Statuses.{Completes, ComesTo, IsOutputOf, Outcome, Says, outcome_by, outcome_of, output_of}
+use Rattle.dk_table.specs.Statuses.{Completes, ComesTo, Outcome, Says, outcome_by, outcome_of, output_of}
 use Rattle.dk_table.specs.Traces.{trace_of}
 use Rattle.dk_table.specs.declared.faults.Refusal.{Refusal}
 use Rattle.dk_table.specs.declared.words.TableArguments.{TableArguments}
@@ -98,8 +98,8 @@ read_says a contents before after result read ended =
 
 gives : (outcome : Outcome) (before after : Outside) (result : Ended) → IsCalm before after
     → EndsWith outcome.status outcome.stream outcome.text before.written after.written before.write_faults after.write_faults result
-    → GivesOutput outcome.status (IsOutputOf outcome) result before after
-gives outcome before after result calm (inl (is, e, same)) = inl (is, output_of outcome, refl, e ∙ followed_only before.written outcome.stream outcome.text)
+    → GivesOutput outcome.status (λ output. output ≡ output_of outcome) result before after
+gives outcome before after result calm (inl (is, e, same)) = inl (is, (output_of outcome, refl, e ∙ followed_only before.written outcome.stream outcome.text))
 gives outcome before after result calm (inr (inl (is, rose, front))) = absurd (calm.write rose)
 gives outcome before after result calm (inr (inr (is, e, same))) = inr is
 
@@ -107,7 +107,7 @@ pub read_completes : (a : TableArguments) (contents : List (List ℕ)) (before a
     → EndsWith (outcome_of a contents).status (outcome_of a contents).stream (outcome_of a contents).text before.written after.written before.write_faults after.write_faults result
     → Completes (Some (Run a)) before after result
 read_completes a contents before after result read ended = λ calm held are.
-    subst (λ (l : List (List ℕ)). GivesOutput (outcome_of a l).status (IsOutputOf (outcome_of a l)) result before after)
+    subst (λ (l : List (List ℕ)). GivesOutput (outcome_of a l).status (λ output. output ≡ output_of (outcome_of a l)) result before after)
     (same_contents (helds_of a.files before.file) contents held read are)
     (gives (outcome_of a contents) before after result calm ended)
 

@@ -1,7 +1,6 @@
 -- A trace of a table is what a writer writes.
 use Rattle.std.proofs.Common.{◌≡◌, ◌+◌, ◌∙◌, ◌==◌, ◌&&◌, ◌∷◌, ◌++◌, [], ℕ, Bool, true, false, List, Option, Some, None, Result, Ok, Err, length, option_map, refl, sym, ap, subst, if◌then◌else◌}
-use Rattle.std.specs.Prelude.{⊤, find, map, not, unwrap_or}
-use Rattle.std.specs.List.{range_with_len}
+use Rattle.std.specs.Prelude.{find, not, unwrap_or}
 use Rattle.std.proofs.lemmas.Bool.{and_parts, eqb-true, not-false}
 use Rattle.std.proofs.lemmas.List.FromFn.{length-map-range_with_len}
 use Rattle.dk_blocks.specs.Blocks.{groups_of}
@@ -14,14 +13,14 @@ use Rattle.dk_write.specs.Texts.{Declares, Write, trace_text}
 use Rattle.dk_write.specs.Writable.{can_declare, can_record}
 use Rattle.dk_write.proofs.Written.{written_read}
 use Rattle.dk_table.specs.Columns.{kind_of_column}
-use Rattle.dk_table.specs.Laws.{TablesAreRead}
+use Rattle.dk_table.specs.Laws.{HasTable, TablesAreRead}
 use Rattle.dk_table.specs.Placed.{Placed, cells_at}
 use Rattle.dk_table.specs.Tables.{◌>>=◌, are_paired, behind_header, file_rows, first_of, if_even, is_uneven, names_of, refused, rows_in, rows_of, rows_of_all, same_cells, uneven_row}
 use Rattle.dk_table.specs.Traces.{are_named, bad_cell, declaration_of, empty_record, if_told, judged, kinds_of, records_of, trace_by, trace_of, trace_of_table, untold_row, writes_of}
 use Rattle.dk_table.specs.declared.columns.ColumnKind.{ColumnKind}
 use Rattle.dk_table.specs.declared.command.Command.{Command}
 use Rattle.dk_table.specs.declared.faults.Refusal.{Refusal}
-use Rattle.dk_table.specs.declared.faults.TableWhy.TheVariants.{BadName, NoHeader, OpenQuote, OtherHeader, RowLength}
+use Rattle.dk_table.specs.declared.faults.TableWhy.TheVariants.{BadName, OpenQuote, OtherHeader}
 use Rattle.dk_table.proofs.Telling.{AreEven, declaration_within, none_found, rows_written}
 
 -- ---- steps that are not refused
@@ -90,11 +89,11 @@ files_even c names file (bytes ∷ more) rows e =
 
 -- ---- a table with a trace
 
-record IsTraced (d : PointDecl) (kinds : List ColumnKind) (rows : List Placed) (ws : List Write) : Type 0 where
-  declared : can_declare d ≡ true
-  recorded : can_record (empty_record d) ≡ true
-  told : untold_row kinds rows ≡ None
-  is : writes_of d kinds rows ≡ ws
+pub record IsTraced (d : PointDecl) (kinds : List ColumnKind) (rows : List Placed) (ws : List Write) : Type 0 where
+  pub declared : can_declare d ≡ true
+  pub recorded : can_record (empty_record d) ≡ true
+  pub told : untold_row kinds rows ≡ None
+  pub is : writes_of d kinds rows ≡ ws
 
 traced : (d : PointDecl) (kinds : List ColumnKind) (rows : List Placed) (ws : List Write) → trace_by d kinds rows ≡ Ok ws → IsTraced d kinds rows ws
 unfolding trace_by
@@ -108,24 +107,37 @@ traced d kinds rows ws e = by (are_named d) (untold_row kinds rows) refl refl e
         let both = and_parts (can_declare d) (can_record (empty_record d)) named in
         record { declared = both.0; recorded = both.1; told = told; is = cc e }
 
-kinds_length : (rows : List Placed) (columns : ℕ) → length (kinds_of rows columns) ≡ columns
+pub kinds_length : (rows : List Placed) (columns : ℕ) → length (kinds_of rows columns) ≡ columns
 kinds_length rows columns = length-map-range_with_len (λ (place : ℕ). kind_of_column (cells_at rows place)) 0 columns
+
+-- the trace of what the files' tables have
+pub made_of : (c : Command) (name : List ℕ) (files : List (List ℕ)) (ws : List Write) (t : HasTable c files) → trace_of c name files ≡ Ok ws
+    → IsTraced (declaration_of (unwrap_or c.point name) t.names (kinds_of (judged c.types t.rows) (length t.names))) (kinds_of (judged c.types t.rows) (length t.names)) t.rows ws
+made_of c name files ws t e =
+    let kinds : List ColumnKind = kinds_of (judged c.types t.rows) (length t.names) in
+    traced (declaration_of (unwrap_or c.point name) t.names kinds) kinds t.rows ws
+    (sym (ap (λ (r : Result (List (List ℕ)) Refusal). r >>= λ names. rows_of_all c names 0 files >>= λ rows. trace_of_table (unwrap_or c.point name) c.types names rows) t.named
+    ∙ ap (λ (r : Result (List Placed) Refusal). r >>= λ rows. trace_of_table (unwrap_or c.point name) c.types t.names rows) t.read) ∙ e)
+
+-- a table with a trace has names and rows
+table_of : (c : Command) (name : List ℕ) (files : List (List ℕ)) (ws : List Write) → trace_of c name files ≡ Ok ws → HasTable c files
+table_of c name files ws e =
+    let named = bound (names_of c.has_header (rows_in c.separator 0 (first_of files)))
+    (λ names. rows_of_all c names 0 files >>= λ rows. trace_of_table (unwrap_or c.point name) c.types names rows) ws e in
+    let read = bound (rows_of_all c named.0 0 files) (λ rows. trace_of_table (unwrap_or c.point name) c.types named.0 rows) ws named.2 in
+    record { names = named.0; rows = read.0; named = named.1; read = read.1 }
 
 pub tables_read : TablesAreRead
 tables_read c name files ws e ignores h awaits =
-    let named = bound (names_of c.has_header (rows_in c.separator 0 (first_of files)))
-    (λ names. rows_of_all c names 0 files >>= λ rows. trace_of_table (unwrap_or c.point name) c.types names rows) ws e in
-    let names : List (List ℕ) = named.0 in
-    let read = bound (rows_of_all c names 0 files) (λ rows. trace_of_table (unwrap_or c.point name) c.types names rows) ws named.2 in
-    let rows : List Placed = read.0 in
+    let t : HasTable c files = table_of c name files ws e in
     let point : List ℕ = unwrap_or c.point name in
-    let kinds : List ColumnKind = kinds_of (judged c.types rows) (length names) in
-    let d : PointDecl = declaration_of point names kinds in
-    let made : IsTraced d kinds rows ws = traced d kinds rows ws read.2 in
-    let written : AreWritten [] (Declares d ∷ records_of d kinds rows) = (
+    let kinds : List ColumnKind = kinds_of (judged c.types t.rows) (length t.names) in
+    let d : PointDecl = declaration_of point t.names kinds in
+    let made : IsTraced d kinds t.rows ws = made_of c name files ws t e in
+    let written : AreWritten [] (Declares d ∷ records_of d kinds t.rows) = (
       made.declared,
-      declaration_within point names kinds,
-      rows_written point names kinds rows (kinds_length (judged c.types rows) (length names)) made.recorded (files_even c names 0 files rows read.1) made.told,
+      declaration_within point t.names kinds,
+      rows_written point t.names kinds t.rows (kinds_length (judged c.types t.rows) (length t.names)) made.recorded (files_even c t.names 0 files t.rows t.read) made.told,
     ) in
     subst (λ (us : List Write). after_all ignores (effect_of ignores h) (groups_of (numbered 0 (lines_of (trace_text us)))) ≡ done_all ignores h 1 us) made.is
-    (written_read ignores h (Declares d ∷ records_of d kinds rows) awaits written)
+    (written_read ignores h (Declares d ∷ records_of d kinds t.rows) awaits written)

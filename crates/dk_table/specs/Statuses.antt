@@ -40,9 +40,6 @@ outcome_of a contents = outcome_by a.files (trace_of a.command (file_name_at a.f
 abbrev pub output_of : Outcome → Output
 output_of outcome = only_on outcome.stream outcome.text
 
-abbrev pub IsOutputOf : Outcome → Output → Type 0
-IsOutputOf outcome output = output ≡ output_of outcome
-
 -- ---- how a run ends
 -- The files were read as these contents, and this is the status and the output that they come to.
 pub record IsRead (a : TableArguments) (status : Ended) (before : Outside) (output : Output) : Type 0 where
@@ -86,5 +83,5 @@ Says status request before after = (output : Output) × ComesTo status request b
 abbrev pub Completes : Option (Request TableArguments) → Outside → Outside → Ended → Type 0
 Completes (Some (Run a)) before after result =
     IsCalm before after → (contents : List (List ℕ)) → AreHeldFiles (helds_of a.files before.file) contents
-    → let outcome = outcome_of a contents in GivesOutput outcome.status (IsOutputOf outcome) result before after
+    → let outcome = outcome_of a contents in GivesOutput outcome.status (λ output. output ≡ output_of outcome) result before after
 Completes request before after result = Unit {0}

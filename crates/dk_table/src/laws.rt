@@ -1,7 +1,12 @@
 //! What is written of a table is read.
-ghost use Rattle.dk_table.specs.Laws.{TablesAreRead};
+ghost use Rattle.dk_table.specs.Laws.{RowsAreSamples, TablesAreRead};
 
 /// The text of a table's trace is read as what it says: one declaration, and a record for each row, in order.
 pub fn tables_are_read()
     ensures { TablesAreRead }
+{}
+
+/// Read alone, where its columns are no more than the reader takes, it is read to its end, and comes to one point with a sample for each row.
+pub fn rows_are_samples()
+    ensures { RowsAreSamples }
 {}
