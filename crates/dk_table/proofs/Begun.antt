@@ -129,13 +129,17 @@ module _ (point : List ℕ) (columns : List (List ℕ)) (kinds : List ColumnKind
   begun = by (makes_exit [] d) refl
     where
       by : (b : Bool) → makes_exit [] d ≡ b → (front : List (List (List Value))) × IsBegun d (added_points [] d) front
-      by false is =
-          ([], subst (λ (ps : List Point). IsBegun d ps []) (sym (added-one [] d is))
-          (record { place = one_place; entry = one_entry; few = refl; fine = one_fine (plain_of is); others = refl; front_is = refl }))
+      by false is = (
+        [],
+        subst (λ (ps : List Point). IsBegun d ps []) (sym (added-one [] d is))
+            (record { place = one_place; entry = one_entry; few = refl; fine = one_fine (plain_of is); others = refl; front_is = refl }),
+      )
       by true is =
-          let sub = makes-subexit [] d is in
-          ([] ∷ [], subst (λ (ps : List Point). IsBegun d ps ([] ∷ [])) (sym (added-two [] d is))
-          (record { place = two_place sub; entry = two_entry; few = refl; fine = two_fine sub; others = refl; front_is = refl }))
+          let sub = makes-subexit [] d is in (
+            [] ∷ [],
+            subst (λ (ps : List Point). IsBegun d ps ([] ∷ [])) (sym (added-two [] d is))
+                (record { place = two_place sub; entry = two_entry; few = refl; fine = two_fine sub; others = refl; front_is = refl }),
+          )
 
   pub begins : (front : List (List (List Value))) → IsBegun d (added_points [] d) front → has_many_vars [] d ≡ false
       → declared [] d ≡ Ok (added_points [] d, New (record { 0 = length (added_points [] d) - 1 }))

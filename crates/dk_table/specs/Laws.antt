@@ -52,8 +52,8 @@ RowsAreSamples =
     (c : Command) (name : List ℕ) (files : List (List ℕ)) (ws : List Write) → trace_of c name files ≡ Ok ws
     → (t : HasTable c files) (ignores : Bool) (grammar : Grammar)
     → let kinds = kinds_of (judged c.types t.rows) (length t.names) in
-      let d = declaration_of (unwrap_or c.point name) t.names kinds in
-      has_many_vars [] d ≡ false
-      → (h : History)
-      × (after_all ignores (effect_of ignores (nothing_by grammar)) (groups_of (numbered 0 (lines_of (trace_text ws)))) ≡ Ok h)
-      × HasOnly h d (map (row_values kinds) t.rows)
+    let d = declaration_of (unwrap_or c.point name) t.names kinds in
+    has_many_vars [] d ≡ false
+    → (h : History)
+    × (after_all ignores (effect_of ignores (nothing_by grammar)) (groups_of (numbered 0 (lines_of (trace_text ws)))) ≡ Ok h)
+    × HasOnly h d (map (row_values kinds) t.rows)
