@@ -9,3 +9,4 @@ pub mod Telling
 pub mod Traced
 pub mod Begun
 pub mod Sampled
+pub mod Counted

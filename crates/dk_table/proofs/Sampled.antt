@@ -7,7 +7,11 @@ use Rattle.dk_base.specs.Reading.{LineFault, ◌>>=◌}
 use Rattle.dk_base.specs.declared.values.Value.{Value}
 use Rattle.dk_base.specs.declared.why.Why.{Why}
 use Rattle.dk_base.specs.declared.why.Why.TheVariants.{UnknownPoint}
-use Rattle.dk_blocks.specs.History.{History, Taken, base_values, block_by, declared_effect, nothing_by, or_left_out, own_samples_with, with_record, with_table, with_values}
+use Rattle.dk_blocks.specs.Blocks.{groups_of}
+use Rattle.dk_blocks.specs.Reading.{after_all}
+use Rattle.dk_lines.specs.Left.{Left}
+use Rattle.dk_lines.proofs.Whole.{whole_file}
+use Rattle.dk_blocks.specs.History.{History, Taken, base_values, block_by, declared_effect, effect_of, nothing_by, or_left_out, own_samples_with, with_record, with_table, with_values}
 use Rattle.dk_calls.specs.Records.{values_at_exit}
 use Rattle.dk_decl.specs.Outcomes.{or_refused}
 use Rattle.dk_decl.specs.declared.decls.PointDecl.{PointDecl}
@@ -19,13 +23,14 @@ use Rattle.dk_template.specs.declared.grammar.Grammar.{Grammar}
 use Rattle.dk_trace.specs.Records.{Sample, declared_place}
 use Rattle.dk_write.specs.Course.{done, done_all, line_behind}
 use Rattle.dk_write.specs.Records.{Recorded, sample_at, sample_values, told_values}
-use Rattle.dk_write.specs.Texts.{Begins, Declares, Records, Write}
-use Rattle.dk_table.specs.Laws.{HasOnly, RowsAreSamples, row_values}
+use Rattle.dk_write.specs.Texts.{Begins, Declares, Records, Write, trace_text}
+use Rattle.dk_table.specs.Laws.{HasOnly, HasTable, RowsAreSamples, row_values}
 use Rattle.dk_table.specs.Placed.{Placed}
 use Rattle.dk_table.specs.Traces.{declaration_of, judged, kinds_of, record_of, records_of, value_at, var_of, writes_of}
 use Rattle.dk_table.specs.declared.columns.ColumnKind.{ColumnKind}
+use Rattle.dk_table.proofs.Counted.{few_vars}
 use Rattle.dk_table.proofs.Begun.{IsBegun, begins, begun}
-use Rattle.dk_table.proofs.Traced.{IsTraced, kinds_length, made_of, tables_read}
+use Rattle.dk_table.proofs.Traced.{IsTraced, kinds_length, made_of, table_of, tables_read}
 
 -- ---- a record
 
@@ -128,9 +133,18 @@ trace_done ignores grammar point names kinds rows even few =
     )
 
 pub rows_sampled : RowsAreSamples
-rows_sampled c name files ws e table ignores grammar few =
-    let kinds : List ColumnKind = kinds_of (judged c.types table.rows) (length table.names) in
-    let d : PointDecl = declaration_of (unwrap_or c.point name) table.names kinds in
-    let made : IsTraced d kinds table.rows ws = made_of c name files ws table e in
-    let whole = trace_done ignores grammar (unwrap_or c.point name) table.names kinds table.rows (kinds_length (judged c.types table.rows) (length table.names)) few in
-    (whole.0, tables_read c name files ws e ignores (nothing_by grammar) refl ∙ ap (λ (us : List Write). done_all ignores (nothing_by grammar) 1 us) (sym made.is) ∙ whole.1, whole.2)
+rows_sampled c name files ws e =
+    let t : HasTable c files = table_of c name files ws e in
+    let kinds : List ColumnKind = kinds_of (judged c.types t.rows) (length t.names) in
+    let point : List ℕ = unwrap_or c.point name in
+    let made : IsTraced (declaration_of point t.names kinds) kinds t.rows ws = made_of c name files ws t e in (
+      t,
+      (λ few line room keeps ignores grammar.
+          let whole =
+          trace_done ignores grammar point t.names kinds t.rows (kinds_length (judged c.types t.rows) (length t.names)) (few_vars point t.names kinds few) in (
+            whole.0,
+            ap (λ (l : Left). after_all ignores (effect_of ignores (nothing_by grammar)) (groups_of l)) (whole_file line room 0 (trace_text ws) keeps.lines keeps.whole)
+                ∙ tables_read c name files ws e ignores (nothing_by grammar) refl ∙ ap (λ (us : List Write). done_all ignores (nothing_by grammar) 1 us) (sym made.is) ∙ whole.1,
+            whole.2,
+          )),
+    )

@@ -120,7 +120,7 @@ made_of c name files ws t e =
     ∙ ap (λ (r : Result (List Placed) Refusal). r >>= λ rows. trace_of_table (unwrap_or c.point name) c.types t.names rows) t.read) ∙ e)
 
 -- a table with a trace has names and rows
-table_of : (c : Command) (name : List ℕ) (files : List (List ℕ)) (ws : List Write) → trace_of c name files ≡ Ok ws → HasTable c files
+pub table_of : (c : Command) (name : List ℕ) (files : List (List ℕ)) (ws : List Write) → trace_of c name files ≡ Ok ws → HasTable c files
 table_of c name files ws e =
     let named = bound (names_of c.has_header (rows_in c.separator 0 (first_of files)))
     (λ names. rows_of_all c names 0 files >>= λ rows. trace_of_table (unwrap_or c.point name) c.types names rows) ws e in

@@ -1,5 +1,5 @@
 -- What is written of a table is read as its declaration and its rows.
-use Rattle.std.specs.Prelude.{◌≡◌, ◌-◌, ◌++◌, ◌∷◌, [], ℕ, Bool, false, List, Ok, length, map, replicate, unwrap_or}
+use Rattle.std.specs.Prelude.{◌≡◌, ◌≤◌, ◌-◌, ◌++◌, ◌∷◌, [], ℕ, All, Bool, false, true, List, Ok, length, map, replicate, unwrap_or}
 use Rattle.std.specs.List.{zip}
 use Rattle.dk_base.specs.declared.values.Value.{Value}
 use Rattle.dk_blocks.specs.Blocks.{groups_of}
@@ -7,8 +7,7 @@ use Rattle.dk_blocks.specs.History.{History, effect_of, nothing_by}
 use Rattle.dk_blocks.specs.Reading.{after_all}
 use Rattle.dk_decl.specs.Headers.{awaits_word}
 use Rattle.dk_decl.specs.declared.decls.PointDecl.{PointDecl}
-use Rattle.dk_lines.specs.Left.{lines_of, numbered}
-use Rattle.dk_points.specs.Declaring.{has_many_vars}
+use Rattle.dk_lines.specs.Left.{lined, lines_of, numbered, pieces}
 use Rattle.dk_points.specs.Table.{added_points}
 use Rattle.dk_template.specs.declared.grammar.Grammar.{Grammar}
 use Rattle.dk_write.specs.Course.{done_all}
@@ -36,24 +35,30 @@ pub record HasTable (c : Command) (files : List (List ℕ)) : Type 0 where
   pub named : names_of c.has_header (rows_in c.separator 0 (first_of files)) ≡ Ok names
   pub read : rows_of_all c names 0 files ≡ Ok rows
 
--- what the cells of a row write
+-- what the cells of a row write, in columns of these kinds; an empty one is missing
 abbrev pub row_values : List ColumnKind → Placed → List Value
 row_values kinds row = map value_at (zip kinds row.cells)
 
--- A history of this one declaration: its point is the last, and has these samples; no other has one.
+-- A history of this one declaration: its point is the last, behind the implicit exit that a subexit's name makes, and has these samples. No other
+-- has one.
 pub record HasOnly (h : History) (d : PointDecl) (samples : List (List Value)) : Type 0 where
   pub table : h.table ≡ added_points [] d
   pub sampled : h.samples ≡ replicate (length h.table - 1) [] ++ samples ∷ []
 
--- A table's trace that is read alone, where its columns are no more than the reader takes, is read to its end. The history then has the point that
--- the columns declare, and for each row, in order, one sample: the values that the row's cells write.
+-- a file's lines and its bytes are no more than a reader takes
+pub record KeepsLimits (line room : ℕ) (bytes : List ℕ) : Type 0 where
+  pub lines : All (λ p. length p.bytes ≤ line) (pieces bytes)
+  pub whole : length bytes ≤ room
+
+-- The trace of a table of at most 1,024 columns, read alone and within a reader's limits, is read to its end. The history then has the point that the
+-- columns declare, and for each row, in order, one sample: the values that the row's cells write.
 abbrev pub RowsAreSamples : Type 0
 RowsAreSamples =
     (c : Command) (name : List ℕ) (files : List (List ℕ)) (ws : List Write) → trace_of c name files ≡ Ok ws
-    → (t : HasTable c files) (ignores : Bool) (grammar : Grammar)
+    → (t : HasTable c files)
+    × (length t.names ≤ 1024 → (line room : ℕ) → KeepsLimits line room (trace_text ws) → (ignores : Bool) (grammar : Grammar)
     → let kinds = kinds_of (judged c.types t.rows) (length t.names) in
     let d = declaration_of (unwrap_or c.point name) t.names kinds in
-    has_many_vars [] d ≡ false
-    → (h : History)
-    × (after_all ignores (effect_of ignores (nothing_by grammar)) (groups_of (numbered 0 (lines_of (trace_text ws)))) ≡ Ok h)
-    × HasOnly h d (map (row_values kinds) t.rows)
+    (h : History)
+    × (after_all ignores (effect_of ignores (nothing_by grammar)) (groups_of (lined line room 0 true (trace_text ws))) ≡ Ok h)
+    × HasOnly h d (map (row_values kinds) t.rows))

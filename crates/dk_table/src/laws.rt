@@ -6,7 +6,7 @@ pub fn tables_are_read()
     ensures { TablesAreRead }
 {}
 
-/// Read alone, where its columns are no more than the reader takes, it is read to its end, and comes to one point with a sample for each row.
+/// Read alone, that of a table of at most 1,024 columns is read to its end, and comes to one point with a sample for each row.
 pub fn rows_are_samples()
     ensures { RowsAreSamples }
 {}
