@@ -1,3 +1,4 @@
+pub mod Examples
 pub mod AllRecords
 pub mod Contents
 pub mod Files
