@@ -1,7 +1,7 @@
 -- What is told of an instance makes its candidate, or none.
-use Rattle.std.specs.Prelude.{◌≡◌, ◌++◌, ◌&&◌, ℕ, Bool, true, false, not, List, [], ◌∷◌, if◌then◌else◌}
-use Rattle.std.proofs.Common.{◌∙◌, ap, append-nil, sym}
-use Rattle.std.proofs.lemmas.Bool.{and_from, and_left, and_parts, and_right}
+use Rattle.std.specs.Prelude.{◌≡◌, ◌<◌, ◌++◌, ◌&&◌, ℕ, Bool, true, false, not, List, [], ◌∷◌, if◌then◌else◌}
+use Rattle.std.proofs.Common.{◌∙◌, ap, append-nil, subst, sym}
+use Rattle.std.proofs.lemmas.Bool.{and_from, and_left, and_parts, and_right, lt-ltb}
 use Rattle.dk_base.specs.declared.kinds.VarId.{VarId}
 use Rattle.dk_base.specs.declared.kinds.VarInfo.{VarInfo}
 use Rattle.dk_filters.proofs.Asked.{admitted-there}
@@ -18,7 +18,7 @@ use Rattle.dk_template.specs.Admitted.{admits, is_written}
 use Rattle.dk_template.specs.Fitting.{fits}
 use Rattle.dk_template.specs.Premises.{AreThere}
 use Rattle.dk_template.specs.declared.grammar.RowId.{RowId}
-use Rattle.dk_report.proofs.Passing.{unlisted}
+use Rattle.dk_report.proofs.Passing.{passed-few, unlisted}
 use Rattle.dk_report.specs.Asked.{here_of, listed_candidates_by, views_of}
 use Rattle.dk_report.specs.Keeping.{drops, keeps}
 use Rattle.dk_report.specs.Listing.{is_listed, listed_candidates}
@@ -49,6 +49,11 @@ module _ (asking : Asking) (row : RowId) (vars : List VarId) (infos : List VarIn
 
   pub unfitting : (list : List Candidate) (s : State) → s ≡ merged_state asking.here.now row vars → fits s ≡ false → list ≡ list ++ listed_candidates_by asking row vars
   unfitting list s e h = nothing list (and_right (is_asked here.infos row vars) (holds && keeps options candidate) (and_left holds (keeps options candidate) (ap fits (sym e) ∙ h)))
+
+  pub scarce : (list : List Candidate) (count : ℕ) → count ≡ merged_count asking.here.now vars → count < options.least → list ≡ list ++ listed_candidates_by asking row vars
+  scarce list count e l =
+      sym (append-nil list)
+      ∙ ap (λ cs. list ++ cs) (sym (passed-few options here (views_of asking) row vars (lt-ltb (merged_count asking.here.now vars) options.least (subst (λ n. n < options.least) e l))))
 
   -- facts are told of the variables that are there
   abbrev IsJudged : Facts → Type 0

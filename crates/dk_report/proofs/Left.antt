@@ -83,8 +83,11 @@ module _ (g : Grammar) (infos : List VarInfo) (samples : List (List Value)) (kep
           ∙ ap (λ b. if b then state_of row (known_tuple kept.known vars ∷ []) else Empty) gap)) ∙ holds))
     ]
 
+    pub fixed-at : all_known kept.known vars ≡ true → (v : VarId) → IsIn v vars → is_fixed kept.known v ≡ true
+    fixed-at known v i = fixed-by (known_at kept.known v) (there-in kept.known v vars i (whole known))
+
     -- where not all are, they have a slot
-    abbrev slot_is : Slot
+    abbrev pub slot_is : Slot
     slot_is = record { row = row; leaders = vars; state = fit row vars samples }
 
     slot : all_known kept.known vars ≡ false → Contains kept.slots slot_is
@@ -110,14 +113,13 @@ module _ (g : Grammar) (infos : List VarInfo) (samples : List (List Value)) (kep
         and_from (row.0 == row.0) (fits (fit row vars samples) && are_distinct vars) (eq-eqb row.0 row.0 refl)
         (and_from (fits (fit row vars samples)) (are_distinct vars) holds (and_parts (is_written row vars) (are_distinct vars) parts.1).1)
 
+    pub in-row : all_known kept.known vars ≡ false → IsIn slot_is (filter (is_of_row row) kept.slots)
+    in-row varies = let c = slot varies in in_filter (is_of_row row) slot_is kept.slots (is_in slot_is kept.slots c.0 c.1 c.2) of-row
+
     pub left : (v : VarId) → IsIn v vars → is_left kept row v ≡ true
     left v i = elim (cases_Bool (all_known kept.known vars)) as (λ _. is_left kept row v ≡ true) [
-      | inl known ↦
-          or_left (is_fixed kept.known v) (stands_in (filter (is_of_row row) kept.slots) v)
-          (fixed-by (known_at kept.known v) (there-in kept.known v vars i (whole known)))
+      | inl known ↦ or_left (is_fixed kept.known v) (stands_in (filter (is_of_row row) kept.slots) v) (fixed-at known v i)
       | inr varies ↦
-          (let c = slot varies in
           or_right (is_fixed kept.known v) (stands_in (filter (is_of_row row) kept.slots) v)
-          (any-of (λ (s : Slot). has s.leaders v) slot_is (filter (is_of_row row) kept.slots)
-          (in_filter (is_of_row row) slot_is kept.slots (is_in slot_is kept.slots c.0 c.1 c.2) of-row) (has-in v vars i)))
+          (any-of (λ (s : Slot). has s.leaders v) slot_is (filter (is_of_row row) kept.slots) (in-row varies) (has-in v vars i))
     ]

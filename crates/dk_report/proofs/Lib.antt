@@ -2,6 +2,7 @@ mod Examples
 pub mod Partners
 pub mod FlatMaps
 pub mod Instances
+pub mod Falling
 pub mod Passing
 pub mod Rows
 pub mod Telling

@@ -1,5 +1,5 @@
 -- What is listed are instances, whatever the engines keep.
-use Rattle.std.specs.Prelude.{◌≡◌, ◌&&◌, Bool, true, false, All, List, [], ◌∷◌, flat_map, if◌then◌else◌, refl}
+use Rattle.std.specs.Prelude.{◌≡◌, ◌&&◌, Bool, true, false, All, List, [], ◌∷◌, filter, flat_map, if◌then◌else◌, refl}
 use Rattle.std.proofs.Common.{get_or, inl, inr, subst, sym}
 use Rattle.std.proofs.lemmas.Bool.{and_parts}
 use Rattle.std.proofs.lemmas.List.Elements.{All-append, All-cons, All-contains_itself, All-filter, All-nil}
@@ -18,11 +18,12 @@ use Rattle.dk_template.specs.declared.grammar.RowId.{RowId}
 use Rattle.dk_template.specs.declared.templates.Takes.{Takes}
 use Rattle.dk_template.specs.declared.templates.Takes.TheVariants.{One, Two, Three}
 use Rattle.dk_engine.specs.declared.kept.Kept.{Kept}
-use Rattle.dk_report.specs.Asked.{here_of, listed_candidates_by, views_of}
+use Rattle.dk_engine.specs.declared.slot.Slot.{Slot}
+use Rattle.dk_report.specs.Asked.{candidates_equal, candidates_over, candidates_standing, here_of, listed_candidates_by, vars_for_row, views_of}
 use Rattle.dk_report.specs.Keeping.{keeps}
-use Rattle.dk_report.specs.Listing.{is_listed, listed_candidates}
-use Rattle.dk_report.specs.Narrowing.{vars_left, candidates_left}
-use Rattle.dk_report.specs.Sweeps.{behind, over_takes, seconds, suited_vars, thirds}
+use Rattle.dk_report.specs.Listing.{is_equality, is_listed, listed_candidates, may_equal}
+use Rattle.dk_report.specs.Narrowing.{candidates_left, candidates_of_kept, candidates_of_slots, is_left, is_narrow, is_of_row, lacks_role}
+use Rattle.dk_report.specs.Sweeps.{behind, equal_takes, equals, over_takes, seconds, suited_vars, thirds}
 use Rattle.dk_report.specs.declared.asking.Asking.{Asking}
 use Rattle.dk_report.specs.declared.options.Options.{Options}
 use Rattle.dk_report.specs.declared.sweeping.Standing.{Standing}
@@ -73,10 +74,45 @@ module _ (asking : Asking) where
         (λ w. all_flat IsHere (λ x. listed_candidates_by asking row (v ∷ w ∷ x ∷ [])) (λ x. all_listed (v ∷ w ∷ x ∷ [])) third) second)
         (suited_vars a asking.here.now.here.infos vars)
 
-  pub narrowed_listable : (kept : Kept) (standing : Standing) → All IsHere (flat_map (candidates_left kept asking standing) (rows_of asking.here.now.here.grammar))
-  narrowed_listable kept standing =
-      all_in IsHere (candidates_left kept asking standing) (rows_of asking.here.now.here.grammar)
-      (λ row i. all_over row (row_of_grammar asking.here.now.here.grammar row i) (template_of row).takes (vars_left kept standing row))
+    all_equal : (takes : Takes) (leading vars : List VarId) → All IsHere (equal_takes (listed_candidates_by asking row) (may_equal asking.options.now asking.found.now) asking.here.now.here.infos takes leading vars)
+    all_equal (One a) leading vars = all_over (One a) vars
+    all_equal (Three a b c) leading vars = all_over (Three a b c) vars
+    all_equal (Two a b) leading vars =
+        let may = may_equal asking.options.now asking.found.now in
+        let second = suited_vars b asking.here.now.here.infos vars in
+        all_flat IsHere (λ v. equals (listed_candidates_by asking row) may v second)
+        (λ v. all_flat IsHere (λ w. if may v w then listed_candidates_by asking row (v ∷ w ∷ []) else []) (λ w. all_if (may v w) (all_listed (v ∷ w ∷ []))) second)
+        (suited_vars a asking.here.now.here.infos leading)
+      where
+        all_if : {vars : List VarId} (b : Bool) → All IsHere (listed_candidates_by asking row vars) → All IsHere (if b then listed_candidates_by asking row vars else [])
+        all_if true all = all
+        all_if false all = All-nil IsHere
+
+    all_standing : (standing : Standing) → All IsHere (candidates_standing asking standing row)
+    all_standing standing = by (is_equality row)
+      where
+        by : (b : Bool) → All IsHere (if b then candidates_equal asking standing row else candidates_over asking row (vars_for_row standing row))
+        by true = all_equal (template_of row).takes standing.leading standing.all
+        by false = all_over (template_of row).takes (vars_for_row standing row)
+
+    all_kept : (kept : Kept) (standing : Standing) (fixed : List VarId) → All IsHere (candidates_of_kept kept asking standing fixed row)
+    all_kept kept standing fixed = by (lacks_role row asking.here.now.here.infos fixed)
+      where
+        by : (b : Bool) → All IsHere (if b then candidates_of_slots kept asking row else candidates_over asking row (filter (is_left kept row) standing.several))
+        by true = all_flat IsHere (λ (slot : Slot). listed_candidates_by asking row slot.leaders) (λ slot. all_listed slot.leaders) (filter (is_of_row row) kept.slots)
+        by false = all_over (template_of row).takes (filter (is_left kept row) standing.several)
+
+    all_left : (kept : Kept) (standing : Standing) (fixed : List VarId) → All IsHere (candidates_left kept asking standing fixed row)
+    all_left kept standing fixed = by (is_narrow row)
+      where
+        by : (b : Bool) → All IsHere (if b then candidates_of_kept kept asking standing fixed row else candidates_standing asking standing row)
+        by true = all_kept kept standing fixed
+        by false = all_standing standing
+
+  pub narrowed_listable : (kept : Kept) (standing : Standing) (fixed : List VarId) → All IsHere (flat_map (candidates_left kept asking standing fixed) (rows_of asking.here.now.here.grammar))
+  narrowed_listable kept standing fixed =
+      all_in IsHere (candidates_left kept asking standing fixed) (rows_of asking.here.now.here.grammar)
+      (λ row i. all_left row (row_of_grammar asking.here.now.here.grammar row i) kept standing fixed)
 
 -- ---- the candidates of a point
 pub candidates_listable : (grammar : Grammar) (options : Options) (here : Answers) (parents : List Parent) → All (IsOne grammar here.infos) (candidates_kept (keeps options) (candidates_of grammar options.least here parents))

@@ -49,7 +49,7 @@ precedes-one-way (v ∷ vars) (w ∷ others) (inl l) (inr m) = let e = m.0 in om
 precedes-one-way (v ∷ vars) (w ∷ others) (inr l) (inl m) = let e = l.0 in omega (arith, m, e)
 precedes-one-way (v ∷ vars) (w ∷ others) (inr l) (inr m) = precedes-one-way vars others l.1 m.1
 
-before-one-way : (a b : Place) → ComesBefore a b → ComesBefore b a → ⊥
+pub before-one-way : (a b : Place) → ComesBefore a b → ComesBefore b a → ⊥
 before-one-way a b (inl l) (inl m) = omega (arith, l, m)
 before-one-way a b (inl l) (inr m) = let e = ap (λ (r : RowId). r.0) m.0 in omega (arith, l, e)
 before-one-way a b (inr l) (inl m) = let e = ap (λ (r : RowId). r.0) l.0 in omega (arith, m, e)

@@ -44,6 +44,7 @@ use Rattle.dk_forms.specs.Plain.{plain_known, plain_state}
 use Rattle.dk_forms.specs.Plane.{plane_known, plane_state}
 use Rattle.dk_forms.specs.Texts.{texts_known, texts_state}
 use Rattle.dk_forms.specs.Truth.{truth_known, truth_state}
+use Rattle.dk_report.proofs.Falling.{CountsFall, merged-falls}
 use Rattle.dk_report.proofs.FlatMaps.{flat_map-filter}
 use Rattle.dk_report.proofs.Alone.{flat_map-rows}
 use Rattle.dk_report.proofs.Instances.{row_by_row}
@@ -51,10 +52,11 @@ use Rattle.dk_report.proofs.Leaders.{all-in}
 use Rattle.dk_report.proofs.Left.{not-broken}
 use Rattle.dk_report.proofs.Passing.{no-equality, passed, unlisted}
 use Rattle.dk_report.proofs.Picking.{all-at, apart-from}
-use Rattle.dk_report.proofs.Rows.{of_takes, over_all, over_standing, some-role}
+use Rattle.dk_report.proofs.Rows.{enough_vars, is_enough, of_takes, over_all, scarce_fails, some-role, standing_vars, twice_suffices}
 use Rattle.dk_report.proofs.Sole.{got-at}
+use Rattle.dk_report.proofs.Swept.{row_swept}
 use Rattle.dk_report.proofs.Told.{all-tell, pair_of, row-at}
-use Rattle.dk_report.specs.Asked.{AreStanding, CanBeAsked, candidates_over, here_of, views_of}
+use Rattle.dk_report.specs.Asked.{AreStanding, CanBeAsked, candidates_over, candidates_standing, here_of, vars_with_enough, views_of}
 use Rattle.dk_report.specs.Keeping.{keeps}
 use Rattle.dk_report.specs.Listing.{is_equality, is_listed, listed_candidates, listed_candidates_of_row, may_stand}
 use Rattle.dk_report.specs.Narrowing.{is_narrow}
@@ -139,11 +141,17 @@ firsts-of q f (v ∷ vars) = at (q (pair_of f v)) (firsts-of q f vars)
     at false same = same
 
 module _ (options : Options) (joint : Joint) (here : Answers) (answered : (row : RowId) (vars : List VarId) → here.answered row vars ≡ merged_state joint row vars)
-    (parents : List Parent) (several : List VarId) (several_is : several ≡ filter (may_stand options (found_of here parents) true) (all_vars here.infos))
+    (falls : CountsFall here) (parents : List Parent) (several : List VarId) (several_is : several ≡ standing_vars options here parents true)
     (table : List (List VarId)) (told : IsTold joint several table) (row : RowId) (of : IsRowOf joint.here.grammar row) (differs : is_equality row ≡ false) (more : 1 < arity_of row)
   where
+    abbrev enough : VarId → Bool
+    enough = is_enough options here
+
     abbrev may : VarId → Bool
     may = may_stand options (found_of here parents) true
+
+    abbrev stand : VarId → Bool
+    stand v = enough v && may v
 
     abbrev through_view : VarId → VarId
     through_view = leader_through told.engine.kept told.way
@@ -155,7 +163,7 @@ module _ (options : Options) (joint : Joint) (here : Answers) (answered : (row :
     tells v = is_told told.engine.kept (led_through told.engine.kept told.way several) below row (pair_of through_view v)
 
     abbrev keep : VarId → Bool
-    keep v = may v && tells v
+    keep v = stand v && tells v
 
     at-row : told_at table row ≡ filter tells several
     unfolding told_rows
@@ -181,21 +189,33 @@ module _ (options : Options) (joint : Joint) (here : Answers) (answered : (row :
       holds : fits (merged_state joint row vars) ≡ true
       holds = ap fits (sym (answered row vars)) ∙ (and_parts (it_holds here (row, vars)) (keeps options (candidate_of options.least here parents (row, vars))) parts.1).0
 
-      stands : (w : VarId) → IsIn w vars → may w ≡ true
-      stands w i = elim (cases_Bool (may w)) as (λ _. may w ≡ true) [
+      lists-none : listed_candidates options here parents row vars ≡ [] → ⊥
+      lists-none none = (let there = listed-there vars stays in absurd (cc))
+
+      is-enough-at : (w : VarId) → IsIn w vars → enough w ≡ true
+      is-enough-at w i = elim (cases_Bool (enough w)) as (λ _. enough w ≡ true) [
+        | inl passes ↦ passes
+        | inr stops ↦ absurd (lists-none (scarce_fails options here parents row falls (arity_of row) vars long w i stops))
+      ]
+
+      may-be : (w : VarId) → IsIn w vars → may w ≡ true
+      may-be w i = elim (cases_Bool (may w)) as (λ _. may w ≡ true) [
         | inl passes ↦ passes
         | inr stops ↦
-            (let none = passed options here parents row vars w i (no-equality (first_in (found_of here parents).firsts) row vars differs)
-            (ap (λ b. may_stand options (found_of here parents) b w) (lt-ltb 1 (length vars) (omega (arith, long, more))) ∙ stops) in
-            let there = listed-there vars stays in
-            absurd (cc))
+            absurd (lists-none (passed options here parents row vars w i (no-equality (first_in (found_of here parents).firsts) row vars differs)
+            (ap (λ b. may_stand options (found_of here parents) b w) (lt-ltb 1 (length vars) (omega (arith, long, more))) ∙ stops)))
       ]
+
+      stands : (w : VarId) → IsIn w vars → stand w ≡ true
+      stands w i = and_from (enough w) (may w) (is-enough-at w i) (may-be w i)
 
       there : (w : VarId) → IsIn w vars → w.0 < length here.infos
       there w i = let c = contained w vars i in subst (λ (u : VarId). u.0 < length here.infos) c.2 (admitted-there here.infos row vars admitted c.0 w c.1)
 
       within : (w : VarId) → IsIn w vars → IsIn w several
-      within w i = subst (IsIn w) (sym several_is) (in_filter may w (all_vars here.infos) (all-in here.infos w (there w i)) (stands w i))
+      within w i =
+          subst (IsIn w) (sym several_is)
+          (in_filter may w (enough_vars options here) (in_filter enough w (all_vars here.infos) (all-in here.infos w (there w i)) (is-enough-at w i)) (may-be w i))
 
       told-of : (w : VarId) → IsIn w vars → tells w ≡ true
       told-of w i =
@@ -204,7 +224,7 @@ module _ (options : Options) (joint : Joint) (here : Answers) (answered : (row :
           (leaders-hold joint several told.way told.engine told.view row vars within holds) w i))).1
 
       kept-at : (w : VarId) → IsIn w vars → keep w ≡ true
-      kept-at w i = and_from (may w) (tells w) (stands w i) (told-of w i)
+      kept-at w i = and_from (stand w) (tells w) (stands w i) (told-of w i)
 
     fails : (vars : List VarId) → length vars ≡ arity_of row → (v : VarId) → IsIn v vars → keep v ≡ false → listed_candidates options here parents row vars ≡ []
     fails vars long v i h = elim (cases_Bool (is_listed options here parents row vars)) as (λ _. listed_candidates options here parents row vars ≡ []) [
@@ -215,18 +235,15 @@ module _ (options : Options) (joint : Joint) (here : Answers) (answered : (row :
     suffices : (f : VarId → List Candidate) → ((v : VarId) → keep v ≡ false → f v ≡ []) → flat_map f (told_at table row) ≡ flat_map f (all_vars here.infos)
     suffices f none =
         ap (flat_map f) (at-row ∙ ap (filter tells) several_is)
-        ∙ (flat_map-filter f tells (λ v h. none v (and_right (may v) (tells v) h)) (filter may (all_vars here.infos))
-        ∙ flat_map-filter f may (λ v h. none v (and_left (may v) (tells v) h)) (all_vars here.infos))
+        ∙ (flat_map-filter f tells (λ v h. none v (and_right (stand v) (tells v) h)) (standing_vars options here parents true)
+        ∙ twice_suffices options here parents row enough may f (λ v h. none v (and_left (stand v) (tells v) h)))
 
     pub narrow_told : over_all options here parents row (told_at table row) ≡ listed_candidates_of_row options here parents row
     narrow_told = of_takes options here parents row (template_of row).takes refl keep (told_at table row) suffices fails
 
 module _ (asking : Asking) (can : CanBeAsked asking) (of : Standing) (standing : AreStanding asking of) (table : List (List VarId)) (told : IsTold asking.here.now of.several table) where
-  abbrev all : List VarId
-  all = all_vars asking.here.now.here.infos
-
-  several-is : of.several ≡ filter (may_stand asking.options.now (found_of (here_of asking) (views_of asking)) true) all
-  several-is = standing.several ∙ ap (λ (f : PointFacts). filter (may_stand asking.options.now f true) all) can.found
+  several-is : of.several ≡ standing_vars asking.options.now (here_of asking) (views_of asking) true
+  several-is = standing.several ∙ ap (λ (f : PointFacts). filter (may_stand asking.options.now f true) (vars_with_enough asking)) can.found
 
   row_told : (row : RowId) → IsRowOf asking.here.now.here.grammar row → candidates_told table asking of row ≡ listed_candidates_of_row asking.options.now (here_of asking) (views_of asking) row
   row_told row is_row = elim (cases_Bool (is_narrow row)) as (λ _. candidates_told table asking of row ≡ listed_candidates_of_row asking.options.now (here_of asking) (views_of asking) row) [
@@ -234,13 +251,10 @@ module _ (asking : Asking) (can : CanBeAsked asking) (of : Standing) (standing :
         (let parts = and_parts (not (is_equality row)) (not (arity_of row == 1)) narrow in
         let role = some-role asking.options.now (here_of asking) (views_of asking) row (template_of row).takes in
         let not_one = eqb-false (arity_of row) 1 (not-true (arity_of row == 1) parts.1) in
-        ap (λ b. candidates_over asking row (if b then told_at table row else if is_equality row then of.all else if arity_of row == 1 then of.single else of.several)) narrow
-        ∙ narrow_told asking.options.now asking.here.now (here_of asking) (λ r vars. refl) (views_of asking) of.several several-is table told row is_row (not-true (is_equality row) parts.0) (omega (arith, role, not_one)))
-    | inr wide ↦
-        ap (λ b. candidates_over asking row (if b then told_at table row else if is_equality row then of.all else if arity_of row == 1 then of.single else of.several)) wide
-        ∙ (ap (λ (vs : List VarId). candidates_over asking row (if is_equality row then vs else if arity_of row == 1 then of.single else of.several)) standing.all
-        ∙ over_standing asking.options.now (here_of asking) (views_of asking) row of.single of.several
-        (standing.single ∙ ap (λ (f : PointFacts). filter (may_stand asking.options.now f false) all) can.found) several-is)
+        ap (λ b. if b then candidates_over asking row (told_at table row) else candidates_standing asking of row) narrow
+        ∙ narrow_told asking.options.now asking.here.now (here_of asking) (λ r vars. refl) (λ vars v i. merged-falls asking.here.now vars v i) (views_of asking) of.several several-is table told row is_row
+        (not-true (is_equality row) parts.0) (omega (arith, role, not_one)))
+    | inr wide ↦ ap (λ b. if b then candidates_over asking row (told_at table row) else candidates_standing asking of row) wide ∙ row_swept asking can of standing row
   ]
 
   pub viewed_is : flat_map (candidates_told table asking of) (rows_of asking.here.now.here.grammar)

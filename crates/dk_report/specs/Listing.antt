@@ -8,6 +8,7 @@ use Rattle.dk_filters.specs.Found.{first_in, one_value_in}
 use Rattle.dk_filters.specs.declared.candidate.Candidate.{Candidate}
 use Rattle.dk_filters.specs.declared.found.PointFacts.{PointFacts}
 use Rattle.dk_fits.specs.Instances.{all_vars, is_asked, tuples_over}
+use Rattle.dk_presence.specs.Patterns.{has}
 use Rattle.dk_template.specs.Templates.{arity_of}
 use Rattle.dk_template.specs.declared.grammar.RowId.{RowId}
 use Rattle.dk_report.specs.Keeping.{keeps}
@@ -40,3 +41,13 @@ abbrev pub may_stand : Options → PointFacts → Bool → VarId → Bool
 may_stand options found several v =
     (options.keep_members || (first_in found.firsts v).0 == v.0)
     && (options.keep_constant || not (several && one_value_in found.one_values v))
+
+-- An equality of v with another variable may be kept: v is the first of those like some variable, or members are kept.
+abbrev pub may_lead : Options → PointFacts → VarId → Bool
+may_lead options found v = options.keep_members || has found.firsts v
+
+-- An equality of v and w may be kept: v is the first of those like w, or both are the first of those like them, or members are kept.
+abbrev pub may_equal : Options → PointFacts → VarId → VarId → Bool
+may_equal options found v w =
+    options.keep_members
+    || ((first_in found.firsts w).0 == v.0 || ((first_in found.firsts v).0 == v.0 && (first_in found.firsts w).0 == w.0))

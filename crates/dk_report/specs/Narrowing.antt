@@ -1,9 +1,10 @@
 -- Which variables a row is still asked about, where one engine alone has samples.
-use Rattle.std.specs.Prelude.{◌&&◌, ◌||◌, ◌==◌, Bool, true, false, not, List, filter, if◌then◌else◌, ◌≡◌, ◌<◌, ℕ, [], ◌∷◌, length, slice_get, slice_index_or, Some, None}
+use Rattle.std.specs.Prelude.{◌&&◌, ◌||◌, ◌==◌, Bool, true, false, not, List, filter, flat_map, if◌then◌else◌, ◌≡◌, ◌<◌, ℕ, [], ◌∷◌, length, slice_get, slice_index_or, Some, None}
 use Rattle.std.specs.List.{list_all, list_any}
 use Rattle.std.specs.Option.{option_map_or}
 use Rattle.dk_base.specs.Shapes.{var}
 use Rattle.dk_base.specs.declared.kinds.VarId.{VarId}
+use Rattle.dk_base.specs.declared.kinds.VarInfo.{VarInfo}
 use Rattle.dk_classes.specs.Leaders.{own_leaders}
 use Rattle.dk_constants.specs.Known.{Entries, known_at}
 use Rattle.dk_engine.specs.Levels.{Whole}
@@ -15,10 +16,12 @@ use Rattle.dk_hierarchy.specs.Merging.{AreWays, Joint}
 use Rattle.dk_hierarchy.specs.declared.way.Way.{Way}
 use Rattle.dk_presence.specs.Patterns.{has}
 use Rattle.dk_samples.specs.Samples.{is_present}
+use Rattle.dk_template.specs.Admitted.{suits}
 use Rattle.dk_template.specs.Fitting.{fits}
-use Rattle.dk_template.specs.Templates.{arity_of}
+use Rattle.dk_template.specs.Templates.{arity_of, roles_of, template_of}
 use Rattle.dk_template.specs.declared.grammar.RowId.{RowId}
-use Rattle.dk_report.specs.Asked.{candidates_over, vars_for_row}
+use Rattle.dk_template.specs.declared.templates.Role.{Role}
+use Rattle.dk_report.specs.Asked.{candidates_over, candidates_standing, listed_candidates_by}
 use Rattle.dk_report.specs.Listing.{is_equality}
 use Rattle.dk_report.specs.declared.asking.Asking.{Asking}
 use Rattle.dk_report.specs.declared.options.Options.{Options}
@@ -27,6 +30,10 @@ use Rattle.dk_report.specs.declared.sweeping.Standing.{Standing}
 -- it is constant, and there
 abbrev pub is_fixed : Entries → VarId → Bool
 is_fixed known v = option_map_or is_present (known_at known v) false
+
+-- such variables of those that may stand in an instance of several
+abbrev pub fixed_vars : Kept → Standing → List VarId
+fixed_vars kept standing = filter (is_fixed kept.known) standing.several
 
 -- a slot of the row that holds, over leaders of which none comes twice
 abbrev pub is_of_row : RowId → Slot → Bool
@@ -44,13 +51,28 @@ is_left kept row v = is_fixed kept.known v || stands_in (filter (is_of_row row) 
 abbrev pub is_narrow : RowId → Bool
 is_narrow row = not (is_equality row) && not (arity_of row == 1)
 
--- those over which a row is asked about
-abbrev pub vars_left : Kept → Standing → RowId → List VarId
-vars_left kept standing row = if is_narrow row then filter (is_left kept row) (vars_for_row standing row) else vars_for_row standing row
+-- none of the variables suits the role, and some role of the row
+abbrev pub suits_none : List VarInfo → List VarId → Role → Bool
+suits_none infos of role = not (list_any (λ v. suits role (slice_get infos v.0)) of)
 
--- the candidates of a row over them
-abbrev pub candidates_left : Kept → Asking → Standing → RowId → List Candidate
-candidates_left kept asking standing row = candidates_over asking row (vars_left kept standing row)
+abbrev pub lacks_role : RowId → List VarInfo → List VarId → Bool
+lacks_role row infos of = list_any (suits_none infos of) (roles_of (template_of row).takes)
+
+-- the candidates of a row over the leaders of its slots
+abbrev pub candidates_of_slots : Kept → Asking → RowId → List Candidate
+candidates_of_slots kept asking row = flat_map (λ slot. listed_candidates_by asking row slot.leaders) (filter (is_of_row row) kept.slots)
+
+-- Those of a row of several variables, where these are constant: no tuple is of such alone if one of its roles has none. The others have
+-- slots, or else are over variables of which something is kept.
+abbrev pub candidates_of_kept : Kept → Asking → Standing → List VarId → RowId → List Candidate
+candidates_of_kept kept asking standing fixed row =
+    if lacks_role row asking.here.now.here.infos fixed then candidates_of_slots kept asking row
+    else candidates_over asking row (filter (is_left kept row) standing.several)
+
+-- the candidates of a row, where these variables are constant
+abbrev pub candidates_left : Kept → Asking → Standing → List VarId → RowId → List Candidate
+candidates_left kept asking standing fixed row =
+    if is_narrow row then candidates_of_kept kept asking standing fixed row else candidates_standing asking standing row
 
 -- each of the variables leads its class
 abbrev pub all_lead : List VarId → List VarId → Bool

@@ -24,7 +24,7 @@ use Rattle.dk_template.specs.Templates.{arity_of}
 use Rattle.dk_template.specs.declared.answers.Premise.{Premise}
 use Rattle.dk_template.specs.declared.grammar.Grammar.{Grammar}
 use Rattle.dk_template.specs.declared.grammar.RowId.{RowId}
-use Rattle.dk_report.specs.Asked.{candidates_over, vars_for_row}
+use Rattle.dk_report.specs.Asked.{candidates_over, candidates_standing}
 use Rattle.dk_report.specs.Narrowing.{is_narrow, stands_in}
 use Rattle.dk_report.specs.declared.asking.Asking.{Asking}
 use Rattle.dk_report.specs.declared.sweeping.Standing.{Standing}
@@ -129,8 +129,6 @@ pub record IsTold (joint : Joint) (vars : List VarId) (table : List (List VarId)
   pub rows : table ≡ told_rows rank_bound joint.here.grammar engine.kept (led_through engine.kept way vars)
 
 -- ---- the candidates of a row
-abbrev pub vars_told : List (List VarId) → Standing → RowId → List VarId
-vars_told table standing row = if is_narrow row then told_at table row else vars_for_row standing row
-
 abbrev pub candidates_told : List (List VarId) → Asking → Standing → RowId → List Candidate
-candidates_told table asking standing row = candidates_over asking row (vars_told table standing row)
+candidates_told table asking standing row =
+    if is_narrow row then candidates_over asking row (told_at table row) else candidates_standing asking standing row

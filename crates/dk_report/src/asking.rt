@@ -72,6 +72,10 @@ impl<'a, 'e> Asking<'a, 'e> {
         if !fits(&state) {
             return Ok(list);
         }
+        let count = self.here.count(vars);
+        if count < self.options.least {
+            return Ok(list);
+        }
         let facts = judge_with(
             self.options.least,
             infos,
@@ -90,7 +94,7 @@ impl<'a, 'e> Asking<'a, 'e> {
             row,
             vars: Tuple::of(vars),
             state,
-            count: self.here.count(vars),
+            count,
             facts,
         })?;
         Ok(list)

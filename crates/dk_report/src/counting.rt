@@ -12,7 +12,7 @@ ghost use Rattle.dk_presence.specs.Patterns.{capped, counted_by};
 ghost use Rattle.dk_report.specs.Counting.{AreAt, AreFound, AreIndexes, IsIndexOf, added, brought, brought_together, partner_count, single_count};
 
 use dk_base::{NoMemory, PointId, VarId, VarInfo};
-use dk_bitmaps::{PatternIndex, contains};
+use dk_bitmaps::PatternIndex;
 use dk_engine::Engine;
 use dk_hierarchy::{Merged, Way, merge};
 use dk_points::Points;
@@ -52,15 +52,16 @@ fn leader_counts(alloc: Global, engine: &Engine) -> Result<Vec<u64>, NoMemory>
     Ok(counts)
 }
 
-// The count of a variable that leads its class.
+// The count of a variable: that of the leader of its class.
 fn leader_count(engine: &Engine, counts: &[u64], v: VarId) -> Option<u64>
     requires { AreAt (λ w. counted_by engine.now.kept.held (w ∷ [])) counts.now }
     ensures { IfSome result (λ n. n ≡ count_read engine.now.kept (v ∷ [])) }
 {
-    if !contains(engine.classes().leaders(), v) {
+    let kept = engine.kept();
+    if engine.vars().len() <= v.0 as usize {
         return None;
     }
-    match counts.get(v.0 as usize) {
+    match counts.get(kept.leaders.leader(v).0 as usize) {
         Some(count) => Some(*count),
         None => None,
     }
@@ -76,7 +77,7 @@ fn partner_at(way: &Way, place: usize) -> Option<VarId>
     }
 }
 
-// The count of a partner, if it leads its class.
+// The count of a partner.
 fn partner_count(engine: &Engine, counts: &[u64], partner: Option<VarId>) -> Option<u64>
     requires { AreAt (λ w. counted_by engine.now.kept.held (w ∷ [])) counts.now }
     ensures { IfSome result (λ n. n ≡ partner_count engine.now.kept partner) }

@@ -1,5 +1,5 @@
-// The candidates of a point whose samples come from one engine alone: rows of several variables are asked about only over those of
-// which the engine keeps something.
+// The candidates of a point whose samples come from one engine alone: rows of several variables are asked about only over the leaders of
+// their slots, and where all of a tuple may be constant, over the variables of which the engine keeps something.
 ghost use Rattle.std.specs.Prelude.{◌≡◌, ◌<◌, ◌^◌, ◌++◌, ◌||◌, ℕ, true, [], ◌∷◌, All, IfOk, IfSome, List, None, Some, filter, flat_map, length, map, slice_index_or};
 ghost use Rattle.std.specs.List.{AllZip, list_any};
 ghost use Rattle.dk_base.specs.Shapes.{var};
@@ -10,20 +10,20 @@ ghost use Rattle.dk_filters.specs.Candidates.{candidates_kept, candidates_of};
 ghost use Rattle.dk_filters.specs.Laws.{ShowTheSame};
 ghost use Rattle.dk_hierarchy.specs.Standing.{EnginesStandFor};
 ghost use Rattle.dk_presence.specs.Patterns.{has};
-ghost use Rattle.dk_report.specs.Asked.{AreStanding, CanBeAsked, here_of, views_of};
+ghost use Rattle.dk_report.specs.Asked.{AreStanding, CanBeAsked, here_of, listed_candidates_by, views_of};
 ghost use Rattle.dk_report.specs.Keeping.{keeps};
-ghost use Rattle.dk_report.specs.Narrowing.{CanNarrow, IsSole, all_lead, brings_samples, candidates_left, is_fixed, is_left, is_narrow, is_of_row};
+ghost use Rattle.dk_report.specs.Narrowing.{CanNarrow, IsSole, all_lead, brings_samples, candidates_left, candidates_of_kept, candidates_of_slots, fixed_vars, is_fixed, is_left, is_narrow, is_of_row, lacks_role, suits_none};
 ghost use Rattle.dk_template.specs.Templates.{IsRow, IsRowOf};
 
 use crate::asking::{Asking, are_distinct};
-use crate::sweeping::{Standing, is_equality};
-use dk_base::{List, NoMemory, Value, VarId};
+use crate::sweeping::{Standing, is_equality, suits};
+use dk_base::{List, NoMemory, Value, VarId, VarInfo};
 use dk_classes::Classes;
 use dk_constants::Constants;
 use dk_engine::{Engine, Slot};
 use dk_filters::Candidate;
 use dk_hierarchy::Way;
-use dk_template::{RowId, fits, info};
+use dk_template::{Role, RowId, Takes, fits, info, template_at};
 use std::alloc::Global;
 
 // Whether the variable is constant, and there.
@@ -95,6 +95,45 @@ fn left_of(
     Ok(list)
 }
 
+// Those of the variables that are constant, and there.
+fn fixed_of(alloc: Global, known: &Constants, of: &[VarId]) -> Result<List<VarId>, NoMemory>
+    ensures { IfOk result (λ list. list ≡ filter (is_fixed known.now) of.now) }
+{
+    let mut list = List::new(alloc);
+    for v in of {
+        if is_fixed(known, *v) {
+            list.push(*v)?;
+        }
+    }
+    Ok(list)
+}
+
+// Whether none of the variables suits the role.
+fn suits_none(role: Role, infos: &[VarInfo], of: &[VarId]) -> bool
+    ensures { result ≡ suits_none infos.now of.now role }
+{
+    !of.iter().any(|v| suits(role, infos, *v))
+}
+
+// Whether none of the variables suits one of the roles.
+fn lacks_any(roles: &[Role], infos: &[VarInfo], of: &[VarId]) -> bool
+    ensures { result ≡ list_any (suits_none infos.now of.now) roles.now }
+{
+    roles.iter().any(|role| suits_none(*role, infos, of))
+}
+
+// The same of the row's roles.
+fn lacks_role(row: RowId, infos: &[VarInfo], of: &[VarId]) -> bool
+    requires { IsRow row }
+    ensures { result ≡ lacks_role row infos.now of.now }
+{
+    match template_at(row).takes {
+        Takes::One(a) => lacks_any(&[a], infos, of),
+        Takes::Two(a, b) => lacks_any(&[a, b], infos, of),
+        Takes::Three(a, b, c) => lacks_any(&[a, b, c], infos, of),
+    }
+}
+
 /// Whether the row takes several variables, and doesn't say that two are the same.
 pub(crate) fn is_narrow(row: RowId) -> bool
     requires { IsRow row }
@@ -161,6 +200,39 @@ fn are_own(partners: &[Option<VarId>]) -> bool
 }
 
 impl<'a, 'e> Asking<'a, 'e> {
+    // The candidates with those over the leaders of the slots.
+    fn over_slots(
+        &self,
+        row: RowId,
+        slots: &[&Slot],
+        list: List<Candidate>,
+    ) -> Result<List<Candidate>, NoMemory>
+        requires asked { CanBeAsked self.now }
+        requires row { IsRowOf self.now.here.now.here.grammar row }
+        ensures { IfOk result (λ more. more ≡ list ++ flat_map (λ slot. listed_candidates_by self.now row slot.now.leaders) slots.now) }
+    {
+        let mut list = list;
+        for slot in slots {
+            list = self.consider(row, slot.leaders.as_slice(), list)?;
+        }
+        Ok(list)
+    }
+
+    // The candidates with those of a row over the leaders of its slots.
+    fn of_slots(
+        &self,
+        engine: &Engine,
+        row: RowId,
+        list: List<Candidate>,
+    ) -> Result<List<Candidate>, NoMemory>
+        requires asked { CanBeAsked self.now }
+        requires row { IsRowOf self.now.here.now.here.grammar row }
+        ensures { IfOk result (λ more. more ≡ list ++ candidates_of_slots engine.now.kept self.now row) }
+    {
+        let slots = slots_of_row(self.alloc, engine.slots(), row)?;
+        self.over_slots(row, slots.as_slice(), list)
+    }
+
     // Those of the variables over which the row may say something, by what the engine keeps.
     fn narrow_vars(
         &self,
@@ -174,36 +246,71 @@ impl<'a, 'e> Asking<'a, 'e> {
         left_of(self.alloc, engine.constants(), slots.as_slice(), of)
     }
 
-    // The candidates with those of a row.
-    fn narrowed_row(
+    // The candidates with those of a row of several variables, none an equality, where these are constant.
+    fn of_narrow(
         &self,
         engine: &Engine,
         standing: &Standing,
+        fixed: &[VarId],
         row: RowId,
         list: List<Candidate>,
     ) -> Result<List<Candidate>, NoMemory>
         requires asked { CanBeAsked self.now }
         requires row { IsRowOf self.now.here.now.here.grammar row }
-        ensures { IfOk result (λ more. more ≡ list ++ candidates_left engine.now.kept self.now standing.now row) }
+        ensures { IfOk result (λ more. more ≡ list ++ candidates_of_kept engine.now.kept self.now standing.now fixed.now row) }
     {
-        let of = standing.of(row);
-        if !is_narrow(row) {
-            return self.over(row, of, list);
+        if lacks_role(row, self.here.vars(), fixed) {
+            return self.of_slots(engine, row, list);
         }
+        let of = standing.several.as_slice();
         let left = self.narrow_vars(engine, row, of)?;
         self.over(row, left.as_slice(), list)
     }
 
-    // The candidates of a point whose samples the engine alone has.
-    fn narrow_to(&self, engine: &Engine, standing: &Standing) -> Result<List<Candidate>, NoMemory>
+    // The candidates with those of a row, where these variables are constant.
+    fn narrowed_row(
+        &self,
+        engine: &Engine,
+        standing: &Standing,
+        fixed: &[VarId],
+        row: RowId,
+        list: List<Candidate>,
+    ) -> Result<List<Candidate>, NoMemory>
+        requires asked { CanBeAsked self.now }
+        requires row { IsRowOf self.now.here.now.here.grammar row }
+        ensures { IfOk result (λ more. more ≡ list ++ candidates_left engine.now.kept self.now standing.now fixed.now row) }
+    {
+        if is_narrow(row) {
+            self.of_narrow(engine, standing, fixed, row, list)
+        } else {
+            self.over_standing(row, standing, list)
+        }
+    }
+
+    // The candidates of a point whose samples the engine alone has, where these variables are constant.
+    fn narrow_by(
+        &self,
+        engine: &Engine,
+        standing: &Standing,
+        fixed: &[VarId],
+    ) -> Result<List<Candidate>, NoMemory>
         requires { CanBeAsked self.now }
-        ensures { IfOk result (λ list. list ≡ flat_map (candidates_left engine.now.kept self.now standing.now) (rows_of self.now.here.now.here.grammar)) }
+        ensures { IfOk result (λ list. list ≡ flat_map (candidates_left engine.now.kept self.now standing.now fixed.now) (rows_of self.now.here.now.here.grammar)) }
     {
         let mut list = List::new(self.alloc);
         for n in 0..self.grammar.rows() {
-            list = self.narrowed_row(engine, standing, RowId(n + 1), list)?;
+            list = self.narrowed_row(engine, standing, fixed, RowId(n + 1), list)?;
         }
         Ok(list)
+    }
+
+    // The same with the variables that are.
+    fn narrow_to(&self, engine: &Engine, standing: &Standing) -> Result<List<Candidate>, NoMemory>
+        requires { CanBeAsked self.now }
+        ensures { IfOk result (λ list. list ≡ flat_map (candidates_left engine.now.kept self.now standing.now (fixed_vars engine.now.kept standing.now)) (rows_of self.now.here.now.here.grammar)) }
+    {
+        let fixed = fixed_of(self.alloc, engine.constants(), standing.several.as_slice())?;
+        self.narrow_by(engine, standing, fixed.as_slice())
     }
 
     // The engine from whose own samples alone all samples of the point come, each variable being its own partner.

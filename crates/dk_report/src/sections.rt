@@ -20,8 +20,8 @@ use std::alloc::Global;
 
 /// The instances that hold at a point and that no filter that is on drops, by row and then by variables, from what the engines of the
 /// table's points keep. An instance that the options drop at once isn't asked about; where all samples come from one
-/// engine, only rows over what it keeps are, but where implied instances are let through; and else only rows over variables of which
-/// they may say something by the engine of one way.
+/// engine, rows of several variables are asked about only over its slots and constants, but where implied instances are let through; and
+/// else only over variables of which they may say something by the engine of one way.
 pub fn kept_instances(
     alloc: Global,
     options: &Options,

@@ -1,24 +1,24 @@
 // The candidates of a point, row by row over all tuples of variables that may stand in what is kept.
-ghost use Rattle.std.specs.Prelude.{◌≡◌, ◌≤◌, ◌^◌, ◌<◌, ◌++◌, IfOk, length, slice_get};
-ghost use Rattle.dk_fits.specs.Instances.{all_vars};
+ghost use Rattle.std.specs.Prelude.{◌≡◌, ◌≤◌, ◌^◌, ◌<◌, ◌++◌, IfOk, filter, length, slice_get};
 ghost use Rattle.dk_filters.specs.Candidates.{candidates_kept, candidates_of};
 ghost use Rattle.dk_filters.specs.Found.{first_in, one_value_in};
 ghost use Rattle.dk_report.specs.Keeping.{keeps};
-ghost use Rattle.dk_report.specs.Asked.{AreStanding, CanBeAsked, candidates_over, here_of, listed_candidates_by, standing_vars, vars_for_row, views_of};
-ghost use Rattle.dk_report.specs.Listing.{is_equality, may_stand};
-ghost use Rattle.dk_report.specs.Sweeps.{behind, firsts, over_takes, pairs, seconds, suited_vars, thirds, triples};
+ghost use Rattle.dk_report.specs.Asked.{AreStanding, CanBeAsked, candidates_equal, candidates_over, candidates_standing, has_enough, here_of, listed_candidates_by, vars_for_row, vars_with_enough, views_of};
+ghost use Rattle.dk_report.specs.Listing.{is_equality, may_equal, may_lead, may_stand};
+ghost use Rattle.dk_report.specs.Sweeps.{behind, equal_pairs, equals, firsts, over_takes, pairs, seconds, suited_vars, thirds, triples};
 ghost use Rattle.dk_template.specs.Admitted.{suits};
 ghost use Rattle.dk_template.specs.Templates.{IsRow, IsRowOf};
 
 use crate::Options;
 use crate::asking::Asking;
+use crate::narrowing::has;
 use dk_base::{Form, List, NoMemory, VarId, VarInfo};
 use dk_filters::{Candidate, PointFacts};
 use dk_template::{Answers, Role, RowId, Takes, info, template_at};
 use std::alloc::Global;
 
-// Whether the variable is there, is of the role's kind, and is a base one where the role takes base ones alone.
-fn suits(role: Role, infos: &[VarInfo], v: VarId) -> bool
+/// Whether the variable is there, is of the role's kind, and is a base one where the role takes base ones alone.
+pub(crate) fn suits(role: Role, infos: &[VarInfo], v: VarId) -> bool
     ensures { result ≡ suits role (slice_get infos.now v.0) }
 {
     match infos.get(v.0 as usize) {
@@ -84,35 +84,39 @@ fn may_stand(options: &Options, found: &PointFacts, several: bool, v: VarId) -> 
     (options.keep_members || is_first) && (options.keep_constant || !(several && one_value))
 }
 
-// All variables, in order.
-fn all_vars(alloc: Global, infos: &[VarInfo]) -> Result<List<VarId>, NoMemory>
-    requires { length infos.now < 2 ^ 32 }
-    ensures { IfOk result (λ list. list ≡ all_vars infos.now) }
+// Whether an equality of the variable with a later one may be kept.
+fn may_lead(options: &Options, found: &PointFacts, v: VarId) -> bool
+    ensures { result ≡ may_lead options.now found.now v }
 {
-    let mut list = List::new(alloc);
-    for n in 0..infos.len() as u32 {
-        list.push(VarId(n))?;
-    }
-    Ok(list)
+    options.keep_members || has(found.firsts.as_slice(), v)
 }
 
-/// The variables of a point: all of them, and those that may stand in an instance of one variable, and in one of several.
+// Whether an equality of the first variable with the other may be kept.
+fn may_equal(options: &Options, found: &PointFacts, v: VarId, w: VarId) -> bool
+    ensures { result ≡ may_equal options.now found.now v w }
+{
+    let firsts = found.firsts.as_slice();
+    let first = first_of(firsts, w);
+    options.keep_members || first.0 == v.0 || (first_of(firsts, v).0 == v.0 && first.0 == w.0)
+}
+
+/// The variables of a point, each present in enough samples: all of these, those that may stand first in an equality, and those that may
+/// stand in an instance of one variable, and in one of several.
 #[derive(Drop)]
 pub(crate) struct Standing {
     pub(crate) all: List<VarId>,
+    pub(crate) leading: List<VarId>,
     pub(crate) single: List<VarId>,
     pub(crate) several: List<VarId>,
 }
 
 impl Standing {
-    /// Those over which a row is asked about. An equality may tell of a variable that isn't the first of those like it.
+    /// Those over which a row is asked about that is no equality.
     pub(crate) fn of(&self, row: RowId) -> &[VarId]
         requires { IsRow row }
         ensures { result.now ≡ vars_for_row self.now row }
     {
-        if is_equality(row) {
-            self.all.as_slice()
-        } else if info(row).arity == 1 {
+        if info(row).arity == 1 {
             self.single.as_slice()
         } else {
             self.several.as_slice()
@@ -121,15 +125,49 @@ impl Standing {
 }
 
 impl<'a, 'e> Asking<'a, 'e> {
-    // The variables that may stand in an instance of several, or of one.
-    fn standing_vars(&self, several: bool) -> Result<List<VarId>, NoMemory>
+    // Whether the variable is present in enough samples.
+    fn has_enough(&self, v: VarId) -> bool
+        requires { v.0 < length self.now.here.now.here.infos }
+        ensures { result ≡ has_enough self.now v }
+    {
+        self.options.least <= self.here.count(&[v])
+    }
+
+    // Such variables of the point.
+    fn vars_with_enough(&self) -> Result<List<VarId>, NoMemory>
         requires { length self.now.here.now.here.infos < 2 ^ 32 }
-        ensures { IfOk result (λ list. list ≡ standing_vars self.now several) }
+        ensures { IfOk result (λ list. list ≡ vars_with_enough self.now) }
     {
         let mut list = List::new(self.alloc);
         for n in 0..self.here.vars().len() as u32 {
-            if may_stand(self.options, self.found, several, VarId(n)) {
+            if self.has_enough(VarId(n)) {
                 list.push(VarId(n))?;
+            }
+        }
+        Ok(list)
+    }
+
+    // Those of the variables that may stand in an instance of several, or of one.
+    fn standing_vars(&self, several: bool, of: &[VarId]) -> Result<List<VarId>, NoMemory>
+        ensures { IfOk result (λ list. list ≡ filter (may_stand self.now.options.now self.now.found.now several) of.now) }
+    {
+        let mut list = List::new(self.alloc);
+        for v in of {
+            if may_stand(self.options, self.found, several, *v) {
+                list.push(*v)?;
+            }
+        }
+        Ok(list)
+    }
+
+    // Those that may stand first in an equality.
+    fn leading_vars(&self, of: &[VarId]) -> Result<List<VarId>, NoMemory>
+        ensures { IfOk result (λ list. list ≡ filter (may_lead self.now.options.now self.now.found.now) of.now) }
+    {
+        let mut list = List::new(self.alloc);
+        for v in of {
+            if may_lead(self.options, self.found, *v) {
+                list.push(*v)?;
             }
         }
         Ok(list)
@@ -140,10 +178,12 @@ impl<'a, 'e> Asking<'a, 'e> {
         requires { length self.now.here.now.here.infos < 2 ^ 32 }
         ensures { IfOk result (AreStanding self.now) }
     {
+        let all = self.vars_with_enough()?;
         Ok(Standing {
-            all: all_vars(self.alloc, self.here.vars())?,
-            single: self.standing_vars(false)?,
-            several: self.standing_vars(true)?,
+            leading: self.leading_vars(all.as_slice())?,
+            single: self.standing_vars(false, all.as_slice())?,
+            several: self.standing_vars(true, all.as_slice())?,
+            all,
         })
     }
 
@@ -346,6 +386,85 @@ impl<'a, 'e> Asking<'a, 'e> {
         }
     }
 
+    // With those of an equality of a variable and one of the list that may be kept.
+    fn equals(
+        &self,
+        row: RowId,
+        v: VarId,
+        second: &[VarId],
+        list: List<Candidate>,
+    ) -> Result<List<Candidate>, NoMemory>
+        requires asked { CanBeAsked self.now }
+        requires row { IsRowOf self.now.here.now.here.grammar row }
+        ensures { IfOk result (λ more. more ≡ list ++ equals (listed_candidates_by self.now row) (may_equal self.now.options.now self.now.found.now) v second.now) }
+    {
+        let mut list = list;
+        for w in second {
+            if may_equal(self.options, self.found, v, *w) {
+                list = self.consider(row, &[v, *w], list)?;
+            }
+        }
+        Ok(list)
+    }
+
+    // With those of two variables, one of each list.
+    fn equal_pairs(
+        &self,
+        row: RowId,
+        first: &[VarId],
+        second: &[VarId],
+        list: List<Candidate>,
+    ) -> Result<List<Candidate>, NoMemory>
+        requires asked { CanBeAsked self.now }
+        requires row { IsRowOf self.now.here.now.here.grammar row }
+        ensures { IfOk result (λ more. more ≡ list ++ equal_pairs (listed_candidates_by self.now row) (may_equal self.now.options.now self.now.found.now) first.now second.now) }
+    {
+        let mut list = list;
+        for v in first {
+            list = self.equals(row, *v, second, list)?;
+        }
+        Ok(list)
+    }
+
+    // With those of an equality.
+    fn of_equality(
+        &self,
+        row: RowId,
+        standing: &Standing,
+        list: List<Candidate>,
+    ) -> Result<List<Candidate>, NoMemory>
+        requires asked { CanBeAsked self.now }
+        requires row { IsRowOf self.now.here.now.here.grammar row }
+        ensures { IfOk result (λ more. more ≡ list ++ candidates_equal self.now standing.now row) }
+    {
+        match template_at(row).takes {
+            Takes::Two(a, b) => {
+                let first = self.vars_of_role(a, standing.leading.as_slice())?;
+                let second = self.vars_of_role(b, standing.all.as_slice())?;
+                self.equal_pairs(row, first.as_slice(), second.as_slice(), list)
+            }
+            Takes::One(_) | Takes::Three(_, _, _) => self.over(row, standing.all.as_slice(), list),
+        }
+    }
+
+    /// The candidates with those of a row over the variables that may stand in what is kept.
+    pub(crate) fn over_standing(
+        &self,
+        row: RowId,
+        standing: &Standing,
+        list: List<Candidate>,
+    ) -> Result<List<Candidate>, NoMemory>
+        requires asked { CanBeAsked self.now }
+        requires row { IsRowOf self.now.here.now.here.grammar row }
+        ensures { IfOk result (λ more. more ≡ list ++ candidates_standing self.now standing.now row) }
+    {
+        if is_equality(row) {
+            self.of_equality(row, standing, list)
+        } else {
+            self.over(row, standing.of(row), list)
+        }
+    }
+
     /// The candidates that the options let through, by row and then by variables. Each row is asked about over the variables that suit
     /// its roles and may stand in what is kept.
     pub(crate) fn sweep_all(&self, standing: &Standing) -> Result<List<Candidate>, NoMemory>
@@ -355,8 +474,7 @@ impl<'a, 'e> Asking<'a, 'e> {
     {
         let mut list = List::new(self.alloc);
         for n in 0..self.grammar.rows() {
-            let row = RowId(n + 1);
-            list = self.over(row, standing.of(row), list)?;
+            list = self.over_standing(RowId(n + 1), standing, list)?;
         }
         Ok(list)
     }

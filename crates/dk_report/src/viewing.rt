@@ -451,7 +451,7 @@ impl<'a, 'e> Asking<'a, 'e> {
         if is_narrow(row) {
             self.over(row, told_at(table, row), list)
         } else {
-            self.over(row, standing.of(row), list)
+            self.over_standing(row, standing, list)
         }
     }
 

@@ -1,16 +1,22 @@
-use Rattle.std.specs.Prelude.{◌≡◌, List, true}
-use Rattle.std.proofs.Common.{◌∙◌, ap, sym}
-use Rattle.dk_base.specs.declared.kinds.VarId.{VarId}
-use Rattle.dk_classes.specs.Leaders.{own_leaders}
-use Rattle.dk_presence.specs.Patterns.{has}
-use Rattle.dk_report.proofs.Counts.{leader-counted}
+use Rattle.std.specs.Prelude.{◌<◌, ℕ, List, [], ◌∷◌, length}
+use Rattle.std.proofs.Common.{◌∙◌, ap, arith, subst, sym}
+use Rattle.dk_base.specs.Shapes.{var}
+use Rattle.dk_classes.specs.Leaders.{leader_at}
+use Rattle.dk_engine.specs.declared.kept.Kept.{Kept}
+use Rattle.dk_presence.specs.Patterns.{counted_by}
 use Rattle.dk_report.proofs.counting.leader_count.Goals as goal
+
+pub leader-requires : goal.leader-requires
+leader-requires c =
+    let long = c.kept.ensures.fed.readable.leaders.long in
+    let within = c.if-le.false in
+    let vars = c.vars.ensures in
+    subst (λ (kept : Kept). c.args.v.0 < length kept.leaders) (sym c.kept.ensures.kept) (omega (arith, long, within, vars))
 
 pub returns-in-Some : goal.returns-in-Some
 returns-in-Some c =
-    let v = c.args.v in
-    let kept = c.args.engine.now.kept in
     let at = c.in-Some.ensures.lookup.3 in
-    let leads : has (own_leaders kept.leaders) v ≡ true =
-    ap (λ (vars : List VarId). has vars v) (sym (c.leaders.ensures.all ∙ ap own_leaders c.classes.ensures)) ∙ (sym c.contains.ensures ∙ c.if-not-contains.false) in
-    at.1 0 ∙ (c.requires v at.0 ∙ leader-counted kept v leads)
+    let engine = c.args.engine.now in
+    at.1 0
+    ∙ (c.requires c.leader.result at.0
+    ∙ ap (λ (n : ℕ). counted_by engine.kept.held (var n ∷ [])) (c.leader.ensures ∙ ap (λ (kept : Kept). leader_at kept.leaders c.args.v.0) c.kept.ensures.kept))

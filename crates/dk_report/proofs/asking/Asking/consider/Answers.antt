@@ -14,6 +14,10 @@ pub returns-then-not-fits : goal.returns-then-not-fits
 returns-then-not-fits c =
     unfitting c.args.self.now c.args.row c.args.vars.now c.vars-infos.result.now c.vars-infos.ensures c.args.list c.in_ok-state.state c.in_ok-state.ensures.state (sym c.fits.ensures ∙ c.if-not-fits.true)
 
+pub returns-then-count-least : goal.returns-then-count-least
+returns-then-count-least c =
+    scarce c.args.self.now c.args.row c.args.vars.now c.vars-infos.result.now c.vars-infos.ensures c.args.list c.count.result c.count.ensures (cc)
+
 pub returns-then-not-keeps : goal.returns-then-not-keeps
 returns-then-not-keeps c =
     dropped c.args.self.now c.args.row c.args.vars.now c.vars-infos.result.now c.vars-infos.ensures c.args.list c.in_ok-facts.facts c.in_ok-facts.ensures.facts (sym c.keeps.ensures ∙ c.if-not-keeps.true)

@@ -10,7 +10,7 @@ use Rattle.dk_report.proofs.Listable.{IsOne, candidates_listable, narrowed_lista
 use Rattle.dk_report.proofs.Reported.{if_ok}
 use Rattle.dk_report.specs.Asked.{here_of, views_of}
 use Rattle.dk_report.specs.Keeping.{keeps}
-use Rattle.dk_report.specs.Narrowing.{candidates_left}
+use Rattle.dk_report.specs.Narrowing.{candidates_left, fixed_vars}
 use Rattle.dk_report.proofs.asking.Asking.list_candidates.Goals as goal
 
 pub returns-in-Some : goal.returns-in-Some
@@ -18,11 +18,11 @@ returns-in-Some c =
     let asking = c.args.self.now in
     let of = c.in_ok-standing.standing in
     let engine : Whole = c.in-Some.engine.now in
-    let is_narrowed = λ (list : List Candidate). list ≡ flat_map (candidates_left engine.kept asking of) (rows_of asking.here.now.here.grammar) in
+    let is_narrowed = λ (list : List Candidate). list ≡ flat_map (candidates_left engine.kept asking of (fixed_vars engine.kept of)) (rows_of asking.here.now.here.grammar) in
     record {
       instances =
           if_ok c.narrow_to.result is_narrowed (All (IsOne asking.here.now.here.grammar asking.here.now.here.infos))
-          (λ list is. subst (All (IsOne asking.here.now.here.grammar asking.here.now.here.infos)) (sym is) (narrowed_listable asking engine.kept of)) c.narrow_to.ensures;
+          (λ list is. subst (All (IsOne asking.here.now.here.grammar asking.here.now.here.infos)) (sym is) (narrowed_listable asking engine.kept of (fixed_vars engine.kept of))) c.narrow_to.ensures;
       kept =
           if_ok c.narrow_to.result is_narrowed _
           (λ list is samples parents stand show.

@@ -7,26 +7,25 @@ use Rattle.dk_template.specs.Templates.{rows_in}
 use Rattle.dk_template.specs.declared.grammar.Grammar.{Grammar}
 use Rattle.dk_template.specs.declared.grammar.RowId.{RowId}
 use Rattle.dk_report.proofs.Swept.{swept_is}
-use Rattle.dk_report.specs.Asked.{candidates_over, here_of, vars_for_row, views_of}
+use Rattle.dk_report.specs.Asked.{candidates_standing, here_of, views_of}
 use Rattle.dk_report.specs.Keeping.{keeps}
 use Rattle.dk_report.proofs.asking.Asking.sweep_all.Goals as goal
 
 pub loop-n-preserved : goal.loop-n-preserved
 loop-n-preserved c =
     let asking = c.args.self.now in
-    let F : RowId → List Candidate = λ row. candidates_over asking row (vars_for_row c.args.standing.now row) in
+    let F : RowId → List Candidate = candidates_standing asking c.args.standing.now in
     let test = c.loop-n-test.true in
     let last = c.rows-n-end.ensures in
     let row : RowId = record { 0 = c.loop-n.n + 1 } in
     let within : c.loop-n.n < rows_in asking.grammar = omega (arith, test, last) in
     c.in_ok-list.ensures
-    ∙ (ap (λ vs. c.loop-n.list ++ candidates_over asking row vs) c.of.ensures
-    ∙ (ap (λ ss. ss ++ F row) c.loop-n.invariant ∙ row_more F asking.grammar c.loop-n.n within))
+    ∙ (ap (λ ss. ss ++ F row) c.loop-n.invariant ∙ row_more F asking.grammar c.loop-n.n within)
 
 pub returns : goal.returns
 returns c =
     let asking = c.args.self.now in
-    let F : RowId → List Candidate = λ row. candidates_over asking row (vars_for_row c.args.standing.now row) in
+    let F : RowId → List Candidate = candidates_standing asking c.args.standing.now in
     let test = c.loop-n-test.false in
     let last = c.rows-n-end.ensures in
     let past : rows_in asking.grammar ≤ c.loop-n.n = omega (arith, test, last) in

@@ -1,7 +1,7 @@
 use Rattle.std.specs.Prelude.{◌≡◌, flat_map, take}
 use Rattle.dk_fits.specs.Instances.{rows_of}
-use Rattle.dk_report.specs.Asked.{candidates_over, vars_for_row}
+use Rattle.dk_report.specs.Asked.{candidates_standing}
 use Rattle.dk_report.proofs.asking.Asking.sweep_all.Given as goal
 
 abbrev pub invariant-loop-n : goal.invariant-loop-n
-invariant-loop-n l = l.list ≡ flat_map (λ row. candidates_over l.self row (vars_for_row l.standing row)) (take l.n (rows_of l.self.grammar))
+invariant-loop-n l = l.list ≡ flat_map (candidates_standing l.self l.standing) (take l.n (rows_of l.self.grammar))

@@ -7,12 +7,12 @@ use Rattle.dk_template.specs.Templates.{rows_in}
 use Rattle.dk_template.specs.declared.grammar.Grammar.{Grammar}
 use Rattle.dk_template.specs.declared.grammar.RowId.{RowId}
 use Rattle.dk_report.specs.Narrowing.{candidates_left}
-use Rattle.dk_report.proofs.asking.Asking.narrow_to.Goals as goal
+use Rattle.dk_report.proofs.asking.Asking.narrow_by.Goals as goal
 
 pub loop-n-preserved : goal.loop-n-preserved
 loop-n-preserved c =
     let asking = c.args.self.now in
-    let F : RowId → List Candidate = candidates_left c.args.engine.now.kept asking c.args.standing.now in
+    let F : RowId → List Candidate = candidates_left c.args.engine.now.kept asking c.args.standing.now c.args.fixed.now in
     let test = c.loop-n-test.true in
     let last = c.rows-n-end.ensures in
     let row : RowId = record { 0 = c.loop-n.n + 1 } in
@@ -22,7 +22,7 @@ loop-n-preserved c =
 pub returns : goal.returns
 returns c =
     let asking = c.args.self.now in
-    let F : RowId → List Candidate = candidates_left c.args.engine.now.kept asking c.args.standing.now in
+    let F : RowId → List Candidate = candidates_left c.args.engine.now.kept asking c.args.standing.now c.args.fixed.now in
     let test = c.loop-n-test.false in
     let last = c.rows-n-end.ensures in
     let past : rows_in asking.grammar ≤ c.loop-n.n = omega (arith, test, last) in
