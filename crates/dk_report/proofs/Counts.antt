@@ -88,14 +88,6 @@ walked held ascend i h within is numbers are =
         ∙ (once (has (get_or held i h).leaders v) (sum_by (λ k. cond (has k.leaders v && true) k.count 0) (take i held)) (get_or held i h).count
         ∙ sym (counted_more held (v ∷ []) i h within))
 
--- ---- leaders
--- a variable that leads its class is counted as itself
-pub leader-counted : (kept : Kept) (v : VarId) → has (own_leaders kept.leaders) v ≡ true → counted_by kept.held (v ∷ []) ≡ count_read kept (v ∷ [])
-leader-counted kept v h =
-    let led = leads_from_own kept.leaders v (contains-has (own_leaders kept.leaders) v h) in
-    let same : v ≡ leader_of kept.leaders v = ap (λ n. record { 0 = n }) (sym led.1) in
-    ap (λ (w : VarId). counted_by kept.held (w ∷ [])) same
-
 -- ---- the ways one after another
 -- no way yet
 pub none-found : (n : ℕ) (count : ℕ → ℕ) → ((v : ℕ) → count v ≡ 0) → AreFound count (replicate n (Some 0))

@@ -54,20 +54,22 @@ read-falls kept v vars i = counted-falls kept.held (leader_of kept.leaders v) (l
 partner-among : (partners : List (Option VarId)) (v : VarId) (vars there : List VarId) → IsIn v vars → partners_at partners vars ≡ Some there
     → (w : VarId) × IsIn w there × (partners_at partners (v ∷ []) ≡ Some (w ∷ []))
 partner-among partners v [] there i e = absurd i
-partner-among partners v (u ∷ vars) there i e = by (partner_at partners u) (partners_at partners vars) refl refl e i
+partner-among partners v (u ∷ vars) there i e =
+    by (partner_at partners u) (partners_at partners vars) refl refl e i (λ others among q. partner-among partners v vars others among q)
   where
     by : (o : Option VarId) (rest : Option (List VarId)) → partner_at partners u ≡ o → partners_at partners vars ≡ rest
         → option_and_then (λ w. option_map (λ more. w ∷ more) rest) o ≡ Some there → IsIn v (u ∷ vars)
+        → ((others : List VarId) → IsIn v vars → partners_at partners vars ≡ Some others → (w : VarId) × IsIn w others × (partners_at partners (v ∷ []) ≡ Some (w ∷ [])))
         → (w : VarId) × IsIn w there × (partners_at partners (v ∷ []) ≡ Some (w ∷ []))
-    by None rest p q e i = absurd (cc)
-    by (Some w) None p q e i = absurd (cc)
-    by (Some w) (Some others) p q e (inl same) =
+    by None rest p q e i behind = absurd (cc)
+    by (Some w) None p q e i behind = absurd (cc)
+    by (Some w) (Some others) p q e (inl same) behind =
         let are : w ∷ others ≡ there = cc in
         let one : Option VarId → Option (List VarId) = option_and_then (λ y. Some (y ∷ [])) in
         (w, subst (IsIn w) are (inl refl), ap (λ x. one (partner_at partners x)) same ∙ ap one p)
-    by (Some w) (Some others) p q e (inr among) =
+    by (Some w) (Some others) p q e (inr among) behind =
         let are : w ∷ others ≡ there = cc in
-        let found = partner-among partners v vars others among q in
+        let found = behind others among q in
         (found.0, subst (IsIn found.0) are (inr found.1), found.2)
 
 through-falls : (kept : Kept) (partners : List (Option VarId)) (v : VarId) (vars : List VarId) → IsIn v vars

@@ -81,12 +81,12 @@ module _ (asking : Asking) where
         let may = may_equal asking.options.now asking.found.now in
         let second = suited_vars b asking.here.now.here.infos vars in
         all_flat IsHere (λ v. equals (listed_candidates_by asking row) may v second)
-        (λ v. all_flat IsHere (λ w. if may v w then listed_candidates_by asking row (v ∷ w ∷ []) else []) (λ w. all_if (may v w) (all_listed (v ∷ w ∷ []))) second)
+        (λ v. all_flat IsHere (λ w. if may v w then listed_candidates_by asking row (v ∷ w ∷ []) else []) (λ w. all_if (v ∷ w ∷ []) (may v w) (all_listed (v ∷ w ∷ []))) second)
         (suited_vars a asking.here.now.here.infos leading)
       where
-        all_if : {vars : List VarId} (b : Bool) → All IsHere (listed_candidates_by asking row vars) → All IsHere (if b then listed_candidates_by asking row vars else [])
-        all_if true all = all
-        all_if false all = All-nil IsHere
+        all_if : (pair : List VarId) (b : Bool) → All IsHere (listed_candidates_by asking row pair) → All IsHere (if b then listed_candidates_by asking row pair else [])
+        all_if pair true all = all
+        all_if pair false all = All-nil IsHere
 
     all_standing : (standing : Standing) → All IsHere (candidates_standing asking standing row)
     all_standing standing = by (is_equality row)

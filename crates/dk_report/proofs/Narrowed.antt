@@ -2,7 +2,7 @@
 use Rattle.std.specs.Prelude.{◌≡◌, ◌<◌, ◌&&◌, ◌||◌, ◌==◌, nat_lt, ℕ, Bool, true, false, not, Contains, List, [], ◌∷◌, filter, flat_map, if◌then◌else◌, length, map, refl, slice_get, zip}
 use Rattle.std.specs.List.{AllPairs, AllZip, list_all, list_any, range_with_len}
 use Rattle.std.proofs.Common.{◌∙◌, ap, arith, get_or, inl, inr, subst, sym}
-use Rattle.std.proofs.lemmas.Bool.{and_from, and_left, and_parts, and_right, cases_Bool, eqb-false, eqb-true, false≢true, lt-ltb, not-true, or_from, or_left, or_parts, or_right}
+use Rattle.std.proofs.lemmas.Bool.{and_from, and_left, and_parts, and_right, cases_Bool, eq-eqb, eqb-false, eqb-true, false≢true, lt-ltb, not-true, or_from, or_left, or_parts, or_right}
 use Rattle.std.proofs.lemmas.List.Elements.{All-contains_itself}
 use Rattle.std.proofs.lemmas.List.Folds.{flat_map-map}
 use Rattle.dk_base.specs.declared.kinds.VarId.{VarId}
@@ -68,13 +68,19 @@ any-in-list q v (w ∷ vars) (inr i) h = or_right (q w) (list_any q vars) (any-i
 none-lacks : (infos : List VarInfo) (of : List VarId) (roles : List Role) (vars : List VarId) → suit roles infos vars ≡ true → ((v : VarId) → IsIn v vars → IsIn v of)
     → list_any (suits_none infos of) roles ≡ false
 none-lacks infos of [] vars h within = refl
-none-lacks infos of (role ∷ roles) [] h within = absurd (false≢true h)
+none-lacks infos of (role ∷ roles) [] h within =
+    let none : List VarId = [] in
+    let long = eqb-true (length none) (length (role ∷ roles)) (and_parts (length none == length (role ∷ roles)) (list_all (λ (p : Role × VarId). suits p.0 (slice_get infos p.1.0)) (zip (role ∷ roles) none)) h).0 in
+    absurd (omega (arith, long))
 none-lacks infos of (role ∷ roles) (v ∷ vars) h within =
     let fit-in = and_parts (length (v ∷ vars) == length (role ∷ roles)) (list_all (λ (p : Role × VarId). suits p.0 (slice_get infos p.1.0)) (zip (role ∷ roles) (v ∷ vars))) h in
+    let long = eqb-true (length (v ∷ vars)) (length (role ∷ roles)) fit-in.0 in
+    let rest : length vars ≡ length roles = omega (arith, long) in
     let each = and_parts (suits role (slice_get infos v.0)) (list_all (λ (p : Role × VarId). suits p.0 (slice_get infos p.1.0)) (zip roles vars)) fit-in.1 in
     let here : suits_none infos of role ≡ false = ap not (any-in-list (λ (w : VarId). suits role (slice_get infos w.0)) v of (within v (inl refl)) each.0) in
     or_from (suits_none infos of role) (list_any (suits_none infos of) roles) here
-    (none-lacks infos of roles vars (and_from (length vars == length roles) (list_all (λ (p : Role × VarId). suits p.0 (slice_get infos p.1.0)) (zip roles vars)) fit-in.0 each.1) (λ w i. within w (inr i)))
+    (none-lacks infos of roles vars (and_from (length vars == length roles) (list_all (λ (p : Role × VarId). suits p.0 (slice_get infos p.1.0)) (zip roles vars)) (eq-eqb (length vars) (length roles) rest) each.1)
+    (λ w i. within w (inr i)))
 
 -- what isn't dropped isn't implied, where that drops
 not-implied : (options : Options) (f : Facts) → options.keep_implied ≡ false → not (drops options f) ≡ true → f.implied ≡ false

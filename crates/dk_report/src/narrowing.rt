@@ -1,6 +1,6 @@
 // The candidates of a point whose samples come from one engine alone: rows of several variables are asked about only over the leaders of
 // their slots, and where all of a tuple may be constant, over the variables of which the engine keeps something.
-ghost use Rattle.std.specs.Prelude.{◌≡◌, ◌<◌, ◌^◌, ◌++◌, ◌||◌, ℕ, true, [], ◌∷◌, All, IfOk, IfSome, List, None, Some, filter, flat_map, length, map, slice_index_or};
+ghost use Rattle.std.specs.Prelude.{◌≡◌, ◌<◌, ◌^◌, ◌++◌, ◌||◌, ℕ, true, [], ◌∷◌, All, IfOk, IfSome, List, None, Some, filter, flat_map, length, map, slice_get, slice_index_or};
 ghost use Rattle.std.specs.List.{AllZip, list_any};
 ghost use Rattle.dk_base.specs.Shapes.{var};
 ghost use Rattle.dk_base.specs.declared.values.Value.{Value as SampleValue};
@@ -13,6 +13,7 @@ ghost use Rattle.dk_presence.specs.Patterns.{has};
 ghost use Rattle.dk_report.specs.Asked.{AreStanding, CanBeAsked, here_of, listed_candidates_by, views_of};
 ghost use Rattle.dk_report.specs.Keeping.{keeps};
 ghost use Rattle.dk_report.specs.Narrowing.{CanNarrow, IsSole, all_lead, brings_samples, candidates_left, candidates_of_kept, candidates_of_slots, fixed_vars, is_fixed, is_left, is_narrow, is_of_row, lacks_role, suits_none};
+ghost use Rattle.dk_template.specs.Admitted.{suits};
 ghost use Rattle.dk_template.specs.Templates.{IsRow, IsRowOf};
 
 use crate::asking::{Asking, are_distinct};
@@ -108,11 +109,18 @@ fn fixed_of(alloc: Global, known: &Constants, of: &[VarId]) -> Result<List<VarId
     Ok(list)
 }
 
-// Whether none of the variables suits the role.
+// Whether one of the variables suits the role.
+fn suits_some(role: Role, infos: &[VarInfo], of: &[VarId]) -> bool
+    ensures { result ≡ list_any (λ v. suits role (slice_get infos.now v.0)) of.now }
+{
+    of.iter().any(|v| suits(role, infos, *v))
+}
+
+// Whether none of them does.
 fn suits_none(role: Role, infos: &[VarInfo], of: &[VarId]) -> bool
     ensures { result ≡ suits_none infos.now of.now role }
 {
-    !of.iter().any(|v| suits(role, infos, *v))
+    !suits_some(role, infos, of)
 }
 
 // Whether none of the variables suits one of the roles.
