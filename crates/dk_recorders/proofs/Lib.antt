@@ -11,6 +11,8 @@ pub mod Numbers
 pub mod Groups
 pub mod Awaiting
 pub mod Chains
+pub mod Mixed
+pub mod Spaced
 pub mod Ordered
 pub mod Answering
 pub mod Sections

@@ -1,0 +1,75 @@
+-- Sample blocks of two recorders behind a history, in several orders.
+use Rattle.std.proofs.Common.{◌≡◌, ◌∷◌, [], ◌++◌, ℕ, ℤ, pos, Bool, true, false, List, None, Option, Some, codes, option_map, refl}
+use Rattle.std.specs.Result.{result_ok}
+use Rattle.dk_base.specs.Items.{int_item}
+use Rattle.dk_base.specs.Names.{unescaped}
+use Rattle.dk_base.specs.Numbers.{integer_of, whole_of}
+use Rattle.dk_base.specs.declared.kinds.Kind.TheVariants as kind
+use Rattle.dk_base.specs.declared.values.Value.{Value}
+use Rattle.dk_base.specs.declared.values.Value.TheVariants as value
+use Rattle.dk_graph.specs.Names.{place_of}
+use Rattle.dk_decl.specs.Comments.{is_comment}
+use Rattle.dk_decl.specs.Headers.{first_header, header_line}
+use Rattle.dk_decl.specs.LineWords.{begins}
+use Rattle.dk_decl.specs.declared.decls.PointDecl.{PointDecl}
+use Rattle.dk_decl.specs.declared.decls.VarDecl.{VarDecl}
+use Rattle.dk_points.specs.Names.{method_len, role_of}
+use Rattle.dk_points.specs.Table.{Point, declared_point, implicit_exit}
+use Rattle.dk_points.specs.Vars.{entry_before, entry_of}
+use Rattle.dk_trace.specs.Bodies.{body_of, is_nonce_line, nonce_of}
+use Rattle.dk_trace.specs.Marks.{marked_value, read_value}
+use Rattle.dk_trace.specs.Records.{point_named_by, sample_of, var_decls_at}
+use Rattle.dk_trace.specs.Values.{named_kind}
+use Rattle.dk_calls.specs.Origs.{orig_values, own_vars}
+use Rattle.dk_calls.specs.Records.{call_of, is_entry_at, values_at_exit}
+use Rattle.dk_calls.specs.Waiting.{enters}
+use Rattle.dk_template.specs.declared.grammar.Grammar.TheVariants.{Two}
+use Rattle.dk_blocks.specs.History.{History, base_values, effect_of, is_declaration, is_list_of_implementors}
+use Rattle.dk_turns.specs.Blocks.{Block}
+use Rattle.dk_recorders.specs.Blocks.{after_blocks}
+use Rattle.dk_recorders.proofs.Spaced.{numbered_blocks}
+
+-- ---- a history
+-- of a method whose entry and exit have a number x
+abbrev x : VarDecl
+x = record { name = codes "x"; kind = Some kind.Int; compar = record { elem = pos 1; index = pos 1 }; constant = None; constant_line = false; parents = [] }
+
+abbrev entry : PointDecl
+entry = record { name = codes "M:::ENTER"; edges = []; vars = x ∷ [] }
+
+abbrev exit : PointDecl
+exit = record { name = codes "M:::EXIT1"; edges = []; vars = x ∷ [] }
+
+-- the entry and the exit have a sample each, and an entry without a nonce waits
+abbrev before : History
+before = record {
+  table = declared_point entry ∷ implicit_exit exit ∷ declared_point exit ∷ [];
+  samples = ((value.Int (pos 7) ∷ []) ∷ []) ∷ [] ∷ ((value.Int (pos 8) ∷ value.Int (pos 7) ∷ []) ∷ []) ∷ [];
+  header = first_header;
+  calls = enters (record { point = 0; nonce = None; values = value.Int (pos 7) ∷ [] }) ∷ [];
+  grammar = Two;
+}
+
+-- ---- records
+abbrev record_of : List ℕ → List ℕ → List ℕ → Block
+record_of point nonce number = record { headers = []; body = point ∷ codes "this_invocation_nonce" ∷ nonce ∷ codes "x" ∷ number ∷ codes "1" ∷ [] }
+
+abbrev entry_with : List ℕ → List ℕ → Block
+entry_with nonce number = record_of (codes "M:::ENTER") nonce number
+
+abbrev exit_with : List ℕ → List ℕ → Block
+exit_with nonce number = record_of (codes "M:::EXIT1") nonce number
+
+-- the samples of all points behind blocks, if these are accepted
+abbrev samples_behind : Bool → List Block → Option (List (List (List Value)))
+samples_behind ignores bs = option_map (λ (h : History). h.samples) (result_ok (after_blocks ignores before (numbered_blocks 0 bs)))
+
+abbrev whole : ℕ → Value
+whole n = value.Int (pos n)
+
+-- ---- two recorders
+-- Each exit has its own number, and then that of its entry, which the other recorder doesn't take.
+one_by_one : samples_behind false (entry_with (codes "1") (codes "10") ∷ exit_with (codes "1") (codes "11") ∷ entry_with (codes "2") (codes "20") ∷ exit_with (codes "2") (codes "21") ∷ [])
+    ≡ Some (((whole 7 ∷ []) ∷ (whole 10 ∷ []) ∷ (whole 20 ∷ []) ∷ []) ∷ [] ∷ ((whole 8 ∷ whole 7 ∷ []) ∷ (whole 11 ∷ whole 10 ∷ []) ∷ (whole 21 ∷ whole 20 ∷ []) ∷ []) ∷ [])
+unfolding effect_of int_item unescaped integer_of whole_of place_of is_comment header_line begins method_len role_of entry_before entry_of body_of is_nonce_line nonce_of marked_value read_value point_named_by sample_of var_decls_at named_kind orig_values own_vars call_of is_entry_at values_at_exit base_values is_declaration is_list_of_implementors
+one_by_one = refl
