@@ -1,5 +1,5 @@
 -- Small files of recorders, byte by byte.
-use Rattle.std.proofs.Common.{◌≡◌, ◌∷◌, [], ◌++◌, ◌∙◌, ℕ, zero, suc, ℤ, pos, All, AllPairs, List, None, Option, Some, ap, arith, codes, map, nat_abs, option_map, refl, subst, sym}
+use Rattle.std.proofs.Common.{◌≡◌, ◌∷◌, [], ◌++◌, ◌∙◌, ℕ, zero, suc, ℤ, pos, false, All, AllPairs, List, None, Option, Some, ap, arith, codes, map, nat_abs, option_map, refl, subst, sym}
 use Rattle.std.proofs.lemmas.List.Elements.{All-cons, All-nil}
 use Rattle.std.specs.Result.{result_ok}
 use Rattle.dk_base.specs.Names.{unescaped}

@@ -1,4 +1,5 @@
 mod Examples
+mod Worked
 pub mod Orders
 pub mod Rounds
 pub mod Lines

@@ -67,9 +67,57 @@ samples_behind ignores bs = option_map (λ (h : History). h.samples) (result_ok 
 abbrev whole : ℕ → Value
 whole n = value.Int (pos n)
 
+-- what they are where the entry and the exit have these behind the ones before
+abbrev behind_both : List (List Value) → List (List Value) → Option (List (List (List Value)))
+behind_both entries exits = Some (((whole 7 ∷ []) ∷ entries) ∷ [] ∷ ((whole 8 ∷ whole 7 ∷ []) ∷ exits) ∷ [])
+
 -- ---- two recorders
--- Each exit has its own number, and then that of its entry, which the other recorder doesn't take.
+-- Each exit has its number, and then that of its recorder's entry.
 one_by_one : samples_behind false (entry_with (codes "1") (codes "10") ∷ exit_with (codes "1") (codes "11") ∷ entry_with (codes "2") (codes "20") ∷ exit_with (codes "2") (codes "21") ∷ [])
-    ≡ Some (((whole 7 ∷ []) ∷ (whole 10 ∷ []) ∷ (whole 20 ∷ []) ∷ []) ∷ [] ∷ ((whole 8 ∷ whole 7 ∷ []) ∷ (whole 11 ∷ whole 10 ∷ []) ∷ (whole 21 ∷ whole 20 ∷ []) ∷ []) ∷ [])
+    ≡ behind_both ((whole 10 ∷ []) ∷ (whole 20 ∷ []) ∷ []) ((whole 11 ∷ whole 10 ∷ []) ∷ (whole 21 ∷ whole 20 ∷ []) ∷ [])
 unfolding effect_of int_item unescaped integer_of whole_of place_of is_comment header_line begins method_len role_of entry_before entry_of body_of is_nonce_line nonce_of marked_value read_value point_named_by sample_of var_decls_at named_kind orig_values own_vars call_of is_entry_at values_at_exit base_values is_declaration is_list_of_implementors
 one_by_one = refl
+
+in_turns : samples_behind false (entry_with (codes "1") (codes "10") ∷ entry_with (codes "2") (codes "20") ∷ exit_with (codes "1") (codes "11") ∷ exit_with (codes "2") (codes "21") ∷ [])
+    ≡ behind_both ((whole 10 ∷ []) ∷ (whole 20 ∷ []) ∷ []) ((whole 11 ∷ whole 10 ∷ []) ∷ (whole 21 ∷ whole 20 ∷ []) ∷ [])
+unfolding effect_of int_item unescaped integer_of whole_of place_of is_comment header_line begins method_len role_of entry_before entry_of body_of is_nonce_line nonce_of marked_value read_value point_named_by sample_of var_decls_at named_kind orig_values own_vars call_of is_entry_at values_at_exit base_values is_declaration is_list_of_implementors
+in_turns = refl
+
+other_first : samples_behind false (entry_with (codes "2") (codes "20") ∷ entry_with (codes "1") (codes "10") ∷ exit_with (codes "2") (codes "21") ∷ exit_with (codes "1") (codes "11") ∷ [])
+    ≡ behind_both ((whole 20 ∷ []) ∷ (whole 10 ∷ []) ∷ []) ((whole 21 ∷ whole 20 ∷ []) ∷ (whole 11 ∷ whole 10 ∷ []) ∷ [])
+unfolding effect_of int_item unescaped integer_of whole_of place_of is_comment header_line begins method_len role_of entry_before entry_of body_of is_nonce_line nonce_of marked_value read_value point_named_by sample_of var_decls_at named_kind orig_values own_vars call_of is_entry_at values_at_exit base_values is_declaration is_list_of_implementors
+other_first = refl
+
+-- ---- an exit whose recorder has no entry for it
+-- It is refused in each order, or left out in each. It doesn't take the entry that waited before.
+refused_last : samples_behind false (entry_with (codes "1") (codes "10") ∷ exit_with (codes "1") (codes "11") ∷ exit_with (codes "2") (codes "21") ∷ [])
+    ≡ None
+unfolding effect_of int_item unescaped integer_of whole_of place_of is_comment header_line begins method_len role_of entry_before entry_of body_of is_nonce_line nonce_of marked_value read_value point_named_by sample_of var_decls_at named_kind orig_values own_vars call_of is_entry_at values_at_exit base_values is_declaration is_list_of_implementors
+refused_last = refl
+
+refused_first : samples_behind false (exit_with (codes "2") (codes "21") ∷ entry_with (codes "1") (codes "10") ∷ exit_with (codes "1") (codes "11") ∷ [])
+    ≡ None
+unfolding effect_of int_item unescaped integer_of whole_of place_of is_comment header_line begins method_len role_of entry_before entry_of body_of is_nonce_line nonce_of marked_value read_value point_named_by sample_of var_decls_at named_kind orig_values own_vars call_of is_entry_at values_at_exit base_values is_declaration is_list_of_implementors
+refused_first = refl
+
+left_out_last : samples_behind true (entry_with (codes "1") (codes "10") ∷ exit_with (codes "1") (codes "11") ∷ exit_with (codes "2") (codes "21") ∷ [])
+    ≡ behind_both ((whole 10 ∷ []) ∷ []) ((whole 11 ∷ whole 10 ∷ []) ∷ [])
+unfolding effect_of int_item unescaped integer_of whole_of place_of is_comment header_line begins method_len role_of entry_before entry_of body_of is_nonce_line nonce_of marked_value read_value point_named_by sample_of var_decls_at named_kind orig_values own_vars call_of is_entry_at values_at_exit base_values is_declaration is_list_of_implementors
+left_out_last = refl
+
+left_out_first : samples_behind true (exit_with (codes "2") (codes "21") ∷ entry_with (codes "1") (codes "10") ∷ exit_with (codes "1") (codes "11") ∷ [])
+    ≡ behind_both ((whole 10 ∷ []) ∷ []) ((whole 11 ∷ whole 10 ∷ []) ∷ [])
+unfolding effect_of int_item unescaped integer_of whole_of place_of is_comment header_line begins method_len role_of entry_before entry_of body_of is_nonce_line nonce_of marked_value read_value point_named_by sample_of var_decls_at named_kind orig_values own_vars call_of is_entry_at values_at_exit base_values is_declaration is_list_of_implementors
+left_out_first = refl
+
+-- ---- two recorders that share a nonce
+-- The entries go to other exits in another order, so a law without this premise would not hold.
+shared_by_file : samples_behind false (entry_with (codes "1") (codes "10") ∷ exit_with (codes "1") (codes "11") ∷ entry_with (codes "1") (codes "20") ∷ exit_with (codes "1") (codes "21") ∷ [])
+    ≡ behind_both ((whole 10 ∷ []) ∷ (whole 20 ∷ []) ∷ []) ((whole 11 ∷ whole 10 ∷ []) ∷ (whole 21 ∷ whole 20 ∷ []) ∷ [])
+unfolding effect_of int_item unescaped integer_of whole_of place_of is_comment header_line begins method_len role_of entry_before entry_of body_of is_nonce_line nonce_of marked_value read_value point_named_by sample_of var_decls_at named_kind orig_values own_vars call_of is_entry_at values_at_exit base_values is_declaration is_list_of_implementors
+shared_by_file = refl
+
+shared_in_turns : samples_behind false (entry_with (codes "1") (codes "10") ∷ entry_with (codes "1") (codes "20") ∷ exit_with (codes "1") (codes "11") ∷ exit_with (codes "1") (codes "21") ∷ [])
+    ≡ behind_both ((whole 10 ∷ []) ∷ (whole 20 ∷ []) ∷ []) ((whole 11 ∷ whole 20 ∷ []) ∷ (whole 21 ∷ whole 10 ∷ []) ∷ [])
+unfolding effect_of int_item unescaped integer_of whole_of place_of is_comment header_line begins method_len role_of entry_before entry_of body_of is_nonce_line nonce_of marked_value read_value point_named_by sample_of var_decls_at named_kind orig_values own_vars call_of is_entry_at values_at_exit base_values is_declaration is_list_of_implementors
+shared_in_turns = refl
