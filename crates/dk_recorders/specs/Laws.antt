@@ -60,9 +60,9 @@ history_of text = history_behind first_start false text
 abbrev pub OrderOfRecordsDoesNotMatter : Type 0
 OrderOfRecordsDoesNotMatter =
     (start : Outset) (ignores : Bool) (files : List (List ℕ)) (first second : List Block) (h : History)
-    → awaits_word start.history.header ≡ false → IsInterleaved first (map sample_blocks files) → IsInterleaved second (map sample_blocks files)
-    → history_behind start ignores (text_in_order files first) ≡ Ok h → AreRecorders h.table files
-    → ComesToAlike (history_behind start ignores (text_in_order files second)) h
+    → awaits_word start.history.header ≡ false → IsInterleaved first (map sample_blocks files)
+    → IsInterleaved second (map sample_blocks files) → history_behind start ignores (text_in_order files first) ≡ Ok h
+    → AreRecorders h.table files → ComesToAlike (history_behind start ignores (text_in_order files second)) h
 
 -- So it is of turns: if the files of recorders, without turns, are accepted, then so they are in turns, and come to an alike history.
 abbrev pub TurnsDoNotMatter : Type 0
