@@ -1,15 +1,17 @@
 -- Sample blocks of two recorders behind a history, in several orders.
-use Rattle.std.proofs.Common.{◌≡◌, ◌∷◌, [], ◌++◌, ℕ, ℤ, pos, Bool, true, false, List, None, Option, Some, codes, option_map, refl}
+use Rattle.std.proofs.Common.{◌≡◌, ◌∷◌, [], ◌++◌, ℕ, pos, Bool, true, false, All, List, None, Option, Some, codes, option_map, refl}
+use Rattle.std.proofs.lemmas.List.Elements.{All-cons, All-nil}
 use Rattle.std.specs.Result.{result_ok}
 use Rattle.dk_base.specs.Items.{int_item}
 use Rattle.dk_base.specs.Names.{unescaped}
 use Rattle.dk_base.specs.Numbers.{integer_of, whole_of}
+use Rattle.dk_base.specs.Reading.{Line}
 use Rattle.dk_base.specs.declared.kinds.Kind.TheVariants as kind
 use Rattle.dk_base.specs.declared.values.Value.{Value}
 use Rattle.dk_base.specs.declared.values.Value.TheVariants as value
 use Rattle.dk_graph.specs.Names.{place_of}
 use Rattle.dk_decl.specs.Comments.{is_comment}
-use Rattle.dk_decl.specs.Headers.{first_header, header_line}
+use Rattle.dk_decl.specs.Headers.{comparability_word, first_header, header_line}
 use Rattle.dk_decl.specs.LineWords.{begins}
 use Rattle.dk_decl.specs.declared.decls.PointDecl.{PointDecl}
 use Rattle.dk_decl.specs.declared.decls.VarDecl.{VarDecl}
@@ -26,8 +28,46 @@ use Rattle.dk_calls.specs.Waiting.{enters}
 use Rattle.dk_template.specs.declared.grammar.Grammar.TheVariants.{Two}
 use Rattle.dk_blocks.specs.History.{History, base_values, effect_of, is_declaration, is_list_of_implementors}
 use Rattle.dk_turns.specs.Blocks.{Block}
-use Rattle.dk_recorders.specs.Blocks.{after_blocks}
+use Rattle.dk_recorders.specs.Blocks.{after_blocks, content_of}
+use Rattle.dk_recorders.specs.Interleaving.{IsInterleaved}
 use Rattle.dk_recorders.proofs.Spaced.{numbered_blocks}
+
+-- ---- the contents of blocks
+abbrev line : ℕ → List ℕ → Line
+line n bytes = record { number = n; bytes = bytes }
+
+-- comments in front of the record and the numbers of the lines are left out
+without_comments : content_of first_header (record { lines = line 5 (codes "# a") ∷ line 6 (codes "P") ∷ line 7 (codes "# b") ∷ []; close = 8 })
+    ≡ record { headers = []; body = codes "P" ∷ codes "# b" ∷ [] }
+unfolding is_comment header_line begins
+without_comments = refl
+
+-- header lines in front of the record are none of it; where a word is awaited, the first line is one
+with_headers : content_of first_header (record { lines = line 1 (codes "input-language C") ∷ line 2 (codes "P") ∷ []; close = 3 })
+    ≡ record { headers = codes "input-language C" ∷ []; body = codes "P" ∷ [] }
+unfolding is_comment header_line begins
+with_headers = refl
+
+behind_word : content_of (record first_header { awaits_word = true }) (record { lines = line 1 (codes "P") ∷ line 2 (codes "Q") ∷ []; close = 3 })
+    ≡ record { headers = codes "P" ∷ []; body = codes "Q" ∷ [] }
+unfolding is_comment header_line comparability_word begins
+behind_word = refl
+
+-- ---- orders
+-- the next item is the first of one of the lists
+next_of : (front : List (List ℕ)) (item : ℕ) (rest : List ℕ) (back : List (List ℕ)) (items : List ℕ)
+    → IsInterleaved items (front ++ rest ∷ back) → IsInterleaved (item ∷ items) (front ++ (item ∷ rest) ∷ back)
+next_of front item rest back items more = (front, (rest, (back, refl, more)))
+
+none_left : All (λ list. list ≡ []) ([] ∷ [] ∷ [])
+none_left = All-cons (λ list. list ≡ []) [] ([] ∷ []) refl (All-cons (λ list. list ≡ []) [] [] refl (All-nil (λ list. list ≡ [])))
+
+-- the second list's item between those of the first
+between : IsInterleaved (1 ∷ 3 ∷ 2 ∷ []) ((1 ∷ 2 ∷ []) ∷ (3 ∷ []) ∷ [])
+between =
+    next_of [] 1 (2 ∷ []) ((3 ∷ []) ∷ []) (3 ∷ 2 ∷ [])
+    (next_of ((2 ∷ []) ∷ []) 3 [] [] (2 ∷ [])
+    (next_of [] 2 [] ([] ∷ []) [] none_left))
 
 -- ---- a history
 -- of a method whose entry and exit have a number x
