@@ -1,5 +1,5 @@
 -- Files of recorders in another order are accepted where they are in one, and come to an alike history.
-use Rattle.std.proofs.Common.{◌≡◌, ◌≢◌, ◌<◌, ℕ, Bool, false, true, All, List, [], ◌∷◌, ◌++◌, IsPermutation, Result, Ok, Err, flat_map, get_or, length, map, refl, sym, ap, ◌∙◌, subst, append_assoc, arith}
+use Rattle.std.proofs.Common.{◌≡◌, ◌≢◌, ℕ, Bool, false, true, All, List, [], ◌∷◌, ◌++◌, IsPermutation, Result, Ok, Err, flat_map, get_or, length, map, refl, sym, ap, ◌∙◌, subst, append_assoc, arith}
 use Rattle.std.proofs.lemmas.List.{map-append}
 use Rattle.std.proofs.lemmas.List.Elements.{All-append, All-cons, All-head, All-map, All-nil, All-tail, All-weaker}
 use Rattle.std.proofs.lemmas.List.Sorted.{All-permutation, IsPermutation-append_right, length_permutation}

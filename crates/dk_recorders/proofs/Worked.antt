@@ -16,7 +16,7 @@ use Rattle.dk_decl.specs.LineWords.{begins}
 use Rattle.dk_decl.specs.declared.decls.PointDecl.{PointDecl}
 use Rattle.dk_decl.specs.declared.decls.VarDecl.{VarDecl}
 use Rattle.dk_points.specs.Names.{method_len, role_of}
-use Rattle.dk_points.specs.Table.{Point, declared_point, implicit_exit}
+use Rattle.dk_points.specs.Table.{declared_point, implicit_exit}
 use Rattle.dk_points.specs.Vars.{entry_before, entry_of}
 use Rattle.dk_trace.specs.Bodies.{body_of, is_nonce_line, nonce_of}
 use Rattle.dk_trace.specs.Marks.{marked_value, read_value}
@@ -59,11 +59,14 @@ next_of : (front : List (List ℕ)) (item : ℕ) (rest : List ℕ) (back : List 
     → IsInterleaved items (front ++ rest ∷ back) → IsInterleaved (item ∷ items) (front ++ (item ∷ rest) ∷ back)
 next_of front item rest back items more = (front, (rest, (back, refl, more)))
 
-none_left : All (λ list. list ≡ []) ([] ∷ [] ∷ [])
-none_left = All-cons (λ list. list ≡ []) [] ([] ∷ []) refl (All-cons (λ list. list ≡ []) [] [] refl (All-nil (λ list. list ≡ [])))
+abbrev IsOver : List ℕ → Type 0
+IsOver items = items ≡ []
+
+none_left : All IsOver ([] ∷ [] ∷ [])
+none_left = All-cons IsOver [] ([] ∷ []) refl (All-cons IsOver [] [] refl (All-nil IsOver))
 
 -- the second list's item between those of the first
-between : IsInterleaved (1 ∷ 3 ∷ 2 ∷ []) ((1 ∷ 2 ∷ []) ∷ (3 ∷ []) ∷ [])
+between : IsInterleaved {X = ℕ} (1 ∷ 3 ∷ 2 ∷ []) ((1 ∷ 2 ∷ []) ∷ (3 ∷ []) ∷ [])
 between =
     next_of [] 1 (2 ∷ []) ((3 ∷ []) ∷ []) (3 ∷ 2 ∷ [])
     (next_of ((2 ∷ []) ∷ []) 3 [] [] (2 ∷ [])
