@@ -1,31 +1,32 @@
 -- A text as the only file of a run.
-use Rattle.std.proofs.Common.{◌≡◌, ◌+◌, ◌-◌, ℕ, false, true, List, [], ◌∷◌, ◌++◌, flat_map, length, map, Some, Result, Ok, Err, refl, sym, ap, ◌∙◌, subst}
+use Rattle.std.proofs.Common.{◌≡◌, ◌<◌, ◌+◌, ◌-◌, ℕ, Bool, false, true, List, [], ◌∷◌, ◌++◌, flat_map, length, map, Some, Result, Ok, Err, refl, sym, ap, ◌∙◌, subst}
 use Rattle.dk_base.specs.Reading.{LineFault, Reads, ◌>>=◌}
-use Rattle.dk_decl.specs.Headers.{is_implicit}
+use Rattle.dk_decl.specs.Headers.{awaits_word, is_implicit}
 use Rattle.dk_lines.specs.Left.{lined}
 use Rattle.dk_points.specs.Table.{Point}
 use Rattle.dk_blocks.specs.Blocks.{Group, Groups, Last, groups_of}
 use Rattle.dk_blocks.specs.History.{History, Taken, effect_of, file_ended, no_history}
 use Rattle.dk_blocks.specs.Reading.{after_all, after_last}
-use Rattle.dk_run.specs.Courses.{Course, course_end, course_of, course_of_files, course_of_groups, goes_on, line_limit, then_files, total_limit}
+use Rattle.dk_run.specs.Courses.{Course, Outset, course_end, course_of, course_of_files, course_of_groups, first_start, goes_on, line_limit, then_files}
 use Rattle.dk_run.specs.Files.{FileFault}
 use Rattle.dk_turns.specs.Blocks.{Block, sample_blocks}
 use Rattle.dk_turns.specs.Turns.{in_rounds, turns_of}
-use Rattle.dk_recorders.specs.Laws.{AreAlike, ComesToAlike, OrderOfRecordsDoesNotMatter, TurnsDoNotMatter, history_of}
-use Rattle.dk_recorders.specs.Recorders.{AreRecorders, text_in_order}
+use Rattle.dk_recorders.specs.Laws.{AreAlike, ComesToAlike, OrderOfBlocksDoesNotMatter, OrderOfRecordsDoesNotMatter, TurnsDoNotMatter, history_behind, history_of}
+use Rattle.dk_recorders.specs.Recorders.{AreRecorders, text_by_file, text_in_order}
 use Rattle.dk_recorders.specs.Interleaving.{IsInterleaved}
 use Rattle.dk_recorders.proofs.Telling.{order_of_own_samples}
-use Rattle.dk_recorders.proofs.Ordered.{Alike, ordered_text, read_text}
+use Rattle.dk_recorders.proofs.Mixed.{Alike, mixed_blocks}
+use Rattle.dk_recorders.proofs.Ordered.{ordered_text, read_text}
 use Rattle.dk_recorders.proofs.Rounds.{in_rounds_interleave, one_by_one_interleave}
 
-course_ends : (read : Reads Taken) (g : Groups) → (course_of_groups false read g).end ≡ after_all false read g
-course_ends read (Group ls close rest) = by (read ls (Some close)) (λ next. course_ends next rest)
+course_ends : (ignores : Bool) (read : Reads Taken) (g : Groups) → (course_of_groups ignores read g).end ≡ after_all ignores read g
+course_ends ignores read (Group ls close rest) = by (read ls (Some close)) (λ next. course_ends ignores next rest)
   where
-    by : (r : Result Taken LineFault) → ((next : Reads Taken) → (course_of_groups false next rest).end ≡ after_all false next rest)
-        → (goes_on r (λ h. course_of_groups false (effect_of false h) rest)).end ≡ (r >>= λ t. after_all false (effect_of false t.history) rest)
-    by (Ok t) more = more (effect_of false t.history)
+    by : (r : Result Taken LineFault) → ((next : Reads Taken) → (course_of_groups ignores next rest).end ≡ after_all ignores next rest)
+        → (goes_on r (λ h. course_of_groups ignores (effect_of ignores h) rest)).end ≡ (r >>= λ t. after_all ignores (effect_of ignores t.history) rest)
+    by (Ok t) more = more (effect_of ignores t.history)
     by (Err fault) more = refl
-course_ends read (Last ls end) = by (after_last read ls end)
+course_ends ignores read (Last ls end) = by (after_last read ls end)
   where
     by : (r : Result Taken LineFault) → (goes_on r (λ h. course_end (Ok h))).end ≡ (r >>= λ t. Ok t.history)
     by (Ok t) = refl
@@ -36,16 +37,18 @@ abbrev of_file : Result History LineFault → Result History FileFault
 of_file (Ok h) = Ok (file_ended h)
 of_file (Err fault) = Err (record { file = 0; line = fault.line; why = fault.why })
 
-history_is : (text : List ℕ) → history_of text ≡ of_file (read_text line_limit total_limit text)
+history_is : (start : Outset) (ignores : Bool) (text : List ℕ)
+    → history_behind start ignores text ≡ of_file (read_text ignores line_limit start.room start.history text)
 unfolding course_of
-history_is text =
-    ap (λ (r : Result History LineFault). (then_files 0 r after).end) (course_ends (effect_of false no_history) (groups_of (lined line_limit total_limit 0 true text)))
-    ∙ by (read_text line_limit total_limit text)
+history_is start ignores text =
+    ap (λ (r : Result History LineFault). (then_files 0 r after).end)
+    (course_ends ignores (effect_of ignores start.history) (groups_of (lined line_limit start.room 0 true text)))
+    ∙ by (read_text ignores line_limit start.room start.history text)
   where
     after : History → Course FileFault
-    after next = course_of_files false (total_limit - length text) (file_ended next) (0 + 1) []
+    after next = course_of_files ignores (start.room - length text) (file_ended next) (0 + 1) []
 
-    by : (r : Result History LineFault) → (then_files 0 r (λ next. course_of_files false (total_limit - length text) (file_ended next) (0 + 1) [])).end ≡ of_file r
+    by : (r : Result History LineFault) → (then_files 0 r (λ next. course_of_files ignores (start.room - length text) (file_ended next) (0 + 1) [])).end ≡ of_file r
     by (Ok h) = refl
     by (Err fault) = refl
 
@@ -58,24 +61,25 @@ ended_table : (j h : History) → file_ended j ≡ h → h.table ≡ j.table
 unfolding file_ended
 ended_table j h same = ap (λ (g : History). g.table) (sym same)
 
-ended_text : (text : List ℕ) (h j i : History) → file_ended j ≡ h → read_text line_limit total_limit text ≡ Ok i → Alike j i → ComesToAlike text h
-ended_text text h j i same read alike =
+ended_text : (start : Outset) (ignores : Bool) (text : List ℕ) (h j i : History) → file_ended j ≡ h
+    → read_text ignores line_limit start.room start.history text ≡ Ok i → Alike j i → ComesToAlike (history_behind start ignores text) h
+ended_text start ignores text h j i same read alike =
     let others : History = file_ended i in
     let alike_now : AreAlike h others = subst (λ (g : History). AreAlike g others) same (ended_alike j i alike) in
-    (others, history_is text ∙ ap of_file read, alike_now, order_of_own_samples h others alike_now)
+    (others, history_is start ignores text ∙ ap of_file read, alike_now, order_of_own_samples h others alike_now)
 
 pub order_of_records : OrderOfRecordsDoesNotMatter
-order_of_records files first second h one two e are =
-    by (read_text line_limit total_limit (text_in_order files first)) refl (sym (history_is (text_in_order files first)) ∙ e)
+order_of_records start ignores files first second h word one two e are =
+    by (read_text ignores line_limit start.room start.history (text_in_order files first)) refl (sym (history_is start ignores (text_in_order files first)) ∙ e)
   where
-    by : (r : Result History LineFault) → read_text line_limit total_limit (text_in_order files first) ≡ r → of_file r ≡ Ok h
-        → ComesToAlike (text_in_order files second) h
+    by : (r : Result History LineFault) → read_text ignores line_limit start.room start.history (text_in_order files first) ≡ r → of_file r ≡ Ok h
+        → ComesToAlike (history_behind start ignores (text_in_order files second)) h
     by (Err fault) is f = absurd (cc f)
     by (Ok j) is f =
         let same : file_ended j ≡ h = cc f in
         let now : AreRecorders j.table files = subst (λ (ps : List Point). AreRecorders ps files) (ended_table j h same) are in
-        let ordered = ordered_text line_limit total_limit files first second j one two is now in
-        ended_text (text_in_order files second) h j ordered.0 same ordered.1 ordered.2
+        let ordered = ordered_text ignores line_limit start.room start.history files first second j word one two is now in
+        ended_text start ignores (text_in_order files second) h j ordered.0 same ordered.1 ordered.2
 
 -- ---- turns
 by_file : (files : List (List ℕ)) → IsInterleaved (flat_map sample_blocks files) (map sample_blocks files)
@@ -89,8 +93,27 @@ turns_are : (n : ℕ) (files : List (List ℕ)) → text_in_order files (in_roun
 unfolding text_in_order turns_of
 turns_are n files = refl
 
-pub turns_do_not_matter : TurnsDoNotMatter
-turns_do_not_matter n files h some e are =
-    subst (λ (text : List ℕ). ComesToAlike text h) (turns_are n files)
-    (order_of_records files (flat_map sample_blocks files) (in_rounds n (map sample_blocks files)) h (by_file files)
+pub turns_behind : TurnsDoNotMatter
+turns_behind start ignores n files h word some e are =
+    subst (λ (text : List ℕ). ComesToAlike (history_behind start ignores text) h) (turns_are n files)
+    (order_of_records start ignores files (flat_map sample_blocks files) (in_rounds n (map sample_blocks files)) h word (by_file files)
     (in_rounds_interleave n (map sample_blocks files) some) e are)
+
+no_word_at_first : awaits_word first_start.history.header ≡ false
+unfolding no_history
+no_word_at_first = refl
+
+-- from no samples on, where exits without an entry are refused
+pub turns_do_not_matter : (n : ℕ) (files : List (List ℕ)) (h : History) → 0 < n → history_of (text_by_file files) ≡ Ok h → AreRecorders h.table files
+    → ComesToAlike (history_of (turns_of n files)) h
+turns_do_not_matter n files h some e are = turns_behind first_start false n files h no_word_at_first some e are
+
+-- ---- blocks
+blocks_alike : (h other : History) → Alike h other → AreAlike h other
+blocks_alike h other alike = record { table = alike.table; word = ap is_implicit alike.header; grammar = alike.grammar; samples = alike.samples }
+
+pub order_of_blocks : OrderOfBlocksDoesNotMatter
+order_of_blocks ignores before after recorders first second one two are e =
+    let here = mixed_blocks ignores before after recorders first second one two are e in
+    let alike : AreAlike after here.0 = blocks_alike after here.0 here.2 in
+    (here.0, here.1, alike, order_of_own_samples after here.0 alike)

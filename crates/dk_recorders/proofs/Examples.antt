@@ -1,5 +1,5 @@
 -- Small files of recorders, byte by byte.
-use Rattle.std.proofs.Common.{◌≡◌, ◌∷◌, [], ◌++◌, ◌∙◌, ℕ, zero, suc, ℤ, pos, All, AllPairs, List, None, Option, Some, ap, arith, codes, map, nat_abs, option_map, refl, subst, sym}
+use Rattle.std.proofs.Common.{◌≡◌, ◌∷◌, [], ◌++◌, ◌∙◌, ℕ, zero, suc, ℤ, pos, false, All, AllPairs, List, None, Option, Some, ap, arith, codes, map, nat_abs, option_map, refl, subst, sym}
 use Rattle.std.proofs.lemmas.List.Elements.{All-cons, All-nil}
 use Rattle.std.specs.Result.{result_ok}
 use Rattle.dk_base.specs.Names.{unescaped}
@@ -26,7 +26,8 @@ use Rattle.dk_calls.specs.Waiting.{Call, enters, exits}
 use Rattle.dk_blocks.specs.History.{History, effect_of, is_declaration, is_list_of_implementors, no_history}
 use Rattle.dk_turns.specs.Blocks.{Block, sample_blocks}
 use Rattle.dk_turns.specs.Turns.{turns_of}
-use Rattle.dk_recorders.specs.Recorders.{AreRecorders, HasNoHeader, HasNoLastCr, HasNonce, ShareNoNonce, call_in, calls_in, text_by_file, text_in_order}
+use Rattle.dk_recorders.specs.Blocks.{AreOfRecorders, HasNonce, IsSampleAlone, ShareNoNonce, call_in, method_and_nonce}
+use Rattle.dk_recorders.specs.Recorders.{AreRecorders, HasNoLastCr, text_by_file, text_in_order}
 use Rattle.dk_recorders.proofs.Ordered.{read_text}
 
 -- ---- a CR in front of blanks
@@ -47,7 +48,7 @@ in_turns = refl
 
 -- the names of a text's points, in their order
 abbrev names_in : List ℕ → Option (List (List ℕ))
-names_in text = option_map (λ (h : History). names h.table) (result_ok (read_text 100 100 text))
+names_in text = option_map (λ (h : History). names h.table) (result_ok (read_text false 100 100 no_history text))
 
 -- So the order of the records is that of the points, and a law without this premise would not hold.
 points_by_file : names_in (codes "DECLARE\r\nA\n\nDECLARE\r\nB\n\nDECLARE\r\nC\n") ≡ Some (codes "A" ∷ codes "B" ∷ codes "C" ∷ [])
@@ -79,7 +80,7 @@ points =
     ∷ implicit_exit (record { name = codes "M:::EXIT1"; edges = []; vars = [] })
     ∷ declared_point (record { name = codes "M:::EXIT1"; edges = []; vars = [] }) ∷ []
 
-points_declared : option_map (λ (h : History). h.table) (result_ok (read_text 100 1000 (declarations ++ declarations))) ≡ Some points
+points_declared : option_map (λ (h : History). h.table) (result_ok (read_text false 100 1000 no_history (declarations ++ declarations))) ≡ Some points
 unfolding effect_of no_history lined header_line begins is_comment is_declaration is_list_of_implementors block_decl ppt_of ppt_lines point_name declared has_many_vars role_of method_len place_of unescaped vars_of nodes edges has_cycle links same_decl kept_edges orig_vars entry_before depth_of operand
 points_declared = refl
 
@@ -89,32 +90,29 @@ entry_block nonce = record { headers = []; body = codes "M:::ENTER" ∷ codes "t
 abbrev exit_block : List ℕ → Block
 exit_block nonce = record { headers = []; body = codes "M:::EXIT1" ∷ codes "this_invocation_nonce" ∷ nonce ∷ [] }
 
-abbrev Samples : List ℕ → Type 0
-Samples nonce = sample_blocks (recorder nonce) ≡ entry_block nonce ∷ exit_block nonce ∷ []
+-- the sample blocks of a recorder
+abbrev samples_with : List ℕ → List Block
+samples_with nonce = entry_block nonce ∷ exit_block nonce ∷ []
 
-first_samples : Samples (codes "1")
+both_samples : map sample_blocks both ≡ samples_with (codes "1") ∷ samples_with (codes "2") ∷ []
 unfolding header_line begins is_comment is_declaration is_list_of_implementors
-first_samples = refl
-
-second_samples : Samples (codes "2")
-unfolding header_line begins is_comment is_declaration is_list_of_implementors
-second_samples = refl
+both_samples = refl
 
 abbrev entered : ℤ → Call
 entered n = enters (record { point = 0; nonce = Some n; values = [] })
 
 -- the calls of a recorder
-module _ (nonce : List ℕ) (n : ℤ) where
-  abbrev Calls : Type 0
-  Calls = map (call_in points) (entry_block nonce ∷ exit_block nonce ∷ []) ≡ entered n ∷ exits 0 (Some n) ∷ []
+record Calls (nonce : List ℕ) (n : ℤ) : Type 0 where
+  entry : call_in points (entry_block nonce) ≡ entered n
+  exit : call_in points (exit_block nonce) ≡ exits 0 (Some n)
 
 first_calls : Calls (codes "1") (pos 1)
 unfolding place_of unescaped role_of method_len vars_of sample_of point_named_by var_decls_at body_of is_nonce_line nonce_of integer_of whole_of call_of entry_of entry_before is_entry_at
-first_calls = refl
+first_calls = record { entry = refl; exit = refl }
 
 second_calls : Calls (codes "2") (pos 2)
 unfolding place_of unescaped role_of method_len vars_of sample_of point_named_by var_decls_at body_of is_nonce_line nonce_of integer_of whole_of call_of entry_of entry_before is_entry_at
-second_calls = refl
+second_calls = record { entry = refl; exit = refl }
 
 -- they are recorders
 two : {X : Type 0} (P : X → Type 0) (a b : X) → P a → P b → All P (a ∷ b ∷ [])
@@ -129,7 +127,7 @@ two_apart R a b r (suc i) j d lt within = absurd (omega (arith, lt, within))
 abbrev IsWhole : List ℕ → Type 0
 IsWhole line = without_cr line ≡ line
 
-no_last_cr : (nonce : List ℕ) → IsWhole nonce → All HasNoLastCr (entry_block nonce ∷ exit_block nonce ∷ [])
+no_last_cr : (nonce : List ℕ) → IsWhole nonce → All HasNoLastCr (samples_with nonce)
 no_last_cr nonce e =
     let behind : All IsWhole (codes "this_invocation_nonce" ∷ nonce ∷ []) = two IsWhole (codes "this_invocation_nonce") nonce refl e in
     two HasNoLastCr (entry_block nonce) (exit_block nonce)
@@ -143,30 +141,44 @@ nonce_in (Some key) = nat_abs key.1
 other_nonce : (key : ℕ × ℤ) → Some (0, pos 1) ≡ Some key → Some (0, pos 2) ≡ Some key → ⊥
 other_nonce key p q = let e : 1 ≡ 2 = ap nonce_in (p ∙ sym q) in absurd (omega (arith, e))
 
-apart_calls : All (λ a. All (ShareNoNonce a) (entered (pos 2) ∷ exits 0 (Some (pos 2)) ∷ [])) (entered (pos 1) ∷ exits 0 (Some (pos 1)) ∷ [])
-apart_calls =
-    two (λ a. All (ShareNoNonce a) (entered (pos 2) ∷ exits 0 (Some (pos 2)) ∷ [])) (entered (pos 1)) (exits 0 (Some (pos 1)))
-    (two (ShareNoNonce (entered (pos 1))) (entered (pos 2)) (exits 0 (Some (pos 2))) other_nonce other_nonce)
-    (two (ShareNoNonce (exits 0 (Some (pos 1)))) (entered (pos 2)) (exits 0 (Some (pos 2))) other_nonce other_nonce)
+sample_alone : (nonce : List ℕ) → All IsSampleAlone (samples_with nonce)
+unfolding is_declaration is_list_of_implementors
+sample_alone nonce =
+    two IsSampleAlone (entry_block nonce) (exit_block nonce) (record { sample = refl; no_headers = refl }) (record { sample = refl; no_headers = refl })
 
-calls_are : (nonce : List ℕ) (n : ℤ) → Samples nonce → Calls nonce n → calls_in points (recorder nonce) ≡ entered n ∷ exits 0 (Some n) ∷ []
-calls_are nonce n samples calls = ap (λ (bs : List Block). map (call_in points) bs) samples ∙ calls
+with_nonces : (nonce : List ℕ) (n : ℤ) → Calls nonce n → All (λ b. HasNonce (call_in points b)) (samples_with nonce)
+with_nonces nonce n calls =
+    two (λ b. HasNonce (call_in points b)) (entry_block nonce) (exit_block nonce) (subst HasNonce (sym calls.entry) refl) (subst HasNonce (sym calls.exit) refl)
 
-with_nonces : (nonce : List ℕ) (n : ℤ) → Samples nonce → Calls nonce n → All HasNonce (calls_in points (recorder nonce))
-with_nonces nonce n samples calls =
-    subst (All HasNonce) (sym (calls_are nonce n samples calls)) (two HasNonce (entered n) (exits 0 (Some n)) refl refl)
+apart_by : (b c : Block) → method_and_nonce (call_in points b) ≡ Some (0, pos 1) → method_and_nonce (call_in points c) ≡ Some (0, pos 2)
+    → ShareNoNonce (call_in points b) (call_in points c)
+apart_by b c one other key p q = other_nonce key (sym one ∙ p) (sym other ∙ q)
+
+apart_from : (b : Block) → method_and_nonce (call_in points b) ≡ Some (0, pos 1) → All (λ c. ShareNoNonce (call_in points b) (call_in points c)) (samples_with (codes "2"))
+apart_from b one =
+    two (λ c. ShareNoNonce (call_in points b) (call_in points c)) (entry_block (codes "2")) (exit_block (codes "2"))
+    (apart_by b (entry_block (codes "2")) one (ap method_and_nonce second_calls.entry))
+    (apart_by b (exit_block (codes "2")) one (ap method_and_nonce second_calls.exit))
+
+samples_are_of_recorders : AreOfRecorders points (samples_with (codes "1") ∷ samples_with (codes "2") ∷ [])
+samples_are_of_recorders = record {
+  alone = two (All IsSampleAlone) (samples_with (codes "1")) (samples_with (codes "2")) (sample_alone (codes "1")) (sample_alone (codes "2"));
+  nonces = two (All (λ b. HasNonce (call_in points b))) (samples_with (codes "1")) (samples_with (codes "2"))
+      (with_nonces (codes "1") (pos 1) first_calls) (with_nonces (codes "2") (pos 2) second_calls);
+  apart = two_apart (λ blocks others. All (λ b. All (λ c. ShareNoNonce (call_in points b) (call_in points c)) others) blocks) (samples_with (codes "1")) (samples_with (codes "2"))
+      (two (λ b. All (λ c. ShareNoNonce (call_in points b) (call_in points c)) (samples_with (codes "2"))) (entry_block (codes "1")) (exit_block (codes "1"))
+      (apart_from (entry_block (codes "1")) (ap method_and_nonce first_calls.entry))
+      (apart_from (exit_block (codes "1")) (ap method_and_nonce first_calls.exit)));
+}
+
+both_whole : All (λ file. All HasNoLastCr (sample_blocks file)) both
+unfolding header_line begins is_comment is_declaration is_list_of_implementors
+both_whole =
+    two (λ file. All HasNoLastCr (sample_blocks file)) (recorder (codes "1")) (recorder (codes "2"))
+    (no_last_cr (codes "1") refl) (no_last_cr (codes "2") refl)
 
 both_are_recorders : AreRecorders points both
 both_are_recorders = record {
-  no_headers = two (λ file. All HasNoHeader (sample_blocks file)) (recorder (codes "1")) (recorder (codes "2"))
-      (subst (All HasNoHeader) (sym first_samples) (two HasNoHeader (entry_block (codes "1")) (exit_block (codes "1")) refl refl))
-      (subst (All HasNoHeader) (sym second_samples) (two HasNoHeader (entry_block (codes "2")) (exit_block (codes "2")) refl refl));
-  no_last_cr = two (λ file. All HasNoLastCr (sample_blocks file)) (recorder (codes "1")) (recorder (codes "2"))
-      (subst (All HasNoLastCr) (sym first_samples) (no_last_cr (codes "1") refl))
-      (subst (All HasNoLastCr) (sym second_samples) (no_last_cr (codes "2") refl));
-  nonces = two (λ file. All HasNonce (calls_in points file)) (recorder (codes "1")) (recorder (codes "2"))
-      (with_nonces (codes "1") (pos 1) first_samples first_calls) (with_nonces (codes "2") (pos 2) second_samples second_calls);
-  apart = two_apart (λ file another. All (λ a. All (ShareNoNonce a) (calls_in points another)) (calls_in points file)) (recorder (codes "1")) (recorder (codes "2"))
-      (subst (λ (cs : List Call). All (λ a. All (ShareNoNonce a) (calls_in points (recorder (codes "2")))) cs) (sym (calls_are (codes "1") (pos 1) first_samples first_calls))
-      (subst (λ (ds : List Call). All (λ a. All (ShareNoNonce a) ds) (entered (pos 1) ∷ exits 0 (Some (pos 1)) ∷ [])) (sym (calls_are (codes "2") (pos 2) second_samples second_calls)) apart_calls));
+  blocks = subst (AreOfRecorders points) (sym both_samples) samples_are_of_recorders;
+  no_last_cr = both_whole;
 }

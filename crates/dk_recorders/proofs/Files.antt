@@ -10,7 +10,6 @@ use Rattle.dk_decl.specs.Headers.{first_header, header_line}
 use Rattle.dk_decl.specs.declared.header.Header.{Header}
 use Rattle.dk_blocks.specs.Blocks.{Group, Groups, Last, groups_of, onto_group}
 use Rattle.dk_turns.specs.Blocks.{Block, at_line, begins_sample, behind_header, block_behind, block_of, blocks_of, has_lines, has_sample, in_force, lines_of_block, lines_of_groups, plain_blocks, runs_of, sample_blocks}
-use Rattle.dk_recorders.specs.Recorders.{HasNoHeader}
 use Rattle.dk_recorders.proofs.Lines.{HasNoLf}
 use Rattle.dk_recorders.proofs.Trimming.{lines_have_no_lf, trimmed_no_lf, trimmed_twice}
 
@@ -77,6 +76,10 @@ pub samples_taken : (file : List ℕ) → All LinesTaken (sample_blocks file)
 samples_taken file = All-filter has_sample LinesTaken (blocks_of file) (blocks_taken file)
 
 -- ---- the first line of a record
+-- no header line stands in front of the record
+abbrev pub HasNoHeader : Block → Type 0
+HasNoHeader b = b.headers ≡ []
+
 -- a record begins at the line, which is neither a comment nor a header line
 pub record Begins (b : Block) : Type 0 where
   pub first : List ℕ

@@ -1,4 +1,5 @@
 mod Examples
+mod Worked
 pub mod Orders
 pub mod Rounds
 pub mod Lines
@@ -11,6 +12,8 @@ pub mod Numbers
 pub mod Groups
 pub mod Awaiting
 pub mod Chains
+pub mod Mixed
+pub mod Spaced
 pub mod Ordered
 pub mod Answering
 pub mod Sections

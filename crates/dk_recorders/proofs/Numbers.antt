@@ -17,7 +17,7 @@ use Rattle.dk_trace.specs.Bodies.{Body, body_of, body_with, from_nonce, is_nonce
 use Rattle.dk_trace.specs.Marks.{marked_value, no_value, read_value}
 use Rattle.dk_trace.specs.Records.{Sample, declared_place, point_named_by, sample_of, sample_with, var_decls_at}
 use Rattle.dk_trace.specs.Values.{from_name, known_values, named_kind, record_values, then_values}
-use Rattle.dk_recorders.specs.Recorders.{unnumbered}
+use Rattle.dk_recorders.specs.Blocks.{unnumbered}
 
 -- the lines without their numbers
 abbrev pub plain : List Line → List Line

@@ -6,7 +6,7 @@ use Rattle.std.specs.Ordering.{int_eq}
 use Rattle.dk_calls.specs.Nonces.{same_key}
 use Rattle.dk_calls.specs.Waiting.{Call, Entry, enters, entry_of_call, exits, is_of, other, same_nonce, waiting_of}
 use Rattle.dk_calls.proofs.Waits.{left_nonce}
-use Rattle.dk_recorders.specs.Recorders.{HasNonce, ShareNoNonce, method_and_nonce}
+use Rattle.dk_recorders.specs.Blocks.{HasNonce, ShareNoNonce, method_and_nonce}
 
 -- the entries of this method with this nonce that wait, the latest first
 abbrev pub queue : ℕ → ℤ → List Call → List Entry

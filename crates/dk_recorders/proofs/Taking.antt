@@ -1,12 +1,11 @@
 -- What records do, one after another: to the own samples, and to the calls of their file.
-use Rattle.std.proofs.Common.{◌≡◌, ◌<◌, ◌≤◌, ◌&&◌, ◌==◌, inl, inr, ℕ, Bool, true, false, List, [], ◌∷◌, ◌++◌, length, get_or, is_some, nat_lt, Option, Some, None, option_and_then, option_map, Result, Ok, Err, IsPermutation, refl, sym, ap, ◌∙◌, subst, append_assoc, append-nil, arith, if◌then◌else◌}
+use Rattle.std.proofs.Common.{◌≡◌, ◌<◌, ◌≤◌, ◌&&◌, ◌==◌, inl, inr, ℕ, Bool, true, false, List, [], ◌∷◌, ◌++◌, length, get_or, is_some, nat_lt, Option, Some, None, option_and_then, Result, Ok, Err, IsPermutation, refl, sym, ap, ◌∙◌, subst, append_assoc, append-nil, arith, if◌then◌else◌}
 use Rattle.std.proofs.lemmas.Bool.{cases_eq, cases_lt}
 use Rattle.std.proofs.lemmas.List.{get_or-set_other, length-set, set_past}
 use Rattle.std.proofs.lemmas.Grind.{get_or-set_at}
 use Rattle.std.proofs.lemmas.Bool.Decides.{nat_tests}
 use Rattle.std.proofs.lemmas.List.Sorted.{IsPermutation-append_comm, IsPermutation-append_left, IsPermutation-append_right, IsPermutation-refl, IsPermutation-sym, IsPermutation-trans}
 use Rattle.std.specs.Option.{option_map_or}
-use Rattle.std.specs.Result.{result_ok}
 use Rattle.dk_base.specs.Reading.{LineFault, ◌>>=◌}
 use Rattle.dk_base.specs.declared.values.Value.{Value}
 use Rattle.dk_base.specs.declared.why.Why.TheVariants.{UnmatchedExit}
@@ -18,7 +17,7 @@ use Rattle.dk_calls.specs.Records.{call_of, values_at_exit, with_entry}
 use Rattle.dk_calls.specs.Waiting.{Call, Entry, entry_of_call, other}
 use Rattle.dk_blocks.specs.History.{base_values, own_samples_with}
 use Rattle.dk_turns.specs.Blocks.{Block}
-use Rattle.dk_recorders.specs.Recorders.{HasNonce, ShareNoNonce, call_in, sample_in}
+use Rattle.dk_recorders.specs.Blocks.{HasNonce, ShareNoNonce, call_in, sample_in}
 use Rattle.dk_recorders.proofs.Orders.{Both, run}
 use Rattle.dk_recorders.proofs.Queues.{SameQueues, behind_alike, exchanged, taken_alike, taken_anyway}
 
@@ -109,16 +108,21 @@ either_first own p r values others q =
     (IsPermutation-append_right (get_or own q []) (one ++ two) (two ++ one) (IsPermutation-append_comm one two)))
 
 -- ---- a record
--- with these values of its base variables, if it has them
-abbrev took : List Point → Kept → Sample → Result (List Value) LineFault → Option Kept
-took ps k s r = option_map (λ values. record { own = own_samples_with k.own s.point values; calls = call_of ps s ∷ k.calls }) (result_ok r)
+-- with the values of a record's base variables
+abbrev with_sample : List Point → Kept → Sample → List Value → Kept
+with_sample ps k s values = record { own = own_samples_with k.own s.point values; calls = call_of ps s ∷ k.calls }
 
-abbrev pub take_sample : List Point → Kept → Sample → Option Kept
-take_sample ps k s = took ps k s (base_values ps s k.calls)
+-- with them, if it has them; else it is refused, or changes nothing where exits without an entry are left out
+abbrev pub took : Bool → List Point → Kept → Sample → Result (List Value) LineFault → Option Kept
+took ignores ps k s (Ok values) = Some (with_sample ps k s values)
+took ignores ps k s (Err unmatched) = if ignores then Some k else None
+
+abbrev pub take_sample : Bool → List Point → Kept → Sample → Option Kept
+take_sample ignores ps k s = took ignores ps k s (base_values ps s k.calls)
 
 -- what a sample block does
-abbrev pub step : List Point → Kept → Block → Option Kept
-step ps k b = option_and_then (take_sample ps k) (sample_in ps b.body)
+abbrev pub step : Bool → List Point → Kept → Block → Option Kept
+step ignores ps k b = option_and_then (take_sample ignores ps k) (sample_in ps b.body)
 
 base_by : (ps : List Point) (s : Sample) (calls others : List Call) → entry_of_call (call_of ps s) calls ≡ entry_of_call (call_of ps s) others
     → base_values ps s calls ≡ base_values ps s others
@@ -126,28 +130,34 @@ unfolding base_values values_at_exit
 base_by ps s calls others same =
     ap (λ (o : Option Entry). if is_some (entry_of ps s.point) then (or_refused UnmatchedExit s.line o >>= λ w. Ok (with_entry ps s w)) else Ok s.values) same
 
-pub step_alike : (ps : List Point) (k j : Kept) (b : Block) → Like k j → HasNonce (call_in ps b) → Both Like (step ps k b) (step ps j b)
-step_alike ps k j b like has = by (sample_in ps b.body) has
+pub step_alike : (ignores : Bool) (ps : List Point) (k j : Kept) (b : Block) → Like k j → HasNonce (call_in ps b)
+    → Both Like (step ignores ps k b) (step ignores ps j b)
+step_alike ignores ps k j b like has = by (sample_in ps b.body) has
   where
-    taken : (s : Sample) → HasNonce (call_of ps s) → (r : Result (List Value) LineFault) → Both Like (took ps k s r) (took ps j s r)
-    taken s nonce (Err e) = tt
+    left_out : (i : Bool) → Both Like (if i then Some k else None) (if i then Some j else None)
+    left_out true = like
+    left_out false = tt
+
+    taken : (s : Sample) → HasNonce (call_of ps s) → (r : Result (List Value) LineFault) → Both Like (took ignores ps k s r) (took ignores ps j s r)
+    taken s nonce (Err e) = left_out ignores
     taken s nonce (Ok values) = record {
       many = length-set j.own s.point (get_or j.own s.point [] ++ values ∷ []) ∙ like.many ∙ sym (length-set k.own s.point (get_or k.own s.point [] ++ values ∷ []));
       own = more_alike k.own j.own s.point values like.many like.own;
       queues = behind_alike (call_of ps s) k.calls j.calls nonce like.queues;
     }
 
-    by : (o : Option Sample) → HasNonce (option_map_or (call_of ps) o other) → Both Like (option_and_then (take_sample ps k) o) (option_and_then (take_sample ps j) o)
+    by : (o : Option Sample) → HasNonce (option_map_or (call_of ps) o other)
+        → Both Like (option_and_then (take_sample ignores ps k) o) (option_and_then (take_sample ignores ps j) o)
     by None nonce = tt
     by (Some s) nonce =
-        subst (λ (r : Result (List Value) LineFault). Both Like (took ps k s (base_values ps s k.calls)) (took ps j s r))
+        subst (λ (r : Result (List Value) LineFault). Both Like (took ignores ps k s (base_values ps s k.calls)) (took ignores ps j s r))
         (base_by ps s k.calls j.calls (taken_alike (call_of ps s) k.calls j.calls nonce like.queues))
         (taken s nonce (base_values ps s k.calls))
 
 -- ---- two records of different recorders
 -- one after the other
-abbrev two : List Point → Kept → Option Sample → Option Sample → Option Kept
-two ps k o u = option_and_then (λ j. option_and_then (λ i. Some i) (option_and_then (take_sample ps j) u)) (option_and_then (take_sample ps k) o)
+abbrev two : Bool → List Point → Kept → Option Sample → Option Sample → Option Kept
+two ignores ps k o u = option_and_then (λ j. option_and_then (λ i. Some i) (option_and_then (take_sample ignores ps j) u)) (option_and_then (take_sample ignores ps k) o)
 
 none_behind : (o : Option Kept) → Both Like None (option_and_then (λ (j : Kept). None) o)
 none_behind None = tt
@@ -157,48 +167,61 @@ none_before : (o : Option Kept) → Both Like (option_and_then (λ (j : Kept). N
 none_before None = tt
 none_before (Some j) = tt
 
+-- a record behind another, where its base variables have these values
+abbrev behind : Bool → List Point → Sample → Result (List Value) LineFault → Kept → Option Kept
+behind ignores ps u r j = option_and_then (λ i. Some i) (took ignores ps j u r)
+
+-- a record has the same values behind one that lets its entry alone
+same_behind : (ignores : Bool) (ps : List Point) (k : Kept) (s u : Sample) → base_values ps u (call_of ps s ∷ k.calls) ≡ base_values ps u k.calls
+    → (r : Result (List Value) LineFault)
+    → option_and_then (λ j. behind ignores ps u (base_values ps u j.calls) j) (took ignores ps k s r)
+    ≡ option_and_then (behind ignores ps u (base_values ps u k.calls)) (took ignores ps k s r)
+same_behind ignores ps k s u same (Ok x) = ap (λ (r : Result (List Value) LineFault). behind ignores ps u r (with_sample ps k s x)) same
+same_behind true ps k s u same (Err e) = refl
+same_behind false ps k s u same (Err e) = refl
+
 module _ (ps : List Point) (k : Kept) (s u : Sample) (has_s : HasNonce (call_of ps s)) (has_u : HasNonce (call_of ps u))
     (apart : ShareNoNonce (call_of ps s) (call_of ps u)) where
-  -- what each of the two has behind the other
-  by_values : (r q : Result (List Value) LineFault) → base_values ps s (call_of ps u ∷ k.calls) ≡ r → base_values ps u (call_of ps s ∷ k.calls) ≡ q
-      → Both Like (option_and_then (λ j. option_and_then (λ i. Some i) (take_sample ps j u)) (took ps k s r))
-      (option_and_then (λ j. option_and_then (λ i. Some i) (take_sample ps j s)) (took ps k u q))
-  by_values (Err e) (Err d) f g = tt
-  by_values (Err e) (Ok y) f g =
-      let j : Kept = record { own = own_samples_with k.own u.point y; calls = call_of ps u ∷ k.calls } in
-      subst (λ (r : Result (List Value) LineFault). Both Like None (option_and_then (λ i. Some i) (took ps j s r))) (sym f) tt
-  by_values (Ok x) (Err d) f g =
-      let j : Kept = record { own = own_samples_with k.own s.point x; calls = call_of ps s ∷ k.calls } in
-      subst (λ (r : Result (List Value) LineFault). Both Like (option_and_then (λ i. Some i) (took ps j u r)) None) (sym g) tt
-  by_values (Ok x) (Ok y) f g =
-      let j : Kept = record { own = own_samples_with k.own s.point x; calls = call_of ps s ∷ k.calls } in
-      let i : Kept = record { own = own_samples_with k.own u.point y; calls = call_of ps u ∷ k.calls } in
-      let like : Like (record { own = own_samples_with j.own u.point y; calls = call_of ps u ∷ j.calls }) (record { own = own_samples_with i.own s.point x; calls = call_of ps s ∷ i.calls }) =
-      record {
-        many =
-            length-set i.own s.point (get_or i.own s.point [] ++ x ∷ [])
-            ∙ length-set k.own u.point (get_or k.own u.point [] ++ y ∷ [])
-            ∙ sym (length-set k.own s.point (get_or k.own s.point [] ++ x ∷ []))
-            ∙ sym (length-set j.own u.point (get_or j.own u.point [] ++ y ∷ []));
-        own = either_first k.own s.point u.point x y;
-        queues = exchanged (call_of ps s) (call_of ps u) k.calls has_s has_u apart;
-      } in
-      subst (λ (r : Result (List Value) LineFault). Both Like (option_and_then (λ h. Some h) (took ps j u r)) (option_and_then (λ h. Some h) (took ps i s (base_values ps s i.calls)))) (sym g)
-      (subst (λ (r : Result (List Value) LineFault). Both Like (option_and_then (λ h. Some h) (took ps j u (Ok y))) (option_and_then (λ h. Some h) (took ps i s r))) (sym f) like)
+  both_taken : (x y : List Value) → Like (with_sample ps (with_sample ps k s x) u y) (with_sample ps (with_sample ps k u y) s x)
+  both_taken x y = record {
+    many =
+        length-set (own_samples_with k.own u.point y) s.point (get_or (own_samples_with k.own u.point y) s.point [] ++ x ∷ [])
+        ∙ length-set k.own u.point (get_or k.own u.point [] ++ y ∷ [])
+        ∙ sym (length-set k.own s.point (get_or k.own s.point [] ++ x ∷ []))
+        ∙ sym (length-set (own_samples_with k.own s.point x) u.point (get_or (own_samples_with k.own s.point x) u.point [] ++ y ∷ []));
+    own = either_first k.own s.point u.point x y;
+    queues = exchanged (call_of ps s) (call_of ps u) k.calls has_s has_u apart;
+  }
 
-  either_way : ShareNoNonce (call_of ps u) (call_of ps s) → Both Like (two ps k (Some s) (Some u)) (two ps k (Some u) (Some s))
-  either_way back =
-      by_values (base_values ps s k.calls) (base_values ps u k.calls)
-      (base_by ps s (call_of ps u ∷ k.calls) k.calls (taken_anyway (call_of ps s) (call_of ps u) k.calls has_s has_u apart))
-      (base_by ps u (call_of ps s ∷ k.calls) k.calls (taken_anyway (call_of ps u) (call_of ps s) k.calls has_u has_s back))
+  -- each is taken, or left out, or refused, whichever comes first
+  by_values : (ignores : Bool) (r q : Result (List Value) LineFault)
+      → Both Like (option_and_then (behind ignores ps u q) (took ignores ps k s r)) (option_and_then (behind ignores ps s r) (took ignores ps k u q))
+  by_values ignores (Ok x) (Ok y) = both_taken x y
+  by_values true (Ok x) (Err d) = like_refl (with_sample ps k s x)
+  by_values false (Ok x) (Err d) = tt
+  by_values true (Err e) (Ok y) = like_refl (with_sample ps k u y)
+  by_values false (Err e) (Ok y) = tt
+  by_values true (Err e) (Err d) = like_refl k
+  by_values false (Err e) (Err d) = tt
 
-pub step_exchanged : (ps : List Point) (k : Kept) (a b : Block) → HasNonce (call_in ps a) → HasNonce (call_in ps b) → ShareNoNonce (call_in ps a) (call_in ps b)
-    → Both Like (run (step ps) k (a ∷ b ∷ [])) (run (step ps) k (b ∷ a ∷ []))
-step_exchanged ps k a b has_a has_b apart = by (sample_in ps a.body) (sample_in ps b.body) has_a has_b apart
+  either_way : (ignores : Bool) → ShareNoNonce (call_of ps u) (call_of ps s) → Both Like (two ignores ps k (Some s) (Some u)) (two ignores ps k (Some u) (Some s))
+  either_way ignores back =
+      let behind_s : base_values ps u (call_of ps s ∷ k.calls) ≡ base_values ps u k.calls =
+      base_by ps u (call_of ps s ∷ k.calls) k.calls (taken_anyway (call_of ps u) (call_of ps s) k.calls has_u has_s back) in
+      let behind_u : base_values ps s (call_of ps u ∷ k.calls) ≡ base_values ps s k.calls =
+      base_by ps s (call_of ps u ∷ k.calls) k.calls (taken_anyway (call_of ps s) (call_of ps u) k.calls has_s has_u apart) in
+      subst (λ (o : Option Kept). Both Like o (two ignores ps k (Some u) (Some s))) (sym (same_behind ignores ps k s u behind_s (base_values ps s k.calls)))
+      (subst (Both Like (option_and_then (behind ignores ps u (base_values ps u k.calls)) (take_sample ignores ps k s)))
+      (sym (same_behind ignores ps k u s behind_u (base_values ps u k.calls)))
+      (by_values ignores (base_values ps s k.calls) (base_values ps u k.calls)))
+
+pub step_exchanged : (ignores : Bool) (ps : List Point) (k : Kept) (a b : Block) → HasNonce (call_in ps a) → HasNonce (call_in ps b)
+    → ShareNoNonce (call_in ps a) (call_in ps b) → Both Like (run (step ignores ps) k (a ∷ b ∷ [])) (run (step ignores ps) k (b ∷ a ∷ []))
+step_exchanged ignores ps k a b has_a has_b apart = by (sample_in ps a.body) (sample_in ps b.body) has_a has_b apart
   where
     by : (o u : Option Sample) → HasNonce (option_map_or (call_of ps) o other) → HasNonce (option_map_or (call_of ps) u other)
-        → ShareNoNonce (option_map_or (call_of ps) o other) (option_map_or (call_of ps) u other) → Both Like (two ps k o u) (two ps k u o)
+        → ShareNoNonce (option_map_or (call_of ps) o other) (option_map_or (call_of ps) u other) → Both Like (two ignores ps k o u) (two ignores ps k u o)
     by None None has_o has_u away = tt
-    by None (Some u) has_o has_u away = none_behind (take_sample ps k u)
-    by (Some s) None has_o has_u away = none_before (take_sample ps k s)
-    by (Some s) (Some u) has_o has_u away = either_way ps k s u has_o has_u away (λ key e f. away key f e)
+    by None (Some u) has_o has_u away = none_behind (take_sample ignores ps k u)
+    by (Some s) None has_o has_u away = none_before (take_sample ignores ps k s)
+    by (Some s) (Some u) has_o has_u away = either_way ps k s u has_o has_u away ignores (λ key e f. away key f e)

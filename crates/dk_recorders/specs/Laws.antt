@@ -4,14 +4,15 @@ use Rattle.std.specs.List.Sorted.{IsPermutation}
 use Rattle.dk_blocks.specs.History.{History}
 use Rattle.dk_core.specs.Resuming.{state_file}
 use Rattle.dk_core.specs.Sections.{report_of}
-use Rattle.dk_decl.specs.Headers.{is_implicit}
+use Rattle.dk_decl.specs.Headers.{awaits_word, is_implicit}
 use Rattle.dk_report.specs.declared.options.Options.{Options}
-use Rattle.dk_run.specs.Courses.{course_of, first_start}
+use Rattle.dk_run.specs.Courses.{Outset, course_of, first_start}
 use Rattle.dk_run.specs.Files.{FileFault, ended_file}
 use Rattle.dk_run.specs.Outputs.{Output, output_of}
 use Rattle.dk_turns.specs.Blocks.{Block, sample_blocks}
 use Rattle.dk_turns.specs.Turns.{turns_of}
 use Rattle.dk_words.specs.declared.command.Command.{Command}
+use Rattle.dk_recorders.specs.Blocks.{AreOfRecorders, EndedBlock, after_blocks, contents_of}
 use Rattle.dk_recorders.specs.Interleaving.{IsInterleaved}
 use Rattle.dk_recorders.specs.Recorders.{AreRecorders, text_by_file, text_in_order}
 
@@ -31,28 +32,44 @@ pub record TellTheSame (h other : History) : Type 0 where
 abbrev pub OrderOfOwnSamplesDoesNotMatter : Type 0
 OrderOfOwnSamplesDoesNotMatter = (h other : History) → AreAlike h other → TellTheSame h other
 
--- ---- texts
--- what a text comes to as the only file of a run
-abbrev pub history_of : List ℕ → Result History FileFault
-history_of text = (course_of first_start false (ended_file text ∷ [])).end
+-- ---- blocks
+-- a history is reached, is alike, and tells the same
+abbrev pub ComesToAlike : {Fault : Type 0} → Result History Fault → History → Type 0
+ComesToAlike reached h = (other : History) × (reached ≡ Ok other) × AreAlike h other × TellTheSame h other
 
--- it is accepted, and comes to an alike history, which tells the same
-abbrev pub ComesToAlike : List ℕ → History → Type 0
-ComesToAlike text h = (other : History) × (history_of text ≡ Ok other) × AreAlike h other × TellTheSame h other
+-- Let the sample blocks of recorders stand in two orders, both of which keep the order of each recorder, behind any history. If they are
+-- accepted in the first order, then so they are in the second, and come to an alike history.
+abbrev pub OrderOfBlocksDoesNotMatter : Type 0
+OrderOfBlocksDoesNotMatter =
+    (ignores : Bool) (before after : History) (recorders : List (List Block)) (first second : List EndedBlock)
+    → IsInterleaved (contents_of before.header first) recorders → IsInterleaved (contents_of before.header second) recorders
+    → AreOfRecorders before.table recorders → after_blocks ignores before first ≡ Ok after
+    → ComesToAlike (after_blocks ignores before second) after
+
+-- ---- texts
+-- what a text comes to as the only file of a run, behind a start; exits without an entry are left out or refused
+abbrev pub history_behind : Outset → Bool → List ℕ → Result History FileFault
+history_behind start ignores text = (course_of start ignores (ended_file text ∷ [])).end
+
+-- the same from no samples on, where exits without an entry are refused
+abbrev pub history_of : List ℕ → Result History FileFault
+history_of text = history_behind first_start false text
 
 -- Let the sample blocks of recorders stand in two orders, both of which keep the order of each file. If the text in the first order is
 -- accepted, then so is that in the second, and comes to an alike history.
 abbrev pub OrderOfRecordsDoesNotMatter : Type 0
 OrderOfRecordsDoesNotMatter =
-    (files : List (List ℕ)) (first second : List Block) (h : History) → IsInterleaved first (map sample_blocks files)
-    → IsInterleaved second (map sample_blocks files) → history_of (text_in_order files first) ≡ Ok h → AreRecorders h.table files
-    → ComesToAlike (text_in_order files second) h
+    (start : Outset) (ignores : Bool) (files : List (List ℕ)) (first second : List Block) (h : History)
+    → awaits_word start.history.header ≡ false → IsInterleaved first (map sample_blocks files)
+    → IsInterleaved second (map sample_blocks files) → history_behind start ignores (text_in_order files first) ≡ Ok h
+    → AreRecorders h.table files → ComesToAlike (history_behind start ignores (text_in_order files second)) h
 
 -- So it is of turns: if the files of recorders, without turns, are accepted, then so they are in turns, and come to an alike history.
 abbrev pub TurnsDoNotMatter : Type 0
 TurnsDoNotMatter =
-    (n : ℕ) (files : List (List ℕ)) (h : History) → 0 < n → history_of (text_by_file files) ≡ Ok h → AreRecorders h.table files
-    → ComesToAlike (turns_of n files) h
+    (start : Outset) (ignores : Bool) (n : ℕ) (files : List (List ℕ)) (h : History) → awaits_word start.history.header ≡ false → 0 < n
+    → history_behind start ignores (text_by_file files) ≡ Ok h → AreRecorders h.table files
+    → ComesToAlike (history_behind start ignores (turns_of n files)) h
 
 -- ---- what a run writes
 -- The command asks for the last report alone, without sizes, and exits without an entry are refused.

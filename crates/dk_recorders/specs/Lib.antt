@@ -1,5 +1,6 @@
 -- cited by public clauses
 pub mod Laws
 -- what those are made of
+pub mod Blocks
 pub mod Recorders
 pub mod Interleaving
