@@ -6,8 +6,9 @@ use Rattle.dk_events.specs.declared.ended.Ended.TheVariants.{Done, Refused, Usag
 use Rattle.dk_io.specs.Outside.{HeldFile, Rose}
 use Rattle.dk_io.specs.declared.outside.Stream.{Stream}
 use Rattle.dk_io.specs.declared.outside.Stream.TheVariants.{Report, Messages}
+use Rattle.dk_arguments.specs.Descriptions.{Command}
 use Rattle.dk_arguments.specs.declared.request.Request.{Request}
-use Rattle.dk_arguments.specs.declared.request.Request.TheVariants.{Run}
+use Rattle.dk_arguments.specs.declared.request.Request.TheVariants.{Run, Help, Version}
 use Rattle.dk_driver.specs.Files.{AreHeldFiles, FaultAt, File, ended_file, file_name_at}
 use Rattle.dk_driver.specs.Consuming.{Record}
 use Rattle.dk_driver.specs.Reads.{AreRead, IsComplete as IsReadingComplete, IsRefusedOrShort, helds_of}
@@ -17,7 +18,7 @@ use Rattle.dk_driver.specs.declared.fault.FilesFault.TheVariants as f
 use Rattle.dk_driver.specs.declared.feed.Feed.{Feed}
 use Rattle.dk_driver.specs.declared.traces.Traces.{Traces}
 use Rattle.dk_program.proofs.Saying.{due_of, followed_only, read_output}
-use Rattle.dk_program.specs.Ending.{EndsBy, EndsWith, ReportEnds, status_of}
+use Rattle.dk_program.specs.Ending.{EndsBy, EndsWith, EndsWithoutRun, ReportEnds, status_of}
 use Rattle.dk_program.specs.Messages.{fault_line}
 use Rattle.dk_program.specs.Moments.{IsCalm, Outside}
 use Rattle.dk_program.specs.Outputs.{Output, only_on, texts_followed_by}
@@ -115,3 +116,12 @@ pub asked_completes : {A : Type 0} (Complete : A → Outside → Outside → End
     → Complete a before after result → Completes Complete asked before after result
 asked_completes {A = A} Complete asked a before after result is complete =
     subst (λ (r : Option (Request A)). Completes Complete r before after result) (sym is) complete
+
+-- or the program ended without a run
+pub without_run_completes : {A : Type 0} (Complete : A → Outside → Outside → Ended → Type 0) (c : Command) (asked : Option (Request A)) (before after : Outside) (result : Ended)
+    → ((a : A) → result ≡ NoMemory → Complete a before after result)
+    → EndsWithoutRun c asked before.written after.written before.write_faults after.write_faults result → Completes Complete asked before after result
+without_run_completes Complete c (Some (Run a)) before after result short (is, e, calm) = short a is
+without_run_completes Complete c (Some Help) before after result short ended = tt
+without_run_completes Complete c (Some Version) before after result short ended = tt
+without_run_completes Complete c None before after result short ended = tt

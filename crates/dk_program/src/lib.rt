@@ -2,9 +2,10 @@
 //!
 //! A program implements `Arguments` and `Consumer`, `Program` for its report, which may be in parts, and `Begins`, or `Opens` where it reads
 //! another file in front; `run_program` or `run_opening` does the rest: words, help and version, files, messages, and the status. A program
-//! of another kind may end by `end_with`, `tell_usage` and `tell_fault`.
+//! of another kind begins with `asked_run`, and may end by `end_with`, `tell_usage` and `tell_fault`.
 #![tactic(auto)]
 
+mod asking;
 #[cfg(test)]
 mod examples;
 mod program;
@@ -12,6 +13,7 @@ mod reporting;
 mod running;
 mod telling;
 
+pub use asking::asked_run;
 pub use program::{Begins, Opens, Program};
 pub use reporting::{InParts, tell_parts};
 pub use running::{run_opening, run_program};
