@@ -109,13 +109,13 @@ module _ (command : Command) (file : List ℕ → HeldFile) (before mid after : 
       let (at, reason) = refused_reason g.gathered text line why none in (
         at,
         refused_on why reason whole.there (λ contents own holds room held.
-        let same = (whole.all own held).0 in
-        let short = whole.short in
-        let long : length text ≡ length own = ap length same in
-        inr (
-          omega (arith, short, long, room, sum_by_push length contents own),
-          no_state command.turns contents own line why g.gathered read.turns holds (subst (λ (t : List ℕ). TakesFile g.gathered t (Err (Refused line why))) same none),
-        )),
+            let same = (whole.all own held).0 in
+            let short = whole.short in
+            let long : length text ≡ length own = ap length same in
+            inr (
+              omega (arith, short, long, room, sum_by_push length contents own),
+              no_state command.turns contents own line why g.gathered read.turns holds (subst (λ (t : List ℕ). TakesFile g.gathered t (Err (Refused line why))) same none),
+            )),
       )
   fault_on rest a b c Start h (inl (broken, same)) = record {
     cause = unread_on AtStart b c broken a h;

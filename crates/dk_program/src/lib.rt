@@ -8,12 +8,14 @@
 mod asking;
 #[cfg(test)]
 mod examples;
+mod first_file;
 mod program;
 mod reporting;
 mod running;
 mod telling;
 
 pub use asking::asked_run;
+pub use first_file::fault_of_lines;
 pub use program::{Begins, Opens, Program};
 pub use reporting::{InParts, tell_parts};
 pub use running::{run_opening, run_program};

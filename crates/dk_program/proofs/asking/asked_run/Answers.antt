@@ -4,20 +4,20 @@ use Rattle.dk_arguments.specs.declared.request.Request.TheVariants.{Help, Versio
 use Rattle.dk_program.proofs.Saying.{help_ends, memory_ends, usage_ends, version_ends}
 use Rattle.dk_program.proofs.asking.asked_run.Goals as goal
 
-pub returns-in-Ok-Help : goal.returns-in-Ok-Help
-returns-in-Ok-Help g c =
+pub returns-in-Ok-Help-clause-ends : goal.returns-in-Ok-Help-clause-ends
+returns-in-Ok-Help-clause-ends g c =
     let is : request_of g.A.Arguments.command g.A.Arguments.meant (map string_bytes c.args.given.now) ≡ Some Help = search rules in
     help_ends g.A.Arguments.command _ _ _ _ _ c.tell_help.result is c.tell_help.ensures
 
-pub returns-in-Ok-Version : goal.returns-in-Ok-Version
-returns-in-Ok-Version g c =
+pub returns-in-Ok-Version-clause-ends : goal.returns-in-Ok-Version-clause-ends
+returns-in-Ok-Version-clause-ends g c =
     let is : request_of g.A.Arguments.command g.A.Arguments.meant (map string_bytes c.args.given.now) ≡ Some Version = search rules in
     version_ends g.A.Arguments.command _ _ _ _ _ c.tell_version.result is c.tell_version.ensures
 
-pub returns-in-Err-Refused : goal.returns-in-Err-Refused
-returns-in-Err-Refused g c =
+pub returns-in-Err-Refused-clause-ends : goal.returns-in-Err-Refused-clause-ends
+returns-in-Err-Refused-clause-ends g c =
     let is : request_of g.A.Arguments.command g.A.Arguments.meant (map string_bytes c.args.given.now) ≡ None = search rules in
     usage_ends g.A.Arguments.command _ _ _ _ _ c.tell_usage.result is c.tell_usage.ensures
 
-pub returns-in-Err-NoMemory : goal.returns-in-Err-NoMemory
-returns-in-Err-NoMemory g c = memory_ends g.A.Arguments.command _ _ _
+pub returns-in-Err-NoMemory-clause-ends : goal.returns-in-Err-NoMemory-clause-ends
+returns-in-Err-NoMemory-clause-ends g c = memory_ends g.A.Arguments.command _ _ _
