@@ -1,8 +1,9 @@
-use Rattle.std.proofs.Common.{◌≡◌, ◌≤◌, ℕ, map, string_bytes, IfSome, Option, Some, None}
+use Rattle.std.proofs.Common.{◌≤◌, ℕ, map, string_bytes, IfSome, Option, Some, None, subst, sym}
 use Rattle.dk_arguments.specs.Laws.{IsWithin}
-use Rattle.dk_arguments.specs.declared.request.Request.TheVariants.{Run}
+use Rattle.dk_arguments.specs.declared.request.Request.{Request}
 use Rattle.dk_program.proofs.Completing.{without_run_completes}
 use Rattle.dk_program.proofs.Saying.{without_run_says}
+use Rattle.dk_program.specs.Statuses.{IsARun}
 use Rattle.dk_merge.proofs.Complete.{complete_of, complete_says, no_run_completes}
 use Rattle.dk_merge.proofs.Histories.{histories_say, no_run_merges}
 use Rattle.dk_merge.proofs.Recorders.{no_run_writes, recorders_say}
@@ -10,6 +11,7 @@ use Rattle.dk_merge.proofs.Saying.{run_says, says_more}
 use Rattle.dk_merge.specs.Statuses.{IsCalmlyComplete, RunComesTo}
 use Rattle.dk_merge_words.proofs.Whole.{file_named, numbers_within}
 use Rattle.dk_merge_words.specs.Requests.{dk_merge, most, request_of}
+use Rattle.dk_merge_words.specs.declared.command.Command.{Command}
 use Rattle.dk_merge.proofs.top.run_merge.Goals as goal
 
 one_at_least : (turns : Option ℕ) → IfSome turns (IsWithin 1 most) → IfSome turns (λ n. 1 ≤ n)
@@ -24,6 +26,10 @@ run_command-requires g c = one_at_least c.in-Ok.command.turns (numbers_within (m
 pub returns-in-Ok-clause-says : goal.returns-in-Ok-clause-says
 unfolding request_of
 returns-in-Ok-clause-says g c = run_says _ c.in-Ok.command _ _ c.run_command.result c.in-Ok.ensures.asked (rw c.in-Ok.ensures.unwritten at c.run_command.ensures.says)
+
+pub returns-in-Ok-clause-unread : goal.returns-in-Ok-clause-unread
+unfolding request_of
+returns-in-Ok-clause-unread g c none = absurd (none (subst (λ (r : Option (Request Command)). IsARun r) (sym c.in-Ok.ensures.asked) tt))
 
 pub returns-in-Ok-clause-complete : goal.returns-in-Ok-clause-complete
 unfolding request_of
