@@ -1,18 +1,16 @@
 -- Where no fault of the outside rises, a run over files that are held comes to its end.
-use Rattle.std.proofs.Common.{◌≡◌, ◌⊎◌, inl, inr, ℕ, List, map, length, take, Option, Some, None, Result, Ok, Err, refl, sym, ◌∙◌, ap, subst}
+use Rattle.std.proofs.Common.{◌≡◌, ◌⊎◌, inl, inr, ℕ, List, map, Option, Some, None, Result, Ok, Err, refl, sym, ◌∙◌, ap, subst}
 use Rattle.dk_blocks.specs.History.{History}
 use Rattle.dk_events.specs.declared.ended.Ended.{Ended}
-use Rattle.dk_events.specs.declared.ended.Ended.TheVariants.{Done, Refused, Usage, Read, Write, NoMemory}
-use Rattle.dk_io.specs.Outside.{HeldFile, Rose}
-use Rattle.dk_io.specs.declared.outside.Stream.{Stream}
+use Rattle.dk_events.specs.declared.ended.Ended.TheVariants.{Done, Refused, NoMemory}
 use Rattle.dk_io.specs.declared.outside.Stream.TheVariants.{Report, Messages}
 use Rattle.dk_arguments.specs.Descriptions.{Command}
 use Rattle.dk_arguments.specs.declared.request.Request.{Request}
 use Rattle.dk_arguments.specs.declared.request.Request.TheVariants.{Run, Help, Version}
-use Rattle.dk_driver.specs.Files.{AreHeldFiles, FaultAt, File, ended_file, file_name_at}
+use Rattle.dk_driver.specs.Files.{FaultAt, File, ended_file, file_name_at}
 use Rattle.dk_driver.specs.Consuming.{Record}
-use Rattle.dk_driver.specs.Reads.{AreRead, IsComplete as IsReadingComplete, IsRefusedOrShort, helds_of}
-use Rattle.dk_driver.specs.Walks.{Walk, fault_in, first_fault, walk_of}
+use Rattle.dk_driver.specs.Reads.{AreRead, IsComplete as IsReadingComplete}
+use Rattle.dk_driver.specs.Walks.{fault_in, first_fault, walk_of}
 use Rattle.dk_driver.specs.declared.fault.FilesFault.{FilesFault}
 use Rattle.dk_driver.specs.declared.fault.FilesFault.TheVariants as f
 use Rattle.dk_driver.specs.declared.feed.Feed.{Feed}
@@ -21,10 +19,10 @@ use Rattle.dk_program.proofs.Saying.{due_of, followed_only, read_output}
 use Rattle.dk_program.specs.Ending.{EndsBy, EndsWith, EndsWithoutRun, ReportEnds, status_of}
 use Rattle.dk_program.specs.Messages.{fault_line}
 use Rattle.dk_program.specs.Moments.{IsCalm, Outside}
-use Rattle.dk_program.specs.Outputs.{Output, only_on, texts_followed_by}
+use Rattle.dk_program.specs.Outputs.{Output, only_on}
 use Rattle.dk_program.specs.Statuses.{Completes, GivesOutput, IsCalmlyComplete, IsComplete}
 use Rattle.dk_program.specs.Tasks.{IsOutput, IsOutputAt, Task}
-use Rattle.dk_program.specs.Telling.{CutOff, HaltHasCause, ToldWhole}
+use Rattle.dk_program.specs.Telling.{HaltHasCause, ToldWhole}
 use Rattle.dk_program.specs.declared.reporting.Halt.{Halt}
 use Rattle.dk_program.specs.declared.reporting.Halt.TheVariants as w
 

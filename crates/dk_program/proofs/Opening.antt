@@ -1,7 +1,6 @@
 -- A run that reads a file in front of its others.
-use Rattle.std.proofs.Common.{◌≡◌, ◌≢◌, ◌≤◌, ◌⊎◌, ◌-◌, inl, inr, ℕ, List, [], length, Bool, true, false, Option, Some, IfSome, IsErrOf, Result, Ok, Err, refl, sym, ◌∙◌, ap, subst}
+use Rattle.std.proofs.Common.{◌≡◌, ◌≢◌, ◌≤◌, ◌-◌, inl, inr, ℕ, List, [], length, Bool, Option, Some, IfSome, Result, Ok, Err, refl, ◌∙◌, ap, subst}
 use Rattle.dk_base.specs.Reading.{LineFault}
-use Rattle.dk_base.specs.declared.why.Why.{Why}
 use Rattle.dk_events.specs.declared.ended.Ended.{Ended}
 use Rattle.dk_events.specs.declared.ended.Ended.TheVariants as ended
 use Rattle.dk_io.specs.Outside.{HeldFile, Absent, Holds, Rose, Starts}
@@ -11,7 +10,7 @@ use Rattle.dk_lines.specs.Reading.{Reading, left_of, room_of}
 use Rattle.dk_lines.specs.declared.lines.Limits.{Limits}
 use Rattle.dk_driver.proofs.Filing.{nothing_ahead, nothing_left, told}
 use Rattle.dk_driver.proofs.Running.{rose_since}
-use Rattle.dk_driver.specs.Files.{File, ended_file}
+use Rattle.dk_driver.specs.Files.{File}
 use Rattle.dk_driver.specs.Reads.{AtStart, Break, HasBroken, IsDelivered, Within}
 use Rattle.dk_driver.specs.Walks.{line_limit, standard_limits, total_limit}
 use Rattle.dk_driver.specs.WholeFile.{fresh_reading}
@@ -25,7 +24,6 @@ use Rattle.dk_program.specs.Moments.{IsCalm, Outside}
 use Rattle.dk_program.specs.Openings.{FirstFaultSays, IsBroken, IsOfMay, IsOpened, IsOpeningComplete, Opened, Opening, OpeningComesTo, OpeningGives, opened_with}
 use Rattle.dk_program.specs.Outputs.{Output, only_on}
 use Rattle.dk_program.specs.Statuses.{IsComplete, RunComesTo, StatusSays}
-use Rattle.dk_program.specs.Tasks.{Task}
 
 -- ---- reading the first file
 -- what is read of the lines of a started file is read of its bytes

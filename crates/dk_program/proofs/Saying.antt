@@ -284,19 +284,11 @@ module _ {A : Type 0} (Comes : A → Coming) (c : Command) (asked : Option (Requ
   pub without_run_says : EndsWithoutRun c asked before.written after.written before.write_faults after.write_faults result → Says Comes c result asked before after
   without_run_says ended = without_run asked ended
 
--- the program ended without a run for these reasons
-module _ {A : Type 0} (c : Command) (asked : Option (Request A)) (old new : Texts) (before after : ℕ) (result : Ended) where
-  ends_asked : (request : Option (Request A)) → asked ≡ request → EndsWithoutRun c request old new before after result → EndsWithoutRun c asked old new before after result
-  ends_asked request is ended = subst (λ (r : Option (Request A)). EndsWithoutRun c r old new before after result) (sym is) ended
-
-  pub help_ends : asked ≡ Some Help → EndsWith Done Report c.help old new before after result → EndsWithoutRun c asked old new before after result
-  help_ends is ended = ends_asked (Some Help) is ended
-
-  pub version_ends : asked ≡ Some Version → EndsWith Done Report c.version old new before after result → EndsWithoutRun c asked old new before after result
-  version_ends is ended = ends_asked (Some Version) is ended
-
-  pub usage_ends : asked ≡ None → EndsWith Usage Messages c.usage old new before after result → EndsWithoutRun c asked old new before after result
-  usage_ends is ended = ends_asked None is ended
+-- the program ended without a run, where this was asked for
+pub ends_asked : {A : Type 0} (c : Command) (asked request : Option (Request A)) (old new : Texts) (before after : ℕ) (result : Ended) → asked ≡ request
+    → EndsWithoutRun c request old new before after result → EndsWithoutRun c asked old new before after result
+ends_asked {A} c asked request old new before after result is ended =
+    subst (λ (r : Option (Request A)). EndsWithoutRun c r old new before after result) (sym is) ended
 
 -- memory ran out
 pub memory_ends : {A : Type 0} (c : Command) (asked : Option (Request A)) (old : Texts) (faults : ℕ) → EndsWithoutRun c asked old old faults faults NoMemory
