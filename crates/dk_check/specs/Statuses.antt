@@ -6,10 +6,10 @@ use Rattle.dk_driver.specs.Consuming.{Told}
 use Rattle.dk_driver.specs.Files.{file_name_at}
 use Rattle.dk_events.specs.declared.ended.Ended.{Ended}
 use Rattle.dk_program.specs.Moments.{Outside}
-use Rattle.dk_program.specs.Openings.{IsOpeningCalmlyComplete, Opening, OpeningComesTo}
+use Rattle.dk_program.specs.Openings.{IsOfBytes, IsOpeningCalmlyComplete, Opening, OpeningComesTo}
 use Rattle.dk_program.specs.Statuses.{Completes, IsARun as IsProgramRun, Says as ProgramSays}
 use Rattle.dk_verdicts.specs.Reports.{IsReport}
-use Rattle.dk_check.specs.Assertions.{IsOfBytes, claims_in}
+use Rattle.dk_check.specs.Assertions.{claims_in}
 use Rattle.dk_check.specs.Requests.{dk_check}
 use Rattle.dk_check.specs.Standing.{checked}
 use Rattle.dk_check.specs.declared.command.Command.{Command}

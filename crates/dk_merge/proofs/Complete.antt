@@ -6,19 +6,22 @@ use Rattle.dk_events.specs.declared.ended.Ended.{Ended}
 use Rattle.dk_events.specs.declared.ended.Ended.TheVariants.{Done, Refused, Usage, Read, Write, NoMemory}
 use Rattle.dk_io.specs.Outside.{HeldFile, Absent, Rose}
 use Rattle.dk_io.specs.declared.outside.Stream.TheVariants.{Messages}
-use Rattle.dk_print.specs.Sections.{fault_line}
-use Rattle.dk_run.proofs.Saying.{held-take}
-use Rattle.dk_run.specs.Files.{AreHeldFiles, file_name_at}
-use Rattle.dk_run.specs.Outputs.{Output, only_on}
-use Rattle.dk_run.specs.Statuses.{AtStart, Break, HasBroken, IsCalm, Outside, Within, held_file_at}
+use Rattle.dk_arguments.specs.declared.request.Request.{Request}
+use Rattle.dk_arguments.specs.declared.request.Request.TheVariants.{Run}
+use Rattle.dk_driver.proofs.Complete.{front_held}
+use Rattle.dk_driver.specs.Files.{AreHeldFiles, file_name_at}
+use Rattle.dk_driver.specs.Reads.{AtStart, Break, HasBroken, Within, held_file_at}
+use Rattle.dk_program.proofs.Completing.{asked_completes}
+use Rattle.dk_program.specs.Messages.{fault_line}
+use Rattle.dk_program.specs.Moments.{IsCalm, Outside}
+use Rattle.dk_program.specs.Outputs.{Output, only_on}
+use Rattle.dk_program.specs.Statuses.{GivesOutput}
 use Rattle.dk_merge.proofs.Held.{held_front, held_whole, split_at}
 use Rattle.dk_merge.proofs.Taking.{helds_length}
 use Rattle.dk_merge.specs.Merged.{AreTaken}
 use Rattle.dk_merge.specs.Outputs.{IsDoneOutput, IsRefusedInTurns, IsRefusedOutput}
-use Rattle.dk_merge.specs.Statuses.{AreRead, CompletesCalmly, EndsAs, IsComplete, IsRefused, IsRefusedLater, IsUnread, Says, helds_of}
+use Rattle.dk_merge.specs.Statuses.{AreRead, CompletesCalmly, EndsAs, IsCalmlyComplete, IsComplete, IsRefused, IsRefusedLater, IsUnread, Says, helds_of}
 use Rattle.dk_merge_words.specs.declared.command.Command.{Command}
-use Rattle.dk_arguments.specs.declared.request.Request.{Request}
-use Rattle.dk_arguments.specs.declared.request.Request.TheVariants.{Run}
 
 -- a file that is held is not left unread
 not_unread : (command : Command) (before after : Outside) (output : Output) (n : ℕ) (contents : List (List ℕ)) → IsCalm before after → AreHeldFiles (take n (helds_of command before.file)) contents
@@ -31,7 +34,7 @@ not_unread command before after output n contents calm held unread within = by u
   there absent =
       let named = unread.named in
       let own = split_at (take n helds) contents unread.place held (omega (arith, named, within, helds_length command before.file, length-take n helds)) in
-      let same = held-take helds n unread.place within in
+      let same = front_held helds n unread.place within in
       let holds = own.there in
       cc (absent, same, holds)
 
@@ -56,7 +59,7 @@ refused_output command before output n contents held refused within =
       all = own.all;
       taken = refused.clean_before place (take place contents) (omega arith) front;
       why = refused.why;
-      refused = refused.first (take place contents) own.own front (sym (held-take helds n place within) ∙ own.there);
+      refused = refused.first (take place contents) own.own front (sym (front_held helds n place within) ∙ own.there);
       message = refused.message ∙ ap (λ (k : ℕ). only_on Messages (fault_line (file_name_at command.files k) 0 refused.why)) (sym own.long);
     }
 
@@ -100,7 +103,7 @@ module _ (command : Command) (before after : Outside) (calm : IsCalm before afte
   ]
 
   refused_of : (result : Ended) → Says result (Some (Run command)) before after → (n : ℕ) (contents : List (List ℕ)) → AreHeldFiles (take n (helds_of command before.file)) contents
-      → (AreTaken command.turns contents → ⊥) → EndsAs Refused (IsRefusedOutput command contents) result before after ⊎ (result ≡ NoMemory)
+      → (AreTaken command.turns contents → ⊥) → GivesOutput Refused (IsRefusedOutput command contents) result before after
   refused_of Done (output, comes, written) n contents held not = absurd (not (all_taken n contents held comes.read))
   refused_of Refused (output, inl comes, written) n contents held not = elim (cases_lt comes.place n) [
     | inl below ↦ inl (refl, (output, refused_output command before output n contents held comes below, written.0))
@@ -118,6 +121,10 @@ module _ (command : Command) (before after : Outside) (calm : IsCalm before afte
 pub complete_of : (command : Command) (before after : Outside) (result : Ended) → Says result (Some (Run command)) before after → IsCalm before after → IsComplete command before after result
 complete_of command before after result says calm = record { whole = whole_of command before after calm result says; refused = refused_of command before after calm result says }
 
-pub complete_says : (asked : Option (Request Command)) (command : Command) (before after : Outside) (result : Ended) → asked ≡ Some (Run command) → Says result (Some (Run command)) before after
-    → CompletesCalmly asked before after result
-complete_says asked command before after result is says = subst (λ (r : Option (Request Command)). CompletesCalmly r before after result) (sym is) (complete_of command before after result says)
+pub complete_says : (command : Command) (request : Option (Request Command)) (before after : Outside) (result : Ended) → request ≡ Some (Run command) → Says result (Some (Run command)) before after
+    → CompletesCalmly request before after result
+complete_says command request before after result is says = asked_completes IsCalmlyComplete request command before after result is (complete_of command before after result says)
+
+-- memory ran out
+pub no_run_completes : (command : Command) (before after : Outside) (result : Ended) → result ≡ NoMemory → IsComplete command before after result
+no_run_completes command before after result is = record { whole = λ contents held. inr (inr (inr is)); refused = λ n contents held not. inr is }

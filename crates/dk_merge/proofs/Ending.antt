@@ -1,26 +1,16 @@
 -- Texts that are written last.
-use Rattle.std.proofs.Common.{◌≡◌, ◌≤◌, ℕ, List, [], ◌∷◌, take, length, inl, inr, Option, refl, sym, ap}
+use Rattle.std.proofs.Common.{◌≡◌, ℕ, List, [], ◌∷◌, inr, Option, refl, sym, ap}
 use Rattle.std.specs.Io.{StartsWith}
 use Rattle.std.specs.Io.KnownBytes.{append_known}
 use Rattle.dk_events.specs.declared.ended.Ended.{Ended}
 use Rattle.dk_events.specs.declared.ended.Ended.TheVariants.{NoMemory}
 use Rattle.dk_io.specs.Streams.{Texts, with_bytes}
-use Rattle.dk_io.specs.declared.outside.Stream.{Stream}
-use Rattle.dk_io.specs.declared.outside.Stream.TheVariants.{Report, Messages, State}
-use Rattle.dk_run.proofs.Writing.{front_take, known_nothing}
-use Rattle.dk_run.specs.Outputs.{IsFront, Output, only_on, texts_followed_by}
+use Rattle.dk_io.specs.declared.outside.Stream.TheVariants.{State}
+use Rattle.dk_program.proofs.Writing.{known_nothing}
+use Rattle.dk_program.specs.Outputs.{IsFront, Output, texts_followed_by}
 use Rattle.dk_merge.specs.Ending.{EndsAmong}
-use Rattle.dk_merge.specs.Outputs.{no_output}
-
-pub followed_only : (old : Texts) (stream : Stream) (text : List ℕ) → with_bytes old stream text ≡ texts_followed_by old (only_on stream text)
-followed_only old Report text = let m = known_nothing old.messages in let s = known_nothing old.state in cc
-followed_only old Messages text = let r = known_nothing old.report in let s = known_nothing old.state in cc
-followed_only old State text = let r = known_nothing old.report in let m = known_nothing old.messages in cc
-
-pub only_front : (stream : Stream) (n : ℕ) (text : List ℕ) → n ≤ length text → IsFront (only_on stream (take n text)) (only_on stream text)
-only_front Report n text h = record { report = front_take n text h; messages = refl; state = refl; in_order = inr refl }
-only_front Messages n text h = record { report = refl; messages = front_take n text h; state = refl; in_order = inr refl }
-only_front State n text h = record { report = refl; messages = refl; state = front_take n text h; in_order = inl refl }
+use Rattle.dk_run.specs.Outputs.{IsFront as RunIsFront, Output as RunOutput}
+use Rattle.dk_merge.specs.Outputs.{no_output, texts_of}
 
 -- nothing was written
 pub followed_nothing : (old : Texts) → old ≡ texts_followed_by old no_output
@@ -48,3 +38,7 @@ followed_state old report text =
 
 pub only_report : (output : Output) → output.messages ≡ [] → output.state ≡ [] → output ≡ record { report = output.report; messages = []; state = [] }
 only_report output m s = λ i. record { report = output.report; messages = m i; state = s i }
+
+-- ---- the texts of a run of daikon
+pub front_texts : (front output : RunOutput) → RunIsFront front output → IsFront (texts_of front) (texts_of output)
+front_texts front output is = record { report = is.report; messages = is.messages; state = is.state; in_order = is.in_order }

@@ -3,9 +3,8 @@ use Rattle.std.proofs.Common.{◌≡◌, ◌≢◌, ◌≤◌, ◌<◌, ◌+◌,
 use Rattle.std.proofs.lemmas.Bool.{cases_lt}
 use Rattle.std.proofs.lemmas.List.{length-take, take-map, take_all}
 use Rattle.dk_io.specs.Outside.{HeldFile, Absent, Holds}
-use Rattle.dk_run.proofs.Saying.{held-take}
-use Rattle.dk_run.specs.Files.{AreHeldFiles, file_name_at}
-use Rattle.dk_run.specs.Statuses.{held_file_at}
+use Rattle.dk_driver.specs.Files.{AreHeldFiles, file_name_at}
+use Rattle.dk_driver.specs.Reads.{held_file_at}
 
 -- one file more
 pub record OneMore (helds : List HeldFile) (contents : List (List ℕ)) (k : ℕ) : Type 0 where
@@ -47,19 +46,6 @@ pub held_map : (file : List ℕ → HeldFile) (files : List (List ℕ)) (index :
 held_map file [] index h = absurd (omega arith)
 held_map file (f ∷ fs) zero h = refl
 held_map file (f ∷ fs) (suc index) h = held_map file fs index (omega arith)
-
-at_get : (helds : List HeldFile) (k : ℕ) (d : HeldFile) → k < length helds → held_file_at helds k ≡ get_or helds k d
-at_get [] k d h = absurd (omega arith)
-at_get (n ∷ ns) zero d h = refl
-at_get (n ∷ ns) (suc k) d h = at_get ns k d (omega arith)
-
-pub all_there : (helds : List HeldFile) → ((k : ℕ) → k < length helds → held_file_at helds k ≢ Absent) → All (λ held. held ≢ Absent) helds
-all_there helds there = λ k d h. subst (λ (held : HeldFile). held ≢ Absent) (at_get helds k d h) (there k h)
-
-pub front_there : (helds : List HeldFile) (n : ℕ) → ((k : ℕ) → k < n → held_file_at helds k ≢ Absent) → All (λ held. held ≢ Absent) (take n helds)
-front_there helds n there = all_there (take n helds) (λ k below. here k (omega (arith, below, length-take n helds))) where
-  here : (k : ℕ) → k < n → held_file_at (take n helds) k ≢ Absent
-  here k below = subst (λ (held : HeldFile). held ≢ Absent) (sym (held-take helds n k below)) (there k below)
 
 -- ---- of files that are held
 pub held_front : (k : ℕ) (helds : List HeldFile) (contents : List (List ℕ)) → AreHeldFiles helds contents → AreHeldFiles (take k helds) (take k contents)

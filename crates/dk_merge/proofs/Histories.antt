@@ -26,8 +26,9 @@ use Rattle.dk_merging.specs.Merging.{CanBeMerged, file_of_both, own_of_both}
 use Rattle.dk_merging.specs.declared.merging.MergeFault.{MergeFault}
 use Rattle.dk_merging.specs.declared.merging.MergeFault.TheVariants as merge
 use Rattle.dk_points.specs.Table.{Point, decl_at}
-use Rattle.dk_run.specs.Outputs.{Output, texts_followed_by}
-use Rattle.dk_run.specs.Statuses.{IsCalm, Outside}
+use Rattle.dk_program.specs.Ending.{EndsWithoutRun}
+use Rattle.dk_program.specs.Moments.{IsCalm, Outside}
+use Rattle.dk_program.specs.Outputs.{Output, texts_followed_by}
 use Rattle.dk_state.proofs.SameTexts.{order_of_samples}
 use Rattle.dk_state.specs.Compact.{compact_form_of}
 use Rattle.dk_state.specs.Fitting.{FitsSlot}
@@ -38,9 +39,10 @@ use Rattle.dk_merge.specs.Histories.{HasAllOf, IsAlike, MergesHistories}
 use Rattle.dk_merge.specs.Merged.{AreMergedTo, IsNoState, IsRefusedBehind, MergeAnswers, MergesTo, bytes_in, refusal_by, whole_limit}
 use Rattle.dk_merge.specs.Outputs.{IsDoneOutput, IsMergedOutput, IsRefusedInTurns, IsRefusedOutput, IsStateOutput, state_output}
 use Rattle.dk_merge.specs.Statuses.{EndsAs, IsComplete}
+use Rattle.dk_merge_words.specs.Requests.{dk_merge}
 use Rattle.dk_merge_words.specs.declared.command.Command.{Command}
 use Rattle.dk_arguments.specs.declared.request.Request.{Request}
-use Rattle.dk_arguments.specs.declared.request.Request.TheVariants.{Run}
+use Rattle.dk_arguments.specs.declared.request.Request.TheVariants.{Run, Help, Version}
 
 -- the own samples of a point in all of these
 abbrev pub all_at : List OwnSamples → ℕ → List (List Value)
@@ -289,3 +291,11 @@ histories_of command before after result named complete h hs calm none has held 
 pub histories_say : (asked : Option (Request Command)) (command : Command) (before after : Outside) (result : Ended) → asked ≡ Some (Run command) → 0 < length command.files
     → (IsCalm before after → IsComplete command before after result) → MergesHistories asked before after result
 histories_say asked command before after result is named complete = subst (λ (r : Option (Request Command)). MergesHistories r before after result) (sym is) (histories_of command before after result named complete)
+
+-- without a run
+pub no_run_merges : (asked : Option (Request Command)) (before after : Outside) (result : Ended) → EndsWithoutRun dk_merge asked before.written after.written before.write_faults after.write_faults result
+    → MergesHistories asked before after result
+no_run_merges (Some (Run command)) before after result (is, e, calm) = λ h hs quiet none has held short. inr is
+no_run_merges (Some Help) before after result ended = tt
+no_run_merges (Some Version) before after result ended = tt
+no_run_merges None before after result ended = tt

@@ -1,6 +1,7 @@
 -- One file more, behind those that were taken.
 use Rattle.std.proofs.Common.{◌≡◌, ◌≤◌, ◌++◌, ℕ, List, [], ◌∷◌, inl, inr, Option, Some, None, Ok, Err, refl, sym, ap, subst}
 use Rattle.dk_base.specs.declared.why.Why.{Why}
+use Rattle.dk_driver.specs.declared.fault.FileFault.TheVariants.{Read, Refused, Start}
 use Rattle.dk_merging.specs.Merging.{IsMerged}
 use Rattle.dk_merging.specs.declared.merging.MergeFault.{MergeFault}
 use Rattle.dk_merging.specs.declared.merging.MergeFault.TheVariants as merge
@@ -9,7 +10,6 @@ use Rattle.dk_merge.specs.Gathering.{HoldsAll, IsSound, TakesFile, turns_by}
 use Rattle.dk_merge.specs.Merged.{AreTaken, IsNoState, IsReason, IsStateBehind, MergesTo, bytes_in, refusal_by, whole_limit}
 use Rattle.dk_merge.specs.declared.gathered.Gathered.{Gathered}
 use Rattle.dk_merge.specs.declared.gathered.Gathered.TheVariants.{State, Traces}
-use Rattle.dk_merge.specs.declared.reading.Trouble.TheVariants.{Read, Refused, Start}
 
 -- ---- states
 pub state_spelled : (before : Option (List ℕ)) (file state : List ℕ) → IsStateBehind before file state → IsSpelling state
@@ -58,6 +58,6 @@ no_state_reason (Some before) file why (fault, refused, answers) = by fault refu
   by merge.Joined refused = inr (inr (inr (sym (cc refused))))
   by merge.NoMemory refused = absurd (cc refused)
 
-pub refused_reason : (g : Gathered) (file : List ℕ) (why : Why) → TakesFile g file (Err (Refused why)) → IsReason why
-refused_reason (State before) file why none = no_state_reason before file why none
-refused_reason (Traces n files) file why none = absurd none
+pub refused_reason : (g : Gathered) (file : List ℕ) (line : ℕ) (why : Why) → TakesFile g file (Err (Refused line why)) → (line ≡ 0) × IsReason why
+refused_reason (State before) file line why (at, none) = (at, no_state_reason before file why none)
+refused_reason (Traces n files) file line why none = absurd none

@@ -9,17 +9,19 @@ use Rattle.dk_recorders.specs.Laws.{TellsAtTheEnd, history_of}
 use Rattle.dk_recorders.specs.Recorders.{AreRecorders, text_by_file}
 use Rattle.dk_run.specs.Courses.{fault_in}
 use Rattle.dk_run.specs.Files.{FileFault}
-use Rattle.dk_run.specs.Outputs.{Output, texts_followed_by}
-use Rattle.dk_run.specs.Statuses.{IsCalm, Outside}
+use Rattle.dk_program.specs.Ending.{EndsWithoutRun}
+use Rattle.dk_program.specs.Moments.{IsCalm, Outside}
+use Rattle.dk_program.specs.Outputs.{Output, texts_followed_by}
 use Rattle.dk_turns.specs.Turns.{turns_of}
 use Rattle.dk_merge.proofs.Histories.{bytes_of_front}
 use Rattle.dk_merge.specs.Merged.{IsRefusedBehind, bytes_in, whole_limit}
-use Rattle.dk_merge.specs.Outputs.{IsDoneOutput, IsRefusedInTurns, IsRefusedOutput, turns_command, turns_fault, turns_output}
+use Rattle.dk_merge.specs.Outputs.{IsDoneOutput, IsRefusedInTurns, IsRefusedOutput, texts_of, turns_command, turns_fault, turns_output}
 use Rattle.dk_merge.specs.Recorders.{WritesAsWithoutTurns}
 use Rattle.dk_merge.specs.Statuses.{EndsAs, IsComplete}
+use Rattle.dk_merge_words.specs.Requests.{dk_merge}
 use Rattle.dk_merge_words.specs.declared.command.Command.{Command}
 use Rattle.dk_arguments.specs.declared.request.Request.{Request}
-use Rattle.dk_arguments.specs.declared.request.Request.TheVariants.{Run}
+use Rattle.dk_arguments.specs.declared.request.Request.TheVariants.{Run, Help, Version}
 
 tells_at_the_end : (least : ℕ) → TellsAtTheEnd (turns_command least)
 tells_at_the_end least = record { every = refl; stats = refl; ignores = refl }
@@ -51,7 +53,7 @@ module _ (command : Command) (n : ℕ) (contents : List (List ℕ)) (h : History
   done_as_without : (output : Output) → IsDoneOutput command.turns command.least contents output → output ≡ turns_output command.least (text_by_file contents)
   done_as_without output done =
       let own : IsDoneOutput (Some n) command.least contents output = subst (λ (o : Option ℕ). IsDoneOutput o command.least contents output) turns done in
-      own.1 ∙ turns_write_the_same (turns_command command.least) n contents h (tells_at_the_end command.least) some accepted are
+      own.1 ∙ ap texts_of (turns_write_the_same (turns_command command.least) n contents h (tells_at_the_end command.least) some accepted are)
 
 written_of : (command : Command) (before after : Outside) (result : Ended) → IfSome command.turns (λ n. 1 ≤ n) → (IsCalm before after → IsComplete command before after result)
     → WritesAsWithoutTurns (Some (Run command)) before after result
@@ -70,3 +72,11 @@ written_of command before after result some complete n contents h calm turns hel
 pub recorders_say : (asked : Option (Request Command)) (command : Command) (before after : Outside) (result : Ended) → asked ≡ Some (Run command) → IfSome command.turns (λ n. 1 ≤ n)
     → (IsCalm before after → IsComplete command before after result) → WritesAsWithoutTurns asked before after result
 recorders_say asked command before after result is some complete = subst (λ (r : Option (Request Command)). WritesAsWithoutTurns r before after result) (sym is) (written_of command before after result some complete)
+
+-- without a run
+pub no_run_writes : (asked : Option (Request Command)) (before after : Outside) (result : Ended) → EndsWithoutRun dk_merge asked before.written after.written before.write_faults after.write_faults result
+    → WritesAsWithoutTurns asked before after result
+no_run_writes (Some (Run command)) before after result (is, e, calm) = λ n contents h quiet turns held short accepted are. inr is
+no_run_writes (Some Help) before after result ended = tt
+no_run_writes (Some Version) before after result ended = tt
+no_run_writes None before after result ended = tt

@@ -1,68 +1,50 @@
 -- What each end of a run says.
-use Rattle.std.proofs.Common.{◌≡◌, ◌<◌, ◌+◌, ◌⊎◌, inl, inr, ℕ, List, [], take, length, Option, Some, None, refl, sym, ◌∙◌, ap, subst, arith}
+use Rattle.std.proofs.Common.{◌≡◌, ◌<◌, ◌+◌, ◌⊎◌, inl, inr, ℕ, List, [], length, Option, Some, None, refl, sym, ◌∙◌, ap, subst, arith}
 use Rattle.std.specs.Option.{option_map_or}
 use Rattle.dk_base.specs.declared.why.Why.{Why}
 use Rattle.dk_events.specs.declared.ended.Ended.{Ended}
 use Rattle.dk_events.specs.declared.ended.Ended.TheVariants.{Done, Refused, Usage, Read, Write, NoMemory}
 use Rattle.dk_io.specs.Outside.{Rose}
-use Rattle.dk_io.specs.Streams.{Texts}
-use Rattle.dk_io.specs.declared.outside.Stream.{Stream}
-use Rattle.dk_io.specs.declared.outside.Stream.TheVariants.{Report, Messages}
-use Rattle.dk_print.specs.Sections.{fault_line}
-use Rattle.dk_run.specs.Files.{AreHeldFiles, FileFault, file_name_at}
-use Rattle.dk_run.specs.Messages.{unread_line}
-use Rattle.dk_run.specs.Outputs.{IsFront, Output, only_on}
-use Rattle.dk_run.specs.Statuses.{AtStart, Break, OutputIsWritten, Outside, Within}
+use Rattle.dk_io.specs.declared.outside.Stream.TheVariants.{Messages}
+use Rattle.dk_arguments.specs.declared.request.Request.{Request}
+use Rattle.dk_arguments.specs.declared.request.Request.TheVariants.{Run}
+use Rattle.dk_driver.specs.Files.{AreHeldFiles, file_name_at}
+use Rattle.dk_driver.specs.Reads.{AtStart, Break, Within}
+use Rattle.dk_driver.specs.declared.fault.FileFault.{FileFault}
+use Rattle.dk_driver.specs.declared.fault.FileFault.TheVariants as f
+use Rattle.dk_program.proofs.Saying.{all_there, front_there, memory_says, only_says}
+use Rattle.dk_program.specs.Ending.{EndsByFault, EndsWith}
+use Rattle.dk_program.specs.Messages.{fault_line, unread_line}
+use Rattle.dk_program.specs.Moments.{Outside}
+use Rattle.dk_program.specs.Outputs.{IsFront, Output, only_on}
+use Rattle.dk_program.specs.Statuses.{OutputIsWritten, StatusSays}
+use Rattle.dk_run.specs.Files.{FileFault as LineOfFile}
 use Rattle.dk_turns.specs.Turns.{turns_of}
-use Rattle.dk_merge.proofs.Ending.{followed_only, only_front}
-use Rattle.dk_merge.proofs.Held.{all_there, front_there, held_whole}
+use Rattle.dk_merge.proofs.Held.{held_whole}
 use Rattle.dk_merge.proofs.Taking.{helds_length}
 use Rattle.dk_merge.proofs.TurnsRuns.{no_message, one_message}
-use Rattle.dk_merge.specs.Ending.{EndsAmong, EndsBy, EndsWith}
-use Rattle.dk_merge.specs.Gathering.{AreReadTo, HoldsAll, IsRefusedAt, IsUnreadAt, TroubleAtGives, turns_by}
+use Rattle.dk_merge.specs.Ending.{EndsAmong}
+use Rattle.dk_merge.specs.Gathering.{AreReadTo, FaultAtGives, HoldsAll, IsRefusedAt, IsUnreadAt, turns_by}
 use Rattle.dk_merge.specs.Merged.{AreMergedTo}
 use Rattle.dk_merge.specs.Outputs.{IsDoneFront, IsDoneOutput, IsMergedFront, IsMergedOutput, IsStateFront, IsStateOutput, turns_fault, turns_output}
 use Rattle.dk_merge.specs.Running.{GatheredEnds, TurnsEnd}
-use Rattle.dk_merge.specs.Statuses.{AreRead, ComesTo, IsCutAtEnd, IsRefused, IsRefusedLater, IsUnread, Says, helds_of}
+use Rattle.dk_merge.specs.Statuses.{AreRead, ComesTo, IsCutAtEnd, IsRefused, IsRefusedLater, IsUnread, RunComesTo, Says, helds_of}
 use Rattle.dk_merge.specs.declared.gathered.Gathered.{Gathered}
 use Rattle.dk_merge.specs.declared.gathered.Gathered.TheVariants.{State, Traces}
 use Rattle.dk_merge.specs.declared.gathering.Gathering.{Gathering}
-use Rattle.dk_merge.specs.declared.reading.Trouble.{Trouble}
-use Rattle.dk_merge.specs.declared.reading.Trouble.TheVariants as t
-use Rattle.dk_merge_words.specs.Texts.{help_text, usage_line, version_text}
 use Rattle.dk_merge_words.specs.declared.command.Command.{Command}
-use Rattle.dk_arguments.specs.declared.request.Request.{Request}
-use Rattle.dk_arguments.specs.declared.request.Request.TheVariants.{Run, Help, Version}
 
--- a run that comes to an end and told its output says so
-comes_to_says : (status : Ended) (request : Option (Request Command)) (before after : Outside) (output : Output)
-    → ComesTo status request before after output → OutputIsWritten before after output → Says status request before after
-comes_to_says Done request before after output comes e = (output, comes, e)
-comes_to_says Refused request before after output comes e = (output, comes, e)
-comes_to_says Usage request before after output comes e = (output, comes, e)
-comes_to_says Read request before after output comes e = (output, comes, e)
-comes_to_says Write (Some (Run command)) before after output comes e = absurd comes
-comes_to_says Write (Some Help) before after output comes e = absurd comes
-comes_to_says Write (Some Version) before after output comes e = absurd comes
-comes_to_says Write None before after output comes e = absurd comes
-comes_to_says NoMemory (Some (Run command)) before after output comes e = absurd comes
-comes_to_says NoMemory (Some Help) before after output comes e = absurd comes
-comes_to_says NoMemory (Some Version) before after output comes e = absurd comes
-comes_to_says NoMemory None before after output comes e = absurd comes
+-- what is said of an end, where nothing else was read
+pub says_more : (request : Option (Request Command)) (before after : Outside) (result : Ended) → StatusSays (ComesTo request) result before after → Says result request before after
+says_more request before after Done says = says
+says_more request before after Refused says = says
+says_more request before after Usage says = says
+says_more request before after Read says = says
+says_more request before after Write (rose, cut) = (rose, inl cut)
+says_more request before after NoMemory (calm, cut) = (calm, inl cut)
 
--- a text alone
-only_says : (status : Ended) (request : Option (Request Command)) (before after : Outside) (stream : Stream) (text : List ℕ) (result : Ended) → ComesTo status request before after (only_on stream text)
-    → EndsWith status stream text before.written after.written before.write_faults after.write_faults result → Says result request before after
-only_says status request before after stream text result comes (inl (is, e, calm)) =
-    subst (λ (s : Ended). Says s request before after) (sym is) (comes_to_says status request before after (only_on stream text) comes (e ∙ followed_only before.written stream text, calm))
-only_says status request before after stream text result comes (inr (inl (is, rose, (n, short, e)))) =
-    subst (λ (s : Ended). Says s request before after) (sym is)
-    (rose, inr (inr (status, only_on stream text, comes, record { front = only_on stream (take n text); is_front = only_front stream n text short; written = e ∙ followed_only before.written stream (take n text) })))
-only_says status request before after stream text result comes (inr (inr (is, e, calm))) = subst (λ (s : Ended). Says s request before after) (sym is) (calm, inl e)
-
--- nothing was written where memory ran out
-pub memory_says : (request : Option (Request Command)) (before after : Outside) (result : Ended) → result ≡ NoMemory → after.written ≡ before.written → after.write_faults ≡ before.write_faults → Says result request before after
-memory_says request before after result is e calm = subst (λ (s : Ended). Says s request before after) (sym is) (calm, inl e)
+pub run_says : (asked : Option (Request Command)) (command : Command) (before after : Outside) (result : Ended) → asked ≡ Some (Run command) → Says result (Some (Run command)) before after → Says result asked before after
+run_says asked command before after result is says = subst (λ (r : Option (Request Command)). Says result r before after) (sym is) says
 
 -- ---- all files were read
 all_read : (command : Command) (before after : Outside) (g : Gathering) → AreReadTo command before.file before.rest after.rest g (length command.files) → AreRead command before after
@@ -76,8 +58,8 @@ all_read command before after g read = record {
 cut_says : (command : Command) (before after : Outside) (result : Ended)
     → ((result ≡ Write) × Rose before.write_faults after.write_faults) ⊎ ((result ≡ NoMemory) × (after.write_faults ≡ before.write_faults)) → IsCutAtEnd command before after
     → Says result (Some (Run command)) before after
-cut_says command before after result (inl (is, rose)) cut = subst (λ (s : Ended). Says s (Some (Run command)) before after) (sym is) (rose, inr (inl cut))
-cut_says command before after result (inr (is, calm)) cut = subst (λ (s : Ended). Says s (Some (Run command)) before after) (sym is) (calm, inr (inl cut))
+cut_says command before after result (inl (is, rose)) cut = subst (λ (s : Ended). Says s (Some (Run command)) before after) (sym is) (rose, inr cut)
+cut_says command before after result (inr (is, calm)) cut = subst (λ (s : Ended). Says s (Some (Run command)) before after) (sym is) (calm, inr cut)
 
 no_messages : (least : ℕ) (state : Option (List ℕ)) (output : Output) → IsMergedOutput least state output → output.messages ≡ []
 no_messages least None output is = ap (λ (o : Output). o.messages) is
@@ -121,9 +103,9 @@ module _ (command : Command) (before after : Outside) (result : Ended) (read : A
         (subst (λ (l : List (List ℕ)). IsFront front (turns_output command.least (turns_of n l))) (same contents held) own);
   })
   turns_says n files some same (inl (is, (output, own, e), calm)) = by (turns_fault (turns_of n files)) refl where
-    by : (fault : Option FileFault) → turns_fault (turns_of n files) ≡ fault → Says result (Some (Run command)) before after
+    by : (fault : Option LineOfFile) → turns_fault (turns_of n files) ≡ fault → Says result (Some (Run command)) before after
     by None none =
-        let done : result ≡ Done = is ∙ ap (λ (o : Option FileFault). option_map_or (λ f. Refused) o Done) none in
+        let done : result ≡ Done = is ∙ ap (λ (o : Option LineOfFile). option_map_or (λ f. Refused) o Done) none in
         subst (λ (s : Ended). Says s (Some (Run command)) before after) (sym done) (
           output,
           record {
@@ -137,7 +119,7 @@ module _ (command : Command) (before after : Outside) (result : Ended) (read : A
           (e, calm),
         )
     by (Some fault) first =
-        let refused : result ≡ Refused = is ∙ ap (λ (o : Option FileFault). option_map_or (λ f. Refused) o Done) first in
+        let refused : result ≡ Refused = is ∙ ap (λ (o : Option LineOfFile). option_map_or (λ f. Refused) o Done) first in
         let later : IsRefusedLater command before after output = record {
           n = n;
           turns = some;
@@ -161,7 +143,7 @@ gathered_says command before after g result read ends =
     (λ contents held. (read.holds contents (held_whole (length command.files) (helds_of command before.file) contents (omega (arith, helds_length command before.file)) held)).0)
     ends
 
--- ---- troubles
+-- ---- faults
 refused_comes : (command : Command) (before : Outside) (place : ℕ) (why : Why) → place < length command.files → IsRefusedAt command before.file place why
     → IsRefused command before (only_on Messages (fault_line (file_name_at command.files place) 0 why))
 refused_comes command before place why within at = record {
@@ -189,44 +171,28 @@ unread_comes by command before after place within at = record {
   message = refl;
 }
 
-trouble_of_says : (command : Command) (before after : Outside) (place : ℕ) (trouble : Trouble) (result : Ended) → place < length command.files
-    → TroubleAtGives command before.file (Rose before.read_faults after.read_faults) before.rest after.rest place trouble
-    → EndsBy (file_name_at command.files place) trouble before.written after.written before.write_faults after.write_faults result → Says result (Some (Run command)) before after
-trouble_of_says command before after place (t.Refused why) result within gives ended =
-    only_says Refused (Some (Run command)) before after Messages (fault_line (file_name_at command.files place) 0 why) result (inl (refused_comes command before place why within gives)) ended
-trouble_of_says command before after place t.Start result within gives ended =
-    only_says Read (Some (Run command)) before after Messages (unread_line (file_name_at command.files place)) result (unread_comes AtStart command before after place within gives) ended
-trouble_of_says command before after place t.Read result within gives ended =
-    only_says Read (Some (Run command)) before after Messages (unread_line (file_name_at command.files place)) result (unread_comes Within command before after place within gives) ended
-trouble_of_says command before after place t.NoMemory result within gives (is, e, calm) = memory_says (Some (Run command)) before after result is e calm
+module _ (command : Command) (before after : Outside) (place : ℕ) (result : Ended) (within : place < length command.files) where
+  -- a message alone
+  told_says : (status : Ended) (text : List ℕ) → ((b a : Outside) (output : Output) → ComesTo (Some (Run command)) status b a output → OutputIsWritten b a output → StatusSays (ComesTo (Some (Run command))) status b a)
+      → RunComesTo command status before after (only_on Messages text)
+      → EndsWith status Messages text before.written after.written before.write_faults after.write_faults result → Says result (Some (Run command)) before after
+  told_says status text said comes ended =
+      says_more (Some (Run command)) before after result (only_says (ComesTo (Some (Run command))) before after status Messages text result said comes ended)
 
-pub trouble_says : (command : Command) (before after : Outside) (place : ℕ) (trouble : Trouble) (name : List ℕ) (result : Ended) → name ≡ file_name_at command.files place → place < length command.files
-    → TroubleAtGives command before.file (Rose before.read_faults after.read_faults) before.rest after.rest place trouble
-    → EndsBy name trouble before.written after.written before.write_faults after.write_faults result → Says result (Some (Run command)) before after
-trouble_says command before after place trouble name result is within gives ended =
-    trouble_of_says command before after place trouble result within gives
-    (subst (λ (n : List ℕ). EndsBy n trouble before.written after.written before.write_faults after.write_faults result) is ended)
+  fault_of_says : (fault : FileFault) → FaultAtGives command before.file (Rose before.read_faults after.read_faults) before.rest after.rest place fault
+      → EndsByFault (file_name_at command.files place) fault before.written after.written before.write_faults after.write_faults result → Says result (Some (Run command)) before after
+  fault_of_says (f.Refused line why) (whole, gives) ended =
+      let told = subst (λ (n : ℕ). EndsByFault (file_name_at command.files place) (f.Refused n why) before.written after.written before.write_faults after.write_faults result) whole ended in
+      told_says Refused (fault_line (file_name_at command.files place) 0 why) (λ b a output comes e. (output, comes, e)) (inl (refused_comes command before place why within gives)) told
+  fault_of_says f.Start gives ended =
+      told_says Read (unread_line (file_name_at command.files place)) (λ b a output comes e. (output, comes, e)) (unread_comes AtStart command before after place within gives) ended
+  fault_of_says f.Read gives ended =
+      told_says Read (unread_line (file_name_at command.files place)) (λ b a output comes e. (output, comes, e)) (unread_comes Within command before after place within gives) ended
+  fault_of_says f.NoMemory gives (is, e, calm) =
+      says_more (Some (Run command)) before after result (memory_says (ComesTo (Some (Run command))) before after result is e calm)
 
--- ---- texts that the words ask for
-text_says : (status : Ended) (request asked : Option (Request Command)) (before after : Outside) (stream : Stream) (own text : List ℕ) (result : Ended) → asked ≡ request → own ≡ text
-    → ComesTo status request before after (only_on stream text)
-    → EndsWith status stream own before.written after.written before.write_faults after.write_faults result → Says result asked before after
-text_says status request asked before after stream own text result is same comes ended =
-    subst (λ (r : Option (Request Command)). Says result r before after) (sym is)
-    (only_says status request before after stream text result comes
-    (subst (λ (l : List ℕ). EndsWith status stream l before.written after.written before.write_faults after.write_faults result) same ended))
-
-pub help_says : (asked : Option (Request Command)) (before after : Outside) (text : List ℕ) (result : Ended) → asked ≡ Some Help → text ≡ help_text
-    → EndsWith Done Report text before.written after.written before.write_faults after.write_faults result → Says result asked before after
-help_says asked before after text result is same ended = text_says Done (Some Help) asked before after Report text help_text result is same refl ended
-
-pub version_says : (asked : Option (Request Command)) (before after : Outside) (text : List ℕ) (result : Ended) → asked ≡ Some Version → text ≡ version_text
-    → EndsWith Done Report text before.written after.written before.write_faults after.write_faults result → Says result asked before after
-version_says asked before after text result is same ended = text_says Done (Some Version) asked before after Report text version_text result is same refl ended
-
-pub usage_says : (asked : Option (Request Command)) (before after : Outside) (result : Ended) → asked ≡ None
-    → EndsWith Usage Messages usage_line before.written after.written before.write_faults after.write_faults result → Says result asked before after
-usage_says asked before after result is ended = text_says Usage None asked before after Messages usage_line usage_line result is refl refl ended
-
-pub unread_ends : (text other : List ℕ) (old new : Texts) (before after : ℕ) (result : Ended) → text ≡ other → EndsWith Read Messages text old new before after result → EndsWith Read Messages other old new before after result
-unread_ends text other old new before after result same ended = subst (λ (l : List ℕ). EndsWith Read Messages l old new before after result) same ended
+  pub fault_says : (fault : FileFault) (name : List ℕ) → name ≡ file_name_at command.files place
+      → FaultAtGives command before.file (Rose before.read_faults after.read_faults) before.rest after.rest place fault
+      → EndsByFault name fault before.written after.written before.write_faults after.write_faults result → Says result (Some (Run command)) before after
+  fault_says fault name is gives ended =
+      fault_of_says fault gives (subst (λ (n : List ℕ). EndsByFault n fault before.written after.written before.write_faults after.write_faults result) is ended)

@@ -9,9 +9,11 @@ use Rattle.dk_events.specs.declared.ended.Ended.TheVariants as ended
 use Rattle.dk_io.specs.Outside.{HeldFile, Holds, Rose}
 use Rattle.dk_io.specs.Streams.{Texts, with_bytes}
 use Rattle.dk_io.specs.declared.outside.Stream.TheVariants.{State}
-use Rattle.dk_run.proofs.Writing.{front_all, front_take}
+use Rattle.dk_program.proofs.Writing.{front_all, front_take}
+use Rattle.dk_program.specs.Ending.{EndsWith}
+use Rattle.dk_program.specs.Outputs.{Output, texts_followed_by}
 use Rattle.dk_run.specs.Courses.{Outset, course_of, total_limit}
-use Rattle.dk_run.specs.Outputs.{IsFront, Output, output_of, texts_followed_by}
+use Rattle.dk_run.specs.Outputs.{IsFront, Output as RunOutput, output_of}
 use Rattle.dk_run.specs.Reports.{whole_report}
 use Rattle.dk_run.specs.Starts.{Begins, IsRefusedAs, resumed_start}
 use Rattle.dk_run.specs.Statuses.{AtStart, Break, ComesTo, HasBroken, IsCutShort, Outside, Says, Within}
@@ -21,8 +23,7 @@ use Rattle.dk_state.specs.Spelling.{IsSpelling}
 use Rattle.dk_words.specs.declared.command.Command.{Command}
 use Rattle.dk_arguments.specs.declared.request.Request.TheVariants.{Run}
 use Rattle.dk_merge.proofs.Ending.{ends_early, followed_nothing, followed_state, front_of_nothing, only_report}
-use Rattle.dk_merge.specs.Ending.{EndsWith}
-use Rattle.dk_merge.specs.Outputs.{IsStateFront, IsStateOutput, no_output, plain_command}
+use Rattle.dk_merge.specs.Outputs.{IsStateFront, IsStateOutput, no_output, plain_command, texts_of}
 use Rattle.dk_merge.specs.Running.{IsReportFront, IsReportOf, ReportEnds, StateEnds, ended_of}
 
 abbrev pub resumed_command : ℕ → List ℕ → Command
@@ -50,7 +51,7 @@ module _ (least : ℕ) (name state : List ℕ) (before after : Outside) (holds :
   not_broken AtStart held is (inr rose) = none_rose rose
   not_broken Within held is (there, rose) = none_rose rose
 
-  not_refused : (output : Output) → ComesTo Refused (Some (Run (resumed_command least name))) before after output → ⊥
+  not_refused : (output : RunOutput) → ComesTo Refused (Some (Run (resumed_command least name))) before after output → ⊥
   not_refused output (inl refused) =
       let named = refused.named in
       let same : name ≡ refused.name = cc named in
@@ -61,29 +62,29 @@ module _ (least : ℕ) (name state : List ℕ) (before after : Outside) (holds :
       by why (inr (is, fits, none)) = none spelled
   not_refused output (inr refused) = let named = refused.named in omega (arith, named)
 
-  not_unread : (output : Output) → ComesTo Read (Some (Run (resumed_command least name))) before after output → ⊥
+  not_unread : (output : RunOutput) → ComesTo Read (Some (Run (resumed_command least name))) before after output → ⊥
   not_unread output (inl unread) =
       let named = unread.named in
       let same : name ≡ unread.name = cc named in
       not_broken unread.by (before.file unread.name) (ap before.file (sym same) ∙ holds) unread.cause
   not_unread output (inr unread) = let named = unread.named in omega (arith, named)
 
-  done : (output : Output) → ComesTo Done (Some (Run (resumed_command least name))) before after output → IsReportOf least state output
+  done : (output : RunOutput) → ComesTo Done (Some (Run (resumed_command least name))) before after output → IsReportOf least state (texts_of output)
   done output came = record {
     messages = came.messages;
     state = came.unsaved refl;
-    report = λ h start is. ap (λ (o : Output). o.report) (came.defined (resumed_start h) (start_of h start is) [] refl) ∙ report_alone least name (resumed_start h);
+    report = λ h start is. ap (λ (o : RunOutput). o.report) (came.defined (resumed_start h) (start_of h start is) [] refl) ∙ report_alone least name (resumed_start h);
   }
 
   -- the front of a report is a front of the history's
-  front_of : (output front : Output) → IsReportOf least state output → IsFront front output → IsReportFront least state front
+  front_of : (output front : RunOutput) → IsReportOf least state (texts_of output) → IsFront front output → IsReportFront least state (texts_of front)
   front_of output front is part = record {
     messages = front_of_nothing front.messages (subst (λ (l : List ℕ). StartsWith l front.messages) is.messages part.messages);
     state = front_of_nothing front.state (subst (λ (l : List ℕ). StartsWith l front.state) is.state part.state);
     report = λ h start same. subst (λ (l : List ℕ). StartsWith l front.report) (is.report h start same) part.report;
   }
 
-  by_status : (status : Status) (output : Output) → ComesTo status (Some (Run (resumed_command least name))) before after output → (ended_of status ≡ ended.Done) × IsReportOf least state output
+  by_status : (status : Status) (output : RunOutput) → ComesTo status (Some (Run (resumed_command least name))) before after output → (ended_of status ≡ ended.Done) × IsReportOf least state (texts_of output)
   by_status Done output came = (refl, done output came)
   by_status Refused output came = absurd (not_refused output came)
   by_status Usage output came = absurd came
@@ -94,7 +95,7 @@ module _ (least : ℕ) (name state : List ℕ) (before after : Outside) (holds :
   cut : IsCutShort (Some (Run (resumed_command least name))) before after → (front : Output) × IsReportFront least state front × (after.written ≡ texts_followed_by before.written front)
   cut (inl same) = (no_output, record { messages = refl; state = refl; report = λ h start is. refl }, same ∙ followed_nothing before.written)
   cut (inr (inl (inl within))) = (
-    within.front,
+    texts_of within.front,
     record {
       messages = front_of_nothing within.front.messages within.messages;
       state = within.no_state;
@@ -105,7 +106,7 @@ module _ (least : ℕ) (name state : List ℕ) (before after : Outside) (holds :
     within.written,
   )
   cut (inr (inl (inr at_end))) = (
-    at_end.front,
+    texts_of at_end.front,
     record {
       messages = at_end.messages;
       state = at_end.unsaved refl;
@@ -114,10 +115,10 @@ module _ (least : ℕ) (name state : List ℕ) (before after : Outside) (holds :
     at_end.written,
   )
   cut (inr (inr (status, output, came, followed))) =
-      (followed.front, front_of output followed.front (by_status status output came).1 followed.is_front, followed.written)
+      (texts_of followed.front, front_of output followed.front (by_status status output came).1 followed.is_front, followed.written)
 
   pub report_ends : (status : Status) → Says status (Some (Run (resumed_command least name))) before after → ReportEnds least state before.written after.written before.write_faults after.write_faults (ended_of status)
-  report_ends Done (output, came, (written, quiet)) = inl (refl, (output, done output came, written), quiet)
+  report_ends Done (output, came, (written, quiet)) = inl (refl, (texts_of output, done output came, written), quiet)
   report_ends Refused (output, came, rest) = absurd (not_refused output came)
   report_ends Usage (output, came, rest) = absurd came
   report_ends Read (output, came, rest) = absurd (not_unread output came)

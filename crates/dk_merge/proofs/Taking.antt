@@ -5,19 +5,19 @@ use Rattle.std.proofs.lemmas.List.{length-map}
 use Rattle.std.proofs.lemmas.List.Sums.{sum_by_push}
 use Rattle.dk_base.specs.declared.why.Why.{Why}
 use Rattle.dk_io.specs.Outside.{DeliversUpTo, HeldFile, Absent, Holds, Rose}
-use Rattle.dk_run.proofs.Placing.{rose_since}
-use Rattle.dk_run.specs.Files.{AreHeldFiles, file_name_at}
-use Rattle.dk_run.specs.Statuses.{AtStart, Break, HasBroken, Within, held_file_at, rest_behind}
+use Rattle.dk_driver.specs.Files.{AreHeldFiles, file_name_at}
+use Rattle.dk_driver.specs.Reads.{AtStart, Break, HasBroken, Within, held_file_at, rest_behind}
+use Rattle.dk_driver.specs.declared.fault.FileFault.{FileFault}
+use Rattle.dk_driver.specs.declared.fault.FileFault.TheVariants.{Refused, Start, Read, NoMemory}
+use Rattle.dk_driver.proofs.Running.{rose_since}
 use Rattle.dk_merge.proofs.Held.{held_map, none_held, one_more, there_more}
 use Rattle.dk_merge.proofs.Merging.{holds_more, not_start, not_unread, refused_reason, sound_more, taken_of, turns_kept}
-use Rattle.dk_merge.specs.Gathering.{AreReadTo, HasTaken, HoldsAll, IsRefusedAt, IsSound, NotTaken, TakesFile, TroubleAtGives, turns_by}
+use Rattle.dk_merge.specs.Gathering.{AreReadTo, HasTaken, HoldsAll, IsRefusedAt, IsSound, NotTaken, TakesFile, FaultAtGives, turns_by}
 use Rattle.dk_merge.specs.Merged.{AreTaken, IsNoStateOf, IsReason, IsRefusedBehind, bytes_in, whole_limit}
 use Rattle.dk_merge.specs.Statuses.{helds_of}
 use Rattle.dk_merge.specs.declared.gathered.Gathered.{Gathered}
 use Rattle.dk_merge.specs.declared.gathered.Gathered.TheVariants.{State, Traces}
 use Rattle.dk_merge.specs.declared.gathering.Gathering.{Gathering}
-use Rattle.dk_merge.specs.declared.reading.Trouble.{Trouble}
-use Rattle.dk_merge.specs.declared.reading.Trouble.TheVariants.{Refused, Start, Read, NoMemory}
 use Rattle.dk_merge_words.specs.declared.command.Command.{Command}
 
 pub helds_length : (command : Command) (file : List ℕ → HeldFile) → length (helds_of command file) ≡ length command.files
@@ -77,7 +77,7 @@ module _ (command : Command) (file : List ℕ → HeldFile) (before mid after : 
         holds = holds_on taken;
       }
 
-  -- ---- a trouble with it
+  -- ---- a fault of it
   -- it is refused for what it holds, or for its length
   refused_on : (why : Why) → IsReason why → file name ≢ Absent
       → ((contents : List (List ℕ)) (own : List ℕ) → HoldsAll contents g.gathered → bytes_in contents + g.room ≡ whole_limit → file name ≡ Holds own → IsRefusedBehind command.turns contents own why)
@@ -89,37 +89,42 @@ module _ (command : Command) (file : List ℕ → HeldFile) (before mid after : 
     first = λ contents own held holds. let old = read.holds contents held in gives contents own old.0 old.1 (sym here ∙ holds);
   }
 
-  no_state : (turns : Option ℕ) (contents : List (List ℕ)) (own : List ℕ) (why : Why) (k : Gathered) → turns_by k ≡ turns → HoldsAll contents k → TakesFile k own (Err (Refused why)) → IsNoStateOf turns contents own why
-  no_state None contents own why (State state) turns holds none = (state, holds, none)
-  no_state (Some n) contents own why (State state) turns holds none = absurd (cc turns)
-  no_state None contents own why (Traces n files) turns holds none = absurd none
-  no_state (Some m) contents own why (Traces n files) turns holds none = absurd none
+  no_state : (turns : Option ℕ) (contents : List (List ℕ)) (own : List ℕ) (line : ℕ) (why : Why) (k : Gathered) → turns_by k ≡ turns → HoldsAll contents k → TakesFile k own (Err (Refused line why)) → IsNoStateOf turns contents own why
+  no_state None contents own line why (State state) turns holds none = (state, holds, none.1)
+  no_state (Some n) contents own line why (State state) turns holds none = absurd (cc turns)
+  no_state None contents own line why (Traces n files) turns holds none = absurd none
+  no_state (Some m) contents own line why (Traces n files) turns holds none = absurd none
 
   unread_on : (by : Break) (b c : ℕ) → HasBroken by (file name) (Rose b c) → (a : ℕ) → a ≤ b → HasBroken by (held_file_at (helds_of command file) place) (Rose a c)
   unread_on AtStart b c (inl absent) a h = inl (here ∙ absent)
   unread_on AtStart b c (inr rose) a h = inr (rose_since a b c h rose)
   unread_on Within b c (there, rose) a h = (λ absent. there (sym here ∙ absent), rose_since a b c h rose)
 
-  pub trouble_on : (rest : Option (List ℕ)) (a b c : ℕ) (trouble : Trouble) → a ≤ b → NotTaken g (file name) (Rose b c) mid rest trouble → TroubleAtGives command file (Rose a c) before rest place trouble
-  trouble_on rest a b c (Refused why) h (inl (there, is, long)) =
-      refused_on why (inl is) there (λ contents own holds room held. inl (is, let more = long own held in omega (arith, more, room, sum_by_push length contents own)))
-  trouble_on rest a b c (Refused why) h (inr (text, whole, none)) =
-      refused_on why (refused_reason g.gathered text why none) whole.there (λ contents own holds room held.
-      let same = (whole.all own held).0 in
-      let short = whole.short in
-      let long : length text ≡ length own = ap length same in
-      inr (
-        omega (arith, short, long, room, sum_by_push length contents own),
-        no_state command.turns contents own why g.gathered read.turns holds (subst (λ (t : List ℕ). TakesFile g.gathered t (Err (Refused why))) same none),
-      ))
-  trouble_on rest a b c Start h (inl (broken, same)) = record {
+  pub fault_on : (rest : Option (List ℕ)) (a b c : ℕ) (fault : FileFault) → a ≤ b → NotTaken g (file name) (Rose b c) mid rest fault → FaultAtGives command file (Rose a c) before rest place fault
+  fault_on rest a b c (Refused line why) h (inl (whole, there, is, long)) = (
+    whole,
+    refused_on why (inl is) there (λ contents own holds room held. inl (is, let more = long own held in omega (arith, more, room, sum_by_push length contents own))),
+  )
+  fault_on rest a b c (Refused line why) h (inr (text, whole, none)) =
+      let (at, reason) = refused_reason g.gathered text line why none in (
+        at,
+        refused_on why reason whole.there (λ contents own holds room held.
+            let same = (whole.all own held).0 in
+            let short = whole.short in
+            let long : length text ≡ length own = ap length same in
+            inr (
+              omega (arith, short, long, room, sum_by_push length contents own),
+              no_state command.turns contents own line why g.gathered read.turns holds (subst (λ (t : List ℕ). TakesFile g.gathered t (Err (Refused line why))) same none),
+            )),
+      )
+  fault_on rest a b c Start h (inl (broken, same)) = record {
     cause = unread_on AtStart b c broken a h;
     there = read.there;
     clean = read.clean;
     left = λ contents held. same ∙ (read.holds contents held).2;
   }
-  trouble_on rest a b c Start h (inr (text, whole, none)) = absurd (not_start g.gathered text none)
-  trouble_on rest a b c Read h (inl (broken, delivers)) = record {
+  fault_on rest a b c Start h (inr (text, whole, none)) = absurd (not_start g.gathered text none)
+  fault_on rest a b c Read h (inl (broken, delivers)) = record {
     cause = unread_on Within b c broken a h;
     there = read.there;
     clean = read.clean;
@@ -128,5 +133,5 @@ module _ (command : Command) (file : List ℕ → HeldFile) (before mid after : 
         let same : g.room ≡ whole_limit - bytes_in contents = omega (arith, room) in
         subst (λ (n : ℕ). DeliversUpTo n (Some xs) rest) same (delivers xs (sym here ∙ holds));
   }
-  trouble_on rest a b c Read h (inr (text, whole, none)) = absurd (not_unread g.gathered text none)
-  trouble_on rest a b c NoMemory h none = tt
+  fault_on rest a b c Read h (inr (text, whole, none)) = absurd (not_unread g.gathered text none)
+  fault_on rest a b c NoMemory h none = tt

@@ -5,18 +5,18 @@ use Rattle.dk_base.specs.declared.why.Why.TheVariants.{BadState, DifferentState,
 use Rattle.dk_io.specs.Outside.{HeldFile, Absent, Holds}
 use Rattle.dk_merging.specs.declared.merging.MergeFault.{MergeFault}
 use Rattle.dk_merging.specs.declared.merging.MergeFault.TheVariants as merge
-use Rattle.dk_run.specs.Files.{AreHeldFiles}
-use Rattle.dk_run.specs.Statuses.{AtStart, Break, HasBroken, Within, held_file_at, rest_behind}
+use Rattle.dk_driver.specs.Files.{AreHeldFiles}
+use Rattle.dk_driver.specs.Reads.{AtStart, Break, HasBroken, Within, held_file_at, rest_behind}
+use Rattle.dk_driver.specs.declared.fault.FileFault.{FileFault}
+use Rattle.dk_driver.specs.declared.fault.FileFault.TheVariants.{Refused, Start, Read, NoMemory}
 use Rattle.dk_state.specs.Spelling.{IsSpelling}
 use Rattle.dk_merge.specs.Merged.{AreMergedTo, IsNoState, IsReason, IsRefusedBehind, IsStateBehind, bytes_in, whole_limit}
-use Rattle.dk_merge.specs.Reading.{IsWhole, UnreadGives}
+use Rattle.dk_merge.specs.Reading.{IsWhole, UnreadGives, refused_whole}
 use Rattle.dk_merge.specs.Statuses.{AreClean, UnreadLeaves, helds_of}
 use Rattle.dk_merge.specs.declared.gathered.Gathered.{Gathered}
 use Rattle.dk_merge.specs.declared.gathered.Gathered.TheVariants.{State, Traces}
-use Rattle.dk_merge.specs.declared.gathering.FilesTrouble.{FilesTrouble}
 use Rattle.dk_merge.specs.declared.gathering.Gathering.{Gathering}
-use Rattle.dk_merge.specs.declared.reading.Trouble.{Trouble}
-use Rattle.dk_merge.specs.declared.reading.Trouble.TheVariants.{Refused, Start, Read, NoMemory}
+use Rattle.dk_merge.specs.declared.gathering.Untaken.{Untaken}
 use Rattle.dk_merge_words.specs.declared.command.Command.{Command}
 
 -- ---- one file more
@@ -35,27 +35,27 @@ abbrev pub HoldsAll : List (List ℕ) → Gathered → Type 0
 HoldsAll contents (State state) = AreMergedTo contents state
 HoldsAll contents (Traces n files) = files ≡ contents
 
-abbrev pub trouble_of_merge : MergeFault → Trouble
-trouble_of_merge merge.BadFirst = Refused BadState
-trouble_of_merge merge.BadSecond = Refused BadState
-trouble_of_merge merge.Different = Refused DifferentState
-trouble_of_merge merge.Joined = Refused JoinedState
-trouble_of_merge merge.NoMemory = NoMemory
+abbrev pub fault_of_merge : MergeFault → FileFault
+fault_of_merge merge.BadFirst = refused_whole BadState
+fault_of_merge merge.BadSecond = refused_whole BadState
+fault_of_merge merge.Different = refused_whole DifferentState
+fault_of_merge merge.Joined = refused_whole JoinedState
+fault_of_merge merge.NoMemory = NoMemory
 
 -- the state behind one more file, or why there is none
-abbrev pub StateGives : Option (List ℕ) → List ℕ → Result (List ℕ) Trouble → Type 0
+abbrev pub StateGives : Option (List ℕ) → List ℕ → Result (List ℕ) FileFault → Type 0
 StateGives before file (Ok state) = IsStateBehind before file state
-StateGives before file (Err (Refused why)) = IsNoState before file why
+StateGives before file (Err (Refused line why)) = (line ≡ 0) × IsNoState before file why
 StateGives before file (Err NoMemory) = Unit {0}
-StateGives before file (Err trouble) = ⊥
+StateGives before file (Err fault) = ⊥
 
 -- what is kept behind one more file
-abbrev pub TakesFile : Gathered → List ℕ → Result Gathered Trouble → Type 0
+abbrev pub TakesFile : Gathered → List ℕ → Result Gathered FileFault → Type 0
 TakesFile (State before) file (Ok next) = (state : List ℕ) × IsStateBehind before file state × (next ≡ State (Some state))
 TakesFile (Traces n files) file (Ok next) = next ≡ Traces n (files ++ file ∷ [])
-TakesFile (State before) file (Err (Refused why)) = IsNoState before file why
+TakesFile (State before) file (Err (Refused line why)) = (line ≡ 0) × IsNoState before file why
 TakesFile gathered file (Err NoMemory) = Unit {0}
-TakesFile gathered file (Err trouble) = ⊥
+TakesFile gathered file (Err fault) = ⊥
 
 -- A file was read whole and taken.
 pub record HasTaken (old new : Gathering) (held : HeldFile) (rest : Option (List ℕ)) : Type 0 where
@@ -65,10 +65,10 @@ pub record HasTaken (old new : Gathering) (held : HeldFile) (rest : Option (List
   pub room : new.room ≡ old.room - length text
 
 -- It was not read, or not taken.
-abbrev pub NotTaken : Gathering → HeldFile → Type 0 → Option (List ℕ) → Option (List ℕ) → Trouble → Type 0
-NotTaken old held rose before rest trouble =
-    UnreadGives old.room held rose before rest trouble
-    ⊎ ((text : List ℕ) × IsWhole old.room held text rest × TakesFile old.gathered text (Err trouble))
+abbrev pub NotTaken : Gathering → HeldFile → Type 0 → Option (List ℕ) → Option (List ℕ) → FileFault → Type 0
+NotTaken old held rose before rest fault =
+    UnreadGives old.room held rose before rest fault
+    ⊎ ((text : List ℕ) × IsWhole old.room held text rest × TakesFile old.gathered text (Err fault))
 
 -- ---- all files
 -- The files in front of this place were read and taken, whatever they hold.
@@ -99,15 +99,15 @@ pub record IsUnreadAt (by : Break) (command : Command) (file : List ℕ → Held
   pub left : (contents : List (List ℕ)) → AreHeldFiles (take place (helds_of command file)) contents
       → UnreadLeaves by place (held_file_at (helds_of command file) place) before rest contents
 
--- what a trouble with the file at a place says
-abbrev pub TroubleAtGives : Command → (List ℕ → HeldFile) → Type 0 → Option (List ℕ) → Option (List ℕ) → ℕ → Trouble → Type 0
-TroubleAtGives command file rose before rest place (Refused why) = IsRefusedAt command file place why
-TroubleAtGives command file rose before rest place Start = IsUnreadAt AtStart command file rose before rest place
-TroubleAtGives command file rose before rest place Read = IsUnreadAt Within command file rose before rest place
-TroubleAtGives command file rose before rest place NoMemory = Unit {0}
+-- what a fault of the file at a place says
+abbrev pub FaultAtGives : Command → (List ℕ → HeldFile) → Type 0 → Option (List ℕ) → Option (List ℕ) → ℕ → FileFault → Type 0
+FaultAtGives command file rose before rest place (Refused line why) = (line ≡ 0) × IsRefusedAt command file place why
+FaultAtGives command file rose before rest place Start = IsUnreadAt AtStart command file rose before rest place
+FaultAtGives command file rose before rest place Read = IsUnreadAt Within command file rose before rest place
+FaultAtGives command file rose before rest place NoMemory = Unit {0}
 
 -- what reading all files comes to
-abbrev pub FilesGive : Command → (List ℕ → HeldFile) → Type 0 → Option (List ℕ) → Option (List ℕ) → Result Gathering FilesTrouble → Type 0
+abbrev pub FilesGive : Command → (List ℕ → HeldFile) → Type 0 → Option (List ℕ) → Option (List ℕ) → Result Gathering Untaken → Type 0
 FilesGive command file rose before rest (Ok g) = AreReadTo command file before rest g (length command.files)
-FilesGive command file rose before rest (Err t) =
-    (t.place < length command.files) × TroubleAtGives command file rose before rest t.place t.trouble
+FilesGive command file rose before rest (Err u) =
+    (u.place < length command.files) × FaultAtGives command file rose before rest u.place u.fault

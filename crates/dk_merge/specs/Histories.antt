@@ -5,9 +5,9 @@ use Rattle.dk_core.specs.Resuming.{IsStart, state_file}
 use Rattle.dk_decl.specs.Headers.{is_implicit}
 use Rattle.dk_events.specs.declared.ended.Ended.{Ended}
 use Rattle.dk_events.specs.declared.ended.Ended.TheVariants.{Done, NoMemory}
-use Rattle.dk_run.specs.Files.{AreHeldFiles}
-use Rattle.dk_run.specs.Outputs.{texts_followed_by}
-use Rattle.dk_run.specs.Statuses.{IsCalm, Outside}
+use Rattle.dk_driver.specs.Files.{AreHeldFiles}
+use Rattle.dk_program.specs.Moments.{IsCalm, Outside}
+use Rattle.dk_program.specs.Outputs.{texts_followed_by}
 use Rattle.dk_merge.specs.Merged.{bytes_in, whole_limit}
 use Rattle.dk_merge.specs.Outputs.{state_output}
 use Rattle.dk_merge.specs.Statuses.{helds_of}

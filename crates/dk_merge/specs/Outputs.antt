@@ -5,10 +5,12 @@ use Rattle.dk_base.specs.declared.why.Why.{Why}
 use Rattle.dk_blocks.specs.History.{History}
 use Rattle.dk_core.specs.Resuming.{IsStart, state_file}
 use Rattle.dk_io.specs.declared.outside.Stream.TheVariants.{Messages}
-use Rattle.dk_print.specs.Sections.{fault_line}
+use Rattle.dk_driver.specs.Files.{file_name_at}
+use Rattle.dk_program.specs.Messages.{fault_line}
+use Rattle.dk_program.specs.Outputs.{IsFront, Output, only_on}
 use Rattle.dk_run.specs.Courses.{first_fault, first_start}
-use Rattle.dk_run.specs.Files.{FileFault, ended_file, file_name_at}
-use Rattle.dk_run.specs.Outputs.{IsFront, Output, only_on, output_of}
+use Rattle.dk_run.specs.Files.{FileFault, ended_file}
+use Rattle.dk_run.specs.Outputs.{Output as RunOutput, output_of}
 use Rattle.dk_run.specs.Reports.{whole_report}
 use Rattle.dk_turns.specs.Turns.{turns_of}
 use Rattle.dk_words.specs.declared.command.Command.{Command as PlainCommand}
@@ -18,6 +20,10 @@ use Rattle.dk_merge_words.specs.declared.command.Command.{Command}
 -- nothing is written
 abbrev pub no_output : Output
 no_output = record { report = []; messages = []; state = [] }
+
+-- the three texts that a run of daikon writes
+abbrev pub texts_of : RunOutput → Output
+texts_of output = record { report = output.report; messages = output.messages; state = output.state }
 
 -- ---- daikon's commands
 -- over no files, with this least number; nothing else is asked for
@@ -75,7 +81,7 @@ IsMergedFront least (Some state) front = IsStateFront least state front
 -- ---- turns
 -- the output of daikon over the one file, from no samples on, and its first fault
 abbrev pub turns_output : ℕ → List ℕ → Output
-turns_output least text = output_of first_start (turns_command least) (ended_file text ∷ [])
+turns_output least text = texts_of (output_of first_start (turns_command least) (ended_file text ∷ []))
 
 abbrev pub turns_fault : List ℕ → Option FileFault
 turns_fault text = first_fault first_start false (ended_file text ∷ [])

@@ -8,7 +8,7 @@ use Rattle.dk_events.specs.declared.ended.Ended.{Ended}
 use Rattle.dk_events.specs.declared.ended.Ended.TheVariants as ended
 use Rattle.dk_io.specs.NamedFiles.{Files}
 use Rattle.dk_io.specs.Streams.{Texts}
-use Rattle.dk_run.specs.Outputs.{IsFront, Output}
+use Rattle.dk_program.specs.Outputs.{IsFront, Output}
 use Rattle.dk_run.specs.Reports.{whole_report}
 use Rattle.dk_run.specs.declared.status.Status.{Status}
 use Rattle.dk_run.specs.declared.status.Status.TheVariants as status

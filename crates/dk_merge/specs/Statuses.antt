@@ -2,21 +2,23 @@
 use Rattle.std.specs.Prelude.{◌≡◌, ◌≢◌, ◌≤◌, ◌<◌, ◌⊎◌, ◌+◌, ◌-◌, ℕ, List, [], map, take, length, All, Option, Some, None}
 use Rattle.dk_base.specs.declared.why.Why.{Why}
 use Rattle.dk_events.specs.declared.ended.Ended.{Ended}
-use Rattle.dk_events.specs.declared.ended.Ended.TheVariants.{Done, Refused, Usage, Read, Write, NoMemory}
+use Rattle.dk_events.specs.declared.ended.Ended.TheVariants.{Done, Refused, Read, NoMemory}
 use Rattle.dk_io.specs.Outside.{DeliversUpTo, HeldFile, Absent, Holds, Rose}
 use Rattle.dk_io.specs.declared.outside.Stream.TheVariants as stream
-use Rattle.dk_print.specs.Sections.{fault_line}
-use Rattle.dk_run.specs.Files.{AreHeldFiles, FileFault, file_name_at}
-use Rattle.dk_run.specs.Messages.{unread_line}
-use Rattle.dk_run.specs.Outputs.{Output, only_on, texts_followed_by}
-use Rattle.dk_run.specs.Statuses.{AtStart, Break, FollowedByFront, HasBroken, IsCalm, Outside, OutputIsWritten, Within, held_file_at, rest_behind}
+use Rattle.dk_arguments.specs.declared.request.Request.{Request}
+use Rattle.dk_arguments.specs.declared.request.Request.TheVariants.{Run}
+use Rattle.dk_driver.specs.Files.{AreHeldFiles, file_name_at}
+use Rattle.dk_driver.specs.Reads.{AtStart, Break, HasBroken, Within, held_file_at, rest_behind}
+use Rattle.dk_program.specs.Messages.{fault_line, unread_line}
+use Rattle.dk_program.specs.Moments.{IsCalm, Outside}
+use Rattle.dk_program.specs.Outputs.{Output, only_on, texts_followed_by}
+use Rattle.dk_program.specs.Statuses.{Coming, Completes, GivesOutput, ComesTo as ProgramComesTo, IsCutShort as IsCutBefore, StatusSaysBy}
+use Rattle.dk_run.specs.Files.{FileFault}
 use Rattle.dk_turns.specs.Turns.{turns_of}
 use Rattle.dk_merge.specs.Merged.{AreTaken, IsReason, IsRefusedBehind, bytes_in, whole_limit}
 use Rattle.dk_merge.specs.Outputs.{IsDoneFront, IsDoneOutput, IsRefusedInTurns, IsRefusedOutput, turns_fault, turns_name, turns_output}
-use Rattle.dk_merge_words.specs.Texts.{help_text, usage_line, version_text}
+use Rattle.dk_merge_words.specs.Requests.{dk_merge}
 use Rattle.dk_merge_words.specs.declared.command.Command.{Command}
-use Rattle.dk_arguments.specs.declared.request.Request.{Request}
-use Rattle.dk_arguments.specs.declared.request.Request.TheVariants.{Run, Help, Version}
 
 -- ---- what was read
 -- what is told of the files that the words name, in order
@@ -87,15 +89,16 @@ pub record IsUnread (command : Command) (before after : Outside) (output : Outpu
       → UnreadLeaves by place (held_file_at (helds_of command before.file) place) before.rest after.rest contents
   pub message : output ≡ only_on stream.Messages (unread_line (file_name_at command.files place))
 
--- A run that is asked for so comes to this status, and has this output, unless a write fails or memory runs out before.
-abbrev pub ComesTo : Ended → Option (Request Command) → Outside → Outside → Output → Type 0
-ComesTo Done (Some (Run command)) before after output = IsDone command before after output
-ComesTo Done (Some Help) before after output = output ≡ only_on stream.Report help_text
-ComesTo Done (Some Version) before after output = output ≡ only_on stream.Report version_text
-ComesTo Refused (Some (Run command)) before after output = IsRefused command before output ⊎ IsRefusedLater command before after output
-ComesTo Read (Some (Run command)) before after output = IsUnread command before after output
-ComesTo Usage None before after output = output ≡ only_on stream.Messages usage_line
-ComesTo status request before after output = ⊥
+-- A run with this command comes to this status and has this output, unless a write fails or memory runs out before.
+abbrev pub RunComesTo : Command → Coming
+RunComesTo command Done before after output = IsDone command before after output
+RunComesTo command Refused before after output = IsRefused command before output ⊎ IsRefusedLater command before after output
+RunComesTo command Read before after output = IsUnread command before after output
+RunComesTo command status before after output = ⊥
+
+-- So it is where this is asked for: a run, or help, or the version, or nothing.
+abbrev pub ComesTo : Option (Request Command) → Coming
+ComesTo request = ProgramComesTo RunComesTo dk_merge request
 
 -- ---- runs that are cut short
 -- All files were read, and a front of what follows was written; of states no message does.
@@ -111,19 +114,13 @@ abbrev pub IsCutInRun : Option (Request Command) → Outside → Outside → Typ
 IsCutInRun (Some (Run command)) before after = IsCutAtEnd command before after
 IsCutInRun request before after = ⊥
 
--- Each stream got nothing; or a front of what follows when all files were read; or a front of the output that the run comes to.
+-- Each stream got nothing, or a front of the output that the run comes to; or a front of what follows when all files were read.
 abbrev pub IsCutShort : Option (Request Command) → Outside → Outside → Type 0
-IsCutShort request before after =
-    (after.written ≡ before.written)
-    ⊎ IsCutInRun request before after
-    ⊎ ((status : Ended) × (output : Output) × ComesTo status request before after output
-    × FollowedByFront before.written after.written output)
+IsCutShort request before after = IsCutBefore (ComesTo request) before after ⊎ IsCutInRun request before after
 
 -- ---- what each status says
 abbrev pub Says : Ended → Option (Request Command) → Outside → Outside → Type 0
-Says Write request before after = Rose before.write_faults after.write_faults × IsCutShort request before after
-Says NoMemory request before after = (after.write_faults ≡ before.write_faults) × IsCutShort request before after
-Says status request before after = (output : Output) × ComesTo status request before after output × OutputIsWritten before after output
+Says status request before after = StatusSaysBy (ComesTo request) (IsCutShort request) status before after
 
 -- ---- completeness
 -- the run has this status and such an output
@@ -141,14 +138,11 @@ pub record IsComplete (command : Command) (before after : Outside) (result : End
       ⊎ (result ≡ NoMemory)
   pub refused : (n : ℕ) (contents : List (List ℕ)) → AreHeldFiles (take n (helds_of command before.file)) contents
       → (AreTaken command.turns contents → ⊥)
-      → EndsAs Refused (IsRefusedOutput command contents) result before after ⊎ (result ≡ NoMemory)
+      → GivesOutput Refused (IsRefusedOutput command contents) result before after
 
--- what is asked for is a run
-abbrev pub IsARun : Option (Request Command) → Type 0
-IsARun (Some (Run command)) = Unit {0}
-IsARun request = ⊥
+abbrev pub IsCalmlyComplete : Command → Outside → Outside → Ended → Type 0
+IsCalmlyComplete command before after result = IsCalm before after → IsComplete command before after result
 
 -- The run is complete, where one is asked for.
 abbrev pub CompletesCalmly : Option (Request Command) → Outside → Outside → Ended → Type 0
-CompletesCalmly (Some (Run command)) before after result = IsCalm before after → IsComplete command before after result
-CompletesCalmly request before after result = Unit {0}
+CompletesCalmly request before after result = Completes IsCalmlyComplete request before after result

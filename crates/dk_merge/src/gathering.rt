@@ -1,13 +1,13 @@
 // Reading all files of a run, one after another: each is judged before the next one is read.
 ghost use Rattle.std.specs.Prelude.{◌≡◌, ◌≤◌, ◌<◌, IfErr, IfOk, length};
 ghost use Rattle.dk_io.specs.Outside.{Rose};
-ghost use Rattle.dk_run.specs.Files.{file_name_at};
+ghost use Rattle.dk_driver.specs.Files.{file_name_at};
 ghost use Rattle.dk_merge.specs.Gathering.{FilesGive, HasTaken, IsSound, NotTaken};
 
 use crate::gathered::Gathered;
-use crate::reading::{Trouble, read_whole};
+use crate::reading::read_whole;
 use dk_arguments::Word;
-use dk_base::Text;
+use dk_driver::FileFault;
 use dk_io::Inputs;
 use dk_merge_words::Command;
 use std::alloc::Global;
@@ -19,11 +19,11 @@ pub(crate) struct Gathering {
     pub(crate) room: u64,
 }
 
-/// Why the files are not all taken, and at which.
+/// The first file that is not taken: its place, and why.
 #[derive(Clone, Copy, Debug, PartialEq, Eq)]
-pub(crate) struct FilesTrouble {
+pub(crate) struct Untaken {
     pub(crate) place: usize,
-    pub(crate) trouble: Trouble,
+    pub(crate) fault: FileFault,
 }
 
 /// How many bytes the files may have together.
@@ -35,23 +35,18 @@ fn take_file<I: Inputs>(
     gathering: Gathering,
     name: &str,
     inputs: &mut I,
-) -> Result<Gathering, Trouble>
+) -> Result<Gathering, FileFault>
     requires { IsSound gathering.gathered }
     ensures taken { IfOk result (λ next. HasTaken gathering next (I.file inputs.old name.now) (I.rest inputs.new)) }
-    ensures trouble { IfErr result (NotTaken gathering (I.file inputs.old name.now) (Rose (I.faults inputs.old) (I.faults inputs.new)) (I.rest inputs.old) (I.rest inputs.new)) }
+    ensures fault { IfErr result (NotTaken gathering (I.file inputs.old name.now) (Rose (I.faults inputs.old) (I.faults inputs.new)) (I.rest inputs.old) (I.rest inputs.new)) }
     ensures files { I.file inputs.new ≡ I.file inputs.old }
     ensures later { I.faults inputs.old ≤ I.faults inputs.new }
 {
     let Gathering { gathered, room } = gathering;
-    let text = match read_whole(alloc, name, room, inputs) {
-        Ok(text) => text,
-        Err(trouble) => return Err(trouble),
-    };
+    let text = read_whole(alloc, name, room, inputs)?;
     let room = room - text.len() as u64;
-    match gathered.with(alloc, text) {
-        Ok(gathered) => Ok(Gathering { gathered, room }),
-        Err(trouble) => Err(trouble),
-    }
+    let gathered = gathered.with(alloc, text)?;
+    Ok(Gathering { gathered, room })
 }
 
 /// The name at a place.
@@ -67,7 +62,7 @@ pub(crate) fn gather<I: Inputs>(
     alloc: Global,
     command: &Command,
     inputs: &mut I,
-) -> Result<Gathering, FilesTrouble>
+) -> Result<Gathering, Untaken>
     ensures gives { FilesGive command.now (I.file inputs.old) (Rose (I.faults inputs.old) (I.faults inputs.new)) (I.rest inputs.old) (I.rest inputs.new) result }
     ensures files { I.file inputs.new ≡ I.file inputs.old }
     ensures later { I.faults inputs.old ≤ I.faults inputs.new }
@@ -80,7 +75,7 @@ pub(crate) fn gather<I: Inputs>(
     for place in 0..names.len() {
         match take_file(alloc, gathering, name_at(names, place), inputs) {
             Ok(next) => gathering = next,
-            Err(trouble) => return Err(FilesTrouble { place, trouble }),
+            Err(fault) => return Err(Untaken { place, fault }),
         }
     }
     Ok(gathering)

@@ -4,14 +4,13 @@
 mod gathered;
 mod gathering;
 pub mod laws;
-mod messages;
 mod reading;
 mod running;
 mod telling;
 mod top;
 
 pub use dk_join::{JoinFault, join};
-pub use dk_merge_words::{Command, help_text, read_words, usage_line, version_text};
+pub use dk_merge_words::{Command, help_text, usage_line, version_text};
 pub use dk_merging::{MergeFault, merge_two};
 pub use dk_turns::turns;
 pub use top::{run_merge, tell_usage};

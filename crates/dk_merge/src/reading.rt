@@ -1,31 +1,27 @@
 // Reading a file whole.
 ghost use Rattle.std.specs.Prelude.{◌≡◌, ◌≤◌, IfErr, IfOk};
 ghost use Rattle.dk_io.specs.Outside.{Rose};
-ghost use Rattle.dk_merge.specs.Reading.{IsWhole, UnreadGives, trouble_of_read};
+ghost use Rattle.dk_merge.specs.Reading.{IsWhole, UnreadGives, fault_of_read, refused_whole};
 
 use dk_base::{Text, Why};
+use dk_driver::FileFault;
 use dk_io::{AllFault, Failed, Inputs, read_all};
 use std::alloc::Global;
 
-/// Why a file is not taken.
-#[derive(Clone, Copy, Debug, PartialEq, Eq)]
-pub(crate) enum Trouble {
-    /// It is refused.
-    Refused { why: Why },
-    /// It could not be started.
-    Start,
-    /// It was started, and then a read failed.
-    Read,
-    NoMemory,
+/// The fault of a file that is refused as a whole.
+pub(crate) fn refused_whole(why: Why) -> FileFault
+    ensures { result ≡ refused_whole why }
+{
+    FileFault::Refused { line: 0, why }
 }
 
-fn trouble_of_read(fault: AllFault) -> Trouble
-    ensures { result ≡ trouble_of_read fault }
+fn fault_of_read(fault: AllFault) -> FileFault
+    ensures { result ≡ fault_of_read fault }
 {
     match fault {
-        AllFault::Read => Trouble::Read,
-        AllFault::TooLong => Trouble::Refused { why: Why::TooLong },
-        AllFault::NoMemory => Trouble::NoMemory,
+        AllFault::Read => FileFault::Read,
+        AllFault::TooLong => refused_whole(Why::TooLong),
+        AllFault::NoMemory => FileFault::NoMemory,
     }
 }
 
@@ -35,17 +31,17 @@ pub(crate) fn read_whole<I: Inputs>(
     name: &str,
     room: u64,
     inputs: &mut I,
-) -> Result<Text, Trouble>
+) -> Result<Text, FileFault>
     ensures whole { IfOk result (λ text. IsWhole room (I.file inputs.old name.now) text (I.rest inputs.new)) }
-    ensures trouble { IfErr result (UnreadGives room (I.file inputs.old name.now) (Rose (I.faults inputs.old) (I.faults inputs.new)) (I.rest inputs.old) (I.rest inputs.new)) }
+    ensures fault { IfErr result (UnreadGives room (I.file inputs.old name.now) (Rose (I.faults inputs.old) (I.faults inputs.new)) (I.rest inputs.old) (I.rest inputs.new)) }
     ensures files { I.file inputs.new ≡ I.file inputs.old }
     ensures later { I.faults inputs.old ≤ I.faults inputs.new }
 {
     match inputs.start(name) {
-        Err(Failed) => Err(Trouble::Start),
+        Err(Failed) => Err(FileFault::Start),
         Ok(()) => match read_all(alloc, inputs, room) {
             Ok(text) => Ok(text),
-            Err(fault) => Err(trouble_of_read(fault)),
+            Err(fault) => Err(fault_of_read(fault)),
         },
     }
 }

@@ -1,33 +1,29 @@
 // The top call.
 ghost use Rattle.std.specs.Prelude.{◌≡◌, ◌≤◌, IfSome, Some, map, string_bytes};
 ghost use Rattle.dk_io.specs.declared.outside.Stream.TheVariants as stream;
-ghost use Rattle.dk_run.specs.Statuses.{Outside, outside};
-ghost use Rattle.dk_merge.specs.Ending.{EndsWith};
+ghost use Rattle.dk_program.specs.Ending.{EndsWith};
+ghost use Rattle.dk_program.specs.Moments.{Outside, outside};
+ghost use Rattle.dk_program.specs.Statuses.{IsARun};
 ghost use Rattle.dk_merge.specs.Histories.{MergesHistories};
 ghost use Rattle.dk_merge.specs.Recorders.{WritesAsWithoutTurns};
-ghost use Rattle.dk_merge.specs.Statuses.{CompletesCalmly, IsARun, Says};
+ghost use Rattle.dk_merge.specs.Statuses.{CompletesCalmly, Says};
 ghost use Rattle.dk_merge_words.specs.Requests.{request_of};
 ghost use Rattle.dk_merge_words.specs.Texts.{usage_line as usage_text};
 ghost use Rattle.dk_arguments.specs.declared.request.Request.TheVariants as request;
 
-use crate::gathering::{FilesTrouble, gather, name_at};
-use crate::telling::{end_with, tell_gathered, tell_trouble};
-use dk_arguments::{ArgumentsFault, Request};
+use crate::gathering::{Untaken, gather, name_at};
+use crate::telling::tell_gathered;
 use dk_events::Ended;
-use dk_io::{Inputs, Sinks, Stream};
-use dk_merge_words::{Command, help_text, read_words, usage_line, version_text};
+use dk_io::{Inputs, Sinks};
+use dk_merge_words::Command;
+use dk_program::{asked_run, tell_file_fault};
 use std::alloc::Global;
 
 /// Tells that the words are refused.
 pub fn tell_usage<S: Sinks>(sinks: &mut S) -> Ended
     ensures { EndsWith Ended.Usage stream.Messages usage_text (S.written sinks.old) (S.written sinks.new) (S.faults sinks.old) (S.faults sinks.new) result }
 {
-    end_with(
-        sinks,
-        Stream::Messages,
-        usage_line().as_bytes(),
-        Ended::Usage,
-    )
+    dk_program::tell_usage::<Command, S>(sinks)
 }
 
 // Does what a command says.
@@ -45,9 +41,9 @@ fn run_command<I: Inputs, S: Sinks>(
 {
     match gather(alloc, command, inputs) {
         Ok(gathering) => tell_gathered(alloc, command.least, &gathering.gathered, sinks),
-        Err(FilesTrouble { place, trouble }) => {
+        Err(Untaken { place, fault }) => {
             let name = name_at(command.files.as_slice(), place);
-            tell_trouble(alloc, name, trouble, sinks)
+            tell_file_fault(alloc, name, fault, sinks)
         }
     }
 }
@@ -81,16 +77,8 @@ pub fn run_merge<I: Inputs, S: Sinks>(
         WritesAsWithoutTurns (request_of (map string_bytes words.now)) before after result }
     ensures files { I.file inputs.new ≡ I.file inputs.old }
 {
-    match read_words(alloc, words) {
-        Ok(Request::Run(command)) => run_command(alloc, &command, inputs, sinks),
-        Ok(Request::Help) => end_with(sinks, Stream::Report, help_text().as_bytes(), Ended::Done),
-        Ok(Request::Version) => end_with(
-            sinks,
-            Stream::Report,
-            version_text().as_bytes(),
-            Ended::Done,
-        ),
-        Err(ArgumentsFault::Refused) => tell_usage(sinks),
-        Err(ArgumentsFault::NoMemory) => Ended::NoMemory,
+    match asked_run::<Command, S>(alloc, words, sinks) {
+        Ok(command) => run_command(alloc, &command, inputs, sinks),
+        Err(ended) => ended,
     }
 }

@@ -3,19 +3,29 @@
 #![tactic(auto)]
 
 use dk_events::Ended;
-use dk_host::{FileInputs, HostSinks};
+use dk_io::{Inputs, Sinks};
+use dk_main::{Main, run_main};
 use dk_merge::{run_merge, tell_usage};
-use dk_run::words_of;
-use std::io::ErrorKind;
+use std::alloc::Global;
 use std::process::ExitCode;
 
+struct Merge;
+
+impl Main for Merge {
+    fn run<I: Inputs, S: Sinks>(
+        alloc: Global,
+        words: &[String],
+        inputs: &mut I,
+        sinks: &mut S,
+    ) -> Ended {
+        run_merge(alloc, words, inputs, sinks)
+    }
+
+    fn refuse<S: Sinks>(sinks: &mut S) -> Ended {
+        tell_usage(sinks)
+    }
+}
+
 fn main(rt: HostRuntime) -> ExitCode {
-    let mut inputs = FileInputs::new(&rt);
-    let mut sinks = HostSinks::new(&rt, rt.stdout(), rt.stderr());
-    let ended = match words_of(&rt) {
-        Ok(words) => run_merge(rt.alloc(), words.as_slice(), &mut inputs, &mut sinks),
-        Err(error) if error.kind() == ErrorKind::InvalidData => tell_usage(&mut sinks),
-        Err(_) => Ended::NoMemory,
-    };
-    ExitCode::from(sinks.finish(ended.code()))
+    run_main::<Merge, _, _, _>(&rt, rt.stdout(), rt.stderr())
 }

@@ -3,9 +3,7 @@
 
 mod command;
 pub mod laws;
-mod reading;
 mod texts;
 
 pub use command::Command;
-pub use reading::read_words;
 pub use texts::{help_text, usage_line, version_text};

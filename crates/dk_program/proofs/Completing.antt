@@ -1,29 +1,28 @@
 -- Where no fault of the outside rises, a run over files that are held comes to its end.
-use Rattle.std.proofs.Common.{◌≡◌, ◌⊎◌, inl, inr, ℕ, List, map, length, take, Option, Some, None, Result, Ok, Err, refl, sym, ◌∙◌, ap, subst}
+use Rattle.std.proofs.Common.{◌≡◌, ◌⊎◌, inl, inr, ℕ, List, map, Option, Some, None, Result, Ok, Err, refl, sym, ◌∙◌, ap, subst}
 use Rattle.dk_blocks.specs.History.{History}
 use Rattle.dk_events.specs.declared.ended.Ended.{Ended}
-use Rattle.dk_events.specs.declared.ended.Ended.TheVariants.{Done, Refused, Usage, Read, Write, NoMemory}
-use Rattle.dk_io.specs.Outside.{HeldFile, Rose}
-use Rattle.dk_io.specs.declared.outside.Stream.{Stream}
+use Rattle.dk_events.specs.declared.ended.Ended.TheVariants.{Done, Refused, NoMemory}
 use Rattle.dk_io.specs.declared.outside.Stream.TheVariants.{Report, Messages}
+use Rattle.dk_arguments.specs.Descriptions.{Command}
 use Rattle.dk_arguments.specs.declared.request.Request.{Request}
-use Rattle.dk_arguments.specs.declared.request.Request.TheVariants.{Run}
-use Rattle.dk_driver.specs.Files.{AreHeldFiles, FaultAt, File, ended_file, file_name_at}
+use Rattle.dk_arguments.specs.declared.request.Request.TheVariants.{Run, Help, Version}
+use Rattle.dk_driver.specs.Files.{FaultAt, File, ended_file, file_name_at}
 use Rattle.dk_driver.specs.Consuming.{Record}
-use Rattle.dk_driver.specs.Reads.{AreRead, IsComplete as IsReadingComplete, IsRefusedOrShort, helds_of}
-use Rattle.dk_driver.specs.Walks.{Walk, fault_in, first_fault, walk_of}
+use Rattle.dk_driver.specs.Reads.{AreRead, IsComplete as IsReadingComplete}
+use Rattle.dk_driver.specs.Walks.{fault_in, first_fault, walk_of}
 use Rattle.dk_driver.specs.declared.fault.FilesFault.{FilesFault}
 use Rattle.dk_driver.specs.declared.fault.FilesFault.TheVariants as f
 use Rattle.dk_driver.specs.declared.feed.Feed.{Feed}
 use Rattle.dk_driver.specs.declared.traces.Traces.{Traces}
 use Rattle.dk_program.proofs.Saying.{due_of, followed_only, read_output}
-use Rattle.dk_program.specs.Ending.{EndsBy, EndsWith, ReportEnds, status_of}
+use Rattle.dk_program.specs.Ending.{EndsBy, EndsWith, EndsWithoutRun, ReportEnds, status_of}
 use Rattle.dk_program.specs.Messages.{fault_line}
 use Rattle.dk_program.specs.Moments.{IsCalm, Outside}
-use Rattle.dk_program.specs.Outputs.{Output, only_on, texts_followed_by}
+use Rattle.dk_program.specs.Outputs.{Output, only_on}
 use Rattle.dk_program.specs.Statuses.{Completes, GivesOutput, IsCalmlyComplete, IsComplete}
 use Rattle.dk_program.specs.Tasks.{IsOutput, IsOutputAt, Task}
-use Rattle.dk_program.specs.Telling.{CutOff, HaltHasCause, ToldWhole}
+use Rattle.dk_program.specs.Telling.{HaltHasCause, ToldWhole}
 use Rattle.dk_program.specs.declared.reporting.Halt.{Halt}
 use Rattle.dk_program.specs.declared.reporting.Halt.TheVariants as w
 
@@ -115,3 +114,12 @@ pub asked_completes : {A : Type 0} (Complete : A → Outside → Outside → End
     → Complete a before after result → Completes Complete asked before after result
 asked_completes {A = A} Complete asked a before after result is complete =
     subst (λ (r : Option (Request A)). Completes Complete r before after result) (sym is) complete
+
+-- or the program ended without a run
+pub without_run_completes : {A : Type 0} (Complete : A → Outside → Outside → Ended → Type 0) (c : Command) (asked : Option (Request A)) (before after : Outside) (result : Ended)
+    → ((a : A) → result ≡ NoMemory → Complete a before after result)
+    → EndsWithoutRun c asked before.written after.written before.write_faults after.write_faults result → Completes Complete asked before after result
+without_run_completes Complete c (Some (Run a)) before after result short (is, e, calm) = short a is
+without_run_completes Complete c (Some Help) before after result short ended = tt
+without_run_completes Complete c (Some Version) before after result short ended = tt
+without_run_completes Complete c None before after result short ended = tt

@@ -1,17 +1,18 @@
 -- A run that reads a file in front of its others.
-use Rattle.std.proofs.Common.{◌≡◌, ◌≢◌, ◌≤◌, ◌⊎◌, ◌-◌, inl, inr, ℕ, List, [], length, Bool, true, false, Option, Some, IfSome, IsErrOf, Result, Ok, Err, refl, sym, ◌∙◌, ap, subst}
+use Rattle.std.proofs.Common.{◌≡◌, ◌≢◌, ◌≤◌, ◌-◌, inl, inr, ℕ, List, [], length, Bool, Option, Some, IfSome, Result, Ok, Err, refl, ◌∙◌, ap, subst}
 use Rattle.dk_base.specs.Reading.{LineFault}
-use Rattle.dk_base.specs.declared.why.Why.{Why}
 use Rattle.dk_events.specs.declared.ended.Ended.{Ended}
 use Rattle.dk_events.specs.declared.ended.Ended.TheVariants as ended
 use Rattle.dk_io.specs.Outside.{HeldFile, Absent, Holds, Rose, Starts}
 use Rattle.dk_io.specs.declared.outside.Stream.TheVariants.{Messages}
+use Rattle.dk_lines.specs.Left.{Left, lined, lines_left}
 use Rattle.dk_lines.specs.Reading.{Reading, left_of, room_of}
+use Rattle.dk_lines.specs.declared.lines.Limits.{Limits}
 use Rattle.dk_driver.proofs.Filing.{nothing_ahead, nothing_left, told}
 use Rattle.dk_driver.proofs.Running.{rose_since}
-use Rattle.dk_driver.specs.Files.{File, ended_file}
+use Rattle.dk_driver.specs.Files.{File}
 use Rattle.dk_driver.specs.Reads.{AtStart, Break, HasBroken, IsDelivered, Within}
-use Rattle.dk_driver.specs.Walks.{total_limit}
+use Rattle.dk_driver.specs.Walks.{line_limit, standard_limits, total_limit}
 use Rattle.dk_driver.specs.WholeFile.{fresh_reading}
 use Rattle.dk_driver.specs.declared.fault.FileFault.{FileFault}
 use Rattle.dk_driver.specs.declared.fault.FileFault.TheVariants.{Refused, Start, Read, NoMemory}
@@ -23,9 +24,16 @@ use Rattle.dk_program.specs.Moments.{IsCalm, Outside}
 use Rattle.dk_program.specs.Openings.{FirstFaultSays, IsBroken, IsOfMay, IsOpened, IsOpeningComplete, Opened, Opening, OpeningComesTo, OpeningGives, opened_with}
 use Rattle.dk_program.specs.Outputs.{Output, only_on}
 use Rattle.dk_program.specs.Statuses.{IsComplete, RunComesTo, StatusSays}
-use Rattle.dk_program.specs.Tasks.{Task}
 
 -- ---- reading the first file
+-- what is read of the lines of a started file is read of its bytes
+pub started_lines : {A : Type 0} (read : Left → A) (r : Reading) (is_ended : Bool) (xs : List ℕ) → r ≡ fresh_reading r → r.limits ≡ standard_limits → room_of r ≡ total_limit
+    → read (lines_left r is_ended xs) ≡ read (lined line_limit total_limit 0 is_ended xs)
+started_lines read r is_ended xs fresh limits room =
+    ap (λ (m : Reading). read (lines_left m is_ended xs)) fresh
+    ∙ ap (λ (l : Limits). read (lined l.line (room_of r) 0 is_ended xs)) limits
+    ∙ ap (λ (n : ℕ). read (lined line_limit n 0 is_ended xs)) room
+
 -- a file that is not absent
 there : (held : HeldFile) (rest : Option (List ℕ)) → Starts held rest → held ≢ Absent
 there held rest starts absent = subst (λ (h : HeldFile). Starts h rest) absent starts

@@ -24,7 +24,7 @@ use Rattle.dk_driver.specs.declared.fault.FilesFault.{FilesFault}
 use Rattle.dk_driver.specs.declared.fault.FilesFault.TheVariants as f
 use Rattle.dk_driver.specs.declared.traces.Traces.{Traces}
 use Rattle.dk_program.proofs.Writing.{front_all, front_take, known_nothing}
-use Rattle.dk_program.specs.Ending.{EndsBy, EndsWith, ReportEnds, status_of}
+use Rattle.dk_program.specs.Ending.{EndsBy, EndsWith, EndsWithoutRun, ReportEnds, status_of}
 use Rattle.dk_program.specs.Messages.{fault_line, unread_line}
 use Rattle.dk_program.specs.Moments.{Outside}
 use Rattle.dk_program.specs.Outputs.{FollowedByFront, IsFront, Output, only_on, texts_followed_by}
@@ -51,10 +51,10 @@ at_get [] k d h = absurd (omega arith)
 at_get (n ∷ ns) zero d h = refl
 at_get (n ∷ ns) (suc k) d h = at_get ns k d (omega arith)
 
-all_there : (helds : List HeldFile) → ((k : ℕ) → k < length helds → held_file_at helds k ≢ Absent) → All (λ held. held ≢ Absent) helds
+pub all_there : (helds : List HeldFile) → ((k : ℕ) → k < length helds → held_file_at helds k ≢ Absent) → All (λ held. held ≢ Absent) helds
 all_there helds there = λ k d h. subst (λ (held : HeldFile). held ≢ Absent) (at_get helds k d h) (there k h)
 
-front_there : (helds : List HeldFile) (n : ℕ) → ((k : ℕ) → k < n → held_file_at helds k ≢ Absent) → All (λ held. held ≢ Absent) (take n helds)
+pub front_there : (helds : List HeldFile) (n : ℕ) → ((k : ℕ) → k < n → held_file_at helds k ≢ Absent) → All (λ held. held ≢ Absent) (take n helds)
 front_there helds n there = all_there (take n helds) (λ k below. here k (omega (arith, below, length-take n helds))) where
   here : (k : ℕ) → k < n → held_file_at (take n helds) k ≢ Absent
   here k below = subst (λ (held : HeldFile). held ≢ Absent) (sym (front_held helds n k below)) (there k below)
@@ -271,20 +271,31 @@ module _ {A : Type 0} (Comes : A → Coming) (c : Command) (asked : Option (Requ
       subst (λ (r : Option (Request A)). Says Comes c result r before after) (sym is)
       (says_on (Comes a) (ComesTo Comes c (Some (Run a))) result before before after refl refl (λ status output comes. comes) says)
 
-  pub help_says : asked ≡ Some Help → EndsWith Done Report c.help before.written after.written before.write_faults after.write_faults result → Says Comes c result asked before after
-  help_says is ended =
-      subst (λ (r : Option (Request A)). Says Comes c result r before after) (sym is)
-      (only_says (ComesTo Comes c (Some Help)) before after Done Report c.help result (λ b a output comes e. (output, comes, e)) (refl, refl) ended)
+  -- or none, and the program ended without one
+  without_run : (request : Option (Request A)) → EndsWithoutRun c request before.written after.written before.write_faults after.write_faults result → Says Comes c result request before after
+  without_run (Some (Run a)) (is, e, calm) = memory_says (ComesTo Comes c (Some (Run a))) before after result is e calm
+  without_run (Some Help) ended =
+      only_says (ComesTo Comes c (Some Help)) before after Done Report c.help result (λ b a output comes e. (output, comes, e)) (refl, refl) ended
+  without_run (Some Version) ended =
+      only_says (ComesTo Comes c (Some Version)) before after Done Report c.version result (λ b a output comes e. (output, comes, e)) (refl, refl) ended
+  without_run None ended =
+      only_says (ComesTo Comes c None) before after Usage Messages c.usage result (λ b a output comes e. (output, comes, e)) (refl, refl) ended
 
-  pub version_says : asked ≡ Some Version → EndsWith Done Report c.version before.written after.written before.write_faults after.write_faults result → Says Comes c result asked before after
-  version_says is ended =
-      subst (λ (r : Option (Request A)). Says Comes c result r before after) (sym is)
-      (only_says (ComesTo Comes c (Some Version)) before after Done Report c.version result (λ b a output comes e. (output, comes, e)) (refl, refl) ended)
+  pub without_run_says : EndsWithoutRun c asked before.written after.written before.write_faults after.write_faults result → Says Comes c result asked before after
+  without_run_says ended = without_run asked ended
 
-  pub usage_says : asked ≡ None → EndsWith Usage Messages c.usage before.written after.written before.write_faults after.write_faults result → Says Comes c result asked before after
-  usage_says is ended =
-      subst (λ (r : Option (Request A)). Says Comes c result r before after) (sym is)
-      (only_says (ComesTo Comes c None) before after Usage Messages c.usage result (λ b a output comes e. (output, comes, e)) (refl, refl) ended)
+-- the program ended without a run, where this was asked for
+pub ends_asked : {A : Type 0} (c : Command) (asked request : Option (Request A)) (old new : Texts) (before after : ℕ) (result : Ended) → asked ≡ request
+    → EndsWithoutRun c request old new before after result → EndsWithoutRun c asked old new before after result
+ends_asked {A} c asked request old new before after result is ended =
+    subst (λ (r : Option (Request A)). EndsWithoutRun c r old new before after result) (sym is) ended
+
+-- memory ran out
+pub memory_ends : {A : Type 0} (c : Command) (asked : Option (Request A)) (old : Texts) (faults : ℕ) → EndsWithoutRun c asked old old faults faults NoMemory
+memory_ends c (Some (Run a)) old faults = (refl, refl, refl)
+memory_ends c (Some Help) old faults = inr (inr (refl, refl, refl))
+memory_ends c (Some Version) old faults = inr (inr (refl, refl, refl))
+memory_ends c None old faults = inr (inr (refl, refl, refl))
 
 -- ---- messages
 pub unread_ends : (text other : List ℕ) (old new : Texts) (before after : ℕ) (result : Ended) → text ≡ other → EndsWith Read Messages text old new before after result → EndsWith Read Messages other old new before after result

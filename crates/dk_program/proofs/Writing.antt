@@ -9,8 +9,7 @@ use Rattle.std.specs.List.{flat_map, range_with_len}
 use Rattle.dk_blocks.specs.History.{History}
 use Rattle.dk_io.specs.Outside.{Rose}
 use Rattle.dk_io.specs.Streams.{Texts, with_bytes}
-use Rattle.dk_io.specs.declared.outside.Stream.{Stream}
-use Rattle.dk_io.specs.declared.outside.Stream.TheVariants.{Report, Messages, State}
+use Rattle.dk_io.specs.declared.outside.Stream.TheVariants.{Report}
 use Rattle.dk_driver.specs.Consuming.{Record}
 use Rattle.dk_events.specs.declared.ended.Ended.{Ended}
 use Rattle.dk_events.specs.declared.ended.Ended.TheVariants.{Done}

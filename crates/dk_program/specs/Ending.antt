@@ -1,12 +1,15 @@
 -- How a run ends: what it writes last, and its status.
-use Rattle.std.specs.Prelude.{◌≡◌, ◌⊎◌, ℕ, List}
+use Rattle.std.specs.Prelude.{◌≡◌, ◌⊎◌, ℕ, List, Option, Some, None}
 use Rattle.dk_blocks.specs.History.{History}
 use Rattle.dk_events.specs.declared.ended.Ended.{Ended}
-use Rattle.dk_events.specs.declared.ended.Ended.TheVariants.{Done, Read, Refused, Write, NoMemory}
+use Rattle.dk_events.specs.declared.ended.Ended.TheVariants.{Done, Read, Refused, Usage, Write, NoMemory}
 use Rattle.dk_io.specs.Outside.{Rose}
 use Rattle.dk_io.specs.Streams.{AddsFront, Texts, with_bytes}
 use Rattle.dk_io.specs.declared.outside.Stream.{Stream}
-use Rattle.dk_io.specs.declared.outside.Stream.TheVariants.{Messages}
+use Rattle.dk_io.specs.declared.outside.Stream.TheVariants.{Messages, Report}
+use Rattle.dk_arguments.specs.Descriptions.{Command}
+use Rattle.dk_arguments.specs.declared.request.Request.{Request}
+use Rattle.dk_arguments.specs.declared.request.Request.TheVariants.{Run, Help, Version}
 use Rattle.dk_driver.specs.Files.{file_name_at}
 use Rattle.dk_driver.specs.Consuming.{Record}
 use Rattle.dk_driver.specs.declared.fault.FileFault.{FileFault}
@@ -24,6 +27,13 @@ EndsWith status stream text old new before after result =
     ((result ≡ status) × (new ≡ with_bytes old stream text) × (after ≡ before))
     ⊎ ((result ≡ Write) × Rose before after × AddsFront old new stream text)
     ⊎ ((result ≡ NoMemory) × (new ≡ old) × (after ≡ before))
+
+-- The program ends without a run, where this is asked for: memory ran out for one; or the text that is asked for is written, or the usage.
+abbrev pub EndsWithoutRun : {A : Type 0} → Command → Option (Request A) → Texts → Texts → ℕ → ℕ → Ended → Type 0
+EndsWithoutRun c (Some (Run a)) old new before after result = (result ≡ NoMemory) × (new ≡ old) × (after ≡ before)
+EndsWithoutRun c (Some Help) old new before after result = EndsWith Done Report c.help old new before after result
+EndsWithoutRun c (Some Version) old new before after result = EndsWith Done Report c.version old new before after result
+EndsWithoutRun c None old new before after result = EndsWith Usage Messages c.usage old new before after result
 
 -- the run ends so behind a fault of the files of these names
 abbrev pub EndsBy : List (List ℕ) → FilesFault → Texts → Texts → ℕ → ℕ → Ended → Type 0

@@ -1,12 +1,15 @@
 -- Runs that read a file in front of their others.
-use Rattle.std.specs.Prelude.{◌≡◌, ◌≢◌, ◌⊎◌, ◌++◌, ◌-◌, ℕ, true, List, [], length, Option, Some, Result, Ok, Err}
+use Rattle.std.specs.Prelude.{◌≡◌, ◌≢◌, ◌⊎◌, ◌-◌, ℕ, List, [], length, Option, Some, Result, Ok, Err}
 use Rattle.dk_base.specs.Reading.{LineFault}
 use Rattle.dk_base.specs.declared.why.Why.{Why}
+use Rattle.dk_base.specs.declared.why.Why.TheVariants.{LongLine, TooLong}
 use Rattle.dk_events.specs.declared.ended.Ended.{Ended}
 use Rattle.dk_events.specs.declared.ended.Ended.TheVariants as ended
 use Rattle.dk_io.specs.Outside.{HeldFile, Absent, Holds, Rose}
 use Rattle.dk_io.specs.declared.outside.Stream.TheVariants as stream
 use Rattle.dk_lines.specs.Reading.{Reading, room_of}
+use Rattle.dk_lines.specs.declared.lines.LineFault.{LineFault as LinesFault}
+use Rattle.dk_lines.specs.declared.lines.LineFault.TheVariants as lines
 use Rattle.dk_driver.specs.Consuming.{Told}
 use Rattle.dk_driver.specs.Files.{File, ended_file}
 use Rattle.dk_driver.specs.Reads.{AtStart, Break, HasBroken, IsDelivered, Within}
@@ -138,3 +141,15 @@ FirstFaultSays opening held before rose NoMemory after = Unit {0}
 abbrev pub IsOfMay : (Why → Type 0) → FileFault → Type 0
 IsOfMay May (Refused line why) = May why
 IsOfMay May fault = Unit {0}
+
+-- ---- a first file of lines
+-- it is refused for its bytes alone: a line or a byte is one too many
+abbrev pub IsOfBytes : Why → Type 0
+IsOfBytes why = (why ≡ LongLine) ⊎ (why ≡ TooLong)
+
+-- its fault, by that of its lines
+abbrev pub fault_of_lines : LinesFault → FileFault
+fault_of_lines (lines.LongLine line) = Refused line LongLine
+fault_of_lines (lines.TooLong line) = Refused line TooLong
+fault_of_lines lines.Read = Read
+fault_of_lines lines.NoMemory = NoMemory

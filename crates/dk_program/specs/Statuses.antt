@@ -78,10 +78,14 @@ IsCutShort Comes before after =
 abbrev pub OutputIsWritten : Outside → Outside → Output → Type 0
 OutputIsWritten before after output = (after.written ≡ texts_followed_by before.written output) × (after.write_faults ≡ before.write_faults)
 
+-- what a status says of a run that comes to its end so, and is cut short so
+abbrev pub StatusSaysBy : Coming → (Outside → Outside → Type 0) → Ended → Outside → Outside → Type 0
+StatusSaysBy Comes IsCut Write before after = Rose before.write_faults after.write_faults × IsCut before after
+StatusSaysBy Comes IsCut NoMemory before after = (after.write_faults ≡ before.write_faults) × IsCut before after
+StatusSaysBy Comes IsCut status before after = (output : Output) × Comes status before after output × OutputIsWritten before after output
+
 abbrev pub StatusSays : Coming → Ended → Outside → Outside → Type 0
-StatusSays Comes Write before after = Rose before.write_faults after.write_faults × IsCutShort Comes before after
-StatusSays Comes NoMemory before after = (after.write_faults ≡ before.write_faults) × IsCutShort Comes before after
-StatusSays Comes status before after = (output : Output) × Comes status before after output × OutputIsWritten before after output
+StatusSays Comes status before after = StatusSaysBy Comes (IsCutShort Comes) status before after
 
 abbrev pub Says : {A : Type 0} → (A → Coming) → Command → Ended → Option (Request A) → Outside → Outside → Type 0
 Says Comes c status request before after = StatusSays (ComesTo Comes c request) status before after

@@ -10,9 +10,9 @@ ghost use Rattle.dk_program.specs.Openings.{FirstFaultSays, IsOpened, IsOpeningC
 ghost use Rattle.dk_program.specs.Statuses.{Completes, IsARun, IsCalmlyComplete, RunComesTo, Says, StatusSays};
 ghost use Rattle.dk_program.specs.Tasks.{task_by};
 
+use crate::asking::asked_run;
 use crate::program::{Begins, Opens, Program};
-use crate::telling::{tell_fault, tell_file_fault, tell_help, tell_usage, tell_version};
-use dk_arguments::{ArgumentsFault, Request, read_arguments};
+use crate::telling::{tell_fault, tell_file_fault};
 use dk_base::NoMemory;
 use dk_driver::{FileFault, read_files};
 use dk_events::Ended;
@@ -142,12 +142,9 @@ pub fn run_program<P: Begins, I: Inputs, S: Sinks>(
         Completes (λ a. IsCalmlyComplete (task_by P.traces P.is_report a (P.begins_with a) total_limit)) (request_of P.command P.meant (map string_bytes given.now)) before after result }
     ensures files { I.file inputs.new ≡ I.file inputs.old }
 {
-    match read_arguments::<P>(alloc, given) {
-        Ok(Request::Run(program)) => run_begun(alloc, &program, inputs, sinks),
-        Ok(Request::Help) => tell_help::<P, S>(sinks),
-        Ok(Request::Version) => tell_version::<P, S>(sinks),
-        Err(ArgumentsFault::Refused) => tell_usage::<P, S>(sinks),
-        Err(ArgumentsFault::NoMemory) => Ended::NoMemory,
+    match asked_run::<P, S>(alloc, given, sinks) {
+        Ok(program) => run_begun(alloc, &program, inputs, sinks),
+        Err(ended) => ended,
     }
 }
 
@@ -171,11 +168,8 @@ pub fn run_opening<P: Opens, I: Inputs, S: Sinks>(
         Completes (λ a. IsOpeningCalmlyComplete (opening_by P.first P.given_in P.may_refuse P.traces P.is_report a)) (request_of P.command P.meant (map string_bytes given.now)) before after result }
     ensures files { I.file inputs.new ≡ I.file inputs.old }
 {
-    match read_arguments::<P>(alloc, given) {
-        Ok(Request::Run(program)) => run_opened(alloc, &program, inputs, sinks),
-        Ok(Request::Help) => tell_help::<P, S>(sinks),
-        Ok(Request::Version) => tell_version::<P, S>(sinks),
-        Err(ArgumentsFault::Refused) => tell_usage::<P, S>(sinks),
-        Err(ArgumentsFault::NoMemory) => Ended::NoMemory,
+    match asked_run::<P, S>(alloc, given, sinks) {
+        Ok(program) => run_opened(alloc, &program, inputs, sinks),
+        Err(ended) => ended,
     }
 }

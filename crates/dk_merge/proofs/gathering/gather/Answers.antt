@@ -1,7 +1,7 @@
 use Rattle.std.proofs.Common.{arith, ap, subst, refl, ◌∙◌, ◌≡◌, ◌<◌, ℕ, List, length}
 use Rattle.dk_io.specs.Outside.{HeldFile, Rose}
-use Rattle.dk_run.specs.Files.{file_name_at}
-use Rattle.dk_merge.proofs.Taking.{read_none, read_on, trouble_on}
+use Rattle.dk_driver.specs.Files.{file_name_at}
+use Rattle.dk_merge.proofs.Taking.{read_none, read_on, fault_on}
 use Rattle.dk_merge.specs.Gathering.{AreReadTo, HasTaken, NotTaken}
 use Rattle.dk_merge.proofs.gathering.gather.Goals as goal
 
@@ -33,11 +33,11 @@ returns-in-Err-clause-gives g c =
     c.name_at.ensures ∙ ap (λ (l : List (List ℕ)). file_name_at l c.loop-place.place) c.as_slice-names.ensures in
     let within : c.loop-place.place < length c.args.command.now.files = omega (arith, ap length c.as_slice-names.ensures) in (
       within,
-      trouble_on c.args.command.now (g.I.Inputs.file c.args.inputs.now) (g.I.Inputs.rest c.args.inputs.now) (g.I.Inputs.rest c.loop-place.inputs) (g.I.Inputs.rest c.take_file.new.inputs) c.loop-place.gathering c.loop-place.gathering
+      fault_on c.args.command.now (g.I.Inputs.file c.args.inputs.now) (g.I.Inputs.rest c.args.inputs.now) (g.I.Inputs.rest c.loop-place.inputs) (g.I.Inputs.rest c.take_file.new.inputs) c.loop-place.gathering c.loop-place.gathering
           c.loop-place.place c.name_at.result.now named within c.loop-place.invariant.goes (g.I.Inputs.rest c.take_file.new.inputs)
-          (g.I.Inputs.faults c.args.inputs.now) (g.I.Inputs.faults c.loop-place.inputs) (g.I.Inputs.faults c.take_file.new.inputs) c.in-Err.trouble c.loop-place.invariant.later
-          (subst (λ (f : List ℕ → HeldFile). NotTaken c.loop-place.gathering (f c.name_at.result.now) (Rose (g.I.Inputs.faults c.loop-place.inputs) (g.I.Inputs.faults c.take_file.new.inputs)) (g.I.Inputs.rest c.loop-place.inputs) (g.I.Inputs.rest c.take_file.new.inputs) c.in-Err.trouble)
-          files c.in-Err.ensures.trouble),
+          (g.I.Inputs.faults c.args.inputs.now) (g.I.Inputs.faults c.loop-place.inputs) (g.I.Inputs.faults c.take_file.new.inputs) c.in-Err.fault c.loop-place.invariant.later
+          (subst (λ (f : List ℕ → HeldFile). NotTaken c.loop-place.gathering (f c.name_at.result.now) (Rose (g.I.Inputs.faults c.loop-place.inputs) (g.I.Inputs.faults c.take_file.new.inputs)) (g.I.Inputs.rest c.loop-place.inputs) (g.I.Inputs.rest c.take_file.new.inputs) c.in-Err.fault)
+          files c.in-Err.ensures.fault),
     )
 
 pub returns-clause-gives : goal.returns-clause-gives

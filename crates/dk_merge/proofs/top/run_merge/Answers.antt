@@ -1,49 +1,65 @@
-use Rattle.std.proofs.Common.{rules, ◌≡◌, ◌≤◌, ◌∙◌, ℕ, map, string_bytes, IfSome, Option, Some, None}
+use Rattle.std.proofs.Common.{◌≤◌, ℕ, map, string_bytes, IfSome, Option, Some, None, subst, sym}
 use Rattle.dk_arguments.specs.Laws.{IsWithin}
-use Rattle.dk_merge.proofs.Complete.{complete_of, complete_says}
-use Rattle.dk_merge.proofs.Histories.{histories_say}
-use Rattle.dk_merge.proofs.Recorders.{recorders_say}
-use Rattle.dk_merge.proofs.Saying.{help_says, usage_says, version_says}
+use Rattle.dk_arguments.specs.declared.request.Request.{Request}
+use Rattle.dk_program.proofs.Completing.{without_run_completes}
+use Rattle.dk_program.proofs.Saying.{without_run_says}
+use Rattle.dk_program.specs.Statuses.{IsARun}
+use Rattle.dk_merge.proofs.Complete.{complete_of, complete_says, no_run_completes}
+use Rattle.dk_merge.proofs.Histories.{histories_say, no_run_merges}
+use Rattle.dk_merge.proofs.Recorders.{no_run_writes, recorders_say}
+use Rattle.dk_merge.proofs.Saying.{run_says, says_more}
+use Rattle.dk_merge.specs.Statuses.{IsCalmlyComplete, RunComesTo}
 use Rattle.dk_merge_words.proofs.Whole.{file_named, numbers_within}
-use Rattle.dk_merge_words.specs.Requests.{most, request_of}
-use Rattle.dk_arguments.specs.declared.request.Request.TheVariants.{Run, Help, Version}
+use Rattle.dk_merge_words.specs.Requests.{dk_merge, most, request_of}
+use Rattle.dk_merge_words.specs.declared.command.Command.{Command}
 use Rattle.dk_merge.proofs.top.run_merge.Goals as goal
 
 one_at_least : (turns : Option ℕ) → IfSome turns (IsWithin 1 most) → IfSome turns (λ n. 1 ≤ n)
 one_at_least None within = tt
 one_at_least (Some n) within = within.0
 
+-- ---- a run
 pub run_command-requires : goal.run_command-requires
-run_command-requires g c =
-    let is : request_of (map string_bytes c.args.words.now) ≡ Some (Run c.in-Ok-Run.command) = search rules in
-    one_at_least c.in-Ok-Run.command.turns (numbers_within (map string_bytes c.args.words.now) c.in-Ok-Run.command is).1
+unfolding request_of
+run_command-requires g c = one_at_least c.in-Ok.command.turns (numbers_within (map string_bytes c.args.words.now) c.in-Ok.command c.in-Ok.ensures.asked).1
 
-pub returns-in-Ok-Run-clause-complete : goal.returns-in-Ok-Run-clause-complete
-returns-in-Ok-Run-clause-complete g c =
-    let is : request_of (map string_bytes c.args.words.now) ≡ Some (Run c.in-Ok-Run.command) = search rules in
-    complete_says _ c.in-Ok-Run.command _ _ c.run_command.result is c.run_command.ensures.says
+pub returns-in-Ok-clause-says : goal.returns-in-Ok-clause-says
+unfolding request_of
+returns-in-Ok-clause-says g c = run_says _ c.in-Ok.command _ _ c.run_command.result c.in-Ok.ensures.asked (rw c.in-Ok.ensures.unwritten at c.run_command.ensures.says)
 
-pub returns-in-Ok-Run-clause-histories : goal.returns-in-Ok-Run-clause-histories
-returns-in-Ok-Run-clause-histories g c =
-    let is : request_of (map string_bytes c.args.words.now) ≡ Some (Run c.in-Ok-Run.command) = search rules in
-    histories_say _ c.in-Ok-Run.command _ _ c.run_command.result is (file_named (map string_bytes c.args.words.now) c.in-Ok-Run.command is) (complete_of c.in-Ok-Run.command _ _ c.run_command.result c.run_command.ensures.says)
+pub returns-in-Ok-clause-unread : goal.returns-in-Ok-clause-unread
+unfolding request_of
+returns-in-Ok-clause-unread g c none = absurd (none (subst (λ (r : Option (Request Command)). IsARun r) (sym c.in-Ok.ensures.asked) tt))
 
-pub returns-in-Ok-Run-clause-recorders : goal.returns-in-Ok-Run-clause-recorders
-returns-in-Ok-Run-clause-recorders g c =
-    let is : request_of (map string_bytes c.args.words.now) ≡ Some (Run c.in-Ok-Run.command) = search rules in
-    recorders_say _ c.in-Ok-Run.command _ _ c.run_command.result is (one_at_least c.in-Ok-Run.command.turns (numbers_within (map string_bytes c.args.words.now) c.in-Ok-Run.command is).1) (complete_of c.in-Ok-Run.command _ _ c.run_command.result c.run_command.ensures.says)
+pub returns-in-Ok-clause-complete : goal.returns-in-Ok-clause-complete
+unfolding request_of
+returns-in-Ok-clause-complete g c = complete_says c.in-Ok.command _ _ _ c.run_command.result c.in-Ok.ensures.asked (rw c.in-Ok.ensures.unwritten at c.run_command.ensures.says)
 
-pub returns-in-Ok-Help-clause-says : goal.returns-in-Ok-Help-clause-says
-returns-in-Ok-Help-clause-says g c =
-    let is : request_of (map string_bytes c.args.words.now) ≡ Some Help = search rules in
-    help_says _ _ _ _ c.end_with.result is (c.as_bytes.ensures.value ∙ c.help_text.ensures) c.end_with.ensures
+pub returns-in-Ok-clause-histories : goal.returns-in-Ok-clause-histories
+unfolding request_of
+returns-in-Ok-clause-histories g c =
+    histories_say _ c.in-Ok.command _ _ c.run_command.result c.in-Ok.ensures.asked (file_named (map string_bytes c.args.words.now) c.in-Ok.command c.in-Ok.ensures.asked)
+    (complete_of c.in-Ok.command _ _ c.run_command.result (rw c.in-Ok.ensures.unwritten at c.run_command.ensures.says))
 
-pub returns-in-Ok-Version-clause-says : goal.returns-in-Ok-Version-clause-says
-returns-in-Ok-Version-clause-says g c =
-    let is : request_of (map string_bytes c.args.words.now) ≡ Some Version = search rules in
-    version_says _ _ _ _ c.end_with-in-Ok-Version.result is (c.as_bytes-in-Ok-Version.ensures.value ∙ c.version_text.ensures) c.end_with-in-Ok-Version.ensures
+pub returns-in-Ok-clause-recorders : goal.returns-in-Ok-clause-recorders
+unfolding request_of
+returns-in-Ok-clause-recorders g c =
+    recorders_say _ c.in-Ok.command _ _ c.run_command.result c.in-Ok.ensures.asked (one_at_least c.in-Ok.command.turns (numbers_within (map string_bytes c.args.words.now) c.in-Ok.command c.in-Ok.ensures.asked).1)
+    (complete_of c.in-Ok.command _ _ c.run_command.result (rw c.in-Ok.ensures.unwritten at c.run_command.ensures.says))
 
-pub returns-in-Err-Refused-clause-says : goal.returns-in-Err-Refused-clause-says
-returns-in-Err-Refused-clause-says g c =
-    let is : request_of (map string_bytes c.args.words.now) ≡ None = search rules in
-    usage_says _ _ _ c.tell_usage.result is c.tell_usage.ensures
+-- ---- none
+pub returns-in-Err-clause-says : goal.returns-in-Err-clause-says
+unfolding request_of
+returns-in-Err-clause-says g c = says_more _ _ _ c.in-Err.ended (without_run_says RunComesTo dk_merge _ _ _ c.in-Err.ended c.in-Err.ensures.ends)
+
+pub returns-in-Err-clause-complete : goal.returns-in-Err-clause-complete
+unfolding request_of
+returns-in-Err-clause-complete g c = without_run_completes IsCalmlyComplete dk_merge _ _ _ c.in-Err.ended (λ command is calm. no_run_completes command _ _ c.in-Err.ended is) c.in-Err.ensures.ends
+
+pub returns-in-Err-clause-histories : goal.returns-in-Err-clause-histories
+unfolding request_of
+returns-in-Err-clause-histories g c = no_run_merges _ _ _ c.in-Err.ended c.in-Err.ensures.ends
+
+pub returns-in-Err-clause-recorders : goal.returns-in-Err-clause-recorders
+unfolding request_of
+returns-in-Err-clause-recorders g c = no_run_writes _ _ _ c.in-Err.ended c.in-Err.ensures.ends

@@ -1,4 +1,3 @@
-use Rattle.std.proofs.Common.{ℕ}
 use Rattle.dk_driver.specs.Standing.{StandsFor, told_by}
 use Rattle.dk_program.proofs.Writing.{Only, parts_to}
 use Rattle.dk_program.specs.Telling.{ToldWhole}

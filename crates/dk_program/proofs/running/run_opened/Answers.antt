@@ -1,4 +1,4 @@
-use Rattle.std.proofs.Common.{ℕ, List, subst, sym}
+use Rattle.std.proofs.Common.{ℕ, List, subst}
 use Rattle.dk_io.specs.Outside.{HeldFile}
 use Rattle.dk_lines.specs.Reading.{room_of}
 use Rattle.dk_program.proofs.Opening.{behind_says, first_says}

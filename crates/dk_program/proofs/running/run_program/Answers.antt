@@ -1,34 +1,25 @@
-use Rattle.std.proofs.Common.{rules, ◌≡◌, map, string_bytes, Some, None}
-use Rattle.dk_arguments.specs.Requests.{request_of}
-use Rattle.dk_arguments.specs.declared.request.Request.TheVariants.{Run, Help, Version}
 use Rattle.dk_driver.specs.Walks.{total_limit}
-use Rattle.dk_program.proofs.Completing.{asked_completes}
-use Rattle.dk_program.proofs.Saying.{help_says, run_says, usage_says, version_says}
+use Rattle.dk_program.proofs.Completing.{asked_completes, short_of, without_run_completes}
+use Rattle.dk_program.proofs.Saying.{run_says, without_run_says}
 use Rattle.dk_program.specs.Statuses.{IsCalmlyComplete, RunComesTo}
 use Rattle.dk_program.specs.Tasks.{task_by}
 use Rattle.dk_program.proofs.running.run_program.Goals as goal
 
-pub returns-in-Ok-Run-clause-says : goal.returns-in-Ok-Run-clause-says
-returns-in-Ok-Run-clause-says g c =
-    let is : request_of g.P.Arguments.command g.P.Arguments.meant (map string_bytes c.args.given.now) ≡ Some (Run c.in-Ok-Run.program) = search rules in
-    run_says (λ a. RunComesTo (task_by g.P.Program.traces g.P.Program.is_report a (g.P.Begins.begins_with a) total_limit)) g.P.Arguments.command _ _ _ c.run_begun.result c.in-Ok-Run.program is c.run_begun.ensures.says
+pub returns-in-Ok-clause-says : goal.returns-in-Ok-clause-says
+returns-in-Ok-clause-says g c =
+    run_says (λ a. RunComesTo (task_by g.P.Program.traces g.P.Program.is_report a (g.P.Begins.begins_with a) total_limit)) g.P.Arguments.command _ _ _ c.run_begun.result c.in-Ok.program c.in-Ok.ensures.asked
+    (rw c.in-Ok.ensures.unwritten at c.run_begun.ensures.says)
 
-pub returns-in-Ok-Run-clause-complete : goal.returns-in-Ok-Run-clause-complete
-returns-in-Ok-Run-clause-complete g c =
-    let is : request_of g.P.Arguments.command g.P.Arguments.meant (map string_bytes c.args.given.now) ≡ Some (Run c.in-Ok-Run.program) = search rules in
-    asked_completes (λ a. IsCalmlyComplete (task_by g.P.Program.traces g.P.Program.is_report a (g.P.Begins.begins_with a) total_limit)) _ c.in-Ok-Run.program _ _ c.run_begun.result is c.run_begun.ensures.complete
+pub returns-in-Ok-clause-complete : goal.returns-in-Ok-clause-complete
+returns-in-Ok-clause-complete g c =
+    asked_completes (λ a. IsCalmlyComplete (task_by g.P.Program.traces g.P.Program.is_report a (g.P.Begins.begins_with a) total_limit)) _ c.in-Ok.program _ _ c.run_begun.result c.in-Ok.ensures.asked
+    (rw c.in-Ok.ensures.unwritten at c.run_begun.ensures.complete)
 
-pub returns-in-Ok-Help-clause-says : goal.returns-in-Ok-Help-clause-says
-returns-in-Ok-Help-clause-says g c =
-    let is : request_of g.P.Arguments.command g.P.Arguments.meant (map string_bytes c.args.given.now) ≡ Some Help = search rules in
-    help_says (λ a. RunComesTo (task_by g.P.Program.traces g.P.Program.is_report a (g.P.Begins.begins_with a) total_limit)) g.P.Arguments.command _ _ _ c.tell_help.result is c.tell_help.ensures
+pub returns-in-Err-clause-says : goal.returns-in-Err-clause-says
+returns-in-Err-clause-says g c =
+    without_run_says (λ a. RunComesTo (task_by g.P.Program.traces g.P.Program.is_report a (g.P.Begins.begins_with a) total_limit)) g.P.Arguments.command _ _ _ c.in-Err.ended c.in-Err.ensures.ends
 
-pub returns-in-Ok-Version-clause-says : goal.returns-in-Ok-Version-clause-says
-returns-in-Ok-Version-clause-says g c =
-    let is : request_of g.P.Arguments.command g.P.Arguments.meant (map string_bytes c.args.given.now) ≡ Some Version = search rules in
-    version_says (λ a. RunComesTo (task_by g.P.Program.traces g.P.Program.is_report a (g.P.Begins.begins_with a) total_limit)) g.P.Arguments.command _ _ _ c.tell_version.result is c.tell_version.ensures
-
-pub returns-in-Err-Refused-clause-says : goal.returns-in-Err-Refused-clause-says
-returns-in-Err-Refused-clause-says g c =
-    let is : request_of g.P.Arguments.command g.P.Arguments.meant (map string_bytes c.args.given.now) ≡ None = search rules in
-    usage_says (λ a. RunComesTo (task_by g.P.Program.traces g.P.Program.is_report a (g.P.Begins.begins_with a) total_limit)) g.P.Arguments.command _ _ _ c.tell_usage.result is c.tell_usage.ensures
+pub returns-in-Err-clause-complete : goal.returns-in-Err-clause-complete
+returns-in-Err-clause-complete g c =
+    without_run_completes (λ a. IsCalmlyComplete (task_by g.P.Program.traces g.P.Program.is_report a (g.P.Begins.begins_with a) total_limit)) g.P.Arguments.command _ _ _ c.in-Err.ended
+    (λ a is calm. short_of (task_by g.P.Program.traces g.P.Program.is_report a (g.P.Begins.begins_with a) total_limit) _ _ c.in-Err.ended is) c.in-Err.ensures.ends

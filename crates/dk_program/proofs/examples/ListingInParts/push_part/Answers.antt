@@ -1,4 +1,4 @@
-use Rattle.std.proofs.Common.{◌≡◌, ◌∙◌, ◌++◌, List, ap}
+use Rattle.std.proofs.Common.{◌∙◌, ◌++◌, List, ap}
 use Rattle.std.specs.Prelude.{OnOk, Result, Ok, Err}
 use Rattle.dk_points.specs.Table.{Point}
 use Rattle.dk_program.specs.Examples.{point_line}
