@@ -1,5 +1,5 @@
 -- The variables that the lines of a block declare.
-use Rattle.std.proofs.Common.{◌≡◌, ◌∙◌, ◌<◌, ◌^◌, ◌&&◌, ◌||◌, ◌==◌, ◌++◌, ℕ, ℤ, Bool, true, false, not, List, [], ◌∷◌, All, is_some, length, map, nat_lt, Option, Some, None, Ok, refl, sym, ap, subst, arith, if◌then◌else◌, take, unwrap_or, ◌-◌, negsuc}
+use Rattle.std.proofs.Common.{◌≡◌, ◌∙◌, ◌<◌, ◌^◌, ◌&&◌, ◌||◌, ◌==◌, ◌++◌, ℕ, ℤ, Bool, true, false, not, List, [], ◌∷◌, All, is_some, length, map, nat_lt, Option, Some, None, IfSome, Ok, refl, sym, ap, subst, arith, if◌then◌else◌, take, unwrap_or, ◌-◌, negsuc}
 use Rattle.std.specs.List.{list_all, position}
 use Rattle.std.specs.Option.{option_map_or}
 use Rattle.std.specs.Str.{bytes_eq}
@@ -41,22 +41,30 @@ use Rattle.dk_state.specs.Fitting.{FitsConstant, FitsMapped, FitsVar}
 use Rattle.dk_state.specs.Given.{all_new, is_given_constant, is_given_counterpart, is_given_var}
 use Rattle.dk_core.proofs.GivenEdges.{HasNoLf, all_new_push, new_name, or_none_left, or_none_right}
 use Rattle.dk_core.proofs.Spelled.{IsSpelled, IsWord, are_words, both, is_name_spelled, none_rest, spelled_rest, spelled_undone, spelled_word, unescaped_none}
+use Rattle.dk_core.proofs.Short.{IsShort, IsShortLine, rest_few, text_short}
+use Rattle.dk_core.proofs.ShortRecords.{HasShortConstant}
+use Rattle.dk_trace.specs.Values.{known_values}
 use Rattle.dk_write.specs.Names.{has_none}
 
 -- ---- constants
--- a constant that is read can be told again
+-- a constant that is read can be told again, and is short
 abbrev IsTold : Bool → Option Kind → Option Value → Type 0
-IsTold there kind constant = (is_given_constant there kind constant ≡ true) × FitsConstant there kind constant
+IsTold there kind constant = (is_given_constant there kind constant ≡ true) × FitsConstant there kind constant × All IsShort (known_values constant)
 
-constant_told : (rep : RepType) (o : Option Placed) (c : Option Value) → constant_at rep o ≡ Ok c → IsTold (is_some o) (rep_kind rep) c
+-- a text of a constant that isn't long
+abbrev IsShortText : Option Placed → Type 0
+IsShortText o = IfSome o (λ p. length p.text < 2 ^ 63)
+
+constant_told : (rep : RepType) (o : Option Placed) (c : Option Value) → IsShortText o → constant_at rep o ≡ Ok c → IsTold (is_some o) (rep_kind rep) c
 unfolding constant_at constant_of
-constant_told rep None c e = let is : None ≡ c = cc e in subst (IsTold false (rep_kind rep)) is (refl, tt)
-constant_told Opaque (Some p) c e = let is : None ≡ c = cc e in subst (IsTold true None) is (refl, tt)
-constant_told (Of k) (Some p) c e = by (value_of_text k p.text) refl e
+constant_told rep None c few e = let is : None ≡ c = cc e in subst (IsTold false (rep_kind rep)) is (refl, tt, All-nil IsShort)
+constant_told Opaque (Some p) c few e = let is : None ≡ c = cc e in subst (IsTold true None) is (refl, tt, All-nil IsShort)
+constant_told (Of k) (Some p) c few e = by (value_of_text k p.text) refl e
   where
     there : (v : Value) → value_of_text k p.text ≡ Some v → (b : Bool) → is_missing v ≡ b → (if b then refused BadVariable p.line else Ok (Some v)) ≡ Ok c → IsTold true (Some k) c
     there v is true missing e = absurd (cc e)
-    there v is false missing e = let same : Some v ≡ c = cc e in subst (IsTold true (Some k)) same (ap not missing, read_is_written k p.text v is)
+    there v is false missing e = let same : Some v ≡ c = cc e in
+        subst (IsTold true (Some k)) same (ap not missing, read_is_written k p.text v is, All-cons IsShort v [] (text_short k p.text v few is) (All-nil IsShort))
 
     by : (o : Option Value) → value_of_text k p.text ≡ o → known p.line o ≡ Ok c → IsTold true (Some k) c
     by None is e = absurd (cc e)
@@ -183,9 +191,10 @@ pub record AreGivenVars (n : ℕ) (vs : List VarDecl) : Type 0 where
   pub new : all_new [] (map (λ v. v.name) vs) ≡ true
   pub each : list_all (is_given_var n) vs ≡ true
   pub fits : All FitsVar vs
+  pub short : All HasShortConstant vs
 
 pub no_vars : (n : ℕ) → AreGivenVars n []
-no_vars n = record { new = refl; each = refl; fits = All-nil FitsVar }
+no_vars n = record { new = refl; each = refl; fits = All-nil FitsVar; short = All-nil HasShortConstant }
 
 -- one variable more
 one_var : (n : ℕ) (vs : List VarDecl) (v : VarDecl) → AreGivenVars n vs → has_name v.name vs ≡ false → IsSpelled v.name → IsCompar v.compar → IsTold v.constant_line v.kind v.constant
@@ -196,6 +205,7 @@ one_var n vs v given none spelled compar told mapped = record {
       (new_name (λ (w : VarDecl). Unit {0}) (λ (w : VarDecl). w.name) (λ (w : VarDecl). bytes_eq v.name w.name) vs v.name (λ w _ same. same) (λ k d within. tt) none));
   each = list_all-append (is_given_var n) vs (v ∷ []) ∙ both _ _ given.each (both _ _ (both _ _ (is_name_spelled v.name spelled) (both _ _ told.0 mapped.each)) refl);
   fits = All-push FitsVar vs v given.fits (record { name = spelled.none; elem = compar.elem; index = compar.index; constant = told.1; parents = mapped.fits });
+  short = All-push HasShortConstant vs v given.short (λ has. told.2);
 }
   where
     map_push : (vs : List VarDecl) → map (λ (w : VarDecl). w.name) (vs ++ v ∷ []) ≡ map (λ (w : VarDecl). w.name) vs ++ v.name ∷ []
@@ -207,6 +217,7 @@ record IsGoing (n : ℕ) (vs : List VarDecl) (o : OpenVar) : Type 0 where
   new : has_name o.name vs ≡ false
   name : IsSpelled o.name
   compar : IsCompar o.compar
+  constant : IsShortText o.constant
   parents : AreMapped o.name n o.parents
 
 opened_open : (n : ℕ) (vs : List VarDecl) (l : Line) (o : OpenVar) → IsSpelled l.bytes → open_var vs l ≡ Ok o → IsGoing n vs o
@@ -225,13 +236,14 @@ opened_open n vs l o spelled e = by (is_empty (rest_of_line l.bytes) || has_name
           new = or_none_right (is_empty (rest_of_line l.bytes)) _ is;
           name = spelled_undone _ (spelled_rest l.bytes spelled (or_none_left _ _ is));
           compar = no_compar_is;
+          constant = tt;
           parents = none_mapped _ n;
         })
 
-line_open : (implicit : Bool) (es : List EdgeDecl) (vs : List VarDecl) (o : OpenVar) (l : Line) (o' : OpenVar) → length es < 2 ^ 64 → HasNoLf l → IsGoing (length es) vs o
+line_open : (implicit : Bool) (es : List EdgeDecl) (vs : List VarDecl) (o : OpenVar) (l : Line) (o' : OpenVar) → length es < 2 ^ 64 → HasNoLf l → IsShortLine l → IsGoing (length es) vs o
     → var_line implicit es o l ≡ Ok o' → IsGoing (length es) vs o'
 unfolding var_line operand operands
-line_open implicit es vs o l o' few none going e =
+line_open implicit es vs o l o' few none short going e =
     by (begins (codes "rep-type") l.bytes) (begins (codes "comparability") l.bytes && implicit) (begins (codes "constant") l.bytes) (begins (codes "parent") l.bytes) e
   where
     n : ℕ
@@ -245,15 +257,17 @@ line_open implicit es vs o l o' few none going e =
     by true b c d e =
         bind_ok (or_refused BadVariable l.number (rep_type_of (rest_of_line l.bytes))) (λ r. Ok (record o { rep = Some r })) o' e (λ r is done.
         let same : record o { rep = Some r } ≡ o' = cc done in
-        subst (IsGoing (length es) vs) same (record { new = going.new; name = going.name; compar = going.compar; parents = going.parents }))
+        subst (IsGoing (length es) vs) same (record { new = going.new; name = going.name; compar = going.compar; constant = going.constant; parents = going.parents }))
     by false true c d e =
         bind_ok (or_refused BadVariable l.number (compar_of (rest_of_line l.bytes))) (λ q. Ok (record o { compar = q })) o' e (λ q is done.
         let same : record o { compar = q } ≡ o' = cc done in
         subst (IsGoing (length es) vs) same
-        (record { new = going.new; name = going.name; compar = compar_fits _ q (or_refused_some l.number _ q is); parents = going.parents }))
+        (record { new = going.new; name = going.name; compar = compar_fits _ q (or_refused_some l.number _ q is); constant = going.constant; parents = going.parents }))
     by false false true d e =
+        let few_bytes : length (rest_of_line l.bytes) < 2 ^ 63 = omega (arith, short, rest_few l.bytes) in
         let same : record o { constant = Some (record { line = l.number; text = rest_of_line l.bytes }) } ≡ o' = cc e in
-        subst (IsGoing (length es) vs) same (record { new = going.new; name = going.name; compar = going.compar; parents = going.parents })
+        subst (IsGoing (length es) vs) same
+        (record { new = going.new; name = going.name; compar = going.compar; constant = few_bytes; parents = going.parents })
     by false false false true e =
         bind_ok (with_counterparts o.parents l.number (counterparts es o.name (words (rest_of_line l.bytes)))) (λ ps. Ok (record o { parents = ps })) o' e (λ ps is done.
         bind_ok (or_refused BadVariable l.number (counterparts es o.name (words (rest_of_line l.bytes)))) (λ more. Ok (o.parents ++ more)) ps is (λ more found whole.
@@ -261,15 +275,16 @@ line_open implicit es vs o l o' few none going e =
         let same : record o { parents = ps } ≡ o' = cc done in
         let given = counterparts_given es o.name (words (rest_of_line l.bytes)) more few going.name (are_words _ (none_rest 10 l.bytes none)) (or_refused_some l.number _ more found) in
         subst (IsGoing (length es) vs) same
-        (record { new = going.new; name = going.name; compar = going.compar; parents = subst (AreMapped o.name (length es)) all (more_mapped o.name (length es) o.parents more going.parents given) })))
+        (record { new = going.new; name = going.name; compar = going.compar; constant = going.constant; parents = subst (AreMapped o.name (length es)) all (more_mapped o.name (length es) o.parents more going.parents given) })))
     by false false false false e = let same : o ≡ o' = cc e in subst (IsGoing (length es) vs) same going
 
-lines_open : (implicit : Bool) (es : List EdgeDecl) (vs : List VarDecl) (ls : List Line) (o o' : OpenVar) → length es < 2 ^ 64 → All HasNoLf ls → IsGoing (length es) vs o
+lines_open : (implicit : Bool) (es : List EdgeDecl) (vs : List VarDecl) (ls : List Line) (o o' : OpenVar) → length es < 2 ^ 64 → All HasNoLf ls → All IsShortLine ls → IsGoing (length es) vs o
     → each_line (var_line implicit es) o ls ≡ Ok o' → IsGoing (length es) vs o'
-lines_open implicit es vs [] o o' few none going e = let same : o ≡ o' = cc e in subst (IsGoing (length es) vs) same going
-lines_open implicit es vs (l ∷ ls) o o' few none going e =
+lines_open implicit es vs [] o o' few none short going e = let same : o ≡ o' = cc e in subst (IsGoing (length es) vs) same going
+lines_open implicit es vs (l ∷ ls) o o' few none short going e =
     bind_ok (var_line implicit es o l) (λ next. each_line (var_line implicit es) next ls) o' e (λ next first rest.
-    lines_open implicit es vs ls next o' few (All-tail HasNoLf l ls none) (line_open implicit es vs o l next few (All-head HasNoLf l ls none) going first) rest)
+    lines_open implicit es vs ls next o' few (All-tail HasNoLf l ls none) (All-tail IsShortLine l ls short)
+    (line_open implicit es vs o l next few (All-head HasNoLf l ls none) (All-head IsShortLine l ls short) going first) rest)
 
 closed_given : (n : ℕ) (vs : List VarDecl) (o : OpenVar) (v : VarDecl) → AreGivenVars n vs → IsGoing n vs o → var_decl_of o ≡ Ok v → AreGivenVars n (vs ++ v ∷ [])
 unfolding var_decl_of
@@ -278,7 +293,7 @@ closed_given n vs o v given going e =
     bind_ok (constant_at rep o.constant) (λ constant. Ok (var_with o rep constant)) v rest (λ constant told done.
     let same : var_with o rep constant ≡ v = cc done in
     subst (λ (w : VarDecl). AreGivenVars n (vs ++ w ∷ [])) same
-    (one_var n vs (var_with o rep constant) given going.new going.name going.compar (constant_told rep o.constant constant told) going.parents)))
+    (one_var n vs (var_with o rep constant) given going.new going.name going.compar (constant_told rep o.constant constant going.constant told) going.parents)))
 
 -- behind it there is one variable more
 at_end : (n : ℕ) (vs : List VarDecl) (w : OpenVar) (next : List VarDecl) → AreGivenVars n vs → IsGoing n vs w → with_var vs w true ≡ Ok next → AreGivenVars n next
@@ -289,7 +304,7 @@ at_end n vs w next given going e =
     subst (AreGivenVars n) same (closed_given n vs w v given going shut))
 
 abbrev pub IsGroup : Line × List Line → Type 0
-IsGroup g = IsSpelled g.0.bytes × All HasNoLf g.1
+IsGroup g = IsSpelled g.0.bytes × All HasNoLf g.1 × All IsShortLine g.1
 
 pub vars_given : (implicit : Bool) (es : List EdgeDecl) (vs : List VarDecl) (gs : List (Line × List Line)) (close : ℕ) (vs' : List VarDecl) → length es < 2 ^ 64 → All IsGroup gs
     → AreGivenVars (length es) vs → vars_after implicit es vs gs (Some close) ≡ Ok vs' → AreGivenVars (length es) vs'
@@ -300,7 +315,7 @@ vars_given implicit es vs (g ∷ gs) close vs' few all given e =
     bind_ok (each_line (var_line implicit es) o g.1) _ vs' rest (λ w lines more.
     bind_ok (with_var vs w (has_ended gs (Some close))) _ vs' more (λ next ended last.
     vars_given implicit es next gs close vs' few (All-tail IsGroup g gs all)
-    (at_end (length es) vs w next given (lines_open implicit es vs g.1 o w few own.1 (opened_open (length es) vs g.0 o own.0 first) lines) (sym (ap (with_var vs w) (ends gs)) ∙ ended)) last)))
+    (at_end (length es) vs w next given (lines_open implicit es vs g.1 o w few own.1 own.2 (opened_open (length es) vs g.0 o own.0 first) lines) (sym (ap (with_var vs w) (ends gs)) ∙ ended)) last)))
   where
     ends : (gs : List (Line × List Line)) → has_ended gs (Some close) ≡ true
     ends [] = refl
@@ -312,14 +327,29 @@ unfolding comparability
 comparability_fits true l c e = compar_fits l.bytes c (or_refused_some l.number (compar_of l.bytes) c e)
 comparability_fits false l c e = let same : no_compar ≡ c = cc e in subst IsCompar same no_compar_is
 
-represented_told : (l : Line) (r : Represented) → representation l ≡ Ok r → IsTold r.constant_line (rep_kind r.rep) r.constant
+constant_text_few : (l : Line) (text : Option Placed) → IsShortLine l → constant_text l ≡ Ok text → IsShortText text
+unfolding constant_text operand
+constant_text_few l text short e = by (is_empty (rest_of_line l.bytes)) (begins (codes "=") (rest_of_line l.bytes)) e
+  where
+    behind : Placed
+    behind = record { line = l.number; text = rest_of_line (rest_of_line l.bytes) }
+
+    by : (a b : Bool) → (if a then Ok None else if b then Ok (Some behind) else refused BadVariable l.number) ≡ Ok text → IsShortText text
+    by true b e = let same : None ≡ text = cc e in subst IsShortText same tt
+    by false true e =
+        let same : Some behind ≡ text = cc e in
+        let few_bytes : length (rest_of_line (rest_of_line l.bytes)) < 2 ^ 63 = omega (arith, short, rest_few l.bytes, rest_few (rest_of_line l.bytes)) in
+        subst IsShortText same few_bytes
+    by false false e = absurd (cc e)
+
+represented_told : (l : Line) (r : Represented) → IsShortLine l → representation l ≡ Ok r → IsTold r.constant_line (rep_kind r.rep) r.constant
 unfolding representation
-represented_told l r e =
+represented_told l r short e =
     bind_ok (or_refused BadVariable l.number (rep_type_of (first_word l.bytes))) _ r e (λ rep is rest.
     bind_ok (constant_text l) _ r rest (λ text found more.
     bind_ok (constant_at rep text) (λ constant. Ok (represented rep text constant)) r more (λ constant told done.
     let same : represented rep text constant ≡ r = cc done in
-    subst (λ (x : Represented). IsTold x.constant_line (rep_kind x.rep) x.constant) same (constant_told rep text constant told))))
+    subst (λ (x : Represented). IsTold x.constant_line (rep_kind x.rep) x.constant) same (constant_told rep text constant (constant_text_few l text short found) told))))
 
 new_by_line : (vs : List VarDecl) (l : Line) (name : List ℕ) → IsSpelled l.bytes → new_name_of vs l ≡ Ok name → IsSpelled name × (has_name name vs ≡ false)
 unfolding new_name_of
@@ -334,18 +364,22 @@ new_by_line vs l name spelled e = by (has_name (unescaped l.bytes) vs) refl e
 abbrev pub IsLineSpelled : Line → Type 0
 IsLineSpelled l = IsSpelled l.bytes
 
-pub four_given : (implicit : Bool) (vs : List VarDecl) (ls : List Line) (close : ℕ) (vs' : List VarDecl) → All IsLineSpelled ls → AreGivenVars 0 vs → from_name implicit vs ls (Some close) ≡ Ok vs'
+pub four_given : (implicit : Bool) (vs : List VarDecl) (ls : List Line) (close : ℕ) (vs' : List VarDecl) → All IsLineSpelled ls → All IsShortLine ls → AreGivenVars 0 vs
+    → from_name implicit vs ls (Some close) ≡ Ok vs'
     → AreGivenVars 0 vs'
-four_given implicit vs [] close vs' all given e = let same : vs ≡ vs' = cc e in subst (AreGivenVars 0) same given
-four_given implicit vs (a ∷ []) close vs' all given e = bind_ok (new_name_of vs a) _ vs' e (λ name is rest. absurd (cc rest))
-four_given implicit vs (a ∷ b ∷ []) close vs' all given e = bind_ok (new_name_of vs a) _ vs' e (λ name is rest. absurd (cc rest))
-four_given implicit vs (a ∷ b ∷ c ∷ []) close vs' all given e =
+four_given implicit vs [] close vs' all short given e = let same : vs ≡ vs' = cc e in subst (AreGivenVars 0) same given
+four_given implicit vs (a ∷ []) close vs' all short given e = bind_ok (new_name_of vs a) _ vs' e (λ name is rest. absurd (cc rest))
+four_given implicit vs (a ∷ b ∷ []) close vs' all short given e = bind_ok (new_name_of vs a) _ vs' e (λ name is rest. absurd (cc rest))
+four_given implicit vs (a ∷ b ∷ c ∷ []) close vs' all short given e =
     bind_ok (new_name_of vs a) _ vs' e (λ name is rest. bind_ok (representation c) _ vs' rest (λ r told more. absurd (cc more)))
-four_given implicit vs (a ∷ b ∷ c ∷ d ∷ ls) close vs' all given e =
+four_given implicit vs (a ∷ b ∷ c ∷ d ∷ ls) close vs' all short given e =
     bind_ok (new_name_of vs a) _ vs' e (λ name is rest.
     bind_ok (representation c) _ vs' rest (λ r told more.
     bind_ok (comparability implicit d) _ vs' more (λ compar fits last.
     let named = new_by_line vs a name (All-head IsLineSpelled a (b ∷ c ∷ d ∷ ls) all) is in
     let behind = All-tail IsLineSpelled d ls (All-tail IsLineSpelled c (d ∷ ls) (All-tail IsLineSpelled b (c ∷ d ∷ ls) (All-tail IsLineSpelled a (b ∷ c ∷ d ∷ ls) all))) in
-    four_given implicit (vs ++ old_form_var name r compar ∷ []) ls close vs' behind
-    (one_var 0 vs (old_form_var name r compar) given named.1 named.0 (comparability_fits implicit d compar fits) (represented_told c r told) (none_mapped name 0)) last)))
+    let third = All-tail IsShortLine b (c ∷ d ∷ ls) (All-tail IsShortLine a (b ∷ c ∷ d ∷ ls) short) in
+    let others = All-tail IsShortLine d ls (All-tail IsShortLine c (d ∷ ls) third) in
+    four_given implicit (vs ++ old_form_var name r compar ∷ []) ls close vs' behind others
+    (one_var 0 vs (old_form_var name r compar) given named.1 named.0 (comparability_fits implicit d compar fits) (represented_told c r (All-head IsShortLine c (d ∷ ls) third) told)
+    (none_mapped name 0)) last)))

@@ -128,6 +128,20 @@ table_push (e ∷ ds) qs d = by (if_new (declared qs e)) (λ t. table_push ds t 
     by None later = refl
     by (Some t) later = later t
 
+-- the declarations of the points that a declaration adds
+decls_behind : (ps ps' : List Point) (d : PointDecl) → IsAdded ps ps' d → decls_of ps' ≡ decls_of ps ++ d ∷ []
+decls_behind ps ps' d is =
+    ap decls_of is.added_are ∙ filter_map-append decl_if_declared ps (added_points ps d) ∙ ap (λ (l : List PointDecl). decls_of ps ++ l) (decls_added ps d)
+
+-- behind a declaration the table has the declarations that it had, and perhaps this one
+pub all_declared : (P : PointDecl → Type 0) (ps ps' : List Point) (d : PointDecl) (line : ℕ) (x : Declared) → All P (decls_of ps) → P d → at_line line (declared ps d) ≡ Ok (ps', x) → All P (decls_of ps')
+unfolding declared
+all_declared P ps ps' d line (Same p) all own e =
+    subst (λ (qs : List Point). All P (decls_of qs)) (sym (same_kept ps ps' d p.0 (place_of (names ps) d.name) (not_refused line (declared ps d) (ps', Same p) e))) all
+all_declared P ps ps' d line (New p) all own e =
+    let is = new_added ps ps' d p.0 (place_of (names ps) d.name) (not_refused line (declared ps d) (ps', New p) e) in
+    subst (All P) (sym (decls_behind ps ps' d is)) (All-push P (decls_of ps) d all own)
+
 -- the table behind a declaration that a block can give
 pub own_declared : (ps ps' : List Point) (d : PointDecl) (line : ℕ) (x : Declared) → IsOwnTable ps → CanBeGiven d → at_line line (declared ps d) ≡ Ok (ps', x) → IsOwnTable ps'
 unfolding declared
@@ -136,7 +150,7 @@ own_declared ps ps' d line (Same p) own given e =
 own_declared ps ps' d line (New p) own given e =
     let told : declared ps d ≡ Ok (ps', New p) = not_refused line (declared ps d) (ps', New p) e in
     let is = new_added ps ps' d p.0 (place_of (names ps) d.name) told in
-    let decls : decls_of ps' ≡ decls_of ps ++ d ∷ [] = ap decls_of is.added_are ∙ filter_map-append decl_if_declared ps (added_points ps d) ∙ ap (λ (l : List PointDecl). decls_of ps ++ l) (decls_added ps d) in
+    let decls : decls_of ps' ≡ decls_of ps ++ d ∷ [] = decls_behind ps ps' d is in
     record {
       made = ap (table_behind []) decls ∙ table_push (decls_of ps) [] d ∙ ap (option_and_then (λ t. if_new (declared t d))) own.made ∙ ap (λ (r : Result (List Point × Declared) Why). if_new r) told;
       given = subst (All CanBeGiven) (sym decls) (All-push CanBeGiven (decls_of ps) d own.given given);

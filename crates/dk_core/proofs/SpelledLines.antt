@@ -1,5 +1,6 @@
 -- The lines of the groups of a file.
-use Rattle.std.proofs.Common.{◌≡◌, ◌+◌, ◌-◌, ◌≤◌, ◌||◌, ◌==◌, ℕ, zero, suc, Bool, true, false, not, List, [], ◌∷◌, All, length, refl, ap, arith, take, if◌then◌else◌}
+use Rattle.std.proofs.Common.{◌≡◌, ◌+◌, ◌-◌, ◌≤◌, ◌<◌, ◌^◌, ◌||◌, ◌==◌, ℕ, zero, suc, Bool, true, false, not, List, [], ◌∷◌, All, length, refl, ap, arith, take, if◌then◌else◌}
+use Rattle.std.proofs.lemmas.List.{length-take}
 use Rattle.std.specs.Io.BufRead.{ends_with_byte}
 use Rattle.std.proofs.lemmas.List.Elements.{All-cons, All-head, All-nil, All-tail}
 use Rattle.dk_base.specs.Reading.{Line}
@@ -8,6 +9,7 @@ use Rattle.dk_blocks.specs.Blocks.{Group, Groups, Last, groups_of, is_blank_line
 use Rattle.dk_write.specs.Names.{has_none}
 use Rattle.dk_core.proofs.GivenEdges.{HasNoLf}
 use Rattle.dk_core.proofs.GivenVars.{IsLineSpelled}
+use Rattle.dk_core.proofs.Short.{IsShortLine, trimmed_few}
 use Rattle.dk_core.proofs.Spelled.{both, left, right, spelled_trimmed}
 
 -- ---- pieces
@@ -42,22 +44,29 @@ none_stripped bs h = by (ends_with_byte 13 bs)
     by true = none_take (length bs - 1) bs h
     by false = h
 
+fewer_stripped : (bs : List ℕ) → length (without_cr bs) ≤ length bs
+fewer_stripped bs = by (ends_with_byte 13 bs)
+  where
+    by : (b : Bool) → length (if b then take (length bs - 1) bs else bs) ≤ length bs
+    by true = omega (arith, length-take (length bs - 1) bs)
+    by false = omega arith
+
 abbrev pub lines_in : Left → ℕ
 lines_in (Ends end) = 0
 lines_in (Next l rest) = suc (lines_in rest)
 
 abbrev ArePlain : Left → Type 0
 ArePlain (Ends end) = Unit {0}
-ArePlain (Next l rest) = HasNoLf l × ArePlain rest
+ArePlain (Next l rest) = HasNoLf l × IsShortLine l × ArePlain rest
 
 record IsWithin (room : ℕ) (ls : Left) : Type 0 where
   plain : ArePlain ls
   few : lines_in ls ≤ room
 
-lines_plain : (limit room : ℕ) (is_ended : Bool) (n : ℕ) (ps : List Piece) → All IsPiece ps → IsWithin room (lined_by limit room is_ended n ps)
-lines_plain limit room is_ended n [] all = record { plain = tt; few = omega arith }
-lines_plain limit room is_ended n (p ∷ ps) all =
-    by (is_long limit room p) (is_over room p) refl (p.has_lf || is_ended) (lines_plain limit (room - size_of p) is_ended (n + 1) ps (All-tail IsPiece p ps all))
+lines_plain : (limit room : ℕ) (is_ended : Bool) (n : ℕ) (ps : List Piece) → room < 2 ^ 63 → All IsPiece ps → IsWithin room (lined_by limit room is_ended n ps)
+lines_plain limit room is_ended n [] small all = record { plain = tt; few = omega arith }
+lines_plain limit room is_ended n (p ∷ ps) small all =
+    by (is_long limit room p) (is_over room p) refl (p.has_lf || is_ended) (lines_plain limit (room - size_of p) is_ended (n + 1) ps (omega (arith, small)) (All-tail IsPiece p ps all))
   where
     l : Line
     l = record { number = n + 1; bytes = without_cr p.bytes }
@@ -75,34 +84,36 @@ lines_plain limit room is_ended n (p ∷ ps) all =
         let fits : size_of p ≤ room = grind (arith, over) in
         let some = own.some in
         let few = later.few in
-        record { plain = (none_stripped p.bytes own.none, later.plain); few = omega (arith, some, fits, few) }
+        let short : length (without_cr p.bytes) < 2 ^ 63 = omega (arith, small, fits, fewer_stripped p.bytes) in
+        record { plain = (none_stripped p.bytes own.none, short, later.plain); few = omega (arith, some, fits, few) }
 
 -- ---- groups
 abbrev pub AreSpelled : ℕ → Groups → Type 0
-AreSpelled n (Group ls close rest) = All IsLineSpelled ls × (length ls ≤ n) × AreSpelled n rest
-AreSpelled n (Last ls end) = All IsLineSpelled ls × (length ls ≤ n)
+AreSpelled n (Group ls close rest) = All IsLineSpelled ls × All IsShortLine ls × (length ls ≤ n) × AreSpelled n rest
+AreSpelled n (Last ls end) = All IsLineSpelled ls × All IsShortLine ls × (length ls ≤ n)
 
 pub more_lines : (m n : ℕ) (gs : Groups) → m ≤ n → AreSpelled m gs → AreSpelled n gs
-more_lines m n (Group ls close rest) less own = (own.0, omega (arith, less, own.1), more_lines m n rest less own.2)
-more_lines m n (Last ls end) less own = (own.0, omega (arith, less, own.1))
+more_lines m n (Group ls close rest) less own = (own.0, own.1, omega (arith, less, own.2), more_lines m n rest less own.3)
+more_lines m n (Last ls end) less own = (own.0, own.1, omega (arith, less, own.2))
 
-onto_spelled : (n : ℕ) (l : Line) (gs : Groups) → IsLineSpelled l → AreSpelled n gs → AreSpelled (suc n) (onto_group l gs)
-onto_spelled n l (Group ls close rest) own all = (All-cons IsLineSpelled l ls own all.0, omega (arith, all.1), more_lines n (suc n) rest (omega arith) all.2)
-onto_spelled n l (Last ls end) own all = (All-cons IsLineSpelled l ls own all.0, omega (arith, all.1))
+onto_spelled : (n : ℕ) (l : Line) (gs : Groups) → IsLineSpelled l → IsShortLine l → AreSpelled n gs → AreSpelled (suc n) (onto_group l gs)
+onto_spelled n l (Group ls close rest) own short all =
+    (All-cons IsLineSpelled l ls own all.0, All-cons IsShortLine l ls short all.1, omega (arith, all.2), more_lines n (suc n) rest (omega arith) all.3)
+onto_spelled n l (Last ls end) own short all = (All-cons IsLineSpelled l ls own all.0, All-cons IsShortLine l ls short all.1, omega (arith, all.2))
 
 groups_spelled : (ls : Left) → ArePlain ls → AreSpelled (lines_in ls) (groups_of ls)
-groups_spelled (Ends end) plain = (All-nil IsLineSpelled, omega arith)
-groups_spelled (Next l rest) plain = by (is_blank_line l) refl (groups_spelled rest plain.1)
+groups_spelled (Ends end) plain = (All-nil IsLineSpelled, All-nil IsShortLine, omega arith)
+groups_spelled (Next l rest) plain = by (is_blank_line l) refl (groups_spelled rest plain.2)
   where
     by : (b : Bool) → is_blank_line l ≡ b → AreSpelled (lines_in rest) (groups_of rest) → AreSpelled (suc (lines_in rest)) (if b then Group [] l.number (groups_of rest) else onto_group (trimmed_line l) (groups_of rest))
-    by true is all = (All-nil IsLineSpelled, omega arith, more_lines (lines_in rest) (suc (lines_in rest)) (groups_of rest) (omega arith) all)
-    by false is all = onto_spelled (lines_in rest) (trimmed_line l) (groups_of rest) (spelled_trimmed l.bytes is plain.0) all
+    by true is all = (All-nil IsLineSpelled, All-nil IsShortLine, omega arith, more_lines (lines_in rest) (suc (lines_in rest)) (groups_of rest) (omega arith) all)
+    by false is all = onto_spelled (lines_in rest) (trimmed_line l) (groups_of rest) (spelled_trimmed l.bytes is plain.0) (omega (arith, plain.1, trimmed_few l.bytes)) all
 
 -- the lines of a file's groups are spelled, and in no group more than bytes may come
-pub file_spelled : (limit room n : ℕ) (is_ended : Bool) (bytes : List ℕ) → AreSpelled room (groups_of (lined limit room n is_ended bytes))
+pub file_spelled : (limit room n : ℕ) (is_ended : Bool) (bytes : List ℕ) → room < 2 ^ 63 → AreSpelled room (groups_of (lined limit room n is_ended bytes))
 unfolding lined
-file_spelled limit room n is_ended bytes =
-    let all = lines_plain limit room is_ended n (pieces bytes) (are_pieces bytes) in
+file_spelled limit room n is_ended bytes small =
+    let all = lines_plain limit room is_ended n (pieces bytes) small (are_pieces bytes) in
     let ls = lined_by limit room is_ended n (pieces bytes) in
     more_lines (lines_in ls) room (groups_of ls) all.few (groups_spelled ls all.plain)
 

@@ -1,8 +1,6 @@
 -- Histories that are saved, and that a session begins with.
-use Rattle.std.specs.Prelude.{◌≡◌, ◌≤◌, ◌<◌, ◌^◌, ℕ, All, List, [], false, length, slice_index_or}
-use Rattle.dk_base.specs.declared.values.Value.{Value}
+use Rattle.std.specs.Prelude.{◌≡◌, ◌≤◌, ◌^◌, ℕ, List, [], false, length, slice_index_or}
 use Rattle.dk_decl.specs.Headers.{awaits_word, is_implicit}
-use Rattle.dk_derive.specs.Values.{number_of_elements}
 use Rattle.dk_hierarchy.specs.Samples.{OwnSamples}
 use Rattle.dk_state.specs.Spelling.{CanBeSaved, Content, IsContent, text_of_content}
 use Rattle.dk_state.specs.StateFile.{state_file_of}
@@ -32,10 +30,9 @@ pub record HasTableOfState (bytes : List ℕ) (h : History) : Type 0 where
   pub table : h.table ≡ content.points
   pub word : is_implicit h.header ≡ content.implicit
 
--- Each point has at most 2^40 own samples, and each of their sequences fewer than 2^63 elements.
-pub record AreFew (own : OwnSamples) : Type 0 where
-  pub few : (p : ℕ) → length (slice_index_or own p []) ≤ 2 ^ 40
-  pub short : (p : ℕ) → All (All (λ (v : Value). number_of_elements v < 2 ^ 63)) (slice_index_or own p [])
+-- Each point has at most 2^40 own samples.
+abbrev pub AreFew : OwnSamples → Type 0
+AreFew own = (p : ℕ) → length (slice_index_or own p []) ≤ 2 ^ 40
 
 -- no samples, by either grammar, are one
 abbrev pub NoSamplesAreAStart : Type 0

@@ -1,29 +1,32 @@
 -- Runs that end where another one can begin.
 use Rattle.std.proofs.Common.{◌≡◌, ◌∙◌, ◌+◌, ◌-◌, ◌<◌, ◌≤◌, ◌^◌, ◌++◌, ℕ, All, Bool, true, List, [], ◌∷◌, Option, Some, None, Result, Ok, Err, ap, arith, length, map, refl, subst, sym}
+use Rattle.std.specs.Fmt.{digits}
 use Rattle.dk_base.specs.Reading.{Line, LineFault, Reads, ◌>>=◌}
 use Rattle.dk_base.specs.declared.why.Why.TheVariants.{LongLine as WhyLong, TooLong as WhyMany}
 use Rattle.dk_lines.specs.Left.{End, Over, Broken, LongLine, TooLong, lined}
-use Rattle.dk_core.proofs.Going.{IsGoing, block_going, ended_going, going_start, start_going}
+use Rattle.dk_core.proofs.Going.{IsGoing, block_going, ended_going, going_start, no_samples, start_going}
 use Rattle.dk_core.proofs.GivenVars.{IsLineSpelled}
 use Rattle.dk_core.proofs.SpelledLines.{AreSpelled, IsEnded, file_ends, file_spelled}
 use Rattle.dk_blocks.specs.Blocks.{Group, Groups, Last, groups_of}
-use Rattle.dk_blocks.specs.History.{History, Taken, effect_of, file_ended}
+use Rattle.dk_blocks.specs.History.{History, Taken, effect_of, file_ended, no_history}
 use Rattle.dk_blocks.specs.Reading.{after_last}
-use Rattle.dk_core.specs.Resuming.{AreFew, IsStart}
+use Rattle.dk_core.specs.Resuming.{AreFew, IsStart, state_file}
 use Rattle.dk_run.specs.Courses.{Course, Outset, behind_histories, course_end, course_of, course_of_file, course_of_files, course_of_groups, goes_on, line_limit, then_files, total_limit}
 use Rattle.dk_run.specs.Files.{File, FileFault, ended_file}
-use Rattle.dk_run.specs.Laws.{RunsEndAtStarts}
+use Rattle.dk_run.specs.Laws.{RunsBeginAtStarts, RunsEndAtStarts}
+use Rattle.dk_state.specs.Saved.{saved_text}
+use Rattle.dk_state.specs.StateFile.{state_file_of}
 
 over_many : (r : Result Taken LineFault) (fault : LineFault) (n : History) → (goes_on (r >>= λ _. Err fault) (λ h. course_end (Ok h))).end ≡ Ok n → ⊥
 over_many (Ok t) fault n e = cc e
 over_many (Err f) fault n e = cc e
 
 -- groups of lines that are spelled
-groups_going : (ignores : Bool) (h n : History) (room : ℕ) (gs : Groups) → room < 2 ^ 64 → AreSpelled room gs → IsEnded gs → IsGoing h
+groups_going : (ignores : Bool) (h n : History) (room : ℕ) (gs : Groups) → room < 2 ^ 63 → AreSpelled room gs → IsEnded gs → IsGoing h
     → (course_of_groups ignores (effect_of ignores h) gs).end ≡ Ok n → IsGoing n
 groups_going ignores h n room (Group ls close rest) few own ended going e =
-    by (effect_of ignores h ls (Some close)) (λ t is. block_going ignores h ls close t going own.0 (omega (arith, own.1, few)) is) refl e
-    (λ t now later. groups_going ignores t n room rest few own.2 ended now later)
+    by (effect_of ignores h ls (Some close)) (λ t is. block_going ignores h ls close t going own.0 own.1 (omega (arith, own.2, few)) is) refl e
+    (λ t now later. groups_going ignores t n room rest few own.3 ended now later)
   where
     by : (r : Result Taken LineFault) → ((t : Taken) → effect_of ignores h ls (Some close) ≡ Ok t → IsGoing t.history) → effect_of ignores h ls (Some close) ≡ r
         → (goes_on r (λ k. course_of_groups ignores (effect_of ignores k) rest)).end ≡ Ok n
@@ -34,7 +37,7 @@ groups_going ignores h n room (Last ls Broken) few own ended going e = absurd en
 groups_going ignores h n room (Last ls (LongLine line)) few own ended going e = absurd (over_many (effect_of ignores h ls None) (record { line = line; why = WhyLong }) n e)
 groups_going ignores h n room (Last ls (TooLong line)) few own ended going e = absurd (over_many (effect_of ignores h ls None) (record { line = line; why = WhyMany }) n e)
 groups_going ignores h n room (Last ls (Over line)) few own ended going e =
-    by (effect_of ignores h ls (Some line)) (λ t is. block_going ignores h ls line t going own.0 (omega (arith, own.1, few)) is) refl e
+    by (effect_of ignores h ls (Some line)) (λ t is. block_going ignores h ls line t going own.0 own.1 (omega (arith, own.2, few)) is) refl e
   where
     by : (r : Result Taken LineFault) → ((t : Taken) → effect_of ignores h ls (Some line) ≡ Ok t → IsGoing t.history) → effect_of ignores h ls (Some line) ≡ r
         → (goes_on r (λ k. course_end (Ok k))).end ≡ Ok n → IsGoing n
@@ -43,7 +46,7 @@ groups_going ignores h n room (Last ls (Over line)) few own ended going e =
 
 file_going : (ignores : Bool) (room : ℕ) (h n : History) (content : List ℕ) → room ≤ total_limit → IsGoing h → (course_of_file ignores room h (ended_file content)).end ≡ Ok n → IsGoing n
 file_going ignores room h n content few going e =
-    groups_going ignores h n room (groups_of (lined line_limit room 0 true content)) (omega (arith, few)) (file_spelled line_limit room 0 true content) (file_ends line_limit room 0 content) going e
+    groups_going ignores h n room (groups_of (lined line_limit room 0 true content)) (omega (arith, few)) (file_spelled line_limit room 0 true content (omega (arith, few))) (file_ends line_limit room 0 content) going e
 
 -- between two files
 record IsBetween (h : History) : Type 0 where
@@ -68,6 +71,21 @@ files_going ignores room h n place (content ∷ contents) few is e =
 
 pub run_ends : RunsEndAtStarts
 unfolding course_of
-run_ends start ignores contents mid begins few e own =
-    let is = files_going ignores start.room start.history mid 0 contents few (record { going = start_going start.history begins; calls = begins.no_calls }) e in
+run_ends start ignores contents mid begins short few e own =
+    let is = files_going ignores start.room start.history mid 0 contents few (record { going = start_going start.history begins (omega (arith, short)); calls = begins.no_calls }) e in
     going_start mid is.going is.calls own
+
+-- ---- what runs begin with
+-- a state file of no samples has few bytes
+nothing_small : length (state_file no_history) ≤ total_limit
+unfolding state_file state_file_of saved_text no_history digits
+nothing_small = let bytes : length (state_file no_history) ≡ 57 = refl in omega (arith, bytes)
+
+none_start : IsStart no_history
+unfolding no_history
+none_start = no_samples no_history.grammar
+
+pub run_begins : RunsBeginAtStarts
+run_begins None file start begins = subst (λ (o : Outset). IsStart o.history × (length (state_file o.history) ≤ total_limit) × (o.room ≤ total_limit)) (sym begins) (none_start, nothing_small, omega arith)
+run_begins (Some name) file start (h, is, held, few, begins) =
+    subst (λ (o : Outset). IsStart o.history × (length (state_file o.history) ≤ total_limit) × (o.room ≤ total_limit)) (sym begins) (is, few, omega arith)
