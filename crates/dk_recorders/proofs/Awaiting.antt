@@ -122,7 +122,7 @@ block_word ignores h ls c t none e =
     front (Err fault) is e = absurd (cc e)
 
 -- ---- whole texts
-abbrev Ended : End → Type 0
+abbrev pub Ended : End → Type 0
 Ended (Over line) = Unit {0}
 Ended Broken = ⊥
 Ended (LongLine line) = ⊥
@@ -149,6 +149,10 @@ groups_word ignores h (Last ls Broken) t none ended e = absurd ended
 groups_word ignores h (Last ls (LongLine line)) t none ended e = absurd ended
 groups_word ignores h (Last ls (TooLong line)) t none ended e = absurd ended
 
+-- the groups of numbered lines end where the lines are over
+pub groups_over : (n : ℕ) (lines : List (List ℕ)) → Ended (groups_end (groups_of (numbered n lines)))
+groups_over n lines = subst Ended (sym (groups_end_alike (numbered n lines))) (numbered_end n lines)
+
 pub text_word : (ignores : Bool) (h : History) (n : ℕ) (lines : List (List ℕ)) (t : History) → NoWord h → read_on ignores (effect_of ignores h) n lines ≡ Ok t → NoWord t
 text_word ignores h n lines t none e =
-    groups_word ignores h (groups_of (numbered n lines)) t none (subst Ended (sym (groups_end_alike (numbered n lines))) (numbered_end n lines)) e
+    groups_word ignores h (groups_of (numbered n lines)) t none (groups_over n lines) e

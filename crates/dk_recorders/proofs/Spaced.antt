@@ -6,15 +6,18 @@ use Rattle.std.specs.Str.{bytes_eq}
 use Rattle.dk_base.specs.Reading.{LineFault, ◌>>=◌}
 use Rattle.dk_base.specs.declared.why.Why.{Why}
 use Rattle.dk_base.specs.declared.why.Why.TheVariants.{BadHeader}
-use Rattle.dk_lines.specs.Left.{without_cr}
+use Rattle.dk_lines.specs.Left.{Broken, LongLine, Over, TooLong, numbered, without_cr}
 use Rattle.dk_decl.specs.Headers.{awaits_word, comparability_word, first_header, header_line, with_text}
 use Rattle.dk_decl.specs.LineWords.{begins, operand}
 use Rattle.dk_decl.specs.declared.header.Header.{Header}
+use Rattle.dk_blocks.specs.Blocks.{Group, Groups, Last, groups_of}
 use Rattle.dk_blocks.specs.History.{History, Taken, effect_of}
+use Rattle.dk_blocks.specs.Reading.{after_all}
 use Rattle.dk_turns.specs.Blocks.{Block, at_line, block_behind, bytes_of, in_force, lines_of_block}
-use Rattle.dk_recorders.specs.Blocks.{EndedBlock, after_blocks, contents_of}
+use Rattle.dk_recorders.specs.Blocks.{EndedBlock, after_blocks, blocks_of_groups, contents_of}
+use Rattle.dk_recorders.proofs.Awaiting.{Ended, groups_over}
 use Rattle.dk_recorders.proofs.Files.{Begins, HasNoHeader}
-use Rattle.dk_recorders.proofs.Groups.{IsKept, behind, block_read, last_read, lines_from, nothing_left, read_on}
+use Rattle.dk_recorders.proofs.Groups.{IsKept, behind, block_read, groups_end, last_read, lines_from, nothing_left, read_on}
 use Rattle.dk_recorders.proofs.Lines.{spaced}
 
 -- a sample block without header lines, whose lines are read as they are
@@ -28,13 +31,27 @@ abbrev pub numbered_blocks : ℕ → List Block → List EndedBlock
 numbered_blocks n [] = []
 numbered_blocks n (b ∷ bs) = record { lines = lines_from n b.body; close = behind n b.body } ∷ numbered_blocks (behind n b.body) bs
 
--- ---- what is written is read
-own_lines : (b : Block) → HasNoHeader b → lines_of_block b ≡ b.body
-own_lines b none = ap (λ (hs : List (List ℕ)). hs ++ b.body) none
-
+-- ---- groups of lines are read as blocks
 then_read : (r : Result Taken LineFault) (f g : Taken → Result History LineFault) → ((t : Taken) → f t ≡ g t) → (r >>= f) ≡ (r >>= g)
 then_read (Ok t) f g same = same t
 then_read (Err fault) f g same = refl
+
+groups_read : (ignores : Bool) (h : History) (g : Groups) → Ended (groups_end g) → after_all ignores (effect_of ignores h) g ≡ after_blocks ignores h (blocks_of_groups g)
+groups_read ignores h (Group ls close rest) ended =
+    then_read (effect_of ignores h ls (Some close)) (λ t. after_all ignores (effect_of ignores t.history) rest)
+    (λ t. after_blocks ignores t.history (blocks_of_groups rest)) (λ t. groups_read ignores t.history rest ended)
+groups_read ignores h (Last ls (Over line)) ended = refl
+groups_read ignores h (Last ls Broken) ended = absurd ended
+groups_read ignores h (Last ls (LongLine line)) ended = absurd ended
+groups_read ignores h (Last ls (TooLong line)) ended = absurd ended
+
+pub lines_read_as_blocks : (ignores : Bool) (h : History) (lines : List (List ℕ))
+    → after_all ignores (effect_of ignores h) (groups_of (numbered 0 lines)) ≡ after_blocks ignores h (blocks_of_groups (groups_of (numbered 0 lines)))
+lines_read_as_blocks ignores h lines = groups_read ignores h (groups_of (numbered 0 lines)) (groups_over 0 lines)
+
+-- ---- what is written is read
+own_lines : (b : Block) → HasNoHeader b → lines_of_block b ≡ b.body
+own_lines b none = ap (λ (hs : List (List ℕ)). hs ++ b.body) none
 
 pub blocks_read : (ignores : Bool) (bs : List Block) (h : History) (n : ℕ) → All IsReady bs
     → read_on ignores (effect_of ignores h) n (map without_cr (spaced bs)) ≡ after_blocks ignores h (numbered_blocks n bs)

@@ -4,11 +4,13 @@ use Rattle.std.specs.List.{AllPairs}
 use Rattle.std.specs.Option.{option_map_or}
 use Rattle.std.specs.Result.{result_ok}
 use Rattle.dk_base.specs.Reading.{Line, LineFault, ◌>>=◌}
+use Rattle.dk_lines.specs.Left.{Over}
 use Rattle.dk_decl.specs.declared.header.Header.{Header}
 use Rattle.dk_points.specs.Table.{Point}
 use Rattle.dk_trace.specs.Records.{Sample, sample_of}
 use Rattle.dk_calls.specs.Records.{call_of}
 use Rattle.dk_calls.specs.Waiting.{Call, enters, exits, other}
+use Rattle.dk_blocks.specs.Blocks.{Group, Groups, Last}
 use Rattle.dk_blocks.specs.History.{History, effect_of}
 use Rattle.dk_turns.specs.Blocks.{Block, block_behind, bytes_of, has_sample}
 
@@ -22,6 +24,12 @@ pub record EndedBlock : Type 0 where
 abbrev pub after_blocks : Bool → History → List EndedBlock → Result History LineFault
 after_blocks ignores h [] = Ok h
 after_blocks ignores h (b ∷ bs) = effect_of ignores h b.lines (Some b.close) >>= λ t. after_blocks ignores t.history bs
+
+-- groups of lines as blocks: a blank line ends each, or the file's end the last, which is none where the file was cut off
+abbrev pub blocks_of_groups : Groups → List EndedBlock
+blocks_of_groups (Group ls close rest) = record { lines = ls; close = close } ∷ blocks_of_groups rest
+blocks_of_groups (Last ls (Over line)) = record { lines = ls; close = line } ∷ []
+blocks_of_groups (Last ls end) = []
 
 -- the header lines and the record of a block, where this header is in force: without the comments in front and without the lines' numbers
 abbrev pub content_of : Header → EndedBlock → Block

@@ -1,10 +1,13 @@
 -- The order in which the records of several recorders stand doesn't matter.
 use Rattle.std.specs.Prelude.{◌≡◌, ◌<◌, ℕ, Bool, false, List, [], ◌∷◌, map, None, Ok, Result, slice_index_or}
 use Rattle.std.specs.List.Sorted.{IsPermutation}
-use Rattle.dk_blocks.specs.History.{History}
+use Rattle.dk_blocks.specs.Blocks.{Groups, groups_of}
+use Rattle.dk_blocks.specs.History.{History, effect_of}
+use Rattle.dk_blocks.specs.Reading.{after_all}
 use Rattle.dk_core.specs.Resuming.{state_file}
 use Rattle.dk_core.specs.Sections.{report_of}
 use Rattle.dk_decl.specs.Headers.{awaits_word, is_implicit}
+use Rattle.dk_lines.specs.Left.{numbered}
 use Rattle.dk_report.specs.declared.options.Options.{Options}
 use Rattle.dk_run.specs.Courses.{Outset, course_of, first_start}
 use Rattle.dk_run.specs.Files.{FileFault, ended_file}
@@ -12,7 +15,7 @@ use Rattle.dk_run.specs.Outputs.{Output, output_of}
 use Rattle.dk_turns.specs.Blocks.{Block, sample_blocks}
 use Rattle.dk_turns.specs.Turns.{turns_of}
 use Rattle.dk_words.specs.declared.command.Command.{Command}
-use Rattle.dk_recorders.specs.Blocks.{AreOfRecorders, EndedBlock, after_blocks, contents_of}
+use Rattle.dk_recorders.specs.Blocks.{AreOfRecorders, EndedBlock, after_blocks, blocks_of_groups, contents_of}
 use Rattle.dk_recorders.specs.Interleaving.{IsInterleaved}
 use Rattle.dk_recorders.specs.Recorders.{AreRecorders, text_by_file, text_in_order}
 
@@ -36,6 +39,12 @@ OrderOfOwnSamplesDoesNotMatter = (h other : History) → AreAlike h other → Te
 -- a history is reached, is alike, and tells the same
 abbrev pub ComesToAlike : {Fault : Type 0} → Result History Fault → History → Type 0
 ComesToAlike reached h = (other : History) × (reached ≡ Ok other) × AreAlike h other × TellTheSame h other
+
+-- What the lines of a file come to is what the groups between the blank ones come to as blocks.
+abbrev pub GroupsAreReadAsBlocks : Type 0
+GroupsAreReadAsBlocks =
+    (ignores : Bool) (h : History) (lines : List (List ℕ)) → let groups : Groups = groups_of (numbered 0 lines) in
+    after_all ignores (effect_of ignores h) groups ≡ after_blocks ignores h (blocks_of_groups groups)
 
 -- Let the sample blocks of recorders stand in two orders, both of which keep the order of each recorder, behind any history. If they are
 -- accepted in the first order, then so they are in the second, and come to an alike history.

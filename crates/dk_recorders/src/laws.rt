@@ -1,11 +1,16 @@
 //! What the order of records comes to.
-ghost use Rattle.dk_recorders.specs.Laws.{OrderOfBlocksDoesNotMatter, OrderOfOwnSamplesDoesNotMatter};
+ghost use Rattle.dk_recorders.specs.Laws.{GroupsAreReadAsBlocks, OrderOfBlocksDoesNotMatter, OrderOfOwnSamplesDoesNotMatter};
 ghost use Rattle.dk_recorders.specs.Laws.{OrderOfRecordsDoesNotMatter, TurnsDoNotMatter, TurnsWriteTheSame};
 
 /// Two histories with the same table, comparability word and grammar and, for each point, the same own samples in any order have the same
 /// sections and the same state file.
 pub fn order_of_own_samples_does_not_matter()
     ensures { OrderOfOwnSamplesDoesNotMatter }
+{}
+
+/// What the lines of a file come to behind a history is what the groups of lines between its blank ones come to as blocks.
+pub fn groups_are_read_as_blocks()
+    ensures { GroupsAreReadAsBlocks }
 {}
 
 /// Sample blocks of recorders behind any history, whether exits without an entry are left out or refused: let no block have a header line;

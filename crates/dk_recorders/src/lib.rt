@@ -1,4 +1,4 @@
-//! Files of several recorders as one text: which order their records have in it doesn't matter.
+//! Records of several recorders: in which order they stand in a file doesn't matter.
 #![tactic(auto)]
 
 pub mod laws;
