@@ -8,15 +8,10 @@ use Rattle.std.proofs.lemmas.List.{get_or-replicate, get_or-set_other, get_or_pa
 use Rattle.std.proofs.lemmas.List.Folds.{list_any_none}
 use Rattle.std.proofs.lemmas.List.Sums.{sum_by_push}
 use Rattle.dk_base.specs.declared.kinds.VarId.{VarId}
-use Rattle.dk_classes.proofs.OwnLeaders.{leads_from_own}
-use Rattle.dk_classes.specs.Leaders.{own_leaders}
 use Rattle.dk_engine.specs.Levels.{Whole}
-use Rattle.dk_engine.specs.Parts.{leader_of}
 use Rattle.dk_engine.specs.Reading.{count_read}
-use Rattle.dk_engine.specs.declared.kept.Kept.{Kept}
 use Rattle.dk_hierarchy.specs.Merging.{Joint, count_through, engine_at}
 use Rattle.dk_hierarchy.specs.declared.way.Way.{Way}
-use Rattle.dk_presence.proofs.Refining.{contains-has}
 use Rattle.dk_presence.proofs.Sums.{counted_more}
 use Rattle.dk_presence.specs.Patterns.{capped, counted_by, has}
 use Rattle.dk_presence.specs.declared.held.Held.{Held}

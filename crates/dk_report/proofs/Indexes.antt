@@ -1,5 +1,5 @@
 -- Counts of several variables by an index of the patterns are those of what the engines keep.
-use Rattle.std.specs.Prelude.{◌≡◌, ◌<◌, ◌+◌, ◌*◌, ◌++◌, ℕ, true, IfSome, List, [], ◌∷◌, get_or, length, sum_by, take, Option, Some, None, ◌&&◌, false, if◌then◌else◌}
+use Rattle.std.specs.Prelude.{◌≡◌, ◌<◌, ◌+◌, ◌*◌, ◌++◌, ℕ, true, IfSome, List, [], ◌∷◌, get_or, length, sum_by, take, Option, Some, None, ◌&&◌, if◌then◌else◌}
 use Rattle.std.specs.Option.{option_map_or}
 use Rattle.std.proofs.Common.{◌∙◌, ap, arith, inl, inr, refl, subst, sym}
 use Rattle.std.proofs.lemmas.Bool.{cases_Bool, cases_lt, false≢true}

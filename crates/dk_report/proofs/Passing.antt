@@ -1,5 +1,5 @@
 -- Variables that are passed over stand in no candidate that is kept.
-use Rattle.std.specs.Prelude.{◌≡◌, ◌&&◌, ◌||◌, ◌==◌, ◌<◌, ◌≤◌, nat_le, nat_lt, ℕ, Bool, true, false, not, List, [], ◌∷◌, if◌then◌else◌, length, refl}
+use Rattle.std.specs.Prelude.{◌≡◌, ◌&&◌, ◌||◌, ◌==◌, ◌<◌, nat_le, nat_lt, ℕ, Bool, true, false, not, List, [], ◌∷◌, if◌then◌else◌, length, refl}
 use Rattle.std.specs.List.{list_any}
 use Rattle.std.proofs.Common.{ap, arith, ◌∙◌, inl, inr, sym}
 use Rattle.std.proofs.lemmas.Bool.{and_cases, and_from, and_left, and_parts, and_right, cases_Bool, eq-eqb, eqb-true, false≢true, leb-false, lt-ltb, not-false, or_from, or_left, or_parts, or_right}

@@ -1,7 +1,7 @@
 -- The candidates of a row are those over variables that suit its roles and may stand in what is kept.
 use Rattle.std.specs.Prelude.{◌≡◌, ◌&&◌, ◌==◌, ◌<◌, ℕ, Bool, true, false, List, [], ◌∷◌, ◌++◌, filter, flat_map, if◌then◌else◌, length, nat_le, refl, slice_get}
 use Rattle.std.proofs.Common.{ap, arith, ◌∙◌, inl, inr, subst, sym}
-use Rattle.std.proofs.lemmas.Bool.{and_cases, and_left, and_right, cases_Bool, eqb-false, eqb-true, false≢true, lt-ltb}
+use Rattle.std.proofs.lemmas.Bool.{and_cases, and_left, and_right, cases_Bool, eqb-false, eqb-true, lt-ltb}
 use Rattle.dk_base.specs.declared.kinds.VarId.{VarId}
 use Rattle.dk_filters.specs.Answers.{Answers, Parent}
 use Rattle.dk_filters.specs.Found.{first_in, found_of}

@@ -1,5 +1,5 @@
 -- How much of the samples of a point is kept.
-use Rattle.std.specs.Prelude.{◌&&◌, ℕ, Bool, true, false, not, List, [], ◌∷◌, filter, flat_map, length, map, slice_index_or, take, if◌then◌else◌}
+use Rattle.std.specs.Prelude.{◌&&◌, ℕ, Bool, false, not, List, [], ◌∷◌, filter, flat_map, length, map, slice_index_or, take, if◌then◌else◌}
 use Rattle.std.specs.List.{list_all, list_any}
 use Rattle.dk_base.specs.Pieces.{is_empty}
 use Rattle.dk_base.specs.declared.kinds.VarId.{VarId}
@@ -12,8 +12,6 @@ use Rattle.dk_engine.specs.declared.kept.Kept.{Kept}
 use Rattle.dk_filters.specs.OfSamples.{agrees}
 use Rattle.dk_fits.specs.Fits.{fit}
 use Rattle.dk_fits.specs.Instances.{all_vars, rows_of, tuples_over}
-use Rattle.dk_forms.specs.declared.states.State.{State}
-use Rattle.dk_forms.specs.declared.states.State.TheVariants as state
 use Rattle.dk_hierarchy.specs.Samples.{OwnSamples, all_vars_of, own_samples_of}
 use Rattle.dk_points.specs.Table.{Point}
 use Rattle.dk_base.specs.SameValues.{same_value}

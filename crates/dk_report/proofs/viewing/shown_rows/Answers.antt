@@ -1,4 +1,4 @@
-use Rattle.std.specs.Prelude.{◌<◌, ◌≤◌, ◌+◌, ◌++◌, [], ◌∷◌, Bool, List, map, take}
+use Rattle.std.specs.Prelude.{◌<◌, ◌≤◌, ◌++◌, [], ◌∷◌, Bool, List, map, take}
 use Rattle.std.proofs.Common.{ap, ◌∙◌, arith}
 use Rattle.dk_base.specs.declared.kinds.VarId.{VarId}
 use Rattle.dk_fits.specs.Instances.{rows_of}
