@@ -38,10 +38,7 @@ const CASES: &[Case] = &[
     Case {
         vars: 3,
         first: &[&[Some(4), Some(2), Some(2)]],
-        second: &[
-            &[Some(5), Some(2), Some(3)],
-            &[Some(9), Some(4), Some(5)],
-        ],
+        second: &[&[Some(5), Some(2), Some(3)], &[Some(9), Some(4), Some(5)]],
     },
     // A class splits, and a constant ends.
     Case {
