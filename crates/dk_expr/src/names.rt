@@ -1,7 +1,7 @@
 // The variables of a point by their names.
-ghost use Rattle.std.specs.Prelude.{◌≡◌, ◌∷◌, [], ◌<◌, ◌^◌, IfOk, OnOk, length};
+ghost use Rattle.std.specs.Prelude.{◌≡◌, ◌∷◌, ◌++◌, [], ◌<◌, ◌^◌, IfOk, if◌then◌else◌, length, map};
 ghost use Rattle.dk_graph.specs.Notes.{noted, noted_under};
-ghost use Rattle.dk_expr.specs.Naming.{AreUnderNames};
+ghost use Rattle.dk_expr.specs.Naming.{AreUnderNames, HaveLengths, has_length};
 
 use dk_base::{List, NoMemory, VarId, VarInfo};
 use indexmap::IndexMap;
@@ -13,15 +13,19 @@ use std::marker::Model;
 pub struct Names {
     alloc: Global,
     table: IndexMap<Vec<u8>, List<VarId>>,
+    lengths: List<usize>,
 }
 
 impl Model for Names {
     ghost use Rattle.std.specs.Prelude.{List, ℕ, map};
     ghost use Rattle.dk_base.specs.declared.kinds.VarId.{VarId};
+    ghost use Rattle.dk_expr.specs.Naming.{HaveLengths};
 
     ghost Value = { List (List ℕ × List VarId) };
 
     ghost view = { λ n. map (λ e. (e.0.items, e.1)) n.table.entries };
+
+    ghost invariant = { λ n. HaveLengths (map (λ e. (e.0.items, e.1)) n.table.entries) n.lengths };
 }
 
 // A list of one variable.
@@ -33,6 +37,39 @@ fn list_of_one(alloc: Global, v: VarId) -> Result<List<VarId>, NoMemory>
     Ok(list)
 }
 
+// The lengths with one more, unless it is one of them.
+fn with_length(lengths: List<usize>, len: usize) -> Result<List<usize>, NoMemory>
+    ensures { IfOk result (λ more. more ≡ (if has_length lengths len then lengths else lengths ++ len ∷ [])) }
+{
+    if lengths.as_slice().contains(&len) {
+        return Ok(lengths);
+    }
+    let mut more = lengths;
+    more.push(len)?;
+    Ok(more)
+}
+
+// One variable more in a table of names, last under its name.
+fn put(
+    alloc: Global,
+    table: IndexMap<Vec<u8>, List<VarId>>,
+    name: &[u8],
+    v: VarId,
+) -> Result<IndexMap<Vec<u8>, List<VarId>>, NoMemory>
+    ensures { IfOk result (λ more. map (λ e. (e.0.items, e.1)) more.entries ≡ noted (map (λ e. (e.0.items, e.1)) table.entries) name.now v) }
+{
+    let mut more = table;
+    match more.get_index_of(name) {
+        Some(place) => more[place].push(v)?,
+        None => {
+            let key = Vec::from_slice(alloc, name)?;
+            let list = list_of_one(alloc, v)?;
+            more.insert(key, list)?;
+        }
+    }
+    Ok(more)
+}
+
 impl Names {
     // No variables.
     fn new(alloc: Global) -> Names
@@ -41,6 +78,7 @@ impl Names {
         Names {
             alloc,
             table: IndexMap::new(alloc),
+            lengths: List::new(alloc),
         }
     }
 
@@ -54,21 +92,29 @@ impl Names {
         }
     }
 
-    // One variable more, last under its name. After an error the names may be any.
-    fn push(&mut self, name: &[u8], v: VarId) -> Result<(), NoMemory>
-        ensures { OnOk result (self.new ≡ noted self.old name.now v) }
+    /// How many bytes the names have, each number once.
+    pub(crate) fn lengths(&self) -> &[usize]
+        ensures { HaveLengths self.now result.now }
     {
-        match self.table.get_index_of(name) {
-            Some(place) => self.table[place].push(v),
-            None => {
-                let key = Vec::from_slice(self.alloc, name)?;
-                let list = list_of_one(self.alloc, v)?;
-                match self.table.insert(key, list) {
-                    Ok(_) => Ok(()),
-                    Err(_) => Err(NoMemory),
-                }
-            }
-        }
+        self.lengths.as_slice()
+    }
+
+    // One variable more, last under its name.
+    fn with(self, name: &[u8], v: VarId) -> Result<Names, NoMemory>
+        ensures { IfOk result (λ names. names ≡ noted self name.now v) }
+    {
+        let Names {
+            alloc,
+            table,
+            lengths,
+        } = self;
+        let lengths = with_length(lengths, name.len())?;
+        let table = put(alloc, table, name, v)?;
+        Ok(Names {
+            alloc,
+            table,
+            lengths,
+        })
     }
 
     /// A point's variables, each under its name. There must be fewer than 2^32 of them.
@@ -78,7 +124,7 @@ impl Names {
     {
         let mut names = Names::new(alloc);
         for (place, info) in vars.iter().enumerate() {
-            names.push(info.name.as_slice(), VarId(place as u32))?;
+            names = names.with(info.name.as_slice(), VarId(place as u32))?;
         }
         Ok(names)
     }

@@ -73,7 +73,7 @@ fn push_named_len(
     }
 }
 
-// The name of a variable, which is at the role, with the following parts behind it.
+// The name of a variable, which is at the role, with the following parts behind it. Only as many bytes as some name has are looked up.
 fn push_named(
     names: &Names,
     text: &[u8],
@@ -86,8 +86,11 @@ fn push_named(
     ensures finds { OnOk result (FindsName names.now text.now role (map part_shown following.now) found list.new) }
 {
     let rest = found.rest(text);
-    for len in 0..rest.len() + 1 {
-        push_named_len(names, rest, len, role, following, found, list)?;
+    let lengths = names.lengths();
+    for len in lengths {
+        if *len <= rest.len() {
+            push_named_len(names, rest, *len, role, following, found, list)?;
+        }
     }
     Ok(())
 }

@@ -1,9 +1,9 @@
 -- Leaders that have no slot, since by what one engine keeps the first may stand beside neither of the others.
-use Rattle.std.specs.Prelude.{◌≡◌, ◌<◌, ◌&&◌, ◌||◌, Bool, true, false, not, List, [], ◌∷◌, cond, filter, is_some, map, refl}
+use Rattle.std.specs.Prelude.{◌≡◌, ◌<◌, ◌&&◌, ◌||◌, Bool, true, false, not, IsTrue, List, [], ◌∷◌, cond, filter, is_some, map, refl}
 use Rattle.std.specs.Borrow.{Bor}
 use Rattle.std.specs.List.{list_any}
 use Rattle.std.proofs.Common.{◌∙◌, ap, arith, inl, inr, sym}
-use Rattle.std.proofs.lemmas.Bool.{and_cases, or_parts}
+use Rattle.std.proofs.lemmas.Bool.{and_cases, false_from_ne_true, not-false, or_cases, or_parts, true≢false}
 use Rattle.dk_base.specs.declared.kinds.VarId.{VarId}
 use Rattle.dk_base.specs.declared.kinds.VarInfo.{VarInfo}
 use Rattle.dk_constants.specs.Known.{Entries, known_at}
@@ -34,16 +34,19 @@ use Rattle.dk_suppress.specs.Rules.{is_suppressed}
 use Rattle.dk_template.proofs.Absorbing.{broken_absorbs}
 use Rattle.dk_template.specs.Admitted.{admits, is_written}
 use Rattle.dk_template.specs.Joins.{joined}
-use Rattle.dk_template.specs.Templates.{arity_of, form_of}
+use Rattle.dk_template.specs.Templates.{IsRow, arity_of, form_of}
 use Rattle.dk_template.specs.declared.grammar.RowId.{RowId}
 use Rattle.dk_template.specs.declared.templates.StateForm.{StateForm}
 use Rattle.dk_template.specs.declared.templates.StateForm.TheVariants as form
 use Rattle.dk_join.proofs.Apart.{three_broken}
+use Rattle.dk_join.proofs.Breaking.{broken_by_numbers}
 use Rattle.dk_join.proofs.Lists.{any_lent, filter_lent}
-use Rattle.dk_join.specs.Beside.{HaveSamples, IsCompanion, is_alone, is_beside, is_free, may_stand, slots_around, slots_at_hand, stands_beside}
+use Rattle.dk_join.specs.Beside.{AreAround, HaveSamples, IsCompanion, LeavesNoneOut, has_room, is_alone, is_beside, is_free, may_stand, slots_around, slots_at_hand, stands_beside}
 use Rattle.dk_join.specs.Joining.{Pair, answer_of, read_joined}
+use Rattle.dk_join.specs.Numbers.{are_broken, break_row, number_for, numbers_for}
 use Rattle.dk_join.specs.declared.beside.Around.{Around}
 use Rattle.dk_join.specs.declared.beside.Companion.{Companion}
+use Rattle.dk_join.specs.declared.numbers.Numbers.{Numbers}
 
 -- ---- what is Broken in one engine is Broken in both
 right_by : {F : Type 0} (state : Known F → State) (meet : F → F → Known F) (k : Known F) → state broken ≡ Broken → state (both meet k broken) ≡ Broken
@@ -91,6 +94,10 @@ broken_out infos known answered row vars gone =
     fourth_false (admits row infos vars) (is_written row vars) (not (all_known known vars)) (not (is_broken (answered row vars))) (not (is_suppressed answered row vars)) (ap (λ s. not (is_broken s)) gone) in
     ap (λ b. map (λ (vs : List VarId). (let s : Slot = record { row = row; leaders = vs; state = answered row vs } in s)) (cond b (vars ∷ []) [])) out
 
+-- what isn't told isn't so
+untold : (so told : Bool) → (IsTrue so → IsTrue told) → told ≡ false → so ≡ false
+untold so told implies e = false_from_ne_true so (λ h. true≢false (sym (implies h) ∙ e))
+
 joint_broken : (pair : Pair) (row : RowId) → arity_of row ≡ 3 → HaveSamples pair → (v : VarId) (w x : Companion) → IsCompanion pair row v w → IsCompanion pair row v x → may_stand w x ≡ false
     → answer_of pair row (v ∷ w.leader ∷ x.leader ∷ []) ≡ Broken
 unfolding read_joined
@@ -101,36 +108,64 @@ joint_broken pair row three some v w x c d none =
     let S : Kept → VarId → Bool = λ kept z. stands_beside kept row v z in
     elim (and_cases (w.by_first || x.by_first) (w.by_second || x.by_second) none) as (λ _. joined (form_of row) one other ≡ Broken) [
       | inl first ↦
-          (let told : (w.by_first || x.by_first) ≡ (S pair.first.kept w.leader || S pair.first.kept x.leader) = ap (λ b. b || x.by_first) c.by_first ∙ ap (λ b. S pair.first.kept w.leader || b) d.by_first in
-          ap (λ s. joined (form_of row) s other) (broken_beside pair.first.kept row three some.first v w.leader x.leader (sym told ∙ first)) ∙ broken_absorbs (form_of row) other)
+          (let parts = or_parts w.by_first x.by_first first in
+          let left = untold (S pair.first.kept w.leader) w.by_first c.by_first parts.0 in
+          let right = untold (S pair.first.kept x.leader) x.by_first d.by_first parts.1 in
+          ap (λ s. joined (form_of row) s other) (broken_beside pair.first.kept row three some.first v w.leader x.leader (λ i. left i || right i)) ∙ broken_absorbs (form_of row) other)
       | inr second ↦
-          (let told : (w.by_second || x.by_second) ≡ (S pair.second.kept w.leader || S pair.second.kept x.leader) = ap (λ b. b || x.by_second) c.by_second ∙ ap (λ b. S pair.second.kept w.leader || b) d.by_second in
-          ap (λ s. joined (form_of row) one s) (broken_beside pair.second.kept row three some.second v w.leader x.leader (sym told ∙ second)) ∙ right_absorbs (form_of row) one)
+          (let parts = or_parts w.by_second x.by_second second in
+          let left = untold (S pair.second.kept w.leader) w.by_second c.by_second parts.0 in
+          let right = untold (S pair.second.kept x.leader) x.by_second d.by_second parts.1 in
+          ap (λ s. joined (form_of row) one s) (broken_beside pair.second.kept row three some.second v w.leader x.leader (λ i. left i || right i)) ∙ right_absorbs (form_of row) one)
     ]
 
-pub none_considered : (pair : Pair) (infos : List VarInfo) (known : Entries) (row : RowId) → arity_of row ≡ 3 → HaveSamples pair → (v : VarId) (w x : Companion) → IsCompanion pair row v w → IsCompanion pair row v x
-    → may_stand w x ≡ false → considered infos known (answer_of pair) row (v ∷ w.leader ∷ x.leader ∷ []) ≡ []
-none_considered pair infos known row three some v w x c d none = broken_out infos known (answer_of pair) row (v ∷ w.leader ∷ x.leader ∷ []) (joint_broken pair row three some v w x c d none)
+numbers_broken : (pair : Pair) (row : RowId) → IsRow row → arity_of row ≡ 3 → HaveSamples pair → (v : VarId) (numbers : Numbers) → numbers ≡ numbers_for row pair v → (w x : Companion) → IsCompanion pair row v w → IsCompanion pair row v x
+    → are_broken row numbers w.numbers x.numbers ≡ true → answer_of pair row (v ∷ w.leader ∷ x.leader ∷ []) ≡ Broken
+unfolding read_joined
+numbers_broken pair row is three some v numbers at w x c d h =
+    let vars = v ∷ w.leader ∷ x.leader ∷ [] in
+    let one = state_read pair.first.kept row vars in
+    let other = state_read pair.second.kept row vars in
+    let first = c.numbers in
+    let second = d.numbers in
+    let told : are_broken row (numbers_for row pair v) (numbers_for row pair w.leader) (numbers_for row pair x.leader) ≡ true = (λ i. are_broken row (sym at i) (sym first i) (sym second i)) ∙ h in
+    elim (or_cases (break_row row (number_for row pair.first.kept v) (number_for row pair.first.kept w.leader) (number_for row pair.first.kept x.leader))
+    (break_row row (number_for row pair.second.kept v) (number_for row pair.second.kept w.leader) (number_for row pair.second.kept x.leader)) told) as (λ _. joined (form_of row) one other ≡ Broken) [
+      | inl one_breaks ↦ ap (λ s. joined (form_of row) s other) (broken_by_numbers pair.first.kept row is three some.first v w.leader x.leader one_breaks) ∙ broken_absorbs (form_of row) other
+      | inr other_breaks ↦ ap (λ s. joined (form_of row) one s) (broken_by_numbers pair.second.kept row is three some.second v w.leader x.leader other_breaks) ∙ right_absorbs (form_of row) one
+    ]
+
+pub none_considered : (pair : Pair) (infos : List VarInfo) (known : Entries) (row : RowId) → IsRow row → arity_of row ≡ 3 → HaveSamples pair → (v : VarId) (numbers : Numbers) → numbers ≡ numbers_for row pair v
+    → (w x : Companion) → IsCompanion pair row v w → IsCompanion pair row v x → has_room row numbers w x ≡ false → considered infos known (answer_of pair) row (v ∷ w.leader ∷ x.leader ∷ []) ≡ []
+none_considered pair infos known row is three some v numbers at w x c d none =
+    let gone : answer_of pair row (v ∷ w.leader ∷ x.leader ∷ []) ≡ Broken =
+    elim (and_cases (may_stand w x) (not (are_broken row numbers w.numbers x.numbers)) none) as (λ _. answer_of pair row (v ∷ w.leader ∷ x.leader ∷ []) ≡ Broken) [
+      | inl apart ↦ joint_broken pair row three some v w x c d apart
+      | inr break ↦ numbers_broken pair row is three some v numbers at w x c d (not-false (are_broken row numbers w.numbers x.numbers) break)
+    ] in
+    broken_out infos known (answer_of pair) row (v ∷ w.leader ∷ x.leader ∷ []) gone
 
 -- ---- as the code tells it
-module _ (engine : Whole) (row : RowId) (v : VarId) (hand : List (Bor Slot)) (hand_is : map (λ slot. slot.now) hand ≡ slots_at_hand row engine.kept.slots) (around : Around) (engine_is : around.engine.now ≡ engine)
-    (slots_is : around.slots.items ≡ filter (λ slot. has slot.now.leaders (leader_of engine.kept.leaders v)) hand)
-    (free_is : around.free ≡ (is_some (known_at engine.kept.known (leader_of engine.kept.leaders v)) || list_any (λ slot. is_alone slot.now) around.slots.items)) where
+module _ (engine : Whole) (row : RowId) (v : VarId) (hand : List (Bor Slot)) (hand_is : map (λ slot. slot.now) hand ≡ slots_at_hand row engine.kept.slots) (around : Around) (is : AreAround engine hand v around) where
   abbrev a : VarId
   a = leader_of engine.kept.leaders v
 
   slots_are : map (λ slot. slot.now) around.slots.items ≡ slots_around row engine.kept.slots a
-  slots_are = ap (map (λ (slot : Bor Slot). slot.now)) slots_is ∙ (filter_lent (λ (slot : Slot). has slot.leaders a) hand ∙ ap (filter (λ (slot : Slot). has slot.leaders a)) hand_is)
+  slots_are = ap (map (λ (slot : Bor Slot). slot.now)) is.slots ∙ (filter_lent (λ (slot : Slot). has slot.leaders a) hand ∙ ap (filter (λ (slot : Slot). has slot.leaders a)) hand_is)
 
   any_are : (test : Slot → Bool) → list_any (λ slot. test slot.now) around.slots.items ≡ list_any test (slots_around row engine.kept.slots a)
   any_are test = any_lent test around.slots.items ∙ ap (list_any test) slots_are
 
-  pub told_beside : (w : VarId) → is_beside around w ≡ stands_beside engine.kept row v w
+  told_beside : (w : VarId) → is_beside around w ≡ stands_beside engine.kept row v w
   told_beside w =
       ap (λ b. b || list_any (λ (slot : Bor Slot). has slot.now.leaders (leader_of around.engine.now.kept.leaders w)) around.slots.items)
-      (free_is ∙ ap (λ b. is_some (known_at engine.kept.known a) || b) (any_are is_alone))
-      ∙ (ap (λ (e : Whole). is_free engine.kept row a || list_any (λ (slot : Bor Slot). has slot.now.leaders (leader_of e.kept.leaders w)) around.slots.items) engine_is
+      (is.free ∙ ap (λ b. is_some (known_at engine.kept.known a) || b) (any_are is_alone))
+      ∙ (ap (λ (e : Whole). is_free engine.kept row a || list_any (λ (slot : Bor Slot). has slot.now.leaders (leader_of e.kept.leaders w)) around.slots.items) is.engine_is
       ∙ ap (λ b. is_free engine.kept row a || b) (any_are (λ (slot : Slot). has slot.leaders (leader_of engine.kept.leaders w))))
+
+-- by all slots at hand none is left out
+pub none_left_out : (engine : Whole) (hand : List (Bor Slot)) (v : VarId) (around : Around) → AreAround engine hand v around → LeavesNoneOut engine.kept hand v around
+none_left_out engine hand v around is row hand_is w stands = told_beside engine row v hand hand_is around is w ∙ stands
 
 -- the leaders of companions
 pub leaders_of_all : (f : VarId → Companion) → ((v : VarId) → (f v).leader ≡ v) → (vars : List VarId) → map (λ w. w.leader) (map f vars) ≡ vars

@@ -2,6 +2,7 @@ pub mod Lists
 pub mod Lone
 pub mod Rules
 pub mod Apart
+pub mod Breaking
 pub mod Companions
 pub mod Answering
 pub mod Leading

@@ -6,4 +6,5 @@ pub mod Laws
 pub mod Tallies
 pub mod Watched
 pub mod Suited
+pub mod Numbers
 pub mod Beside

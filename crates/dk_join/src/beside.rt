@@ -1,12 +1,15 @@
 // Which leaders may stand beside another in a slot of three, by what two engines keep.
-ghost use Rattle.std.specs.Prelude.{◌≡◌, ◌<◌, ◌==◌, ◌||◌, All, IfOk, filter, is_some, length, map};
+ghost use Rattle.std.specs.Prelude.{◌≡◌, ◌<◌, ◌==◌, ◌||◌, All, IfOk, IsSome, filter, is_some, length, map};
 ghost use Rattle.std.specs.List.{list_any};
 ghost use Rattle.dk_base.specs.declared.kinds.VarId.{VarId};
 ghost use Rattle.dk_constants.specs.Known.{known_at};
-ghost use Rattle.dk_engine.specs.Parts.{leader_of};
-ghost use Rattle.dk_join.specs.Beside.{AreAtHand, is_alone, is_at_hand, is_beside, may_meet, may_stand};
+ghost use Rattle.dk_join.specs.Beside.{AreAround, AreAtHand, LeavesNoneOut, has_room, is_alone, is_at_hand, is_beside, may_meet, may_stand};
+ghost use Rattle.dk_join.specs.Numbers.{number_for};
 ghost use Rattle.dk_presence.specs.Patterns.{has};
+ghost use Rattle.dk_template.specs.Templates.{IsRow, arity_of, form_of};
+ghost use Rattle.dk_template.specs.declared.templates.StateForm.{StateForm};
 
+use crate::numbers::{Numbers, are_broken};
 use crate::watching::watched;
 use dk_base::{NoMemory, VarId};
 use dk_engine::{Engine, Slot};
@@ -137,18 +140,25 @@ pub(crate) struct Around<'a> {
     slots: Vec<&'a Slot>,
 }
 
+// How many slots at hand there are for each pair of leaders where they are many.
+const SLOTS_OF_PAIR: usize = 4;
+
+// Whether the slots are so many that nearly all leaders stand beside each other in some of them.
+fn are_many(slots: &[&Slot], engine: &Engine) -> bool {
+    let leaders = engine.classes().leaders().len();
+    slots.len() / SLOTS_OF_PAIR > leaders.saturating_mul(leaders)
+}
+
 impl<'a> Around<'a> {
-    /// What an engine keeps around a variable's leader, by its slots at hand.
-    pub(crate) fn of(
+    // By the slots at hand that are over a variable's leader.
+    fn by_slots(
         alloc: Global,
         engine: &'a Engine,
         hand: &[&'a Slot],
         v: VarId,
     ) -> Result<Around<'a>, NoMemory>
         requires { v.0 < length engine.now.kept.leaders }
-        ensures engine { IfOk result (λ around. around.engine.now ≡ engine.now) }
-        ensures slots { IfOk result (λ around. around.slots.items ≡ filter (λ slot. has slot.now.leaders (leader_of engine.now.kept.leaders v)) hand.now) }
-        ensures free { IfOk result (λ around. around.free ≡ (is_some (known_at engine.now.kept.known (leader_of engine.now.kept.leaders v)) || list_any (λ slot. is_alone slot.now) around.slots.items)) }
+        ensures { IfOk result (AreAround engine.now hand.now v) }
     {
         let leader = engine.classes().leader(v);
         let slots = slots_with(alloc, hand, leader)?;
@@ -158,6 +168,28 @@ impl<'a> Around<'a> {
             free,
             slots,
         })
+    }
+
+    /// What an engine keeps around a variable's leader, by its slots at hand. Where these are many all leaders may stand beside it,
+    /// which costs less than to look for those that may not.
+    pub(crate) fn of(
+        alloc: Global,
+        engine: &'a Engine,
+        hand: &[&'a Slot],
+        v: VarId,
+    ) -> Result<Around<'a>, NoMemory>
+        requires { v.0 < length engine.now.kept.leaders }
+        ensures engine { IfOk result (λ around. around.engine.now ≡ engine.now) }
+        ensures all { IfOk result (LeavesNoneOut engine.now.kept hand.now v) }
+    {
+        if are_many(hand, engine) {
+            return Ok(Around {
+                engine,
+                free: true,
+                slots: Vec::new(alloc),
+            });
+        }
+        Around::by_slots(alloc, engine, hand, v)
     }
 
     // Whether one of the slots is over a leader.
@@ -180,29 +212,33 @@ impl<'a> Around<'a> {
 
 // ---- leaders beside it
 
-/// A leader, and whether it may stand beside another by what each of two engines keeps.
+/// A leader with its numbers, and whether it may stand beside another by what each of two engines keeps.
 #[derive(Clone, Copy)]
 pub(crate) struct Companion {
     pub(crate) leader: VarId,
+    pub(crate) numbers: Numbers,
     pub(crate) by_first: bool,
     pub(crate) by_second: bool,
 }
 
-/// The leaders, each with whether it may stand beside the leader that both are around.
+/// The leaders, each with its numbers for a row, and whether it may stand beside the leader that both are around.
 pub(crate) fn companions(
     alloc: Global,
+    row: RowId,
     first: &Around<'_>,
     second: &Around<'_>,
     leaders: &[VarId],
 ) -> Result<Vec<Companion>, NoMemory>
+    requires row { IsRow row }
     requires first { All (λ (v : VarId). v.0 < length first.now.engine.now.kept.leaders) leaders.now }
     requires second { All (λ (v : VarId). v.0 < length second.now.engine.now.kept.leaders) leaders.now }
-    ensures { IfOk result (λ list. list.items ≡ map (λ v. record { leader = v; by_first = is_beside first.now v; by_second = is_beside second.now v }) leaders.now) }
+    ensures { IfOk result (λ list. list.items ≡ map (λ v. record { leader = v; numbers = record { first = number_for row first.now.engine.now.kept v; second = number_for row second.now.engine.now.kept v }; by_first = is_beside first.now v; by_second = is_beside second.now v }) leaders.now) }
 {
     let mut list = Vec::new(alloc);
     for v in leaders {
         list.push(Companion {
             leader: *v,
+            numbers: Numbers::of(row, first.engine, second.engine, *v),
             by_first: first.admits(*v),
             by_second: second.admits(*v),
         })?;
@@ -210,9 +246,20 @@ pub(crate) fn companions(
     Ok(list)
 }
 
-/// Whether by what each engine keeps one of two leaders may stand beside a third.
-pub(crate) fn may_stand(w: Companion, x: Companion) -> bool
+// Whether by what each engine keeps one of two leaders may stand beside a third.
+fn may_stand(w: Companion, x: Companion) -> bool
     ensures { result ≡ may_stand w x }
 {
     (w.by_first || x.by_first) && (w.by_second || x.by_second)
+}
+
+/// Whether the row may have a slot over three leaders, by these numbers of the first and by what each engine keeps around it.
+pub(crate) fn has_room(row: RowId, numbers: Numbers, w: Companion, x: Companion) -> bool
+    requires row { IsRow row }
+    requires three { arity_of row ≡ 3 }
+    requires first { IsSome numbers.first → form_of row ≡ StateForm.Plain }
+    requires second { IsSome numbers.second → form_of row ≡ StateForm.Plain }
+    ensures { result ≡ has_room row numbers w x }
+{
+    may_stand(w, x) && !are_broken(row, numbers, w.numbers, x.numbers)
 }

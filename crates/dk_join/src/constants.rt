@@ -24,8 +24,8 @@ fn common_value<'a>(first: Option<&'a Value>, second: Option<&'a Value>) -> Opti
     }
 }
 
-// What is known of a variable's leader.
-fn known_of(engine: &Engine, v: VarId) -> Option<&Value>
+/// What is known of a variable's leader.
+pub(crate) fn known_of(engine: &Engine, v: VarId) -> Option<&Value>
     requires { v.0 < length engine.now.kept.leaders }
     ensures { option_copied result ≡ known_at engine.now.kept.known (leader_of engine.now.kept.leaders v) }
 {

@@ -6,12 +6,14 @@ ghost use Rattle.dk_engine.specs.Suited.{suited_vars};
 ghost use Rattle.dk_engine.specs.Sweeps.{behind, considered, firsts, pairs, seconds, thirds, triples};
 ghost use Rattle.dk_join.specs.Beside.{AreAtHand, AreLed, HaveSamples, IsCompanion};
 ghost use Rattle.dk_join.specs.Joining.{answer_of};
+ghost use Rattle.dk_join.specs.Numbers.{numbers_for};
 ghost use Rattle.dk_join.specs.Suited.{suited_to_some, suits_some};
-ghost use Rattle.dk_template.specs.Templates.{IsRowOf, arity_of};
+ghost use Rattle.dk_template.specs.Templates.{IsRow, IsRowOf, arity_of};
 
-use crate::beside::{Around, Companion, Hands, companions, may_stand};
+use crate::beside::{Around, Companion, Hands, companions, has_room};
 use crate::both::Both;
 use crate::constants::are_known;
+use crate::numbers::Numbers;
 use dk_base::{List, NoMemory, VarId, VarInfo};
 use dk_constants::Constants;
 use dk_engine::{Slot, suited_vars, suits};
@@ -98,11 +100,12 @@ impl<'a> Sweep<'a> {
     }
 
     // Those of two leaders and one of these. Where by what an engine keeps neither the second nor the third may stand beside the first,
-    // the row is Broken there, and so in both.
+    // or all three are constant and their numbers break the row's relation, the row is Broken there, and so in both.
     fn thirds(
         &self,
         row: RowId,
         v: VarId,
+        numbers: Numbers,
         w: Companion,
         third: &[Companion],
         slots: List<Slot>,
@@ -110,13 +113,14 @@ impl<'a> Sweep<'a> {
         requires some { HaveSamples self.now.both.now }
         requires row { IsRowOf self.now.both.now.first.grammar row }
         requires three { arity_of row ≡ 3 }
+        requires numbers { numbers ≡ numbers_for row self.now.both.now v }
         requires w { IsCompanion self.now.both.now row v w }
         requires third { All (IsCompanion self.now.both.now row v) third.now }
         ensures { IfOk result (λ more. more ≡ slots ++ thirds self.now.both.now.first.infos self.now.known.now (answer_of self.now.both.now) row v w.leader (map (λ x. x.leader) third.now)) }
     {
         let mut slots = slots;
         for x in third {
-            if may_stand(w, *x) {
+            if has_room(row, numbers, w, *x) {
                 slots = self.consider(row, &[v, w.leader, x.leader], slots)?;
             }
         }
@@ -149,6 +153,7 @@ impl<'a> Sweep<'a> {
         v: VarId,
         leaders: &[VarId],
     ) -> Result<Vec<Companion>, NoMemory>
+        requires row { IsRow row }
         requires hands { AreAtHand self.now.both.now row hands.now }
         requires v { AreLed self.now.both.now (v ∷ []) }
         requires leaders { AreLed self.now.both.now leaders.now }
@@ -157,7 +162,7 @@ impl<'a> Sweep<'a> {
     {
         let first = Around::of(self.alloc, self.both.first(), hands.first.as_slice(), v)?;
         let second = Around::of(self.alloc, self.both.second(), hands.second.as_slice(), v)?;
-        companions(self.alloc, &first, &second, leaders)
+        companions(self.alloc, row, &first, &second, leaders)
     }
 
     // Those of a leader and two more.
@@ -178,9 +183,10 @@ impl<'a> Sweep<'a> {
         ensures { IfOk result (λ more. more ≡ slots ++ behind self.now.both.now.first.infos self.now.known.now (answer_of self.now.both.now) row v leaders.now leaders.now) }
     {
         let beside = self.companions(row, hands, v, leaders)?;
+        let numbers = Numbers::of(row, self.both.first(), self.both.second(), v);
         let mut slots = slots;
         for w in &beside {
-            slots = self.thirds(row, v, *w, beside.as_slice(), slots)?;
+            slots = self.thirds(row, v, numbers, *w, beside.as_slice(), slots)?;
         }
         Ok(slots)
     }

@@ -95,7 +95,7 @@ joined_alone one other sound also some more (Err f) grammar infos parts saved st
 
 -- ---- what is saved
 -- of some samples, the parts
-some_saved : (g : Grammar) (ps : List Point) (p : ℕ) (kept : Kept) → 0 < kept.samples → IsSavedAt g ps p (saved_parts kept) → AreSavedAt g ps p (parts_of kept)
+pub some_saved : (g : Grammar) (ps : List Point) (p : ℕ) (kept : Kept) → 0 < kept.samples → IsSavedAt g ps p (saved_parts kept) → AreSavedAt g ps p (parts_of kept)
 some_saved g ps p kept some saved = subst (λ b. IsSavedAt g ps p (if b then None else Some (parts_of kept))) (ne_eqb kept.samples 0 (λ e. omega (arith, e, some))) saved
 
 -- ---- all points
@@ -119,7 +119,7 @@ at_both (a ∷ ones) (o ∷ others) (b ∷ both) long all zero e got = (a, o, re
 at_both (a ∷ ones) (o ∷ others) (b ∷ both) long all (suc i) e got = at_both ones others both (omega (arith, long)) all.1 i e got
 
 -- the pair at a place
-at_zip : (ones others : List Whole) (i : ℕ) (pair : Whole × Whole) → i < length (zip ones others) → get_or (zip ones others) i pair ≡ pair
+pub at_zip : (ones others : List Whole) (i : ℕ) (pair : Whole × Whole) → i < length (zip ones others) → get_or (zip ones others) i pair ≡ pair
     → (slice_get ones i ≡ Some pair.0) × (slice_get others i ≡ Some pair.1)
 at_zip [] others i pair within e = absurd (omega (arith, within))
 at_zip (a ∷ ones) [] i pair within e = absurd (omega (arith, within))

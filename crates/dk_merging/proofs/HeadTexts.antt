@@ -127,7 +127,7 @@ word_lines implicit n decls =
 abbrev pub head_text : Grammar → List PointDecl → Bool → List ℕ
 head_text g decls implicit = state_line "daikon-state" (decimal (version_of g) ∷ []) ++ word_lines implicit (length decls) decls
 
-text_parts : (g : Grammar) (decls : List PointDecl) (implicit : Bool) (kept : List ℕ) → state_text g decls implicit kept ≡ head_text g decls implicit ++ (kept ++ state_line "end-state" [])
+pub text_parts : (g : Grammar) (decls : List PointDecl) (implicit : Bool) (kept : List ℕ) → state_text g decls implicit kept ≡ head_text g decls implicit ++ (kept ++ state_line "end-state" [])
 text_parts g decls implicit kept =
     let first = state_line "daikon-state" (decimal (version_of g) ∷ []) in
     let second = state_line "comparability" (comparability_text implicit ∷ []) in

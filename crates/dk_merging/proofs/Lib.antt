@@ -6,3 +6,7 @@ pub mod SlotsFit
 pub mod EnginesOfBoth
 pub mod MergedStates
 pub mod MergedFiles
+pub mod PartsTold
+pub mod Readings
+pub mod OneJoin
+pub mod OneAnswer

@@ -50,7 +50,7 @@ field_told test (x ∷ xs) (y ∷ ys) r s h k a b e =
     let later = field_told test xs ys r s (and_parts (not (test x)) (list_all (λ b. not (test b)) xs) h).1 (and_parts (not (test y)) (list_all (λ b. not (test b)) ys) k).1 a b rest in
     (λ i. first i ∷ later.0 i, later.1)
 
-same_decimals : (m n : ℕ) → m < 2 ^ 127 → n < 2 ^ 127 → decimal m ≡ decimal n → m ≡ n
+pub same_decimals : (m n : ℕ) → m < 2 ^ 127 → n < 2 ^ 127 → decimal m ≡ decimal n → m ≡ n
 same_decimals m n p q e = sym (decimal_is_IsNumeral_wide m (omega arith)).1 ∙ ap (digits_value 10) e ∙ (decimal_is_IsNumeral_wide n (omega arith)).1
 
 no_minus : (n : ℕ) (ds : List ℕ) → n < 2 ^ 127 → decimal n ≡ 45 ∷ ds → ⊥
@@ -59,7 +59,7 @@ no_minus n ds p e =
     let range = digit_from_value 45 all.0 in
     omega (arith, range)
 
-same_signed : (y z : ℤ) → unsigned_abs y < 2 ^ 127 → unsigned_abs z < 2 ^ 127 → signed_decimal y ≡ signed_decimal z → y ≡ z
+pub same_signed : (y z : ℤ) → unsigned_abs y < 2 ^ 127 → unsigned_abs z < 2 ^ 127 → signed_decimal y ≡ signed_decimal z → y ≡ z
 same_signed (pos m) (pos n) p q e = ap pos (same_decimals m n p q e)
 same_signed (pos m) (negsuc n) p q e = absurd (no_minus m (decimal (suc n)) p e)
 same_signed (negsuc m) (pos n) p q e = absurd (no_minus n (decimal (suc m)) q (sym e))

@@ -10,10 +10,12 @@ use Rattle.dk_engine.specs.declared.parts.Parts.{Parts}
 use Rattle.dk_join.specs.Joined.{AreJoinedParts}
 use Rattle.dk_join.specs.Joining.{AreAlike}
 use Rattle.dk_join.specs.Laws.{AreKeptOf}
+use Rattle.dk_presence.specs.Patterns.{AreHeld}
 
 -- what each engine keeps meets the conditions of every engine
-abbrev pub IsSound : Whole → Type 0
-IsSound engine = CanBeFed engine.grammar engine.infos engine.kept
+pub record IsSound (engine : Whole) : Type 0 where
+  pub fed : CanBeFed engine.grammar engine.infos engine.kept
+  pub held : AreHeld engine.kept.held
 
 -- It keeps the join of both, which can be saved.
 pub record IsJoinOfBoth (one other both : Whole) : Type 0 where

@@ -1,11 +1,15 @@
--- State files merged in any order and in any groups.
-use Rattle.std.specs.Prelude.{◌≡◌, ℕ, Bool, List, [], slice_index_or}
+-- State files merged in any order and in any groups, and however they are read.
+use Rattle.std.specs.Prelude.{◌≡◌, ◌≢◌, ℕ, Bool, List, [], Result, Err, map, slice_index_or}
 use Rattle.std.specs.List.Sorted.{IsPermutation}
+use Rattle.dk_engine.specs.Levels.{Whole}
 use Rattle.dk_hierarchy.specs.Samples.{OwnSamples}
 use Rattle.dk_points.specs.Table.{Point}
+use Rattle.dk_state.specs.Spelling.{saved_parts}
 use Rattle.dk_state.specs.StateFile.{state_file_of}
 use Rattle.dk_template.specs.declared.grammar.Grammar.{Grammar}
-use Rattle.dk_merging.specs.Merging.{CanBeMerged, file_of_both, own_of_both}
+use Rattle.dk_merging.specs.Merging.{AnswersMerge, CanBeMerged, Head, Says, file_of_both, own_of_both}
+use Rattle.dk_merging.specs.declared.merging.MergeFault.{MergeFault}
+use Rattle.dk_merging.specs.declared.merging.MergeFault.TheVariants.{NoMemory}
 
 -- what `merge_two` makes of two files: of state files of histories the one of both
 abbrev pub IsFileOfBoth : List ℕ → List ℕ → List ℕ → Type 0
@@ -58,3 +62,16 @@ abbrev pub EitherGroupingIsSame : Type 0
 EitherGroupingIsSame =
     (g : Grammar) (ps : List Point) (implicit : Bool) (own others more : OwnSamples)
     → file_of_both g ps implicit (own_of_both own others) more ≡ file_of_both g ps implicit own (own_of_both others more)
+
+-- ---- all readings of state files
+-- engines of which these bytes are what is saved: what they declare is the same, and so is what is saved of each point
+abbrev pub ReadingsSaveTheSame : Type 0
+ReadingsSaveTheSame =
+    (bytes : List ℕ) (head other : Head) (ones others : List Whole) → Says head ones bytes → Says other others bytes
+    → (other ≡ head) × (map (λ e. saved_parts e.kept) ones ≡ map (λ e. saved_parts e.kept) others)
+
+-- Two files have one answer, but that memory may run out: however they are read, they make one text, or none for one cause.
+abbrev pub AnswersAreDetermined : Type 0
+AnswersAreDetermined =
+    (first second : List ℕ) (answer other : Result (List ℕ) MergeFault) → answer ≢ Err NoMemory → other ≢ Err NoMemory
+    → AnswersMerge first second answer → AnswersMerge first second other → answer ≡ other

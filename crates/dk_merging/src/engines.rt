@@ -1,12 +1,20 @@
 // The engines of both states.
 ghost use Rattle.std.specs.Prelude.{◌≡◌, Err, IfOk};
 ghost use Rattle.dk_join.specs.Joining.{AreAlike};
-ghost use Rattle.dk_merging.specs.Engines.{AreAllAlike, AreEnginesOfBoth, HaveNoJoin, HaveNoJoinSomewhere, IsEngineOfBoth};
+ghost use Rattle.dk_merging.specs.Engines.{AreAllAlike, AreEnginesOfBoth, HaveNoJoin, HaveNoJoinSomewhere, IsEngineOfBoth, IsSound};
 
 use dk_base::List;
 use dk_engine::Engine;
 use dk_join::{JoinFault, join};
 use std::alloc::Global;
+
+// What is so of every engine: what it keeps meets the conditions.
+fn tell_sound(engine: &Engine)
+    ensures { IsSound engine.now }
+{
+    engine.kept();
+    engine.presence().held();
+}
 
 // The engine of a point in both: the one that alone has samples, or the join.
 fn engine_of_both(alloc: Global, first: Engine, second: Engine) -> Result<Engine, JoinFault>
@@ -14,8 +22,8 @@ fn engine_of_both(alloc: Global, first: Engine, second: Engine) -> Result<Engine
     ensures both { IfOk result (IsEngineOfBoth first second) }
     ensures none { result ≡ Err JoinFault.Joined → HaveNoJoin first second }
 {
-    first.kept();
-    second.kept();
+    tell_sound(&first);
+    tell_sound(&second);
     if second.counts().samples == 0 {
         return Ok(first);
     }

@@ -1,5 +1,5 @@
-//! State files merged in any order and in any groups.
-ghost use Rattle.dk_merging.specs.Laws.{EitherGroupingIsSame, EitherOrderIsSame, MergesAreStateFiles, OrderOfMergesDoesNotMatter};
+//! State files merged in any order and in any groups, and however they are read.
+ghost use Rattle.dk_merging.specs.Laws.{AnswersAreDetermined, EitherGroupingIsSame, EitherOrderIsSame, MergesAreStateFiles, OrderOfMergesDoesNotMatter, ReadingsSaveTheSame};
 
 /// Merged state files of histories are the state file of the history with the samples of all. The same samples of each point, merged in
 /// any order and in any groups, give the same bytes.
@@ -12,4 +12,11 @@ pub fn order_of_merges_does_not_matter()
 pub fn either_order_and_grouping_is_same()
     ensures order { EitherOrderIsSame }
     ensures grouping { EitherGroupingIsSame }
+{}
+
+/// All readings of a state file declare the same, and what is saved of each point is the same. So two files have one answer, but that
+/// memory may run out: they make one text, or none for one cause.
+pub fn answers_are_determined()
+    ensures readings { ReadingsSaveTheSame }
+    ensures answers { AnswersAreDetermined }
 {}

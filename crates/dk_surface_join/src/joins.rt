@@ -34,6 +34,12 @@ const CASES: &[Case] = &[
         first: &[&[Some(1), Some(1), Some(2)]],
         second: &[&[Some(3), Some(3), Some(6)]],
     },
+    // All are constant in the first alone: a sum holds in both, a product there.
+    Case {
+        vars: 3,
+        first: &[&[Some(4), Some(2), Some(2)]],
+        second: &[&[Some(5), Some(2), Some(3)], &[Some(9), Some(4), Some(5)]],
+    },
     // A class splits, and a constant ends.
     Case {
         vars: 3,

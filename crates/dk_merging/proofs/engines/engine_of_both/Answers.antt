@@ -5,12 +5,12 @@ use Rattle.dk_merging.proofs.engines.engine_of_both.Goals as goal
 
 pub returns-then-counts-eq0-clause-both : goal.returns-then-counts-eq0-clause-both
 returns-then-counts-eq0-clause-both c =
-    first_alone c.args.first c.args.second c.kept.ensures.fed c.kept-2.ensures.fed (sym c.counts.ensures.samples ∙ c.if-counts-eq0.true)
+    first_alone c.args.first c.args.second c.tell_sound.ensures c.tell_sound-2.ensures (sym c.counts.ensures.samples ∙ c.if-counts-eq0.true)
 
 pub returns-then-counts-eq0-2-clause-both : goal.returns-then-counts-eq0-2-clause-both
 returns-then-counts-eq0-2-clause-both c =
     let more : 0 < c.args.second.kept.samples = omega (arith, c.counts.ensures.samples, c.if-counts-eq0.false) in
-    second_alone c.args.first c.args.second c.kept.ensures.fed c.kept-2.ensures.fed c.requires (sym c.counts-2.ensures.samples ∙ c.if-counts-eq0-2.true) more
+    second_alone c.args.first c.args.second c.tell_sound.ensures c.tell_sound-2.ensures c.requires (sym c.counts-2.ensures.samples ∙ c.if-counts-eq0-2.true) more
 
 pub join-requires : goal.join-requires
 join-requires c = record {
@@ -24,12 +24,12 @@ returns-clause-both c =
     let some : 0 < c.args.first.kept.samples = omega (arith, c.counts-2.ensures.samples, c.if-counts-eq0-2.false) in
     let more : 0 < c.args.second.kept.samples = omega (arith, c.counts.ensures.samples, c.if-counts-eq0.false) in
     let made = c.join.ensures in
-    joined_alone c.args.first c.args.second c.kept.ensures.fed c.kept-2.ensures.fed some more c.join.result made.grammar made.infos made.parts made.saved made.stands
+    joined_alone c.args.first c.args.second c.tell_sound.ensures c.tell_sound-2.ensures some more c.join.result made.grammar made.infos made.parts made.saved made.stands
 
 pub returns-clause-none : goal.returns-clause-none
 returns-clause-none c e = record {
-  first_sound = c.kept.ensures.fed;
-  second_sound = c.kept-2.ensures.fed;
+  first_sound = c.tell_sound.ensures;
+  second_sound = c.tell_sound-2.ensures;
   first_some = omega (arith, c.counts-2.ensures.samples, c.if-counts-eq0-2.false);
   second_some = omega (arith, c.counts.ensures.samples, c.if-counts-eq0.false);
   none = c.join.ensures.joined e;

@@ -1,4 +1,4 @@
-use Rattle.std.specs.Prelude.{◌++◌, All, List, false, map, slice_index_or}
+use Rattle.std.specs.Prelude.{◌++◌, All, List, None, false, map, slice_index_or}
 use Rattle.std.proofs.Common.{◌∙◌, ap, arith, subst, sym}
 use Rattle.std.proofs.lemmas.List.{take_all}
 use Rattle.dk_base.specs.declared.kinds.VarId.{VarId}
@@ -14,7 +14,7 @@ pub thirds-requires-clause-w : goal.thirds-requires-clause-w
 thirds-requires-clause-w c =
     let Are : List Companion → Type 0 = All (IsCompanion c.args.self.now.both.now c.args.row c.args.v) in
     let all : Are c.deref-w-items.result.now = subst Are (sym c.deref-w-items.ensures.value) c.in_ok-beside.ensures.each in
-    all c.loop-w.w-index (record { leader = record { 0 = 0 }; by_first = false; by_second = false }) c.loop-w-test.true
+    all c.loop-w.w-index (record { leader = record { 0 = 0 }; numbers = record { first = None; second = None }; by_first = false; by_second = false }) c.loop-w-test.true
 
 pub thirds-requires-clause-third : goal.thirds-requires-clause-third
 thirds-requires-clause-third c =
@@ -27,7 +27,7 @@ loop-w-preserved c =
     let pair = s.both.now in
     let items = c.deref-w-items.result.now in
     let i = c.loop-w.w-index in
-    let none : Companion = record { leader = record { 0 = 0 }; by_first = false; by_second = false } in
+    let none : Companion = record { leader = record { 0 = 0 }; numbers = record { first = None; second = None }; by_first = false; by_second = false } in
     let w : Companion = slice_index_or items i none in
     let test = c.loop-w-test.true in
     let Of : VarId → List VarId → List Slot = thirds pair.first.infos s.known.now (answer_of pair) c.args.row c.args.v in

@@ -1,4 +1,4 @@
-use Rattle.std.specs.Prelude.{◌≡◌, All, map, refl, slice_index_or}
+use Rattle.std.specs.Prelude.{◌≡◌, All, IsTrue, map, refl, slice_index_or}
 use Rattle.std.proofs.Common.{◌∙◌, ap, subst, sym}
 use Rattle.std.proofs.lemmas.List.Elements.{All-map}
 use Rattle.std.proofs.lemmas.Result.{IfOk-weaker}
@@ -6,14 +6,15 @@ use Rattle.dk_base.specs.declared.kinds.VarId.{VarId}
 use Rattle.dk_engine.specs.Levels.{Whole}
 use Rattle.dk_engine.specs.declared.slot.Slot.{Slot}
 use Rattle.std.specs.Borrow.{Bor}
-use Rattle.dk_join.proofs.Companions.{leaders_of_all, told_beside}
+use Rattle.dk_join.proofs.Companions.{leaders_of_all}
 use Rattle.dk_join.specs.Beside.{IsCompanion, is_beside, slots_at_hand, stands_beside}
+use Rattle.dk_join.specs.Numbers.{number_for, numbers_for}
 use Rattle.dk_join.specs.declared.beside.Companion.{Companion}
 use Rattle.dk_join.proofs.sweeps.Sweep.companions.Goals as goal
 
 pub returns-clause-leaders : goal.returns-clause-leaders
 returns-clause-leaders c =
-    let F : VarId → Companion = λ w. record { leader = w; by_first = is_beside c.in_ok-first.first w; by_second = is_beside c.in_ok-second.second w } in
+    let F : VarId → Companion = λ w. record { leader = w; numbers = record { first = number_for c.args.row c.in_ok-first.first.engine.now.kept w; second = number_for c.args.row c.in_ok-second.second.engine.now.kept w }; by_first = is_beside c.in_ok-first.first w; by_second = is_beside c.in_ok-second.second w } in
     IfOk-weaker c.companions.result (λ list. list.items ≡ map F c.args.leaders.now) (λ list. map (λ w. w.leader) list.items ≡ c.args.leaders.now)
     (λ list e. ap (map (λ (w : Companion). w.leader)) e ∙ leaders_of_all F (λ w. refl) c.args.leaders.now) c.companions.ensures
 
@@ -25,17 +26,18 @@ returns-clause-each c =
     let leaders = c.args.leaders.now in
     let first = c.in_ok-first.first in
     let second = c.in_ok-second.second in
-    let F : VarId → Companion = λ w. record { leader = w; by_first = is_beside first w; by_second = is_beside second w } in
-    let by_first : (w : VarId) → is_beside first w ≡ stands_beside pair.first.kept row v w = λ w.
-    told_beside c.first.result.now row v c.as_slice.result.now
+    let F : VarId → Companion = λ w. record { leader = w; numbers = record { first = number_for row first.engine.now.kept w; second = number_for row second.engine.now.kept w }; by_first = is_beside first w; by_second = is_beside second w } in
+    let by_first : (w : VarId) → IsTrue (stands_beside pair.first.kept row v w) → IsTrue (is_beside first w) = λ w h.
+    c.in_ok-first.ensures.all row
     (ap (map (λ (slot : Bor Slot). slot.now)) c.as_slice.ensures.value ∙ (c.requires.hands.first ∙ ap (λ (e : Whole). slots_at_hand row e.kept.slots) (sym c.first.ensures)))
-    first c.in_ok-first.ensures.engine c.in_ok-first.ensures.slots c.in_ok-first.ensures.free w
-    ∙ ap (λ (e : Whole). stands_beside e.kept row v w) c.first.ensures in
-    let by_second : (w : VarId) → is_beside second w ≡ stands_beside pair.second.kept row v w = λ w.
-    told_beside c.second.result.now row v c.as_slice-2.result.now
+    w (ap (λ (e : Whole). stands_beside e.kept row v w) c.first.ensures ∙ h) in
+    let by_second : (w : VarId) → IsTrue (stands_beside pair.second.kept row v w) → IsTrue (is_beside second w) = λ w h.
+    c.in_ok-second.ensures.all row
     (ap (map (λ (slot : Bor Slot). slot.now)) c.as_slice-2.ensures.value ∙ (c.requires.hands.second ∙ ap (λ (e : Whole). slots_at_hand row e.kept.slots) (sym c.second.ensures)))
-    second c.in_ok-second.ensures.engine c.in_ok-second.ensures.slots c.in_ok-second.ensures.free w
-    ∙ ap (λ (e : Whole). stands_beside e.kept row v w) c.second.ensures in
+    w (ap (λ (e : Whole). stands_beside e.kept row v w) c.second.ensures ∙ h) in
+    let one : first.engine.now ≡ pair.first = c.in_ok-first.ensures.engine ∙ c.first.ensures in
+    let other : second.engine.now ≡ pair.second = c.in_ok-second.ensures.engine ∙ c.second.ensures in
+    let numbers : (w : VarId) → (F w).numbers ≡ numbers_for row pair w = λ w i. record { first = number_for row (one i).kept w; second = number_for row (other i).kept w } in
     IfOk-weaker c.companions.result (λ list. list.items ≡ map F leaders) (λ list. All (IsCompanion pair row v) list.items)
     (λ list e. subst (All (IsCompanion pair row v)) (sym e)
-    (All-map (IsCompanion pair row v) F leaders (λ k d l. record { by_first = by_first (slice_index_or leaders k d); by_second = by_second (slice_index_or leaders k d) }))) c.companions.ensures
+    (All-map (IsCompanion pair row v) F leaders (λ k d l. record { numbers = numbers (slice_index_or leaders k d); by_first = by_first (slice_index_or leaders k d); by_second = by_second (slice_index_or leaders k d) }))) c.companions.ensures
