@@ -1,7 +1,7 @@
 -- Files that are held.
-use Rattle.std.proofs.Common.{◌≡◌, ◌≢◌, ◌≤◌, ◌<◌, ◌+◌, ℕ, zero, suc, List, [], ◌∷◌, ◌++◌, map, take, length, get_or, inl, inr, All, refl, sym, ◌∙◌, ap, subst, arith}
+use Rattle.std.proofs.Common.{◌≡◌, ◌≢◌, ◌≤◌, ◌<◌, ◌+◌, ℕ, zero, suc, List, [], ◌∷◌, ◌++◌, map, take, length, inl, inr, refl, sym, ◌∙◌, ap, subst, arith}
 use Rattle.std.proofs.lemmas.Bool.{cases_lt}
-use Rattle.std.proofs.lemmas.List.{length-take, take-map, take_all}
+use Rattle.std.proofs.lemmas.List.{take-map, take_all}
 use Rattle.dk_io.specs.Outside.{HeldFile, Absent, Holds}
 use Rattle.dk_driver.specs.Files.{AreHeldFiles, file_name_at}
 use Rattle.dk_driver.specs.Reads.{held_file_at}
