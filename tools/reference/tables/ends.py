@@ -42,13 +42,13 @@ def daikon() -> list[Case]:
                     ("a faulty line in the second file", {"t": X + ONE, "u": TWO + WRONG}),
                     ("a block that isn't ended in the second file", {"t": X + ONE, "u": OPEN})) \
         + cases_of("daikon", "--min-samples 1 --resume s t", ("a state", {"s": STATE, "t": TWO}),
-                   ("a faulty line behind a state", {"s": STATE, "t": TWO + WRONG})) + by_the_way()
+                   ("a faulty line behind a state", {"s": STATE, "t": TWO + WRONG})) + reports_due()
 
 
-def by_the_way() -> list[Case]:
+def reports_due() -> list[Case]:
     """Reports that were due stand in front of the message: those behind the two blocks of the file."""
     report = b"--- after 1 blocks\n--- after 2 blocks\n" + b"=" * 75 + b"\nP  [1]\nx == 1  [1]\n"
-    failing = cases_of("daikon", "--min-samples 1 --every 1 t", ("reports by the way", {"t": X + ONE}))
+    failing = cases_of("daikon", "--min-samples 1 --every 1 t", ("reports that were due", {"t": X + ONE}))
     return [case.coming_to(case.status, report=report, messages=case.texts["messages"]) for case in failing]
 
 
