@@ -2,10 +2,16 @@
 
 from __future__ import annotations
 
+import os
 import re
+from importlib.machinery import SourceFileLoader
+from importlib.util import module_from_spec, spec_from_loader
 
 from command import DONE
-from writing import Case, wanted
+from writing import Case, failing_writes, wanted
+
+HERE = os.path.dirname(os.path.dirname(os.path.abspath(__file__)))
+TOP = os.path.dirname(os.path.dirname(HERE))
 
 FOUR = b"""daikon-state 2
 comparability implicit
@@ -103,7 +109,42 @@ def runs_of_samples() -> list[Case]:
     ]
 
 
+# ---------------------------------------------------------------- a run in parts
+
+def stored_file(path: str, case: str, name: str) -> bytes:
+    """A file of a stored case."""
+    loader = SourceFileLoader("cases", os.path.join(HERE, "cases"))
+    cases = module_from_spec(spec_from_loader("cases", loader))
+    loader.exec_module(cases)
+    return next(it for it in cases.cases_of(os.path.join(TOP, "crates", "dk_cases", "data", path)) if it.name == case).bytes_of(name)
+
+
+def parts() -> list[Case]:
+    """Two calls of a stack: the first part saved, the second gone on with from its state, and both as one, with one report and state."""
+    text = stored_file("daikon/worked.cases", "two calls of a stack", "t")
+    blocks = text.split(b"\n\n")
+    found = []
+    for count, what in ((4, "the declarations"), (6, "the declarations and the first call"), (len(blocks), "all blocks")):
+        first, rest = b"\n\n".join(blocks[:count]) + b"\n", b"\n\n".join(blocks[count:])
+        begun = wanted(Case(f"{what}, saved", "daikon", ("--min-samples", "1", "--save", "t"), {"t": first}))
+        state = begun.texts["state"]
+        gone_on = wanted(Case(f"the rest behind {what}", "daikon", ("--min-samples", "1", "--resume", "s", "--save", "u"), {"s": state, "u": rest}))
+        found += [begun, gone_on]
+    if len({(case.texts["report"], case.texts["state"]) for case in found[1::2]}) != 1:
+        raise SystemExit("a run in parts comes to something else")
+    return found
+
+
+def interim_writes() -> list[Case]:
+    """A report after two blocks and the last one, with each write failing in turn."""
+    text = b"ppt P\nvariable x\nrep-type int\n\nP\nx\n1\n1\n\nP\nx\n2\n1\n"
+    case = wanted(Case("two reports", "daikon", ("--min-samples", "1", "--every", "2", "t"), {"t": text}))
+    return failing_writes(case, "report", 64) + failing_writes(case, "report", 7)
+
+
 TABLES = {
+    "daikon/parts.cases": ("A run in parts comes to what one run comes to.", parts),
+    "daikon/interim_writes.cases": ("A write of a report that is due, or of the last one, fails.", interim_writes),
     "daikon/changed_states.cases": ("States in which a line or a number is changed: each is refused, or saved again with the same bytes.",
                                     changed_states),
     "daikon/third_samples.cases": ("What is kept after a second and a third sample.", third_samples),
