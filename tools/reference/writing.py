@@ -84,16 +84,18 @@ def failing_reads(case: Case, names: list[str], piece: int) -> list[Case]:
     return [*found, with_key(case, f"read {number + 1} would fail", piece, "failing-reads", number + 1)]
 
 
-def failing_writes(case: Case, stream: str, piece: int) -> list[Case]:
-    """The case with each of its writes failing in turn; all of its output goes to this stream. One write more would fail, and isn't made."""
-    text = case.texts[stream]
-    count = -(-len(text) // piece)
-    found = []
-    for number in range(1, count + 1):
-        failing = with_key(case, f"write {number} fails", piece, "failing-writes", number)
-        found.append(cut_short(replace(failing, status=WRITE), stream, (number - 1) * piece))
-    would_fail = with_key(case, f"write {count + 1} would fail", piece, "failing-writes", count + 1)
-    return [*found, cut_short(would_fail, stream, len(text))]
+def failing_writes(case: Case, stream: str, piece: int, texts: list[bytes] | None = None) -> list[Case]:
+    """The case with each of its writes failing in turn; all of its output goes to this stream, in these texts one after another, each in
+    pieces. Where no texts are given it is one. One write more would fail, and isn't made."""
+    written, found = 0, []
+    for text in texts or [case.texts[stream]]:
+        for at in range(0, len(text), piece):
+            number = len(found) + 1
+            failing = with_key(case, f"write {number} fails", piece, "failing-writes", number)
+            found.append(cut_short(replace(failing, status=WRITE), stream, written + at))
+        written += len(text)
+    would_fail = with_key(case, f"write {len(found) + 1} would fail", piece, "failing-writes", len(found) + 1)
+    return [*found, cut_short(would_fail, stream, written)]
 
 
 def cut_short(case: Case, stream: str, count: int) -> Case:

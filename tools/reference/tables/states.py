@@ -136,10 +136,11 @@ def parts() -> list[Case]:
 
 
 def interim_writes() -> list[Case]:
-    """A report after two blocks and the last one, with each write failing in turn."""
+    """A report after two blocks and the last one, with each write failing in turn. The line in front of a report is a text of its own."""
     text = b"ppt P\nvariable x\nrep-type int\n\nP\nx\n1\n1\n\nP\nx\n2\n1\n"
     case = wanted(Case("two reports", "daikon", ("--min-samples", "1", "--every", "2", "t"), {"t": text}))
-    return failing_writes(case, "report", 64) + failing_writes(case, "report", 7)
+    texts = re.split(rb"(?m)(?<=blocks\n)|^(?=---)", case.texts["report"])
+    return [failing for piece in (64, 7) for failing in failing_writes(case, "report", piece, texts)]
 
 
 TABLES = {
