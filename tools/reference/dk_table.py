@@ -6,6 +6,7 @@ import io
 import os
 import re
 import sys
+from dataclasses import dataclass
 
 from command import (Ended, Usage, bytes_of_file, host_status, number_between, status_of_run,
                      words_of_command)
@@ -126,16 +127,34 @@ def trace(point, names, kinds, rows):
     return "".join(lines) + "\n"
 
 
-def run(words, sinks, folder):
-    found = words_of_command(words, ["--no-header"], ["--point", "--separator", "--types"])
+FLAGS, WITH_VALUE = ["--no-header"], ["--point", "--separator", "--types"]
+
+
+@dataclass
+class Options:
+    """What the words ask for."""
+    files: list
+    point: str
+    separator: str
+    types: object
+    has_header: bool
+
+
+def options_of(words):
+    found = words_of_command(words, FLAGS, WITH_VALUE)
     separator = found.values.get("--separator", ",")
     if not found.files or len(os.fsencode(separator)) != 1 or separator in '"\n\r':
         raise Usage
     types = number_between(found.values["--types"], 1, MOST_ROWS) if "--types" in found.values else None
+    return Options(found.files, found.values.get("--point", found.files[0]), separator, types, "--no-header" not in found.flags)
+
+
+def run(words, sinks, folder):
+    found = options_of(words)
     files = [(name, bytes_of_file(folder, name)) for name in found.files]
-    names, rows = table_of(files, separator, "--no-header" not in found.flags)
-    kinds = [kind_of([row[k] for _, _, row in rows[:types]]) for k in range(len(names))]
-    point = os.fsencode(found.values.get("--point", found.files[0])).decode("latin-1")
+    names, rows = table_of(files, found.separator, found.has_header)
+    kinds = [kind_of([row[k] for _, _, row in rows[:found.types]]) for k in range(len(names))]
+    point = os.fsencode(found.point).decode("latin-1")
     variables = [variable(*it) for it in zip(names, kinds)]
     if not all(map(is_told, [point, *variables])) or len(set(variables)) < len(variables) \
             or spelled(point).startswith(OTHER_LINES) or "this_invocation_nonce" in variables:

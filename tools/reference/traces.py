@@ -11,7 +11,7 @@ of runs in one folder; a run is a list of words. The kinds are
   states     states with changes put in, each resumed alone and with records
   forms      states with one slot, of each row with each form of a state
   order      states and files that are right, faulty or not there, in all places of the words
-  split, check, merge   runs of the three other programs
+  split, check, merge, tell, table   runs of the other programs
 `--first-form` leaves the second declaration form out, `--first-grammar` states of version 2.
 """
 
@@ -25,6 +25,7 @@ from math import gcd
 from changes import STATES, changed_state, delete_byte, delete_line, double_line, odd_byte
 from input_language import Fault, blocks_of, lines_of
 from points import History, Table, effect_of
+from random_tables import tables_and_words
 from report import FILTERS, report
 from rows import ROWS
 from state_file import state_file
@@ -892,6 +893,22 @@ def check_case(seed, second_form=True, grammar=2):
     return case
 
 
+def tell_case(seed, second_form=True, grammar=2):
+    """The report and the files of a case for dk_check, in some format."""
+    case = check_case(seed, second_form)
+    words = case.runs[0]
+    names = [word for word in words if not word.startswith("-")]
+    flags = [word for word in words if word == "--ignore-missing-entry"]
+    formats = random.Random(seed).choice([[], ["json"], ["python"], ["c"], ["smtlib"], ["smtlib"], ["c"], ["python"]])
+    return Case(case.files, [flags + [word for name in formats for word in ("--format", name)] + names])
+
+
+def table_case(seed, second_form=True, grammar=2):
+    """Tables, mostly of one header."""
+    files, words = tables_and_words(random.Random(seed))
+    return Case(files, [words])
+
+
 def merge_case(seed, second_form=True, grammar=2):
     """States of files with the same declarations, or files read in turns."""
     maker = Maker(seed, second_form)
@@ -952,7 +969,7 @@ def without_grammar(case_of_seed):
 
 KINDS = {"one-file": without_grammar(one_file_case), "full": full_case, "cut": cut_case,
          "states": states_case, "forms": forms_case, "order": order_case, "split": split_case,
-         "check": check_case, "merge": merge_case}
+         "check": check_case, "merge": merge_case, "tell": tell_case, "table": table_case}
 
 
 def write_files(case, folder):

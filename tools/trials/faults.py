@@ -38,6 +38,7 @@ def read_fault_trials(seed: int) -> Iterator[Trial]:
     for program, files, words in (
             ("daikon", traces, flags + ["--every", "2"]), ("dk_split", traces, flags),
             ("dk_check", {**traces, "a": b"=\nP\nx >= 1\n"}, flags + ["a"]),
+            ("dk_tell", {**traces, "a": b"=\nP\nx >= 1\n"}, flags + ["a"]), ("dk_table", {name: b"x,y\n1,2\n" for name in names}, []),
             ("daikon", {**traces, "s": state}, flags + ["--save", "--resume", "s"]), ("dk_merge", states, []),
             ("dk_merge", traces, ["--turns", "2"])):
         for faulty in [name for name in words + names if name in files]:
@@ -188,12 +189,20 @@ def sequences(maker: Maker) -> bytes:
 LARGE = [numbers, numbers, points, long_text, sequences, trace_of]
 
 
+def large_table(maker: Maker) -> bytes:
+    width = maker.random.choice([1, 10, 100])
+    row = b",".join(b"%d" % maker.random.randint(0, 99) for _ in range(width)) + b"\n"
+    return b",".join(b"x%d" % k for k in range(width)) + b"\n" + row * maker.random.choice([10, 1_000])
+
+
 def large_inputs(maker: Maker) -> List[Tuple[str, Case]]:
-    """One large trace for each program."""
+    """One large input for each program."""
     text = maker.random.choice(LARGE)(maker)
     return [("daikon", Case({"t": text}, [["--min-samples", "1", "--save", "--ignore-missing-entry", "t"]])),
              ("dk_split", Case({"t": text}, [["--min-samples", "1", "--ignore-missing-entry", "t"]])),
              ("dk_check", Case({"t": text, "a": b"=\nP\nx1 >= 1\nx2 <= x3\n" * 30}, [["--ignore-missing-entry", "a", "t"]])),
+             ("dk_tell", Case({"t": text, "a": b"=\nP\nx1 >= 1\nx2 <= x3\n" * 30}, [["--ignore-missing-entry", "a", "t"]])),
+             ("dk_table", Case({"t": large_table(maker)}, [["t"]])),
              ("dk_merge", Case({"t": text}, [["--min-samples", "1", "--turns", "1", "t"]]))]
 
 

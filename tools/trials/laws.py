@@ -8,12 +8,14 @@ from typing import Callable, Dict, List, Optional
 from trials.bench import STATE, Outcome
 from trials.programs import PROGRAMS, names_of
 
+import dk_table  # noqa: E402
 from command import DONE, READ, REFUSED, USAGE_STATUS, WRITE  # noqa: E402
 from input_language import WHY  # noqa: E402
 
 NO_MEMORY = 5
 GENERATED = b"generated 20000 records\n"
 REFUSAL = re.compile(rb"daikon: (.*):([0-9]+): ([0-9]+) ([A-Za-z]+)\n", re.S)
+TABLE_REFUSAL = re.compile(rb"daikon: (.*): row ([0-9]+): ([0-9]+) ([A-Za-z]+)\n", re.S)
 # what is said after a fault of writing or of memory, or nothing
 FAULT = re.compile(rb"(?:daikon: (?:out of memory|cannot write [^\n]+)\n)?")
 HELP = {"-h", "--help", "-V", "--version"}
@@ -54,13 +56,16 @@ def says_nothing(program: str, words: List[str], files: Dict[str, bytes], messag
 
 
 def says_refused(program: str, words: List[str], files: Dict[str, bytes], messages: bytes) -> bool:
-    """A file that was named, a line that it may have, and a reason under its name."""
-    match = REFUSAL.fullmatch(messages)
+    """A file that was named, a line or row that it may have, and a reason under its name."""
+    is_table = program == "dk_table"
+    match = (TABLE_REFUSAL if is_table else REFUSAL).fullmatch(messages)
     if match is None:
         return False
     name, line, why, its_name = os.fsdecode(match.group(1)), int(match.group(2)), int(match.group(3)), match.group(4).decode()
-    if WHY.get(why) != its_name:
+    if (dk_table.WHY if is_table else WHY).get(why) != its_name:
         return False
+    if is_table and name in files:
+        return 1 <= line <= files[name].count(b"\n") + files[name].count(b"\r") + 1
     return line <= files[name].count(b"\n") + 2 if name in files else name in ("turns", "generated", "/dev/stdin") or bool(names_of(words))
 
 

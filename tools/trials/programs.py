@@ -14,6 +14,8 @@ import daikon  # noqa: E402
 import dk_check  # noqa: E402
 import dk_merge  # noqa: E402
 import dk_split  # noqa: E402
+import dk_table  # noqa: E402
+import dk_tell  # noqa: E402
 
 
 @dataclass(frozen=True)
@@ -36,6 +38,8 @@ PROGRAMS: Dict[str, Program] = {program.name: program for program in (
     Program("dk_split", dk_split, ("--ignore-missing-entry",), ("--min-samples",), ("split",)),
     Program("dk_check", dk_check, ("--ignore-missing-entry",), (), ("check",)),
     Program("dk_merge", dk_merge, (), ("--min-samples", "--turns"), ("merge",)),
+    Program("dk_table", dk_table, tuple(dk_table.FLAGS), tuple(dk_table.WITH_VALUE), ("table",)),
+    Program("dk_tell", dk_tell, tuple(dk_tell.FLAGS), tuple(dk_tell.WITH_VALUE), ("tell",)),
 )}
 
 

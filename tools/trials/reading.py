@@ -22,7 +22,7 @@ def trace_words(maker: Maker, program: str, names: List[str]) -> List[str]:
         return words
     if program == "dk_split":
         return least + ignore + names
-    if program == "dk_check":
+    if program in ("dk_check", "dk_tell"):
         return ignore + ["a"] + names
     return least + ["--turns", maker.random.choice(["1", "2", "5"])] + names
 
@@ -32,7 +32,7 @@ def trace_trials(seed: int) -> Iterator[Trial]:
     text = trace_of(maker)
     for _ in range(INPUTS_OF_A_SEED):
         files = mutated_traces(maker, text)
-        program = maker.random.choice(["daikon", "daikon", "daikon", "dk_split", "dk_check", "dk_merge"])
+        program = maker.random.choice(["daikon", "daikon", "daikon", "dk_split", "dk_check", "dk_merge", "dk_tell"])
         words = trace_words(maker, program, sorted(files))
         yield Trial("trace", program, Case({**files, "a": b"=\nP\nx >= 1\nx != y\nx == 1\n"}, [words]))
 
@@ -61,12 +61,12 @@ def alike_trials(seed: int) -> Iterator[Trial]:
 
 
 def judge_alike(bench: Bench, trial: Trial) -> Optional[str]:
-    """Three programs refuse the same files with the same message."""
+    """Four programs refuse the same files with the same message."""
     bench.put(trial.case.files)
     words = trial.words
     flags = words[:1] if words[:1] == ["--ignore-missing-entry"] else []
     outcomes = []
-    for program, front in (("daikon", []), ("dk_split", []), ("dk_check", ["a"])):
+    for program, front in (("daikon", []), ("dk_split", []), ("dk_check", ["a"]), ("dk_tell", ["a"])):
         all_words = flags + front + words[len(flags):]
         outcome = bench.run(program, all_words)
         bench.tried[program, trial.kind] += files_read(outcome, words[len(flags):])
@@ -74,7 +74,7 @@ def judge_alike(bench: Bench, trial: Trial) -> Optional[str]:
         if broken is not None:
             return "%s: %s" % (program, broken)
         outcomes.append((outcome.status, outcome.messages))
-    return None if len(set(outcomes)) == 1 else "statuses or messages of three programs"
+    return None if len(set(outcomes)) == 1 else "statuses or messages of four programs"
 
 
 # ---------------------------------------------------------------- words

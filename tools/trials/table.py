@@ -7,17 +7,21 @@ from trials.faults import (allocation_trials, judge_allocations, judge_memory, j
                            memory_trials, read_fault_trials, stack_trials, write_fault_trials)
 from trials.reading import alike_trials, judge_alike, judge_trace, judge_words, trace_trials, word_trials
 from trials.states import joined_trials, judge_joined, judge_merge, judge_state, merge_trials, state_trials
+from trials.tables import judge_tables, table_trials
+from trials.tellings import judge_tellings, telling_trials
 from trials.trial import Kind
 from trials.ways import (compared_trials, cut_trials, front_trials, judge_compared, judge_cut, judge_fronts, judge_pieces, piece_trials)
 
 KINDS: Dict[str, Kind] = {kind.name: kind for kind in (
-    Kind("trace", 28, trace_trials, judge_trace),
-    Kind("alike", 24, alike_trials, judge_alike),
+    Kind("trace", 25, trace_trials, judge_trace),
+    Kind("alike", 20, alike_trials, judge_alike),
     Kind("state", 9, state_trials, judge_state),
     Kind("joined", 4, joined_trials, judge_joined),
     Kind("merge", 4, merge_trials, judge_merge),
     Kind("assertions", 5, assertion_trials, judge_assertions),
     Kind("verdicts", 2, verdict_trials, judge_verdicts),
+    Kind("tables", 4, table_trials, judge_tables),
+    Kind("tellings", 3, telling_trials, judge_tellings),
     Kind("words", 5, word_trials, judge_words),
     Kind("pieces", 3, piece_trials, judge_pieces),
     Kind("fronts", 4, front_trials, judge_fronts),

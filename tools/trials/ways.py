@@ -13,6 +13,7 @@ from trials.trial import Trial, script
 
 from changes import changed_state  # noqa: E402
 from command import DONE, REFUSED  # noqa: E402
+from random_tables import tables_and_words  # noqa: E402
 from state_file import state_file  # noqa: E402
 from traces import Case, Maker, cut_case, history_of  # noqa: E402
 
@@ -25,7 +26,7 @@ def some_input(maker: Maker) -> Tuple[str, Case, str]:
     draw = maker.random
     text = trace_of(maker)
     trace = mutated(maker, text) if maker.chance(0.6) else text
-    program = draw.choice(["daikon", "daikon", "dk_split", "dk_check", "dk_merge", "state", "assertions", "states"])
+    program = draw.choice(["daikon", "daikon", "dk_split", "dk_check", "dk_merge", "dk_tell", "state", "assertions", "told", "states", "table"])
     if program == "state":
         state = changed_state(draw, state_file(history_of(text))) if maker.chance(0.6) else state_file(history_of(text))
         words = ["--resume", "s", "--save", "--ignore-missing-entry", "t"]
@@ -33,9 +34,15 @@ def some_input(maker: Maker) -> Tuple[str, Case, str]:
     if program == "states":
         state = state_file(history_of(text))
         return "dk_merge", Case({"s": changed_state(draw, state), "t": state}, [["--min-samples", "1", "t", "s"]]), draw.choice(["s", "t"])
-    if program == "assertions":
+    if program in ("assertions", "told"):
         lines = b"\n".join(b"P\nx >= %d\nx != y" % draw.randint(-3, 3) for _ in range(8))
-        return "dk_check", Case({"t": trace, "a": b"==\n" + lines}, [["--ignore-missing-entry", "a", "t"]]), "a"
+        case = Case({"t": trace, "a": b"==\n" + lines}, [["--ignore-missing-entry", "a", "t"]])
+        return "dk_check" if program == "assertions" else "dk_tell", case, "a"
+    if program == "table":
+        files, words = tables_and_words(draw)
+        # the name of the first file would be the point's
+        words = words if "--point" in words else ["--point", "P"] + words
+        return "dk_table", Case(files, [words]), draw.choice(sorted(files))
     words = trace_words(maker, program, ["t"])
     return program, Case({"t": trace, "a": b"=\nP\nx >= 1\n"}, [words]), "t"
 
@@ -58,7 +65,7 @@ def judge_pieces(bench: Bench, trial: Trial) -> Optional[str]:
     if broken is not None:
         return broken
     name = trial.how.piped
-    renamed = replace(by_file, messages=by_file.messages.replace(b": %s:" % name.encode(), b": /dev/stdin:"),
+    renamed = replace(by_file, messages=by_file.messages.replace(b"daikon: %s:" % name.encode(), b"daikon: /dev/stdin:"),
                       report=by_file.report.replace(b" at %s:" % name.encode(), b" at /dev/stdin:"))
     part = differing(renamed, by_pipe)
     return "by pipe and by file: " + part if part is not None else None
@@ -69,8 +76,8 @@ def front_trials(seed: int) -> Iterator[Trial]:
     for _ in range(INPUTS_OF_A_SEED // 2):
         text = trace_of(maker)
         text = mutated(maker, text) if maker.chance(0.6) else text
-        program = maker.random.choice(["daikon", "daikon", "dk_split", "dk_check"])
-        words = {"daikon": ["--every", "1", "--min-samples", "1"], "dk_check": ["a"]}.get(program, [])
+        program = maker.random.choice(["daikon", "daikon", "dk_split", "dk_check", "dk_tell"])
+        words = {"daikon": ["--every", "1", "--min-samples", "1"], "dk_check": ["a"], "dk_tell": ["a"]}.get(program, [])
         flags = ["--ignore-missing-entry"] if maker.chance(0.5) else []
         shape = "%f" % maker.random.random()
         yield Trial("fronts", program, Case({"t": text, "a": b""}, [flags + words + ["t"]]), How(shape=shape))
@@ -136,7 +143,7 @@ def judge_cut(bench: Bench, trial: Trial) -> Optional[str]:
 
 def compared_trials(seed: int) -> Iterator[Trial]:
     draw = random.Random(seed)
-    program = draw.choice(["daikon", "daikon", "daikon", "dk_split", "dk_check", "dk_merge"])
+    program = draw.choice(["daikon", "daikon", "daikon", "dk_split", "dk_check", "dk_merge", "dk_table", "dk_tell"])
     kind = draw.choice(PROGRAMS[program].cases)
     case = compare.traces.KINDS[kind](seed, True, 2)
     runs = case.runs if case.is_cut else draw.sample(case.runs, min(len(case.runs), 4))

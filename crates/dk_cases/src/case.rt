@@ -9,6 +9,8 @@ pub enum Program {
     Split,
     Check,
     Merge,
+    Table,
+    Tell,
     /// `turns` of dk_turns: its files are written as one, and the number of blocks in a turn is the only word.
     Turns,
 }

@@ -10,7 +10,7 @@ mod reading;
 mod running;
 mod trouble;
 
-use case::Case;
+use case::{Case, Program};
 use comparing::{is_as_wanted, tell_difference};
 use dk_base::NoMemory;
 use reading::{Begin, Reader, begin_of};
@@ -22,6 +22,9 @@ use trouble::Trouble;
 
 // How many bytes a call moves where the case doesn't say it.
 static PIECES: [usize; 3] = [1, 7, 65_536];
+
+// The same of programs whose cases are all small.
+static SMALL_PIECES: [usize; 3] = [1, 7, 64];
 
 /// How many cases there were, and how many differ or cannot be read.
 #[derive(Clone, Copy)]
@@ -48,12 +51,20 @@ fn is_met<R: Print + AllocGlobal>(
     Ok(false)
 }
 
+// The pieces in which a case of the program is run where it doesn't say them.
+fn pieces_of(program: Program) -> &'static [usize] {
+    match program {
+        Program::Table | Program::Tell => &SMALL_PIECES,
+        _ => &PIECES,
+    }
+}
+
 // Runs a case in pieces of each size, up to the first in which it differs.
 fn is_met_in_all<R: Print + AllocGlobal>(rt: &R, path: &str, case: &Case) -> Result<bool, Trouble> {
     if let Some(piece) = case.piece {
         return is_met(rt, path, case, piece);
     }
-    for piece in &PIECES {
+    for piece in pieces_of(case.program) {
         if !is_met(rt, path, case, *piece)? {
             return Ok(false);
         }

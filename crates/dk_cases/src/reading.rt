@@ -54,6 +54,8 @@ fn program_of(word: &str) -> Option<Program> {
         "dk_split" => Some(Program::Split),
         "dk_check" => Some(Program::Check),
         "dk_merge" => Some(Program::Merge),
+        "dk_table" => Some(Program::Table),
+        "dk_tell" => Some(Program::Tell),
         "turns" => Some(Program::Turns),
         _ => None,
     }

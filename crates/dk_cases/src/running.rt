@@ -8,6 +8,8 @@ use dk_io::{MemoryInputs, MemorySinks, Stream};
 use dk_merge::run_merge;
 use dk_run::run;
 use dk_split::run_split;
+use dk_table::run_table;
+use dk_tell::run_tell;
 use dk_turns::turns;
 use std::alloc::Global;
 
@@ -67,6 +69,24 @@ fn run_dk_merge(
     run_merge(alloc, words, inputs, sinks).code()
 }
 
+fn run_dk_table(
+    alloc: Global,
+    words: &[String],
+    inputs: &mut MemoryInputs,
+    sinks: &mut MemorySinks,
+) -> u8 {
+    run_table(alloc, words, inputs, sinks).code()
+}
+
+fn run_dk_tell(
+    alloc: Global,
+    words: &[String],
+    inputs: &mut MemoryInputs,
+    sinks: &mut MemorySinks,
+) -> u8 {
+    run_tell(alloc, words, inputs, sinks).code()
+}
+
 // The number of blocks in a turn that the first word says.
 fn blocks_in_turn(words: &[String]) -> u32
     ensures { 0 < result }
@@ -103,6 +123,8 @@ pub fn outcome_of(alloc: Global, case: &Case, piece: usize) -> Result<Outcome, N
         Program::Split => run_dk_split(alloc, words, &mut inputs, &mut sinks),
         Program::Check => run_dk_check(alloc, words, &mut inputs, &mut sinks),
         Program::Merge => run_dk_merge(alloc, words, &mut inputs, &mut sinks),
+        Program::Table => run_dk_table(alloc, words, &mut inputs, &mut sinks),
+        Program::Tell => run_dk_tell(alloc, words, &mut inputs, &mut sinks),
         Program::Turns => return turned(alloc, case),
     };
     Ok(Outcome {

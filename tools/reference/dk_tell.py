@@ -1,0 +1,192 @@
+#!/usr/bin/env python3
+"""A report in another language: JSON, Python, C, SMT-LIB."""
+
+from __future__ import annotations
+
+import json
+import re
+import sys
+from dataclasses import dataclass, field
+
+from command import Reader, Usage, bytes_of_file, host_status, refused, status_of_run, words_of_command
+from dk_check import assertion_of, untrimmed, without_count
+from input_language import lines_of
+from languages import Speaker
+from points import History, VarInfo
+from rows import EMPTY
+
+USAGE = b"usage: dk_tell [--format json|python|c|smtlib] [--ignore-missing-entry] REPORT [FILE]...\n"
+LANGUAGES = {"python": "Python", "c": "C", "smtlib": "Smtlib"}
+ROW_NAMES = """OneOfInt LowerBound UpperBound NonZero Modulus OneOfBool OneOfHash NonNullHash OneOfStr NonNullStr EqInt NeInt Lt Le Linear
+Divides Square EqBool NeBool EqHash NeHash EqStr NeStr Sum Difference Product Minimum Maximum Quotient Remainder And Or Xor Gcd EltOneOfInt
+EltLower EltUpper EltNonZero SortedLt SortedLe SortedGt SortedGe EltsEqual EltOneOfBool EltOneOfHash EltNonNullHash EltOneOfStr
+EltNonNullStr MemberInt MemberHash MemberStr EltEq EltLt EltLe EltGt EltGe EqIntSeq EqBoolSeq EqHashSeq EqStrSeq PairLt PairLe SubsetInt
+SubsetHash SubsetStr Reverse LinearTernary PairOffset""".split()
+PARAMETERS = {"least": ("least",), "greatest": ("greatest",), "code": ("code",), "modulus": ("modulus", "remainder"),
+              "straight": ("a", "b", "c"), "plane": ("a", "b", "c", "d"), "offset": ("offset",)}
+
+
+# ---------------------------------------------------------------- sections of a report
+
+@dataclass
+class Section:
+    """A heading with the lines below it, each a text with a number of samples."""
+    point: bytes
+    samples: int | None
+    lines: list[tuple[bytes, int | None]] = field(default_factory=list)
+
+
+def count_of(text: bytes) -> int | None:
+    """The number of a last count, within 64 bits."""
+    match = re.search(rb"  \[([0-9]+)\]\Z", text)
+    return int(match[1]) if match and int(match[1]) < 1 << 64 else None
+
+
+def sections_in(lines: list[bytes]) -> list[Section]:
+    """The sections of a report; claims above the first heading are one of the empty name."""
+    front = Section(b"", None)
+    found = [front]
+    awaits_heading = False
+    for text in lines:
+        if text.strip(b" \t") == b"":
+            continue
+        if re.fullmatch(rb"=+", text):
+            awaits_heading = True
+        elif awaits_heading:
+            found.append(Section(without_count(text), count_of(text)))
+            awaits_heading = False
+        elif not text.startswith((b"--- ", b"stats ")):
+            found[-1].lines.append((without_count(text), count_of(text)))
+    return found if front.lines else found[1:]
+
+
+# ---------------------------------------------------------------- JSON
+
+def json_text(text: bytes) -> str | list[int]:
+    """A string, or the list of its bytes where it is no UTF-8."""
+    try:
+        return text.decode()
+    except UnicodeDecodeError:
+        return list(text)
+
+
+def state_object(state: tuple) -> dict[str, object]:
+    """The parameters of a state by name."""
+    if state[0] == "ints":
+        return {"values": list(state[1])}
+    if state[0] == "texts":
+        return {"values": [json_text(text) for text in state[1]]}
+    if state[0] == "truth":
+        return {"values": [state[1]]}
+    return dict(zip(PARAMETERS.get(state[0], ()), state[1:]))
+
+
+def line_object(point: bytes, text: bytes, samples: int | None, variables: list[VarInfo]) -> dict[str, object]:
+    """A line as an object."""
+    said = assertion_of(variables, text)
+    front = {"point": json_text(point), "text": json_text(text), "samples": samples}
+    if said is None:
+        return {**front, "row": None, "variables": [], "state": {}}
+    number, places, state = said
+    names = [json_text(variables[place].name) for place in places]
+    return {**front, "row": ROW_NAMES[number - 1], "variables": names, "state": {} if state == EMPTY else state_object(state)}
+
+
+def json_section(section: Section, variables: list[VarInfo]) -> bytes:
+    """A section as objects, one a line, without blanks."""
+    objects = (line_object(section.point, text, samples, variables) for text, samples in section.lines)
+    return b"".join(json.dumps(one, ensure_ascii=False, separators=(",", ":")).encode() + b"\n" for one in objects)
+
+
+# ---------------------------------------------------------------- functions
+
+def quoted(text: bytes) -> str:
+    """A text in a comment or string: three octal digits for what can't be seen, isn't ASCII, or is a quote, backslash or question mark."""
+    return '"' + "".join(chr(b) if 32 <= b < 127 and chr(b) not in '"\\?' else f"\\{b:03o}" for b in text) + '"'
+
+
+def python_section(section: Section, speaker: Speaker, told: list[tuple[bytes, str]]) -> str:
+    """A function of Python."""
+    name = re.sub(r"\W", "_", section.point.decode("latin-1"), flags=re.ASCII)
+    lines = "".join(f"    assert {expression}, {quoted(text)}\n" for text, expression in told)
+    return f"def holds_at_{name}({', '.join(speaker.parameters)}):\n    {quoted(section.point)}\n{lines}\n\n"
+
+
+def c_section(section: Section, speaker: Speaker, told: list[tuple[bytes, str]]) -> str:
+    """A macro of C."""
+    name = re.sub(r"\W", "_", section.point.decode("latin-1"), flags=re.ASCII)
+    lines = "".join(f"    dk_holds({quoted(text)}, {expression}); \\\n" for text, expression in told)
+    head = f"// {quoted(section.point)}, of {', '.join(speaker.parameters)}\n#define holds_at_{name}() do {{ \\\n"
+    return f"{head}{lines}}} while (0)\n\n"
+
+
+def smtlib_section(section: Section, speaker: Speaker, told: list[tuple[bytes, str]]) -> str:
+    """A function of SMT-LIB."""
+    name = re.sub(r"[\x00-\x1f\x7f|\\]", "_", section.point.decode("latin-1"))
+    lines = "".join(f"    {expression} ; {quoted(text)}\n" for text, expression in told)
+    head = f"; {quoted(section.point)}\n(define-fun |holds at {name}| ({' '.join(speaker.parameters)}) Bool (and true\n"
+    return f"{head}{lines}))\n\n"
+
+
+FRONTS = {"Python": "from math import gcd\n\n\n", "C": '#include "dk_told.h"\n\n',
+          "Smtlib": "(define-fun-rec dk_gcd ((a Int) (b Int)) Int (ite (= b 0) a (dk_gcd b (mod a b))))\n\n"}
+SECTIONS = {"Python": python_section, "C": c_section, "Smtlib": smtlib_section}
+MARKS = {"Python": "#", "C": "//", "Smtlib": ";"}
+
+
+def told_section(language: str, section: Section, variables: list[VarInfo]) -> bytes:
+    """The comments of a section, and its function."""
+    speaker = Speaker(language, variables)
+    comments, told = "", []
+    for text, _ in section.lines:
+        said = assertion_of(variables, text)
+        expression = speaker.telling(*said) if said is not None else None
+        if expression is None:
+            comments += f"{MARKS[language]} not told: {quoted(text)}\n"
+        else:
+            told.append((text, expression))
+    return (comments + SECTIONS[language](section, speaker, told)).encode("latin-1")
+
+
+# ---------------------------------------------------------------- the run
+
+FLAGS, WITH_VALUE = ["--ignore-missing-entry"], ["--format"]
+
+
+def options_of(words):
+    """The words of the command, and the format."""
+    found = words_of_command(words, FLAGS, WITH_VALUE)
+    form = found.values.get("--format", "json")
+    if not found.files or form not in ("json", *LANGUAGES):
+        raise Usage
+    return found, form
+
+
+def run(words, sinks, folder):
+    found, form = options_of(words)
+    name, *files = found.files
+    data = bytes_of_file(folder, name)
+    _, fault = lines_of(data)
+    if fault is not None:
+        raise refused(name, fault)
+    history = History()
+    reader = Reader(history, "--ignore-missing-entry" in found.flags)
+    reader.bytes_before = len(data)
+    for file in files:
+        for _ in reader.read(file, bytes_of_file(folder, file)):
+            pass
+    language = LANGUAGES.get(form)
+    if language is not None:
+        sinks.report(FRONTS[language].encode())
+    for section in sections_in(untrimmed(data)):
+        point = history.table.find(section.point)
+        variables = point.variables if point is not None else []
+        sinks.report(told_section(language, section, variables) if language else json_section(section, variables))
+
+
+def status_of(words, sinks, folder):
+    return status_of_run(run, words, sinks, folder, USAGE)
+
+
+if __name__ == "__main__":
+    sys.exit(host_status(status_of, sys.argv[1:]))
