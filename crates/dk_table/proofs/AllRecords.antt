@@ -1,8 +1,8 @@
--- The rows that a reader gives are the records of its text.
-use Rattle.std.proofs.Common.{◌≡◌, ◌≤◌, ◌<◌, ◌+◌, ◌-◌, ◌∙◌, ◌==◌, ◌&&◌, ◌∷◌, ◌++◌, [], ℕ, zero, suc, Bool, true, false, List, Some, None, length, refl, sym, ap, subst, arith, if◌then◌else◌}
+-- The records of a text, one after another.
+use Rattle.std.proofs.Common.{◌≡◌, ◌≤◌, ◌<◌, ◌+◌, ◌-◌, ◌∙◌, ◌==◌, ◌&&◌, ◌∷◌, ◌++◌, [], ℕ, zero, suc, Bool, true, false, List, Option, Some, None, length, refl, sym, ap, subst, arith, if◌then◌else◌}
 use Rattle.std.proofs.lemmas.Bool.{false≢true}
 use Rattle.csv.specs.Machine.{Read, after_end, ends_at_end, ends_with, field_after, fields_after, in_field, is_byte, is_end, next_record, start_field, start_record, step}
-use Rattle.csv.specs.Reading.{Reached, records, records_from, records_next}
+use Rattle.csv.specs.Reading.{records_from, records_next}
 use Rattle.csv.specs.declared.parser.Action.{Action}
 use Rattle.csv.specs.declared.parser.Action.TheVariants as act
 use Rattle.csv.specs.declared.parser.Config.{Config}
@@ -10,7 +10,6 @@ use Rattle.csv.specs.declared.parser.State.{State}
 use Rattle.csv.specs.declared.parser.State.TheVariants as st
 use Rattle.csv.specs.declared.parser.Terminator.{Terminator}
 use Rattle.csv.specs.declared.parser.Terminator.TheVariants as term
-use Rattle.dk_table.specs.Placed.{Placed}
 use Rattle.dk_table.specs.Tables.{placed_from}
 
 -- ---- behind a record no other one is begun
@@ -69,9 +68,9 @@ picked true x q e = cc e
 picked false x q e = absurd (cc e)
 
 -- what is behind a record, of a text with so many bytes
-record Behind (n : ℕ) (q : Read) : Type 0 where
-  short : length q.2 ≤ n - 1
-  fine : ends_at_end q.1 ≡ false
+pub record Behind (n : ℕ) (q : Read) : Type 0 where
+  pub short : length q.2 ≤ n - 1
+  pub fine : ends_at_end q.1 ≡ false
 
 -- one byte more in front
 shrunk : (cfg : Config) (s : State) (c : ℕ) (fields : List (List ℕ)) (field rest : List ℕ) (q : Read) (b : Bool) → is_end (step cfg s c).1 ≡ b
@@ -86,7 +85,7 @@ shrunk cfg s c fields field rest q true is e more =
     subst (Behind (length (c ∷ rest))) same first
 shrunk cfg s c fields field rest q false is e more = let behind = more e in record { short = omega (arith, behind.short); fine = behind.fine }
 
-shrinks : (cfg : Config) (s : State) (fields : List (List ℕ)) (field xs : List ℕ) (q : Read) → next_record cfg s fields field xs ≡ Some q → Behind (length xs) q
+pub shrinks : (cfg : Config) (s : State) (fields : List (List ℕ)) (field xs : List ℕ) (q : Read) → next_record cfg s fields field xs ≡ Some q → Behind (length xs) q
 unfolding next_record
 shrinks cfg s fields field [] q e =
     let x : Read = (fields ++ field ∷ [], st.StartRecord, []) in
@@ -96,51 +95,57 @@ shrinks cfg s fields field (c ∷ rest) q e =
     shrunk cfg s c fields field rest q (is_end (step cfg s c).1) refl e
     (shrinks cfg (step cfg s c).0 (fields_after (step cfg s c).1 fields field) (field_after (step cfg s c).1 c field) rest q)
 
-begun : (cfg : Config) (s : State) (xs : List ℕ) (q : Read) → ends_at_end s ≡ false → next_record cfg s [] [] xs ≡ Some q → length q.2 < length xs
+pub begun : (cfg : Config) (s : State) (xs : List ℕ) (q : Read) → ends_at_end s ≡ false → next_record cfg s [] [] xs ≡ Some q → length q.2 < length xs
 unfolding next_record
 begun cfg s [] q fine e = absurd (cc (sym e ∙ ap (λ (b : Bool). if b then Some ([] ++ [] ∷ [], st.StartRecord, []) else None) fine))
 begun cfg s (c ∷ rest) q fine e = omega (arith, (shrinks cfg s [] [] (c ∷ rest) q e).short)
 
 -- ---- all records
+same_next : (f g : State → List ℕ → List (List (List ℕ))) (o : Option Read) → ((p : Read) → o ≡ Some p → f p.1 p.2 ≡ g p.1 p.2) → records_next f o ≡ records_next g o
+same_next f g None h = refl
+same_next f g (Some p) h = ap (λ (l : List (List (List ℕ))). p.0 ∷ l) (h p refl)
 
-records_reached : (cfg : Config) (n : ℕ) (s : State) (xs : List ℕ) (rows : List (List (List ℕ))) (last : State) (ys : List ℕ)
-    → length xs < n → ends_at_end s ≡ false → Reached cfg s xs rows last ys → next_record cfg last [] [] ys ≡ None → records_from cfg n s xs ≡ rows
-unfolding Reached records_from
-records_reached cfg zero s xs rows last ys more fine reached none = absurd (omega arith)
-records_reached cfg (suc n) s xs [] last ys more fine reached none =
-    let e : next_record cfg s [] [] xs ≡ None = ap (λ (t : State). next_record cfg t [] [] xs) reached.0 ∙ ap (λ (l : List ℕ). next_record cfg last [] [] l) reached.1 ∙ none in
-    ap (records_next (records_from cfg n)) e
-records_reached cfg (suc n) s xs (r ∷ rows) last ys more fine (p, e, is, rest) none =
-    let fewer : length p.2 < n = omega (arith, begun cfg s xs p fine e) in
-    ap (records_next (records_from cfg n)) e
-    ∙ ap (λ (l : List (List (List ℕ))). p.0 ∷ l) (records_reached cfg n p.1 p.2 rows last ys fewer (shrinks cfg s [] [] xs p e).fine rest none)
-    ∙ ap (λ (f : List (List ℕ)). f ∷ rows) (sym is)
+-- how many records are asked for makes no difference, where it is more than there are bytes
+same_records : (cfg : Config) (n m : ℕ) (s : State) (xs : List ℕ) → length xs < n → length xs < m → ends_at_end s ≡ false → records_from cfg n s xs ≡ records_from cfg m s xs
+unfolding records_from
+same_records cfg zero m s xs few less fine = absurd (omega arith)
+same_records cfg (suc n) zero s xs few less fine = absurd (omega arith)
+same_records cfg (suc n) (suc m) s xs few less fine =
+    same_next (records_from cfg n) (records_from cfg m) (next_record cfg s [] [] xs)
+    (λ p e. same_records cfg n m p.1 p.2 (omega (arith, begun cfg s xs p fine e)) (omega (arith, begun cfg s xs p fine e)) (shrinks cfg s [] [] xs p e).fine)
 
-pub all_records : (cfg : Config) (xs : List ℕ) (rows : List (List (List ℕ))) (last : State) (ys : List ℕ)
-    → Reached cfg st.StartRecord xs rows last ys → next_record cfg last [] [] ys ≡ None → records cfg xs ≡ rows
-all_records cfg xs rows last ys reached none = records_reached cfg (length xs + 1) st.StartRecord xs rows last ys (omega arith) refl reached none
+-- the first record and those behind it
+pub records_more : (cfg : Config) (n : ℕ) (s : State) (xs : List ℕ) (p : Read) → length xs < n → ends_at_end s ≡ false → next_record cfg s [] [] xs ≡ Some p
+    → records_from cfg n s xs ≡ p.0 ∷ records_from cfg (length p.2 + 1) p.1 p.2
+unfolding records_from
+records_more cfg zero s xs p few fine e = absurd (omega arith)
+records_more cfg (suc n) s xs p few fine e =
+    ap (records_next (records_from cfg n)) e
+    ∙ ap (λ (l : List (List (List ℕ))). p.0 ∷ l) (same_records cfg n (length p.2 + 1) p.1 p.2 (omega (arith, begun cfg s xs p fine e)) (omega arith) (shrinks cfg s [] [] xs p e).fine)
+
+pub records_end : (cfg : Config) (n : ℕ) (s : State) (xs : List ℕ) → next_record cfg s [] [] xs ≡ None → records_from cfg n s xs ≡ []
+unfolding records_from
+records_end cfg zero s xs e = refl
+records_end cfg (suc n) s xs e = ap (records_next (records_from cfg n)) e
+
+few_next : (n : ℕ) (f : State → List ℕ → List (List (List ℕ))) (o : Option Read) → ((p : Read) → o ≡ Some p → length (f p.1 p.2) < n) → length (records_next f o) ≤ n
+few_next n f None h = omega arith
+few_next n f (Some p) h = let more = h p refl in omega (arith, more)
+
+-- there are at most as many records as bytes
+few_records : (cfg : Config) (n : ℕ) (s : State) (xs : List ℕ) → ends_at_end s ≡ false → length (records_from cfg n s xs) ≤ length xs
+unfolding records_from
+few_records cfg zero s xs fine = omega arith
+few_records cfg (suc n) s xs fine =
+    few_next (length xs) (records_from cfg n) (next_record cfg s [] [] xs)
+    (λ p e. omega (arith, few_records cfg n p.1 p.2 (shrinks cfg s [] [] xs p e).fine, begun cfg s xs p fine e))
 
 -- ---- their places
-
-placed_more : (file n : ℕ) (rows : List (List (List ℕ))) (cells : List (List ℕ))
-    → placed_from file n (rows ++ cells ∷ []) ≡ placed_from file n rows ++ record { file = file; number = n + length rows; cells = cells } ∷ []
-placed_more file n [] cells =
-    let same : n ≡ n + 0 = omega arith in
-    ap (λ (k : ℕ). placed_from file k (cells ∷ [])) same
-placed_more file n (r ∷ rows) cells =
-    let same : n + 1 + length rows ≡ n + length (r ∷ rows) = omega arith in
-    let at : ℕ → List Placed = λ k. record { file = file; number = k; cells = cells } ∷ [] in
-    ap (λ (l : List Placed). record { file = file; number = n; cells = r } ∷ l)
-    (placed_more file (n + 1) rows cells ∙ ap (λ (k : ℕ). placed_from file (n + 1) rows ++ at k) same)
-
 placed_length : (file n : ℕ) (rows : List (List (List ℕ))) → length (placed_from file n rows) ≡ length rows
 placed_length file n [] = refl
 placed_length file n (r ∷ rows) = ap suc (placed_length file (n + 1) rows)
 
--- one row more
-pub row_added : (file : ℕ) (rows : List (List (List ℕ))) (cells : List (List ℕ)) (items new : List Placed) → items ≡ placed_from file 1 rows
-    → new ≡ items ++ record { file = file; number = length items + 1; cells = cells } ∷ [] → new ≡ placed_from file 1 (rows ++ cells ∷ [])
-row_added file rows cells items new so_far added =
-    let at : ℕ → List Placed = λ k. record { file = file; number = k; cells = cells } ∷ [] in
-    let number : length items + 1 ≡ 1 + length rows = omega (arith, ap length so_far, placed_length file 1 rows) in
-    added ∙ ap (λ (l : List Placed). l ++ at (length items + 1)) so_far ∙ ap (λ (k : ℕ). placed_from file 1 rows ++ at k) number ∙ sym (placed_more file 1 rows cells)
+-- there are at most as many rows as bytes
+pub few_placed : (cfg : Config) (file n : ℕ) (xs : List ℕ) → length (placed_from file n (records_from cfg (length xs + 1) st.StartRecord xs)) ≤ length xs
+few_placed cfg file n xs =
+    omega (arith, placed_length file n (records_from cfg (length xs + 1) st.StartRecord xs), few_records cfg (length xs + 1) st.StartRecord xs refl)

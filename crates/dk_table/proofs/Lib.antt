@@ -1,5 +1,12 @@
 pub mod Examples
 pub mod AllRecords
+pub mod Moving
+pub mod Judged
+pub mod Pieces
+pub mod Formed
+pub mod Bodies
+pub mod Plain
+pub mod Taking
 pub mod Contents
 pub mod Files
 pub mod Getting

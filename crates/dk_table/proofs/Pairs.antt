@@ -1,7 +1,8 @@
 -- Loops over two lists side by side.
-use Rattle.std.proofs.Common.{◌≡◌, ◌≤◌, ◌<◌, ◌+◌, ◌&&◌, ◌∙◌, ◌∷◌, ◌++◌, [], ℕ, Bool, true, List, drop, eq-eqb, get_or, length, map, min, take, sym, ap, subst, arith}
+use Rattle.std.proofs.Common.{◌≡◌, ◌≤◌, ◌<◌, ◌+◌, ◌&&◌, ◌∙◌, ◌∷◌, ◌++◌, [], ℕ, Bool, true, List, append-nil, append_assoc, drop, eq-eqb, flat_map, get_or, length, map, min, take, sym, ap, subst, arith}
 use Rattle.std.specs.List.{list_all, zip}
 use Rattle.std.specs.Str.{bytes_eq}
+use Rattle.std.proofs.lemmas.Grind.{flat_map-append}
 use Rattle.std.proofs.lemmas.List.{map-append, map-id, take_all, take_more}
 use Rattle.dk_table.specs.Tables.{same_cells}
 use Rattle.dk_write.proofs.Loops.{pair_passes, pairs_end, zip_at, zip_length}
@@ -45,6 +46,24 @@ zip_more {A} {B} {C} f xs ys i x y so_far next lt more first second is added =
 pub zip_all : {A B C : Type 0} (f : A × B → C) (xs : List A) (ys : List B) (i : ℕ) (all : List C) → min (length xs) (length ys) ≤ i
     → all ≡ map f (take i (zip xs ys)) → all ≡ map f (zip xs ys)
 zip_all f xs ys i all past is = is ∙ ap (map f) (take_all i (zip xs ys) (omega (arith, zip_length xs ys)))
+
+-- the text of one pair more
+pub zip_text_more : {A B : Type 0} (f : A × B → List ℕ) (xs : List A) (ys : List B) (i : ℕ) (x : A) (y : B) (start text next : List ℕ)
+    → i < length xs → i < length ys → x ≡ get_or xs i x → y ≡ get_or ys i y → text ≡ start ++ flat_map f (take i (zip xs ys)) → next ≡ text ++ f (x, y)
+    → next ≡ start ++ flat_map f (take (i + 1) (zip xs ys))
+zip_text_more {A} {B} f xs ys i x y start text next lt more first second is added =
+    let front : List (A × B) = take i (zip xs ys) in
+    let within : i < length (zip xs ys) = omega (arith, zip_length xs ys) in
+    let one : take (i + 1) (zip xs ys) ≡ front ++ (x, y) ∷ [] =
+    take_more (zip xs ys) i (x, y) within ∙ ap (λ (p : A × B). front ++ p ∷ []) (zip_get xs ys i x y lt more first second) in
+    added ∙ ap (λ (l : List ℕ). l ++ f (x, y)) is ∙ append_assoc start (flat_map f front) (f (x, y))
+    ∙ ap (λ (l : List ℕ). start ++ (flat_map f front ++ l)) (sym (append-nil (f (x, y))))
+    ∙ ap (λ (l : List ℕ). start ++ l) (sym (ap (flat_map f) one ∙ flat_map-append f front ((x, y) ∷ [])))
+
+pub zip_text_all : {A B : Type 0} (f : A × B → List ℕ) (xs : List A) (ys : List B) (i : ℕ) (start text : List ℕ) → min (length xs) (length ys) ≤ i
+    → text ≡ start ++ flat_map f (take i (zip xs ys)) → text ≡ start ++ flat_map f (zip xs ys)
+zip_text_all {A} {B} f xs ys i start text past is =
+    is ∙ ap (λ (l : List (A × B)). start ++ flat_map f l) (take_all i (zip xs ys) (omega (arith, zip_length xs ys)))
 
 -- rows of as many cells are the same where their cells are
 pub same_by : (names cells : List (List ℕ)) (b : Bool) → length names ≡ length cells → b ≡ list_all (λ (e : List ℕ × List ℕ). bytes_eq e.0 e.1) (zip names cells)

@@ -18,13 +18,15 @@ use Rattle.dk_program.specs.Messages.{unread_line}
 use Rattle.dk_program.specs.Moments.{IsCalm, Outside}
 use Rattle.dk_program.specs.Outputs.{IsFront, Output, only_on}
 use Rattle.dk_program.specs.Statuses.{GivesOutput, OutputIsWritten}
-use Rattle.dk_io.specs.Streams.{Texts}
+use Rattle.dk_io.specs.Streams.{AddsFront, Texts}
+use Rattle.dk_io.proofs.Writing.{added_nil}
+use Rattle.dk_table.specs.Writing.{EndsCut}
 use Rattle.dk_table.specs.Messages.{refusal_line}
 use Rattle.dk_write.specs.Texts.{Write as Block, trace_text}
 use Rattle.dk_table.proofs.Contents.{helds_length, not_absent, same_contents}
 use Rattle.dk_table.specs.Asked.{table_command}
 use Rattle.dk_table.specs.Contents.{AreReadAs, FaultSays, IsUnreadAt, helds_of}
-use Rattle.dk_table.specs.Statuses.{Completes, ComesTo, Outcome, Says, outcome_by, outcome_of, output_of}
+use Rattle.dk_table.specs.Statuses.{Completes, ComesTo, IsCutShort, Outcome, Says, outcome_by, outcome_of, output_of}
 use Rattle.dk_table.specs.Traces.{trace_of}
 use Rattle.dk_table.specs.declared.faults.Refusal.{Refusal}
 use Rattle.dk_table.specs.declared.words.TableArguments.{TableArguments}
@@ -50,24 +52,40 @@ comes_says NoMemory (Some Help) before after output comes e = absurd comes
 comes_says NoMemory (Some Version) before after output comes e = absurd comes
 comes_says NoMemory None before after output comes e = absurd comes
 
--- a run that ends with a text
+-- where memory ran out, nothing was written, which is a front of any text
+pub ends_cut : (status : Ended) (stream : Stream) (text : List ℕ) (old new : Texts) (before after : ℕ) (result : Ended)
+    → EndsWith status stream text old new before after result → EndsCut status stream text old new before after result
+ends_cut status stream text old new before after result (inl done) = inl done
+ends_cut status stream text old new before after result (inr (inl failed)) = inr (inl failed)
+ends_cut status stream text old new before after result (inr (inr (is, e, calm))) = inr (inr (is, (0, omega arith, e ∙ sym (added_nil old stream)), calm))
+
+-- a front of the text on a stream
+cut_short : (status : Ended) (request : Option (Request TableArguments)) (before after : Outside) (stream : Stream) (text : List ℕ)
+    → ComesTo status request before after (only_on stream text) → AddsFront before.written after.written stream text → IsCutShort request before after
+cut_short status request before after stream text comes (n, short, e) = record {
+  status = status;
+  output = only_on stream text;
+  comes = comes;
+  front = record { front = only_on stream (take n text); is_front = only_front stream n text short; written = e ∙ followed_only before.written stream (take n text) };
+}
+
+-- a run that ends with a text, or with a front of it
+pub cut_says : (status : Ended) (request : Option (Request TableArguments)) (before after : Outside) (stream : Stream) (text : List ℕ) (result : Ended)
+    → ComesTo status request before after (only_on stream text)
+    → EndsCut status stream text before.written after.written before.write_faults after.write_faults result → Says result request before after
+cut_says status request before after stream text result comes (inl (is, e, calm)) =
+    subst (λ (s : Ended). Says s request before after) (sym is)
+    (comes_says status request before after (only_on stream text) comes (e ∙ followed_only before.written stream text, calm))
+cut_says status request before after stream text result comes (inr (inl (is, rose, front))) =
+    subst (λ (s : Ended). Says s request before after) (sym is) (rose, cut_short status request before after stream text comes front)
+cut_says status request before after stream text result comes (inr (inr (is, front, calm))) =
+    subst (λ (s : Ended). Says s request before after) (sym is) (calm, inr (cut_short status request before after stream text comes front))
+
 pub ends_says : (status : Ended) (request : Option (Request TableArguments)) (before after : Outside) (stream : Stream) (text : List ℕ) (result : Ended)
     → ComesTo status request before after (only_on stream text)
     → EndsWith status stream text before.written after.written before.write_faults after.write_faults result → Says result request before after
-ends_says status request before after stream text result comes (inl (is, e, calm)) =
-    subst (λ (s : Ended). Says s request before after) (sym is)
-    (comes_says status request before after (only_on stream text) comes (e ∙ followed_only before.written stream text, calm))
-ends_says status request before after stream text result comes (inr (inl (is, rose, (n, short, e)))) =
-    subst (λ (s : Ended). Says s request before after) (sym is) (
-      rose,
-      record {
-        status = status;
-        output = only_on stream text;
-        comes = comes;
-        front = record { front = only_on stream (take n text); is_front = only_front stream n text short; written = e ∙ followed_only before.written stream (take n text) };
-      },
-    )
-ends_says status request before after stream text result comes (inr (inr (is, e, calm))) = subst (λ (s : Ended). Says s request before after) (sym is) (e, calm)
+ends_says status request before after stream text result comes ended =
+    cut_says status request before after stream text result comes (ends_cut status stream text before.written after.written before.write_faults after.write_faults result ended)
 
 -- ---- files that were read
 read_comes : (a : TableArguments) (contents : List (List ℕ)) (before after : Outside) → AreReadAs (helds_of a.files before.file) contents
@@ -91,20 +109,20 @@ read_comes a contents before after read = go (trace_of a.command (file_name_at a
     }
 
 pub read_says : (a : TableArguments) (contents : List (List ℕ)) (before after : Outside) (result : Ended) → AreReadAs (helds_of a.files before.file) contents
-    → EndsWith (outcome_of a contents).status (outcome_of a contents).stream (outcome_of a contents).text before.written after.written before.write_faults after.write_faults result
+    → EndsCut (outcome_of a contents).status (outcome_of a contents).stream (outcome_of a contents).text before.written after.written before.write_faults after.write_faults result
     → Says result (Some (Run a)) before after
 read_says a contents before after result read ended =
-    ends_says (outcome_of a contents).status (Some (Run a)) before after (outcome_of a contents).stream (outcome_of a contents).text result (read_comes a contents before after read) ended
+    cut_says (outcome_of a contents).status (Some (Run a)) before after (outcome_of a contents).stream (outcome_of a contents).text result (read_comes a contents before after read) ended
 
 gives : (outcome : Outcome) (before after : Outside) (result : Ended) → IsCalm before after
-    → EndsWith outcome.status outcome.stream outcome.text before.written after.written before.write_faults after.write_faults result
+    → EndsCut outcome.status outcome.stream outcome.text before.written after.written before.write_faults after.write_faults result
     → GivesOutput outcome.status (λ output. output ≡ output_of outcome) result before after
 gives outcome before after result calm (inl (is, e, same)) = inl (is, (output_of outcome, refl, e ∙ followed_only before.written outcome.stream outcome.text))
 gives outcome before after result calm (inr (inl (is, rose, front))) = absurd (calm.write rose)
 gives outcome before after result calm (inr (inr (is, e, same))) = inr is
 
 pub read_completes : (a : TableArguments) (contents : List (List ℕ)) (before after : Outside) (result : Ended) → AreReadAs (helds_of a.files before.file) contents
-    → EndsWith (outcome_of a contents).status (outcome_of a contents).stream (outcome_of a contents).text before.written after.written before.write_faults after.write_faults result
+    → EndsCut (outcome_of a contents).status (outcome_of a contents).stream (outcome_of a contents).text before.written after.written before.write_faults after.write_faults result
     → Completes (Some (Run a)) before after result
 read_completes a contents before after result read ended = λ calm held are.
     subst (λ (l : List (List ℕ)). GivesOutput (outcome_of a l).status (λ output. output ≡ output_of (outcome_of a l)) result before after)
@@ -113,21 +131,22 @@ read_completes a contents before after result read ended = λ calm held are.
 
 -- ---- what files come to
 pub table_ends : (a : TableArguments) (contents : List (List ℕ)) (name : List ℕ) (blocks : List Block) (old new : Texts) (before after : ℕ) (result : Ended)
-    → name ≡ file_name_at a.files 0 → trace_of a.command name contents ≡ Ok blocks → EndsWith Done Report (trace_text blocks) old new before after result
-    → EndsWith (outcome_of a contents).status (outcome_of a contents).stream (outcome_of a contents).text old new before after result
+    → name ≡ file_name_at a.files 0 → trace_of a.command name contents ≡ Ok blocks → EndsCut Done Report (trace_text blocks) old new before after result
+    → EndsCut (outcome_of a contents).status (outcome_of a contents).stream (outcome_of a contents).text old new before after result
 unfolding outcome_of
 table_ends a contents name blocks old new before after result is e ended =
-    subst (λ (r : Result (List Block) Refusal). EndsWith (outcome_by a.files r).status (outcome_by a.files r).stream (outcome_by a.files r).text old new before after result)
+    subst (λ (r : Result (List Block) Refusal). EndsCut (outcome_by a.files r).status (outcome_by a.files r).stream (outcome_by a.files r).text old new before after result)
     (sym (ap (λ (n : List ℕ). trace_of a.command n contents) (sym is) ∙ e)) ended
 
 pub refusal_ends : (a : TableArguments) (contents : List (List ℕ)) (name : List ℕ) (refusal : Refusal) (old new : Texts) (before after : ℕ) (result : Ended)
     → name ≡ file_name_at a.files 0 → trace_of a.command name contents ≡ Err refusal
     → EndsWith Refused Messages (refusal_line (file_name_at a.files refusal.file) refusal.row refusal.why) old new before after result
-    → EndsWith (outcome_of a contents).status (outcome_of a contents).stream (outcome_of a contents).text old new before after result
+    → EndsCut (outcome_of a contents).status (outcome_of a contents).stream (outcome_of a contents).text old new before after result
 unfolding outcome_of
 refusal_ends a contents name refusal old new before after result is e ended =
-    subst (λ (r : Result (List Block) Refusal). EndsWith (outcome_by a.files r).status (outcome_by a.files r).stream (outcome_by a.files r).text old new before after result)
-    (sym (ap (λ (n : List ℕ). trace_of a.command n contents) (sym is) ∙ e)) ended
+    subst (λ (r : Result (List Block) Refusal). EndsCut (outcome_by a.files r).status (outcome_by a.files r).stream (outcome_by a.files r).text old new before after result)
+    (sym (ap (λ (n : List ℕ). trace_of a.command n contents) (sym is) ∙ e))
+    (ends_cut Refused Messages (refusal_line (file_name_at a.files refusal.file) refusal.row refusal.why) old new before after result ended)
 
 -- ---- files that were not
 unread_says : (a : TableArguments) (before after : Outside) (by : Break) (place : ℕ) (result : Ended)
@@ -143,7 +162,7 @@ pub fault_says : (a : TableArguments) (before after : Outside) (fault : FilesFau
 fault_says a before after (f.Refused place line why) result says ended = absurd says
 fault_says a before after (f.Start place) result says ended = unread_says a before after AtStart place result says ended
 fault_says a before after (f.Read place) result says ended = unread_says a before after Within place result says ended
-fault_says a before after f.NoMemory result says (is, e, calm) = subst (λ (s : Ended). Says s (Some (Run a)) before after) (sym is) (e, calm)
+fault_says a before after f.NoMemory result says (is, e, calm) = subst (λ (s : Ended). Says s (Some (Run a)) before after) (sym is) (calm, inl e)
 
 no_start : (helds : List HeldFile) (held : List (List ℕ)) (place : ℕ) (rose : Type 0) → place < length helds → AreHeldFiles helds held → (rose → ⊥)
     → HasBroken AtStart (held_file_at helds place) rose → ⊥

@@ -1,5 +1,5 @@
 -- What a cell writes.
-use Rattle.std.specs.Prelude.{◌&&◌, ◌||◌, ◌==◌, ◌+◌, ◌-◌, ◌++◌, ◌∷◌, [], ℕ, ℤ, Bool, true, false, List, Option, Some, None, codes, drop, flat_map, is_some, length, nat_lt, option_and_then, slice_index, take, if◌then◌else◌}
+use Rattle.std.specs.Prelude.{◌&&◌, ◌||◌, ◌==◌, ◌+◌, ◌-◌, ◌++◌, ◌∷◌, [], ℕ, ℤ, Bool, true, false, List, Option, Some, None, codes, drop, flat_map, is_some, length, nat_lt, not, option_and_then, slice_index, take, if◌then◌else◌}
 use Rattle.std.specs.Char.{is_ascii_digit}
 use Rattle.std.specs.Fmt.{signed_decimal}
 use Rattle.std.specs.List.{list_all}
@@ -51,6 +51,10 @@ quoted_byte b =
     else if b == 13 then 92 ∷ 114 ∷ []
     else if b == 9 then 92 ∷ 116 ∷ []
     else b ∷ []
+
+-- a byte that is told as it stands
+abbrev pub is_plain : ℕ → Bool
+is_plain b = not (b == 34 || b == 92 || b == 10 || b == 13 || b == 9)
 
 -- the cell between quotes
 unfoldable pub quoted : List ℕ → List ℕ

@@ -1,9 +1,11 @@
 -- What a column has.
-use Rattle.std.specs.Prelude.{Bool, ℕ, List, Option, Some, find, is_some, unwrap_or, option_map, if◌then◌else◌}
+use Rattle.std.specs.Prelude.{◌∷◌, [], Bool, ℕ, List, Option, Some, find, is_some, unwrap_or, option_map, if◌then◌else◌}
 use Rattle.std.specs.List.{list_all}
 use Rattle.dk_base.specs.Pieces.{is_empty}
 use Rattle.dk_base.specs.declared.values.Value.{Value}
 use Rattle.dk_base.specs.declared.values.Value.TheVariants as value
+use Rattle.dk_lines.specs.Passing.{joined}
+use Rattle.dk_write.specs.Records.{mark_text, value_text}
 use Rattle.dk_table.specs.Cells.{decimal_of, quoted, truth, whole}
 use Rattle.dk_table.specs.declared.columns.TheConstants.{CANDIDATES}
 use Rattle.dk_table.specs.declared.columns.ColumnKind.{ColumnKind}
@@ -31,3 +33,11 @@ first_kind kinds cells = unwrap_or (find (λ k. all_write k cells) kinds) kind.T
 -- The kind of a column by its cells. Where all are empty, it has texts.
 abbrev pub kind_of_column : List (List ℕ) → ColumnKind
 kind_of_column cells = if list_all is_empty cells then kind.Text else first_kind CANDIDATES cells
+
+-- the two lines of a value in a record: its text, and its mark
+abbrev pub value_lines : Value → List ℕ
+value_lines v = joined (value_text v ∷ mark_text v ∷ [])
+
+-- those of a value, or of the missing one, where there is none
+abbrev pub option_lines : Option Value → List ℕ
+option_lines v = value_lines (unwrap_or v value.Missing)

@@ -8,7 +8,11 @@ pub mod Laws
 pub mod Cells
 pub mod Columns
 pub mod Contents
+pub mod Cursors
+pub mod Forms
+pub mod Judging
 pub mod Messages
 pub mod Outcomes
 pub mod Placed
 pub mod Tables
+pub mod Writing

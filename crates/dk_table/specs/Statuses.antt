@@ -1,5 +1,5 @@
 -- What each status of a run says.
-use Rattle.std.specs.Prelude.{◌≡◌, ℕ, List, Option, Some, None, Result, Ok, Err}
+use Rattle.std.specs.Prelude.{◌≡◌, ◌⊎◌, ℕ, List, Option, Some, None, Result, Ok, Err}
 use Rattle.dk_arguments.specs.declared.request.Request.{Request}
 use Rattle.dk_arguments.specs.declared.request.Request.TheVariants.{Run, Help, Version}
 use Rattle.dk_driver.specs.Files.{AreHeldFiles, file_name_at}
@@ -75,7 +75,8 @@ pub record IsCutShort (request : Option (Request TableArguments)) (before after 
 
 abbrev pub Says : Ended → Option (Request TableArguments) → Outside → Outside → Type 0
 Says Write request before after = Rose before.write_faults after.write_faults × IsCutShort request before after
-Says NoMemory request before after = (after.written ≡ before.written) × (after.write_faults ≡ before.write_faults)
+Says NoMemory request before after =
+    (after.write_faults ≡ before.write_faults) × ((after.written ≡ before.written) ⊎ IsCutShort request before after)
 Says status request before after = (output : Output) × ComesTo status request before after output × OutputIsWritten before after output
 
 -- ---- completeness

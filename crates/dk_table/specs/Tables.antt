@@ -52,6 +52,15 @@ if_even file None rows = rows
 abbrev pub behind_header : Bool → List Placed → List Placed
 behind_header header rows = if header then drop 1 rows else rows
 
+-- the rows of a file's bytes behind its header, where there is one
+abbrev pub body_in : Command → ℕ → List ℕ → List Placed
+body_in c file bytes = behind_header c.has_header (rows_in c.separator file bytes)
+
+-- those of all files, the first of which has this place
+abbrev pub bodies_in : Command → ℕ → List (List ℕ) → List Placed
+bodies_in c file [] = []
+bodies_in c file (bytes ∷ more) = body_in c file bytes ++ bodies_in c (file + 1) more
+
 -- The rows of the file at this place that belong to a table with columns of these names. A header has to name them.
 abbrev pub rows_of : Bool → List (List ℕ) → ℕ → List Placed → Result (List Placed) Refusal
 rows_of header names file [] = refused file 1 NoHeader

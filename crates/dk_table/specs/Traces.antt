@@ -1,5 +1,5 @@
 -- The trace of a table.
-use Rattle.std.specs.Prelude.{◌&&◌, ◌++◌, ◌∷◌, [], ℕ, Bool, false, not, negsuc, List, Option, Some, None, Result, Ok, Err, codes, find, is_some, length, map, option_map, replicate, take, unwrap_or, if◌then◌else◌}
+use Rattle.std.specs.Prelude.{◌≡◌, ◌&&◌, ◌++◌, ◌∷◌, [], ℕ, Bool, false, not, negsuc, List, Option, Some, None, Result, Ok, Err, codes, find, is_some, length, map, option_map, replicate, take, unwrap_or, if◌then◌else◌}
 use Rattle.std.specs.List.{list_all, range_with_len, zip}
 use Rattle.dk_base.specs.declared.kinds.Compar.{Compar}
 use Rattle.dk_base.specs.declared.kinds.Kind.{Kind}
@@ -13,13 +13,13 @@ use Rattle.dk_write.specs.Texts.{Begins, Declares, Records, Write}
 use Rattle.dk_write.specs.Writable.{can_declare, can_record}
 use Rattle.dk_table.specs.Columns.{cell_value, kind_of_column}
 use Rattle.dk_table.specs.Placed.{Placed, cells_at}
-use Rattle.dk_table.specs.Tables.{◌>>=◌, first_of, names_of, refused, rows_in, rows_of_all}
+use Rattle.dk_table.specs.Tables.{◌>>=◌, bodies_in, first_of, names_of, refused, rows_in, rows_of_all}
 use Rattle.dk_table.specs.declared.command.Command.{Command}
 use Rattle.dk_table.specs.declared.columns.ColumnKind.{ColumnKind}
 use Rattle.dk_table.specs.declared.columns.ColumnKind.TheVariants as kind
 use Rattle.dk_table.specs.declared.faults.Refusal.{Refusal}
 use Rattle.dk_table.specs.declared.faults.TableWhy.TheVariants.{BadCell, BadName}
-use Rattle.dk_table.specs.declared.traces.Table.{Table}
+use Rattle.dk_table.specs.declared.traces.Plan.{Plan}
 
 -- the rows by which kinds are found: so many, or all
 abbrev pub judged : Option ℕ → List Placed → List Placed
@@ -119,13 +119,30 @@ trace_with point names kinds rows = trace_by (declaration_of point names kinds) 
 abbrev pub trace_of_table : List ℕ → Option ℕ → List (List ℕ) → List Placed → Result (List Write) Refusal
 trace_of_table point types names rows = trace_with point names (kinds_of (judged types rows) (length names)) rows
 
--- The trace of the tables in files of these bytes, or why there is none: names by the first row, the rows of all files, and then the trace. The
--- point's name is the one that is asked for, or this one.
-abbrev pub trace_of : Command → List ℕ → List (List ℕ) → Result (List Write) Refusal
-trace_of c name files =
+-- The trace of the tables in files of these bytes at the point of this name, or why there is none: names by the first row, the rows of all files,
+-- and then the trace.
+abbrev pub trace_at : Command → List ℕ → List (List ℕ) → Result (List Write) Refusal
+trace_at c point files =
     names_of c.has_header (rows_in c.separator 0 (first_of files)) >>= λ names. rows_of_all c names 0 files >>= λ rows.
-    trace_of_table (unwrap_or c.point name) c.types names rows
+    trace_of_table point c.types names rows
 
--- the trace of a table that is kept
-abbrev pub kept_writes : Table → List Write
-kept_writes t = writes_of t.decl t.kinds t.rows.items
+-- The point's name is the one that is asked for, or this one.
+abbrev pub trace_of : Command → List ℕ → List (List ℕ) → Result (List Write) Refusal
+trace_of c name files = trace_at c (unwrap_or c.point name) files
+
+-- ---- how it is written
+-- the kinds of the columns of the tables in files of these bytes
+abbrev pub kinds_in : Command → List (List ℕ) → List (List ℕ) → Result (List ColumnKind) Refusal
+kinds_in c names files = rows_of_all c names 0 files >>= λ rows. Ok (kinds_of (judged c.types rows) (length names))
+
+-- the trace of the tables in files of these bytes, by a plan
+abbrev pub plan_writes : Command → Plan → List (List ℕ) → List Write
+plan_writes c plan files = writes_of plan.decl plan.kinds (bodies_in c 0 files)
+
+-- its declaration is that of columns of its kinds
+abbrev pub IsPlan : Plan → Type 0
+IsPlan plan = (point : List ℕ) × (names : List (List ℕ)) × (plan.decl ≡ declaration_of point names plan.kinds)
+
+-- Where kinds were found by all rows, each cell is of its column's kind.
+abbrev pub IsJudged : Command → Plan → List (List ℕ) → Type 0
+IsJudged c plan files = c.types ≡ None → untold_row plan.kinds (bodies_in c 0 files) ≡ None

@@ -1,12 +1,11 @@
 // What a cell writes.
-ghost use Rattle.std.specs.Prelude.{◌≡◌, ◌<◌, ◌++◌, IfOk, IfSome, OnOk, length};
+ghost use Rattle.std.specs.Prelude.{◌≡◌, ◌<◌, ◌++◌, IfOk, IfSome, OnOk, flat_map, length};
 ghost use Rattle.std.specs.Char.{is_ascii_digit};
 ghost use Rattle.std.specs.List.{list_all};
-ghost use Rattle.dk_table.specs.Cells.{decimal_of, dot_of, is_dot, is_front, no, quoted, quoted_byte, truth, whole, yes};
+ghost use Rattle.dk_table.specs.Cells.{decimal_of, dot_of, is_dot, is_front, is_plain, no, quoted, quoted_byte, truth, whole, yes};
 
-use dk_base::{NoMemory, Text, parse_integer, same_bytes};
+use dk_base::{NoMemory, parse_integer, same_bytes};
 use itoa::Buffer;
-use std::alloc::Global;
 
 /// A spelling of the two truth values.
 #[derive(Clone, Copy, Debug, PartialEq, Eq)]
@@ -108,45 +107,82 @@ fn dot_of(places: usize, cell: &[u8]) -> Option<usize>
     if is_dot(cell, dot) { Some(dot) } else { None }
 }
 
-/// The decimal with so many places that the cell writes, times 10 to their number, within 64 bits.
+/// The decimal with so many places that the cell writes, times 10 to their number, within 64 bits. Its digits are put into `digits`.
 #[tactic(auto, unfolding(crate::specs::Cells::decimal_of))]
-pub(crate) fn decimal(alloc: Global, places: u32, cell: &[u8]) -> Result<Option<i64>, NoMemory>
+pub(crate) fn decimal(
+    places: u32,
+    cell: &[u8],
+    digits: &mut Vec<u8>,
+) -> Result<Option<i64>, NoMemory>
     ensures { IfOk result (λ number. number ≡ decimal_of places cell.now) }
 {
     match dot_of(places as usize, cell) {
         None => Ok(None),
         Some(dot) => {
-            let mut digits = Text::from_slice(alloc, &cell[..dot])?;
-            digits.append(&cell[dot + 1..])?;
+            digits.clear();
+            digits.extend_from_slice(&cell[..dot])?;
+            digits.extend_from_slice(&cell[dot + 1..])?;
             Ok(parse_integer(digits.as_slice()))
         }
     }
 }
 
-// A byte of a text between quotes.
-fn push_quoted_byte(text: &mut Text, byte: u8) -> Result<(), NoMemory>
-    ensures { OnOk result (text.new ≡ text.old ++ quoted_byte byte) }
+// Whether a text between quotes has this byte as it stands.
+fn is_plain(byte: u8) -> bool
+    ensures { result ≡ is_plain byte }
 {
-    match byte {
-        b'"' => text.append(b"\\\""),
-        b'\\' => text.append(b"\\\\"),
-        b'\n' => text.append(b"\\n"),
-        b'\r' => text.append(b"\\r"),
-        b'\t' => text.append(b"\\t"),
-        other => text.push(other),
-    }
+    !matches!(byte, b'"' | b'\\' | b'\n' | b'\r' | b'\t')
 }
 
-/// The cell between quotes. Different cells have different texts.
-#[tactic(auto, unfolding(crate::specs::Cells::quoted))]
-pub(crate) fn quoted(alloc: Global, cell: &[u8]) -> Result<Text, NoMemory>
-    ensures { IfOk result (λ text. text ≡ quoted cell.now) }
+// A byte of a text between quotes.
+fn push_quoted_byte(text: &mut Vec<u8>, byte: u8) -> Result<(), NoMemory>
+    ensures { OnOk result (text.new.items ≡ text.old.items ++ quoted_byte byte) }
 {
-    let mut text = Text::new(alloc);
-    text.push(b'"')?;
-    for byte in cell {
-        push_quoted_byte(&mut text, *byte)?;
+    match byte {
+        b'"' => text.extend_from_slice(b"\\\"")?,
+        b'\\' => text.extend_from_slice(b"\\\\")?,
+        b'\n' => text.extend_from_slice(b"\\n")?,
+        b'\r' => text.extend_from_slice(b"\\r")?,
+        b'\t' => text.extend_from_slice(b"\\t")?,
+        other => text.push(other)?,
     }
+    Ok(())
+}
+
+fn push_quoted_bytes(text: &mut Vec<u8>, cell: &[u8]) -> Result<(), NoMemory>
+    ensures { OnOk result (text.new.items ≡ text.old.items ++ flat_map quoted_byte cell.now) }
+{
+    for byte in cell {
+        push_quoted_byte(text, *byte)?;
+    }
+    Ok(())
+}
+
+// Whether a text between quotes has these bytes as they stand.
+fn are_plain(cell: &[u8]) -> bool
+    ensures { result ≡ list_all is_plain cell.now }
+{
+    cell.iter().all(|byte| is_plain(*byte))
+}
+
+// The bytes of a text between quotes.
+fn push_inside(text: &mut Vec<u8>, cell: &[u8]) -> Result<(), NoMemory>
+    ensures { OnOk result (text.new.items ≡ text.old.items ++ flat_map quoted_byte cell.now) }
+{
+    if are_plain(cell) {
+        text.extend_from_slice(cell)?;
+        return Ok(());
+    }
+    push_quoted_bytes(text, cell)
+}
+
+/// The cell between quotes, behind the text. Different cells have different texts.
+#[tactic(auto, unfolding(crate::specs::Cells::quoted))]
+pub(crate) fn push_quoted(text: &mut Vec<u8>, cell: &[u8]) -> Result<(), NoMemory>
+    ensures { OnOk result (text.new.items ≡ text.old.items ++ quoted cell.now) }
+{
     text.push(b'"')?;
-    Ok(text)
+    push_inside(text, cell)?;
+    text.push(b'"')?;
+    Ok(())
 }

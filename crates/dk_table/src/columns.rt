@@ -1,16 +1,12 @@
 // What the cells of a column write.
-ghost use Rattle.std.specs.Prelude.{◌≡◌, IfOk, is_some, map, option_map};
-ghost use Rattle.std.specs.List.{list_all};
-ghost use Rattle.dk_base.specs.Pieces.{is_empty};
-ghost use Rattle.dk_base.specs.Values.{value_of as value_shown};
+ghost use Rattle.std.specs.Prelude.{◌≡◌, ◌++◌, ◌∷◌, [], IfOk, None, OnOk, codes, is_some, option_map};
 ghost use Rattle.dk_base.specs.declared.values.Value.TheVariants as value;
-ghost use Rattle.dk_table.specs.Columns.{all_write, cell_value, first_kind, kind_of_column, written_value};
-ghost use Rattle.dk_table.specs.Placed.{cells_at};
+ghost use Rattle.dk_lines.specs.Passing.{joined};
+ghost use Rattle.dk_table.specs.Columns.{cell_value, option_lines, written_value};
 
-use crate::cells::{TruthWords, decimal, quoted, truth, whole};
-use crate::rows::Row;
-use dk_base::{Arena, NoMemory, View};
-use std::alloc::Global;
+use crate::cells::{TruthWords, decimal, push_quoted, truth, whole};
+use dk_base::NoMemory;
+use itoa::Buffer;
 
 /// How the cells of a column are read.
 #[derive(Clone, Copy, Debug, PartialEq, Eq)]
@@ -51,113 +47,107 @@ pub const CANDIDATES: [ColumnKind; 22] = [
     ColumnKind::Decimal(18),
 ];
 
-fn shown_number<'a>(number: Option<i64>) -> Option<View<'a>>
-    ensures { option_map value_shown result ≡ option_map (λ z. value.Int z) number }
-{
-    match number {
-        Some(number) => Some(View::Int(number)),
-        None => None,
-    }
-}
-
-// The value that a cell with bytes writes in a column of this kind, if it writes one.
-fn written_value<'a>(
-    alloc: Global,
-    arena: &'a Arena,
-    kind: ColumnKind,
-    cell: &[u8],
-) -> Result<Option<View<'a>>, NoMemory>
-    ensures { IfOk result (λ value. option_map value_shown value ≡ written_value kind cell.now) }
+// Whether a cell with bytes writes a value of the kind. Digits of decimals are put into `digits`.
+fn is_written(kind: ColumnKind, cell: &[u8], digits: &mut Vec<u8>) -> Result<bool, NoMemory>
+    ensures { IfOk result (λ is. is ≡ is_some (written_value kind cell.now)) }
 {
     match kind {
-        ColumnKind::Whole => Ok(shown_number(whole(cell))),
-        ColumnKind::Truth(words) => match truth(words, cell) {
-            Some(value) => Ok(Some(View::Bool(value))),
-            None => Ok(None),
-        },
-        ColumnKind::Decimal(places) => Ok(shown_number(decimal(alloc, places, cell)?)),
-        ColumnKind::Text => {
-            let text = quoted(alloc, cell)?;
-            let placed: &'a [u8] = arena.try_alloc_slice_copy(text.as_slice())?;
-            Ok(Some(View::Str(placed)))
-        }
+        ColumnKind::Whole => Ok(whole(cell).is_some()),
+        ColumnKind::Truth(words) => Ok(truth(words, cell).is_some()),
+        ColumnKind::Decimal(places) => Ok(decimal(places, cell, digits)?.is_some()),
+        ColumnKind::Text => Ok(true),
     }
 }
 
-/// The value of a cell in a column of this kind, if it writes one; an empty cell is missing.
-pub(crate) fn cell_value<'a>(
-    alloc: Global,
-    arena: &'a Arena,
-    kind: ColumnKind,
-    cell: &[u8],
-) -> Result<Option<View<'a>>, NoMemory>
-    ensures { IfOk result (λ value. option_map value_shown value ≡ cell_value kind cell.now) }
-{
-    if cell.is_empty() {
-        Ok(Some(View::Missing))
-    } else {
-        written_value(alloc, arena, kind, cell)
-    }
-}
-
-// Whether a cell writes a value of the kind, or is empty.
-pub(crate) fn writes(alloc: Global, kind: ColumnKind, cell: &[u8]) -> Result<bool, NoMemory>
+/// Whether a cell writes a value of the kind, or is empty. Digits of decimals are put into `digits`.
+pub(crate) fn writes(kind: ColumnKind, cell: &[u8], digits: &mut Vec<u8>) -> Result<bool, NoMemory>
     ensures { IfOk result (λ does. does ≡ is_some (cell_value kind cell.now)) }
 {
-    let arena = Arena::new(alloc);
-    Ok(cell_value(alloc, &arena, kind, cell)?.is_some())
+    if cell.is_empty() {
+        Ok(true)
+    } else {
+        is_written(kind, cell, digits)
+    }
 }
 
-// Whether each cell of a column does.
-fn all_write(alloc: Global, kind: ColumnKind, rows: &[Row], place: usize) -> Result<bool, NoMemory>
-    ensures { IfOk result (λ all. all ≡ all_write kind (cells_at rows.now place)) }
+// The lines of a value with this text.
+fn push_told(text: &mut Vec<u8>, told: &[u8]) -> Result<(), NoMemory>
+    ensures { OnOk result (text.new.items ≡ text.old.items ++ joined (told.now ∷ codes "1" ∷ [])) }
 {
-    for row in rows {
-        if !writes(alloc, kind, row.cell(place))? {
-            return Ok(false);
+    text.extend_from_slice(told)?;
+    text.extend_from_slice(b"\n1\n")?;
+    Ok(())
+}
+
+// The lines of a missing value.
+fn push_untold(text: &mut Vec<u8>) -> Result<(), NoMemory>
+    ensures { OnOk result (text.new.items ≡ text.old.items ++ option_lines None) }
+{
+    text.extend_from_slice(b"nonsensical\n2\n")?;
+    Ok(())
+}
+
+fn push_number(text: &mut Vec<u8>, number: Option<i64>) -> Result<(), NoMemory>
+    ensures { OnOk result (text.new.items ≡ text.old.items ++ option_lines (option_map (λ z. value.Int z) number)) }
+{
+    match number {
+        Some(number) => {
+            let mut buffer = Buffer::new();
+            push_told(text, buffer.format(number).as_bytes())
         }
+        None => push_untold(text),
     }
-    Ok(true)
 }
 
-fn all_are_empty(rows: &[Row], place: usize) -> bool
-    ensures { result ≡ list_all is_empty (cells_at rows.now place) }
+fn push_truth(text: &mut Vec<u8>, truth: Option<bool>) -> Result<(), NoMemory>
+    ensures { OnOk result (text.new.items ≡ text.old.items ++ option_lines (option_map (λ b. value.Bool b) truth)) }
 {
-    for row in rows {
-        if !row.cell(place).is_empty() {
-            return false;
-        }
+    match truth {
+        Some(true) => push_told(text, b"true"),
+        Some(false) => push_told(text, b"false"),
+        None => push_untold(text),
     }
-    true
 }
 
-// The first of these kinds that each cell of a column writes, or else texts.
-fn first_kind(
-    alloc: Global,
-    kinds: &[ColumnKind],
-    rows: &[Row],
-    place: usize,
-) -> Result<ColumnKind, NoMemory>
-    ensures { IfOk result (λ kind. kind ≡ first_kind kinds.now (cells_at rows.now place)) }
+// The lines of a text.
+fn push_text(text: &mut Vec<u8>, cell: &[u8]) -> Result<(), NoMemory>
+    ensures { OnOk result (text.new.items ≡ text.old.items ++ option_lines (written_value ColumnKind.Text cell.now)) }
 {
-    for kind in kinds {
-        if all_write(alloc, *kind, rows, place)? {
-            return Ok(*kind);
-        }
-    }
-    Ok(ColumnKind::Text)
+    push_quoted(text, cell)?;
+    text.extend_from_slice(b"\n1\n")?;
+    Ok(())
 }
 
-/// The kind of a column of these rows.
-pub(crate) fn kind_of_column(
-    alloc: Global,
-    rows: &[Row],
-    place: usize,
-) -> Result<ColumnKind, NoMemory>
-    ensures { IfOk result (λ kind. kind ≡ kind_of_column (cells_at rows.now place)) }
+// The lines of the value that a cell with bytes writes.
+fn push_written(
+    text: &mut Vec<u8>,
+    kind: ColumnKind,
+    cell: &[u8],
+    digits: &mut Vec<u8>,
+) -> Result<(), NoMemory>
+    ensures { OnOk result (text.new.items ≡ text.old.items ++ option_lines (written_value kind cell.now)) }
 {
-    if all_are_empty(rows, place) {
-        return Ok(ColumnKind::Text);
+    match kind {
+        ColumnKind::Whole => push_number(text, whole(cell)),
+        ColumnKind::Truth(words) => push_truth(text, truth(words, cell)),
+        ColumnKind::Decimal(places) => push_number(text, decimal(places, cell, digits)?),
+        ColumnKind::Text => push_text(text, cell),
     }
-    first_kind(alloc, &CANDIDATES, rows, place)
+}
+
+/// The two lines of the value of a cell in a column of this kind: the value's text, and the mark. An empty cell is missing. Digits of decimals
+/// are put into `digits`.
+pub(crate) fn push_cell(
+    text: &mut Vec<u8>,
+    kind: ColumnKind,
+    cell: &[u8],
+    digits: &mut Vec<u8>,
+) -> Result<(), NoMemory>
+    ensures { OnOk result (text.new.items ≡ text.old.items ++ option_lines (cell_value kind cell.now)) }
+{
+    if cell.is_empty() {
+        push_untold(text)
+    } else {
+        push_written(text, kind, cell, digits)
+    }
 }

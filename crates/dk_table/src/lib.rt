@@ -8,6 +8,7 @@ mod cells;
 mod columns;
 mod command;
 mod faults;
+mod judging;
 pub mod laws;
 mod reading;
 mod rows;
@@ -17,6 +18,7 @@ mod texts;
 mod top;
 mod traces;
 mod words;
+mod writing;
 
 pub use cells::TruthWords;
 pub use columns::{CANDIDATES, ColumnKind};

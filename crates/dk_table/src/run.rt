@@ -1,24 +1,22 @@
-// A run: the files are read whole, and then the trace of their tables is written.
+// A run: the files are read whole, and then the trace of their tables is written by pieces.
 ghost use Rattle.std.specs.Prelude.{◌≡◌, IfOk, Some, string_bytes, unwrap_or};
 ghost use Rattle.dk_arguments.specs.declared.request.Request.TheVariants as request;
 ghost use Rattle.dk_driver.specs.Files.{file_name_at};
 ghost use Rattle.dk_io.specs.declared.outside.Stream.TheVariants as stream;
 ghost use Rattle.dk_program.specs.Ending.{EndsWith};
 ghost use Rattle.dk_program.specs.Moments.{Outside, outside};
-ghost use Rattle.dk_write.specs.Texts.{trace_text as trace_text_of};
 ghost use Rattle.dk_table.specs.Messages.{refusal_line};
-ghost use Rattle.dk_table.specs.Outcomes.{Answers};
 ghost use Rattle.dk_table.specs.Statuses.{Completes, Outcome, Says, outcome_of};
-ghost use Rattle.dk_table.specs.Traces.{kept_writes, trace_of};
+ghost use Rattle.dk_table.specs.Writing.{EndsCut};
 
 use crate::command::Command;
 use crate::faults::{Refusal, TableFault, TableWhy};
 use crate::reading::{name_at, read_texts};
-use crate::tables::{names_of, rows_of_all};
-use crate::traces::{Table, table_of, trace_text};
+use crate::traces::plan_of;
 use crate::words::TableArguments;
+use crate::writing::tell_trace;
 use dk_arguments::Word;
-use dk_base::{NoMemory, Text};
+use dk_base::Text;
 use dk_events::Ended;
 use dk_io::{Inputs, Sinks, Stream};
 use dk_program::{end_with, tell_fault};
@@ -30,31 +28,6 @@ fn point_of<'a>(command: &'a Command, name: &'a str) -> &'a [u8]
     match &command.point {
         Some(point) => point.as_str().as_bytes(),
         None => name.as_bytes(),
-    }
-}
-
-// The table in files of these bytes, the first of which has this name.
-fn table_in(
-    alloc: Global,
-    command: &Command,
-    name: &str,
-    texts: &[Text],
-) -> Result<Table, TableFault>
-    ensures { Answers kept_writes (trace_of command.now name.now texts.now) result }
-{
-    let names = names_of(alloc, command, texts)?;
-    let rows = rows_of_all(alloc, command, names.as_slice(), texts)?;
-    let point = point_of(command, name);
-    table_of(alloc, point, command.types, names.as_slice(), rows)
-}
-
-// Writes the trace of a table.
-fn tell_table<S: Sinks>(alloc: Global, table: &Table, sinks: &mut S) -> Ended
-    ensures { EndsWith Ended.Done stream.Report (trace_text_of (kept_writes table.now)) (S.written sinks.old) (S.written sinks.new) (S.faults sinks.old) (S.faults sinks.new) result }
-{
-    match trace_text(alloc, table) {
-        Ok(text) => end_with(sinks, Stream::Report, text.as_slice(), Ended::Done),
-        Err(NoMemory) => Ended::NoMemory,
     }
 }
 
@@ -88,11 +61,12 @@ fn tell_texts<S: Sinks>(
     sinks: &mut S,
 ) -> Ended
     ensures { let outcome : Outcome = outcome_of arguments.now texts.now in
-        EndsWith outcome.status outcome.stream outcome.text (S.written sinks.old) (S.written sinks.new) (S.faults sinks.old) (S.faults sinks.new) result }
+        EndsCut outcome.status outcome.stream outcome.text (S.written sinks.old) (S.written sinks.new) (S.faults sinks.old) (S.faults sinks.new) result }
 {
+    let command = &arguments.command;
     let names = arguments.files.as_slice();
-    match table_in(alloc, &arguments.command, name_at(names, 0), texts) {
-        Ok(table) => tell_table(alloc, &table, sinks),
+    match plan_of(alloc, command, point_of(command, name_at(names, 0)), texts) {
+        Ok(plan) => tell_trace(alloc, command, &plan, texts, sinks),
         Err(TableFault::Refused(refusal)) => tell_refused(alloc, names, refusal, sinks),
         Err(TableFault::NoMemory) => Ended::NoMemory,
     }

@@ -1,11 +1,13 @@
 // The rows and the columns' names of the tables in some files.
-ghost use Rattle.std.specs.Prelude.{◌≡◌, ◌≢◌, ◌+◌, ◌-◌, ◌^◌, ◌<◌, ◌++◌, [], IfOk};
+ghost use Rattle.std.specs.Prelude.{◌≡◌, ◌-◌, ◌^◌, ◌<◌, IfOk, Ok, length};
+ghost use Rattle.dk_table.specs.Judging.{judging_rows};
 ghost use Rattle.dk_table.specs.Outcomes.{Answers};
-ghost use Rattle.dk_table.specs.Tables.{are_paired, behind_header, file_rows, first_of, made_name, made_names, names_by, names_of, rows_in as rows_in_file, rows_of, rows_of_all, same_cells, uneven_row};
+ghost use Rattle.dk_table.specs.Tables.{are_paired, file_rows, first_of, if_even, made_name, made_names, names_by, names_of, rows_in, rows_of, rows_of_all, same_cells, uneven_row};
 
 use crate::command::Command;
 use crate::faults::{Refusal, TableFault, TableWhy};
-use crate::rows::{Row, rows_in};
+use crate::judging::Judge;
+use crate::rows::{Row, Rows};
 use dk_base::{List, NoMemory, Text, same_bytes};
 use itoa::Buffer;
 use std::alloc::Global;
@@ -25,48 +27,50 @@ fn are_cells(names: &[Text], row: &Row) -> bool
     true
 }
 
-// The number of the first row with another number of cells than there are columns.
-fn uneven_row(columns: usize, rows: &[Row]) -> Option<u64>
-    ensures { result ≡ uneven_row columns rows.now }
+// Goes on with the rows that are left, of which each has to have so many cells.
+fn take_rows(
+    file: usize,
+    columns: usize,
+    rows: &mut Rows<'_>,
+    judge: &mut Judge,
+) -> Result<(), TableFault>
+    ensures { Answers (λ _. judge.new) (judging_rows judge.old (if_even file (uneven_row columns rows.old.left) (Ok rows.old.left))) result }
 {
-    for row in rows {
+    'rows: while rows.next()? {
+        let row = rows.row();
         if row.len() != columns {
-            return Some(row.number());
+            return Err(refused(file, row.number(), TableWhy::RowLength));
         }
+        judge.take(row)?;
     }
-    None
+    Ok(())
 }
 
-// The rows behind the header, where there is one.
-fn body_of(has_header: bool, mut rows: Vec<Row>) -> Vec<Row>
-    requires { rows.items ≢ [] }
-    ensures { result.items ≡ behind_header has_header rows.items }
-{
-    if has_header {
-        rows.remove(0);
-    }
-    rows
-}
-
-// The rows of the file at this place that belong to a table with columns of these names.
-fn rows_of(
+// Goes on with the rows of the file at this place, which has to have a header with these names, where it has one.
+fn take_table(
     has_header: bool,
     names: &[Text],
     file: usize,
-    rows: Vec<Row>,
-) -> Result<Vec<Row>, TableFault>
-    ensures { Answers (λ own. own.items) (rows_of has_header names.now file rows.items) result }
+    rows: &mut Rows<'_>,
+    judge: &mut Judge,
+) -> Result<(), TableFault>
+    ensures { Answers (λ _. judge.new) (judging_rows judge.old (rows_of has_header names.now file rows.old.left)) result }
 {
-    let Some(first) = rows.first() else {
+    if !rows.next()? {
         return Err(refused(file, 1, TableWhy::NoHeader));
-    };
-    if has_header && !are_cells(names, first) {
-        return Err(refused(file, 1, TableWhy::OtherHeader));
     }
-    match uneven_row(names.len(), rows.as_slice()) {
-        Some(row) => Err(refused(file, row, TableWhy::RowLength)),
-        None => Ok(body_of(has_header, rows)),
+    let first = rows.row();
+    if has_header {
+        if !are_cells(names, first) {
+            return Err(refused(file, 1, TableWhy::OtherHeader));
+        }
+    } else {
+        if first.len() != names.len() {
+            return Err(refused(file, first.number(), TableWhy::RowLength));
+        }
+        judge.take(first)?;
     }
+    take_rows(file, names.len(), rows, judge)
 }
 
 // Whether the quotes of a file go in pairs.
@@ -76,40 +80,51 @@ fn are_paired(bytes: &[u8]) -> bool
     bytes.iter().filter(|byte| **byte == b'"').count() % 2 == 0
 }
 
-// The rows of the file at this place, of these bytes.
-fn file_rows(
+// How many rows are left.
+fn count_rows(rows: &mut Rows<'_>) -> Result<u64, NoMemory>
+    requires { length rows.old.left < 2 ^ 64 }
+    ensures { IfOk result (λ count. count ≡ length rows.old.left) }
+{
+    let mut count = 0u64;
+    'rows: while rows.next()? {
+        count += 1;
+    }
+    Ok(count)
+}
+
+// Goes on with the rows of the file at this place, of these bytes.
+fn take_file(
     alloc: Global,
     command: &Command,
     names: &[Text],
     file: usize,
     bytes: &[u8],
-) -> Result<Vec<Row>, TableFault>
-    ensures { Answers (λ own. own.items) (file_rows command.now names.now file bytes.now) result }
+    judge: &mut Judge,
+) -> Result<(), TableFault>
+    ensures { Answers (λ _. judge.new) (judging_rows judge.old (file_rows command.now names.now file bytes.now)) result }
 {
-    let rows = rows_in(alloc, command.separator, file, bytes)?;
+    let mut rows = Rows::new(alloc, command.separator, file, bytes);
     if !are_paired(bytes) {
-        return Err(refused(file, rows.len() as u64, TableWhy::OpenQuote));
+        let count = count_rows(&mut rows)?;
+        return Err(refused(file, count, TableWhy::OpenQuote));
     }
-    rows_of(command.has_header, names, file, rows)
+    take_table(command.has_header, names, file, &mut rows, judge)
 }
 
-/// The rows of all files.
-pub(crate) fn rows_of_all(
+/// Goes on with the rows of all files.
+pub(crate) fn take_files(
     alloc: Global,
     command: &Command,
     names: &[Text],
     files: &[Text],
-) -> Result<Vec<Row>, TableFault>
-    ensures { Answers (λ rows. rows.items) (rows_of_all command.now names.now 0 files.now) result }
+    judge: &mut Judge,
+) -> Result<(), TableFault>
+    ensures { Answers (λ _. judge.new) (judging_rows judge.old (rows_of_all command.now names.now 0 files.now)) result }
 {
-    let mut all = Vec::new(alloc);
     for file in 0..files.len() {
-        match file_rows(alloc, command, names, file, files[file].as_slice()) {
-            Ok(mut own) => all.append(&mut own)?,
-            Err(fault) => return Err(fault),
-        }
+        take_file(alloc, command, names, file, files[file].as_slice(), judge)?;
     }
-    Ok(all)
+    Ok(())
 }
 
 // The cells of a row.
@@ -172,13 +187,13 @@ pub(crate) fn names_of(
     command: &Command,
     files: &[Text],
 ) -> Result<List<Text>, TableFault>
-    ensures { Answers (λ names. names) (names_of command.now.has_header (rows_in_file command.now.separator 0 (first_of files.now))) result }
+    ensures { Answers (λ names. names) (names_of command.now.has_header (rows_in command.now.separator 0 (first_of files.now))) result }
 {
-    let rows = rows_in(alloc, command.separator, 0, first_of(files))?;
-    match rows.first() {
-        Some(first) => Ok(names_by(alloc, command.has_header, first)?),
-        None => Err(refused(0, 1, TableWhy::NoHeader)),
+    let mut rows = Rows::new(alloc, command.separator, 0, first_of(files));
+    if !rows.next()? {
+        return Err(refused(0, 1, TableWhy::NoHeader));
     }
+    Ok(names_by(alloc, command.has_header, rows.row())?)
 }
 
 /// The refusal of a row of a file.

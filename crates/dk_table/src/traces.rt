@@ -1,54 +1,26 @@
 // The trace of a table.
 ghost use Rattle.std.specs.Prelude.{◌≡◌, ◌++◌, IfOk, OnOk, map, option_map, replicate};
 ghost use Rattle.std.specs.List.{zip};
-ghost use Rattle.dk_base.specs.Values.{value_of as value_shown, values_of as values_shown};
-ghost use Rattle.dk_write.specs.Texts.{Declares, Records, block_text, trace_text};
 ghost use Rattle.dk_table.specs.Outcomes.{Answers};
-ghost use Rattle.dk_table.specs.Traces.{are_named, bad_cell, declaration_of, is_told, judged, kept_writes, kinds_of, own_kind, record_of, records_of, scaled_name, trace_by, trace_of_table, untold_row, value_at, var_name, var_of, writes_of};
+ghost use Rattle.dk_table.specs.Tables.{bodies_in};
+ghost use Rattle.dk_table.specs.Traces.{IsJudged, IsPlan, are_named, bad_cell, declaration_of, is_told, kinds_in, own_kind, plan_writes, scaled_name, trace_at, trace_by, untold_row, var_name, var_of};
 
-use crate::columns::{ColumnKind, cell_value, kind_of_column, writes};
+use crate::columns::{ColumnKind, writes};
+use crate::command::Command;
 use crate::faults::{Refusal, TableFault, TableWhy};
-use crate::rows::Row;
-use crate::tables::refused;
-use dk_base::{Arena, Compar, Kind, List, NoMemory, Text, View};
+use crate::judging::Judge;
+use crate::rows::{Row, Rows};
+use crate::tables::{names_of, refused, take_files};
+use dk_base::{Compar, Kind, List, NoMemory, Text, View};
 use dk_decl::{PointDecl, VarDecl};
-use dk_write::{can_declare, can_record, header_text, push_declaration, push_record};
+use dk_write::{can_declare, can_record};
 use std::alloc::Global;
 
-/// A table that has a trace: the declaration of its point, the kinds of its columns, and its rows.
+/// How a trace is to be written: the declaration of its point, and the kinds of the columns.
 #[derive(Drop)]
-pub(crate) struct Table {
-    decl: PointDecl,
-    kinds: List<ColumnKind>,
-    rows: Vec<Row>,
-}
-
-// The rows by which kinds are found.
-fn judged(types: Option<u64>, rows: &[Row]) -> &[Row]
-    ensures { result.now ≡ judged types rows.now }
-{
-    match types {
-        None => rows,
-        Some(most) => {
-            if most < rows.len() as u64 {
-                &rows[..most as usize]
-            } else {
-                rows
-            }
-        }
-    }
-}
-
-// The kinds of the columns, by these rows.
-#[tactic(auto, using(crate::proofs::Steps::kinds_more))]
-fn kinds_of(alloc: Global, rows: &[Row], columns: usize) -> Result<List<ColumnKind>, NoMemory>
-    ensures { IfOk result (λ kinds. kinds ≡ kinds_of rows.now columns) }
-{
-    let mut kinds = List::new(alloc);
-    for place in 0..columns {
-        kinds.push(kind_of_column(alloc, rows, place)?)?;
-    }
-    Ok(kinds)
+pub(crate) struct Plan {
+    pub(crate) decl: PointDecl,
+    pub(crate) kinds: List<ColumnKind>,
 }
 
 fn own_kind(kind: ColumnKind) -> Kind
@@ -147,28 +119,29 @@ fn are_named(alloc: Global, decl: &PointDecl) -> Result<bool, NoMemory>
     Ok(is_declared && is_recorded)
 }
 
-// Whether each cell writes a value of its column's kind.
-fn is_told(alloc: Global, kinds: &[ColumnKind], row: &Row) -> Result<bool, NoMemory>
+// Whether each cell writes a value of its column's kind. Digits of decimals are put into `digits`.
+fn is_told(kinds: &[ColumnKind], row: &Row, digits: &mut Vec<u8>) -> Result<bool, NoMemory>
     ensures { IfOk result (λ is. is ≡ is_told kinds.now row.now) }
 {
     for i in 0..kinds.len().min(row.len()) {
-        if !writes(alloc, kinds[i], row.cell(i))? {
+        if !writes(kinds[i], row.cell(i), digits)? {
             return Ok(false);
         }
     }
     Ok(true)
 }
 
-// The refusal of the first row with a cell that is none of its column's kind.
+// The refusal of the first row that is left with a cell that is none of its column's kind.
 fn untold_row(
-    alloc: Global,
     kinds: &[ColumnKind],
-    rows: &[Row],
+    rows: &mut Rows<'_>,
+    digits: &mut Vec<u8>,
 ) -> Result<Option<Refusal>, NoMemory>
-    ensures { IfOk result (λ refusal. refusal ≡ option_map bad_cell (untold_row kinds.now rows.now)) }
+    ensures { IfOk result (λ refusal. refusal ≡ option_map bad_cell (untold_row kinds.now rows.old.left)) }
 {
-    for row in rows {
-        if !is_told(alloc, kinds, row)? {
+    'rows: while rows.next()? {
+        let row = rows.row();
+        if !is_told(kinds, row, digits)? {
             return Ok(Some(Refusal {
                 file: row.file(),
                 row: row.number(),
@@ -179,132 +152,74 @@ fn untold_row(
     Ok(None)
 }
 
-// Whether a table with this declaration and columns of these kinds has a trace.
-#[tactic(auto, unfolding(crate::specs::Traces::trace_by))]
-fn judge(
+// The refusal of the first such row of all files.
+fn untold_in(
     alloc: Global,
-    decl: &PointDecl,
+    command: &Command,
     kinds: &[ColumnKind],
-    rows: &[Row],
-) -> Result<(), TableFault>
-    ensures { Answers (λ _. writes_of decl.now kinds.now rows.now) (trace_by decl.now kinds.now rows.now) result }
+    files: &[Text],
+) -> Result<Option<Refusal>, NoMemory>
+    ensures { IfOk result (λ refusal. refusal ≡ option_map bad_cell (untold_row kinds.now (bodies_in command.now 0 files.now))) }
 {
-    if !are_named(alloc, decl)? {
+    let mut digits = Vec::new(alloc);
+    for file in 0..files.len() {
+        let mut rows = Rows::body(alloc, command, file, files[file].as_slice())?;
+        let refusal = untold_row(kinds, &mut rows, &mut digits)?;
+        if refusal.is_some() {
+            return Ok(refusal);
+        }
+    }
+    Ok(None)
+}
+
+// The kinds of the columns of the files' tables, by as many rows as the command says.
+fn kinds_in(
+    alloc: Global,
+    command: &Command,
+    names: &[Text],
+    files: &[Text],
+) -> Result<List<ColumnKind>, TableFault>
+    ensures { Answers (λ kinds. kinds) (kinds_in command.now names.now files.now) result }
+{
+    let mut judge = Judge::new(alloc, command.types, names.len())?;
+    take_files(alloc, command, names, files, &mut judge)?;
+    Ok(judge.kinds(alloc)?)
+}
+
+// Whether the files' tables, with this declaration and columns of these kinds, have a trace. Where kinds were found by all rows, each cell is
+// of its column's kind.
+#[tactic(auto, unfolding(crate::specs::Traces::trace_by))]
+fn judge(alloc: Global, command: &Command, plan: &Plan, files: &[Text]) -> Result<(), TableFault>
+    requires { IsJudged command.now plan.now files.now }
+    ensures { Answers (λ _. plan_writes command.now plan.now files.now) (trace_by plan.now.decl plan.now.kinds (bodies_in command.now 0 files.now)) result }
+{
+    if !are_named(alloc, &plan.decl)? {
         return Err(refused(0, 1, TableWhy::BadName));
     }
-    match untold_row(alloc, kinds, rows)? {
+    if command.types.is_none() {
+        return Ok(());
+    }
+    match untold_in(alloc, command, plan.kinds.as_slice(), files)? {
         Some(refusal) => Err(TableFault::Refused(refusal)),
         None => Ok(()),
     }
 }
 
-// The kinds of the columns, by so many rows.
-fn kinds_by(
+/// How the trace of the tables in these files is to be written, at the point of this name.
+pub(crate) fn plan_of(
     alloc: Global,
-    types: Option<u64>,
-    rows: &[Row],
-    columns: usize,
-) -> Result<List<ColumnKind>, NoMemory>
-    ensures { IfOk result (λ kinds. kinds ≡ kinds_of (judged types rows.now) columns) }
-{
-    kinds_of(alloc, judged(types, rows), columns)
-}
-
-/// The table of these rows, whose columns have these names, at the point of this name.
-pub(crate) fn table_of(
-    alloc: Global,
+    command: &Command,
     point: &[u8],
-    types: Option<u64>,
-    names: &[Text],
-    rows: Vec<Row>,
-) -> Result<Table, TableFault>
-    ensures { Answers kept_writes (trace_of_table point.now types names.now rows.items) result }
+    files: &[Text],
+) -> Result<Plan, TableFault>
+    ensures answers { Answers (λ plan. plan_writes command.now plan files.now) (trace_at command.now point.now files.now) result }
+    ensures plan { IfOk result IsPlan }
 {
-    let kinds = kinds_by(alloc, types, rows.as_slice(), names.len())?;
-    let decl = declaration_of(alloc, point, names, kinds.as_slice())?;
-    judge(alloc, &decl, kinds.as_slice(), rows.as_slice())?;
-    Ok(Table { decl, kinds, rows })
-}
-
-fn value_at<'a>(
-    alloc: Global,
-    arena: &'a Arena,
-    kind: ColumnKind,
-    cell: &[u8],
-) -> Result<View<'a>, NoMemory>
-    ensures { IfOk result (λ value. value_shown value ≡ value_at (kind, cell.now)) }
-{
-    match cell_value(alloc, arena, kind, cell)? {
-        Some(value) => Ok(value),
-        None => Ok(View::Missing),
-    }
-}
-
-fn values_of<'a>(
-    alloc: Global,
-    arena: &'a Arena,
-    kinds: &[ColumnKind],
-    row: &Row,
-) -> Result<List<View<'a>>, NoMemory>
-    ensures { IfOk result (λ values. values_shown values ≡ map value_at (zip kinds.now row.now.cells)) }
-{
-    let mut values: List<View<'a>> = List::new(alloc);
-    for i in 0..kinds.len().min(row.len()) {
-        let value = value_at(alloc, arena, kinds[i], row.cell(i))?;
-        values.push(value)?;
-    }
-    Ok(values)
-}
-
-// The declaration.
-#[tactic(auto, unfolding(dk_write::specs::Texts::block_text))]
-fn push_decl(alloc: Global, text: &mut Text, decl: &PointDecl) -> Result<(), NoMemory>
-    ensures { OnOk result (text.new ≡ text.old ++ block_text (Declares decl.now)) }
-{
-    push_declaration(alloc, text, decl)?;
-    text.push(b'\n')
-}
-
-// The record of a row.
-#[tactic(auto, unfolding(dk_write::specs::Texts::block_text))]
-fn push_row(
-    alloc: Global,
-    text: &mut Text,
-    decl: &PointDecl,
-    kinds: &[ColumnKind],
-    row: &Row,
-) -> Result<(), NoMemory>
-    ensures { OnOk result (text.new ≡ text.old ++ block_text (Records (record_of decl.now kinds.now row.now))) }
-{
-    let arena = Arena::new(alloc);
-    let values = values_of(alloc, &arena, kinds, row)?;
-    push_record(alloc, text, decl, None, values.as_slice())?;
-    text.push(b'\n')
-}
-
-// The records of the rows, one after another.
-fn push_rows(
-    alloc: Global,
-    text: &mut Text,
-    decl: &PointDecl,
-    kinds: &[ColumnKind],
-    rows: &[Row],
-) -> Result<(), NoMemory>
-    ensures { OnOk result (text.new ≡ text.old ++ trace_text (records_of decl.now kinds.now rows.now)) }
-{
-    for row in rows {
-        push_row(alloc, text, decl, kinds, row)?;
-    }
-    Ok(())
-}
-
-/// The text of a table's trace.
-pub(crate) fn trace_text(alloc: Global, table: &Table) -> Result<Text, NoMemory>
-    ensures { IfOk result (λ text. text ≡ trace_text (kept_writes table.now)) }
-{
-    let kinds = table.kinds.as_slice();
-    let mut text = Text::from_slice(alloc, header_text())?;
-    push_decl(alloc, &mut text, &table.decl)?;
-    push_rows(alloc, &mut text, &table.decl, kinds, table.rows.as_slice())?;
-    Ok(text)
+    let names = names_of(alloc, command, files)?;
+    let columns = names.as_slice();
+    let kinds = kinds_in(alloc, command, columns, files)?;
+    let decl = declaration_of(alloc, point, columns, kinds.as_slice())?;
+    let plan = Plan { decl, kinds };
+    judge(alloc, command, &plan, files)?;
+    Ok(plan)
 }

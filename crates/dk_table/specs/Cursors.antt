@@ -1,0 +1,45 @@
+-- Going through the rows of a file.
+use Rattle.std.specs.Prelude.{◌≡◌, ◌<◌, ◌+◌, ◌^◌, ℕ, false, List, [], ◌∷◌, Bool, true, length, Option, Some, None, IfSome}
+use Rattle.std.specs.Borrow.{Bor}
+use Rattle.csv.specs.Machine.{ends_at_end}
+use Rattle.csv.specs.Reading.{Ready, has_failed, is_flexible, reader_config, reader_state, reader_trim, records_from, source_of}
+use Rattle.csv.specs.declared.parser.Config.{Config}
+use Rattle.csv.specs.declared.parser.State.{State}
+use Rattle.csv.specs.declared.reader.Reader.{Reader}
+use Rattle.csv.specs.declared.reader.Trim.TheVariants as trim
+use Rattle.dk_table.specs.Placed.{Placed}
+use Rattle.dk_table.specs.Tables.{placed_from}
+
+-- the row that was read last, and the rows that are left
+pub record Cursor : Type 0 where
+  pub row : Placed
+  pub left : List Placed
+
+-- ---- what a reader has left
+-- the bytes, where it has not failed
+abbrev pub bytes_left : Reader (Bor (List ℕ)) → Option (List ℕ)
+bytes_left reader = source_of (λ s. Some s.now) reader
+
+-- the rows of these bytes, behind this row
+abbrev pub rows_of_bytes : Placed → Config → State → Option (List ℕ) → List Placed
+rows_of_bytes row cfg s None = []
+rows_of_bytes row cfg s (Some bytes) = placed_from row.file (row.number + 1) (records_from cfg (length bytes + 1) s bytes)
+
+abbrev pub rows_left : Placed → Reader (Bor (List ℕ)) → List Placed
+rows_left row reader = rows_of_bytes row (reader_config reader) (reader_state reader) (bytes_left reader)
+
+-- A reader that has not failed gives each record as it stands, whatever its length, and is behind the end of one. There are as many numbers
+-- left as bytes.
+pub record IsReading (row : Placed) (reader : Reader (Bor (List ℕ))) : Type 0 where
+  pub going : has_failed reader ≡ false
+  pub untrimmed : reader_trim reader ≡ trim.None
+  pub ready : Ready reader
+  pub flexible : is_flexible reader ≡ true
+  pub between : ends_at_end (reader_state reader) ≡ false
+  pub numbered : IfSome (bytes_left reader) (λ bytes. row.number + length bytes < 2 ^ 64)
+
+-- ---- a step
+-- The next row was found, and is no longer left; none was found where none was left, and then none is.
+abbrev pub Moves : List Placed → Cursor → Bool → Type 0
+Moves [] after found = (found ≡ false) × (after.left ≡ [])
+Moves (row ∷ rest) after found = (found ≡ true) × (after ≡ record { row = row; left = rest })

@@ -1,0 +1,267 @@
+// Writing the trace of tables.
+ghost use Rattle.std.specs.Prelude.{◌≡◌, ◌++◌, ◌∷◌, [], IfOk, OnOk, flat_map, map};
+ghost use Rattle.std.specs.List.{zip};
+ghost use Rattle.dk_base.specs.Names.{escaped};
+ghost use Rattle.dk_io.specs.declared.outside.Stream.TheVariants as stream;
+ghost use Rattle.dk_lines.specs.Passing.{joined};
+ghost use Rattle.dk_write.specs.Texts.{Begins, Declares, block_text, trace_text};
+ghost use Rattle.dk_table.specs.Forms.{cell_lines, form_of, heading_of, row_text, rows_text};
+ghost use Rattle.dk_table.specs.Tables.{bodies_in};
+ghost use Rattle.dk_table.specs.Traces.{IsPlan, plan_writes};
+ghost use Rattle.dk_table.specs.Writing.{EndsCut, Tells, TellsFront, status_of};
+
+use crate::columns::{ColumnKind, push_cell};
+use crate::command::Command;
+use crate::rows::{Row, Rows};
+use crate::traces::Plan;
+use dk_base::{List, NoMemory, Text};
+use dk_decl::{PointDecl, VarDecl};
+use dk_events::Ended;
+use dk_io::{Failed, Sinks, Stream, write_all};
+use dk_write::{header_text, push_declaration, push_escaped};
+use std::alloc::Global;
+
+/// Rows are gathered until they have so many bytes, and then they are written.
+const PIECE: usize = 65_536;
+
+/// Why a trace is not written whole.
+#[derive(Clone, Copy, Debug, PartialEq, Eq)]
+pub(crate) enum Halt {
+    Write,
+    NoMemory,
+}
+
+impl From<NoMemory> for Halt {
+    ghost use Rattle.std.specs.Prelude.{◌≡◌};
+    ghost use Rattle.dk_table.specs.declared.writing.Halt.TheVariants.{NoMemory as OutOfMemory};
+
+    ghost from_gives = { λ _ e. e ≡ OutOfMemory };
+
+    fn from(_: NoMemory) -> Self {
+        Halt::NoMemory
+    }
+}
+
+impl Halt {
+    fn status(self) -> Ended
+        ensures { result ≡ status_of self }
+    {
+        match self {
+            Halt::Write => Ended::Write,
+            Halt::NoMemory => Ended::NoMemory,
+        }
+    }
+}
+
+/// A column in a record: the line of its variable's name, and how its cells are read.
+#[derive(Drop)]
+struct Heading {
+    line: Text,
+    kind: ColumnKind,
+}
+
+/// What the records of a trace have in common: the line of the point's name, and the columns.
+#[derive(Drop)]
+struct Form {
+    point: Text,
+    headings: List<Heading>,
+}
+
+// The line of a name.
+fn name_line(alloc: Global, name: &[u8]) -> Result<Text, NoMemory>
+    ensures { IfOk result (λ line. line ≡ joined (escaped name.now ∷ [])) }
+{
+    let mut line = Text::new(alloc);
+    push_escaped(&mut line, name)?;
+    line.push(b'\n')?;
+    Ok(line)
+}
+
+fn heading_of(alloc: Global, var: &VarDecl, kind: ColumnKind) -> Result<Heading, NoMemory>
+    ensures { IfOk result (λ heading. heading ≡ heading_of (var.now, kind)) }
+{
+    Ok(Heading {
+        line: name_line(alloc, var.name.as_slice())?,
+        kind,
+    })
+}
+
+fn headings_of(
+    alloc: Global,
+    vars: &[VarDecl],
+    kinds: &[ColumnKind],
+) -> Result<List<Heading>, NoMemory>
+    ensures { IfOk result (λ headings. headings ≡ map heading_of (zip vars.now kinds.now)) }
+{
+    let mut headings = List::new(alloc);
+    for i in 0..vars.len().min(kinds.len()) {
+        headings.push(heading_of(alloc, &vars[i], kinds[i])?)?;
+    }
+    Ok(headings)
+}
+
+fn form_of(alloc: Global, decl: &PointDecl, kinds: &[ColumnKind]) -> Result<Form, NoMemory>
+    ensures { IfOk result (λ form. form ≡ form_of decl.now kinds.now) }
+{
+    Ok(Form {
+        point: name_line(alloc, decl.name.as_slice())?,
+        headings: headings_of(alloc, decl.vars.as_slice(), kinds)?,
+    })
+}
+
+/// Rows that are not written yet, and what is used again for each cell.
+#[derive(Drop)]
+struct Gathered {
+    text: Vec<u8>,
+    digits: Vec<u8>,
+}
+
+// The lines of a cell.
+fn push_heading_cell(
+    gathered: &mut Gathered,
+    heading: &Heading,
+    cell: &[u8],
+) -> Result<(), NoMemory>
+    ensures { OnOk result (gathered.new.text.items ≡ gathered.old.text.items ++ cell_lines (heading.now, cell.now)) }
+{
+    gathered.text.extend_from_slice(heading.line.as_slice())?;
+    push_cell(&mut gathered.text, heading.kind, cell, &mut gathered.digits)
+}
+
+// The lines of the cells of a row.
+fn push_cells(gathered: &mut Gathered, headings: &[Heading], row: &Row) -> Result<(), NoMemory>
+    ensures { OnOk result (gathered.new.text.items ≡ gathered.old.text.items ++ flat_map cell_lines (zip headings.now row.now.cells)) }
+{
+    for i in 0..headings.len().min(row.len()) {
+        push_heading_cell(gathered, &headings[i], row.cell(i))?;
+    }
+    Ok(())
+}
+
+// The record of a row.
+fn push_row(gathered: &mut Gathered, form: &Form, row: &Row) -> Result<(), NoMemory>
+    ensures { OnOk result (gathered.new.text.items ≡ gathered.old.text.items ++ row_text form.now row.now) }
+{
+    gathered.text.extend_from_slice(form.point.as_slice())?;
+    push_cells(gathered, form.headings.as_slice(), row)?;
+    gathered.text.push(b'\n')?;
+    Ok(())
+}
+
+// Writes what is gathered.
+fn write_gathered<S: Sinks>(gathered: &mut Gathered, sinks: &mut S) -> Result<(), Halt>
+    ensures told { Tells gathered.old.text.items gathered.new.text.items (S.written sinks.old) (S.written sinks.new) (S.faults sinks.old) (S.faults sinks.new) result }
+    ensures none { OnOk result (gathered.new.text.items ≡ []) }
+{
+    match write_all(sinks, Stream::Report, gathered.text.as_slice()) {
+        Ok(()) => {
+            gathered.text.clear();
+            Ok(())
+        }
+        Err(Failed) => Err(Halt::Write),
+    }
+}
+
+// Gathers the record of a row, and writes what is gathered where it is long.
+fn tell_row<S: Sinks>(
+    gathered: &mut Gathered,
+    form: &Form,
+    row: &Row,
+    sinks: &mut S,
+) -> Result<(), Halt>
+    ensures { Tells (gathered.old.text.items ++ row_text form.now row.now) gathered.new.text.items (S.written sinks.old) (S.written sinks.new) (S.faults sinks.old) (S.faults sinks.new) result }
+{
+    push_row(gathered, form, row)?;
+    if gathered.text.len() >= PIECE {
+        write_gathered(gathered, sinks)?;
+    }
+    Ok(())
+}
+
+// The same of all rows that are left.
+fn tell_rows<S: Sinks>(
+    gathered: &mut Gathered,
+    form: &Form,
+    rows: &mut Rows<'_>,
+    sinks: &mut S,
+) -> Result<(), Halt>
+    ensures { Tells (gathered.old.text.items ++ rows_text form.now rows.old.left) gathered.new.text.items (S.written sinks.old) (S.written sinks.new) (S.faults sinks.old) (S.faults sinks.new) result }
+{
+    'rows: while rows.next()? {
+        tell_row(gathered, form, rows.row(), sinks)?;
+    }
+    Ok(())
+}
+
+// The same of all rows of the files.
+fn tell_files<S: Sinks>(
+    alloc: Global,
+    gathered: &mut Gathered,
+    form: &Form,
+    command: &Command,
+    files: &[Text],
+    sinks: &mut S,
+) -> Result<(), Halt>
+    ensures { Tells (gathered.old.text.items ++ rows_text form.now (bodies_in command.now 0 files.now)) gathered.new.text.items (S.written sinks.old) (S.written sinks.new) (S.faults sinks.old) (S.faults sinks.new) result }
+{
+    for file in 0..files.len() {
+        let mut rows = Rows::body(alloc, command, file, files[file].as_slice())?;
+        tell_rows(gathered, form, &mut rows, sinks)?;
+    }
+    Ok(())
+}
+
+// The declaration.
+#[tactic(auto, unfolding(dk_write::specs::Texts::block_text))]
+fn push_decl(alloc: Global, text: &mut Text, decl: &PointDecl) -> Result<(), NoMemory>
+    ensures { OnOk result (text.new ≡ text.old ++ block_text (Declares decl.now)) }
+{
+    push_declaration(alloc, text, decl)?;
+    text.push(b'\n')
+}
+
+// The header lines and the declaration.
+fn begun(alloc: Global, decl: &PointDecl) -> Result<Gathered, NoMemory>
+    ensures { IfOk result (λ gathered. gathered.text.items ≡ block_text Begins ++ block_text (Declares decl.now)) }
+{
+    let mut text = Text::from_slice(alloc, header_text())?;
+    push_decl(alloc, &mut text, decl)?;
+    Ok(Gathered {
+        text: text.into_vec(),
+        digits: Vec::new(alloc),
+    })
+}
+
+// Writes the trace of the tables in the files.
+fn write_trace<S: Sinks>(
+    alloc: Global,
+    command: &Command,
+    plan: &Plan,
+    files: &[Text],
+    sinks: &mut S,
+) -> Result<(), Halt>
+    requires { IsPlan plan.now }
+    ensures { TellsFront (trace_text (plan_writes command.now plan.now files.now)) (S.written sinks.old) (S.written sinks.new) (S.faults sinks.old) (S.faults sinks.new) result }
+{
+    let form = form_of(alloc, &plan.decl, plan.kinds.as_slice())?;
+    let mut gathered = begun(alloc, &plan.decl)?;
+    tell_files(alloc, &mut gathered, &form, command, files, sinks)?;
+    write_gathered(&mut gathered, sinks)
+}
+
+/// Writes the trace of the tables in the files by pieces, and answers how the run ends.
+pub(crate) fn tell_trace<S: Sinks>(
+    alloc: Global,
+    command: &Command,
+    plan: &Plan,
+    files: &[Text],
+    sinks: &mut S,
+) -> Ended
+    requires { IsPlan plan.now }
+    ensures { EndsCut Ended.Done stream.Report (trace_text (plan_writes command.now plan.now files.now)) (S.written sinks.old) (S.written sinks.new) (S.faults sinks.old) (S.faults sinks.new) result }
+{
+    match write_trace(alloc, command, plan, files, sinks) {
+        Ok(()) => Ended::Done,
+        Err(halt) => halt.status(),
+    }
+}
