@@ -1,2 +1,4 @@
 pub mod Adding
 pub mod Expressions
+pub mod Paging
+pub mod Once
