@@ -1,3 +1,4 @@
 mod Adding
 mod Counting
+mod Examples
 mod Tables

@@ -50,10 +50,11 @@ abbrev pub samples_cell : Option ℕ → List ℕ
 samples_cell None = []
 samples_cell (Some n) = decimal n
 
+abbrev pub cells : PageSection → List ℕ
+cells s = codes "<td>" ++ samples_cell s.samples ++ codes "</td><td>" ++ decimal (length s.lines) ++ codes "</td>"
+
 abbrev pub row : PageSection → List ℕ
-row s =
-    codes "<tr><td>" ++ link s ++ codes "</td><td>" ++ samples_cell s.samples ++ codes "</td><td>" ++ decimal (length s.lines)
-    ++ codes "</td></tr>\n"
+row s = codes "<tr><td>" ++ link s ++ codes "</td>" ++ cells s ++ codes "</tr>\n"
 
 -- the numbers behind its name
 abbrev pub samples_note : Option ℕ → List ℕ

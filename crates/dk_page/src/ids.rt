@@ -65,9 +65,10 @@ pub(crate) fn id_behind(alloc: Global, count: u64, name: &[u8]) -> Result<Text, 
     ensures { IfOk result (λ text. text ≡ id_behind count name.now) }
 {
     let mut text = key(alloc, name)?;
-    if count > 0 {
-        text.append(b"%~")?;
-        push_decimal(&mut text, count + 1)?;
+    if count == 0 {
+        return Ok(text);
     }
+    text.append(b"%~")?;
+    push_decimal(&mut text, count + 1)?;
     Ok(text)
 }

@@ -1,7 +1,7 @@
 // A report as a page.
 ghost use Rattle.std.specs.Prelude.{◌≡◌, ◌++◌, IfOk, OnOk, Some, decimal, flat_map, length};
 ghost use Rattle.dk_page.specs.Groups.{groups};
-ghost use Rattle.dk_page.specs.Pages.{has_lines, is_all, is_of, item, items, link, note, number, page, part, row, samples_cell, samples_note, section, title, titled};
+ghost use Rattle.dk_page.specs.Pages.{cells, has_lines, is_all, is_of, item, items, link, note, number, page, part, row, samples_cell, samples_note, section, title, titled};
 
 use crate::Group;
 use crate::groups::{groups, heading};
@@ -182,17 +182,26 @@ fn push_samples_cell(text: &mut Text, samples: Option<u64>) -> Result<(), NoMemo
     }
 }
 
+// The numbers of a section in the list of points.
+fn push_cells(text: &mut Text, section: &PageSection) -> Result<(), NoMemory>
+    ensures { OnOk result (text.new ≡ text.old ++ cells section.now) }
+{
+    text.append(b"<td>")?;
+    push_samples_cell(text, section.samples)?;
+    text.append(b"</td><td>")?;
+    push_len(text, section.lines.as_slice())?;
+    text.append(b"</td>")
+}
+
 // The row of a section in the list of points.
 fn push_row(text: &mut Text, section: &PageSection) -> Result<(), NoMemory>
     ensures { OnOk result (text.new ≡ text.old ++ row section.now) }
 {
     text.append(b"<tr><td>")?;
     push_link(text, section)?;
-    text.append(b"</td><td>")?;
-    push_samples_cell(text, section.samples)?;
-    text.append(b"</td><td>")?;
-    push_len(text, section.lines.as_slice())?;
-    text.append(b"</td></tr>\n")
+    text.append(b"</td>")?;
+    push_cells(text, section)?;
+    text.append(b"</tr>\n")
 }
 
 fn push_samples(text: &mut Text, count: u64) -> Result<(), NoMemory>
