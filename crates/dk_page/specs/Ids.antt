@@ -1,5 +1,5 @@
 -- The ids by which links lead to the sections of a page.
-use Rattle.std.specs.Prelude.{◌==◌, ◌/◌, ◌%◌, ◌+◌, ◌-◌, ◌&&◌, ◌||◌, ◌++◌, ℕ, nat_lt, not, Bool, List, [], ◌∷◌, bytes_eq, codes, decimal, filter, flat_map, if◌then◌else◌, length}
+use Rattle.std.specs.Prelude.{◌==◌, ◌/◌, ◌%◌, ◌+◌, ◌&&◌, ◌||◌, ◌++◌, ℕ, nat_lt, not, Bool, List, [], ◌∷◌, bytes_eq, codes, decimal, filter, flat_map, if◌then◌else◌, length}
 use Rattle.std.specs.Int.{is_in_range}
 use Rattle.dk_base.specs.Pieces.{is_empty}
 

@@ -1,5 +1,4 @@
 use Rattle.std.proofs.Common.{◌≡◌, ◌++◌, take}
-use Rattle.std.specs.List.{flat_map}
 use Rattle.dk_page.specs.Pages.{items}
 use Rattle.dk_page.proofs.pages.push_items.Given as goal
 

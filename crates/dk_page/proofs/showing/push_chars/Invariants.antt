@@ -1,4 +1,4 @@
-use Rattle.std.proofs.Common.{◌≡◌, ◌++◌, take}
+use Rattle.std.proofs.Common.{◌≡◌, ◌++◌}
 use Rattle.std.specs.List.{flat_map}
 use Rattle.dk_page.specs.Showing.{shown_char}
 use Rattle.dk_page.proofs.showing.push_chars.Given as goal
