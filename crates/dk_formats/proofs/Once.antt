@@ -26,18 +26,21 @@ list_once key P once (x ∷ xs) (y ∷ ys) same one two =
     let rest : map key xs ≡ map key ys = cc in
     let first : x ≡ y = once x y (All-head P x xs one) (All-head P y ys two) here in
     let others : xs ≡ ys = list_once key P once xs ys rest (All-tail P x xs one) (All-tail P y ys two) in
-    cc
+    cc (first, others)
 
 -- ---- what a text says
+abbrev assertion_with : Assertion → State → Assertion
+assertion_with a s = record { row = a.row; vars = a.vars; state = s }
+
 read_once : (infos : List VarInfo) (text : List ℕ) (a b : Assertion) → IsRead infos text a → IsRead infos text b → a ≡ b
 read_once infos text a b one two =
     let back = sym one.has.prints in
-    let is : b ≡ record { row = a.row; vars = a.vars; state = told_state one.printed } =
+    let is : b ≡ assertion_with a (told_state one.printed) =
     texts_read_back infos a.row a.vars one.printed b
     (subst (λ (t : List ℕ). HasText infos t a.row a.vars one.printed) back one.has)
     (subst (λ (t : List ℕ). IsFirst infos t a.row a.vars) back one.first)
     (subst (λ (t : List ℕ). IsRead infos t b) back two) in
-    ap (λ (s : State). record { row = a.row; vars = a.vars; state = s }) one.tells ∙ sym is
+    ap (assertion_with a) one.tells ∙ sym is
 
 says_once : (infos : List VarInfo) (text : List ℕ) (x y : Option Assertion) → Says infos text x → Says infos text y → x ≡ y
 says_once infos text None None one two = refl
@@ -46,11 +49,17 @@ says_once infos text (Some a) None one two = absurd (two a.row a.vars one.printe
 says_once infos text (Some a) (Some b) one two = ap Some (read_once infos text a b one two)
 
 -- ---- lines and sections
+abbrev said_with : ReportLine → Option Assertion → Said
+said_with line says = record { line = line; says = says }
+
+abbrev section_with : Section → List Said → SaidSection
+section_with section lines = record { section = section; lines = lines }
+
 line_once : (infos : List VarInfo) (x y : Said) → Says infos x.line.text x.says → Says infos y.line.text y.says → x.line ≡ y.line → x ≡ y
 line_once infos x y one two same =
     let says : x.says ≡ y.says =
     says_once infos x.line.text x.says y.says one (subst (λ (l : ReportLine). Says infos l.text y.says) (sym same) two) in
-    ap (λ (l : ReportLine). record { line = l; says = x.says }) same ∙ ap (λ (s : Option Assertion). record { line = y.line; says = s }) says
+    ap (λ (l : ReportLine). said_with l x.says) same ∙ ap (said_with y.line) says
 
 lines_once : (infos : List VarInfo) (lines : List ReportLine) (xs ys : List Said) → AreSaid infos lines xs → AreSaid infos lines ys → xs ≡ ys
 lines_once infos lines xs ys one two =
@@ -62,7 +71,7 @@ section_once ps x y one two same =
     let lines : x.lines ≡ y.lines =
     lines_once (vars_under ps x.section.point) x.section.lines x.lines y.lines one
     (subst (λ (s : Section). AreSaid (vars_under ps s.point) s.lines y.lines) (sym same) two) in
-    ap (λ (s : Section). record { section = s; lines = x.lines }) same ∙ ap (λ (l : List Said). record { section = y.section; lines = l }) lines
+    ap (λ (s : Section). section_with s x.lines) same ∙ ap (section_with y.section) lines
 
 -- ---- reports
 pub told_once : ReportsAreToldOnce

@@ -47,13 +47,16 @@ page_sections_more names (s ∷ said) one =
     ∙ ap (λ (ns : List (List ℕ)). page_sections more said ++ page_section ns one ∷ []) (append_assoc names (point_of s ∷ []) (map point_of said)))
 
 -- a section is what its parts say
+abbrev with_parts : List ℕ → List ℕ → Option ℕ → List PageLine → PageSection
+with_parts id point samples lines = record { id = id; point = point; samples = samples; lines = lines }
+
 section_is : (added told : PageSection) → added.id ≡ told.id → added.point ≡ told.point → added.samples ≡ told.samples → added.lines ≡ told.lines
     → added ≡ told
 section_is added told id point samples lines =
-    ap (λ (x : List ℕ). record { id = x; point = added.point; samples = added.samples; lines = added.lines }) id
-    ∙ ap (λ (x : List ℕ). record { id = told.id; point = x; samples = added.samples; lines = added.lines }) point
-    ∙ ap (λ (x : Option ℕ). record { id = told.id; point = told.point; samples = x; lines = added.lines }) samples
-    ∙ ap (λ (x : List PageLine). record { id = told.id; point = told.point; samples = told.samples; lines = x }) lines
+    ap (λ (x : List ℕ). with_parts x added.point added.samples added.lines) id
+    ∙ ap (λ (x : List ℕ). with_parts told.id x added.samples added.lines) point
+    ∙ ap (λ (x : Option ℕ). with_parts told.id told.point x added.lines) samples
+    ∙ ap (λ (x : List PageLine). with_parts told.id told.point told.samples x) lines
 
 pub no_page_sections : (ps : List Point) (kept : List (List ℕ × List ℕ)) (found : List PageSection) → StandsFor kept [] → found ≡ []
     → ArePageSections ps [] kept found

@@ -51,7 +51,8 @@ pub record ArePageLines (infos : List VarInfo) (lines : List ReportLine) (found 
   pub lines_are : found ≡ map page_line said
 
 -- the sections of a report, as a page has them, and their names
-pub record ArePageSections (ps : List Point) (sections : List Section) (kept : List (List ℕ × List ℕ)) (found : List PageSection) : Type 0 where
+pub record ArePageSections (ps : List Point) (sections : List Section) (kept : List (List ℕ × List ℕ)) (found : List PageSection)
+    : Type 0 where
   pub said : List SaidSection
   pub are_said : AreSaidSections ps sections said
   pub sections_are : found ≡ page_sections [] said
