@@ -1,5 +1,5 @@
 #!/usr/bin/env python3
-"""A report in another language: JSON, Python, C, SMT-LIB."""
+"""A report in another language, JSON, Python, C, SMT-LIB, or as a page."""
 
 from __future__ import annotations
 
@@ -14,8 +14,9 @@ from input_language import lines_of
 from languages import Speaker
 from points import History, VarInfo
 from rows import EMPTY
+from tell_pages import page_of, sections_of
 
-USAGE = b"usage: dk_tell [--format json|python|c|smtlib] [--ignore-missing-entry] REPORT [FILE]...\n"
+USAGE = b"usage: dk_tell [--format json|python|c|smtlib|html] [--ignore-missing-entry] REPORT [FILE]...\n"
 LANGUAGES = {"python": "Python", "c": "C", "smtlib": "Smtlib"}
 ROW_NAMES = """OneOfInt LowerBound UpperBound NonZero Modulus OneOfBool OneOfHash NonNullHash OneOfStr NonNullStr EqInt NeInt Lt Le Linear
 Divides Square EqBool NeBool EqHash NeHash EqStr NeStr Sum Difference Product Minimum Maximum Quotient Remainder And Or Xor Gcd EltOneOfInt
@@ -157,7 +158,7 @@ def options_of(words):
     """The words of the command, and the format."""
     found = words_of_command(words, FLAGS, WITH_VALUE)
     form = found.values.get("--format", "json")
-    if not found.files or form not in ("json", *LANGUAGES):
+    if not found.files or form not in ("json", "html", *LANGUAGES):
         raise Usage
     return found, form
 
@@ -175,6 +176,9 @@ def run(words, sinks, folder):
     for file in files:
         for _ in reader.read(file, bytes_of_file(folder, file)):
             pass
+    if form == "html":
+        sinks.report(page_of(sections_of(data), history).encode())
+        return
     language = LANGUAGES.get(form)
     if language is not None:
         sinks.report(FRONTS[language].encode())

@@ -10,16 +10,16 @@ use Rattle.dk_expr.specs.Reads.{HasNone, IsRead}
 use Rattle.dk_expr.specs.declared.assertions.Assertion.{Assertion}
 use Rattle.dk_functions.specs.Functions.{assertion_if, closing, comment_if, opening}
 use Rattle.dk_languages.specs.declared.languages.Language.{Language}
-use Rattle.dk_formats.specs.Saying.{AreSaid, Said, SaidSection, Says, vars_under}
+use Rattle.dk_formats.specs.Saying.{AreSaid, AreSaidSections, Said, SaidSection, Says, vars_under}
 use Rattle.dk_formats.specs.Steps.{AddsJson, AddsSection, AddsSections, AreParts}
 use Rattle.dk_formats.specs.Telling.{assertion_of, comment_of, expression_of, json_line, section_text}
 use Rattle.dk_points.specs.Table.{Point}
-use Rattle.dk_formats.specs.declared.formats.Format.{Format}
-use Rattle.dk_formats.specs.declared.formats.Format.TheVariants as format
+use Rattle.dk_formats.specs.declared.formats.Sectioned.{Sectioned}
+use Rattle.dk_formats.specs.declared.formats.Sectioned.TheVariants as format
 use Rattle.dk_formats.specs.declared.functions.Parts.{Parts}
 
 -- what is said of a section
-abbrev IsSaidAt : List Point → SaidSection → Type 0
+abbrev pub IsSaidAt : List Point → SaidSection → Type 0
 IsSaidAt ps s = AreSaid (vars_under ps s.section.point) s.section.lines s.lines
 
 -- ---- what is read
@@ -28,10 +28,10 @@ pub says_by : (infos : List VarInfo) (text given : List ℕ) (says : Option Asse
 says_by infos text given None is some none = subst (λ (t : List ℕ). HasNone infos t) is none
 says_by infos text given (Some a) is some none = subst (λ (t : List ℕ). IsRead infos t a) is some
 
-none_said : (infos : List VarInfo) → AreSaid infos [] []
+pub none_said : (infos : List VarInfo) → AreSaid infos [] []
 none_said infos = record { lines_are = refl; each = All-nil (λ (s : Said). Says infos s.line.text s.says) }
 
-more_said : (infos : List VarInfo) (lines : List ReportLine) (said : List Said) (line : ReportLine) (says : Option Assertion) → AreSaid infos lines said
+pub more_said : (infos : List VarInfo) (lines : List ReportLine) (said : List Said) (line : ReportLine) (says : Option Assertion) → AreSaid infos lines said
     → Says infos line.text says → AreSaid infos (lines ++ line ∷ []) (said ++ record { line = line; says = says } ∷ [])
 more_said infos lines said line says are is = record {
   lines_are = map-append (λ (s : Said). s.line) said (record { line = line; says = says } ∷ []) ∙ ap (λ (l : List ReportLine). l ++ line ∷ []) are.lines_are;
@@ -41,7 +41,7 @@ more_said infos lines said line says are is = record {
 -- ---- one line more
 module _ (infos : List VarInfo) (lines : List ReportLine) (i : ℕ) (line : ReportLine) (within : i < length lines) (here : line ≡ get_or lines i line)
     (says : Option Assertion) (is : Says infos line.text says) where
-  one_more : take i lines ++ line ∷ [] ≡ take (i + 1) lines
+  pub one_more : take i lines ++ line ∷ [] ≡ take (i + 1) lines
   one_more = ap (λ (l : ReportLine). take i lines ++ l ∷ []) here ∙ sym (take_more lines i line within)
 
   pub more_json : (point old mid new : List ℕ) → AddsJson infos point (take i lines) old mid
@@ -109,26 +109,34 @@ function_added l infos section parts old one two three new are first second thir
     }
 
 -- ---- reports
-pub no_sections : (f : Format) (ps : List Point) (text : List ℕ) → AddsSections f ps [] text text
+pub no_sections : (f : Sectioned) (ps : List Point) (text : List ℕ) → AddsSections f ps [] text text
 no_sections f ps text = record {
   said = [];
   are_said = record { sections_are = refl; each = All-nil (IsSaidAt ps) };
   added = sym (append-nil text);
 }
 
-pub more_sections : (f : Format) (ps : List Point) (sections : List Section) (i : ℕ) (section : Section) → i < length sections
+pub more_said_sections : (ps : List Point) (sections : List Section) (i : ℕ) (section : Section) → i < length sections
+    → section ≡ get_or sections i section → (said : List SaidSection) (lines : List Said) → AreSaidSections ps (take i sections) said
+    → AreSaid (vars_under ps section.point) section.lines lines
+    → AreSaidSections ps (take (i + 1) sections) (said ++ record { section = section; lines = lines } ∷ [])
+more_said_sections ps sections i section within here said lines are one =
+    let last : SaidSection = record { section = section; lines = lines } in
+    let longer : take i sections ++ section ∷ [] ≡ take (i + 1) sections =
+    ap (λ (s : Section). take i sections ++ s ∷ []) here ∙ sym (take_more sections i section within) in
+    record {
+      sections_are = map-append (λ (s : SaidSection). s.section) said (last ∷ [])
+          ∙ ap (λ (l : List Section). l ++ section ∷ []) are.sections_are ∙ longer;
+      each = All-push (IsSaidAt ps) said last are.each one;
+    }
+
+pub more_sections : (f : Sectioned) (ps : List Point) (sections : List Section) (i : ℕ) (section : Section) → i < length sections
     → section ≡ get_or sections i section → (old mid new : List ℕ) → AddsSections f ps (take i sections) old mid
     → AddsSection f (vars_under ps section.point) section mid new → AddsSections f ps (take (i + 1) sections) old new
 more_sections f ps sections i section within here old mid new adds one =
     let last : SaidSection = record { section = section; lines = one.said } in
-    let longer : take i sections ++ section ∷ [] ≡ take (i + 1) sections =
-    ap (λ (s : Section). take i sections ++ s ∷ []) here ∙ sym (take_more sections i section within) in
     record {
       said = adds.said ++ last ∷ [];
-      are_said = record {
-        sections_are = map-append (λ (s : SaidSection). s.section) adds.said (last ∷ [])
-            ∙ ap (λ (l : List Section). l ++ section ∷ []) adds.are_said.sections_are ∙ longer;
-        each = All-push (IsSaidAt ps) adds.said last adds.are_said.each one.are_said;
-      };
+      are_said = more_said_sections ps sections i section within here adds.said one.said adds.are_said one.are_said;
       added = one.added ∙ ap (λ (t : List ℕ). t ++ section_text f ps last) adds.added ∙ flat_map_more (section_text f ps) old adds.said last;
     }

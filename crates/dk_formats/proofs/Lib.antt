@@ -1,2 +1,5 @@
 pub mod Adding
 pub mod Expressions
+pub mod Told
+pub mod Paging
+pub mod Once

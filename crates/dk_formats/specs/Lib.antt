@@ -1,5 +1,6 @@
 -- cited by public clauses
 pub mod Telling
+pub mod Laws
 -- what those are made of
 pub mod Saying
 -- inner: cited by the clauses of bodies and in proofs alone

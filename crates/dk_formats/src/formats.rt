@@ -8,4 +8,15 @@ pub enum Format {
     Json,
     /// A function, or a macro, for each point.
     In(Language),
+    /// A page of HTML.
+    Html,
+}
+
+/// A format in which sections are told one after another.
+#[derive(Clone, Copy, Debug, PartialEq, Eq)]
+pub enum Sectioned {
+    /// An object of JSON a line.
+    Json,
+    /// A function, or a macro, for each point.
+    In(Language),
 }

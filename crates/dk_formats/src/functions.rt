@@ -6,7 +6,7 @@ ghost use Rattle.dk_languages.specs.Bases.{bases};
 ghost use Rattle.dk_formats.specs.Steps.{AddsSection, AreParts};
 ghost use Rattle.dk_formats.specs.Telling.{expression_of};
 
-use crate::Format;
+use crate::formats::Sectioned;
 use dk_base::{NoMemory, Text, VarInfo};
 use dk_claims::{ReportLine, Section};
 use dk_expr::{Assertion, Names, read_by};
@@ -103,7 +103,7 @@ pub(crate) fn push_function(
     section: &Section,
 ) -> Result<(), NoMemory>
     requires { length vars.now < 2 ^ 32 }
-    ensures { OnOk result (AddsSection (Format.In language) vars.now section.now text.old text.new) }
+    ensures { OnOk result (AddsSection (Sectioned.In language) vars.now section.now text.old text.new) }
 {
     let names = Names::of(alloc, vars)?;
     let parts = parts_of(alloc, language, vars, &names, section.lines.as_slice())?;

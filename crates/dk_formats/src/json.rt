@@ -5,7 +5,7 @@ ghost use Rattle.dk_formats.specs.Steps.{AddsJson, AddsSection};
 ghost use Rattle.dk_formats.specs.Telling.{json_line, says_fields};
 ghost use Rattle.dk_json.specs.Lines.{claimed_fields, object_of, written};
 
-use crate::Format;
+use crate::formats::Sectioned;
 use dk_base::{NoMemory, Text, VarInfo};
 use dk_claims::{ReportLine, Section};
 use dk_expr::{Assertion, Names, read_by};
@@ -83,7 +83,7 @@ pub(crate) fn push_json(
     section: &Section,
 ) -> Result<(), NoMemory>
     requires { length vars.now < 2 ^ 32 }
-    ensures { OnOk result (AddsSection Format.Json vars.now section.now text.old text.new) }
+    ensures { OnOk result (AddsSection Sectioned.Json vars.now section.now text.old text.new) }
 {
     let names = Names::of(alloc, vars)?;
     push_lines(

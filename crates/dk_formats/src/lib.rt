@@ -1,9 +1,11 @@
-//! Reports in a format: their lines as objects of JSON, or as a function of their point.
+//! Reports in a format: their lines as objects of JSON, as a function of their point, or as a page.
 #![tactic(auto)]
 
 mod formats;
 mod functions;
 mod json;
+pub mod laws;
+mod pages;
 mod reports;
 mod sections;
 #[cfg(test)]

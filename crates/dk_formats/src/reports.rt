@@ -2,10 +2,12 @@
 ghost use Rattle.std.specs.Prelude.{◌≡◌, ◌<◌, IfOk, OnOk, length};
 ghost use Rattle.dk_derive.specs.Laws.{all_vars_of};
 ghost use Rattle.dk_formats.specs.Saying.{vars_under};
-ghost use Rattle.dk_formats.specs.Steps.{AddsSection};
+ghost use Rattle.dk_formats.specs.Steps.{AddsSection, AreTold};
 ghost use Rattle.dk_formats.specs.Telling.{IsTold, front_text};
 
 use crate::Format;
+use crate::formats::Sectioned;
+use crate::pages::page_report;
 use crate::sections::push_section;
 use dk_base::{NoMemory, PointId, Text};
 use dk_claims::Section;
@@ -15,12 +17,12 @@ use dk_points::Points;
 use std::alloc::Global;
 
 // What stands in front of all sections.
-fn front_text(format: Format) -> &'static str
+fn front_text(format: Sectioned) -> &'static str
     ensures { result.now ≡ front_text format }
 {
     match format {
-        Format::Json => "",
-        Format::In(language) => preamble(language),
+        Sectioned::Json => "",
+        Sectioned::In(language) => preamble(language),
     }
 }
 
@@ -28,7 +30,7 @@ fn front_text(format: Format) -> &'static str
 fn push_known(
     alloc: Global,
     text: &mut Text,
-    format: Format,
+    format: Sectioned,
     points: &Points,
     point: PointId,
     section: &Section,
@@ -44,7 +46,7 @@ fn push_known(
 fn push_section_of(
     alloc: Global,
     text: &mut Text,
-    format: Format,
+    format: Sectioned,
     points: &Points,
     section: &Section,
 ) -> Result<(), NoMemory>
@@ -54,6 +56,22 @@ fn push_section_of(
         Some(point) => push_known(alloc, text, format, points, point, section),
         None => push_section(alloc, text, format, &[], section),
     }
+}
+
+// The sections of a report, one after another.
+fn sections_told(
+    alloc: Global,
+    format: Sectioned,
+    points: &Points,
+    sections: &[Section],
+) -> Result<Text, NoMemory>
+    ensures { IfOk result (AreTold format sections.now points.now) }
+{
+    let mut text = Text::from_slice(alloc, front_text(format).as_bytes())?;
+    for section in sections {
+        push_section_of(alloc, &mut text, format, points, section)?;
+    }
+    Ok(text)
 }
 
 /// The sections of a report in a format. A text is read as the first instance of the point's variables, derived ones included, that has
@@ -66,9 +84,9 @@ pub fn report(
 ) -> Result<Text, NoMemory>
     ensures { IfOk result (IsTold format sections.now points.now) }
 {
-    let mut text = Text::from_slice(alloc, front_text(format).as_bytes())?;
-    for section in sections {
-        push_section_of(alloc, &mut text, format, points, section)?;
+    match format {
+        Format::Json => sections_told(alloc, Sectioned::Json, points, sections),
+        Format::In(language) => sections_told(alloc, Sectioned::In(language), points, sections),
+        Format::Html => page_report(alloc, points, sections),
     }
-    Ok(text)
 }

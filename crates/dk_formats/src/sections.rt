@@ -2,7 +2,7 @@
 ghost use Rattle.std.specs.Prelude.{◌≡◌, ◌<◌, ◌^◌, OnOk, length};
 ghost use Rattle.dk_formats.specs.Steps.{AddsSection};
 
-use crate::Format;
+use crate::formats::Sectioned;
 use crate::functions::push_function;
 use crate::json::push_json;
 use dk_base::{NoMemory, Text, VarInfo};
@@ -14,7 +14,7 @@ use std::alloc::Global;
 pub(crate) fn push_section(
     alloc: Global,
     text: &mut Text,
-    format: Format,
+    format: Sectioned,
     vars: &[VarInfo],
     section: &Section,
 ) -> Result<(), NoMemory>
@@ -22,7 +22,7 @@ pub(crate) fn push_section(
     ensures { OnOk result (AddsSection format vars.now section.now text.old text.new) }
 {
     match format {
-        Format::Json => push_json(alloc, text, vars, section),
-        Format::In(language) => push_function(alloc, text, language, vars, section),
+        Sectioned::Json => push_json(alloc, text, vars, section),
+        Sectioned::In(language) => push_function(alloc, text, language, vars, section),
     }
 }

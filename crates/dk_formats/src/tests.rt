@@ -1,5 +1,5 @@
 // A section of a small report in each format, put together by hand.
-use crate::Format;
+use crate::formats::Sectioned;
 use crate::sections::push_section;
 use dk_base::{Compar, Form, Kind, List, NoMemory, Text, VarId, VarInfo};
 use dk_claims::Sections;
@@ -34,7 +34,7 @@ fn variables(alloc: Global) -> Result<List<VarInfo>, NoMemory> {
 }
 
 // The report's sections in the format; the variables are the same at each point.
-fn told(alloc: Global, format: Format) -> Result<Text, NoMemory> {
+fn told(alloc: Global, format: Sectioned) -> Result<Text, NoMemory> {
     let infos = variables(alloc)?;
     let vars = infos.as_slice();
     // (There are four.)
@@ -65,19 +65,19 @@ fn told(alloc: Global, format: Format) -> Result<Text, NoMemory> {
 fn sections_are_told(rt: HostRuntime) {
     let cases = [
         (
-            Format::Json,
+            Sectioned::Json,
             "{\"point\":\"R.push\",\"text\":\"this.head >= 1\",\"samples\":6,\"row\":\"LowerBound\",\"variables\":[\"this.head\"],\"state\":{\"least\":1}}\n{\"point\":\"R.push\",\"text\":\"a[0] >= 2\",\"samples\":5,\"row\":\"LowerBound\",\"variables\":[\"a[0]\"],\"state\":{\"least\":2}}\n{\"point\":\"R.push\",\"text\":\"f(x) != 0\",\"samples\":6,\"row\":\"NonZero\",\"variables\":[\"f(x)\"],\"state\":{}}\n{\"point\":\"R.push\",\"text\":\"what is this\",\"samples\":null,\"row\":null,\"variables\":[],\"state\":{}}\n",
         ),
         (
-            Format::In(Language::Python),
+            Sectioned::In(Language::Python),
             "# not told: \"f(x) != 0\"\n# not told: \"what is this\"\ndef holds_at_R_push(self, a):\n    \"R.push\"\n    assert self.head >= 1, \"this.head >= 1\"\n    assert not (len(a) > 0) or (a[0] >= 2), \"a[0] >= 2\"\n\n\n",
         ),
         (
-            Format::In(Language::C),
+            Sectioned::In(Language::C),
             "// not told: \"f(x) != 0\"\n// not told: \"what is this\"\n// \"R.push\", of self, a, size_a\n#define holds_at_R_push() do { \\\n    dk_holds(\"this.head >= 1\", dk_int(self->head) >= 1); \\\n    dk_holds(\"a[0] >= 2\", !(dk_int(size_a) > 0) || (dk_int(a[0]) >= 2)); \\\n} while (0)\n\n",
         ),
         (
-            Format::In(Language::Smtlib),
+            Sectioned::In(Language::Smtlib),
             "; not told: \"what is this\"\n; \"R.push\"\n(define-fun |holds at R.push| ((|$this.head| Int) (|$a[..]| (Array Int Int)) (|$size(a[..])| Int) (|$f(x)| Int)) Bool (and true\n    (>= |$this.head| 1) ; \"this.head >= 1\"\n    (=> (and true (> |$size(a[..])| 0)) (>= (select |$a[..]| 0) 2)) ; \"a[0] >= 2\"\n    (distinct |$f(x)| 0) ; \"f(x) != 0\"\n))\n\n",
         ),
     ];

@@ -8,7 +8,7 @@ use Rattle.dk_arguments.specs.Given.{is_given, text_at, texts_at}
 use Rattle.dk_arguments.specs.Requests.{request_of as asked_of}
 use Rattle.dk_arguments.specs.declared.request.Request.{Request}
 use Rattle.dk_formats.specs.declared.formats.Format.{Format}
-use Rattle.dk_formats.specs.declared.formats.Format.TheVariants.{In, Json}
+use Rattle.dk_formats.specs.declared.formats.Format.TheVariants.{Html, In, Json}
 use Rattle.dk_languages.specs.declared.languages.Language.TheVariants.{C, Python, Smtlib}
 use Rattle.dk_tell.specs.Texts.{help_text, usage_line, version_text}
 use Rattle.dk_tell.specs.declared.command.Command.{Command}
@@ -18,7 +18,7 @@ abbrev pub dk_tell : Described
 dk_tell = record {
   name = codes "dk_tell";
   arguments =
-      record { name = codes "format"; form = one_of (codes "json" ∷ codes "python" ∷ codes "c" ∷ codes "smtlib" ∷ []) }
+      record { name = codes "format"; form = one_of (codes "json" ∷ codes "python" ∷ codes "c" ∷ codes "smtlib" ∷ codes "html" ∷ []) }
       ∷ record { name = codes "ignore-missing-entry"; form = flag }
       ∷ record { name = codes "report"; form = positional }
       ∷ record { name = codes "file"; form = positionals false }
@@ -34,6 +34,7 @@ format_named name =
     if bytes_eq name (codes "python") then In Python
     else if bytes_eq name (codes "c") then In C
     else if bytes_eq name (codes "smtlib") then In Smtlib
+    else if bytes_eq name (codes "html") then Html
     else Json
 
 -- What the rows of the accepted words say. The name of the report is among them, since it is required.

@@ -4,7 +4,7 @@ use Rattle.dk_tell.specs.declared.texts.TheConstants.{HELP_TEXT}
 
 -- where the words are refused
 unfoldable pub usage_line : List ℕ
-usage_line = codes "usage: dk_tell [--format json|python|c|smtlib] [--ignore-missing-entry] REPORT [FILE]...\n"
+usage_line = codes "usage: dk_tell [--format json|python|c|smtlib|html] [--ignore-missing-entry] REPORT [FILE]...\n"
 
 -- where they ask for help: a constant text of the code
 unfoldable pub help_text : List ℕ

@@ -26,7 +26,7 @@ const DESCRIPTION: Description = Description {
     arguments: &[
         Argument {
             name: "format",
-            form: Form::OneOf(&["json", "python", "c", "smtlib"]),
+            form: Form::OneOf(&["json", "python", "c", "smtlib", "html"]),
         },
         Argument {
             name: "ignore-missing-entry",
@@ -55,6 +55,8 @@ fn format_named(name: &str) -> Format
         Format::In(Language::C)
     } else if name == "smtlib" {
         Format::In(Language::Smtlib)
+    } else if name == "html" {
+        Format::Html
     } else {
         Format::Json
     }

@@ -3,12 +3,12 @@ ghost use Rattle.std.specs.Prelude.{◌≡◌};
 ghost use Rattle.dk_tell.specs.Texts.{help_text, usage_line, version_text};
 
 pub(crate) const USAGE_LINE: &str =
-    "usage: dk_tell [--format json|python|c|smtlib] [--ignore-missing-entry] REPORT [FILE]...\n";
+    "usage: dk_tell [--format json|python|c|smtlib|html] [--ignore-missing-entry] REPORT [FILE]...\n";
 
 pub(crate) const VERSION_TEXT: &str = "dk_tell 0.1.0\n";
 
 pub(crate) const HELP_TEXT: &str = "\
-usage: dk_tell [--format json|python|c|smtlib] [--ignore-missing-entry]
+usage: dk_tell [--format json|python|c|smtlib|html] [--ignore-missing-entry]
                REPORT [FILE]...
 
 Reads REPORT, and then declarations of program points, and maybe records of
@@ -20,7 +20,7 @@ another language.
   FILE                    a file to read; one that is named twice is read twice
   --format FORMAT         tell the lines as json, an object a line (default);
                           python, a function of asserts a point; c, a macro a
-                          point; or smtlib, a function a point
+                          point; smtlib, a function a point; or html, a page
   --ignore-missing-entry  leave out exits without an entry, default refuse them
   -h, --help              print this text and read nothing
   -V, --version           print the name and the version and read nothing
@@ -28,7 +28,8 @@ another language.
 
 A value may stand behind = in the same word, as in --format=c. Only FILE may be
 given more than once. A line that the language can't say, or that no instance
-of its point's variables has, is a comment; in json its row is null.
+of its point's variables has, is a comment; in json its row is null, and in html
+it stands among other lines.
 
 Status: 0 done, 1 a line is refused, 2 the words are refused, 3 a file can't be
 read, 4 the output can't be written, 5 out of memory.

@@ -1,5 +1,5 @@
-//! The command `dk_tell`: it reads a report, and files of declarations, and tells the report's lines as objects of JSON, or as functions of
-//! Python, C or SMT-LIB.
+//! The command `dk_tell`: it reads a report, and files of declarations, and tells the report's lines as objects of JSON, as functions of
+//! Python, C or SMT-LIB, or as a page.
 #![tactic(auto)]
 
 use dk_events::Ended;

@@ -1,0 +1,4 @@
+mod Adding
+mod Counting
+mod Examples
+mod Tables
