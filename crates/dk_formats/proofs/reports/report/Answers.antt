@@ -6,4 +6,4 @@ returns-in-Json c = json_told c.args.format c.args.sections.now c.args.points.no
 
 pub returns-in-In : goal.returns-in-In
 returns-in-In c =
-    in_language_told c.args.format c.in-In.language c.args.sections.now c.args.points.now c.sections_told.result c.in-In.is c.sections_told.ensures
+    in_language_told c.args.format c.in-In.language c.args.sections.now c.args.points.now c.sections_told-in-In.result c.in-In.is c.sections_told-in-In.ensures
