@@ -45,7 +45,8 @@ def judge_trace(bench: Bench, trial: Trial) -> Optional[str]:
     broken = broken_form(trial.program, trial.words, trial.case.files, outcome)
     if broken is not None or outcome.state is None or trial.program != "daikon" or "--every" in trial.words:
         return broken
-    words = [word for word in trial.words if word not in trial.case.files]
+    # a point may have a file's name
+    words = [word for before, word in zip(["", *trial.words], trial.words) if word not in trial.case.files or before == "--select"]
     again = bench.run("daikon", ["--resume", STATE] + words)
     part = differing(outcome, again)
     return "resumed alone: " + part if part is not None else None
