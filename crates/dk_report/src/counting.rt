@@ -12,7 +12,8 @@ ghost use Rattle.dk_presence.specs.Patterns.{capped, counted_by};
 ghost use Rattle.dk_report.specs.Counting.{AreAt, AreFound, AreIndexes, IsIndexOf, added, brought, brought_together, partner_count, single_count};
 
 use dk_base::{NoMemory, PointId, VarId, VarInfo};
-use dk_bitmaps::{PatternIndex, contains};
+use dk_bitmaps::PatternIndex;
+use dk_presence::contains;
 use dk_engine::Engine;
 use dk_hierarchy::{Merged, Way, merge};
 use dk_points::Points;
