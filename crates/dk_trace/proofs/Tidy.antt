@@ -8,6 +8,7 @@ use Rattle.std.proofs.lemmas.Slice.Eq.{bytes_eq-Decides}
 use Rattle.std.proofs.lemmas.Grind.{get_or_default_zero}
 use Rattle.std.proofs.lemmas.List.{drop_more, ext_get_or, get_or-reverse, get_or-take, length-take-le, reverse-reverse, take_all, take-append-drop}
 use Rattle.memchr.specs.Find.{NoneBefore, Passes, is_byte}
+use Rattle.dk_base.proofs.Digits.{to_end}
 use Rattle.dk_base.specs.Words.{is_blank, trim_blanks, without_front}
 use Rattle.dk_lines.specs.Left.{without_cr}
 use Rattle.dk_lines.specs.Passing.{HasNoLf}
@@ -56,10 +57,6 @@ tidy_plain l some above =
 
 pub cut_at : (xs : List ℕ) (k c : ℕ) → k < length xs → get_or xs k 0 ≡ c → xs ≡ take k xs ++ c ∷ drop (k + 1) xs
 cut_at xs k c lt is = sym (take-append-drop k xs) ∙ ap (λ (l : List ℕ). take k xs ++ l) (drop_more xs k 0 lt) ∙ ap (λ (b : ℕ). take k xs ++ b ∷ drop (k + 1) xs) is
-
--- what is left behind a place, as a slice without an end gives it
-pub to_end : (xs : List ℕ) (k : ℕ) → take (length xs - k) (drop k xs) ≡ drop k xs
-to_end xs k = take_all (length xs - k) (drop k xs) (omega (arith, length-drop k xs))
 
 -- in front of the first LF is none
 pub no_lf_before : (xs : List ℕ) (k : ℕ) → NoneBefore (Passes (is_byte 10) xs) 0 (length xs) k → HasNoLf (take k xs)

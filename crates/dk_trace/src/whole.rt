@@ -4,15 +4,14 @@ ghost use Rattle.dk_base.specs.Names.{unescaped};
 ghost use Rattle.dk_base.specs.Values.{values_of as shown_by};
 ghost use Rattle.dk_lines.specs.Passing.{HasNoLf};
 ghost use Rattle.dk_trace.specs.Answers.{shown_value};
-ghost use Rattle.dk_trace.specs.Whole.{BodyStands, DigitsStand, IsCut, IsTidy, MarkStands, NumberStands, StandsWhole, TextStands, ValuesStand, VariableStands};
+ghost use Rattle.dk_trace.specs.Whole.{BodyStands, IsCut, IsTidy, MarkStands, NumberStands, StandsWhole, TextStands, ValuesStand, VariableStands};
 
 use crate::marks::Unmarked;
 use crate::reader::{point_named_by, var_decls_at};
 use crate::sample::BaseSample;
 use crate::values::{push_constant, push_shown};
 use bumpalo::collections::into_bump_slice;
-use core::dec2flt::read_digits;
-use dk_base::{Arena, BlockFault, Kind, NoMemory, View, parse_integer, same_bytes};
+use dk_base::{Arena, BlockFault, Kind, NoMemory, View, parse_integer, same_bytes, short_number};
 use dk_decl::VarDecl;
 use dk_points::Points;
 use memchr::memchr;
@@ -93,33 +92,16 @@ fn cut_line(bytes: &[u8]) -> Option<(&[u8], &[u8])>
     }
 }
 
-// The number that up to 18 digits in the first line write, and what follows its LF.
-fn short_digits(bytes: &[u8]) -> Option<(u64, &[u8])>
-    ensures { IfSome result (λ r. DigitsStand bytes.now r.0 r.1.now) }
-{
-    let (len, size) = read_digits(bytes, 0, 0);
-    if len == 0 || len > 18 || len == bytes.len() {
-        return None;
-    }
-    if bytes[len] != b'\n' {
-        return None;
-    }
-    Some((size, &bytes[len + 1..]))
-}
-
-// The whole number that up to 18 digits in the first line write, with an optional minus, and what follows its LF.
-fn short_number(bytes: &[u8]) -> Option<(i64, &[u8])>
+// The short whole number in the first line, if nothing else stands there; and what follows its LF.
+fn number_line(bytes: &[u8]) -> Option<(i64, &[u8])>
     ensures { IfSome result (λ r. NumberStands bytes.now r.0 r.1.now) }
 {
-    match bytes {
-        [b'-', digits @ ..] => match short_digits(digits) {
-            Some((size, rest)) => Some((-(size as i64), rest)),
-            None => None,
-        },
-        _ => match short_digits(bytes) {
-            Some((size, rest)) => Some((size as i64, rest)),
-            None => None,
-        },
+    let Some((number, behind)) = short_number(bytes) else {
+        return None;
+    };
+    match behind {
+        [b'\n', rest @ ..] => Some((number, rest)),
+        _ => None,
     }
 }
 
@@ -128,7 +110,7 @@ fn read_number<'a, 'b>(kind: Option<Kind>, bytes: &'b [u8]) -> Option<(Unmarked<
     ensures { IfSome result (λ r. TextStands kind bytes.now r.0 r.1.now) }
 {
     match kind {
-        Some(Kind::Int) => match short_number(bytes) {
+        Some(Kind::Int) => match number_line(bytes) {
             Some((number, rest)) => Some((Unmarked::Value(View::Int(number)), rest)),
             None => None,
         },

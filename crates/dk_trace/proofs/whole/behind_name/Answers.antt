@@ -1,7 +1,8 @@
 use Rattle.std.proofs.Common.{◌<◌, ◌+◌, ℕ, List, length, sym, subst, arith, rules}
 use Rattle.dk_base.proofs.Spellings.{plain}
 use Rattle.dk_trace.specs.Whole.{IsCut}
-use Rattle.dk_trace.proofs.Tidy.{name_cut, to_end}
+use Rattle.dk_base.proofs.Digits.{to_end}
+use Rattle.dk_trace.proofs.Tidy.{name_cut}
 use Rattle.dk_trace.proofs.whole.behind_name.Goals as goal
 
 pub returns-clause-cut : goal.returns-clause-cut
