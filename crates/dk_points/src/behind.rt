@@ -10,6 +10,7 @@ ghost use Rattle.dk_points.specs.Vars.{base_vars, entry_before};
 
 use crate::links::{Kept, kept_edges};
 use crate::places::Own;
+use crate::bare::have_bare_names;
 use crate::points::Points;
 use crate::roles::{entry_name, role_of};
 use crate::variables::{declared_vars, with_orig_vars};
@@ -54,11 +55,13 @@ impl Points {
         let role = role_of(decl.name.as_slice());
         let entry = self.entry_before(decl.name.as_slice())?;
         let vars = self.base_vars(&decl, entry)?;
+        let is_bare = have_bare_names(decl.vars.as_slice());
         Ok(Own {
             decl,
             role,
             vars,
             entry,
+            is_bare,
         })
     }
 

@@ -101,16 +101,3 @@ two_front (x ∷ y ∷ bs) b long first lf =
 pub one_front : (bytes : List ℕ) (b : ℕ) → 1 ≤ length bytes → get_or bytes 0 0 ≡ b → bytes ≡ b ∷ take (length bytes - 1) (drop 1 bytes)
 one_front [] b long first = absurd (omega (arith, long))
 one_front (x ∷ bs) b long first = ap (λ (l : List ℕ). x ∷ l) (sym (to_end (x ∷ bs) 1)) ∙ ap (λ (c : ℕ). c ∷ take (length (x ∷ bs) - 1) bs) first
-
--- bytes that are a name's, one by one, and an LF
-pub name_cut : (bytes name : List ℕ) → 0 < length name → length name < length bytes → get_or bytes (length name) 0 ≡ 10
-    → ((k : ℕ) → k < length name → get_or bytes k 0 ≡ get_or name k 0) → ((k : ℕ) → k < length name → 32 < get_or name k 0) → IsCut bytes name (drop (length name + 1) bytes)
-name_cut bytes name some lt lf same above =
-    let len : length (take (length name) bytes) ≡ length name = length-take-le (length name) bytes (omega (arith, lt)) in
-    let front : take (length name) bytes ≡ name = ext_get_or 0 (take (length name) bytes) name len (λ k below.
-    let low : k < length name = omega (arith, len, below) in
-    get_or-take (length name) bytes k 0 low ∙ same k low) in
-    record {
-      whole = cut_at bytes (length name) 10 lt lf ∙ ap (λ (l : List ℕ). l ++ 10 ∷ drop (length name + 1) bytes) front;
-      tidy = tidy_plain name some above;
-    }

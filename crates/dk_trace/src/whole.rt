@@ -1,8 +1,8 @@
 // Records that stand whole in the bytes at hand.
-ghost use Rattle.std.specs.Prelude.{◌≡◌, ◌≢◌, ◌≤◌, ◌<◌, ◌++◌, ◌∷◌, ℕ, List, IfOk, IfSome, IsTrue, MatchOption, false, length, slice_index};
-ghost use Rattle.dk_base.specs.Names.{unescaped};
+ghost use Rattle.std.specs.Prelude.{◌≡◌, ◌≢◌, ◌≤◌, ◌<◌, ◌++◌, ◌∷◌, ℕ, List, IfOk, IfSome, IsTrue, MatchOption, false, true, length};
 ghost use Rattle.dk_base.specs.Values.{values_of as shown_by};
 ghost use Rattle.dk_lines.specs.Passing.{HasNoLf};
+ghost use Rattle.dk_points.specs.Bare.{have_bare_names, is_bare_name};
 ghost use Rattle.dk_trace.specs.Answers.{shown_value};
 ghost use Rattle.dk_trace.specs.Whole.{BodyStands, IsCut, IsTidy, MarkStands, NumberStands, StandsWhole, TextStands, ValuesStand, VariableStands};
 
@@ -170,28 +170,6 @@ fn read_mark<'a, 'b>(
     }
 }
 
-// What follows the name's line, if the bytes begin with it, and if none of the name's bytes is a blank, a control or a backslash. Then the
-// line is read as it stands, and is the name.
-fn behind_name<'b>(bytes: &'b [u8], name: &[u8]) -> Option<&'b [u8]>
-    ensures cut { IfSome result (λ rest. IsCut bytes.now name.now rest.now) }
-    ensures means { IfSome result (λ rest. unescaped name.now ≡ name.now) }
-{
-    let len = name.len();
-    if len == 0 || bytes.len() <= len {
-        return None;
-    }
-    if bytes[len] != b'\n' {
-        return None;
-    }
-    for i in 0..len {
-        let byte = name[i];
-        if byte <= b' ' || byte == b'\\' || bytes[i] != byte {
-            return None;
-        }
-    }
-    Some(&bytes[len + 1..])
-}
-
 // The values with that of a variable, if the bytes begin with its three lines; and what follows these.
 fn read_variable<'a, 'b>(
     arena: &'a Arena,
@@ -199,9 +177,10 @@ fn read_variable<'a, 'b>(
     bytes: &'b [u8],
     values: &mut Vec<View<'a>, &'a Arena>,
 ) -> Result<Option<&'b [u8]>, NoMemory>
+    requires { is_bare_name var.now.name ≡ true }
     ensures { IfOk result (λ read. IfSome read (λ rest. VariableStands var.now bytes.now (shown_by values.old.items) (shown_by values.new.items) rest.now)) }
 {
-    let Some(text) = behind_name(bytes, var.name.as_slice()) else {
+    let Some(text) = behind_line(bytes, var.name.as_slice()) else {
         return Ok(None);
     };
     let (unmarked, mark) = match read_text(arena, var.kind, text) {
@@ -222,6 +201,7 @@ fn read_values<'a, 'b>(
     vars: &[VarDecl],
     bytes: &'b [u8],
 ) -> Result<Option<(&'a [View<'a>], &'b [u8], u64)>, NoMemory>
+    requires { have_bare_names vars.now ≡ true }
     ensures { IfOk result (λ read. IfSome read (λ r. ValuesStand vars.now bytes.now (shown_by r.0.now) r.1.now r.2)) }
 {
     let mut values: Vec<View<'a>, &'a Arena> = Vec::with_capacity(arena, vars.len())?;
@@ -253,6 +233,7 @@ fn read_body<'a, 'b>(
     vars: &[VarDecl],
     bytes: &'b [u8],
 ) -> Result<Option<Body<'a, 'b>>, NoMemory>
+    requires { have_bare_names vars.now ≡ true }
     ensures { IfOk result (λ read. IfSome read (λ b. BodyStands vars.now bytes.now b.nonce (shown_by b.values.now) b.rest.now b.count)) }
 {
     let Some(number) = behind_line(bytes, b"this_invocation_nonce") else {
@@ -287,7 +268,7 @@ fn read_body<'a, 'b>(
 
 /// The record that stands whole at the front of the bytes, the first line of which has this number, with the empty line behind it. Where
 /// none is given, one may stand there all the same; only its lines tell then. A record is given only where each of its lines is read as it
-/// stands, and its names are spelled as they are.
+/// stands, and its variables have bare names.
 pub fn read_whole<'a>(
     alloc: Global,
     points: &Points,
@@ -305,6 +286,9 @@ pub fn read_whole<'a>(
         Err(BlockFault::NoMemory) => return Err(NoMemory),
         Err(BlockFault::Refused { .. }) => return Ok(None),
     };
+    if !points.has_bare_names(point) {
+        return Ok(None);
+    }
     let body = match read_body(arena, var_decls_at(points, point), rest) {
         Ok(Some(body)) => body,
         Ok(None) => return Ok(None),
