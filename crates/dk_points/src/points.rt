@@ -73,6 +73,14 @@ impl Points {
         self.graph.find(name)
     }
 
+    /// The point of this name, where another point is tried first; that need be none of the table's.
+    pub fn find_from(&self, first: PointId, name: &[u8]) -> Option<PointId>
+        ensures place { option_map place_in result ≡ place_of (names self.now) name.now }
+        ensures within { IfSome result (λ p. p.0 < length self.now) }
+    {
+        self.graph.find_from(first, name)
+    }
+
     /// The point's name.
     pub fn name(&self, p: PointId) -> &[u8]
         requires { p.0 < length self.now }
