@@ -1,5 +1,5 @@
 -- Short whole numbers in front of other bytes.
-use Rattle.std.proofs.Common.{◌≡◌, ◌≢◌, ◌≤◌, ◌<◌, ◌+◌, ◌-◌, ◌%◌, ◌^◌, ◌++◌, ◌∙◌, ◌⊎◌, ◌&&◌, ℕ, ℤ, pos, neg_ℤ, zero, suc, Bool, true, false, List, [], ◌∷◌, length, take, drop, get_or, Option, Some, None, refl, sym, ap, subst, arith, nat_lt, length-append, length-drop, append-nil, map, if◌then◌else◌}
+use Rattle.std.proofs.Common.{◌≡◌, ◌≢◌, ◌≤◌, ◌<◌, ◌-◌, ◌%◌, ◌^◌, ◌++◌, ◌∙◌, ◌⊎◌, inl, inr, ◌&&◌, ℕ, ℤ, pos, neg_ℤ, zero, suc, Bool, true, false, List, [], ◌∷◌, length, take, drop, get_or, Option, Some, None, refl, sym, ap, arith, nat_lt, length-append, length-drop, append-nil, map, if◌then◌else◌}
 use Rattle.std.specs.Prelude.{◌==◌}
 use Rattle.std.specs.Char.{digit_value, is_ascii_digit, is_digit}
 use Rattle.std.specs.List.{list_all}
@@ -17,7 +17,7 @@ use Rattle.dk_base.specs.Numbers.{fits_i64, negated, numeral_of, short_digits, s
 use Rattle.dk_base.specs.Pieces.{pieces}
 use Rattle.dk_base.specs.Sequences.{IsFrontItem}
 use Rattle.dk_base.specs.declared.items.Item.{Item}
-use Rattle.dk_base.specs.declared.items.Item.TheVariants.{Bad, Missing, Present}
+use Rattle.dk_base.specs.declared.items.Item.TheVariants.{Present}
 use Rattle.dk_base.specs.declared.splitting.Cut.TheVariants.{AtBlanksOutsideQuotes}
 use Rattle.dk_base.proofs.Splits.{piece_in_front, piece_to_end}
 use Rattle.dk_base.proofs.Wordless.{int_by_number}
@@ -25,6 +25,14 @@ use Rattle.dk_base.proofs.Wordless.{int_by_number}
 -- what is left behind a place, as a slice without an end gives it
 pub to_end : (xs : List ℕ) (k : ℕ) → take (length xs - k) (drop k xs) ≡ drop k xs
 to_end xs k = take_all (length xs - k) (drop k xs) (omega (arith, length-drop k xs))
+
+-- a byte and what follows
+pub front_is : (bytes : List ℕ) (b : ℕ) → 1 ≤ length bytes → get_or bytes 0 0 ≡ b → bytes ≡ b ∷ drop 1 bytes
+front_is [] b long first = absurd (omega (arith, long))
+front_is (x ∷ xs) b long first = ap (λ (c : ℕ). c ∷ xs) first
+
+pub one_front : (bytes : List ℕ) (b : ℕ) → 1 ≤ length bytes → get_or bytes 0 0 ≡ b → bytes ≡ b ∷ take (length bytes - 1) (drop 1 bytes)
+one_front bytes b long first = front_is bytes b long first ∙ ap (λ (l : List ℕ). b ∷ l) (sym (to_end bytes 1))
 
 -- ---- digits
 
@@ -85,10 +93,11 @@ within : (n : ℕ) → 0 < n → n ≤ 18 → (nat_lt 0 n && nat_lt n 19) ≡ tr
 within n some most = grind (arith, nat_tests)
 
 beyond : (n : ℕ) → (n ≡ 0) ⊎ (18 < n) → (nat_lt 0 n && nat_lt n 19) ≡ false
-beyond n is = elim is [ inl zero ↦ none n zero | inr many ↦ large n many ]
+beyond n is = elim is [ inl nothing ↦ none n nothing | inr many ↦ large n many ]
   where
     none : (n : ℕ) → n ≡ 0 → (nat_lt 0 n && nat_lt n 19) ≡ false
     none n is = grind (arith, nat_tests)
+
     large : (n : ℕ) → 18 < n → (nat_lt 0 n && nat_lt n 19) ≡ false
     large n is = grind (arith, nat_tests)
 
@@ -219,7 +228,11 @@ negative_stands b xs rest size z minus stands is =
           (ap fits_i64 number ∙ fits_short true (digits_value 10 stands.digits) (short_below stands.digits stands.short stands.are));
     }
 
-mapped : (f : ℕ → ℤ) (o : Option (ℕ × List ℕ)) (z : ℤ) (rest : List ℕ) → option_map (λ (r : ℕ × List ℕ). (f r.0, r.1)) o ≡ Some (z, rest)
+-- the number by its digits, and what follows them
+abbrev with_number : (ℕ → ℤ) → Option (ℕ × List ℕ) → Option (ℤ × List ℕ)
+with_number f o = option_map (λ (r : ℕ × List ℕ). let out : ℤ × List ℕ = (f r.0, r.1) in out) o
+
+mapped : (f : ℕ → ℤ) (o : Option (ℕ × List ℕ)) (z : ℤ) (rest : List ℕ) → with_number f o ≡ Some (z, rest)
     → (n : ℕ) × (o ≡ Some (n, rest)) × (z ≡ f n)
 mapped f None z rest h = absurd (cc h)
 mapped f (Some r) z rest h =
@@ -232,14 +245,10 @@ short_stands [] rest z is = absurd (cc is)
 short_stands (b ∷ bs) rest z is = go (b == 45) refl is
   where
     go : (m : Bool) → (b == 45) ≡ m
-        → ◌≡◌ {A = Option (ℤ × List ℕ)} (if m then option_map (λ (r : ℕ × List ℕ). (negated r.0, r.1)) (short_digits bs) else option_map (λ (r : ℕ × List ℕ). (pos r.0, r.1)) (short_digits (b ∷ bs))) (Some (z, rest))
+        → ◌≡◌ {A = Option (ℤ × List ℕ)} (if m then with_number negated (short_digits bs) else with_number pos (short_digits (b ∷ bs))) (Some (z, rest))
         → ShortStands (b ∷ bs) z rest
     go true e h = let r = mapped negated (short_digits bs) z rest h in negative_stands b bs rest r.0 z (eqb-true b 45 e) (digits_stand bs rest r.0 r.1) r.2
     go false e h = let r = mapped pos (short_digits (b ∷ bs)) z rest h in positive_stands (b ∷ bs) rest r.0 z (digits_stand (b ∷ bs) rest r.0 r.1) r.2
-
--- what the code gives
-abbrev with_number : (ℕ → ℤ) → Option (ℕ × List ℕ) → Option (ℤ × List ℕ)
-with_number f o = option_map (λ (r : ℕ × List ℕ). (f r.0, r.1)) o
 
 behind_minus : (o : Option (ℕ × List ℕ)) (bytes ds : List ℕ) → bytes ≡ 45 ∷ ds → o ≡ short_digits ds → with_number negated o ≡ short_number bytes
 unfolding short_number
@@ -282,6 +291,11 @@ no_positive (b ∷ bs) other is = without_minus None b bs (differs b other) is
     differs : (c : ℕ) → c ≢ 45 → (c == 45) ≡ false
     differs c other = grind (arith, nat_tests)
 
+-- nothing, by its length
+pub nothing : (l : List ℕ) → length l < 1 → l ≡ []
+nothing [] short = refl
+nothing (b ∷ bs) short = absurd (omega (arith, short))
+
 -- a text that is all such a number
 pub all_number : (bytes rest : List ℕ) (z : ℤ) → Some (z, rest) ≡ short_number bytes → rest ≡ [] → Present z ≡ item_in_range fits_i64 (whole_of bytes)
 all_number bytes rest z is nothing =
@@ -296,14 +310,16 @@ number_item text z reads = sym (int_by_number text (λ bad. let none = sym bad �
 
 pub item_to_end : (bytes rest : List ℕ) (z : ℤ) → Some (z, rest) ≡ short_number bytes → rest ≡ [] → IsFrontItem int_item bytes z rest
 item_to_end bytes rest z is nothing =
-    let stands = short_stands bytes rest z (sym is) in
-    (ap (map int_item) (piece_to_end AtBlanksOutsideQuotes stands.text rest bytes stands.whole nothing stands.some stands.low stands.high)
-    ∙ ap (λ (i : Item ℤ). i ∷ map int_item (pieces AtBlanksOutsideQuotes rest)) (number_item stands.text z stands.reads),
-    omega (arith, ap length stands.whole, length-append stands.text rest, stands.some))
+    let stands = short_stands bytes rest z (sym is) in (
+      ap (map int_item) (piece_to_end AtBlanksOutsideQuotes stands.text rest bytes stands.whole nothing stands.some stands.low stands.high)
+          ∙ ap (λ (i : Item ℤ). i ∷ map int_item (pieces AtBlanksOutsideQuotes rest)) (number_item stands.text z stands.reads),
+      omega (arith, ap length stands.whole, length-append stands.text rest, stands.some),
+    )
 
 pub item_in_front : (bytes rest left : List ℕ) (z : ℤ) → Some (z, rest) ≡ short_number bytes → rest ≡ 32 ∷ left → IsFrontItem int_item bytes z left
 item_in_front bytes rest left z is blank =
-    let stands = short_stands bytes rest z (sym is) in
-    (ap (map int_item) (piece_in_front AtBlanksOutsideQuotes stands.text rest left bytes stands.whole blank stands.some stands.low stands.high)
-    ∙ ap (λ (i : Item ℤ). i ∷ map int_item (pieces AtBlanksOutsideQuotes left)) (number_item stands.text z stands.reads),
-    omega (arith, ap length stands.whole, ap length blank, length-append stands.text rest, stands.some))
+    let stands = short_stands bytes rest z (sym is) in (
+      ap (map int_item) (piece_in_front AtBlanksOutsideQuotes stands.text rest left bytes stands.whole blank stands.some stands.low stands.high)
+          ∙ ap (λ (i : Item ℤ). i ∷ map int_item (pieces AtBlanksOutsideQuotes left)) (number_item stands.text z stands.reads),
+      omega (arith, ap length stands.whole, ap length blank, length-append stands.text rest, stands.some),
+    )

@@ -145,8 +145,8 @@ numeric_parts cut (b ∷ bs) rest low high =
     let above : 45 ≤ b = low 0 (omega arith) in
     let below : b ≤ 57 = high 0 (omega arith) in
     rw (plain_cuts cut b (no_blank b above), plain_place cut b (no_quote b (λ is. absurd (omega (arith, above, is)))))
-        (ap (λ (found : List ℕ × List (List ℕ)). let all : List ℕ × List (List ℕ) = (b ∷ found.0, found.1) in all)
-        (numeric_parts cut bs rest (λ k lt. low (suc k) (omega (arith, lt))) (λ k lt. high (suc k) (omega (arith, lt)))))
+    (ap (λ (found : List ℕ × List (List ℕ)). let all : List ℕ × List (List ℕ) = (b ∷ found.0, found.1) in all)
+    (numeric_parts cut bs rest (λ k lt. low (suc k) (omega (arith, lt))) (λ k lt. high (suc k) (omega (arith, lt)))))
   where
     no_blank : (c : ℕ) → 45 ≤ c → is_blank c ≡ false
     no_blank c above = grind (arith, nat_tests)

@@ -66,15 +66,17 @@ fn short_digits(bytes: &[u8]) -> Option<(u64, &[u8])>
 
 /// The whole number that up to 18 decimal digits with an optional minus in front write, and what follows them; none where no digit stands
 /// there, or more than 18.
+#[tactic(auto, unfolding(crate::specs::Numbers::short_number))]
 pub fn short_number(bytes: &[u8]) -> Option<(i64, &[u8])>
     ensures { option_map (λ r. (r.0, r.1.now)) result ≡ short_number bytes.now }
 {
     match bytes {
+        [] => None,
         [b'-', digits @ ..] => match short_digits(digits) {
             Some((size, rest)) => Some((-(size as i64), rest)),
             None => None,
         },
-        _ => match short_digits(bytes) {
+        [_, ..] => match short_digits(bytes) {
             Some((size, rest)) => Some((size as i64, rest)),
             None => None,
         },
@@ -125,7 +127,7 @@ pub(crate) fn whole(text: &[u8]) -> Item<i64>
     ensures { result ≡ item_in_range fits_i64 (whole_of text.now) }
 {
     match short_number(text) {
-        Some((number, rest)) if rest.is_empty() => Item::Present(number),
+        Some((number, [])) => Item::Present(number),
         _ => any_whole(text),
     }
 }

@@ -1,5 +1,5 @@
 -- Names that are all different.
-use Rattle.std.proofs.Common.{◌≡◌, ◌∙◌, ◌⊎◌, ◌++◌, ℕ, zero, suc, true, false, Bool, List, [], ◌∷◌, length, Option, None, Some, slice_get, bytes_eq, inl, inr, refl, ap, sym, subst, map}
+use Rattle.std.proofs.Common.{◌≡◌, ◌∙◌, ◌⊎◌, ◌++◌, ◌<◌, ℕ, zero, suc, true, Bool, List, [], ◌∷◌, length, get_or, arith, Option, None, Some, slice_get, bytes_eq, inl, inr, refl, ap, sym, map}
 use Rattle.dk_graph.specs.Names.{AreDifferent, place_of}
 use Rattle.dk_graph.proofs.Places.{bytes_eq-same, bytes_eq-true, some-injective}
 use Rattle.dk_graph.proofs.Positions.{or_last, place_of-push}
@@ -24,6 +24,12 @@ one_more all more x is none are i name at =
           ∙ ap (λ (b : Bool). or_last None b (length all)) (bytes_eq-same x)
           ∙ ap Some (sym last.0)
     ]
+
+-- what stands at a place, in the words of an index
+pub stands_at : {X : Type 0} (f : X → List ℕ) (xs : List X) (i : ℕ) (x : X) → i < length xs → x ≡ get_or xs i x → slice_get (map f xs) i ≡ Some (f x)
+stands_at f [] i x lt at = absurd (omega (arith, lt))
+stands_at f (y ∷ ys) zero x lt at = ap (λ z. Some (f z)) (sym at)
+stands_at f (y ∷ ys) (suc i) x lt at = stands_at f ys i x (omega (arith, lt)) at
 
 -- a name that stands at a place is found there
 pub found_here : (all : List (List ℕ)) (place : ℕ) (here name : List ℕ) (is : Bool) → AreDifferent all → slice_get all place ≡ Some here → is ≡ bytes_eq here name → is ≡ true → Some place ≡ place_of all name

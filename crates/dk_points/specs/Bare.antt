@@ -3,9 +3,13 @@ use Rattle.std.specs.Prelude.{◌&&◌, ◌==◌, ℕ, Bool, not, List, length, 
 use Rattle.std.specs.List.{list_all}
 use Rattle.dk_decl.specs.declared.decls.VarDecl.{VarDecl}
 
--- one byte or more, each above the blank (32), and no backslash (92)
+-- above the blank (32), and no backslash (92)
+abbrev pub is_bare_byte : ℕ → Bool
+is_bare_byte b = nat_lt 32 b && not (b == 92)
+
+-- one byte or more, each of them so
 abbrev pub is_bare_name : List ℕ → Bool
-is_bare_name name = nat_lt 0 (length name) && list_all (λ b. nat_lt 32 b && not (b == 92)) name
+is_bare_name name = nat_lt 0 (length name) && list_all is_bare_byte name
 
 -- each variable has such a name
 abbrev pub have_bare_names : List VarDecl → Bool

@@ -8,9 +8,9 @@ ghost use Rattle.dk_points.specs.Names.{combined_of};
 ghost use Rattle.dk_points.specs.Table.{declared_point, makes_exit};
 ghost use Rattle.dk_points.specs.Vars.{base_vars, entry_before};
 
+use crate::bare::have_bare_names;
 use crate::links::{Kept, kept_edges};
 use crate::places::Own;
-use crate::bare::have_bare_names;
 use crate::points::Points;
 use crate::roles::{entry_name, role_of};
 use crate::variables::{declared_vars, with_orig_vars};

@@ -10,14 +10,11 @@ use Rattle.dk_base.specs.Names.{unescaped}
 use Rattle.dk_base.proofs.Spellings.{plain}
 use Rattle.dk_decl.specs.declared.decls.PointDecl.{PointDecl}
 use Rattle.dk_decl.specs.declared.decls.VarDecl.{VarDecl}
-use Rattle.dk_points.specs.Bare.{have_bare_names, is_bare_name}
+use Rattle.dk_points.specs.Bare.{have_bare_names, is_bare_byte, is_bare_name}
 use Rattle.dk_points.specs.Table.{Point, decl_at}
 use Rattle.dk_trace.specs.Records.{var_decls_at}
 use Rattle.dk_trace.specs.Whole.{IsCut}
 use Rattle.dk_trace.proofs.Tidy.{tidy_plain}
-
-abbrev is_bare_byte : ℕ → Bool
-is_bare_byte b = nat_lt 32 b && not (b == 92)
 
 above : (b : ℕ) → is_bare_byte b ≡ true → 32 < b
 above b is = grind (arith, nat_tests)

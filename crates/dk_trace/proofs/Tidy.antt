@@ -96,8 +96,3 @@ two_front [] b long first lf = absurd (omega (arith, long))
 two_front (x ∷ []) b long first lf = absurd (omega (arith, long))
 two_front (x ∷ y ∷ bs) b long first lf =
     ap (λ (l : List ℕ). x ∷ y ∷ l) (sym (to_end (x ∷ y ∷ bs) 2)) ∙ ap (λ (c : ℕ). c ∷ y ∷ take (length (x ∷ y ∷ bs) - 2) bs) first ∙ ap (λ (c : ℕ). b ∷ c ∷ take (length (x ∷ y ∷ bs) - 2) bs) lf
-
--- a byte and what follows
-pub one_front : (bytes : List ℕ) (b : ℕ) → 1 ≤ length bytes → get_or bytes 0 0 ≡ b → bytes ≡ b ∷ take (length bytes - 1) (drop 1 bytes)
-one_front [] b long first = absurd (omega (arith, long))
-one_front (x ∷ bs) b long first = ap (λ (l : List ℕ). x ∷ l) (sym (to_end (x ∷ bs) 1)) ∙ ap (λ (c : ℕ). c ∷ take (length (x ∷ bs) - 1) bs) first

@@ -11,7 +11,9 @@ use crate::reader::{point_named_by, var_decls_at};
 use crate::sample::BaseSample;
 use crate::values::{push_constant, push_shown};
 use bumpalo::collections::into_bump_slice;
-use dk_base::{Arena, BlockFault, Kind, NoMemory, PointId, View, parse_integer, same_bytes, short_number};
+use dk_base::{
+    Arena, BlockFault, Kind, NoMemory, PointId, View, parse_integer, same_bytes, short_number,
+};
 use dk_decl::VarDecl;
 use dk_points::Points;
 use memchr::memchr;

@@ -1,6 +1,6 @@
 use Rattle.std.proofs.Common.{◌≡◌, ◌∷◌, ℕ, List, get_or, take, drop, length, ◌-◌, arith, rules}
 use Rattle.dk_trace.proofs.Digits.{number_stands}
-use Rattle.dk_trace.proofs.Tidy.{one_front}
+use Rattle.dk_base.proofs.Digits.{one_front}
 use Rattle.dk_trace.proofs.whole.number_line.Goals as goal
 
 pub returns-in-10 : goal.returns-in-10

@@ -6,7 +6,7 @@ use Rattle.dk_base.specs.declared.values.View.{View}
 use Rattle.dk_trace.specs.Whole.{ValuesSoFar, ValuesStand}
 use Rattle.dk_trace.proofs.InPlace.{constant_more, count_within, values_stand, variable_more}
 use Rattle.dk_trace.proofs.Bare.{one_bare}
-use Rattle.dk_trace.proofs.Tidy.{one_front}
+use Rattle.dk_base.proofs.Digits.{one_front}
 use Rattle.dk_trace.proofs.whole.read_values.Goals as goal
 use Rattle.dk_trace.proofs.whole.read_values.Goals.{then-var+in_ok-push_constant, else-var+in-Ok-Some}
 
