@@ -1,7 +1,5 @@
 -- Bare names.
-use Rattle.std.proofs.Common.{◌≡◌, ◌≢◌, ◌≤◌, ◌<◌, ◌++◌, ◌∙◌, ◌&&◌, ℕ, Bool, true, List, [], ◌∷◌, length, get_or, nat_lt, not, refl, sym, ap, arith, Option, None, Some}
-use Rattle.std.specs.Prelude.{◌==◌, slice_get}
-use Rattle.std.specs.List.{list_all}
+use Rattle.std.proofs.Common.{◌≡◌, ◌≢◌, ◌<◌, ◌++◌, ◌∙◌, ℕ, true, List, [], ◌∷◌, length, get_or, nat_lt, refl, ap, arith, Option, None, Some}
 use Rattle.std.specs.Option.{option_map_or}
 use Rattle.std.proofs.lemmas.Bool.{and_parts}
 use Rattle.std.proofs.lemmas.Bool.Decides.{nat_tests}
