@@ -71,8 +71,19 @@ def verdict_trials(seed: int) -> Iterator[Trial]:
         yield Trial("verdicts", "dk_check", Case({"t": text}, [[word for word in KEEPS if maker.chance(0.3)]]))
 
 
+def declares_behind_records(trace: bytes) -> bool:
+    """Whether a point is declared behind a record: an edge to it counts for later records alone, in dk_check, and for all in a report."""
+    blocks = [block.strip() for block in re.split(rb"\n[ \t\r]*\n", trace) if block.strip()]
+    kinds = [re.search(rb"(?m)^[ \t]*(ppt |DECLARE)", block) is not None for block in blocks]
+    headers = re.compile(rb"decl-version|var-comparability|VarComparability|ListImplementors|input-language|#|//")
+    records = [place for place, block in enumerate(blocks) if not kinds[place] and not headers.match(block)]
+    return any(kinds[records[0]:]) if records else False
+
+
 def judge_verdicts(bench: Bench, trial: Trial) -> Optional[str]:
-    """Each line of a report holds in its own trace, in as many samples."""
+    """Each line of a report holds in its own trace, in as many samples, where all points are declared in front of the records."""
+    if declares_behind_records(trial.case.files["t"]):
+        return None
     bench.put(trial.case.files)
     report = report_of(bench, trial.words)
     bench.put({**trial.case.files, "a": report})
