@@ -76,3 +76,8 @@ derived = refl
 
 negative_goes_with_all : comparable (record { elem = negsuc 0; index = pos 3 }) (record { elem = pos 7; index = negsuc 0 }) ≡ true
 negative_goes_with_all = refl
+
+-- blanks in any number stand between items, and a minus in front of digits alone
+items : value_of_text kind.IntSeq (codes "[ -1  20 007]") ≡ Some (value.IntSeq (negsuc 0 ∷ pos 20 ∷ pos 7 ∷ []))
+unfolding sequence pieces int_item whole_of
+items = refl

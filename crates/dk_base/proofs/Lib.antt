@@ -1,6 +1,7 @@
 pub mod Splits
 pub mod Spellings
 pub mod Numerals
+pub mod Digits
 pub mod Gathering
 pub mod Samenesses
 pub mod Joining

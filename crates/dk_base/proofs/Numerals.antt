@@ -1,7 +1,6 @@
 -- The value of the digits so far.
 use Rattle.std.proofs.Common.{◌≡◌, ◌<◌, ◌≤◌, ◌+◌, ◌*◌, ◌^◌, ◌∙◌, ℕ, Bool, true, false, List, length, take, drop, get_or, arith, sym, ap, refl, nat_lt, Option}
-use Rattle.std.proofs.Math.Nat.{mul-le-mul_left, pow-le-pow_right}
-use Rattle.std.proofs.lemmas.Grind.{pow_more}
+use Rattle.std.proofs.Math.Nat.{mul-le-mul_left}
 use Rattle.std.specs.Prelude.{option_and_then}
 use Rattle.std.specs.Char.{digit_value, is_digit}
 use Rattle.std.specs.List.{list_all}
@@ -32,15 +31,6 @@ one_digit_more radix text i total next digit positive lt so_far is_digit step =
     ∙ ap (λ (o : Option ℕ). option_and_then (λ n. in_u64 (n * radix + digit)) o) so_far
     ∙ with_digit radix digit (digits_value radix (take i text)) positive
     ∙ ap in_u64 (ap (λ d. digits_value radix (take i text) * radix + d) is_digit ∙ sym (digits_value_more radix text i lt))
-
--- 64 bits hold eighteen decimal digits
-pub below_more : (i total digit : ℕ) → total < 10 ^ i → digit < 10 → total * 10 + digit < 10 ^ (i + 1)
-below_more i total digit lt small = let more : 10 ^ (i + 1) ≡ 10 ^ i * 10 = pow_more 10 i in omega (arith, more, lt, small)
-
-pub short_fits : (i total : ℕ) → i ≤ 18 → total < 10 ^ i → total < 1000000000000000000
-short_fits i total most lt =
-    let large : 10 ^ i ≤ 10 ^ 18 = pow-le-pow_right {n = 10} (omega arith) most in
-    omega (arith, lt, large)
 
 -- the others decide, where the next is a digit
 pub others_decide : (radix : ℕ) (text : List ℕ) (i : ℕ) → i < length text → digit_value (get_or text i 0) < radix

@@ -2,6 +2,7 @@
 use Rattle.std.proofs.Common.{◌≡◌, ◌<◌, ◌≤◌, ◌+◌, ◌∙◌, ◌++◌, ◌∷◌, [], ℕ, Bool, true, false, zero, suc, List, refl, ap, append-nil, append_assoc, sym, drop, take, length, get_or, arith, subst}
 use Rattle.std.specs.Prelude.{◌==◌, ◌||◌, ◌&&◌}
 use Rattle.std.proofs.lemmas.Bool.{eqb-true}
+use Rattle.std.proofs.lemmas.Bool.Decides.{nat_tests}
 use Rattle.std.proofs.lemmas.List.{take_more, drop_more, take_all, drop_all, length-take}
 use Rattle.dk_base.specs.Pieces.{outside, place_after, cuts, parts, behind, nonempty, is_blank, pieces, BeginsPiece}
 use Rattle.dk_base.specs.declared.splitting.Cut.{Cut}
@@ -135,3 +136,41 @@ not_at_once cut p [] i begins first h = absurd begins
 not_at_once cut p (b ∷ bs) zero begins first h =
     let at_outside : cuts cut outside b ≡ true = rw (first refl) at h in cc
 not_at_once cut p (b ∷ bs) (suc i) begins first h = omega arith
+
+-- bytes from the minus (45) to the nine (57) stay outside, and cut nothing
+numeric_parts : (cut : Cut) (front rest : List ℕ) → ((k : ℕ) → k < length front → 45 ≤ get_or front k 0) → ((k : ℕ) → k < length front → get_or front k 0 ≤ 57)
+    → behind front (parts cut outside rest) ≡ parts cut outside (front ++ rest)
+numeric_parts cut [] rest low high = refl
+numeric_parts cut (b ∷ bs) rest low high =
+    let above : 45 ≤ b = low 0 (omega arith) in
+    let below : b ≤ 57 = high 0 (omega arith) in
+    rw (plain_cuts cut b (no_blank b above), plain_place cut b (no_quote b (λ is. absurd (omega (arith, above, is)))))
+    (ap (λ (found : List ℕ × List (List ℕ)). let all : List ℕ × List (List ℕ) = (b ∷ found.0, found.1) in all)
+    (numeric_parts cut bs rest (λ k lt. low (suc k) (omega (arith, lt))) (λ k lt. high (suc k) (omega (arith, lt)))))
+  where
+    no_blank : (c : ℕ) → 45 ≤ c → is_blank c ≡ false
+    no_blank c above = grind (arith, nat_tests)
+
+-- such bytes are the only piece, where nothing follows
+pub piece_to_end : (cut : Cut) (front rest text : List ℕ) → text ≡ front ++ rest → rest ≡ [] → 0 < length front
+    → ((k : ℕ) → k < length front → 45 ≤ get_or front k 0) → ((k : ℕ) → k < length front → get_or front k 0 ≤ 57)
+    → pieces cut text ≡ front ∷ pieces cut rest
+piece_to_end cut front rest text whole nothing some low high =
+    let same : text ≡ front = whole ∙ ap (λ (l : List ℕ). front ++ l) nothing ∙ append-nil front in
+    ap (pieces cut) same
+    ∙ all_one_piece cut front some (numeric_parts cut front [] low high ∙ ap (parts cut outside) (append-nil front))
+    ∙ ap (λ (ps : List (List ℕ)). front ∷ ps) (sym (ap (pieces cut) nothing ∙ no_pieces cut))
+
+-- such bytes are the first piece, where a blank (32) follows
+pub piece_in_front : (cut : Cut) (front rest left text : List ℕ) → text ≡ front ++ rest → rest ≡ 32 ∷ left → 0 < length front
+    → ((k : ℕ) → k < length front → 45 ≤ get_or front k 0) → ((k : ℕ) → k < length front → get_or front k 0 ≤ 57)
+    → pieces cut text ≡ front ∷ pieces cut left
+piece_in_front cut front rest left text whole blank some low high =
+    let same : text ≡ front ++ 32 ∷ left = whole ∙ ap (λ (l : List ℕ). front ++ l) blank in
+    ap (pieces cut) same
+    ∙ cut_at cut outside (front ++ 32 ∷ left) front 32 left some (blank_cuts cut) (numeric_parts cut front (32 ∷ left) low high)
+    ∙ ap (λ (ps : List (List ℕ)). front ∷ ps) (pieces_behind_cut cut 32 left (blank_cuts cut))
+  where
+    blank_cuts : (cut : Cut) → cuts cut outside 32 ≡ true
+    blank_cuts AtBlanksAndTabs = refl
+    blank_cuts AtBlanksOutsideQuotes = refl

@@ -1,9 +1,10 @@
 -- Whole numbers as text.
-use Rattle.std.specs.Prelude.{◌&&◌, ◌==◌, ◌^◌, ℕ, ℤ, pos, negsuc, neg_ℤ, Bool, true, false, List, [], ◌∷◌, length, nat_lt, Option, Some, None, option_and_then, if◌then◌else◌}
+use Rattle.std.specs.Prelude.{◌&&◌, ◌==◌, ◌^◌, ℕ, ℤ, pos, negsuc, neg_ℤ, Bool, true, false, List, [], ◌∷◌, length, nat_lt, take, drop, Option, Some, None, option_and_then, if◌then◌else◌}
 use Rattle.std.specs.Char.{is_digit}
 use Rattle.std.specs.List.{list_all}
 use Rattle.std.specs.Option.{option_map}
 use Rattle.std.specs.Str.Parse.{digits_value}
+use Rattle.core.specs.Float.Numeral.{digits_len}
 
 -- one digit or more, and nothing else
 abbrev pub is_numeral : ℕ → List ℕ → Bool
@@ -48,3 +49,16 @@ integer_of text = option_and_then (λ z. if fits_i64 z then Some z else None) (w
 -- the number of 64 bits that decimal digits write
 unfoldable pub natural_of : List ℕ → Option ℕ
 natural_of text = option_and_then in_u64 (numeral_of 10 text)
+
+-- the number that up to 18 decimal digits in front write, and what follows them
+unfoldable pub short_digits : List ℕ → Option (ℕ × List ℕ)
+short_digits bytes =
+    if nat_lt 0 (digits_len bytes) && nat_lt (digits_len bytes) 19 then Some (digits_value 10 (take (digits_len bytes) bytes), drop (digits_len bytes) bytes)
+    else None
+
+-- the whole number that such digits with an optional minus (45) in front write, and what follows them
+unfoldable pub short_number : List ℕ → Option (ℤ × List ℕ)
+short_number [] = None
+short_number (b ∷ bs) =
+    if b == 45 then option_map (λ r. (negated r.0, r.1)) (short_digits bs)
+    else option_map (λ r. (pos r.0, r.1)) (short_digits (b ∷ bs))

@@ -1,5 +1,5 @@
 -- What a text is as a sequence.
-use Rattle.std.specs.Prelude.{◌||◌, ◌&&◌, ◌==◌, ◌-◌, ℕ, Bool, true, false, List, [], ◌∷◌, codes, length, map, nat_lt, slice_index, take, filter_map, Option, Some, None, if◌then◌else◌}
+use Rattle.std.specs.Prelude.{◌≡◌, ◌<◌, ◌||◌, ◌&&◌, ◌==◌, ◌-◌, ℕ, Bool, true, false, List, [], ◌∷◌, codes, length, map, nat_lt, slice_index, take, filter_map, Option, Some, None, if◌then◌else◌}
 use Rattle.std.specs.List.{list_any}
 use Rattle.std.specs.Str.{bytes_eq}
 use Rattle.dk_base.specs.Items.{is_missing_word}
@@ -47,3 +47,8 @@ unfoldable pub sequence : {A : Type 0} → (List ℕ → Item A) → List ℕ �
 sequence item text =
     if is_missing_word text || bytes_eq text (codes "null") then Missing
     else bracketed item (inside text)
+
+-- the first piece of the text writes this item, and what is left has the others
+abbrev pub IsFrontItem : {A : Type 0} → (List ℕ → Item A) → List ℕ → A → List ℕ → Type 0
+IsFrontItem item text x left =
+    (map item (pieces AtBlanksOutsideQuotes text) ≡ Present x ∷ map item (pieces AtBlanksOutsideQuotes left)) × (length left < length text)

@@ -28,7 +28,7 @@ pub use kinds::{Compar, Form, Kind, PointId, VarId, VarInfo, comparable};
 pub use lists::List;
 pub use memory::NoMemory;
 pub use names::{escape, is_plain, is_spelling, unescape};
-pub use numbers::{parse_integer, parse_natural};
+pub use numbers::{parse_integer, parse_natural, short_number};
 pub use parsing::{ValueFault, parse_value};
 pub use sameness::{same, same_bytes, same_items, same_kept};
 pub use spelling::spell;

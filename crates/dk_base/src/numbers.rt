@@ -1,10 +1,11 @@
 // Whole numbers as text.
-ghost use Rattle.std.specs.Prelude.{◌≡◌, ◌+◌, ◌*◌, ◌≤◌, length, option_and_then, option_map, Some};
+ghost use Rattle.std.specs.Prelude.{◌≡◌, ◌+◌, ◌*◌, ◌≤◌, option_and_then, option_map, Some};
 ghost use Rattle.std.specs.Char.{digit_value as value_of_digit};
 ghost use Rattle.dk_base.specs.Items.{item_in_range, item_in_u64};
-ghost use Rattle.dk_base.specs.Numbers.{fits_i64, in_u64, integer_of, natural_of, numeral_of, signed, whole_of};
+ghost use Rattle.dk_base.specs.Numbers.{fits_i64, in_u64, integer_of, natural_of, numeral_of, short_digits, short_number, signed, whole_of};
 
 use crate::items::Item;
+use core::dec2flt::read_digits;
 
 /// The value of a digit, or 36.
 fn digit_value(byte: u8) -> u8
@@ -52,33 +53,33 @@ pub(crate) fn numeral(radix: u8, text: &[u8]) -> Item<u64>
     }
 }
 
-/// The number that at most 18 decimal digits write. 64 bits hold each such number, so no step looks whether they do.
-fn short_numeral(text: &[u8]) -> Item<u64>
-    requires { length text.now ≤ 18 }
-    ensures { result ≡ item_in_u64 (numeral_of 10 text.now) }
+/// The number that up to 18 decimal digits in front write, and what follows them. 64 bits hold each such number.
+fn short_digits(bytes: &[u8]) -> Option<(u64, &[u8])>
+    ensures { option_map (λ r. (r.0, r.1.now)) result ≡ short_digits bytes.now }
 {
-    if text.is_empty() {
-        return Item::Bad;
+    let (len, size) = read_digits(bytes, 0, 0);
+    if len == 0 || len > 18 {
+        return None;
     }
-    let mut total: u64 = 0;
-    for byte in text {
-        let digit = digit_value(*byte);
-        if digit >= 10 {
-            return Item::Bad;
-        }
-        total = total * 10 + u64::from(digit);
-    }
-    Item::Present(total)
+    Some((size, &bytes[len..]))
 }
 
-/// The number that decimal digits write: missing where 64 bits do not hold it, and bad where the text has other bytes or none.
-fn decimal(text: &[u8]) -> Item<u64>
-    ensures { result ≡ item_in_u64 (numeral_of 10 text.now) }
+/// The whole number that up to 18 decimal digits with an optional minus in front write, and what follows them; none where no digit stands
+/// there, or more than 18.
+#[tactic(auto, unfolding(crate::specs::Numbers::short_number))]
+pub fn short_number(bytes: &[u8]) -> Option<(i64, &[u8])>
+    ensures { option_map (λ r. (r.0, r.1.now)) result ≡ short_number bytes.now }
 {
-    if text.len() <= 18 {
-        short_numeral(text)
-    } else {
-        numeral(10, text)
+    match bytes {
+        [] => None,
+        [b'-', digits @ ..] => match short_digits(digits) {
+            Some((size, rest)) => Some((-(size as i64), rest)),
+            None => None,
+        },
+        [_, ..] => match short_digits(bytes) {
+            Some((size, rest)) => Some((size as i64, rest)),
+            None => None,
+        },
     }
 }
 
@@ -102,22 +103,32 @@ fn number_of_sign(is_negative: bool, size: u64) -> Item<i64>
 fn signed_numeral(is_negative: bool, text: &[u8]) -> Item<i64>
     ensures { result ≡ item_in_range fits_i64 (option_map (signed is_negative) (numeral_of 10 text.now)) }
 {
-    match decimal(text) {
+    match numeral(10, text) {
         Item::Bad => Item::Bad,
         Item::Missing => Item::Missing,
         Item::Present(size) => number_of_sign(is_negative, size),
     }
 }
 
-/// The number that decimal digits with an optional minus write: missing where 64 bits do not hold it, and bad where the text is none.
+/// What `whole` says of any text.
 #[tactic(auto, unfolding(crate::specs::Numbers::whole_of))]
-pub(crate) fn whole(text: &[u8]) -> Item<i64>
+fn any_whole(text: &[u8]) -> Item<i64>
     ensures { result ≡ item_in_range fits_i64 (whole_of text.now) }
 {
     match text {
         [] => Item::Bad,
         [b'-', digits @ ..] => signed_numeral(true, digits),
         [_, ..] => signed_numeral(false, text),
+    }
+}
+
+/// The number that decimal digits with an optional minus write: missing where 64 bits do not hold it, and bad where the text is none.
+pub(crate) fn whole(text: &[u8]) -> Item<i64>
+    ensures { result ≡ item_in_range fits_i64 (whole_of text.now) }
+{
+    match short_number(text) {
+        Some((number, [])) => Item::Present(number),
+        _ => any_whole(text),
     }
 }
 

@@ -1,12 +1,13 @@
 // What a text is as a sequence.
-ghost use Rattle.std.specs.Prelude.{◌≡◌, ℕ, List, IfOk, map, option_map};
+ghost use Rattle.std.specs.Prelude.{◌≡◌, ◌<◌, ℕ, List, [], ◌∷◌, IfOk, IfSome, MatchOption, length, map, option_map};
 ghost use Rattle.dk_base.specs.Items.{bool_item, hash_item, int_item, item_map, str_item};
 ghost use Rattle.dk_base.specs.Pieces.{pieces};
-ghost use Rattle.dk_base.specs.Sequences.{all_of, inside, sequence};
+ghost use Rattle.dk_base.specs.Sequences.{IsFrontItem, all_of, inside, sequence};
 ghost use Rattle.dk_base.specs.declared.items.Item.{Item};
 ghost use Rattle.dk_base.specs.declared.splitting.Cut.TheVariants.{AtBlanksOutsideQuotes};
 
 use crate::items::{Item, bool_item, hash_item, int_item, is_missing_word, is_text};
+use crate::numbers::short_number;
 use crate::sameness::same_bytes;
 use crate::splitting::{Cut, next_piece};
 use crate::{Arena, NoMemory};
@@ -18,6 +19,10 @@ pub(crate) trait Element: Copy {
 
     fn read(text: &[u8]) -> Item<Self>
         ensures { result ≡ item_of text.now };
+
+    /// The item that the first piece writes, if it is read where it stands; and what is left behind it.
+    fn front(text: &[u8]) -> Option<(Self, &[u8])>
+        ensures { IfSome result (λ r. IsFrontItem item_of text.now r.0 r.1.now) };
 }
 
 impl Element for bool {
@@ -25,6 +30,10 @@ impl Element for bool {
 
     fn read(text: &[u8]) -> Item<bool> {
         bool_item(text)
+    }
+
+    fn front(_text: &[u8]) -> Option<(bool, &[u8])> {
+        None
     }
 }
 
@@ -34,6 +43,10 @@ impl Element for i64 {
     fn read(text: &[u8]) -> Item<i64> {
         int_item(text)
     }
+
+    fn front(text: &[u8]) -> Option<(i64, &[u8])> {
+        short_item(text)
+    }
 }
 
 impl Element for u64 {
@@ -41,6 +54,39 @@ impl Element for u64 {
 
     fn read(text: &[u8]) -> Item<u64> {
         hash_item(text)
+    }
+
+    fn front(_text: &[u8]) -> Option<(u64, &[u8])> {
+        None
+    }
+}
+
+/// The short whole number that stands in front, if it is the whole first piece; and what is left behind it.
+fn short_item(text: &[u8]) -> Option<(i64, &[u8])>
+    ensures { IfSome result (λ r. IsFrontItem int_item text.now r.0 r.1.now) }
+{
+    let Some((number, rest)) = short_number(text) else {
+        return None;
+    };
+    match rest {
+        [] => Some((number, rest)),
+        [b' ', left @ ..] => Some((number, left)),
+        _ => None,
+    }
+}
+
+/// What the first piece is as an item, and what is left behind it; none where the text has no piece.
+fn next_item<T: Element>(text: &[u8]) -> Option<(Item<T>, &[u8])>
+    ensures first { MatchOption result (map T.item_of (pieces AtBlanksOutsideQuotes text.now) ≡ [])
+        (λ r. map T.item_of (pieces AtBlanksOutsideQuotes text.now) ≡ r.0 ∷ map T.item_of (pieces AtBlanksOutsideQuotes r.1.now)) }
+    ensures shorter { IfSome result (λ r. length r.1.now < length text.now) }
+{
+    if let Some((item, left)) = T::front(text) {
+        return Some((Item::Present(item), left));
+    }
+    match next_piece(Cut::AtBlanksOutsideQuotes, text) {
+        None => None,
+        Some((piece, left)) => Some((T::read(piece), left)),
     }
 }
 
@@ -51,11 +97,11 @@ fn read_items<'a, T: Element>(arena: &'a Arena, text: &[u8]) -> Result<Item<&'a 
     let mut items = Vec::new(arena);
     let mut is_missing = false;
     let mut left = text;
-    'items: while let Some((piece, rest)) = next_piece(Cut::AtBlanksOutsideQuotes, left) {
-        match T::read(piece) {
+    'items: while let Some((item, rest)) = next_item::<T>(left) {
+        match item {
             Item::Bad => return Ok(Item::Bad),
             Item::Missing => is_missing = true,
-            Item::Present(item) => items.push(item)?,
+            Item::Present(value) => items.push(value)?,
         }
         left = rest;
     }

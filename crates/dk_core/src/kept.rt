@@ -41,13 +41,15 @@ use std::alloc::Global;
 use std::marker::Model;
 use std::mem::replace;
 
-/// What a session keeps from block to block: the reader of blocks, and the engine of each point's own samples.
+/// What a session keeps from block to block: the reader of blocks, the engine of each point's own samples, and the arena for the values of
+/// the next block.
 #[derive(Drop)]
 pub(crate) struct Kept {
     alloc: Global,
     reader: Reader,
     grammar: Grammar,
     engines: Vec<Engine>,
+    arena: Bump,
 }
 
 impl Model for Kept {
@@ -94,6 +96,7 @@ impl Kept {
             reader: Reader::new(alloc)?,
             grammar,
             engines: Vec::new(alloc),
+            arena: Bump::new(alloc),
         })
     }
 
@@ -118,6 +121,7 @@ impl Kept {
             reader: Reader::of_table(alloc, points, implicit)?,
             grammar,
             engines: engines.into_vec(),
+            arena: Bump::new(alloc),
         })
     }
 
@@ -139,9 +143,50 @@ impl Kept {
         ensures later { I.faults inputs.old ≤ I.faults inputs.new }
         ensures cause { (file : ℕ) → IsErrOf result (Fault.Read file) → Rose (I.faults inputs.old) (I.faults inputs.new) }
     {
-        let arena = Bump::new(self.alloc);
-        match self.reader.next(&arena, inputs, lines, ignores) {
-            Ok(Some(found)) => match self.take(&arena, found) {
+        let arena = self.take_arena();
+        let found = self.next_in(&arena, inputs, lines, ignores);
+        self.keep_arena(arena);
+        found
+    }
+
+    // The arena that is kept. An empty one stays.
+    fn take_arena(&mut self) -> Bump
+        ensures { self.new ≡ self.old }
+    {
+        replace(&mut self.arena, Bump::new(self.alloc))
+    }
+
+    // Keeps the arena without what lies in it.
+    fn keep_arena(&mut self, arena: Bump)
+        ensures { self.new ≡ self.old }
+    {
+        let mut arena = arena;
+        if arena.reset().is_ok() {
+            self.arena = arena;
+        }
+    }
+
+    // The same as `next`. The values of a sample lie in the arena.
+    fn next_in<'a, I: Inputs>(
+        &mut self,
+        arena: &'a Bump,
+        inputs: &mut I,
+        lines: &mut Lines,
+        ignores: bool,
+    ) -> Result<bool, Fault>
+        requires { lines.old.is_started ≡ not (over_in self.old.reader) }
+        ensures gives { (h : History) → ReaderStandsFor self.old.reader h → IfSome (left_of lines.old (I.rest inputs.old))
+            (λ xs. NextKept ignores self.old h lines.old xs (left_with_answer self.new result) lines.new (left_of lines.new (I.rest inputs.new))) }
+        ensures grammar { self.new.grammar ≡ self.old.grammar }
+        ensures counts { KeptCounts self.old lines.old (left_with_answer self.new result) lines.new }
+        ensures over { over_in self.old.reader ≡ true → (result ≡ Ok false) × (self.new ≡ self.old) × (inputs.new ≡ inputs.old) × (lines.new ≡ lines.old) }
+        ensures emptied { (file : ℕ) → IsErrOf result (Fault.Read file) → lines.new.ahead ≡ [] }
+        ensures files { I.file inputs.new ≡ I.file inputs.old }
+        ensures later { I.faults inputs.old ≤ I.faults inputs.new }
+        ensures cause { (file : ℕ) → IsErrOf result (Fault.Read file) → Rose (I.faults inputs.old) (I.faults inputs.new) }
+    {
+        match self.reader.next(arena, inputs, lines, ignores) {
+            Ok(Some(found)) => match self.take(arena, found) {
                 Ok(()) => Ok(true),
                 Err(fault) => Err(fault),
             },
@@ -210,6 +255,7 @@ impl Kept {
             reader,
             grammar,
             engines,
+            arena,
         } = self;
         match reader.declare(line, decl) {
             Ok((reader, _)) => match with_new(alloc, engines, reader.points(), grammar) {
@@ -218,6 +264,7 @@ impl Kept {
                     reader,
                     grammar,
                     engines,
+                    arena,
                 }),
                 Err(NoMemory) => Err(Fault::NoMemory),
             },

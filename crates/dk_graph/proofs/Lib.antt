@@ -1,5 +1,6 @@
 pub mod Places
 pub mod Positions
+pub mod Different
 pub mod Members
 pub mod Noting
 pub mod Links

@@ -79,6 +79,17 @@ impl Edges {
         }
     }
 
+    // The point of a name, where this one is tried first.
+    pub fn find_from(&self, first: PointId, name: &[u8]) -> Option<PointId>
+        ensures place { option_map place_in result ≡ place_of (node_names self.now) name.now }
+        ensures within { IfSome result (λ p. p.0 < length self.now) }
+    {
+        match self.parts.names.find_from(first.0 as usize, name) {
+            Some(place) => Some(PointId(place as u32)),
+            None => None,
+        }
+    }
+
     // The name of a point.
     pub fn name(&self, p: PointId) -> &[u8]
         requires { p.0 < length self.now }

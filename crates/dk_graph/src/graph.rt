@@ -57,6 +57,14 @@ impl Graph {
         self.edges.find(name)
     }
 
+    /// The point of a name, where this one is tried first; it need be none. It takes no memory.
+    pub fn find_from(&self, first: PointId, name: &[u8]) -> Option<PointId>
+        ensures place { option_map place_in result ≡ place_of (node_names self.now) name.now }
+        ensures within { IfSome result (λ p. p.0 < length self.now) }
+    {
+        self.edges.find_from(first, name)
+    }
+
     /// The name of a point.
     pub fn name(&self, p: PointId) -> &[u8]
         requires { p.0 < length self.now }

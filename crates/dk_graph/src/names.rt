@@ -2,7 +2,7 @@
 ghost use Rattle.std.specs.Prelude.{◌≡◌, ◌∷◌, ◌++◌, [], ◌<◌, length, None, Some, OnOk, OnErr, IfSome, slice_get};
 ghost use Rattle.dk_graph.specs.Names.{place_of};
 
-use dk_base::NoMemory;
+use dk_base::{NoMemory, same_bytes};
 use indexmap::IndexSet;
 use std::alloc::Global;
 use std::marker::Model;
@@ -16,10 +16,13 @@ pub struct Names {
 
 impl Model for Names {
     ghost use Rattle.std.specs.Prelude.{List, ℕ, map};
+    ghost use Rattle.dk_graph.specs.Names.{AreDifferent};
 
     ghost Value = { List (List ℕ) };
 
     ghost view = { λ n. map (λ name. name.items) n.kept.keys };
+
+    ghost invariant = { λ n. AreDifferent (map (λ name. name.items) n.kept.keys) };
 }
 
 impl Names {
@@ -38,6 +41,18 @@ impl Names {
         ensures place { result ≡ place_of self.now name.now }
         ensures within { IfSome result (λ i. i < length self.now) }
     {
+        self.kept.get_index_of(name)
+    }
+
+    /// The place of a name, which is looked for at this place first. It takes no memory.
+    pub fn find_from(&self, place: usize, name: &[u8]) -> Option<usize>
+        ensures place { result ≡ place_of self.now name.now }
+        ensures within { IfSome result (λ i. i < length self.now) }
+    {
+        let names = self.kept.as_slice();
+        if place < names.len() && same_bytes(names[place].as_slice(), name) {
+            return Some(place);
+        }
         self.kept.get_index_of(name)
     }
 

@@ -125,6 +125,7 @@ module _ (ps : List Point) (d : PointDecl) where
     role = own.role;
     vars = ap (base_vars longer) is ∙ vars-same ∙ ap (base_vars ps) (sym is) ∙ own.vars;
     entry = ap (λ x. entry_before longer x.name) is ∙ entry-same ∙ ap (λ x. entry_before ps x.name) (sym is) ∙ own.entry;
+    bare = own.bare;
   }
 
   -- ---- the edges

@@ -9,6 +9,7 @@ use Rattle.dk_graph.specs.declared.nodes.Node.{Node}
 use Rattle.dk_points.specs.Declaring.{declared_new, has_many_points, has_many_vars}
 use Rattle.dk_points.specs.Links.{kept_edges, nodes}
 use Rattle.dk_points.specs.Names.{role_of}
+use Rattle.dk_points.specs.Bare.{have_bare_names}
 use Rattle.dk_points.specs.Table.{Point, added_points}
 use Rattle.dk_points.specs.Vars.{base_vars, entry_before}
 use Rattle.dk_points.specs.declared.places.Own.{Own}
@@ -26,6 +27,7 @@ pub record IsOwnBehind (ps : List Point) (o : Own) : Type 0 where
   pub role : role_of o.decl.name ≡ o.role
   pub vars : base_vars ps o.decl ≡ o.vars
   pub entry : entry_before ps o.decl.name ≡ option_map place_in o.entry
+  pub bare : have_bare_names o.decl.vars ≡ o.is_bare
 
 -- and of the point itself
 pub record IsPlaceBehind (ps : List Point) (l : KeptPoint) : Type 0 where

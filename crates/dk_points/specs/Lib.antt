@@ -8,6 +8,7 @@ pub mod Declaring
 pub mod Laws
 pub mod Ends
 pub mod Kept
+pub mod Bare
 -- what those are made of, and words for the crates above
 pub mod Sameness
 pub mod Counts

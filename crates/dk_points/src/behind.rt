@@ -8,6 +8,7 @@ ghost use Rattle.dk_points.specs.Names.{combined_of};
 ghost use Rattle.dk_points.specs.Table.{declared_point, makes_exit};
 ghost use Rattle.dk_points.specs.Vars.{base_vars, entry_before};
 
+use crate::bare::have_bare_names;
 use crate::links::{Kept, kept_edges};
 use crate::places::Own;
 use crate::points::Points;
@@ -54,11 +55,13 @@ impl Points {
         let role = role_of(decl.name.as_slice());
         let entry = self.entry_before(decl.name.as_slice())?;
         let vars = self.base_vars(&decl, entry)?;
+        let is_bare = have_bare_names(decl.vars.as_slice());
         Ok(Own {
             decl,
             role,
             vars,
             entry,
+            is_bare,
         })
     }
 

@@ -5,6 +5,7 @@
 //! partners.
 #![tactic(auto)]
 
+mod bare;
 mod behind;
 mod declare;
 mod declared;

@@ -1,6 +1,6 @@
 // The points of a table.
-ghost use Rattle.std.specs.Prelude.{◌≡◌, ◌<◌, ◌≤◌, All, [], false, length, map, IfOk, IfSome, Some, slice_get, take};
-ghost use Rattle.std.specs.Option.{option_map};
+ghost use Rattle.std.specs.Prelude.{◌≡◌, ◌<◌, ◌≤◌, All, [], false, true, length, map, IfOk, IfSome, Some, slice_get, take};
+ghost use Rattle.std.specs.Option.{option_map, option_map_or};
 ghost use Rattle.dk_base.specs.Shapes.{shape_of, with_derived};
 ghost use Rattle.dk_graph.specs.Graphs.{ParentsAreDeeper, depth_of, edges_from, edges_into, has_cycle, place_in};
 ghost use Rattle.dk_graph.specs.Names.{place_of};
@@ -10,6 +10,7 @@ ghost use Rattle.dk_points.specs.Laws.{IsBaseVar};
 ghost use Rattle.dk_points.specs.Links.{nodes};
 ghost use Rattle.dk_points.specs.Names.{role_of};
 ghost use Rattle.dk_points.specs.Partners.{partner_of};
+ghost use Rattle.dk_points.specs.Bare.{have_bare_names};
 ghost use Rattle.dk_points.specs.Table.{decl_at, name_of, names};
 ghost use Rattle.dk_points.specs.Vars.{entry_of, vars_of};
 
@@ -72,6 +73,14 @@ impl Points {
         self.graph.find(name)
     }
 
+    /// The point of this name, where another point is tried first; that need be none of the table's.
+    pub fn find_from(&self, first: PointId, name: &[u8]) -> Option<PointId>
+        ensures place { option_map place_in result ≡ place_of (names self.now) name.now }
+        ensures within { IfSome result (λ p. p.0 < length self.now) }
+    {
+        self.graph.find_from(first, name)
+    }
+
     /// The point's name.
     pub fn name(&self, p: PointId) -> &[u8]
         requires { p.0 < length self.now }
@@ -108,6 +117,16 @@ impl Points {
         } else {
             Some(&place.own.decl)
         }
+    }
+
+    /// Whether the name of each variable that the point's block declares has bytes, each of them above the blank, and none of them a
+    /// backslash: a line that is such a name spells it. An implicit exit, which no block declares, has no such variable.
+    pub fn has_bare_names(&self, p: PointId) -> bool
+        requires { p.0 < length self.now }
+        ensures { result ≡ option_map_or (λ d. have_bare_names d.vars) (decl_at self.now p.0) true }
+    {
+        let place = self.place(p);
+        place.is_implicit || place.own.is_bare
     }
 
     /// The role of the point in the calls of its method, by its declaration's name. An implicit exit, which no block declares, has none.

@@ -6,4 +6,5 @@ pub mod Fitted
 pub mod ByPosition
 pub mod Tidy
 pub mod Digits
+pub mod Bare
 pub mod InPlace

@@ -8,6 +8,7 @@ use Rattle.std.proofs.lemmas.Slice.Eq.{bytes_eq-Decides}
 use Rattle.std.proofs.lemmas.Grind.{get_or_default_zero}
 use Rattle.std.proofs.lemmas.List.{drop_more, ext_get_or, get_or-reverse, get_or-take, length-take-le, reverse-reverse, take_all, take-append-drop}
 use Rattle.memchr.specs.Find.{NoneBefore, Passes, is_byte}
+use Rattle.dk_base.proofs.Digits.{to_end}
 use Rattle.dk_base.specs.Words.{is_blank, trim_blanks, without_front}
 use Rattle.dk_lines.specs.Left.{without_cr}
 use Rattle.dk_lines.specs.Passing.{HasNoLf}
@@ -57,10 +58,6 @@ tidy_plain l some above =
 pub cut_at : (xs : List ℕ) (k c : ℕ) → k < length xs → get_or xs k 0 ≡ c → xs ≡ take k xs ++ c ∷ drop (k + 1) xs
 cut_at xs k c lt is = sym (take-append-drop k xs) ∙ ap (λ (l : List ℕ). take k xs ++ l) (drop_more xs k 0 lt) ∙ ap (λ (b : ℕ). take k xs ++ b ∷ drop (k + 1) xs) is
 
--- what is left behind a place, as a slice without an end gives it
-pub to_end : (xs : List ℕ) (k : ℕ) → take (length xs - k) (drop k xs) ≡ drop k xs
-to_end xs k = take_all (length xs - k) (drop k xs) (omega (arith, length-drop k xs))
-
 -- in front of the first LF is none
 pub no_lf_before : (xs : List ℕ) (k : ℕ) → NoneBefore (Passes (is_byte 10) xs) 0 (length xs) k → HasNoLf (take k xs)
 no_lf_before xs k before j d lt is =
@@ -99,21 +96,3 @@ two_front [] b long first lf = absurd (omega (arith, long))
 two_front (x ∷ []) b long first lf = absurd (omega (arith, long))
 two_front (x ∷ y ∷ bs) b long first lf =
     ap (λ (l : List ℕ). x ∷ y ∷ l) (sym (to_end (x ∷ y ∷ bs) 2)) ∙ ap (λ (c : ℕ). c ∷ y ∷ take (length (x ∷ y ∷ bs) - 2) bs) first ∙ ap (λ (c : ℕ). b ∷ c ∷ take (length (x ∷ y ∷ bs) - 2) bs) lf
-
--- a byte and what follows
-pub one_front : (bytes : List ℕ) (b : ℕ) → 1 ≤ length bytes → get_or bytes 0 0 ≡ b → bytes ≡ b ∷ take (length bytes - 1) (drop 1 bytes)
-one_front [] b long first = absurd (omega (arith, long))
-one_front (x ∷ bs) b long first = ap (λ (l : List ℕ). x ∷ l) (sym (to_end (x ∷ bs) 1)) ∙ ap (λ (c : ℕ). c ∷ take (length (x ∷ bs) - 1) bs) first
-
--- bytes that are a name's, one by one, and an LF
-pub name_cut : (bytes name : List ℕ) → 0 < length name → length name < length bytes → get_or bytes (length name) 0 ≡ 10
-    → ((k : ℕ) → k < length name → get_or bytes k 0 ≡ get_or name k 0) → ((k : ℕ) → k < length name → 32 < get_or name k 0) → IsCut bytes name (drop (length name + 1) bytes)
-name_cut bytes name some lt lf same above =
-    let len : length (take (length name) bytes) ≡ length name = length-take-le (length name) bytes (omega (arith, lt)) in
-    let front : take (length name) bytes ≡ name = ext_get_or 0 (take (length name) bytes) name len (λ k below.
-    let low : k < length name = omega (arith, len, below) in
-    get_or-take (length name) bytes k 0 low ∙ same k low) in
-    record {
-      whole = cut_at bytes (length name) 10 lt lf ∙ ap (λ (l : List ℕ). l ++ 10 ∷ drop (length name + 1) bytes) front;
-      tidy = tidy_plain name some above;
-    }

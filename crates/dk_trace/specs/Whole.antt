@@ -1,6 +1,5 @@
 -- Records that stand whole at the front of some bytes.
-use Rattle.std.specs.Prelude.{◌≡◌, ◌≤◌, ◌<◌, ◌+◌, ◌++◌, ℕ, ℤ, All, List, [], ◌∷◌, drop, length, slice_index, take, Option, Some, Ok}
-use Rattle.std.specs.Str.Parse.{digits_value}
+use Rattle.std.specs.Prelude.{◌≡◌, ◌≤◌, ◌<◌, ◌+◌, ◌++◌, ℕ, ℤ, All, List, [], ◌∷◌, drop, length, take, Option, Some, Ok}
 use Rattle.dk_base.specs.Reading.{Line, Reads}
 use Rattle.dk_base.specs.Values.{value_of_text}
 use Rattle.dk_base.specs.Words.{trim_blanks}
@@ -37,19 +36,6 @@ pub record IsCut (bytes line rest : List ℕ) : Type 0 where
 pub record AreCut (bytes : List ℕ) (lines : List (List ℕ)) (rest : List ℕ) : Type 0 where
   pub whole : bytes ≡ joined lines ++ rest
   pub tidy : All IsTidy lines
-
--- each byte is a decimal digit
-abbrev pub AreDigits : List ℕ → Type 0
-AreDigits ds = (k : ℕ) → k < length ds → (48 ≤ slice_index ds k) × (slice_index ds k ≤ 57)
-
--- the first line is up to 18 digits, which write this number
-pub record DigitsStand (bytes : List ℕ) (size : ℕ) (rest : List ℕ) : Type 0 where
-  pub digits : List ℕ
-  pub whole : bytes ≡ digits ++ 10 ∷ rest
-  pub some : 0 < length digits
-  pub short : length digits ≤ 18
-  pub are : AreDigits digits
-  pub value : size ≡ digits_value 10 digits
 
 -- the first line writes a whole number
 pub record NumberStands (bytes : List ℕ) (number : ℤ) (rest : List ℕ) : Type 0 where

@@ -23,12 +23,17 @@ pub struct RecordReader<'a> {
     pub(crate) body: BodyReader<'a>,
 }
 
-// The declared point of this name, which the line spells.
-fn named_point(points: &Points, line: u64, name: &[u8]) -> Result<PointId, BlockFault>
+// The declared point of this name, which the line spells; another point is tried first.
+fn named_point(
+    points: &Points,
+    first: PointId,
+    line: u64,
+    name: &[u8],
+) -> Result<PointId, BlockFault>
     ensures point { Shows (λ p. p.0) result (or_refused UnknownPoint line (declared_place points.now name.now)) }
     ensures within { IfOk result (λ p. p.0 < length points.now) }
 {
-    match points.find(name) {
+    match points.find_from(first, name) {
         None => Err(refuse(line, Why::UnknownPoint)),
         Some(point) => match points.decl(point) {
             None => Err(refuse(line, Why::UnknownPoint)),
@@ -37,11 +42,12 @@ fn named_point(points: &Points, line: u64, name: &[u8]) -> Result<PointId, Block
     }
 }
 
-// The declared point whose name is spelled by a record's first line.
+// The declared point whose name is spelled by a record's first line; another point is tried first.
 #[tactic(auto, unfolding(crate::specs::Records::point_named_by))]
 pub(crate) fn point_named_by(
     alloc: Global,
     points: &Points,
+    first: PointId,
     line: u64,
     bytes: &[u8],
 ) -> Result<PointId, BlockFault>
@@ -49,10 +55,10 @@ pub(crate) fn point_named_by(
     ensures within { IfOk result (λ p. p.0 < length points.now) }
 {
     if is_plain(bytes) {
-        return named_point(points, line, bytes);
+        return named_point(points, first, line, bytes);
     }
     let name = unescape(alloc, bytes)?;
-    named_point(points, line, name.as_slice())
+    named_point(points, first, line, name.as_slice())
 }
 
 // The variables that the point's block declares.
@@ -82,7 +88,7 @@ impl<'a> RecordReader<'a> {
         ensures goes_on { ReaderGoesOn (record_resumed points.now) result (sample_of points.now (record { number = line; bytes = bytes.now })) }
         ensures of { IfOk result (λ r. IsOf points.now r) }
     {
-        let point = point_named_by(alloc, points, line, bytes)?;
+        let point = point_named_by(alloc, points, PointId(0), line, bytes)?;
         Ok(RecordReader {
             arena,
             point,

@@ -1,18 +1,19 @@
 // Records that stand whole in the bytes at hand.
-ghost use Rattle.std.specs.Prelude.{◌≡◌, ◌≢◌, ◌≤◌, ◌<◌, ◌++◌, ◌∷◌, ℕ, List, IfOk, IfSome, IsTrue, MatchOption, false, length, slice_index};
-ghost use Rattle.dk_base.specs.Names.{unescaped};
+ghost use Rattle.std.specs.Prelude.{◌≡◌, ◌≢◌, ◌≤◌, ◌<◌, ◌++◌, ◌∷◌, ℕ, List, IfOk, IfSome, IsTrue, MatchOption, false, true, length};
 ghost use Rattle.dk_base.specs.Values.{values_of as shown_by};
 ghost use Rattle.dk_lines.specs.Passing.{HasNoLf};
+ghost use Rattle.dk_points.specs.Bare.{have_bare_names, is_bare_name};
 ghost use Rattle.dk_trace.specs.Answers.{shown_value};
-ghost use Rattle.dk_trace.specs.Whole.{BodyStands, DigitsStand, IsCut, IsTidy, MarkStands, NumberStands, StandsWhole, TextStands, ValuesStand, VariableStands};
+ghost use Rattle.dk_trace.specs.Whole.{BodyStands, IsCut, IsTidy, MarkStands, NumberStands, StandsWhole, TextStands, ValuesStand, VariableStands};
 
 use crate::marks::Unmarked;
 use crate::reader::{point_named_by, var_decls_at};
 use crate::sample::BaseSample;
 use crate::values::{push_constant, push_shown};
 use bumpalo::collections::into_bump_slice;
-use core::dec2flt::read_digits;
-use dk_base::{Arena, BlockFault, Kind, NoMemory, View, parse_integer, same_bytes};
+use dk_base::{
+    Arena, BlockFault, Kind, NoMemory, PointId, View, parse_integer, same_bytes, short_number,
+};
 use dk_decl::VarDecl;
 use dk_points::Points;
 use memchr::memchr;
@@ -93,33 +94,16 @@ fn cut_line(bytes: &[u8]) -> Option<(&[u8], &[u8])>
     }
 }
 
-// The number that up to 18 digits in the first line write, and what follows its LF.
-fn short_digits(bytes: &[u8]) -> Option<(u64, &[u8])>
-    ensures { IfSome result (λ r. DigitsStand bytes.now r.0 r.1.now) }
-{
-    let (len, size) = read_digits(bytes, 0, 0);
-    if len == 0 || len > 18 || len == bytes.len() {
-        return None;
-    }
-    if bytes[len] != b'\n' {
-        return None;
-    }
-    Some((size, &bytes[len + 1..]))
-}
-
-// The whole number that up to 18 digits in the first line write, with an optional minus, and what follows its LF.
-fn short_number(bytes: &[u8]) -> Option<(i64, &[u8])>
+// The short whole number in the first line, if nothing else stands there; and what follows its LF.
+fn number_line(bytes: &[u8]) -> Option<(i64, &[u8])>
     ensures { IfSome result (λ r. NumberStands bytes.now r.0 r.1.now) }
 {
-    match bytes {
-        [b'-', digits @ ..] => match short_digits(digits) {
-            Some((size, rest)) => Some((-(size as i64), rest)),
-            None => None,
-        },
-        _ => match short_digits(bytes) {
-            Some((size, rest)) => Some((size as i64, rest)),
-            None => None,
-        },
+    let Some((number, behind)) = short_number(bytes) else {
+        return None;
+    };
+    match behind {
+        [b'\n', rest @ ..] => Some((number, rest)),
+        _ => None,
     }
 }
 
@@ -128,7 +112,7 @@ fn read_number<'a, 'b>(kind: Option<Kind>, bytes: &'b [u8]) -> Option<(Unmarked<
     ensures { IfSome result (λ r. TextStands kind bytes.now r.0 r.1.now) }
 {
     match kind {
-        Some(Kind::Int) => match short_number(bytes) {
+        Some(Kind::Int) => match number_line(bytes) {
             Some((number, rest)) => Some((Unmarked::Value(View::Int(number)), rest)),
             None => None,
         },
@@ -188,28 +172,6 @@ fn read_mark<'a, 'b>(
     }
 }
 
-// What follows the name's line, if the bytes begin with it, and if none of the name's bytes is a blank, a control or a backslash. Then the
-// line is read as it stands, and is the name.
-fn behind_name<'b>(bytes: &'b [u8], name: &[u8]) -> Option<&'b [u8]>
-    ensures cut { IfSome result (λ rest. IsCut bytes.now name.now rest.now) }
-    ensures means { IfSome result (λ rest. unescaped name.now ≡ name.now) }
-{
-    let len = name.len();
-    if len == 0 || bytes.len() <= len {
-        return None;
-    }
-    if bytes[len] != b'\n' {
-        return None;
-    }
-    for i in 0..len {
-        let byte = name[i];
-        if byte <= b' ' || byte == b'\\' || bytes[i] != byte {
-            return None;
-        }
-    }
-    Some(&bytes[len + 1..])
-}
-
 // The values with that of a variable, if the bytes begin with its three lines; and what follows these.
 fn read_variable<'a, 'b>(
     arena: &'a Arena,
@@ -217,9 +179,10 @@ fn read_variable<'a, 'b>(
     bytes: &'b [u8],
     values: &mut Vec<View<'a>, &'a Arena>,
 ) -> Result<Option<&'b [u8]>, NoMemory>
+    requires { is_bare_name var.now.name ≡ true }
     ensures { IfOk result (λ read. IfSome read (λ rest. VariableStands var.now bytes.now (shown_by values.old.items) (shown_by values.new.items) rest.now)) }
 {
-    let Some(text) = behind_name(bytes, var.name.as_slice()) else {
+    let Some(text) = behind_line(bytes, var.name.as_slice()) else {
         return Ok(None);
     };
     let (unmarked, mark) = match read_text(arena, var.kind, text) {
@@ -240,6 +203,7 @@ fn read_values<'a, 'b>(
     vars: &[VarDecl],
     bytes: &'b [u8],
 ) -> Result<Option<(&'a [View<'a>], &'b [u8], u64)>, NoMemory>
+    requires { have_bare_names vars.now ≡ true }
     ensures { IfOk result (λ read. IfSome read (λ r. ValuesStand vars.now bytes.now (shown_by r.0.now) r.1.now r.2)) }
 {
     let mut values: Vec<View<'a>, &'a Arena> = Vec::with_capacity(arena, vars.len())?;
@@ -271,6 +235,7 @@ fn read_body<'a, 'b>(
     vars: &[VarDecl],
     bytes: &'b [u8],
 ) -> Result<Option<Body<'a, 'b>>, NoMemory>
+    requires { have_bare_names vars.now ≡ true }
     ensures { IfOk result (λ read. IfSome read (λ b. BodyStands vars.now bytes.now b.nonce (shown_by b.values.now) b.rest.now b.count)) }
 {
     let Some(number) = behind_line(bytes, b"this_invocation_nonce") else {
@@ -305,10 +270,11 @@ fn read_body<'a, 'b>(
 
 /// The record that stands whole at the front of the bytes, the first line of which has this number, with the empty line behind it. Where
 /// none is given, one may stand there all the same; only its lines tell then. A record is given only where each of its lines is read as it
-/// stands, and its names are spelled as they are.
+/// stands, and its variables have bare names. The point `last` is tried first, as that of the record before.
 pub fn read_whole<'a>(
     alloc: Global,
     points: &Points,
+    last: PointId,
     arena: &'a Arena,
     line: u64,
     bytes: &[u8],
@@ -318,11 +284,14 @@ pub fn read_whole<'a>(
     let Some((first, rest)) = cut_line(bytes) else {
         return Ok(None);
     };
-    let point = match point_named_by(alloc, points, line, first) {
+    let point = match point_named_by(alloc, points, last, line, first) {
         Ok(point) => point,
         Err(BlockFault::NoMemory) => return Err(NoMemory),
         Err(BlockFault::Refused { .. }) => return Ok(None),
     };
+    if !points.has_bare_names(point) {
+        return Ok(None);
+    }
     let body = match read_body(arena, var_decls_at(points, point), rest) {
         Ok(Some(body)) => body,
         Ok(None) => return Ok(None),

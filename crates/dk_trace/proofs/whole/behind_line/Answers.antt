@@ -1,5 +1,6 @@
 use Rattle.std.proofs.Common.{◌∙◌, ◌∷◌, ◌++◌, ◌+◌, List, ℕ, length, sym, ap, arith, rules}
-use Rattle.dk_trace.proofs.Tidy.{differs, follows, to_end}
+use Rattle.dk_base.proofs.Digits.{to_end}
+use Rattle.dk_trace.proofs.Tidy.{differs, follows}
 use Rattle.dk_trace.proofs.whole.behind_line.Goals as goal
 
 pub returns-then-not-same_bytes : goal.returns-then-not-same_bytes

@@ -1,5 +1,6 @@
 use Rattle.std.proofs.Common.{◌+◌, List, ℕ, take, sym, subst, rules}
-use Rattle.dk_trace.proofs.Tidy.{first_cut, to_end}
+use Rattle.dk_base.proofs.Digits.{to_end}
+use Rattle.dk_trace.proofs.Tidy.{first_cut}
 use Rattle.dk_trace.specs.Whole.{IsCut}
 use Rattle.dk_trace.proofs.whole.cut_line.Goals as goal
 

@@ -5,9 +5,13 @@ use Rattle.dk_base.specs.Values.{values_of as shown_by}
 use Rattle.dk_base.specs.declared.values.View.{View}
 use Rattle.dk_trace.specs.Whole.{ValuesSoFar, ValuesStand}
 use Rattle.dk_trace.proofs.InPlace.{constant_more, count_within, values_stand, variable_more}
-use Rattle.dk_trace.proofs.Tidy.{one_front}
+use Rattle.dk_trace.proofs.Bare.{one_bare}
+use Rattle.dk_base.proofs.Digits.{one_front}
 use Rattle.dk_trace.proofs.whole.read_values.Goals as goal
 use Rattle.dk_trace.proofs.whole.read_values.Goals.{then-var+in_ok-push_constant, else-var+in-Ok-Some}
+
+pub read_variable-requires : goal.read_variable-requires
+read_variable-requires c = one_bare c.args.vars.now c.loop-var.var-index c.var-item.result c.requires c.loop-var-test.true c.var-item.is
 
 pub overflow_add-count : goal.overflow_add-count
 overflow_add-count c =

@@ -1,0 +1,10 @@
+use Rattle.std.proofs.Common.{◌≡◌, ◌∷◌, ℕ, List, get_or, take, drop, length, ◌-◌, arith, rules}
+use Rattle.dk_trace.proofs.Digits.{number_stands}
+use Rattle.dk_base.proofs.Digits.{one_front}
+use Rattle.dk_trace.proofs.whole.number_line.Goals as goal
+
+pub returns-in-10 : goal.returns-in-10
+returns-in-10 c =
+    let lf : get_or c.in-Some.behind.now 0 0 ≡ 10 = search rules in
+    number_stands c.args.bytes.now c.in-Some.behind.now (take (length c.in-Some.behind.now - 1) (drop 1 c.in-Some.behind.now)) c.in-Some.number (search rules)
+    (one_front c.in-Some.behind.now 10 (omega (arith, c.in-10.len_at_least)) lf)
