@@ -2,6 +2,7 @@ pub mod Splits
 pub mod Spellings
 pub mod Numerals
 pub mod Digits
+pub mod WideNumerals
 pub mod Gathering
 pub mod Samenesses
 pub mod Joining

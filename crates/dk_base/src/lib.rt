@@ -20,6 +20,7 @@ mod texts;
 mod tuples;
 mod values;
 mod why;
+mod wide;
 
 pub use blanks::{first_word, rest_of_line, trim_blanks, words};
 pub use faults::{BlockFault, Fault};
@@ -37,6 +38,7 @@ pub use texts::Text;
 pub use tuples::{bool_at, bools_at, hash_at, hashes_at, int_at, ints_at, text_at, texts_at};
 pub use values::{Value, View};
 pub use why::Why;
+pub use wide::{in_i64, in_u64, parse_wide};
 
 /// An arena: what lies in it goes all at once.
 pub type Arena = bumpalo::Bump;

@@ -7,7 +7,6 @@ ghost use Rattle.dk_base.specs.Values.{IsOfKind, value_of, value_of_text};
 ghost use Rattle.dk_base.specs.declared.kinds.Kind.{Kind};
 
 use crate::{NoMemory, Text, View};
-use itoa::Buffer;
 use std::alloc::Global;
 
 const BLANK: u8 = b' ';
@@ -36,8 +35,7 @@ impl Spelled for i64 {
     ghost text_of = { signed_decimal };
 
     fn spell(&self, _alloc: Global, text: &mut Text) -> Result<(), NoMemory> {
-        let mut buffer = Buffer::new();
-        text.append(buffer.format(*self).as_bytes())
+        text.append_number(*self)
     }
 }
 

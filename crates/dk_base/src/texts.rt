@@ -2,6 +2,7 @@
 ghost use Rattle.std.specs.Prelude.{◌≡◌, ◌==◌, [], ◌∷◌, ◌++◌, IfOk, OnOk, OnErr, length};
 
 use crate::NoMemory;
+use itoa::{Buffer, Integer};
 use std::alloc::Global;
 use std::marker::Model;
 
@@ -54,6 +55,15 @@ impl Text {
     {
         self.kept.extend_from_slice(items)?;
         Ok(())
+    }
+
+    /// The decimal numeral of the number goes last. A refused call leaves the text as it was.
+    pub fn append_number<I: Integer>(&mut self, number: I) -> Result<(), NoMemory>
+        ensures ok { OnOk result (self.new ≡ self.old ++ I.text number) }
+        ensures err { OnErr result (self.new ≡ self.old) }
+    {
+        let mut buffer = Buffer::new();
+        self.append(buffer.format(number).as_bytes())
     }
 
     /// How many bytes there are.

@@ -79,6 +79,17 @@ fn place_slice<'a, T: Copy>(items: &List<T>, arena: &'a Arena) -> Result<&'a [T]
     Ok(copy)
 }
 
+// Copies of these texts.
+fn copy_texts(alloc: Global, texts: &[Text]) -> Result<List<Text>, NoMemory>
+    ensures { IfOk result (λ copies. copies ≡ texts.now) }
+{
+    let mut copies = List::new(alloc);
+    for text in texts {
+        copies.push(Text::from_slice(alloc, text.as_slice())?)?;
+    }
+    Ok(copies)
+}
+
 impl Value {
     ghost use Rattle.dk_base.specs.Values.{has_items, kind_of, value_of};
 
@@ -96,6 +107,23 @@ impl Value {
             View::IntSeq(numbers) => Value::IntSeq(List::from_slice(alloc, numbers)?),
             View::HashSeq(codes) => Value::HashSeq(List::from_slice(alloc, codes)?),
             View::StrSeq(texts) => Value::StrSeq(keep_texts(alloc, texts)?),
+        })
+    }
+
+    /// An equal value, with its own strings and sequences.
+    pub fn copy(&self, alloc: Global) -> Result<Value, NoMemory>
+        ensures { IfOk result (λ copy. copy ≡ self.now) }
+    {
+        Ok(match self {
+            Value::Missing => Value::Missing,
+            Value::Bool(truth) => Value::Bool(*truth),
+            Value::Int(number) => Value::Int(*number),
+            Value::Hash(code) => Value::Hash(*code),
+            Value::Str(text) => Value::Str(Text::from_slice(alloc, text.as_slice())?),
+            Value::BoolSeq(truths) => Value::BoolSeq(List::from_slice(alloc, truths.as_slice())?),
+            Value::IntSeq(numbers) => Value::IntSeq(List::from_slice(alloc, numbers.as_slice())?),
+            Value::HashSeq(codes) => Value::HashSeq(List::from_slice(alloc, codes.as_slice())?),
+            Value::StrSeq(texts) => Value::StrSeq(copy_texts(alloc, texts.as_slice())?),
         })
     }
 

@@ -7,4 +7,3 @@ mod maps;
 mod marks;
 
 pub use index::PatternIndex;
-pub use marks::contains;

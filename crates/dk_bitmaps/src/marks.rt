@@ -5,7 +5,7 @@ ghost use Rattle.dk_presence.specs.Patterns.{has};
 ghost use Rattle.dk_samples.specs.Leaders.{VarsAscend};
 
 use dk_base::VarId;
-use dk_presence::Held;
+use dk_presence::{Held, contains};
 
 /// Something that holds of a pattern or not.
 #[derive(Clone, Copy)]
@@ -14,14 +14,6 @@ pub(crate) enum Mark {
     Leader(VarId),
     /// Its count has the binary digit 1 at this place, counted from 0 at the last digit.
     Digit(u32),
-}
-
-/// Whether the variable is one of these, which ascend.
-pub fn contains(vars: &[VarId], v: VarId) -> bool
-    requires { VarsAscend vars.now }
-    ensures { result ≡ has vars.now v }
-{
-    vars.binary_search_by_key(&v.0, |w| w.0).is_ok()
 }
 
 // Whether the number has the binary digit 1 at the place.

@@ -61,34 +61,6 @@ pub(crate) fn shows(view: View<'_>, value: &Value) -> bool
     }
 }
 
-// Copies of these texts.
-fn copy_texts(alloc: Global, texts: &[Text]) -> Result<List<Text>, NoMemory>
-    ensures { IfOk result (λ copies. copies ≡ texts.now) }
-{
-    let mut copies = List::new(alloc);
-    for text in texts {
-        copies.push(Text::from_slice(alloc, text.as_slice())?)?;
-    }
-    Ok(copies)
-}
-
-/// An equal value, with its own strings and sequences.
-pub(crate) fn copy(alloc: Global, value: &Value) -> Result<Value, NoMemory>
-    ensures { IfOk result (λ copy. copy ≡ value.now) }
-{
-    Ok(match value {
-        Value::Missing => Value::Missing,
-        Value::Bool(truth) => Value::Bool(*truth),
-        Value::Int(number) => Value::Int(*number),
-        Value::Hash(code) => Value::Hash(*code),
-        Value::Str(text) => Value::Str(Text::from_slice(alloc, text.as_slice())?),
-        Value::BoolSeq(truths) => Value::BoolSeq(List::from_slice(alloc, truths.as_slice())?),
-        Value::IntSeq(numbers) => Value::IntSeq(List::from_slice(alloc, numbers.as_slice())?),
-        Value::HashSeq(codes) => Value::HashSeq(List::from_slice(alloc, codes.as_slice())?),
-        Value::StrSeq(texts) => Value::StrSeq(copy_texts(alloc, texts.as_slice())?),
-    })
-}
-
 /// Copies of these entries.
 pub(crate) fn copies(
     alloc: Global,
@@ -98,7 +70,7 @@ pub(crate) fn copies(
 {
     let mut all = Vec::new(alloc);
     for (v, value) in known {
-        all.push((*v, copy(alloc, value)?))?;
+        all.push((*v, value.copy(alloc)?))?;
     }
     Ok(all)
 }

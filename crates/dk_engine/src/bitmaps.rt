@@ -6,9 +6,8 @@ ghost use Rattle.dk_samples.specs.Leaders.{VarsAscend};
 ghost use Rattle.dk_base.specs.declared.kinds.VarId.{VarId};
 ghost use Rattle.dk_engine.specs.Bitmaps.{AreBitmaps, IsBitmap, IsPlaceOf, are_together, digits};
 
-use crate::conditions::has;
 use dk_base::VarId;
-use dk_presence::{Held, Presence};
+use dk_presence::{Held, Presence, contains};
 use std::marker::Model;
 
 /// How many patterns have a bit in one word.
@@ -79,7 +78,7 @@ fn has_each(pattern: &Held, vars: &[VarId]) -> bool
     ensures { result ≡ has_all pattern.now.leaders vars.now }
 {
     for v in vars {
-        if !has(pattern.leaders.as_slice(), *v) {
+        if !contains(pattern.leaders.as_slice(), *v) {
             return false;
         }
     }

@@ -20,7 +20,7 @@ use crate::places::is_before;
 use crate::{Kept, Slot};
 use dk_base::{Kind, Text, Value, VarId, VarInfo, is_text};
 use dk_classes::Classes;
-use dk_presence::Held;
+use dk_presence::{Held, contains};
 use dk_template::{Grammar, RowId, State, admits, info, is_written as stands_written, proper};
 
 // The kind of a variable.
@@ -150,21 +150,13 @@ fn is_written(value: &Value) -> bool
     }
 }
 
-// Whether the variable is one of these, which ascend.
-pub(crate) fn has(vars: &[VarId], v: VarId) -> bool
-    requires { VarsAscend vars.now }
-    ensures { result ≡ has vars.now v }
-{
-    vars.binary_search_by_key(&v.0, |w| w.0).is_ok()
-}
-
 // Whether the variable is in all patterns, or in none, as they tell one after another.
 fn is_in_each(held: &[Held], v: VarId, present: bool) -> bool
     requires { All (λ h. VarsAscend h.leaders) held.now }
     ensures { IsTrue result ↔ All (λ h. has h.leaders v ≡ present) held.now }
 {
     for pattern in held {
-        if has(pattern.leaders.as_slice(), v) != present {
+        if contains(pattern.leaders.as_slice(), v) != present {
             return false;
         }
     }

@@ -15,7 +15,7 @@ ghost use Rattle.dk_engine.specs.Narrow.{IsSeen, grown_state, may_stay, prolonge
 use crate::Slot;
 use crate::operations::number_at;
 use dk_base::{VarId, View};
-use dk_forms::plane_stays;
+use dk_forms::{distance, plane_stays, same_products};
 use dk_samples::{is_present, value_at};
 use dk_template::State;
 
@@ -54,29 +54,6 @@ fn is_before(x1: i64, y1: i64, z1: i64, x: i64, y: i64, z: i64) -> bool
     } else {
         x1 < x
     }
-}
-
-// `x - u`, of coordinates within the limit. It is exact.
-#[inline(always)]
-fn distance(x: i64, u: i64) -> i64
-    requires x { unsigned_abs x ≤ 2 ^ 30 }
-    requires u { unsigned_abs u ≤ 2 ^ 30 }
-    ensures value { result ≡ x -ℤ u }
-    ensures small { unsigned_abs result ≤ 2 ^ 31 }
-{
-    x - u
-}
-
-// Whether `a * b` and `c * d` are equal, of distances. It is exact.
-#[inline(always)]
-fn same_products(a: i64, b: i64, c: i64, d: i64) -> bool
-    requires a { unsigned_abs a ≤ 2 ^ 31 }
-    requires b { unsigned_abs b ≤ 2 ^ 31 }
-    requires c { unsigned_abs c ≤ 2 ^ 31 }
-    requires d { unsigned_abs d ≤ 2 ^ 31 }
-    ensures { result ≡ int_eq (a *ℤ b) (c *ℤ d) }
-{
-    a * b == c * d
 }
 
 // Whether two steps in space have the same or opposite directions.

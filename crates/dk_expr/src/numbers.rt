@@ -7,6 +7,8 @@ ghost use Rattle.dk_print.specs.Parts.{sign_text, step_text};
 ghost use Rattle.dk_expr.specs.Following.{with_sign};
 ghost use Rattle.dk_expr.specs.Readable.{begins_behind_number, ends_number};
 
+use dk_base::{in_i64, parse_wide};
+
 /// A number in the front of a text, and how many bytes it takes.
 #[derive(Clone, Copy)]
 pub(crate) struct Number {
@@ -27,58 +29,12 @@ pub(crate) fn number_len(bytes: &[u8]) -> usize
     bytes.len()
 }
 
-// The whole number that a text writes.
-fn parsed(text: &[u8]) -> Option<i128>
-    ensures { (z : ℤ) → unsigned_abs z < 2 ^ 127 → text.now ≡ signed_decimal z → result ≡ Some z }
-{
-    match str::from_utf8(text) {
-        Ok(text) => text.parse().ok(),
-        Err(_) => None,
-    }
-}
-
-// The number, if it has at most 127 bits without its sign.
-fn in_wide(number: i128) -> Option<i128>
-    ensures read { unsigned_abs number < 2 ^ 127 → result ≡ Some number }
-    ensures within { IfSome result (λ z. unsigned_abs z < 2 ^ 127) }
-{
-    if number.unsigned_abs() < 1 << 127 {
-        Some(number)
-    } else {
-        None
-    }
-}
-
-// The whole number that a text writes, if it has at most 127 bits without its sign.
-fn whole(text: &[u8]) -> Option<i128>
-    ensures read { (z : ℤ) → unsigned_abs z < 2 ^ 127 → text.now ≡ signed_decimal z → result ≡ Some z }
-    ensures within { IfSome result (λ z. unsigned_abs z < 2 ^ 127) }
-{
-    in_wide(parsed(text)?)
-}
-
-/// The number, if it is one of 64 bits with its sign.
-pub(crate) fn in_i64(number: i128) -> Option<i64>
-    ensures read { IsTrue (fits_i64 number) → result ≡ Some number }
-    ensures within { IfSome result (λ k. IsTrue (fits_i64 k)) }
-{
-    i64::try_from(number).ok()
-}
-
-/// The number, if it is one of 64 bits without a sign.
-pub(crate) fn in_u64(number: i128) -> Option<u64>
-    ensures read { (n : ℕ) → n < 2 ^ 64 → number ≡ pos n → result ≡ Some n }
-    ensures within { IfSome result (λ n. n < 2 ^ 64) }
-{
-    u64::try_from(number).ok()
-}
-
 /// The whole number of 64 bits that a text writes.
 pub(crate) fn int_in(text: &[u8]) -> Option<i64>
     ensures read { (z : ℤ) → IsTrue (fits_i64 z) → text.now ≡ signed_decimal z → result ≡ Some z }
     ensures within { IfSome result (λ k. IsTrue (fits_i64 k)) }
 {
-    in_i64(whole(text)?)
+    in_i64(parse_wide(text)?)
 }
 
 /// The number in the front of the bytes.
@@ -88,7 +44,7 @@ pub(crate) fn number_at(bytes: &[u8]) -> Option<Number>
     ensures within { IfSome result (λ n. n.len ≤ length bytes.now) }
 {
     let len = number_len(bytes);
-    let value = whole(&bytes[..len])?;
+    let value = parse_wide(&bytes[..len])?;
     Some(Number { value, len })
 }
 

@@ -11,9 +11,8 @@ ghost use Rattle.dk_expr.specs.Readable.{says_null};
 ghost use Rattle.dk_expr.specs.Telling.{Tells, printed_state};
 
 use crate::found::Found;
-use crate::numbers::{in_i64, in_u64};
 use crate::values::{ints_of, values_in};
-use dk_base::NoMemory;
+use dk_base::{NoMemory, in_i64, in_u64};
 use dk_template::{State, StateForm};
 use std::alloc::Global;
 

@@ -27,6 +27,7 @@ pub use modulus::{join_modulus, modulus_point, modulus_stays};
 pub use offset::{join_offset, offset_stays};
 pub use plain::{join_plain, plain_point, plain_stays};
 pub use plane::{join_plane, plane_point, plane_stays};
+pub use small::{distance, same_products};
 pub use states::State;
 pub use texts::{join_texts, text_point, text_stays, texts_all_stay, texts_point};
 pub use truth::{join_truth, truth_all_stay, truth_point, truth_stays};

@@ -117,8 +117,9 @@ pub(crate) struct Step {
     pub c: i64,
 }
 
-/// `x - u`, which is exact.
-pub(crate) fn distance(x: i64, u: i64) -> i64
+/// `x - u`, of coordinates of at most 2^30 by their size. It is exact.
+#[inline(always)]
+pub fn distance(x: i64, u: i64) -> i64
     requires x { unsigned_abs x ≤ 2 ^ 30 }
     requires u { unsigned_abs u ≤ 2 ^ 30 }
     ensures value { result ≡ x -ℤ u }
@@ -127,8 +128,9 @@ pub(crate) fn distance(x: i64, u: i64) -> i64
     x - u
 }
 
-/// Whether `a * b` and `c * d` are equal. It is exact.
-pub(crate) fn same_products(a: i64, b: i64, c: i64, d: i64) -> bool
+/// Whether `a * b` and `c * d` are equal, of distances, at most 2^31 by their size. It is exact.
+#[inline(always)]
+pub fn same_products(a: i64, b: i64, c: i64, d: i64) -> bool
     requires a { unsigned_abs a ≤ 2 ^ 31 }
     requires b { unsigned_abs b ≤ 2 ^ 31 }
     requires c { unsigned_abs c ≤ 2 ^ 31 }

@@ -7,23 +7,15 @@ ghost use Rattle.dk_generate.specs.Records.{call_text, head_text, items_text, no
 
 use crate::calls::{Call, Stack, after_call};
 use dk_base::{NoMemory, Text};
-use itoa::{Buffer, Integer};
 
 const BLANK: u8 = b' ';
-
-fn push_number<I: Integer>(text: &mut Text, number: I) -> Result<(), NoMemory>
-    ensures { OnOk result (text.new ≡ text.old ++ I.text number) }
-{
-    let mut buffer = Buffer::new();
-    text.append(buffer.format(number).as_bytes())
-}
 
 // The call's number as the nonce.
 fn push_nonce(text: &mut Text, number: u64) -> Result<(), NoMemory>
     ensures { OnOk result (text.new ≡ text.old ++ nonce_text number) }
 {
     text.append(b"this_invocation_nonce\n")?;
-    push_number(text, number)?;
+    text.append_number(number)?;
     text.append(b"\n")
 }
 
@@ -44,7 +36,7 @@ fn push_value(text: &mut Text, name: &[u8], number: u8) -> Result<(), NoMemory>
 {
     text.append(name)?;
     text.append(b"\n")?;
-    push_number(text, number)?;
+    text.append_number(number)?;
     text.append(b"\n1\n")
 }
 
@@ -55,7 +47,7 @@ fn push_top(text: &mut Text, height: usize) -> Result<(), NoMemory>
     ensures { OnOk result (text.new ≡ text.old ++ top_text height) }
 {
     text.append(b"this.top\n")?;
-    push_number(text, height as i64 - 1)?;
+    text.append_number(height as i64 - 1)?;
     text.append(b"\n1\n")
 }
 
@@ -64,10 +56,10 @@ fn push_next(text: &mut Text, is_first: bool, item: u8) -> Result<(), NoMemory>
     ensures { OnOk result (text.new ≡ text.old ++ (if is_first then decimal item else BLANK ∷ decimal item)) }
 {
     if is_first {
-        return push_number(text, item);
+        return text.append_number(item);
     }
     text.push(BLANK)?;
-    push_number(text, item)
+    text.append_number(item)
 }
 
 // The items with a blank between each two.

@@ -12,4 +12,4 @@ mod way;
 pub use composing::partners_of;
 pub use engines::engine_of;
 pub use merged::{Merged, merge};
-pub use way::Way;
+pub use way::{Way, partners_at};

@@ -25,7 +25,7 @@ pub(crate) fn partner_at(partners: &[Option<VarId>], v: VarId) -> Option<VarId>
 }
 
 /// The partners of at most three variables, if each has one.
-pub(crate) fn partners_at(partners: &[Option<VarId>], vars: &[VarId]) -> Option<Tuple>
+pub fn partners_at(partners: &[Option<VarId>], vars: &[VarId]) -> Option<Tuple>
     requires { length vars.now ≤ 3 }
     ensures { result ≡ partners_at partners.now vars.now }
 {

@@ -8,7 +8,6 @@ ghost use Rattle.dk_join.specs.Joined.{common_value, joined_known, known_in_both
 use dk_base::{List, NoMemory, Value, VarId, same_kept};
 use dk_constants::Constants;
 use dk_engine::Engine;
-use dk_parts::copy_value;
 use std::alloc::Global;
 
 // The value that is known in both, if it is one.
@@ -57,7 +56,7 @@ fn with_leader(
         None => Ok(known),
         Some(value) => {
             let mut known = known;
-            known.push((v, copy_value(alloc, value)?))?;
+            known.push((v, value.copy(alloc)?))?;
             Ok(known)
         }
     }

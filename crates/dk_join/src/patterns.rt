@@ -11,16 +11,8 @@ use crate::tally::Tally;
 use dk_base::{List, NoMemory, VarId};
 use dk_classes::Classes;
 use dk_engine::Engine;
-use dk_presence::Held;
+use dk_presence::{Held, contains};
 use std::alloc::Global;
-
-// Whether the variable is one of these, which ascend.
-fn contains(vars: &[VarId], v: VarId) -> bool
-    requires { VarsAscend vars.now }
-    ensures { result ≡ has vars.now v }
-{
-    vars.binary_search_by_key(&v.0, |w| w.0).is_ok()
-}
 
 // Whether a leader is present with a pattern of the old ones: its old leader is.
 fn is_present_with(old: &Classes, present: &[VarId], v: VarId) -> bool

@@ -5,7 +5,6 @@ ghost use Rattle.dk_languages.specs.Numbers.{minus_of, number_in, number_text, w
 use crate::Language;
 use dk_base::{NoMemory, Text};
 use dk_template::State;
-use itoa::{Buffer, Integer};
 
 // The number at a place, or 0 behind the last.
 fn number_at(numbers: &[i128], place: usize) -> i128
@@ -30,14 +29,6 @@ pub(crate) fn number_in(state: &State, place: usize) -> i128
     }
 }
 
-// The number in decimal, behind the text.
-fn push_decimal<I: Integer>(text: &mut Text, number: I) -> Result<(), NoMemory>
-    ensures { OnOk result (text.new ≡ text.old ++ I.text number) }
-{
-    let mut buffer = Buffer::new();
-    text.append(buffer.format(number).as_bytes())
-}
-
 // A minus where the number is below 0, behind the text.
 fn push_minus(text: &mut Text, number: i128) -> Result<(), NoMemory>
     ensures { OnOk result (text.new ≡ text.old ++ minus_of number) }
@@ -56,9 +47,9 @@ fn push_wide(text: &mut Text, number: i128) -> Result<(), NoMemory>
     let size = number.unsigned_abs();
     push_minus(text, number)?;
     text.append(b"dk_wide(")?;
-    push_decimal(text, size / (1 << 64))?;
+    text.append_number(size / (1 << 64))?;
     text.append(b"u, ")?;
-    push_decimal(text, size % (1 << 64))?;
+    text.append_number(size % (1 << 64))?;
     text.append(b"u)")
 }
 
@@ -67,7 +58,7 @@ fn push_c_number(text: &mut Text, number: i128) -> Result<(), NoMemory>
     ensures { OnOk result (text.new ≡ text.old ++ number_text Language.C number) }
 {
     if number.unsigned_abs() < 1 << 63 {
-        push_decimal(text, number)
+        text.append_number(number)
     } else {
         push_wide(text, number)
     }
@@ -78,10 +69,10 @@ fn push_smtlib_number(text: &mut Text, number: i128) -> Result<(), NoMemory>
     ensures { OnOk result (text.new ≡ text.old ++ number_text Language.Smtlib number) }
 {
     if number >= 0 {
-        return push_decimal(text, number);
+        return text.append_number(number);
     }
     text.append(b"(- ")?;
-    push_decimal(text, number.unsigned_abs())?;
+    text.append_number(number.unsigned_abs())?;
     text.append(b")")
 }
 
@@ -90,7 +81,7 @@ pub(crate) fn push_number(text: &mut Text, language: Language, number: i128) -> 
     ensures { OnOk result (text.new ≡ text.old ++ number_text language number) }
 {
     match language {
-        Language::Python => push_decimal(text, number),
+        Language::Python => text.append_number(number),
         Language::C => push_c_number(text, number),
         Language::Smtlib => push_smtlib_number(text, number),
     }

@@ -11,7 +11,7 @@ mod presence;
 
 pub use classes::classes_in_order;
 pub use entries::constants_from;
-pub use known::{Known, copy_value, known_in_order};
+pub use known::{Known, known_in_order};
 pub use members::classes_from;
 pub use pattern::{Pattern, patterns_in_order};
 pub use presence::presence_from;

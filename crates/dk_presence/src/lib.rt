@@ -10,3 +10,4 @@ mod steps;
 
 pub use held::Held;
 pub use presence::{Presence, present_leaders};
+pub use steps::contains;

@@ -10,7 +10,7 @@ use dk_base::{List, NoMemory, VarId};
 use std::alloc::Global;
 
 /// Whether the variable is one of these, which ascend.
-pub(crate) fn contains(vars: &[VarId], v: VarId) -> bool
+pub fn contains(vars: &[VarId], v: VarId) -> bool
     requires { VarsAscend vars.now }
     ensures { result ≡ has vars.now v }
 {

@@ -5,7 +5,6 @@ ghost use Rattle.dk_print.specs.Parts.{name_at, part_text};
 ghost use Rattle.dk_print.specs.Shown.{part_shown};
 ghost use Rattle.dk_print.specs.Texts.{instance_text, var_names};
 
-use crate::numbers::push_number;
 use crate::parts::{Part, parts_of};
 use crate::states::{
     bound_in, code_in, constant_in, factor_at, modulus_in, offset_in, remainder_in,
@@ -60,11 +59,11 @@ fn push_part(
     match part {
         Part::Word(bytes) => text.append(bytes),
         Part::Named(role) => text.append(name_at(vars, tuple, role)),
-        Part::Bound => push_number(text, bound_in(state)),
+        Part::Bound => text.append_number(bound_in(state)),
         Part::Values => push_known(text, state),
         Part::NullOr(bytes) => push_null_or(text, code_in(state), bytes),
-        Part::Remainder => push_number(text, remainder_in(state)),
-        Part::Modulus => push_number(text, modulus_in(state)),
+        Part::Remainder => text.append_number(remainder_in(state)),
+        Part::Modulus => text.append_number(modulus_in(state)),
         Part::Lead(role) => {
             let factor = factor_at(state, role).unsigned_abs();
             push_times(text, factor, name_at(vars, tuple, role))

@@ -3,7 +3,6 @@
 
 mod instances;
 pub mod laws;
-mod numbers;
 mod parts;
 mod sections;
 mod states;

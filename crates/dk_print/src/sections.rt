@@ -4,7 +4,6 @@ ghost use Rattle.dk_base.specs.Refusals.{why_text};
 ghost use Rattle.dk_print.specs.Sections.{candidate_line, count_text, fault_line, heading, kept_text, samples_text, section_text, stats_line, variables_text};
 
 use crate::instances::push_instance;
-use crate::numbers::push_number;
 use dk_base::{NoMemory, Text, VarInfo, Why};
 use dk_engine::Counts;
 use dk_filters::Candidate;
@@ -20,7 +19,7 @@ pub fn push_count(text: &mut Text, count: u64) -> Result<(), NoMemory>
     ensures { OnOk result (text.new ≡ text.old ++ count_text count) }
 {
     text.append(b"  [")?;
-    push_number(text, count)?;
+    text.append_number(count)?;
     text.append(b"]\n")
 }
 
@@ -89,7 +88,7 @@ fn push_size<I: Integer>(text: &mut Text, label: &[u8], size: I) -> Result<(), N
     ensures { OnOk result (text.new ≡ text.old ++ (label.now ++ I.text size)) }
 {
     text.append(label)?;
-    push_number(text, size)
+    text.append_number(size)
 }
 
 // How many leaders there are, and how many of them are constant.

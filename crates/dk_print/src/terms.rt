@@ -2,7 +2,6 @@
 ghost use Rattle.std.specs.Prelude.{◌≡◌, ◌++◌, OnOk};
 ghost use Rattle.dk_print.specs.Parts.{constant_term_text, sign_text, step_text, term_text, times_text};
 
-use crate::numbers::push_number;
 use dk_base::{NoMemory, Text};
 
 // ` - ` for a number below 0, and else ` + `.
@@ -21,7 +20,7 @@ pub(crate) fn push_step(text: &mut Text, number: i128) -> Result<(), NoMemory>
     ensures { OnOk result (text.new ≡ text.old ++ step_text number) }
 {
     push_sign(text, number)?;
-    push_number(text, number.unsigned_abs())
+    text.append_number(number.unsigned_abs())
 }
 
 /// The constant with its sign, behind the text; nothing where it is 0.
@@ -41,7 +40,7 @@ pub(crate) fn push_times(text: &mut Text, factor: u128, name: &[u8]) -> Result<(
     if factor == 1 {
         return text.append(name);
     }
-    push_number(text, factor)?;
+    text.append_number(factor)?;
     text.append(b" * ")?;
     text.append(name)
 }

@@ -4,7 +4,6 @@ ghost use Rattle.std.specs.Fmt.{signed_decimal};
 ghost use Rattle.dk_base.specs.Spelling.{bool_text};
 ghost use Rattle.dk_print.specs.Parts.{known_text, values_text};
 
-use crate::numbers::push_number;
 use dk_base::{NoMemory, Text};
 use dk_template::State;
 
@@ -20,7 +19,7 @@ impl Printed for i64 {
     ghost text_of = { signed_decimal };
 
     fn push_to(&self, text: &mut Text) -> Result<(), NoMemory> {
-        push_number(text, *self)
+        text.append_number(*self)
     }
 }
 

@@ -6,7 +6,7 @@ ghost use Rattle.dk_state.specs.Lines.{behind_blank, fields_text, var_fields};
 
 use dk_base::{Arena, NoMemory, Text, Value, VarId, spell};
 use dk_write::push_escaped;
-use itoa::{Buffer, Integer};
+use itoa::Integer;
 use std::alloc::Global;
 
 /// The end of a line, behind the text.
@@ -28,8 +28,8 @@ pub(crate) fn push_field(text: &mut Text, field: &[u8]) -> Result<(), NoMemory>
 pub(crate) fn push_number<I: Integer>(text: &mut Text, number: I) -> Result<(), NoMemory>
     ensures { OnOk result (text.new ≡ text.old ++ behind_blank (I.text number)) }
 {
-    let mut buffer = Buffer::new();
-    push_field(text, buffer.format(number).as_bytes())
+    text.append(b" ")?;
+    text.append_number(number)
 }
 
 /// The variables by their places, behind the text.

@@ -9,7 +9,9 @@ ghost use Rattle.dk_base.specs.Values.{IsOfKind, value_of_text};
 ghost use Rattle.dk_state.specs.Lines.{behind_blank};
 ghost use Rattle.dk_state.specs.Reading.{BeginsWith, HasNone, begins_number, ends_field, ends_line};
 
-use dk_base::{Arena, Kind, NoMemory, Text, Value, ValueFault, parse_value, unescape};
+use dk_base::{
+    Arena, Kind, NoMemory, Text, Value, ValueFault, in_i64, in_u64, parse_value, parse_wide, unescape,
+};
 use std::alloc::Global;
 use std::marker::Model;
 
@@ -52,50 +54,6 @@ fn line_len(bytes: &[u8]) -> usize
         }
     }
     bytes.len()
-}
-
-// The whole number that a text writes.
-fn parse_number(text: &[u8]) -> Option<i128>
-    ensures { (z : ℤ) → unsigned_abs z < 2 ^ 127 → text.now ≡ signed_decimal z → result ≡ Some z }
-{
-    match str::from_utf8(text) {
-        Ok(text) => text.parse().ok(),
-        Err(_) => None,
-    }
-}
-
-// The number, if it has at most 127 bits without its sign.
-fn in_wide(number: i128) -> Option<i128>
-    ensures read { unsigned_abs number < 2 ^ 127 → result ≡ Some number }
-    ensures within { IfSome result (λ z. unsigned_abs z < 2 ^ 127) }
-{
-    if number.unsigned_abs() < 1 << 127 {
-        Some(number)
-    } else {
-        None
-    }
-}
-
-// The whole number that a text writes, if it has at most 127 bits without its sign.
-fn whole(text: &[u8]) -> Option<i128>
-    ensures read { (z : ℤ) → unsigned_abs z < 2 ^ 127 → text.now ≡ signed_decimal z → result ≡ Some z }
-    ensures within { IfSome result (λ z. unsigned_abs z < 2 ^ 127) }
-{
-    in_wide(parse_number(text)?)
-}
-
-// The number, if it is one of 64 bits with its sign.
-fn in_i64(number: i128) -> Option<i64>
-    ensures { IsTrue (fits_i64 number) → result ≡ Some number }
-{
-    i64::try_from(number).ok()
-}
-
-// The number, if it is one of 64 bits without a sign.
-fn in_u64(number: i128) -> Option<u64>
-    ensures { (n : ℕ) → n < 2 ^ 64 → number ≡ pos n → result ≡ Some n }
-{
-    u64::try_from(number).ok()
 }
 
 // The number, if it is one of 32 bits.
@@ -220,7 +178,7 @@ impl<'a> Front<'a> {
         ensures within { unsigned_abs result < 2 ^ 127 }
         ensures shorter { length self.new ≤ length self.old - 1 }
     {
-        let number = whole(self.field());
+        let number = parse_wide(self.field());
         self.or_give_up(number, 0)
     }
 

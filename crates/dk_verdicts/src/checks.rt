@@ -1,7 +1,6 @@
 // The checks of each point: which variables of its samples are tested, and of which claim.
 ghost use Rattle.std.specs.Prelude.{◌≡◌, ◌<◌, ◌≤◌, [], ◌∷◌, All, IfOk, IfSome, OnOk, length, replicate};
 ghost use Rattle.dk_hierarchy.specs.Descent.{IsDescent};
-ghost use Rattle.dk_hierarchy.specs.Edges.{partner_at, partners_at};
 ghost use Rattle.dk_hierarchy.specs.Standing.{AreEnginesOf};
 ghost use Rattle.dk_verdicts.specs.Checks.{AreChecksOf, AreWithChecks};
 ghost use Rattle.dk_verdicts.specs.Standing.{AreFindingsOf};
@@ -9,7 +8,7 @@ ghost use Rattle.dk_verdicts.specs.Standing.{AreFindingsOf};
 use crate::findings::Finding;
 use dk_base::{List, NoMemory, PointId, VarId};
 use dk_engine::Engine;
-use dk_hierarchy::{Merged, Way, merge};
+use dk_hierarchy::{Merged, Way, merge, partners_at};
 use dk_points::Points;
 use dk_template::Tuple;
 use std::alloc::Global;
@@ -21,31 +20,6 @@ pub(crate) struct Check {
     pub(crate) claim: usize,
     pub(crate) vars: Tuple,
     pub(crate) paths: u64,
-}
-
-// The partner of a variable, if it has one.
-fn partner_at(partners: &[Option<VarId>], v: VarId) -> Option<VarId>
-    ensures { result ≡ partner_at partners.now v }
-{
-    match partners.get(v.0 as usize) {
-        None => None,
-        Some(partner) => *partner,
-    }
-}
-
-// The partners of at most three variables, if each has one.
-fn partners_at(partners: &[Option<VarId>], vars: &[VarId]) -> Option<Tuple>
-    requires { length vars.now ≤ 3 }
-    ensures { result ≡ partners_at partners.now vars.now }
-{
-    let partner = |v: VarId| partner_at(partners, v);
-    match vars {
-        [] => Some(Tuple::of(&[])),
-        [v] => Some(Tuple::of(&[partner(*v)?])),
-        [v, w] => Some(Tuple::of(&[partner(*v)?, partner(*w)?])),
-        [v, w, x] => Some(Tuple::of(&[partner(*v)?, partner(*w)?, partner(*x)?])),
-        _ => unreachable!(),
-    }
 }
 
 // Adds the check that a way gives of a claim's variables, at the point that it leads to; none where one of them has no partner there.

@@ -5,7 +5,6 @@ ghost use Rattle.dk_verdicts.specs.Reports.{IsNamed, verdict_line, verdict_text}
 
 use dk_base::{NoMemory, Text};
 use dk_claims::Claim;
-use itoa::Buffer;
 
 /// What the records say of a claim.
 #[derive(Clone, Copy, Debug, PartialEq, Eq, Drop)]
@@ -18,14 +17,6 @@ pub enum Verdict {
     Unknown,
 }
 
-// Writes the number behind the text.
-fn push_number(text: &mut Text, number: u64) -> Result<(), NoMemory>
-    ensures { OnOk result (text.new ≡ text.old ++ decimal number) }
-{
-    let mut buffer = Buffer::new();
-    text.append(buffer.format(number).as_bytes())
-}
-
 // Writes what a verdict is behind the text.
 fn push_words(text: &mut Text, verdict: Verdict, file: &str) -> Result<(), NoMemory>
     ensures { OnOk result ((name : ℕ → List ℕ) → IsNamed name verdict file.now → text.new ≡ text.old ++ verdict_text name verdict) }
@@ -33,14 +24,14 @@ fn push_words(text: &mut Text, verdict: Verdict, file: &str) -> Result<(), NoMem
     match verdict {
         Verdict::Holds { tuples } => {
             text.append(b"ok [")?;
-            push_number(text, tuples)?;
+            text.append_number(tuples)?;
             text.append(b"]")
         }
         Verdict::Violated { file: _, line } => {
             text.append(b"violated at ")?;
             text.append(file.as_bytes())?;
             text.append(b":")?;
-            push_number(text, line)
+            text.append_number(line)
         }
         Verdict::Unknown => text.append(b"unknown"),
     }

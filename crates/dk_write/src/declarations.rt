@@ -4,7 +4,6 @@ ghost use Rattle.dk_lines.specs.Passing.{joined};
 ghost use Rattle.dk_write.specs.Declarations.{compar_line, compar_text, constant_lines, counterpart_line, counterpart_lines, declaration_lines, edge_line, point_line, rep_line, rep_text, var_lines, variable_line};
 
 use crate::names::push_escaped;
-use crate::numbers::push_number;
 use crate::values::push_constant;
 use dk_base::{Compar, Kind, NoMemory, Text};
 use dk_decl::{EdgeDecl, ParentVar, PointDecl, VarDecl};
@@ -41,7 +40,7 @@ fn push_edge(text: &mut Text, edge: &EdgeDecl) -> Result<(), NoMemory>
     text.append(b"parent parent ")?;
     push_escaped(text, edge.parent.as_slice())?;
     text.append(b" ")?;
-    push_number(text, edge.id)?;
+    text.append_number(edge.id)?;
     text.append(b"\n")
 }
 
@@ -74,9 +73,9 @@ fn push_rep_type(text: &mut Text, kind: Option<Kind>) -> Result<(), NoMemory>
 fn push_compar(text: &mut Text, compar: Compar) -> Result<(), NoMemory>
     ensures { OnOk result (text.new ≡ text.old ++ compar_text compar) }
 {
-    push_number(text, compar.elem)?;
+    text.append_number(compar.elem)?;
     text.append(b"[")?;
-    push_number(text, compar.index)?;
+    text.append_number(compar.index)?;
     text.append(b"]")
 }
 
@@ -106,7 +105,7 @@ fn push_counterpart_line(text: &mut Text, name: &[u8], edge: &EdgeDecl) -> Resul
     text.append(b"parent ")?;
     push_escaped(text, edge.parent.as_slice())?;
     text.append(b" ")?;
-    push_number(text, edge.id)?;
+    text.append_number(edge.id)?;
     text.append(b" ")?;
     push_escaped(text, name)?;
     text.append(b"\n")

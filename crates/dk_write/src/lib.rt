@@ -7,7 +7,6 @@
 mod declarations;
 pub mod laws;
 mod names;
-mod numbers;
 mod records;
 mod values;
 mod writable;

@@ -8,7 +8,6 @@ ghost use Rattle.dk_lines.specs.Passing.{joined};
 ghost use Rattle.dk_write.specs.Records.{Recorded, nonce_lines, record_lines, told_lines};
 
 use crate::names::push_escaped;
-use crate::numbers::push_number;
 use crate::values::{mark_text, value_text};
 use dk_base::{NoMemory, Text, View};
 use dk_decl::{PointDecl, VarDecl};
@@ -31,7 +30,7 @@ fn push_line(text: &mut Text, line: &[u8]) -> Result<(), NoMemory>
 fn push_number_line(text: &mut Text, number: i64) -> Result<(), NoMemory>
     ensures { OnOk result (text.new ≡ text.old ++ joined (signed_decimal number ∷ [])) }
 {
-    push_number(text, number)?;
+    text.append_number(number)?;
     text.append(b"\n")
 }
 

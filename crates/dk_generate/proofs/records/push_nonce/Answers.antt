@@ -11,4 +11,4 @@ returns c =
     let number = decimal c.args.number in
     on_ok_weaker c.append-2.result
     (λ e. joined c.args.text.now (codes "this_invocation_nonce\n") (number ++ codes "\n") _ _ c.in_ok-append.ensures.ok
-    (joined c.append.new.self number (codes "\n") _ _ c.in_ok-push_number.ensures e)) c.append-2.ensures.ok
+    (joined c.append.new.self number (codes "\n") _ _ c.in_ok-append_number.ensures.ok e)) c.append-2.ensures.ok

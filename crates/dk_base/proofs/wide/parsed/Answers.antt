@@ -1,8 +1,8 @@
 use Rattle.std.specs.Result.{result_ok}
 use Rattle.std.specs.Str.{IsUtf8}
 use Rattle.std.proofs.Common.{◌∙◌, ap, subst, sym}
-use Rattle.dk_expr.proofs.Numerals.{number_back, number_is_text}
-use Rattle.dk_expr.proofs.numbers.parsed.Goals as goal
+use Rattle.dk_base.proofs.WideNumerals.{number_back, number_is_text}
+use Rattle.dk_base.proofs.wide.parsed.Goals as goal
 
 pub returns-in-Ok : goal.returns-in-Ok
 returns-in-Ok c z small is =
