@@ -13,10 +13,10 @@ ghost use Rattle.dk_report.specs.Counting.{AreAt, AreFound, AreIndexes, IsIndexO
 
 use dk_base::{NoMemory, PointId, VarId, VarInfo};
 use dk_bitmaps::PatternIndex;
-use dk_presence::contains;
 use dk_engine::Engine;
 use dk_hierarchy::{Merged, Way, merge};
 use dk_points::Points;
+use dk_presence::contains;
 use dk_template::{Answers, RowId, State, Tuple};
 use std::alloc::Global;
 use std::marker::Model;

@@ -10,7 +10,8 @@ ghost use Rattle.dk_state.specs.Lines.{behind_blank};
 ghost use Rattle.dk_state.specs.Reading.{BeginsWith, HasNone, begins_number, ends_field, ends_line};
 
 use dk_base::{
-    Arena, Kind, NoMemory, Text, Value, ValueFault, in_i64, in_u64, parse_value, parse_wide, unescape,
+    Arena, Kind, NoMemory, Text, Value, ValueFault, in_i64, in_u64, parse_value, parse_wide,
+    unescape,
 };
 use std::alloc::Global;
 use std::marker::Model;
