@@ -2,7 +2,7 @@
 ghost use Rattle.std.specs.Prelude.{◌≡◌, ◌↔◌, IfOk, IsTrue, map};
 ghost use Rattle.dk_base.specs.Values.{value_of};
 
-use dk_base::{NoMemory, Text, Value, VarId, View, same_items};
+use dk_base::{List, NoMemory, Text, Value, VarId, View, same_items};
 use std::alloc::Global;
 
 // Whether the two lists have the same texts.

@@ -2,7 +2,7 @@
 ghost use Rattle.std.specs.Prelude.{◌≡◌, IfOk};
 ghost use Rattle.dk_parts.specs.Entries.{all_known_of};
 
-use dk_base::{List, NoMemory, Value, VarId};
+use dk_base::{List, NoMemory, Text, Value, VarId};
 use std::alloc::Global;
 
 /// A leader that has had one value in all samples, with that value.
