@@ -16,7 +16,6 @@ use dk_bitmaps::PatternIndex;
 use dk_engine::Engine;
 use dk_hierarchy::{Merged, Way, merge};
 use dk_points::Points;
-use dk_presence::contains;
 use dk_template::{Answers, RowId, State, Tuple};
 use std::alloc::Global;
 use std::marker::Model;
