@@ -291,8 +291,7 @@ class Maker:
             return self.random.choice([b"true", b"1"] if number % 2 else [b"false", b"0"])
         if element == b"hashcode":
             number %= 4
-            spelled = [b"null", b"0", b"0x0"] if number == 0 else [b"%d" % number, b"0x%x" % number,
-                                                                    b"0x0%X" % number]
+            spelled = [b"null", b"0", b"0x0"] if number == 0 else [b"%d" % number, b"0x%x" % number, b"0x0%X" % number]
             return self.random.choice(spelled)
         if element == b"double":
             return b"1.5"

@@ -21,6 +21,7 @@ compare = script("compare")
 
 # ---------------------------------------------------------------- pieces, fronts, cuts
 
+
 def some_input(maker: Maker) -> Tuple[str, Case, str]:
     """A program, files and words, and the name of the file that may be piped."""
     draw = maker.random
