@@ -46,7 +46,7 @@ def read_fault_trials(seed: int) -> Iterator[Trial]:
 
 
 def judge_read_faults(bench: Bench, trial: Trial) -> Optional[str]:
-    """What stands in front of the file that can't be read is judged first; then the message names it."""
+    """What stands before the file that can't be read is judged first; then the message names it."""
     files, words, faulty, shape = trial.case.files, trial.words, trial.how.piped, trial.how.shape
     if shape == "unreadable" and not bench.starts(trial.program, How(as_nobody=True)):
         return None
