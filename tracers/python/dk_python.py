@@ -29,9 +29,9 @@ exception that leaves a function is no exit. What always holds of an object at t
 module.Class:::OBJECT, what always holds of a module's variables at module:::GLOBALS.
 
 Variables are parameters, `return`, fields of objects whose classes are the program's own, and with --globals the module's. Whole numbers, truth
-values and strings are recorded as such, floating point is passed over by daikon; lists, tuples, ranges, arrays and bytes of whole numbers, truth values
-or strings are sequences x[..]; other containers are known by their identity and len(x), other objects by their identity. No code of the program runs
-when its values are looked at.
+values and strings are recorded as such, floating point is passed over by daikon; lists, tuples, ranges, arrays and bytes of whole numbers, truth
+values or strings are sequences x[..]; other containers are known by their identity and len(x), other objects by their identity. No code of the
+program runs when its values are looked at.
 
 The trace is written when the program ends: by itself, by an exception, by SIGINT, SIGTERM or SIGHUP; but not by SIGKILL, os._exit or os.exec*.
 
