@@ -19,6 +19,7 @@ pub mod laws;
 mod lending;
 mod mapping;
 mod merging;
+mod near;
 mod nothing;
 mod now;
 mod operations;
