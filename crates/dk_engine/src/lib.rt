@@ -33,6 +33,7 @@ mod runs;
 mod saved;
 mod slot;
 mod slots;
+mod staying;
 pub mod step_laws;
 mod suited;
 mod sweeps;
