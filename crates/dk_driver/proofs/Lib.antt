@@ -1,4 +1,4 @@
-mod Examples
+mod Delivering
 pub mod Complete
 pub mod Walks
 pub mod Filing
