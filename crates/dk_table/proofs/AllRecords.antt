@@ -24,7 +24,7 @@ either false x y f g = g
 no_end : (s : State) (a : Action) → is_end a ≡ false → Fine (s, a)
 no_end s a e h = absurd (false≢true (sym e ∙ h))
 
-behind_end : (t : Terminator) (c : ℕ) → ends_at_end (after_end t c) ≡ false
+pub behind_end : (t : Terminator) (c : ℕ) → ends_at_end (after_end t c) ≡ false
 behind_end term.CRLF c = go (c == 13)
   where
     go : (b : Bool) → ends_at_end (if b then st.AfterCr else st.StartRecord) ≡ false

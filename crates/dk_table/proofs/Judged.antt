@@ -1,5 +1,5 @@
 -- The kinds that are found row by row are those of all rows.
-use Rattle.std.proofs.Common.{◌≡◌, ◌≤◌, ◌<◌, ◌+◌, ◌∙◌, ◌&&◌, ◌==◌, ◌∷◌, ◌++◌, [], ℕ, zero, suc, Bool, true, false, cond, List, Option, Some, None, Result, Ok, Err, append-nil, append_assoc, drop, get_or, length, map, replicate, set, take, refl, sym, ap, if◌then◌else◌, is_some, arith}
+use Rattle.std.proofs.Common.{◌≡◌, ◌≤◌, ◌<◌, ◌+◌, ◌∙◌, ◌&&◌, ◌==◌, ◌∷◌, ◌++◌, [], ℕ, zero, suc, Bool, true, false, cond, List, Option, Some, None, Result, Ok, Err, append-nil, append_assoc, drop, get_or, length, length-append, length-drop, map, replicate, set, take, refl, sym, ap, if◌then◌else◌, is_some, arith}
 use Rattle.std.specs.Prelude.{filter, find, not, slice_get, unwrap_or}
 use Rattle.std.specs.List.{enumerate_from, list_all, range_with_len, zip}
 use Rattle.std.proofs.lemmas.Bool.{and_parts, eqb-true}
@@ -147,6 +147,11 @@ module _ (row : Placed) where
   cells_get a (c ∷ cs) (suc i) d lt =
       let there : a + 1 + i ≡ a + suc i = omega arith in
       cells_get (a + 1) cs i d (omega arith) ∙ ap (λ (p : ℕ). with_cell (get_or cs i d) (cell_at p row)) there
+
+  -- there are as many columns while they are changed
+  pub columns_within : (old items : List Column) (i : ℕ) → i < length old → items ≡ take i (with_row old row) ++ drop i old → i < length items
+  columns_within old items i lt is =
+      omega (arith, ap length is, length-append (take i (with_row old row)) (drop i old), length-take i (with_row old row), length-drop i old, cells_length 0 old, lt)
 
   pub columns_more : (old items next : List Column) (i : ℕ) (was now : Column) → i < length old → items ≡ take i (with_row old row) ++ drop i old
       → was ≡ get_or items i was → now ≡ with_cell was (cell_at i row) → next ≡ set items i now → next ≡ take (i + 1) (with_row old row) ++ drop (i + 1) old

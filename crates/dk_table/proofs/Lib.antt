@@ -1,11 +1,14 @@
 pub mod Examples
 pub mod AllRecords
 pub mod Moving
+pub mod Cutting
 pub mod Judged
 pub mod Pieces
 pub mod Formed
 pub mod Bodies
 pub mod Plain
+pub mod Spelled
+pub mod Lined
 pub mod Taking
 pub mod Contents
 pub mod Files

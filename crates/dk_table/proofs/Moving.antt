@@ -126,7 +126,7 @@ one_behind [] after found m = m.1
 one_behind (row ∷ more) after found m = ap (λ (c : Cursor). c.left) m.1
 
 -- ---- all rows of some bytes
-strip_short : (xs : List ℕ) → length (strip_bom xs) ≤ length xs
+pub strip_short : (xs : List ℕ) → length (strip_bom xs) ≤ length xs
 unfolding strip_bom
 strip_short [] = omega arith
 strip_short (a ∷ []) = omega arith

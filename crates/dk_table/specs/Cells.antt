@@ -12,6 +12,12 @@ use Rattle.dk_table.specs.declared.cells.TruthWords.TheVariants as words
 unfoldable pub whole : List ℕ → Option ℤ
 whole cell = option_and_then (λ z. if bytes_eq (signed_decimal z) cell then Some z else None) (integer_of cell)
 
+-- No zero (48) leads but in `0` alone, neither in front nor behind a minus (45): of the texts that write a whole number, the shortest.
+abbrev pub is_shortest : List ℕ → Bool
+is_shortest [] = true
+is_shortest (a ∷ []) = true
+is_shortest (a ∷ b ∷ rest) = not (a == 48 || (a == 45 && b == 48))
+
 abbrev pub yes : TruthWords → List ℕ
 yes words.Lower = codes "true"
 yes words.Title = codes "True"

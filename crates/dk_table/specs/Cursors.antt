@@ -15,6 +15,10 @@ pub record Cursor : Type 0 where
   pub row : Placed
   pub left : List Placed
 
+-- the row of this number in a file
+abbrev pub line_row : ℕ → ℕ → List (List ℕ) → Placed
+line_row file number cells = record { file = file; number = number; cells = cells }
+
 -- ---- what a reader has left
 -- the bytes, where it has not failed
 abbrev pub bytes_left : Reader (Bor (List ℕ)) → Option (List ℕ)

@@ -9,10 +9,12 @@ pub mod Cells
 pub mod Columns
 pub mod Contents
 pub mod Cursors
+pub mod Cutting
 pub mod Forms
 pub mod Judging
 pub mod Messages
 pub mod Outcomes
 pub mod Placed
+pub mod Sources
 pub mod Tables
 pub mod Writing

@@ -1,11 +1,11 @@
 // What a cell writes.
-ghost use Rattle.std.specs.Prelude.{◌≡◌, ◌<◌, ◌++◌, IfOk, IfSome, OnOk, flat_map, length};
+ghost use Rattle.std.specs.Prelude.{◌≡◌, ◌<◌, ◌++◌, IfOk, IfSome, OnOk, Some, flat_map, length};
 ghost use Rattle.std.specs.Char.{is_ascii_digit};
 ghost use Rattle.std.specs.List.{list_all};
-ghost use Rattle.dk_table.specs.Cells.{decimal_of, dot_of, is_dot, is_front, is_plain, no, quoted, quoted_byte, truth, whole, yes};
+ghost use Rattle.dk_base.specs.Numbers.{integer_of};
+ghost use Rattle.dk_table.specs.Cells.{decimal_of, dot_of, is_dot, is_front, is_plain, is_shortest, no, quoted, quoted_byte, truth, whole, yes};
 
 use dk_base::{NoMemory, parse_integer, same_bytes};
-use itoa::Buffer;
 
 /// A spelling of the two truth values.
 #[derive(Clone, Copy, Debug, PartialEq, Eq)]
@@ -18,22 +18,25 @@ pub enum TruthWords {
     Upper,
 }
 
+/// Whether no zero leads but in `0` alone, neither in front nor behind a minus: of the texts that write a whole number, this is the shortest.
+pub(crate) fn is_shortest(text: &[u8]) -> bool
+    ensures { result ≡ is_shortest text.now }
+{
+    match text {
+        [first, second, ..] => !(*first == b'0' || (*first == b'-' && *second == b'0')),
+        _ => true,
+    }
+}
+
 /// The whole number that the cell writes as numbers are printed: decimal digits without leading zeros, with a minus where it is below
 /// zero, within 64 bits.
-#[tactic(auto, unfolding(crate::specs::Cells::whole))]
 pub(crate) fn whole(cell: &[u8]) -> Option<i64>
     ensures { result ≡ whole cell.now }
 {
-    match parse_integer(cell) {
-        None => None,
-        Some(number) => {
-            let mut buffer = Buffer::new();
-            if same_bytes(buffer.format(number).as_bytes(), cell) {
-                Some(number)
-            } else {
-                None
-            }
-        }
+    if is_shortest(cell) {
+        parse_integer(cell)
+    } else {
+        None
     }
 }
 
@@ -107,14 +110,15 @@ fn dot_of(places: usize, cell: &[u8]) -> Option<usize>
     if is_dot(cell, dot) { Some(dot) } else { None }
 }
 
-/// The decimal with so many places that the cell writes, times 10 to their number, within 64 bits. Its digits are put into `digits`.
+/// The decimal with so many places that the cell writes, times 10 to their number, within 64 bits. Its digits are put into `digits`, with its minus.
 #[tactic(auto, unfolding(crate::specs::Cells::decimal_of))]
 pub(crate) fn decimal(
     places: u32,
     cell: &[u8],
     digits: &mut Vec<u8>,
 ) -> Result<Option<i64>, NoMemory>
-    ensures { IfOk result (λ number. number ≡ decimal_of places cell.now) }
+    ensures value { IfOk result (λ number. number ≡ decimal_of places cell.now) }
+    ensures digits { IfOk result (λ number. IfSome number (λ z. integer_of digits.new.items ≡ Some z)) }
 {
     match dot_of(places as usize, cell) {
         None => Ok(None),

@@ -1,10 +1,11 @@
 // What the cells of a column write.
-ghost use Rattle.std.specs.Prelude.{◌≡◌, ◌++◌, ◌∷◌, [], IfOk, None, OnOk, codes, is_some, option_map};
+ghost use Rattle.std.specs.Prelude.{◌≡◌, ◌++◌, ◌∷◌, [], IfOk, None, OnOk, Some, codes, is_some, option_map};
+ghost use Rattle.dk_base.specs.Numbers.{integer_of};
 ghost use Rattle.dk_base.specs.declared.values.Value.TheVariants as value;
 ghost use Rattle.dk_lines.specs.Passing.{joined};
-ghost use Rattle.dk_table.specs.Columns.{cell_value, option_lines, written_value};
+ghost use Rattle.dk_table.specs.Columns.{cell_value, option_lines, value_lines, written_value};
 
-use crate::cells::{TruthWords, decimal, push_quoted, truth, whole};
+use crate::cells::{TruthWords, decimal, is_shortest, push_quoted, truth, whole};
 use dk_base::NoMemory;
 use itoa::Buffer;
 
@@ -87,14 +88,39 @@ fn push_untold(text: &mut Vec<u8>) -> Result<(), NoMemory>
     Ok(())
 }
 
-fn push_number(text: &mut Vec<u8>, number: Option<i64>) -> Result<(), NoMemory>
-    ensures { OnOk result (text.new.items ≡ text.old.items ++ option_lines (option_map (λ z. value.Int z) number)) }
+// The lines of the number that these digits write, with a minus or without.
+fn push_digits(text: &mut Vec<u8>, number: i64, digits: &[u8]) -> Result<(), NoMemory>
+    requires { integer_of digits.now ≡ Some number }
+    ensures { OnOk result (text.new.items ≡ text.old.items ++ value_lines (value.Int number)) }
 {
-    match number {
-        Some(number) => {
-            let mut buffer = Buffer::new();
-            push_told(text, buffer.format(number).as_bytes())
-        }
+    if is_shortest(digits) {
+        return push_told(text, digits);
+    }
+    let mut buffer = Buffer::new();
+    push_told(text, buffer.format(number).as_bytes())
+}
+
+// The lines of the whole number that a cell writes. The cell is how it is printed.
+fn push_whole(text: &mut Vec<u8>, cell: &[u8]) -> Result<(), NoMemory>
+    ensures { OnOk result (text.new.items ≡ text.old.items ++ option_lines (written_value ColumnKind.Whole cell.now)) }
+{
+    match whole(cell) {
+        Some(_) => push_told(text, cell),
+        None => push_untold(text),
+    }
+}
+
+// The lines of the decimal with so many places that a cell writes. Mostly its digits are how the number is printed.
+fn push_decimal(
+    text: &mut Vec<u8>,
+    places: u32,
+    cell: &[u8],
+    digits: &mut Vec<u8>,
+) -> Result<(), NoMemory>
+    ensures { OnOk result (text.new.items ≡ text.old.items ++ option_lines (written_value (ColumnKind.Decimal places) cell.now)) }
+{
+    match decimal(places, cell, digits)? {
+        Some(number) => push_digits(text, number, digits.as_slice()),
         None => push_untold(text),
     }
 }
@@ -128,9 +154,9 @@ fn push_written(
     ensures { OnOk result (text.new.items ≡ text.old.items ++ option_lines (written_value kind cell.now)) }
 {
     match kind {
-        ColumnKind::Whole => push_number(text, whole(cell)),
+        ColumnKind::Whole => push_whole(text, cell),
         ColumnKind::Truth(words) => push_truth(text, truth(words, cell)),
-        ColumnKind::Decimal(places) => push_number(text, decimal(places, cell, digits)?),
+        ColumnKind::Decimal(places) => push_decimal(text, places, cell, digits),
         ColumnKind::Text => push_text(text, cell),
     }
 }

@@ -5,7 +5,7 @@ ghost use Rattle.dk_table.specs.Columns.{cell_value};
 ghost use Rattle.dk_table.specs.Judging.{fresh, judging, kind_by, with_cell, with_row};
 
 use crate::columns::{CANDIDATES, ColumnKind, writes};
-use crate::rows::Row;
+use crate::rows::Rows;
 use dk_base::{List, NoMemory};
 use std::alloc::Global;
 use std::marker::Model;
@@ -122,25 +122,25 @@ impl Judge {
     }
 
     // Goes on with the cells of the next row.
-    fn take_cells(&mut self, row: &Row) -> Result<(), NoMemory>
-        ensures { OnOk result (self.new ≡ record self.old { columns = with_row self.old.columns row.now }) }
+    fn take_cells(&mut self, rows: &Rows<'_>) -> Result<(), NoMemory>
+        ensures { OnOk result (self.new ≡ record self.old { columns = with_row self.old.columns rows.now.row }) }
     {
         for place in 0..self.columns.len() {
-            self.columns[place].take(self.alloc, row.cell(place), &mut self.digits)?;
+            self.columns[place].take(self.alloc, rows.cell(place), &mut self.digits)?;
         }
         Ok(())
     }
 
     /// Goes on with the next row.
-    pub(crate) fn take(&mut self, row: &Row) -> Result<(), NoMemory>
-        ensures { OnOk result (self.new ≡ judging self.old row.now) }
+    pub(crate) fn take(&mut self, rows: &Rows<'_>) -> Result<(), NoMemory>
+        ensures { OnOk result (self.new ≡ judging self.old rows.now.row) }
     {
         match self.left {
-            None => self.take_cells(row),
+            None => self.take_cells(rows),
             Some(0) => Ok(()),
             Some(count) => {
                 self.left = Some(count - 1);
-                self.take_cells(row)
+                self.take_cells(rows)
             }
         }
     }

@@ -7,20 +7,21 @@ ghost use Rattle.dk_table.specs.Tables.{are_paired, file_rows, first_of, if_even
 use crate::command::Command;
 use crate::faults::{Refusal, TableFault, TableWhy};
 use crate::judging::Judge;
-use crate::rows::{Row, Rows};
+use crate::lines::is_unquoted;
+use crate::rows::Rows;
 use dk_base::{List, NoMemory, Text, same_bytes};
 use itoa::Buffer;
 use std::alloc::Global;
 
 // Whether the row has these names as its cells.
-fn are_cells(names: &[Text], row: &Row) -> bool
-    ensures { result ≡ same_cells names.now row.now.cells }
+fn are_cells(names: &[Text], rows: &Rows<'_>) -> bool
+    ensures { result ≡ same_cells names.now rows.now.row.cells }
 {
-    if names.len() != row.len() {
+    if names.len() != rows.len() {
         return false;
     }
-    for i in 0..names.len().min(row.len()) {
-        if !same_bytes(names[i].as_slice(), row.cell(i)) {
+    for i in 0..names.len().min(rows.len()) {
+        if !same_bytes(names[i].as_slice(), rows.cell(i)) {
             return false;
         }
     }
@@ -37,11 +38,10 @@ fn take_rows(
     ensures { Answers (λ _. judge.new) (judging_rows judge.old (if_even file (uneven_row columns rows.old.left) (Ok rows.old.left))) result }
 {
     'rows: while rows.next()? {
-        let row = rows.row();
-        if row.len() != columns {
-            return Err(refused(file, row.number(), TableWhy::RowLength));
+        if rows.len() != columns {
+            return Err(refused(file, rows.number(), TableWhy::RowLength));
         }
-        judge.take(row)?;
+        judge.take(rows)?;
     }
     Ok(())
 }
@@ -59,16 +59,15 @@ fn take_table(
     if !rows.next()? {
         return Err(refused(file, 1, TableWhy::NoHeader));
     }
-    let first = rows.row();
     if has_header {
-        if !are_cells(names, first) {
+        if !are_cells(names, rows) {
             return Err(refused(file, 1, TableWhy::OtherHeader));
         }
     } else {
-        if first.len() != names.len() {
-            return Err(refused(file, first.number(), TableWhy::RowLength));
+        if rows.len() != names.len() {
+            return Err(refused(file, rows.number(), TableWhy::RowLength));
         }
-        judge.take(first)?;
+        judge.take(rows)?;
     }
     take_rows(file, names.len(), rows, judge)
 }
@@ -77,6 +76,9 @@ fn take_table(
 fn are_paired(bytes: &[u8]) -> bool
     ensures { result ≡ are_paired bytes.now }
 {
+    if is_unquoted(bytes) {
+        return true;
+    }
     bytes.iter().filter(|byte| **byte == b'"').count() % 2 == 0
 }
 
@@ -103,7 +105,7 @@ fn take_file(
 ) -> Result<(), TableFault>
     ensures { Answers (λ _. judge.new) (judging_rows judge.old (file_rows command.now names.now file bytes.now)) result }
 {
-    let mut rows = Rows::new(alloc, command.separator, file, bytes);
+    let mut rows = Rows::new(alloc, command.separator, file, bytes)?;
     if !are_paired(bytes) {
         let count = count_rows(&mut rows)?;
         return Err(refused(file, count, TableWhy::OpenQuote));
@@ -129,12 +131,12 @@ pub(crate) fn take_files(
 
 // The cells of a row.
 #[tactic(auto, using(crate::proofs::Steps::cells_more))]
-fn cells_of(alloc: Global, row: &Row) -> Result<List<Text>, NoMemory>
-    ensures { IfOk result (λ cells. cells ≡ row.now.cells) }
+fn cells_of(alloc: Global, rows: &Rows<'_>) -> Result<List<Text>, NoMemory>
+    ensures { IfOk result (λ cells. cells ≡ rows.now.row.cells) }
 {
     let mut cells = List::new(alloc);
-    for place in 0..row.len() {
-        cells.push(Text::from_slice(alloc, row.cell(place))?)?;
+    for place in 0..rows.len() {
+        cells.push(Text::from_slice(alloc, rows.cell(place))?)?;
     }
     Ok(cells)
 }
@@ -162,13 +164,17 @@ fn made_names(alloc: Global, count: usize) -> Result<List<Text>, NoMemory>
 }
 
 // The names of the columns by the first row.
-fn names_by(alloc: Global, has_header: bool, row: &Row) -> Result<List<Text>, NoMemory>
-    ensures { IfOk result (λ names. names ≡ names_by has_header row.now.cells) }
+fn names_by(
+    alloc: Global,
+    has_header: bool,
+    rows: &Rows<'_>,
+) -> Result<List<Text>, NoMemory>
+    ensures { IfOk result (λ names. names ≡ names_by has_header rows.now.row.cells) }
 {
     if has_header {
-        cells_of(alloc, row)
+        cells_of(alloc, rows)
     } else {
-        made_names(alloc, row.len())
+        made_names(alloc, rows.len())
     }
 }
 
@@ -189,11 +195,11 @@ pub(crate) fn names_of(
 ) -> Result<List<Text>, TableFault>
     ensures { Answers (λ names. names) (names_of command.now.has_header (rows_in command.now.separator 0 (first_of files.now))) result }
 {
-    let mut rows = Rows::new(alloc, command.separator, 0, first_of(files));
+    let mut rows = Rows::new(alloc, command.separator, 0, first_of(files))?;
     if !rows.next()? {
         return Err(refused(0, 1, TableWhy::NoHeader));
     }
-    Ok(names_by(alloc, command.has_header, rows.row())?)
+    Ok(names_by(alloc, command.has_header, &rows)?)
 }
 
 /// The refusal of a row of a file.

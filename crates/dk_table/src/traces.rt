@@ -9,7 +9,7 @@ use crate::columns::{ColumnKind, writes};
 use crate::command::Command;
 use crate::faults::{Refusal, TableFault, TableWhy};
 use crate::judging::Judge;
-use crate::rows::{Row, Rows};
+use crate::rows::Rows;
 use crate::tables::{names_of, refused, take_files};
 use dk_base::{Compar, Kind, List, NoMemory, Text, View};
 use dk_decl::{PointDecl, VarDecl};
@@ -120,11 +120,11 @@ fn are_named(alloc: Global, decl: &PointDecl) -> Result<bool, NoMemory>
 }
 
 // Whether each cell writes a value of its column's kind. Digits of decimals are put into `digits`.
-fn is_told(kinds: &[ColumnKind], row: &Row, digits: &mut Vec<u8>) -> Result<bool, NoMemory>
-    ensures { IfOk result (λ is. is ≡ is_told kinds.now row.now) }
+fn is_told(kinds: &[ColumnKind], rows: &Rows<'_>, digits: &mut Vec<u8>) -> Result<bool, NoMemory>
+    ensures { IfOk result (λ is. is ≡ is_told kinds.now rows.now.row) }
 {
-    for i in 0..kinds.len().min(row.len()) {
-        if !writes(kinds[i], row.cell(i), digits)? {
+    for i in 0..kinds.len().min(rows.len()) {
+        if !writes(kinds[i], rows.cell(i), digits)? {
             return Ok(false);
         }
     }
@@ -140,11 +140,10 @@ fn untold_row(
     ensures { IfOk result (λ refusal. refusal ≡ option_map bad_cell (untold_row kinds.now rows.old.left)) }
 {
     'rows: while rows.next()? {
-        let row = rows.row();
-        if !is_told(kinds, row, digits)? {
+        if !is_told(kinds, rows, digits)? {
             return Ok(Some(Refusal {
-                file: row.file(),
-                row: row.number(),
+                file: rows.file(),
+                row: rows.number(),
                 why: TableWhy::BadCell,
             }));
         }

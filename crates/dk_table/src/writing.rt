@@ -12,7 +12,7 @@ ghost use Rattle.dk_table.specs.Writing.{EndsCut, Tells, TellsFront, status_of};
 
 use crate::columns::{ColumnKind, push_cell};
 use crate::command::Command;
-use crate::rows::{Row, Rows};
+use crate::rows::Rows;
 use crate::traces::Plan;
 use dk_base::{List, NoMemory, Text};
 use dk_decl::{PointDecl, VarDecl};
@@ -129,21 +129,21 @@ fn push_heading_cell(
 }
 
 // The lines of the cells of a row.
-fn push_cells(gathered: &mut Gathered, headings: &[Heading], row: &Row) -> Result<(), NoMemory>
-    ensures { OnOk result (gathered.new.text.items ≡ gathered.old.text.items ++ flat_map cell_lines (zip headings.now row.now.cells)) }
+fn push_cells(gathered: &mut Gathered, headings: &[Heading], rows: &Rows<'_>) -> Result<(), NoMemory>
+    ensures { OnOk result (gathered.new.text.items ≡ gathered.old.text.items ++ flat_map cell_lines (zip headings.now rows.now.row.cells)) }
 {
-    for i in 0..headings.len().min(row.len()) {
-        push_heading_cell(gathered, &headings[i], row.cell(i))?;
+    for i in 0..headings.len().min(rows.len()) {
+        push_heading_cell(gathered, &headings[i], rows.cell(i))?;
     }
     Ok(())
 }
 
 // The record of a row.
-fn push_row(gathered: &mut Gathered, form: &Form, row: &Row) -> Result<(), NoMemory>
-    ensures { OnOk result (gathered.new.text.items ≡ gathered.old.text.items ++ row_text form.now row.now) }
+fn push_row(gathered: &mut Gathered, form: &Form, rows: &Rows<'_>) -> Result<(), NoMemory>
+    ensures { OnOk result (gathered.new.text.items ≡ gathered.old.text.items ++ row_text form.now rows.now.row) }
 {
     gathered.text.extend_from_slice(form.point.as_slice())?;
-    push_cells(gathered, form.headings.as_slice(), row)?;
+    push_cells(gathered, form.headings.as_slice(), rows)?;
     gathered.text.push(b'\n')?;
     Ok(())
 }
@@ -166,12 +166,12 @@ fn write_gathered<S: Sinks>(gathered: &mut Gathered, sinks: &mut S) -> Result<()
 fn tell_row<S: Sinks>(
     gathered: &mut Gathered,
     form: &Form,
-    row: &Row,
+    rows: &Rows<'_>,
     sinks: &mut S,
 ) -> Result<(), Halt>
-    ensures { Tells (gathered.old.text.items ++ row_text form.now row.now) gathered.new.text.items (S.written sinks.old) (S.written sinks.new) (S.faults sinks.old) (S.faults sinks.new) result }
+    ensures { Tells (gathered.old.text.items ++ row_text form.now rows.now.row) gathered.new.text.items (S.written sinks.old) (S.written sinks.new) (S.faults sinks.old) (S.faults sinks.new) result }
 {
-    push_row(gathered, form, row)?;
+    push_row(gathered, form, rows)?;
     if gathered.text.len() >= PIECE {
         write_gathered(gathered, sinks)?;
     }
@@ -188,7 +188,7 @@ fn tell_rows<S: Sinks>(
     ensures { Tells (gathered.old.text.items ++ rows_text form.now rows.old.left) gathered.new.text.items (S.written sinks.old) (S.written sinks.new) (S.faults sinks.old) (S.faults sinks.new) result }
 {
     'rows: while rows.next()? {
-        tell_row(gathered, form, rows.row(), sinks)?;
+        tell_row(gathered, form, rows, sinks)?;
     }
     Ok(())
 }

@@ -1,4 +1,4 @@
-use Rattle.std.proofs.Common.{List, ℕ, subst, sym}
+use Rattle.std.proofs.Common.{List, ℕ, rules, subst, sym}
 use Rattle.dk_io.specs.Outside.{HeldFile, Rose}
 use Rattle.dk_program.specs.Ending.{EndsBy}
 use Rattle.dk_table.proofs.Contents.{fault_placed}
@@ -9,26 +9,21 @@ use Rattle.dk_table.proofs.run.run_over.Goals as goal
 pub tell_fault-requires : goal.tell_fault-requires
 tell_fault-requires g c = fault_placed c.as_slice-names.result.now _ _ c.in-Err.fault c.in-Err.ensures.fault
 
-pub returns-in-Ok-clause-says : goal.returns-in-Ok-clause-says
-returns-in-Ok-clause-says g c =
+pub returns-in-Ok : goal.returns-in-Ok
+returns-in-Ok g c =
     let a = c.args.arguments.now in
     let file : List ℕ → HeldFile = g.I.Inputs.file c.args.inputs.now in
     let read : AreReadAs (helds_of a.files file) c.as_slice.result.now =
     subst (AreReadAs (helds_of a.files file)) (sym c.as_slice.ensures)
     (subst (λ (n : List (List ℕ)). AreReadAs (helds_of n file) c.in-Ok.texts) c.as_slice-names.ensures c.in-Ok.ensures.read) in
-    read_says a c.as_slice.result.now _ _ c.tell_texts.result read c.tell_texts.ensures
+    record {
+      says = read_says a c.as_slice.result.now _ _ c.tell_texts.result read c.tell_texts.ensures;
+      complete = read_completes a c.as_slice.result.now _ _ c.tell_texts.result read c.tell_texts.ensures;
+      files = search rules;
+    }
 
-pub returns-in-Ok-clause-complete : goal.returns-in-Ok-clause-complete
-returns-in-Ok-clause-complete g c =
-    let a = c.args.arguments.now in
-    let file : List ℕ → HeldFile = g.I.Inputs.file c.args.inputs.now in
-    let read : AreReadAs (helds_of a.files file) c.as_slice.result.now =
-    subst (AreReadAs (helds_of a.files file)) (sym c.as_slice.ensures)
-    (subst (λ (n : List (List ℕ)). AreReadAs (helds_of n file) c.in-Ok.texts) c.as_slice-names.ensures c.in-Ok.ensures.read) in
-    read_completes a c.as_slice.result.now _ _ c.tell_texts.result read c.tell_texts.ensures
-
-pub returns-in-Err-clause-says : goal.returns-in-Err-clause-says
-returns-in-Err-clause-says g c =
+pub returns-in-Err : goal.returns-in-Err
+returns-in-Err g c =
     let a = c.args.arguments.now in
     let file : List ℕ → HeldFile = g.I.Inputs.file c.args.inputs.now in
     let rose : Type 0 = Rose (g.I.Inputs.faults c.args.inputs.now) (g.I.Inputs.faults c.read_texts.new.inputs) in
@@ -37,16 +32,8 @@ returns-in-Err-clause-says g c =
     let ends : EndsBy a.files c.in-Err.fault (g.S.Sinks.written c.args.sinks.now) (g.S.Sinks.written c.tell_fault.new.sinks) (g.S.Sinks.faults c.args.sinks.now) (g.S.Sinks.faults c.tell_fault.new.sinks) c.tell_fault.result =
     subst (λ (n : List (List ℕ)). EndsBy n c.in-Err.fault (g.S.Sinks.written c.args.sinks.now) (g.S.Sinks.written c.tell_fault.new.sinks) (g.S.Sinks.faults c.args.sinks.now) (g.S.Sinks.faults c.tell_fault.new.sinks) c.tell_fault.result)
     c.as_slice-names.ensures c.tell_fault.ensures in
-    fault_says a _ _ c.in-Err.fault c.tell_fault.result says ends
-
-pub returns-in-Err-clause-complete : goal.returns-in-Err-clause-complete
-returns-in-Err-clause-complete g c =
-    let a = c.args.arguments.now in
-    let file : List ℕ → HeldFile = g.I.Inputs.file c.args.inputs.now in
-    let rose : Type 0 = Rose (g.I.Inputs.faults c.args.inputs.now) (g.I.Inputs.faults c.read_texts.new.inputs) in
-    let says : FaultSays a.files file rose c.in-Err.fault =
-    subst (λ (n : List (List ℕ)). FaultSays n file rose c.in-Err.fault) c.as_slice-names.ensures c.in-Err.ensures.fault in
-    let ends : EndsBy a.files c.in-Err.fault (g.S.Sinks.written c.args.sinks.now) (g.S.Sinks.written c.tell_fault.new.sinks) (g.S.Sinks.faults c.args.sinks.now) (g.S.Sinks.faults c.tell_fault.new.sinks) c.tell_fault.result =
-    subst (λ (n : List (List ℕ)). EndsBy n c.in-Err.fault (g.S.Sinks.written c.args.sinks.now) (g.S.Sinks.written c.tell_fault.new.sinks) (g.S.Sinks.faults c.args.sinks.now) (g.S.Sinks.faults c.tell_fault.new.sinks) c.tell_fault.result)
-    c.as_slice-names.ensures c.tell_fault.ensures in
-    fault_completes a _ _ c.in-Err.fault c.tell_fault.result says ends
+    record {
+      says = fault_says a _ _ c.in-Err.fault c.tell_fault.result says ends;
+      complete = fault_completes a _ _ c.in-Err.fault c.tell_fault.result says ends;
+      files = search rules;
+    }

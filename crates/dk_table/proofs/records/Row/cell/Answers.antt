@@ -2,7 +2,7 @@ use Rattle.std.proofs.Common.{ap}
 use Rattle.csv.specs.Records.{fields_of}
 use Rattle.dk_table.specs.Placed.{Placed}
 use Rattle.dk_table.proofs.Getting.{cell_got}
-use Rattle.dk_table.proofs.rows.Row.cell.Goals as goal
+use Rattle.dk_table.proofs.records.Row.cell.Goals as goal
 
 pub returns-in-Some : goal.returns-in-Some
 returns-in-Some c =

@@ -3,7 +3,7 @@ use Rattle.csv.specs.Records.{fields_of}
 use Rattle.dk_table.specs.Cursors.{Cursor, IsReading, Moves, rows_left}
 use Rattle.dk_table.specs.Placed.{Placed}
 use Rattle.dk_table.proofs.Moving.{moves, next_fits, next_row, none_left, still_between, still_numbered}
-use Rattle.dk_table.proofs.rows.Row.read.Goals as goal
+use Rattle.dk_table.proofs.records.Row.read.Goals as goal
 
 pub overflow_add-self : goal.overflow_add-self
 overflow_add-self c =

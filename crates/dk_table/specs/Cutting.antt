@@ -1,0 +1,16 @@
+-- Rows of bytes without quotes, which are lines.
+use Rattle.std.specs.Prelude.{◌≡◌, ◌≢◌, ◌<◌, ◌+◌, [], ℕ, List, Some, drop, false, get_or, length}
+use Rattle.csv.specs.Machine.{ends_at_end, next_record}
+use Rattle.csv.specs.declared.parser.State.{State}
+use Rattle.csv.specs.declared.parser.State.TheVariants as st
+use Rattle.dk_table.specs.Tables.{config_by}
+
+-- none of the bytes is a quote (34)
+abbrev pub IsUnquoted : List ℕ → Type 0
+IsUnquoted bytes = (k : ℕ) → k < length bytes → get_or bytes k 0 ≢ 34
+
+-- Behind the start of a row these cells are read, up to the byte at this place, which ends the row, or to the end of the bytes.
+pub record IsCut (separator : ℕ) (bytes : List ℕ) (cells : List (List ℕ)) (end : ℕ) : Type 0 where
+  pub state : State
+  pub read : next_record (config_by separator) st.StartField [] [] bytes ≡ Some (cells, state, drop (end + 1) bytes)
+  pub between : ends_at_end state ≡ false
