@@ -120,8 +120,8 @@ module _ (separator : ℕ) where
   unfolding next_record
   at_close s fields field inside =
       elim inside [
-        inl e ↦ ap (λ (t : State). if ends_at_end t then Some (fields ++ field ∷ [], st.StartRecord, []) else None) e
-      | inr e ↦ ap (λ (t : State). if ends_at_end t then Some (fields ++ field ∷ [], st.StartRecord, []) else None) e
+        | inl e ↦ ap (λ (t : State). if ends_at_end t then Some (fields ++ field ∷ [], st.StartRecord, []) else None) e
+        | inr e ↦ ap (λ (t : State). if ends_at_end t then Some (fields ++ field ∷ [], st.StartRecord, []) else None) e
       ]
 
   -- ---- in front of a row

@@ -129,7 +129,11 @@ fn push_heading_cell(
 }
 
 // The lines of the cells of a row.
-fn push_cells(gathered: &mut Gathered, headings: &[Heading], rows: &Rows<'_>) -> Result<(), NoMemory>
+fn push_cells(
+    gathered: &mut Gathered,
+    headings: &[Heading],
+    rows: &Rows<'_>,
+) -> Result<(), NoMemory>
     ensures { OnOk result (gathered.new.text.items ≡ gathered.old.text.items ++ flat_map cell_lines (zip headings.now rows.now.row.cells)) }
 {
     for i in 0..headings.len().min(rows.len()) {

@@ -17,14 +17,14 @@ pub loop-place-preserved : goal.loop-place-preserved
 loop-place-preserved c =
     let lt : c.loop-place.place < length c.args.bytes.now = omega (arith, c.loop-place-test.true) in
     elim c.if-byte-separator.branch [
-      then-byte-separator+in_ok-push w ↦
-        rw (w.cells-is, w.start-is)
-        (cuts_separator c.args.separator c.args.bytes.now _ c.loop-place.start c.loop-place.place _ c.loop-place.invariant c.requires.unquoted lt refl _ w.if-byte-separator.true
-        (pushed c.loop-place.cells.items _ _ w.in_ok-push.ensures.items))
-    | else-byte-separator+else-ends_line w ↦
-        rw (w.cells-is, w.start-is)
-        (cuts_byte c.args.separator c.args.bytes.now _ c.loop-place.start c.loop-place.place _ c.loop-place.invariant c.requires.unquoted lt refl w.if-byte-separator.false
-        (sym w.ends_line.ensures ∙ w.if-ends_line.false))
+      | then-byte-separator+in_ok-push w ↦
+          rw (w.cells-is, w.start-is)
+          (cuts_separator c.args.separator c.args.bytes.now _ c.loop-place.start c.loop-place.place _ c.loop-place.invariant c.requires.unquoted lt refl _ w.if-byte-separator.true
+          (pushed c.loop-place.cells.items _ _ w.in_ok-push.ensures.items))
+      | else-byte-separator+else-ends_line w ↦
+          rw (w.cells-is, w.start-is)
+          (cuts_byte c.args.separator c.args.bytes.now _ c.loop-place.start c.loop-place.place _ c.loop-place.invariant c.requires.unquoted lt refl w.if-byte-separator.false
+          (sym w.ends_line.ensures ∙ w.if-ends_line.false))
     ]
 
 pub returns-clause-cells : goal.returns-clause-cells
