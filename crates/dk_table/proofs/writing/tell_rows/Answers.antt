@@ -1,10 +1,9 @@
-use Rattle.std.proofs.Common.{◌≡◌, ◌++◌, ◌∙◌, ap, sym, true}
+use Rattle.std.proofs.Common.{◌≡◌, ◌++◌, true}
 use Rattle.std.proofs.lemmas.Result.{err_from_is_err_and}
 use Rattle.dk_table.proofs.Formed.{row_apart}
 use Rattle.dk_table.proofs.Pieces.{cut_here, cut_then, told_as, told_then}
 use Rattle.dk_table.specs.Cursors.{Moves}
 use Rattle.dk_table.specs.Forms.{row_text, rows_text}
-use Rattle.dk_table.specs.Placed.{Placed}
 use Rattle.dk_table.proofs.writing.tell_rows.Goals as goal
 
 pub returns-in_err-next : goal.returns-in_err-next
@@ -18,9 +17,9 @@ rows-preserved g c =
     let text = c.rows.gathered.text.items in
     let after = c.next.new.self in
     let m : Moves c.rows.rows.left after true = rw c.if-branch.true at c.in_ok-next.ensures in
-    let apart : text ++ rows_text form c.rows.rows.left ≡ (text ++ row_text form c.row.result.now) ++ rows_text form after.left =
-    row_apart form text c.rows.rows.left after m ∙ ap (λ (r : Placed). (text ++ row_text form r) ++ rows_text form after.left) (sym c.row.ensures) in
-    told_then _ (text ++ row_text form c.row.result.now) (rows_text form after.left) _ _ _ _ _ _ (told_as _ _ _ _ _ _ _ apart c.rows.invariant) _ c.in_ok-tell_row.ensures
+    let apart : text ++ rows_text form c.rows.rows.left ≡ (text ++ row_text form after.row) ++ rows_text form after.left =
+    row_apart form text c.rows.rows.left after m in
+    told_then _ (text ++ row_text form after.row) (rows_text form after.left) _ _ _ _ _ _ (told_as _ _ _ _ _ _ _ apart c.rows.invariant) _ c.in_ok-tell_row.ensures
 
 pub returns-in_err-tell_row : goal.returns-in_err-tell_row
 returns-in_err-tell_row g c =
@@ -28,8 +27,8 @@ returns-in_err-tell_row g c =
     let text = c.rows.gathered.text.items in
     let after = c.next.new.self in
     let m : Moves c.rows.rows.left after true = rw c.if-branch.true at c.in_ok-next.ensures in
-    let apart : text ++ rows_text form c.rows.rows.left ≡ (text ++ row_text form c.row.result.now) ++ rows_text form after.left =
-    row_apart form text c.rows.rows.left after m ∙ ap (λ (r : Placed). (text ++ row_text form r) ++ rows_text form after.left) (sym c.row.ensures) in
+    let apart : text ++ rows_text form c.rows.rows.left ≡ (text ++ row_text form after.row) ++ rows_text form after.left =
+    row_apart form text c.rows.rows.left after m in
     let p = err_from_is_err_and c.from_residual-in_err-tell_row.result c.from_residual-in_err-tell_row.ensures.1 in
     rw (p.1, p.2)
-    (cut_then _ (text ++ row_text form c.row.result.now) (rows_text form after.left) _ _ _ _ _ _ (told_as _ _ _ _ _ _ _ apart c.rows.invariant) c.in_err-tell_row.field-0.0 c.in_err-tell_row.ensures)
+    (cut_then _ (text ++ row_text form after.row) (rows_text form after.left) _ _ _ _ _ _ (told_as _ _ _ _ _ _ _ apart c.rows.invariant) c.in_err-tell_row.field-0.0 c.in_err-tell_row.ensures)
