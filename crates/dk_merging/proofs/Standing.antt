@@ -120,11 +120,11 @@ module _ (g : Grammar) (ps : List Point) (ones others both : List Whole) (are : 
   joined_loaded : (p : ℕ) (one e : Whole) → slice_get ones p ≡ Some one → slice_get both p ≡ Some e → e.grammar ≡ one.grammar → e.infos ≡ one.infos → 0 < e.kept.samples
       → IsLoadedAs g ps p (saved_parts e.kept) e
   joined_loaded p one e there got grammar infos some =
-      let vars = are.variables p one there in
-      let here : e.infos ≡ all_vars_of ps p = infos ∙ vars.0 in
+      let of = are.variables p one there in
+      let here : e.infos ≡ all_vars_of ps p = infos ∙ of.0 in
       let by : e.grammar ≡ g = grammar ∙ all_at (λ (w : Whole). w.grammar ≡ g) ones p one by_one there in
-      let Again : Grammar → List VarInfo → Type 0 = λ h infos. (samples : List (List Value)) (kept : Kept) → AreSamples infos samples → IsKeptOf h infos samples kept → parts_of kept ≡ parts_of e.kept → IsKeptOf h infos samples e.kept in
-      let again : Again e.grammar e.infos = kept_again e (all_at IsSound both p e sound got) (subst AreOfPoint (sym infos) vars.1) in
+      let Again : Grammar → List VarInfo → Type 0 = λ h vars. (samples : List (List Value)) (kept : Kept) → AreSamples vars samples → IsKeptOf h vars samples kept → parts_of kept ≡ parts_of e.kept → IsKeptOf h vars samples e.kept in
+      let again : Again e.grammar e.infos = kept_again e (all_at IsSound both p e sound got) (subst AreOfPoint (sym infos) of.1) in
       subst (λ (o : Option Parts). IsLoadedAs g ps p o e) (sym (saved_some e.kept some))
       (refl, subst (λ (h : Grammar). Again h (all_vars_of ps p)) by (subst (Again e.grammar) here again))
 
@@ -140,7 +140,7 @@ module _ (g : Grammar) (ps : List Point) (ones others both : List Whole) (are : 
           | inr none ↦ subst Loaded_ (sym (at.4.first_alone (omega (arith, none)))) (first.each p (saved_parts one.kept) one (own_saved ones p one at.2) at.2)
           | inl more ↦ elim (cases_lt 0 one.kept.samples) as (λ _. Loaded_ e) [
             | inr none ↦ subst Loaded_ (sym (at.4.second_alone (omega (arith, none)) more)) (second.each p (saved_parts other.kept) other (own_saved others p other at.3) at.3)
-            | inl some ↦ joined_loaded p one e at.2 got at.4.grammar at.4.infos (at.4.joined some more).saved.some
+            | inl some ↦ (let many = (at.4.joined some more).saved.some in joined_loaded p one e at.2 got at.4.grammar at.4.infos (omega (arith, many)))
           ]
         ] in
         let same : saved_parts e.kept ≡ own = some-injective (sym (own_saved both p e got) ∙ told) in
