@@ -121,10 +121,11 @@ impl JoinedStates {
         Ok(JoinedStates { loaded, front })
     }
 
-    /// With one state file more, which alone is read. What they say together is what `merge_two` makes of the state file of those before
-    /// and this one, with its faults.
+    /// With one state file more, which alone is read. What they say together is what `merge_two` makes of the state file of those before,
+    /// which is a spelling, and this one, with its faults.
     pub fn with(self, alloc: Global, file: &[u8]) -> Result<JoinedStates, MergeFault>
         ensures answers { AnswersMerge (text_of self) file.now (texts_of result) }
+        ensures spelling { IsSpelling (text_of self) }
         ensures both { (g : Grammars) (ps : List Point) (implicit : Bool) (own others : OwnSamples) → CanBeMerged g ps own others → state_file_of g ps implicit own ≡ text_of self → state_file_of g ps implicit others ≡ file.now → GivesBoth (file_of_both g ps implicit own others) (texts_of result) }
     {
         let other = load_or(alloc, file, MergeFault::BadSecond)?;

@@ -92,3 +92,15 @@ returns-in_err-both-clause-both c g ps implicit own others can this that =
     let fault = err_from_is_err_and c.from_residual-in_err-both.result c.from_residual-in_err-both.ensures.1 in
     rw (fault.1, fault.2) (history_made one c.in_ok-other.other g ps implicit own others
     (c.self.invariant.0.stands g ps implicit own can.first here) (c.in_ok-other.ensures.loaded.stands g ps implicit others can.second that) can (Err c.in_err-both.field-0.0) c.in_err-both.ensures)
+
+pub returns-clause-spelling : goal.returns-clause-spelling
+returns-clause-spelling c = subst (λ (l : Loaded). IsSpelling (text_of l)) c.self.view_is c.self.invariant.0.spelling
+
+pub returns-then-not-same_bytes-clause-spelling : goal.returns-then-not-same_bytes-clause-spelling
+returns-then-not-same_bytes-clause-spelling c = subst (λ (l : Loaded). IsSpelling (text_of l)) c.self.view_is c.self.invariant.0.spelling
+
+pub returns-in_err-other-clause-spelling : goal.returns-in_err-other-clause-spelling
+returns-in_err-other-clause-spelling c = subst (λ (l : Loaded). IsSpelling (text_of l)) c.self.view_is c.self.invariant.0.spelling
+
+pub returns-in_err-both-clause-spelling : goal.returns-in_err-both-clause-spelling
+returns-in_err-both-clause-spelling c = subst (λ (l : Loaded). IsSpelling (text_of l)) c.self.view_is c.self.invariant.0.spelling
