@@ -16,12 +16,7 @@ use dk_turns::in_turns;
 use std::alloc::Global;
 
 // Writes the last report of what states say together, and behind it their state file.
-fn tell_states<S: Sinks>(
-    alloc: Global,
-    least: u64,
-    states: JoinedStates,
-    sinks: &mut S,
-) -> Ended
+fn tell_states<S: Sinks>(alloc: Global, least: u64, states: JoinedStates, sinks: &mut S) -> Ended
     ensures { StateEnds least (text_of states) (S.written sinks.old) (S.written sinks.new) (S.faults sinks.old) (S.faults sinks.new) result }
 {
     let text = match states.text(alloc) {
