@@ -22,8 +22,8 @@ ghost use Rattle.dk_template.specs.declared.grammar.Grammar.{Grammar as Grammars
 use crate::entries::read_all;
 use crate::front::Front;
 use crate::given::is_given;
+use crate::matching;
 use crate::reading_kept::{next_point, parts};
-use crate::saving::save;
 use dk_base::{BlockFault, List, NoMemory, PointId, same_bytes};
 use dk_decl::PointDecl;
 use dk_derive::derive;
@@ -249,14 +249,14 @@ fn read(alloc: Global, bytes: &[u8]) -> Result<Loaded, LoadFault>
 fn saves_to(alloc: Global, loaded: &Loaded, bytes: &[u8]) -> Result<bool, NoMemory>
     ensures { IfOk result (λ same. same ≡ bytes_eq (saved_text loaded.now.grammar loaded.now.points loaded.now.implicit (map (λ e. e.kept) loaded.now.engines)) bytes.now) }
 {
-    let text = save(
+    matching::saves_to(
         alloc,
         &loaded.points,
         loaded.engines.as_slice(),
         loaded.implicit,
         loaded.grammar,
-    )?;
-    Ok(same_bytes(text.as_slice(), bytes))
+        bytes,
+    )
 }
 
 /// What a state file says. It takes exactly the spellings of states: the bytes to which some table, comparability word and kept parts that
