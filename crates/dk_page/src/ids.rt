@@ -2,7 +2,6 @@
 ghost use Rattle.std.specs.Prelude.{◌≡◌, ◌++◌, ◌<◌, ◌^◌, IfOk, OnOk, flat_map};
 ghost use Rattle.dk_page.specs.Ids.{id_behind, id_byte, is_id_byte, key, upper_digit};
 
-use crate::numbers::push_decimal;
 use dk_base::{NoMemory, Text};
 use std::alloc::Global;
 
@@ -69,6 +68,6 @@ pub(crate) fn id_behind(alloc: Global, count: u64, name: &[u8]) -> Result<Text, 
         return Ok(text);
     }
     text.append(b"%~")?;
-    push_decimal(&mut text, count + 1)?;
+    text.append_number(count + 1)?;
     Ok(text)
 }

@@ -5,7 +5,6 @@ mod groups;
 mod headings;
 mod ids;
 pub mod laws;
-mod numbers;
 mod pages;
 mod parts;
 mod showing;

@@ -5,7 +5,6 @@ ghost use Rattle.dk_page.specs.Pages.{cells, has_lines, is_all, is_of, item, ite
 
 use crate::Group;
 use crate::groups::{groups, heading};
-use crate::numbers::push_decimal;
 use crate::parts::{foot, head, middle};
 use crate::showing::{push_name, push_text};
 use dk_base::{List, NoMemory, Text};
@@ -52,11 +51,11 @@ fn push_count(text: &mut Text, here: Option<u64>, count: u64) -> Result<(), NoMe
 {
     if is_all(here, count) {
         text.append(b"<i>")?;
-        push_decimal(text, count)?;
+        text.append_number(count)?;
         text.append(b"</i>")
     } else {
         text.append(b"<b>")?;
-        push_decimal(text, count)?;
+        text.append_number(count)?;
         text.append(b"</b>")
     }
 }
@@ -170,14 +169,14 @@ fn push_link(text: &mut Text, section: &PageSection) -> Result<(), NoMemory>
 fn push_len(text: &mut Text, lines: &[PageLine]) -> Result<(), NoMemory>
     ensures { OnOk result (text.new ≡ text.old ++ decimal (length lines.now)) }
 {
-    push_decimal(text, lines.len() as u64)
+    text.append_number(lines.len() as u64)
 }
 
 fn push_samples_cell(text: &mut Text, samples: Option<u64>) -> Result<(), NoMemory>
     ensures { OnOk result (text.new ≡ text.old ++ samples_cell samples) }
 {
     match samples {
-        Some(count) => push_decimal(text, count),
+        Some(count) => text.append_number(count),
         None => Ok(()),
     }
 }
@@ -208,7 +207,7 @@ fn push_samples(text: &mut Text, count: u64) -> Result<(), NoMemory>
     ensures { OnOk result (text.new ≡ text.old ++ samples_note (Some count)) }
 {
     text.append(b"samples <b>")?;
-    push_decimal(text, count)?;
+    text.append_number(count)?;
     text.append(b"</b> ")
 }
 
