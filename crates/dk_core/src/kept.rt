@@ -41,6 +41,9 @@ use std::alloc::Global;
 use std::marker::Model;
 use std::mem::replace;
 
+// The most bytes that an arena took for a block where it is kept for the next one.
+const MOST_KEPT: usize = 65536;
+
 /// What a session keeps from block to block: the reader of blocks, the engine of each point's own samples, and the arena for the values of
 /// the next block.
 #[derive(Drop)]
@@ -156,12 +159,12 @@ impl Kept {
         replace(&mut self.arena, Bump::new(self.alloc))
     }
 
-    // Keeps the arena without what lies in it.
+    // Keeps the arena without what lies in it, unless it is large.
     fn keep_arena(&mut self, arena: Bump)
         ensures { self.new ≡ self.old }
     {
         let mut arena = arena;
-        if arena.reset().is_ok() {
+        if arena.allocated_bytes() <= MOST_KEPT && arena.reset().is_ok() {
             self.arena = arena;
         }
     }
@@ -272,7 +275,7 @@ impl Kept {
         }
     }
 
-    /// Without what ends with a file: no entry waits any more.
+    /// Without what ends with a file: no entry waits any more, and the arena has no room of its own.
     #[tactic(auto, unfolding(crate::specs::Standing::Stands))]
     pub(crate) fn end_file(&mut self)
         ensures stands { (h : History) → Stands self.old h → Stands self.new (file_ended h) }
@@ -281,6 +284,7 @@ impl Kept {
         ensures counts { (file_in self.new.reader ≡ min (file_in self.old.reader + 1) (2 ^ 32 - 1)) × (over_in self.new.reader ≡ false) }
     {
         self.reader.end_file();
+        self.arena = Bump::new(self.alloc);
     }
 
     /// The table of points.

@@ -13,6 +13,7 @@ ghost use Rattle.dk_engine.specs.Narrow.{IsSeen, grown_state, may_stay, prolonge
 
 use crate::Slot;
 use crate::operations::number_at;
+use crate::staying::is_seen_to_stay;
 use dk_base::{VarId, View};
 use dk_forms::{distance, plane_stays, same_products};
 use dk_samples::{is_present, value_at};
@@ -236,14 +237,27 @@ fn seen_by(slot: &Slot, sample: &[View<'_>], place: usize, u: VarId, v: VarId, w
     }
 }
 
-/// What a sample makes of the slot at a place: a plane or a stretch of a line may be seen to stay as it is, or to grow.
+// What a sample makes of a slot of another row: a bound or a comparison may be seen to stay as it is.
+#[inline(always)]
+fn seen_of_another(slot: &Slot, sample: &[View<'_>], place: usize) -> Seen
+    ensures { IsSeen slot.now (with_sample slot.now.row slot.now.leaders (values_of sample.now) slot.now.state) place result }
+{
+    if is_seen_to_stay(slot, sample) {
+        Seen::Stays
+    } else {
+        Seen::Neither
+    }
+}
+
+/// What a sample makes of the slot at a place: a plane, a stretch of a line, a bound or a comparison may be seen to stay as it is, and a
+/// stretch to grow.
 #[inline(always)]
 pub(crate) fn seen_with(slot: &Slot, sample: &[View<'_>], place: usize) -> Seen
     requires { IsProper (form_of slot.now.row) slot.now.state }
     ensures { IsSeen slot.now (with_sample slot.now.row slot.now.leaders (values_of sample.now) slot.now.state) place result }
 {
     if slot.row.0 != 67 {
-        return Seen::Neither;
+        return seen_of_another(slot, sample, place);
     }
     match slot.leaders.as_slice() {
         [u, v, w] => seen_by(slot, sample, place, *u, *v, *w),

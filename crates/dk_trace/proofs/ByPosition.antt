@@ -1,10 +1,9 @@
 -- The lines of a record, three by three.
-use Rattle.std.proofs.Common.{◌≡◌, ◌∙◌, ◌++◌, ◌*◌, ℕ, ℤ, suc, Bool, true, false, not, List, [], ◌∷◌, drop, filter, flat_map, length, Option, Some, None, Result, Ok, refl, sym, ap, subst, if◌then◌else◌, arith}
-use Rattle.std.specs.List.{AllZip, zip}
+use Rattle.std.proofs.Common.{◌≡◌, ◌∙◌, ◌++◌, ◌*◌, ℕ, ℤ, suc, Bool, true, false, not, List, [], ◌∷◌, drop, filter, length, Option, Some, None, Result, Ok, refl, ap, subst, if◌then◌else◌, arith}
 use Rattle.std.specs.Str.{bytes_eq}
 use Rattle.std.proofs.lemmas.Slice.Eq.{bytes_eq-Decides}
 use Rattle.dk_base.specs.Names.{unescaped}
-use Rattle.dk_base.specs.Reading.{Line, LineFault, ◌>>=◌}
+use Rattle.dk_base.specs.Reading.{Line, LineFault}
 use Rattle.dk_base.specs.declared.kinds.Kind.{Kind}
 use Rattle.dk_base.specs.declared.values.Value.{Value}
 use Rattle.dk_base.specs.declared.why.Why.TheVariants.{WrongName}
@@ -13,7 +12,7 @@ use Rattle.dk_decl.specs.Outcomes.{refused}
 use Rattle.dk_decl.specs.declared.decls.VarDecl.{VarDecl}
 use Rattle.dk_trace.specs.Bodies.{Body, body_of, body_with, from_nonce, is_nonce_line, nonce_of}
 use Rattle.dk_trace.specs.Marks.{marked_value}
-use Rattle.dk_trace.specs.Positions.{AreInOrder, HasConstant, IsGiven, LinesCountByPosition, behind_nonce, threes}
+use Rattle.dk_trace.specs.Positions.{AreInOrder, LinesCountByPosition, behind_nonce}
 use Rattle.dk_trace.specs.Records.{point_named_by, sample_of, sample_with, var_decls_at}
 use Rattle.dk_trace.specs.Values.{from_name, from_value, known_values, named_kind, record_values, then_values}
 

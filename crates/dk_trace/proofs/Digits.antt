@@ -1,9 +1,7 @@
 -- Lines that write short whole numbers.
-use Rattle.std.proofs.Common.{◌≡◌, ◌<◌, ◌++◌, ◌∙◌, ℕ, ℤ, List, ◌∷◌, length, get_or, Option, Some, sym, ap, arith}
-use Rattle.dk_base.specs.Items.{int_item}
+use Rattle.std.proofs.Common.{◌≡◌, ◌++◌, ◌∙◌, ℕ, ℤ, List, ◌∷◌, Some, sym, ap, arith}
 use Rattle.dk_base.specs.Numbers.{short_number}
 use Rattle.dk_base.specs.Values.{valued}
-use Rattle.dk_base.specs.declared.items.Item.{Item}
 use Rattle.dk_base.specs.declared.values.Value.TheVariants as value
 use Rattle.dk_base.proofs.Digits.{number_item, short_stands}
 use Rattle.dk_trace.specs.Whole.{NumberStands}
@@ -18,5 +16,5 @@ number_stands bytes behind rest z is lf =
         whole = stands.whole ∙ ap (λ (l : List ℕ). stands.text ++ l) lf;
         tidy = tidy_plain stands.text stands.some (λ k lt. let low = stands.low k lt in omega (arith, low));
       };
-      says = ap (λ (i : Item ℤ). valued (λ z. value.Int z) i) (number_item stands.text z stands.reads);
+      says = ap (valued (λ z. value.Int z)) (number_item stands.text z stands.reads);
     }

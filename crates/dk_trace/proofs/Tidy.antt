@@ -1,12 +1,12 @@
 -- Lines that are read as they stand.
-use Rattle.std.proofs.Common.{◌≡◌, ◌≢◌, ◌≤◌, ◌<◌, ◌+◌, ◌-◌, ◌++◌, ◌∙◌, ℕ, Bool, true, false, List, [], ◌∷◌, length, take, drop, get_or, refl, sym, ap, arith, length-drop}
+use Rattle.std.proofs.Common.{◌≡◌, ◌≢◌, ◌≤◌, ◌<◌, ◌+◌, ◌-◌, ◌++◌, ◌∙◌, ℕ, Bool, true, false, List, [], ◌∷◌, length, take, drop, get_or, refl, sym, ap, arith}
 use Rattle.std.specs.Prelude.{not, reverse}
 use Rattle.std.specs.Str.{bytes_eq}
 use Rattle.std.proofs.Math.Seq.{take-append_seam}
 use Rattle.std.proofs.lemmas.Bool.Decides.{nat_tests, Decides-eqb}
 use Rattle.std.proofs.lemmas.Slice.Eq.{bytes_eq-Decides}
 use Rattle.std.proofs.lemmas.Grind.{get_or_default_zero}
-use Rattle.std.proofs.lemmas.List.{drop_more, ext_get_or, get_or-reverse, get_or-take, length-take-le, reverse-reverse, take_all, take-append-drop}
+use Rattle.std.proofs.lemmas.List.{drop_more, get_or-reverse, get_or-take, length-take-le, reverse-reverse, take-append-drop}
 use Rattle.memchr.specs.Find.{NoneBefore, Passes, is_byte}
 use Rattle.dk_base.proofs.Digits.{to_end}
 use Rattle.dk_base.specs.Words.{is_blank, trim_blanks, without_front}
