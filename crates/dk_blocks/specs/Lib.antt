@@ -12,6 +12,7 @@ pub mod Fitting
 pub mod Reading
 -- inner: cited by the clauses of bodies and in proofs alone
 pub mod LineSteps
+pub mod Gathering
 pub mod AtHand
 pub mod Refusing
 pub mod Keeping

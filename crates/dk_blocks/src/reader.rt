@@ -15,8 +15,8 @@ ghost use Rattle.dk_blocks.specs.LineSteps.{LineGives, EndGives, BlankGives, Wor
 ghost use Rattle.dk_blocks.specs.Steps.{DeclareGives, IsInFile, NextBlock, ReaderCounts};
 ghost use Rattle.dk_blocks.specs.Turns.{AfterFits, ending_of, turn_of};
 
-use crate::block::Block;
 use crate::found::Found;
+use crate::gathered::{Close, Gathered};
 use crate::kept::Kept;
 use bumpalo::Bump;
 use dk_base::{BlockFault, Fault, NoMemory, Why, trim_blanks};
@@ -52,22 +52,6 @@ pub(crate) struct End<'a> {
     pub(crate) found: Option<Found<'a>>,
 }
 
-/// What one line does.
-#[derive(Clone, Copy, Debug, PartialEq, Eq)]
-pub(crate) enum Step {
-    /// The block has a line more.
-    More,
-    /// The block ends: at the blank line of this number, or where the file ends in front of it.
-    Ended { number: u64, is_over: bool },
-}
-
-/// What comes of the end of a block's lines: they are no block, and the next one begins; or a block or the file ends.
-#[derive(Drop)]
-pub(crate) enum After<'a> {
-    Goes,
-    Ends(End<'a>),
-}
-
 fn stop_of(fault: BlockFault) -> Stop
     ensures { result ≡ stop_of_fault fault }
 {
@@ -94,138 +78,44 @@ fn line_stop(fault: LineFault) -> Stop
     }
 }
 
-// The line is blank.
-fn at_blank<'a>(
-    kept: &mut Kept,
-    block: &mut Block<'a>,
-    number: u64,
-    ignores: bool,
-) -> Result<After<'a>, Stop>
-    requires { Fits kept.old block.old }
-    ensures shape { LineShape (turn_of kept.new block.new result) }
-    ensures points { kept.new.points ≡ kept.old.points }
-    ensures fits { AfterFits kept.new.points result }
-    ensures gives { (h : History) → Stands kept.old h → BlankGives ignores (block_resumed ignores h block.old) number (turn_of kept.new block.new result) }
-{
-    match kept.close(block, number, ignores) {
-        Ok(None) => {
-            kept.begin_again(block);
-            Ok(After::Goes)
-        }
-        Ok(Some(found)) => Ok(After::Ends(End {
-            is_over: false,
-            found: Some(found),
-        })),
-        Err(fault) => Err(stop_of(fault)),
-    }
-}
-
-// The file ends in front of the line of this number.
-fn at_end<'a>(
-    kept: &mut Kept,
-    block: &mut Block<'a>,
-    number: u64,
-    ignores: bool,
-) -> Result<After<'a>, Stop>
-    requires { Fits kept.old block.old }
-    ensures shape { EndShape (turn_of kept.new block.new result) }
-    ensures points { kept.new.points ≡ kept.old.points }
-    ensures fits { AfterFits kept.new.points result }
-    ensures gives { (h : History) → Stands kept.old h → EndGives ignores (block_resumed ignores h block.old) number (turn_of kept.new block.new result) }
-{
-    match kept.close(block, number, ignores) {
-        Ok(found) => Ok(After::Ends(End {
-            is_over: true,
-            found,
-        })),
-        Err(fault) => Err(stop_of(fault)),
-    }
-}
-
-// The end of a block: at a blank line, or where the file ends in front of the line of this number.
-fn close_block<'a>(
-    kept: &mut Kept,
-    block: &mut Block<'a>,
-    number: u64,
-    is_over: bool,
-    ignores: bool,
-) -> Result<After<'a>, Stop>
-    requires { Fits kept.old block.old }
-    ensures shape { ShapeAt is_over (turn_of kept.new block.new result) }
-    ensures points { kept.new.points ≡ kept.old.points }
-    ensures fits { AfterFits kept.new.points result }
-    ensures gives { (h : History) → Stands kept.old h → ClosesAt ignores is_over (block_resumed ignores h block.old) number (turn_of kept.new block.new result) }
-{
-    if is_over {
-        at_end(kept, block, number, ignores)
-    } else {
-        at_blank(kept, block, number, ignores)
-    }
-}
-
-// A line that is not blank.
-fn at_words<'a>(kept: &Kept, block: &mut Block<'a>, number: u64, bytes: &[u8]) -> Result<(), Stop>
-    requires { Fits kept.now block.old }
-    ensures fits { OnOk result (Fits kept.now block.new) }
-    ensures shape { LineShape (line_turn kept.now (left_behind block.new result)) }
-    ensures gives { (ignores : Bool) (h : History) → Stands kept.now h → WordsGive ignores (block_resumed ignores h block.old) (record { number = number; bytes = bytes.now }) (line_turn kept.now (left_behind block.new result)) }
-{
-    match kept.line(block, number, bytes) {
-        Ok(()) => Ok(()),
-        Err(fault) => Err(stop_of(fault)),
-    }
-}
-
-// A line of the file.
-fn with_line<'a>(
-    kept: &Kept,
-    block: &mut Block<'a>,
-    number: u64,
-    bytes: &[u8],
-) -> Result<Step, Stop>
-    requires { Fits kept.now block.old }
-    ensures shape { LineStepShape kept.now block.old block.new result }
-    ensures gives { (ignores : Bool) (h : History) → Stands kept.now h → LineStep ignores kept.now block.new (block_resumed ignores h block.old) (record { number = number; bytes = bytes.now }) result }
-{
-    let words = trim_blanks(bytes);
-    if words.is_empty() {
-        return Ok(Step::Ended {
-            number,
-            is_over: false,
-        });
-    }
-    match at_words(kept, block, number, words) {
-        Ok(()) => Ok(Step::More),
-        Err(stop) => Err(stop),
-    }
-}
-
-// Reads one line.
-fn take_line<'a, I: Inputs>(
-    kept: &Kept,
-    block: &mut Block<'a>,
+// Gathers the lines up to the next blank one, or to the file's end.
+fn gather_block<I: Inputs>(
     inputs: &mut I,
     lines: &mut Lines,
-) -> Result<Step, Stop>
-    requires started { lines.old.is_started ≡ true }
-    requires fits { Fits kept.now block.old }
-    ensures shape { StepShape kept.now block.old block.new result }
-    ensures gives { (ignores : Bool) (h : History) → Stands kept.now h → IfSome (left_of lines.old (I.rest inputs.old))
-        (λ xs. StepGives ignores kept.now block.new (block_resumed ignores h block.old) lines.old xs result lines.new (left_of lines.new (I.rest inputs.new))) }
-    ensures counts { StepCounts lines.old result lines.new }
-    ensures emptied { IsErrOf result Stop.Read → lines.new.ahead ≡ [] }
-    ensures files { I.file inputs.new ≡ I.file inputs.old }
-    ensures later { I.faults inputs.old ≤ I.faults inputs.new }
-    ensures cause { IsErrOf result Stop.Read → Rose (I.faults inputs.old) (I.faults inputs.new) }
-{
-    let next = lines.next_number();
-    match lines.next(inputs) {
-        Ok(Some(line)) => with_line(kept, block, line.number, line.bytes),
-        Ok(None) => Ok(Step::Ended {
-            number: next,
-            is_over: true,
-        }),
-        Err(fault) => Err(line_stop(fault)),
+    gathered: &mut Gathered,
+) -> Result<Close, Stop> {
+    gathered.clear();
+    'lines: loop {
+        let next = lines.next_number();
+        match lines.next(inputs) {
+            Ok(Some(line)) => {
+                let words = trim_blanks(line.bytes);
+                if words.is_empty() {
+                    return Ok(Close {
+                        number: line.number,
+                        is_over: false,
+                    });
+                }
+                if !gathered.leaves_out(words) && gathered.push(line.number, words).is_err() {
+                    return Err(Stop::NoMemory);
+                }
+            }
+            Ok(None) => {
+                return Ok(Close {
+                    number: next,
+                    is_over: true,
+                });
+            }
+            Err(fault) => return Err(line_stop(fault)),
+        }
+    }
+}
+
+// Why reading stopped inside of a block: the first fault of the lines that are there, if they have one.
+fn first_stop(kept: &mut Kept, arena: &Bump, gathered: &Gathered, stop: Stop, ignores: bool) -> Stop {
+    match kept.judge(arena, gathered, None, ignores) {
+        Ok(_) => stop,
+        Err(fault) => stop_of(fault),
     }
 }
 
@@ -248,18 +138,20 @@ fn read_block<'a, I: Inputs>(
     ensures later { I.faults inputs.old ≤ I.faults inputs.new }
     ensures cause { IsErrOf result Stop.Read → Rose (I.faults inputs.old) (I.faults inputs.new) }
 {
-    let mut block = kept.begin(arena);
-    'reading: loop {
-        match take_line(kept, &mut block, inputs, lines) {
-            Ok(Step::More) => continue 'reading,
-            Ok(Step::Ended { number, is_over }) => match close_block(
-                kept, &mut block, number, is_over, ignores,
+    let mut gathered = Gathered::new(kept.alloc);
+    'groups: loop {
+        match gather_block(inputs, lines, &mut gathered) {
+            Ok(Close { number, is_over }) => match kept.judge(
+                arena,
+                &gathered,
+                Some(number),
+                ignores,
             ) {
-                Ok(After::Goes) => continue 'reading,
-                Ok(After::Ends(end)) => return Ok(end),
-                Err(stop) => return Err(stop),
+                Ok(None) if !is_over => continue 'groups,
+                Ok(found) => return Ok(End { is_over, found }),
+                Err(fault) => return Err(stop_of(fault)),
             },
-            Err(stop) => return Err(stop),
+            Err(stop) => return Err(first_stop(kept, arena, &gathered, stop, ignores)),
         }
     }
 }
