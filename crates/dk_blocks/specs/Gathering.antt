@@ -1,13 +1,19 @@
 -- Gathering the lines of a block, before they are judged.
-use Rattle.std.specs.Prelude.{◌≡◌, ◌≤◌, ◌⊎◌, ◌-◌, ℕ, Bool, true, false, List, [], ◌∷◌, ◌++◌, length, slice_range, Option, Result, Ok, Err}
+use Rattle.std.specs.Prelude.{◌≡◌, ◌≤◌, ◌⊎◌, ◌-◌, ℕ, ⊤, ⊥, Bool, true, false, List, [], ◌∷◌, ◌++◌, drop, length, slice_range, Option, None, Result, Ok, Err}
 use Rattle.dk_base.specs.Reading.{Line}
+use Rattle.dk_base.specs.Reading.{LineFault, ◌>>=◌}
+use Rattle.dk_base.specs.declared.faults.BlockFault.{BlockFault}
+use Rattle.dk_base.specs.declared.faults.BlockFault.TheVariants.{Refused, NoMemory}
+use Rattle.dk_decl.specs.declared.header.Header.{Header}
 use Rattle.dk_lines.specs.Left.{Over, Broken}
 use Rattle.dk_lines.specs.Reading.{Reading, room_of}
 use Rattle.dk_blocks.specs.Blocks.{Group, Groups, Last}
-use Rattle.dk_blocks.specs.History.{History, effect_of}
+use Rattle.dk_blocks.specs.Fronts.{Front, block_front}
+use Rattle.dk_blocks.specs.History.{History, Taken, effect_of}
 use Rattle.dk_blocks.specs.Steps.{groups_left}
 use Rattle.dk_blocks.specs.declared.gathered.Close.{Close}
 use Rattle.dk_blocks.specs.declared.gathered.Placed.{Placed}
+use Rattle.dk_blocks.specs.declared.judging.Front.{Front as ReadFront}
 
 -- the line that stands at this place of a text
 abbrev pub line_in : List ℕ → Placed → Line
@@ -46,3 +52,20 @@ pub record Gathers (r : Reading) (xs : List ℕ) (kept : List Line) (close : Clo
   pub cut : (d rest : List ℕ) → ys ≡ d ++ rest
       → (groups_left false r false (front ++ d) ≡ closed close.is_over lines close.number (groups_left close.is_over r' false d))
       ⊎ LacksLast lines (groups_left false r false (front ++ d)) ys
+
+-- What stands in front of the record of these lines was read, or the first header line that is refused.
+abbrev pub FrontRead : Header → List Line → Result ReadFront BlockFault → Type 0
+FrontRead header lines (Ok front) = (front.from ≤ length lines)
+    × (block_front header None lines ≡ Ok (record { header = front.header; last = front.last; lines = drop front.from lines }))
+FrontRead header lines (Err (Refused line why)) = block_front header None lines ≡ Err (record { line = line; why = why })
+FrontRead header lines (Err NoMemory) = ⊤
+
+abbrev pub HasNoFault : Result Taken LineFault → Type 0
+HasNoFault (Ok taken) = ⊤
+HasNoFault (Err fault) = ⊥
+
+-- The first fault of lines that nothing ends yet: that is what they come to, whatever follows, and so it can be told before the rest is read.
+abbrev pub FaultOfFront : Result ⊤ BlockFault → Result Taken LineFault → Type 0
+FaultOfFront (Ok fine) read = HasNoFault read
+FaultOfFront (Err (Refused line why)) read = read ≡ Err (record { line = line; why = why })
+FaultOfFront (Err NoMemory) read = ⊤

@@ -7,6 +7,9 @@ use dk_lines::Line;
 use std::alloc::Global;
 use std::marker::Model;
 
+// The most bytes of lines whose room is kept for the next block.
+const MOST_KEPT: usize = 65536;
+
 /// A line by its number, and where its bytes stand in the text.
 #[derive(Clone, Copy, Debug)]
 pub(crate) struct Placed {
@@ -69,6 +72,16 @@ impl Gathered {
         let to = self.text.len();
         self.lines.push(Placed { number, from, to })?;
         Ok(())
+    }
+
+    /// How many bytes the lines have.
+    pub(crate) fn size(&self) -> usize {
+        self.text.len()
+    }
+
+    /// Whether they have taken much room.
+    pub(crate) fn is_large(&self) -> bool {
+        self.text.capacity() > MOST_KEPT
     }
 
     /// How many lines there are.

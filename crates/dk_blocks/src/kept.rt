@@ -19,6 +19,7 @@ ghost use Rattle.dk_blocks.specs.Refusing.{unmatched_answer};
 use crate::block::{is_comment, is_declaration, is_list_of_implementors};
 use crate::first_lines::is_plainly_sample;
 use crate::found::Found;
+use crate::gathered::Gathered;
 use bumpalo::Bump;
 use dk_base::{BlockFault, NoMemory, PointId, View};
 use dk_calls::{Calls, is_entry};
@@ -27,9 +28,10 @@ use dk_points::{Declared, Points};
 use dk_trace::{BaseSample, Whole, read_whole};
 use std::alloc::Global;
 use std::marker::Model;
+use std::mem::replace;
 
 /// What a reader keeps from block to block: the table of points, what the header lines have put in force, the entries of the file that
-/// wait, and the point of the last record.
+/// wait, the point of the last record, and the room for the lines of the next block.
 #[derive(Drop)]
 pub(crate) struct Kept {
     pub(crate) alloc: Global,
@@ -37,6 +39,7 @@ pub(crate) struct Kept {
     pub(crate) header: Header,
     calls: Calls,
     last: PointId,
+    lines: Gathered,
 }
 
 impl Model for Kept {
@@ -112,6 +115,7 @@ impl Kept {
             header: Header::new(),
             calls: Calls::new(alloc)?,
             last: PointId(0),
+            lines: Gathered::new(alloc),
         })
     }
 
@@ -129,6 +133,23 @@ impl Kept {
             header: Header::with_word(implicit),
             calls,
             last: PointId(0),
+            lines: Gathered::new(alloc),
+        }
+    }
+
+    /// The room for lines that is kept. None stays.
+    pub(crate) fn take_lines(&mut self) -> Gathered
+        ensures { self.new ≡ self.old }
+    {
+        replace(&mut self.lines, Gathered::new(self.alloc))
+    }
+
+    /// Keeps the room of these lines, unless it is large.
+    pub(crate) fn keep_lines(&mut self, lines: Gathered)
+        ensures { self.new ≡ self.old }
+    {
+        if !lines.is_large() {
+            self.lines = lines;
         }
     }
 
@@ -188,6 +209,7 @@ impl Kept {
             header,
             calls,
             last,
+            lines,
         } = self;
         match points.declare(decl, line) {
             Ok((points, declared)) => Ok((
@@ -197,6 +219,7 @@ impl Kept {
                     header,
                     calls,
                     last,
+                    lines,
                 },
                 declared,
             )),

@@ -28,6 +28,9 @@ use dk_points::{Declared, Points};
 use dk_trace::Whole;
 use std::alloc::Global;
 
+// From so many bytes of a block on its lines are looked at before its end.
+const LOOKED_AT_FIRST: usize = 32768;
+
 /// Reads the blocks of files, one after another: what each does, by the points that are declared so far and the entries of its file that
 /// wait. It keeps no samples.
 #[derive(Drop)]
@@ -78,13 +81,21 @@ fn line_stop(fault: LineFault) -> Stop
     }
 }
 
-// Gathers the lines up to the next blank one, or to the file's end.
+// Whether the lines are as many bytes as `seen` and as these again. Then they are looked at before more are gathered, so that a fault is
+// told before twice the bytes up to it are read.
+fn is_due(gathered: &Gathered, seen: usize) -> bool {
+    gathered.size() / 2 >= seen
+}
+
+// Gathers the lines up to the next blank one, or to the file's end. A fault of the lines may be told before their end.
 fn gather_block<I: Inputs>(
+    kept: &Kept,
+    arena: &Bump,
     inputs: &mut I,
     lines: &mut Lines,
     gathered: &mut Gathered,
 ) -> Result<Close, Stop> {
-    gathered.clear();
+    let mut seen = LOOKED_AT_FIRST;
     'lines: loop {
         let next = lines.next_number();
         match lines.next(inputs) {
@@ -96,8 +107,16 @@ fn gather_block<I: Inputs>(
                         is_over: false,
                     });
                 }
-                if !gathered.leaves_out(words) && gathered.push(line.number, words).is_err() {
-                    return Err(Stop::NoMemory);
+                if !gathered.leaves_out(words) {
+                    if gathered.push(line.number, words).is_err() {
+                        return Err(Stop::NoMemory);
+                    }
+                    if is_due(gathered, seen) {
+                        seen = gathered.size();
+                        if let Err(fault) = kept.first_fault(arena, gathered) {
+                            return Err(stop_of(fault));
+                        }
+                    }
                 }
             }
             Ok(None) => {
@@ -112,10 +131,32 @@ fn gather_block<I: Inputs>(
 }
 
 // Why reading stopped inside of a block: the first fault of the lines that are there, if they have one.
-fn first_stop(kept: &mut Kept, arena: &Bump, gathered: &Gathered, stop: Stop, ignores: bool) -> Stop {
-    match kept.judge(arena, gathered, None, ignores) {
-        Ok(_) => stop,
+fn first_stop(kept: &Kept, arena: &Bump, gathered: &Gathered, stop: Stop) -> Stop {
+    match kept.first_fault(arena, gathered) {
+        Ok(()) => stop,
         Err(fault) => stop_of(fault),
+    }
+}
+
+// Reads groups of lines up to the first that is a block, or to the file's end.
+fn read_groups<'a, I: Inputs>(
+    kept: &mut Kept,
+    arena: &'a Bump,
+    inputs: &mut I,
+    lines: &mut Lines,
+    gathered: &mut Gathered,
+    ignores: bool,
+) -> Result<End<'a>, Stop> {
+    'groups: loop {
+        gathered.clear();
+        match gather_block(kept, arena, inputs, lines, gathered) {
+            Ok(Close { number, is_over }) => match kept.judge(arena, gathered, number, ignores) {
+                Ok(None) if !is_over => continue 'groups,
+                Ok(found) => return Ok(End { is_over, found }),
+                Err(fault) => return Err(stop_of(fault)),
+            },
+            Err(stop) => return Err(first_stop(kept, arena, gathered, stop)),
+        }
     }
 }
 
@@ -138,22 +179,10 @@ fn read_block<'a, I: Inputs>(
     ensures later { I.faults inputs.old ≤ I.faults inputs.new }
     ensures cause { IsErrOf result Stop.Read → Rose (I.faults inputs.old) (I.faults inputs.new) }
 {
-    let mut gathered = Gathered::new(kept.alloc);
-    'groups: loop {
-        match gather_block(inputs, lines, &mut gathered) {
-            Ok(Close { number, is_over }) => match kept.judge(
-                arena,
-                &gathered,
-                Some(number),
-                ignores,
-            ) {
-                Ok(None) if !is_over => continue 'groups,
-                Ok(found) => return Ok(End { is_over, found }),
-                Err(fault) => return Err(stop_of(fault)),
-            },
-            Err(stop) => return Err(first_stop(kept, arena, &gathered, stop, ignores)),
-        }
-    }
+    let mut gathered = kept.take_lines();
+    let end = read_groups(kept, arena, inputs, lines, &mut gathered, ignores);
+    kept.keep_lines(gathered);
+    end
 }
 
 // Uses the record in the bytes at hand. Nothing is read.
