@@ -18,7 +18,7 @@
 #define dk_any(k, start, end, condition) \
     ({ bool dk_so = false; for (__int128 k = (start), dk_end = (end); !dk_so && k < dk_end; k++) dk_so = (condition); dk_so; })
 
-/* Whether x is one of the numbers, or of the strings, behind it. */
+/* Whether x is one of the numbers, or of the strings, after it. */
 #define dk_one_of(x, ...) \
     ({ const __int128 dk_list[] = {__VA_ARGS__}; dk_is_one_of((x), dk_list, sizeof dk_list / sizeof *dk_list); })
 #define dk_one_text(x, ...) \

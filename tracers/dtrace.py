@@ -152,7 +152,7 @@ def variable_lines(variable: Variable) -> Iterator[str]:
 
 
 def declaration(point: Point) -> str:
-    """The text of the point's declaration, with the blank line in front of it."""
+    """The text of the point's declaration, with the blank line before it."""
     lines = ["", "ppt " + escape_name(point.name), "ppt-type " + point.type]
     lines += ["parent parent %s %d" % (escape_name(name), edge) for name, edge in point.parents]
     for variable in point.variables:
@@ -166,7 +166,7 @@ def header(language: str) -> str:
 
 
 def record(name: str, nonce: Optional[int], fields: Iterable[Tuple[str, Optional[str]]]) -> str:
-    """The text of a sample, with the blank line in front of it: a value for each declared variable without a constant, in order."""
+    """The text of a sample, with the blank line before it: a value for each declared variable without a constant, in order."""
     lines = ["", escape_name(name)]
     if nonce is not None:
         lines += ["this_invocation_nonce", str(nonce)]

@@ -109,7 +109,7 @@ class Reader:
         self.bytes_before = bytes_before
 
     def read(self, name, data):
-        """Stops behind each block that counts. Entries wait within their file."""
+        """Stops after each block that counts. Entries wait within their file."""
         waiting = []
         lines, cut = lines_of(data, self.bytes_before)
         try:

@@ -1,7 +1,7 @@
 #!/usr/bin/env python3
 """An independent reading of the product's rules, for comparison with the built program.
 
-The words are those of the product. In front of them `--stage CUT,CUT...` may stand: then the
+The words are those of the product. Before them `--stage CUT,CUT...` may stand: then the
 program is the one of an earlier stage. The cuts are
   one-file       the only word is one FILE; the least number is 5 and all filters are on
   bounds         as one-file, and the report has the bounds of each point's own samples alone

@@ -21,7 +21,7 @@ WHY.update({DIFFERENT_STATE: "DifferentState", JOINED_STATE: "JoinedState"})
 # ---------------------------------------------------------------- merging
 
 def declarations_in(state):
-    """What stands in front of the first `samples` line, or of `end-state` where there is none."""
+    """What stands before the first `samples` line, or of `end-state` where there is none."""
     lines = state.split(b"\n")
     ends = [k for k, line in enumerate(lines) if line.startswith((b"samples ", b"end-state"))]
     return lines[:ends[0]]
@@ -80,7 +80,7 @@ def files_of(names, folder):
 # ---------------------------------------------------------------- turns
 
 def kept_lines(block):
-    """The block's lines without the comments in front of its record, and whether the record is a
+    """The block's lines without the comments before its record, and whether the record is a
     sample."""
     kept = []
     begun = is_sample = awaited = False

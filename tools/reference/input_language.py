@@ -55,7 +55,7 @@ class NoValue(Exception):
 
 def lines_of(data, bytes_before=0, line_limit=LINE_LIMIT, total_limit=TOTAL_LIMIT):
     """The file's lines as (number, bytes without CR and without blanks and tabs at the ends), and
-    the fault of the first byte that is one too many, after the lines in front of it, or None."""
+    the fault of the first byte that is one too many, after the lines before it, or None."""
     lines = []
     start = bytes_before
     pieces = data.split(b"\n")
@@ -196,7 +196,7 @@ def value_of(kind, text):
 # ---------------------------------------------------------------- headers
 
 def read_headers(lines, history):
-    """Reads comments and header lines in front of the record. Gives whether anything but comments
+    """Reads comments and header lines before the record. Gives whether anything but comments
     was there, and the record's first line or None."""
     anything = False
     awaited_since = None

@@ -185,7 +185,7 @@ def symbol_of(variable: VarInfo) -> Base | None:
 
 
 def path_of(language: str, variable: VarInfo) -> Base | None:
-    """A base variable in Python or C, if its name is a path without keywords behind the first word."""
+    """A base variable in Python or C, if its name is a path without keywords after the first word."""
     match = PATH.fullmatch(stem(variable))
     if match is None or KEYWORDS[language] & set(re.findall(r"\w+", match[2])):
         return None

@@ -10,7 +10,7 @@ SOURCE = Path(__file__).resolve().parent.parent.parent / "crates" / "dk_page" / 
 
 
 class Parts(NamedTuple):
-    """Up to the list of the points, between it and the sections, and behind them."""
+    """Up to the list of the points, between it and the sections, and after them."""
 
     head: str
     middle: str

@@ -84,7 +84,7 @@ class Table:
         return self.by_name.get(name)
 
     def declare(self, declaration, line):
-        """Adds the declared point, in front of it an implicit exit where one is made. Gives False
+        """Adds the declared point, before it an implicit exit where one is made. Gives False
         where the same block was there before."""
         known = self.find(declaration.name)
         if known is not None:

@@ -110,7 +110,7 @@ def shown(text: bytes) -> str:
 
 
 def shown_name(name: bytes) -> str:
-    """A name, which may be broken behind its full stops."""
+    """A name, which may be broken after its full stops."""
     return shown(name).replace(".", ".<wbr>")
 
 

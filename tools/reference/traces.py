@@ -88,7 +88,7 @@ class Case:
     changed: set = field(default_factory=set)
 
     def promises_no_report(self, run):
-        """Whether the run reads records behind a state that perhaps no samples give."""
+        """Whether the run reads records after a state that perhaps no samples give."""
         return any(name in run and run != resumed(name) for name in self.changed)
 
     def state_that_stays(self, run):
@@ -291,8 +291,7 @@ class Maker:
             return self.random.choice([b"true", b"1"] if number % 2 else [b"false", b"0"])
         if element == b"hashcode":
             number %= 4
-            spelled = [b"null", b"0", b"0x0"] if number == 0 else [b"%d" % number, b"0x%x" % number,
-                                                                    b"0x0%X" % number]
+            spelled = [b"null", b"0", b"0x0"] if number == 0 else [b"%d" % number, b"0x%x" % number, b"0x0%X" % number]
             return self.random.choice(spelled)
         if element == b"double":
             return b"1.5"
@@ -519,7 +518,7 @@ def odd_sibling(random_, lines, at):
 
 
 def odd_header(random_, lines, at):
-    """A header line in front of a block."""
+    """A header line before a block."""
     starts = [k + 1 for k, line in enumerate(lines[:-1]) if line.strip() == b""] + [0]
     lines.insert(random_.choice(starts), random_.choice(ODD_HEADERS))
 
@@ -707,8 +706,8 @@ def history_of(text, grammar=2, second_form=True):
 
 
 def cut_case(seed, second_form=True, grammar=2):
-    """A run over some files; then the same files cut behind one or two of them, or in front of
-    all or behind all. Each part resumes what the one before it saved."""
+    """A run over some files; then the same files cut after one or two of them, or before
+    all or after all. Each part resumes what the one before it saved."""
     maker = Maker(seed, second_form)
     maker.plan_points()
     case = Case(is_cut=True)

@@ -161,7 +161,7 @@ def text_lines(text: bytes) -> list[str]:
 
 
 def lines_of_case(case: Case, before: Case | None) -> list[str]:
-    """The lines of a case, behind the one before it: what is new."""
+    """The lines of a case, after the one before it: what is new."""
     is_again = (before is not None and before.program == case.program and before.keys.keys() <= case.keys.keys()
                 and before.files.keys() <= case.files.keys())
     front = before if is_again and before is not None else Case("", "daikon")
@@ -180,7 +180,7 @@ def lines_of_case(case: Case, before: Case | None) -> list[str]:
 
 
 def words_lines(words: tuple[str, ...]) -> list[str]:
-    """The lines of words: one for all, and one for each word that a line of words doesn't tell, with those behind it."""
+    """The lines of words: one for all, and one for each word that a line of words doesn't tell, with those after it."""
     plain = next((k for k, word in enumerate(words) if word == "" or re.search(r"\s", word)), len(words))
     return [" ".join(("words", *words[:plain])), *(f"word {word}" for word in words[plain:])]
 

@@ -19,11 +19,11 @@ NONCE_LINE = b"this_invocation_nonce"
 
 
 class Front(NamedTuple):
-    """What stands in front of a block's record, and which record it is.
+    """What stands before a block's record, and which record it is.
 
     `kind` is 'comments' or 'headers' for a block without a record, 'declaration', 'list' or
     'sample'. `record_at` is where the record's first line begins within the block; `line`, `second`
-    and `third` are that line and the next two. `has_headers` tells of header lines in front of it.
+    and `third` are that line and the next two. `has_headers` tells of header lines before it.
     """
     kind: str
     record_at: int
@@ -85,7 +85,7 @@ def kind_of(line: bytes) -> str:
 
 
 def has_indented(text: bytes) -> bool:
-    """Whether a line behind an LF begins with a blank or a tab."""
+    """Whether a line after an LF begins with a blank or a tab."""
     return (b" " in text and b"\n " in text) or (b"\t" in text and b"\n\t" in text)
 
 
@@ -161,7 +161,7 @@ def slices(file: BinaryIO, start: int, end: int) -> Iterator[Tuple[int, bytes]]:
 
 
 def block_end_behind(file: BinaryIO, offset: int, size: int) -> Optional[int]:
-    """The end of the first blank line that ends behind the offset, or nothing where no block
+    """The end of the first blank line that ends after the offset, or nothing where no block
     follows it."""
     at = max(offset - 1, 0)
     length = 1 << 16

@@ -61,7 +61,7 @@ def between(first: str, last: str) -> str:
 
 def outside(owned: Owned) -> Pattern[bytes]:
     """Finds in parted text (`blocks.parted`) the lines that end like the name of an entry or an exit, where the
-    two lines behind it aren't a nonce of the owned ones, spelled plainly."""
+    two lines after it aren't a nonce of the owned ones, spelled plainly."""
     inside = rf"[^\n]*\nthis_invocation_nonce\n(?:{owned.pattern()})\n"
     return re.compile(rf":::E(?!{inside})(?=(?:NTER|XIT[0-9]*)[ \t]*\n)".encode())
 

@@ -91,12 +91,12 @@ def copy_between(path: str, start: int, end: int, out: BinaryIO) -> None:
 
 
 def blank_line(path: str, end: int) -> bytes:
-    """What is put behind a span that ends here, so that its last block ends."""
+    """What is put after a span that ends here, so that its last block ends."""
     return b"\n" if b"".join(read_between(path, end - 1, end)) == b"\n" else b"\n\n"
 
 
 def write_text(plan: Plan, text: Text, out: BinaryIO) -> None:
-    """A whole file as it is; spans with a blank line behind each. `out` has no buffer."""
+    """A whole file as it is; spans with a blank line after each. `out` has no buffer."""
     for file, start, end in text.spans:
         path = plan.sources[file].path
         copy_between(path, start, end, out)

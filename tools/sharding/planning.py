@@ -2,7 +2,7 @@
 
 A part is the files with some of their sample blocks left out: each part has all declarations and
 header lines at their places, and each sample block is in one part. A file is cut into pieces
-between blocks; an entry whose exit is in a later piece goes there, in front of the piece. So an
+between blocks; an entry whose exit is in a later piece goes there, before the piece. So an
 exit and the entry that it takes are in one part, and an entry that is moved was taken by no exit
 of its own piece.
 """
@@ -53,7 +53,7 @@ class Source:
 
 @dataclass
 class Part:
-    """Pieces of files, whole blocks that are put in front of them, and blocks of them that are
+    """Pieces of files, whole blocks that are put before them, and blocks of them that are
     left out. A piece that is a whole file goes as it is."""
     pieces: List[Span] = field(default_factory=list)
     moved: List[Span] = field(default_factory=list)
@@ -62,7 +62,7 @@ class Part:
 
 @dataclass
 class Plan:
-    """`declared` are blocks that each part gets, `fronts` the header lines in front of samples."""
+    """`declared` are blocks that each part gets, `fronts` the header lines before samples."""
     sources: List[Source]
     words: List[str]
     parts: List[Part]
@@ -88,7 +88,7 @@ class Plan:
 
 @dataclass
 class Text:
-    """A file that daikon reads: one that lies there, or spans one behind another."""
+    """A file that daikon reads: one that lies there, or spans one after another."""
     spans: List[Span]
     is_whole: bool = False
 
@@ -364,7 +364,7 @@ def texts_of(plan: Plan, part: Part) -> List[Text]:
 
 
 def text_of_piece(plan: Plan, part: Part, piece: Span, everywhere: List[Span]) -> Text:
-    """A piece with what stands in front of it and behind it."""
+    """A piece with what stands before it and after it."""
     file, start, end = piece
     if (start, end) == (0, plan.sources[file].size):
         return Text([piece], True)

@@ -1,6 +1,6 @@
 """Which calls of a stretch of a trace may have a record outside of it, and what it declares.
 
-An exit takes an entry by the rules of docs/FORMATS.md (Calls). A stretch is scanned without what stands in front of
+An exit takes an entry by the rules of docs/FORMATS.md (Calls). A stretch is scanned without what stands before
 it, in one of two ways:
 
 - by its nonces: each stretch of a file *owns* a range of numbers, so that no number has two owners. Told are the
@@ -47,7 +47,7 @@ class Call(NamedTuple):
 
 
 class Declared(NamedTuple):
-    """A block that every part gets, or the header lines in front of a sample. `name` is the point
+    """A block that every part gets, or the header lines before a sample. `name` is the point
     of a declaration."""
     offset: int
     end: int
@@ -144,7 +144,7 @@ def plain_exits_of(names: List[bytes]) -> FrozenSet[bytes]:
 
 class Finder:
     """Finds in the slices of a stretch what is declared, and the calls that a pattern finds in parted text. Calls
-    behind comments and header lines may be among them."""
+    after comments and header lines may be among them."""
 
     def __init__(self, plain_exits: FrozenSet[bytes], pattern: Optional[Pattern[bytes]]) -> None:
         self.roles = Roles(plain_exits)
@@ -250,7 +250,7 @@ class Follower:
 
     def take_special(self, offset: int, text: bytes, start: int, end: int) -> Tuple[bytes, bytes]:
         """Keeps what is declared or put in force. Gives the first line and the nonce of a sample
-        behind comments and header lines."""
+        after comments and header lines."""
         front = blocks.front_of(text[start:end])
         told = declared_by(front, offset + start, offset + end)
         if told is not None:

@@ -72,7 +72,7 @@ def verdict_trials(seed: int) -> Iterator[Trial]:
 
 
 def declares_behind_records(trace: bytes) -> bool:
-    """Whether a point is declared behind a record: an edge to it counts for later records alone, in dk_check, and for all in a report."""
+    """Whether a point is declared after a record: an edge to it counts for later records alone, in dk_check, and for all in a report."""
     blocks = [block.strip() for block in re.split(rb"\n[ \t\r]*\n", trace) if block.strip()]
     kinds = [re.search(rb"(?m)^[ \t]*(ppt |DECLARE)", block) is not None for block in blocks]
     headers = re.compile(rb"decl-version|var-comparability|VarComparability|ListImplementors|input-language|#|//")
@@ -81,7 +81,7 @@ def declares_behind_records(trace: bytes) -> bool:
 
 
 def judge_verdicts(bench: Bench, trial: Trial) -> Optional[str]:
-    """Each line of a report holds in its own trace, in as many samples, where all points are declared in front of the records."""
+    """Each line of a report holds in its own trace, in as many samples, where all points are declared before the records."""
     if declares_behind_records(trial.case.files["t"]):
         return None
     bench.put(trial.case.files)

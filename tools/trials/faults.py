@@ -46,7 +46,7 @@ def read_fault_trials(seed: int) -> Iterator[Trial]:
 
 
 def judge_read_faults(bench: Bench, trial: Trial) -> Optional[str]:
-    """What stands in front of the file that can't be read is judged first; then the message names it."""
+    """What stands before the file that can't be read is judged first; then the message names it."""
     files, words, faulty, shape = trial.case.files, trial.words, trial.how.piped, trial.how.shape
     if shape == "unreadable" and not bench.starts(trial.program, How(as_nobody=True)):
         return None
@@ -199,11 +199,11 @@ def large_inputs(maker: Maker) -> List[Tuple[str, Case]]:
     """One large input for each program."""
     text = maker.random.choice(LARGE)(maker)
     return [("daikon", Case({"t": text}, [["--min-samples", "1", "--save", "--ignore-missing-entry", "t"]])),
-             ("dk_split", Case({"t": text}, [["--min-samples", "1", "--ignore-missing-entry", "t"]])),
-             ("dk_check", Case({"t": text, "a": b"=\nP\nx1 >= 1\nx2 <= x3\n" * 30}, [["--ignore-missing-entry", "a", "t"]])),
-             ("dk_tell", Case({"t": text, "a": b"=\nP\nx1 >= 1\nx2 <= x3\n" * 30}, [["--ignore-missing-entry", "a", "t"]])),
-             ("dk_table", Case({"t": large_table(maker)}, [["t"]])),
-             ("dk_merge", Case({"t": text}, [["--min-samples", "1", "--turns", "1", "t"]]))]
+            ("dk_split", Case({"t": text}, [["--min-samples", "1", "--ignore-missing-entry", "t"]])),
+            ("dk_check", Case({"t": text, "a": b"=\nP\nx1 >= 1\nx2 <= x3\n" * 30}, [["--ignore-missing-entry", "a", "t"]])),
+            ("dk_tell", Case({"t": text, "a": b"=\nP\nx1 >= 1\nx2 <= x3\n" * 30}, [["--ignore-missing-entry", "a", "t"]])),
+            ("dk_table", Case({"t": large_table(maker)}, [["t"]])),
+            ("dk_merge", Case({"t": text}, [["--min-samples", "1", "--turns", "1", "t"]]))]
 
 
 def memory_trials(seed: int) -> Iterator[Trial]:

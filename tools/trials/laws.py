@@ -102,7 +102,6 @@ def faulty_file(outcome: Outcome) -> Optional[str]:
     return os.fsdecode(match.group(1)) if match else None
 
 
-
 def differing(one: Outcome, other: Outcome) -> Optional[str]:
     """The first part in which two outcomes differ."""
     for part in ("status", "messages", "report", "state"):

@@ -14,6 +14,7 @@ from traces import Case, Maker, mixed, random_options  # noqa: E402
 
 # ---------------------------------------------------------------- traces
 
+
 def trace_words(maker: Maker, program: str, names: List[str]) -> List[str]:
     least = ["--min-samples", maker.random.choice(["1", "2"])]
     ignore = ["--ignore-missing-entry"] if maker.chance(0.8) else []

@@ -1,4 +1,4 @@
-/* Loaded in front of the C library (LD_PRELOAD): refuses the allocation with the number REFUSE_AT, counted from 1, and with REFUSE_LATER
+/* Loaded before the C library (LD_PRELOAD): refuses the allocation with the number REFUSE_AT, counted from 1, and with REFUSE_LATER
    also all later ones. With REFUSE_COUNT it writes at the end how many there were to the file of that name. */
 #define _GNU_SOURCE
 #include <dlfcn.h>

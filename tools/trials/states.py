@@ -53,7 +53,7 @@ def joined_trials(seed: int) -> Iterator[Trial]:
 
 
 def judge_joined(bench: Bench, trial: Trial) -> Optional[str]:
-    """Changed states behind a right one: what is merged is a state that is taken again."""
+    """Changed states after a right one: what is merged is a state that is taken again."""
     bench.put(trial.case.files)
     outcome = bench.run("dk_merge", trial.words)
     names = [name for name in trial.words if name in trial.case.files]

@@ -64,7 +64,7 @@ def header_added(draw: random.Random, lines: List[bytes], at: int) -> None:
 
 
 def block_at(lines: List[bytes], at: int) -> Tuple[int, int]:
-    """The block around or behind the line, with the blank line behind it."""
+    """The block around or after the line, with the blank line after it."""
     start, end = at, at
     while start > 0 and lines[start - 1].strip():
         start -= 1

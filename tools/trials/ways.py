@@ -21,6 +21,7 @@ compare = script("compare")
 
 # ---------------------------------------------------------------- pieces, fronts, cuts
 
+
 def some_input(maker: Maker) -> Tuple[str, Case, str]:
     """A program, files and words, and the name of the file that may be piped."""
     draw = maker.random
@@ -91,7 +92,7 @@ def front_of(text: bytes, place: float) -> bytes:
 
 
 def judge_fronts(bench: Bench, trial: Trial) -> Optional[str]:
-    """A fault in the blocks in front is the fault of the whole, and reports by the way don't know what comes."""
+    """A fault in the blocks in front is the fault of the whole, and interim reports don't know what comes."""
     files, words = trial.case.files, trial.words
     bench.put(files)
     whole = bench.run(trial.program, words)
@@ -107,7 +108,7 @@ def judge_fronts(bench: Bench, trial: Trial) -> Optional[str]:
         return "a fault in front: " + part if part is not None else None
     by_the_way, _, last = front.report.rpartition(b"--- end after ")
     if not whole.report.startswith(by_the_way):
-        return "reports by the way"
+        return "interim reports"
     if by_the_way and not by_the_way.endswith(last.partition(b"\n")[2]):
         return "the last report"
     return None

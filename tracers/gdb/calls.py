@@ -16,7 +16,7 @@ HIDDEN = ("__in_chrg", "__vtt_parm")
 LOCATION = re.compile(r"Symbol (\w+) is (?:a variable at frame base reg \$\w+ offset -?\d+\+"
                       r"|a complex DWARF expression:\n +0: DW_OP_fbreg )(-?\d+)\n?(?: +\d+: (DW_OP_deref)\n)?, length")
 WORD = 8
-# A caller's frame begins behind the return address and the saved frame pointer.
+# A caller's frame begins after the return address and the saved frame pointer.
 FRAME_BEHIND_POINTER = 2 * WORD
 WIDEST_FRAME = 4096
 LARGEST_RESULT = 16
@@ -24,14 +24,14 @@ SINGLE_CODES = (*INTEGER_CODES, *REFERENCE_CODES, gdb.TYPE_CODE_BOOL, gdb.TYPE_C
 
 
 class Frames:
-    """Tells the frame of a call: the address that the caller's stack pointer has behind the call, which no other waiting call shares."""
+    """Tells the frame of a call: the address that the caller's stack pointer has after the call, which no other waiting call shares."""
 
     def __init__(self, process: Process, function: Function) -> None:
         self.process = process
         self.has_pointer = function.has_frame_pointer
 
     def within(self, registers: Tuple[int, ...]) -> int:
-        """The frame, behind the prologue."""
+        """The frame, after the prologue."""
         if self.has_pointer:
             return registers[RBP] + FRAME_BEHIND_POINTER
         older = gdb.selected_frame().older()

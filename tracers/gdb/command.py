@@ -31,7 +31,7 @@ that ./daikon reads. The program has its own streams, signals and status. It nee
 
 
 DETAILS = """\
-Exit status: the program's, or 128 and the number of the signal that ended it; 1 where it can't be traced, 2 where these words are refused, and 4
+Exit status: the program's, or 128 and the number of the signal that ended it; 1 where it can't be traced, 2 where these arguments are refused, and 4
 where FILE can't be written to, all before the program starts.
 
 Example:
@@ -64,7 +64,7 @@ def make_parser() -> argparse.ArgumentParser:
     add_words(parser, "PROGRAM", "file.c.function or Class.method", 100)
     parser.add_argument("--array", metavar="PARAM=LENGTH", type=array, action="append", default=[],
                         help="the pointer PARAM, a parameter or a field, points to as many elements as the parameter or field LENGTH "
-                             "beside it tells, or to so many where LENGTH is a number (default: none, to one)")
+                             "beside it says, or to so many where LENGTH is a number (default: none, to one)")
     parser.add_argument("program", metavar="PROGRAM", help="the program; one without / is looked for on the PATH, then here")
     # an error for a missing program is to name that alone
     parser.add_argument("arguments", metavar="ARG", nargs=argparse.REMAINDER, help="its arguments").required = False

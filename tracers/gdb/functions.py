@@ -1,7 +1,7 @@
 """The functions of a program, and the addresses at which their calls begin and end.
 
-A call begins behind the prologue, where all parameters lie on the stack. It ends at a `ret`. Which `return` led there is told by *marks*:
-compilers turn `return e;` into a jump to the function's end, so the last instruction in front of the end that was reached has the line of
+A call begins after the prologue, where all parameters lie on the stack. It ends at a `ret`. Which `return` led there is told by *marks*:
+compilers turn `return e;` into a jump to the function's end, so the last instruction before the end that was reached has the line of
 the `return`.
 """
 
@@ -112,22 +112,22 @@ def read_instructions(function: Function, architecture: gdb.Architecture) -> Lis
 
 
 def behind_frame(texts: List[str]) -> Optional[int]:
-    """The place behind the instructions that set the frame pointer, where the function begins with these."""
+    """The place after the instructions that set the frame pointer, where the function begins with these."""
     index = 1 if texts and texts[0].startswith("endbr64") else 0
     setting = [" ".join(text.split()) for text in texts[index:index + 2]]
     return index + 2 if setting == ["push %rbp", "mov %rsp,%rbp"] else None
 
 
 def find_begin(function: Function, architecture: gdb.Architecture) -> None:
-    """Finds where the function's calls begin, behind the prologue: where the next line begins, or behind all that saves parameters where
+    """Finds where the function's calls begin, after the prologue: where the next line begins, or after all that saves parameters where
     the line is told once for the whole function."""
     start, end = function.block.start, function.block.end
     first = [(each["addr"], each["asm"]) for each in architecture.disassemble(start, end - 1, LONGEST_PROLOGUE)]
-    behind = behind_frame([text for _, text in first])
-    function.has_frame_pointer = behind is not None
-    index = min(behind or 0, len(first) - 1)
+    after = behind_frame([text for _, text in first])
+    function.has_frame_pointer = after is not None
+    index = min(after or 0, len(first) - 1)
     place = gdb.find_pc_line(first[index][0])
-    if behind is not None and place.pc == first[index][0]:
+    if after is not None and place.pc == first[index][0]:
         function.begin = place.pc
     elif place.last is not None and start <= place.last < end - 1:
         function.begin = place.last + 1

@@ -28,7 +28,7 @@ def file_labels(paths: Iterable[str]) -> Dict[str, str]:
 
 
 def split_parameters(name: str) -> Tuple[str, str]:
-    """The function's name in C++, and the list of its parameters' types with what stands behind it."""
+    """The function's name in C++, and the list of its parameters' types with what stands after it."""
     end = name.rfind(")")
     depth = 0
     for place in range(end, -1, -1):
@@ -53,7 +53,7 @@ def class_of(function: Function, name: str) -> Optional[str]:
 
 
 def split_scope(name: str) -> Optional[Tuple[str, str]]:
-    """What stands in front of the last `::` outside of brackets, and what behind it."""
+    """What stands before the last `::` outside of brackets, and what after it."""
     before, operator, rest = name.rpartition("::operator")
     if operator:
         return before, "operator" + rest
@@ -200,7 +200,7 @@ class Making:
 
     def look(self, function: Function, name: Name, parameters: Parameters, result: Optional[Result]) -> Tuple[Look, Point]:
         """What is read at the function's entry, or with a result at its exits, and a point without a name that it is read for. The result's
-        bytes are the piece behind those of the parameters. Of an object that isn't made yet, or is no more, the address alone is read."""
+        bytes are the piece after those of the parameters. Of an object that isn't made yet, or is no more, the address alone is read."""
         depth = self.shapes.options.depth
         is_bare = name.is_destructor if result else name.is_constructor
         owner = None if is_bare else self.object_family(name, parameters)

@@ -48,7 +48,7 @@ class Process:
         return data if len(data) == size else None
 
     def read_up_to(self, address: int, size: int) -> bytes:
-        """The bytes at the address, up to so many: those in front of the first that can't be read."""
+        """The bytes at the address, up to so many: those before the first that can't be read."""
         try:
             return os.pread(self.memory, size, address)
         except (OSError, OverflowError):

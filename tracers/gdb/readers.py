@@ -56,7 +56,7 @@ def convert_long_double(data: bytes, offset: int) -> Optional[str]:
 
 
 def length_reader(distance: int, size: int, signed: bool) -> ReadLength:
-    """Reads a length that lies so many bytes behind its array. It isn't known of a record that is read field by field."""
+    """Reads a length that lies so many bytes after its array. It isn't known of a record that is read field by field."""
 
     def read(data: bytes, offset: int) -> Optional[int]:
         start = offset + distance
@@ -159,7 +159,7 @@ class Members(Reader):
 
 
 class Target(Reader):
-    """What a pointer points to, behind the pointer itself where that is a variable."""
+    """What a pointer points to, after the pointer itself where that is a variable."""
 
     def __init__(self, process: Process, inner: Reader, tells_pointer: bool) -> None:
         self.process = process
@@ -215,7 +215,7 @@ class String(Reader):
 
 
 class Counted(Reader):
-    """The array that a pointer points to, behind the pointer itself; `length` tells how many elements it has."""
+    """The array that a pointer points to, after the pointer itself; `length` tells how many elements it has."""
 
     count = 2
 

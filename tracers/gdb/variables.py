@@ -237,5 +237,5 @@ class Shapes:
 
 
 def wrapped(name: str) -> str:
-    """The name as something can be put behind it."""
+    """The name as something can be put after it."""
     return "(" + name + ")" if name.startswith("*") else name

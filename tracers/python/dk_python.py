@@ -25,17 +25,17 @@ script's without .py), a dot, and the qualified name: ledger.Account.deposit, to
 functions are left out, and so is all that child processes do.
 
 Points are named module.Class.method(self, x):::ENTER and :::EXITn, n being the line of the return (or of the function's last statement). An
-exception that leaves a function is no exit. What always holds of an object at the entries and exits of public methods is told at
+exception that leaves a function is no exit. What always holds of an object at the entries and exits of public methods is said at
 module.Class:::OBJECT, what always holds of a module's variables at module:::GLOBALS.
 
 Variables are parameters, `return`, fields of objects whose classes are the program's own, and with --globals the module's. Whole numbers, truth
-values and strings are told as such, floating point is passed over by daikon; lists, tuples, ranges, arrays and bytes of whole numbers, truth values
-or strings are sequences x[..]; other containers are told by their identity and len(x), other objects by their identity. No code of the program runs
-when its values are looked at.
+values and strings are recorded as such, floating point is passed over by daikon; lists, tuples, ranges, arrays and bytes of whole numbers, truth
+values or strings are sequences x[..]; other containers are known by their identity and len(x), other objects by their identity. No code of the
+program runs when its values are looked at.
 
 The trace is written when the program ends: by itself, by an exception, by SIGINT, SIGTERM or SIGHUP; but not by SIGKILL, os._exit or os.exec*.
 
-Exit status: the program's; 2 where these words are refused, and 4 where FILE can't be written to, both before the program starts.
+Exit status: the program's; 2 where these arguments are refused, and 4 where FILE can't be written to, both before the program starts.
 
 Examples:
   dk_python --report examples/python/bounded_queue.py
@@ -49,17 +49,17 @@ class Help(argparse.RawDescriptionHelpFormatter):
 
 
 def parser_of_words() -> argparse.ArgumentParser:
-    """The words in front of the script."""
+    """The words before the script."""
     parser = argparse.ArgumentParser(prog="dk_python", usage=USAGE, description=DESCRIPTION, epilog=DETAILS, formatter_class=Help,
                                      allow_abbrev=False)
     dtrace.add_words(parser, "SCRIPT", "module.qualname", 100)
     parser.add_argument("-m", dest="module", metavar="MODULE", help="run this module in place of a script")
-    parser.add_argument("words", nargs=argparse.REMAINDER, metavar="SCRIPT [ARG]...", help="the script, and the words that are its own")
+    parser.add_argument("words", nargs=argparse.REMAINDER, metavar="SCRIPT [ARG]...", help="the script, and its own arguments")
     return parser
 
 
 def split_words(words: list) -> tuple:
-    """The words in front of the script or behind `-m MODULE`, and those that are the program's own: the parser sees only ours."""
+    """The words before the script or after `-m MODULE`, and those that are the program's own: the parser sees only ours."""
     with_value = {"--out", "--include", "--exclude", "--depth", "--elements", "--every"}
     place = 0
     while place < len(words) and words[place].startswith("-") and words[place] != "-":

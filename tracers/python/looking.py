@@ -9,7 +9,7 @@ values, which the description tells how to read:
     ("sequence", CLASS, ELEMENTS, IS_CUT, HAS_FIELDS)        its identity, its length, its first elements
     ("container", CLASS, HAS_FIELDS)                         its identity, its length
     ("object", CLASS, HAS_FIELDS)                            its identity
-    ("fields", NAMES)                   behind one that has fields; the encoded fields follow    no data
+    ("fields", NAMES)                   after one that has fields; the encoded fields follow    no data
 
 CLASS is the class's place in `classes`, which has the names. ELEMENTS are the descriptions of the kinds of elements that the sequence has.
 

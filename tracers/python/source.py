@@ -32,7 +32,7 @@ class Definition:
             self.gives_value = any(each.value is not None and not is_none(each.value) for each in found)
 
     def exit_line(self, lines: list) -> int:
-        """The line by which an exit is named whose instruction, and those in front of it, have these lines: that of the `return`, or else
+        """The line by which an exit is named whose instruction, and those before it, have these lines: that of the `return`, or else
         that of the last statement."""
         for line in lines:
             for first, last in self.returns:

@@ -489,7 +489,7 @@ class Tracer:
             time.sleep(0)
         sys.setswitchinterval(interval)
         if self.is_done:
-            # it is told behind the trace
+            # it is told after the trace
             return
         self.is_interrupted = False
         os.kill(os.getpid(), _signal.SIGINT)
@@ -567,7 +567,7 @@ def source_reader():
 
 
 def lines_before(code, offset: int, frame) -> list:
-    """The lines of a return and of the instructions in front of it, the last one first. From Python 3.10 on, a return that leaves a `with` or a
+    """The lines of a return and of the instructions before it, the last one first. From Python 3.10 on, a return that leaves a `with` or a
     `finally` has the line of that."""
     if not hasattr(code, "co_lines"):
         return [frame.f_lineno]
@@ -596,6 +596,6 @@ def take_interrupt() -> None:
 
 
 def flush_standard_output() -> None:
-    """Writes what the program has printed, in front of the report."""
+    """Writes what the program has printed, before the report."""
     if type(sys.stdout) is member("io", "TextIOWrapper"):
         sys.stdout.flush()

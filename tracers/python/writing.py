@@ -18,8 +18,6 @@ import dtrace  # noqa: E402
 from source import Source  # noqa: E402
 from tracing import MOST_SHAPES  # noqa: E402
 
-# as many shapes have numbers (tracing.py)
-MOST_SHAPES = 20_000
 LIMIT = 1 << 63
 DIGITS_OF_LIMIT = len(str(LIMIT))
 LONGEST_VALUE = (1 << 24) - 1

@@ -15,6 +15,13 @@ pub data Form : Type 0 where
   positional : Form
   positionals : Bool → Form
 
+-- how a count of samples, blocks or records is given: as a number from 1 to the largest
+abbrev pub largest_count : ℕ
+largest_count = 1000000000
+
+abbrev pub count : Form
+count = number 1 largest_count
+
 -- an argument that a command accepts
 pub record Argument : Type 0 where
   pub name : Text

@@ -17,6 +17,12 @@ pub enum Form {
     Positionals { required: bool },
 }
 
+/// How a count of samples, blocks or records is given: as a number from 1 to 1,000,000,000.
+pub const COUNT: Form = Form::Number {
+    least: 1,
+    most: 1_000_000_000,
+};
+
 /// An argument that a command accepts.
 #[derive(Clone, Copy, Debug)]
 pub struct Argument {

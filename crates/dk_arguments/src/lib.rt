@@ -17,7 +17,7 @@ mod request;
 mod word;
 
 pub use arguments::Arguments;
-pub use description::{Argument, Description, Form};
+pub use description::{Argument, COUNT, Description, Form};
 pub use fault::ArgumentsFault;
 pub use matches::Matches;
 pub use reading::read_arguments;

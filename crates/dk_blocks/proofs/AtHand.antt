@@ -33,6 +33,7 @@ use Rattle.dk_blocks.specs.declared.found.Found.{Found}
 use Rattle.dk_blocks.specs.declared.kept.Kept.{Kept}
 use Rattle.dk_blocks.specs.declared.reader.Stop.TheVariants.{Read}
 use Rattle.dk_blocks.proofs.Fronting.{at_record, samples}
+use Rattle.dk_blocks.proofs.LastLines.{last_passed}
 use Rattle.dk_blocks.proofs.Stepping.{grouped_blank, grouped_words, next_from, stops}
 use Rattle.dk_blocks.proofs.Values.{sample_fits}
 
@@ -126,10 +127,19 @@ IsBehind r w new = new ≡ record r { number = r.number + w.count; total = r.tot
 front_len : (r : Reading) (w : Whole) (ps : List Point) (n : ℕ) → StandsWhole ps n (ready_of r) w → length (take w.used r.ahead) ≡ w.used
 front_len r w ps n s = length-take-le w.used r.ahead (used_within r w.used s.within).2
 
+some_used : (r : Reading) (w : Whole) (ps : List Point) (n : ℕ) → StandsWhole ps n (ready_of r) w → 0 < w.used
+some_used r w ps n s =
+    let lines : (length (joined (all_lines s)) ≡ w.used) × (w.count ≤ w.used) = lines_within r w.used w.count (all_lines s) s.within (are_lines r ps n w s) in
+    let many = s.many in
+    omega (arith, lines.1, many)
+
 found_steps : (ignores : Bool) (kept : Kept) (h h' : History) (r new : Reading) (w : Whole) (found : Found) (bs : List ℕ) → Stands kept h → (at : IsAtHand kept (r.number + 1) (ready_of r) w)
     → IsBehind r w new → PassesLines r (all_lines at.stands) new → with_record ignores h (shown w.sample) ≡ outcome_of h' (Some found)
     → Steps ignores (effect_of ignores h) false r (r.ahead ++ bs) (outcome_of h' (Some found)) false new (drop w.used r.ahead ++ bs)
 found_steps ignores kept h h' r new w found bs stands at behind passes closes =
+    let s = at.stands in
+    let are : AreLines (all_lines s) (take w.used r.ahead) w.count = are_lines r kept.points (r.number + 1) w s in
+    let many : 0 < w.used = some_used r w kept.points (r.number + 1) s in
     let on : (is_ended : Bool) (ys : List ℕ) → after_next ignores (effect_of ignores h) (groups_left false r is_ended (take w.used r.ahead ++ ys))
     ≡ behind_block (outcome_of h' (Some found)) (groups_left false new is_ended ys) = λ is_ended ys.
     taken ignores kept h r new w stands at passes is_ended ys
@@ -142,6 +152,8 @@ found_steps ignores kept h h' r new w found bs stands at behind passes closes =
       split = parted;
       room = ap room_of behind ∙ omega (arith, front_len r w kept.points (r.number + 1) at.stands);
       nothing = λ first last. absurd (cc (last));
+      ends = λ none. absurd (omega (arith, ap length none, length-append r.ahead bs, (used_within r w.used s.within).2, many));
+      last = last_passed r new (all_lines s) (r.ahead ++ bs) (drop w.used r.ahead ++ bs) passes (parted ∙ ap (λ (l : List ℕ). l ++ (drop w.used r.ahead ++ bs)) (sym are.all));
       takes = ap (λ (l : List ℕ). after_next ignores (effect_of ignores h) (groups_left false r true l)) parted ∙ on true (drop w.used r.ahead ++ bs);
       cut = λ d rest e. inl (on false d);
     }

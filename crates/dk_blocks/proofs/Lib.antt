@@ -7,6 +7,8 @@ pub mod Fronting
 pub mod Keeping
 pub mod Declaring
 pub mod Recording
+pub mod LastLines
+mod Examples
 pub mod Stepping
 pub mod AtHand
 pub mod FirstLines

@@ -10,6 +10,8 @@ use Rattle.dk_lines.specs.declared.lines.Limits.{Limits}
 use Rattle.dk_lines.specs.declared.lines.LineFault as fault
 use Rattle.dk_lines.specs.declared.lines.LineFault.TheVariants as line
 use Rattle.dk_lines.proofs.Lined.{at_break, at_end}
+use Rattle.dk_blocks.specs.LastLines.{LeavesBlank}
+use Rattle.dk_blocks.proofs.LastLines.{blank_at_last, last_behind, nothing_lacks, nothing_left, some_left}
 use Rattle.dk_blocks.specs.LineSteps.{stop_of_unread, TurnCounts, BlockCounts, BlockGives, LineShape, EndShape, ShapeAt, ClosesAt, LineStep, LineStepShape, StepShape, StepGives, StepCounts}
 use Rattle.dk_blocks.specs.Steps.{Grown, NextBlock}
 use Rattle.std.specs.Prelude.{◌==◌}
@@ -22,7 +24,7 @@ use Rattle.dk_blocks.specs.Reading.{after_last, after_all, after_next, stepped, 
 use Rattle.dk_blocks.specs.Standing.{Fits, Stands, block_resumed}
 use Rattle.dk_blocks.proofs.BlockLaws.{IsNone, no_block_yet, no_lines}
 use Rattle.dk_blocks.specs.LineSteps.{Moves, LineGives, EndGives, BlankGives, WordsGive, TurnGives}
-use Rattle.dk_blocks.specs.Steps.{FaultAnswers, IsCutAlike, IsNoBlock, RefusedAs, behind_block, Steps, Stops, groups_left}
+use Rattle.dk_blocks.specs.Steps.{FaultAnswers, IsCutAlikeOr, IsNoBlock, RefusedAs, behind_block, Steps, Stops, groups_left}
 use Rattle.dk_base.specs.declared.why.Why.{Why}
 use Rattle.dk_base.specs.declared.why.Why.TheVariants.{LongLine as WhyLong, TooLong as WhyMany}
 use Rattle.dk_blocks.specs.declared.reader.Step.{Step}
@@ -91,6 +93,7 @@ blank_line ignores read line (Ok (Goes kept block)) blank (h, stands, closes, be
   λ rest. ap (after_next ignores read) (grouped_blank line rest blank) ∙ ap (next_from ignores (groups_of rest)) closes ∙ sym (next_same ignores (block_resumed ignores h block) (effect_of ignores h) (groups_of rest) begins),
 )
 blank_line ignores read line (Ok (Stands_end end)) blank (h, stands, over, found, closes) = (
+  blank,
   h,
   stands,
   over,
@@ -139,6 +142,7 @@ turn_line ignores h b old new xs ys line (Ok (Goes kept block)) left is one (h',
       front = one.front;
       split = one.split;
       room = one.room;
+      last = last_behind old new xs ys line one;
       same = ap (λ (l : Left). after_next ignores (block_resumed ignores h b) (groups_of l)) one.ended ∙ gives (lines_left new true ys);
       cut = λ d rest e. elim (one.cut d rest e) [
         | inl s ↦ inl (ap (λ (l : Left). after_next ignores (block_resumed ignores h b) (groups_of l)) s ∙ gives (lines_left new false d))
@@ -147,7 +151,7 @@ turn_line ignores h b old new xs ys line (Ok (Goes kept block)) left is one (h',
     },
   ),
 )
-turn_line ignores h b old new xs ys line (Ok (Stands_end end)) left is one (h', stands, over, gives) = (
+turn_line ignores h b old new xs ys line (Ok (Stands_end end)) left is one (blank, h', stands, over, gives) = (
   h',
   stands,
   (
@@ -158,12 +162,14 @@ turn_line ignores h b old new xs ys line (Ok (Stands_end end)) left is one (h', 
       split = one.split;
       room = one.room;
       nothing = λ first last. absurd (cc (last, over));
+      ends = λ none. absurd (some_left old new xs ys line one none);
+      last = last_behind old new xs ys line one;
       takes = ap (λ (l : Left). after_next ignores (block_resumed ignores h b) (groups_of l)) one.ended ∙ gives (lines_left new true ys)
           ∙ ap (λ (o : Bool). behind_block (outcome_of h' end.found) (groups_left o new true ys)) (sym over);
       cut = λ d rest e. elim (one.cut d rest e) [
         | inl s ↦ inl (ap (λ (l : Left). after_next ignores (block_resumed ignores h b) (groups_of l)) s ∙ gives (lines_left new false d)
             ∙ ap (λ (o : Bool). behind_block (outcome_of h' end.found) (groups_left o new false d)) (sym over))
-        | inr s ↦ inr (s.0, subst (λ (l : Left). IsNoBlock (after_next ignores (block_resumed ignores h b) (groups_of l))) (sym s.1) (none_broken ignores h b))
+        | inr s ↦ inr ((s.0, λ goes. blank_at_last old new xs ys d rest line one blank e s.0 s.1), subst (λ (l : Left). IsNoBlock (after_next ignores (block_resumed ignores h b) (groups_of l))) (sym s.1) (none_broken ignores h b))
       ];
     },
   ),
@@ -171,10 +177,6 @@ turn_line ignores h b old new xs ys line (Ok (Stands_end end)) left is one (h', 
 turn_line ignores h b old new xs ys line (Err (Refused n why)) left is one gives = ap (λ (l : Left). after_next ignores (block_resumed ignores h b) (groups_of l)) one.ended ∙ gives (lines_left new true ys)
 turn_line ignores h b old new xs ys line (Err Read) left is one gives = absurd gives
 turn_line ignores h b old new xs ys line (Err NoMemory) left is one gives = tt
-
-nothing_left : (d rest : List ℕ) → [] ≡ d ++ rest → d ≡ []
-nothing_left [] rest e = refl
-nothing_left (b ∷ bs) rest e = absurd (cc (e))
 
 nothing_behind : (front zs : List ℕ) → [] ≡ front ++ zs → zs ≡ []
 nothing_behind [] zs e = sym e
@@ -195,12 +197,14 @@ turn_end ignores h b old new xs (Ok (Stands_end end)) left is none over number r
       split = none;
       room = room ∙ omega arith;
       nothing = λ first last. refl;
+      ends = λ none. ends;
+      last = λ leaves. absurd (nothing_lacks new [] refl leaves);
       takes = ap (λ (l : Left). after_next ignores (block_resumed ignores h b) (groups_of l)) over ∙ gives
           ∙ ap (λ (n : ℕ). behind_block (outcome_of h' end.found) (Last [] (Over (n + 1)))) (sym number)
           ∙ ap (λ (o : Bool). behind_block (outcome_of h' end.found) (groups_left o new true [])) (sym ends);
       cut = λ d rest e. let none = nothing_left d rest e in
           inr (
-            refl,
+            (refl, λ goes. absurd (cc (goes, ends))),
             subst (λ (l : List ℕ). IsNoBlock (after_next ignores (block_resumed ignores h b) (groups_of (lines_left old false l)))) (sym none)
                 (subst (λ (l : Left). IsNoBlock (after_next ignores (block_resumed ignores h b) (groups_of l))) (sym (at_break old)) (none_broken ignores h b)),
           );
@@ -221,6 +225,7 @@ faulty ignores h b n why = go (block_resumed ignores h b [] None) (no_block_yet 
 pub turn_fault : (ignores : Bool) (h : History) (b : Block) (old new : Reading) (xs : List ℕ) (left : Option (List ℕ)) (fault : fault.LineFault)
     → NextGives old xs (Err fault) new left → TurnGives ignores (block_resumed ignores h b) old xs (Err (stop_of_unread fault)) new left
 turn_fault ignores h b old new xs left line.Read gives = record {
+  goes_on = refl;
   front = gives.0;
   rest = gives.1.0;
   split = gives.1.1;
@@ -308,6 +313,7 @@ begun ignores h kept block r (Some xs) stands begins = (
       front = [];
       split = refl;
       room = omega arith;
+      last = λ leaves. leaves;
       same = sym (next_same ignores (block_resumed ignores h block) (effect_of ignores h) (groups_left false r true xs) begins);
       cut = λ d rest e. inl (sym (next_same ignores (block_resumed ignores h block) (effect_of ignores h) (groups_left false r false d) begins));
     },
@@ -321,19 +327,20 @@ pub room_on : (a b c : ℕ) (front more : List ℕ) → b ≡ a - length front �
 room_on a b c front more e f = omega (arith, e, f, length-append front more)
 
 -- a cut behind one step is a cut behind two
-cut_on : (first mid last : Result Stepped LineFault) (ys front zs : List ℕ) → ys ≡ front ++ zs → IsCutAlike first mid ys → IsCutAlike mid last zs → IsCutAlike first last zs
-cut_on first mid last ys front zs e (inl same) (inl more) = inl (same ∙ more)
-cut_on first mid last ys front zs e (inl same) (inr none) = inr (none.0, subst IsNoBlock (sym same) none.1)
-cut_on first mid last ys front zs e (inr none) more = inr (nothing_behind front zs (sym none.0 ∙ e), none.1)
+cut_on : {A B C : Type 0} (first mid last : Result Stepped LineFault) → (A → C) → (B → C) → IsCutAlikeOr A first mid → IsCutAlikeOr B mid last → IsCutAlikeOr C first last
+cut_on first mid last one two (inl same) (inl more) = inl (same ∙ more)
+cut_on first mid last one two (inl same) (inr none) = inr (two none.0, subst IsNoBlock (sym same) none.1)
+cut_on first mid last one two (inr none) more = inr (one none.0, none.1)
 
 moves_on : (ignores : Bool) (read mid read' : Reads Taken) (r new last : Reading) (xs ys zs : List ℕ) → Moves ignores read r xs mid new ys → Moves ignores mid new ys read' last zs → Moves ignores read r xs read' last zs
 moves_on ignores read mid read' r new last xs ys zs a b = record {
   front = a.front ++ b.front;
   split = split_on xs a.front ys b.front zs a.split b.split;
   room = room_on (room_of r) (room_of new) (room_of last) a.front b.front a.room b.room;
+  last = λ leaves. a.last (b.last leaves);
   same = a.same ∙ b.same;
-  cut = λ d rest e. subst (λ (l : List ℕ). IsCutAlike (after_next ignores read (groups_left false r false l)) (after_next ignores read' (groups_left false last false d)) zs) (sym (append_assoc a.front b.front d))
-      (cut_on _ _ _ ys b.front zs b.split (a.cut (b.front ++ d) rest (split_on ys b.front zs d rest b.split e)) (b.cut d rest e));
+  cut = λ d rest e. subst (λ (l : List ℕ). IsCutAlikeOr (zs ≡ []) (after_next ignores read (groups_left false r false l)) (after_next ignores read' (groups_left false last false d))) (sym (append_assoc a.front b.front d))
+      (cut_on _ _ _ (λ none. nothing_behind b.front zs (sym none ∙ b.split)) (λ none. none) (a.cut (b.front ++ d) rest (split_on ys b.front zs d rest b.split e)) (b.cut d rest e));
 }
 
 steps_on : (ignores : Bool) (read mid : Reads Taken) (r new last : Reading) (xs ys zs : List ℕ) (outcome : Result Taken LineFault) (over : Bool) → Moves ignores read r xs mid new ys → Steps ignores mid false new ys outcome over last zs → Steps ignores read false r xs outcome over last zs
@@ -342,13 +349,16 @@ steps_on ignores read mid r new last xs ys zs outcome over a b = record {
   split = split_on xs a.front ys b.front zs a.split b.split;
   room = room_on (room_of r) (room_of new) (room_of last) a.front b.front a.room b.room;
   nothing = λ first. b.nothing (λ e. absurd (cc (e)));
+  ends = λ none. b.ends (nothing_behind a.front ys (sym none ∙ a.split));
+  last = λ leaves. a.last (b.last leaves);
   takes = a.same ∙ b.takes;
-  cut = λ d rest e. subst (λ (l : List ℕ). IsCutAlike (after_next ignores read (groups_left false r false l)) (behind_block outcome (groups_left over last false d)) zs) (sym (append_assoc a.front b.front d))
-      (cut_on _ _ _ ys b.front zs b.split (a.cut (b.front ++ d) rest (split_on ys b.front zs d rest b.split e)) (b.cut d rest e));
+  cut = λ d rest e. subst (λ (l : List ℕ). IsCutAlikeOr ((zs ≡ []) × (over ≡ false → LeavesBlank r xs)) (after_next ignores read (groups_left false r false l)) (behind_block outcome (groups_left over last false d))) (sym (append_assoc a.front b.front d))
+      (cut_on _ _ _ (λ none. (nothing_behind b.front zs (sym none ∙ b.split), λ goes. absurd (cc (goes, b.ends none)))) (λ none. (none.0, λ goes. a.last (none.1 goes))) (a.cut (b.front ++ d) rest (split_on ys b.front zs d rest b.split e)) (b.cut d rest e));
 }
 
 stops_on : (ignores : Bool) (read mid : Reads Taken) (r new : Reading) (xs ys : List ℕ) (left : Option (List ℕ)) → Moves ignores read r xs mid new ys → Stops ignores mid false new ys left → Stops ignores read false r xs left
 stops_on ignores read mid r new xs ys left a b = record {
+  goes_on = refl;
   front = a.front ++ b.front;
   rest = b.rest;
   split = split_on xs a.front ys b.front b.rest a.split b.split;
@@ -395,6 +405,8 @@ still_over ignores s h r (Some xs) over stands = (
       split = refl;
       room = omega arith;
       nothing = λ first last. first last;
+      ends = λ none. over;
+      last = λ leaves. leaves;
       takes = subst (λ (o : Bool). after_next ignores (effect_of ignores h) (groups_left o r true xs) ≡ Ok (record { effect = None; history = h; left = groups_left o r true xs })) (sym over)
           (ap (λ (t : Result Taken LineFault). t >>= λ t. Ok (stepped t (Last [] (Over (r.number + 1))))) (no_lines ignores h (Some (r.number + 1))));
       cut = λ d rest e. inl (subst (λ (o : Bool). after_next ignores (effect_of ignores h) (groups_left o r false d) ≡ Ok (record { effect = None; history = h; left = groups_left o r false d })) (sym over)

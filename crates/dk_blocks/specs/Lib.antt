@@ -5,6 +5,7 @@ pub mod Adding
 pub mod Finding
 pub mod Standing
 pub mod Steps
+pub mod LastLines
 -- what those are made of, and words for the crates above
 pub mod Blocks
 pub mod Fronts

@@ -8,9 +8,10 @@ use Rattle.dk_base.specs.declared.faults.BlockFault.{BlockFault}
 use Rattle.dk_base.specs.declared.faults.BlockFault.TheVariants as r
 use Rattle.dk_lines.specs.declared.lines.LineFault.{LineFault}
 use Rattle.dk_lines.specs.declared.lines.LineFault.TheVariants as f
-use Rattle.dk_blocks.specs.Blocks.{Last, groups_of}
+use Rattle.dk_blocks.specs.Blocks.{Last, groups_of, is_blank_line}
 use Rattle.dk_blocks.specs.Finding.{outcome_of}
 use Rattle.dk_blocks.specs.History.{History, Taken, effect_of, no_block}
+use Rattle.dk_blocks.specs.LastLines.{LeavesBlank}
 use Rattle.dk_blocks.specs.Reading.{after_next}
 use Rattle.dk_blocks.specs.Standing.{Fits, Stands, block_resumed}
 use Rattle.dk_blocks.specs.declared.block.Block.{Block}
@@ -22,7 +23,7 @@ use Rattle.dk_base.specs.declared.faults.Fault.TheVariants as x
 use Rattle.dk_blocks.specs.declared.reader.Stop.{Stop}
 use Rattle.dk_blocks.specs.Turns.{Turn, Goes, Ends, Ending}
 use Rattle.dk_blocks.specs.declared.reader.Stop.TheVariants.{Refused, Read, NoMemory}
-use Rattle.dk_blocks.specs.Steps.{groups_left, behind_block, IsCutAlike, Steps, Stops, Grown}
+use Rattle.dk_blocks.specs.Steps.{groups_left, behind_block, IsCutAlikeOr, Steps, Stops, Grown}
 
 -- Within a block: what `read` says of what was left is what `read'` says of what is left now.
 pub record Moves (ignores : Bool) (read : Reads Taken) (r : Reading) (xs : List ℕ) (read' : Reads Taken) (r' : Reading)
@@ -30,10 +31,11 @@ pub record Moves (ignores : Bool) (read : Reads Taken) (r : Reading) (xs : List 
   pub front : List ℕ
   pub split : xs ≡ front ++ ys
   pub room : room_of r' ≡ room_of r - length front
+  pub last : LeavesBlank r' ys → LeavesBlank r xs
   pub same : after_next ignores read (groups_left false r true xs) ≡ after_next ignores read' (groups_left false r' true ys)
   pub cut : (d rest : List ℕ) → ys ≡ d ++ rest
-      → IsCutAlike (after_next ignores read (groups_left false r false (front ++ d)))
-      (after_next ignores read' (groups_left false r' false d)) ys
+      → IsCutAlikeOr (ys ≡ []) (after_next ignores read (groups_left false r false (front ++ d)))
+      (after_next ignores read' (groups_left false r' false d))
 
 -- what one line does to a block
 abbrev pub TurnGives : Bool → Reads Taken → Reading → List ℕ → Result Turn Stop → Reading → Option (List ℕ) → Type 0
@@ -47,11 +49,12 @@ TurnGives ignores read r xs (Err (Refused line why)) r' left' =
 TurnGives ignores read r xs (Err Read) r' left' = Stops ignores read false r xs left'
 TurnGives ignores read r xs (Err NoMemory) r' left' = ⊤
 
--- what a line does to a block, whatever follows it
+-- what a line does to a block, whatever follows it; a blank one alone ends it
 abbrev pub LineGives : Bool → Reads Taken → Line → Result Turn Stop → Type 0
 LineGives ignores read line (Ok (Goes kept block)) = (h : History) × Stands kept h × ((rest : Left) →
     after_next ignores read (groups_of (Next line rest)) ≡ after_next ignores (block_resumed ignores h block) (groups_of rest))
-LineGives ignores read line (Ok (Ends end)) = (h : History) × Stands end.kept h × (end.is_over ≡ false) × ((rest : Left) →
+LineGives ignores read line (Ok (Ends end)) = (is_blank_line line ≡ true) × (h : History) × Stands end.kept h × (end.is_over ≡ false)
+    × ((rest : Left) →
     after_next ignores read (groups_of (Next line rest)) ≡ behind_block (outcome_of h end.found) (groups_of rest))
 LineGives ignores read line (Err (Refused number why)) =
     (rest : Left) → after_next ignores read (groups_of (Next line rest)) ≡ Err (record { line = number; why = why })

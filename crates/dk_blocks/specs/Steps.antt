@@ -6,6 +6,7 @@ use Rattle.dk_lines.specs.Reading.{Reading, room_of}
 use Rattle.dk_blocks.specs.Blocks.{Groups, Last, groups_of}
 use Rattle.dk_blocks.specs.Finding.{outcome_of}
 use Rattle.dk_blocks.specs.History.{History, Taken, block_by, declared_effect, effect_of}
+use Rattle.dk_blocks.specs.LastLines.{LeavesBlank}
 use Rattle.dk_blocks.specs.Reading.{Stepped, after_next, stepped}
 use Rattle.dk_blocks.specs.Standing.{Stands}
 use Rattle.dk_points.specs.declared.declared.Declared.{Declared}
@@ -28,10 +29,10 @@ abbrev pub IsNoBlock : Result Stepped BlockLineFault → Type 0
 IsNoBlock (Ok step) = step.effect ≡ None
 IsNoBlock (Err fault) = ⊥
 
--- Of a file that is cut off the same is said; but the last line of an ended file, which no LF ends, and which nothing follows, is none
--- there.
-abbrev pub IsCutAlike : Result Stepped BlockLineFault → Result Stepped BlockLineFault → List ℕ → Type 0
-IsCutAlike all later ys = (all ≡ later) ⊎ ((ys ≡ []) × IsNoBlock all)
+-- Of a file that is cut off the same is said, or this holds, and no block is found there: the last line of an ended file, which no LF ends,
+-- is none where it is cut off.
+abbrev pub IsCutAlikeOr : Type 0 → Result Stepped BlockLineFault → Result Stepped BlockLineFault → Type 0
+IsCutAlikeOr Else all later = (all ≡ later) ⊎ (Else × IsNoBlock all)
 
 -- The next block, or the file's end, was read, and this is what it comes to.
 pub record Steps (ignores : Bool) (read : Reads Taken) (over : Bool) (r : Reading) (xs : List ℕ)
@@ -39,16 +40,22 @@ pub record Steps (ignores : Bool) (read : Reads Taken) (over : Bool) (r : Readin
   pub front : List ℕ
   pub split : xs ≡ front ++ ys
   pub room : room_of r' ≡ room_of r - length front
-  -- nothing is left at the file's end
+  -- nothing is left at the file's end, and where nothing was left, this is the file's end
   pub nothing : (over ≡ true → xs ≡ []) → over' ≡ true → ys ≡ []
+  pub ends : xs ≡ [] → over' ≡ true
+  -- where what is left now ends in a blank line without LF, what was left did
+  pub last : LeavesBlank r' ys → LeavesBlank r xs
   pub takes : after_next ignores read (groups_left over r true xs)
       ≡ behind_block outcome (groups_left over' r' true ys)
+  -- Only at the file's end, or behind a blank line without LF, does a cut-off file differ.
   pub cut : (d rest : List ℕ) → ys ≡ d ++ rest →
-      IsCutAlike (after_next ignores read (groups_left over r false (front ++ d)))
-      (behind_block outcome (groups_left over' r' false d)) ys
+      IsCutAlikeOr ((ys ≡ []) × (over' ≡ false → LeavesBlank r xs))
+      (after_next ignores read (groups_left over r false (front ++ d)))
+      (behind_block outcome (groups_left over' r' false d))
 
--- Reading failed, and what was delivered holds no block and no fault.
+-- Reading failed in front of the file's end, and what was delivered holds no block and no fault.
 pub record Stops (ignores : Bool) (read : Reads Taken) (over : Bool) (r : Reading) (xs : List ℕ) (left' : Option (List ℕ)) : Type 0 where
+  pub goes_on : over ≡ false
   pub front : List ℕ
   pub rest : List ℕ
   pub split : xs ≡ front ++ rest

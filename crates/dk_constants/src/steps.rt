@@ -7,7 +7,7 @@ ghost use Rattle.dk_samples.specs.Samples.{value_in};
 ghost use Rattle.dk_constants.specs.Constants.{AreFed};
 ghost use Rattle.dk_constants.specs.Known.{EntriesAscend, IsParted, born_of, born_one, known_at};
 
-use crate::kept::{shows};
+use crate::kept::shows;
 use crate::places::{find, search};
 use dk_base::{List, NoMemory, Value, VarId, View};
 use dk_samples::value_at;

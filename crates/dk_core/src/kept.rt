@@ -41,18 +41,13 @@ use std::alloc::Global;
 use std::marker::Model;
 use std::mem::replace;
 
-// The most bytes that an arena took for a block where it is kept for the next one.
-const MOST_KEPT: usize = 65536;
-
-/// What a session keeps from block to block: the reader of blocks, the engine of each point's own samples, and the arena for the values of
-/// the next block.
+/// What a session keeps from block to block: the reader of blocks, and the engine of each point's own samples.
 #[derive(Drop)]
 pub(crate) struct Kept {
     alloc: Global,
     reader: Reader,
     grammar: Grammar,
     engines: Vec<Engine>,
-    arena: Bump,
 }
 
 impl Model for Kept {
@@ -99,7 +94,6 @@ impl Kept {
             reader: Reader::new(alloc)?,
             grammar,
             engines: Vec::new(alloc),
-            arena: Bump::new(alloc),
         })
     }
 
@@ -124,7 +118,6 @@ impl Kept {
             reader: Reader::of_table(alloc, points, implicit)?,
             grammar,
             engines: engines.into_vec(),
-            arena: Bump::new(alloc),
         })
     }
 
@@ -146,50 +139,9 @@ impl Kept {
         ensures later { I.faults inputs.old ≤ I.faults inputs.new }
         ensures cause { (file : ℕ) → IsErrOf result (Fault.Read file) → Rose (I.faults inputs.old) (I.faults inputs.new) }
     {
-        let arena = self.take_arena();
-        let found = self.next_in(&arena, inputs, lines, ignores);
-        self.keep_arena(arena);
-        found
-    }
-
-    // The arena that is kept. An empty one stays.
-    fn take_arena(&mut self) -> Bump
-        ensures { self.new ≡ self.old }
-    {
-        replace(&mut self.arena, Bump::new(self.alloc))
-    }
-
-    // Keeps the arena without what lies in it, unless it is large.
-    fn keep_arena(&mut self, arena: Bump)
-        ensures { self.new ≡ self.old }
-    {
-        let mut arena = arena;
-        if arena.allocated_bytes() <= MOST_KEPT && arena.reset().is_ok() {
-            self.arena = arena;
-        }
-    }
-
-    // The same as `next`. The values of a sample lie in the arena.
-    fn next_in<'a, I: Inputs>(
-        &mut self,
-        arena: &'a Bump,
-        inputs: &mut I,
-        lines: &mut Lines,
-        ignores: bool,
-    ) -> Result<bool, Fault>
-        requires { lines.old.is_started ≡ not (over_in self.old.reader) }
-        ensures gives { (h : History) → ReaderStandsFor self.old.reader h → IfSome (left_of lines.old (I.rest inputs.old))
-            (λ xs. NextKept ignores self.old h lines.old xs (left_with_answer self.new result) lines.new (left_of lines.new (I.rest inputs.new))) }
-        ensures grammar { self.new.grammar ≡ self.old.grammar }
-        ensures counts { KeptCounts self.old lines.old (left_with_answer self.new result) lines.new }
-        ensures over { over_in self.old.reader ≡ true → (result ≡ Ok false) × (self.new ≡ self.old) × (inputs.new ≡ inputs.old) × (lines.new ≡ lines.old) }
-        ensures emptied { (file : ℕ) → IsErrOf result (Fault.Read file) → lines.new.ahead ≡ [] }
-        ensures files { I.file inputs.new ≡ I.file inputs.old }
-        ensures later { I.faults inputs.old ≤ I.faults inputs.new }
-        ensures cause { (file : ℕ) → IsErrOf result (Fault.Read file) → Rose (I.faults inputs.old) (I.faults inputs.new) }
-    {
-        match self.reader.next(arena, inputs, lines, ignores) {
-            Ok(Some(found)) => match self.take(arena, found) {
+        let arena = Bump::new(self.alloc);
+        match self.reader.next(&arena, inputs, lines, ignores) {
+            Ok(Some(found)) => match self.take(&arena, found) {
                 Ok(()) => Ok(true),
                 Err(fault) => Err(fault),
             },
@@ -258,7 +210,6 @@ impl Kept {
             reader,
             grammar,
             engines,
-            arena,
         } = self;
         match reader.declare(line, decl) {
             Ok((reader, _)) => match with_new(alloc, engines, reader.points(), grammar) {
@@ -267,7 +218,6 @@ impl Kept {
                     reader,
                     grammar,
                     engines,
-                    arena,
                 }),
                 Err(NoMemory) => Err(Fault::NoMemory),
             },
@@ -275,7 +225,7 @@ impl Kept {
         }
     }
 
-    /// Without what ends with a file: no entry waits any more, and the arena has no room of its own.
+    /// Without what ends with a file: no entry waits any more.
     #[tactic(auto, unfolding(crate::specs::Standing::Stands))]
     pub(crate) fn end_file(&mut self)
         ensures stands { (h : History) → Stands self.old h → Stands self.new (file_ended h) }
@@ -284,7 +234,6 @@ impl Kept {
         ensures counts { (file_in self.new.reader ≡ min (file_in self.old.reader + 1) (2 ^ 32 - 1)) × (over_in self.new.reader ≡ false) }
     {
         self.reader.end_file();
-        self.arena = Bump::new(self.alloc);
     }
 
     /// The table of points.

@@ -5,6 +5,7 @@ use Rattle.std.proofs.lemmas.List.{append-nil}
 use Rattle.dk_base.specs.Reading.{LineFault}
 use Rattle.dk_base.specs.declared.faults.Fault.{Fault}
 use Rattle.dk_base.specs.declared.faults.Fault.TheVariants as f
+use Rattle.dk_blocks.proofs.LastLines.{blank_ends}
 use Rattle.dk_blocks.specs.Blocks.{Groups, Last, groups_of}
 use Rattle.dk_blocks.specs.History.{Effect, History, effect_of, file_ended}
 use Rattle.dk_blocks.specs.Reading.{after_next}
@@ -78,6 +79,7 @@ within_on ignores place h h1 h2 r new last xs ys zs found effect over over2 a b 
       split = split_on xs a.front ys b.front zs a.split b.split;
       room = room_on (room_of r) (room_of new) (room_of last) a.front b.front a.room b.room;
       nothing = b.nothing a.nothing;
+      last = λ leaves. a.last (b.last leaves);
       same = a.same ∙ ap (behind_records found) (walk_on ignores place h1 h2 effect (groups_left over new true ys) (groups_left over2 last true zs) b.takes)
           ∙ onto_more found one (walk_behind ignores place h2 (groups_left over2 last true zs));
       cut = λ d rest e. elim (a.cut (b.front ++ d) rest (split_on ys b.front zs d rest b.split e)) [
@@ -86,9 +88,9 @@ within_on ignores place h h1 h2 r new last xs ys zs found effect over over2 a b 
               ap (λ (l : List ℕ). walk_behind ignores place h (groups_left false r false l)) (append_assoc a.front b.front d)
               ∙ same ∙ ap (behind_records found) (walk_on ignores place h1 h2 effect (groups_left over new false (b.front ++ d)) (groups_left over2 last false d) more)
               ∙ onto_more found one (walk_behind ignores place h2 (groups_left over2 last false d)))
-          | inr none ↦ inr none.0
+          | inr none ↦ inr (none.0.0, λ goes. a.last (none.0.1 goes))
         ]
-        | inr none ↦ inr (nothing_behind b.front zs (sym none ∙ b.split))
+        | inr none ↦ inr (nothing_behind b.front zs (sym none.0 ∙ b.split), λ goes. absurd (cc (goes, b.ends none.0)))
       ];
     }
 
@@ -108,6 +110,7 @@ not_begun ignores place h before r (Some xs) Stands over begun stands = record {
     split = refl;
     room = omega arith;
     nothing = λ is. absurd (cc (begun, is));
+    last = λ leaves. leaves;
     same = ap (λ (b : Bool). walk_behind ignores place h (groups_left b r true xs)) (sym begun);
     cut = λ d rest e. inl (ap (λ (b : Bool). walk_behind ignores place h (groups_left b r false d)) (sym begun));
   };
@@ -195,14 +198,14 @@ file_fault Stands ignores place h before r new last (Some xs) mid left c fault s
             record {
               front = xs;
               rest = [];
-              left_is = stops.left_is ∙ ap (λ (l : List ℕ). Some l) (nothing_behind stops.front stops.rest (sym nothing ∙ stops.split));
+              left_is = stops.left_is ∙ ap (λ (l : List ℕ). Some l) (nothing_behind stops.front stops.rest (sym nothing.0 ∙ stops.split));
               split = sym (append-nil xs);
               is_ended = true;
-              ended = λ e. refl;
+              ended = λ e. (refl, blank_ends r xs (nothing.1 stops.goes_on));
               next = a.next;
               all = ap (λ (w : Walk LineFault). w.end)
                   (a.within.same
-                  ∙ ap (behind_records a.found) (ap (λ (l : List ℕ). walk_behind ignores place a.next (groups_left (over_of c.events) new true l)) nothing ∙ walk_done ignores place a.next (over_of c.events) new));
+                  ∙ ap (behind_records a.found) (ap (λ (l : List ℕ). walk_behind ignores place a.next (groups_left (over_of c.events) new true l)) nothing.0 ∙ walk_done ignores place a.next (over_of c.events) new));
             }
       ]
       go f.NoMemory gives = tt

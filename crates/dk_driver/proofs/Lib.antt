@@ -1,3 +1,4 @@
+mod Examples
 pub mod Complete
 pub mod Walks
 pub mod Filing

@@ -2,6 +2,7 @@
 use Rattle.std.specs.Prelude.{◌≡◌, ◌≢◌, ◌≤◌, ◌<◌, ◌⊎◌, ◌+◌, ℕ, zero, suc, Bool, true, List, [], ◌∷◌, ◌++◌, map, take, length, Option, Some, None, Result, Ok, Err, slice_get, unwrap_or}
 use Rattle.dk_base.specs.declared.why.Why.{Why}
 use Rattle.dk_blocks.specs.History.{History}
+use Rattle.dk_blocks.specs.LastLines.{ends_in_blank_line}
 use Rattle.dk_events.specs.declared.ended.Ended.{Ended}
 use Rattle.dk_events.specs.declared.ended.Ended.TheVariants as ended
 use Rattle.dk_io.specs.Outside.{HeldFile, Absent, Holds, Untold}
@@ -67,10 +68,12 @@ pub data Break : Type 0 where
   AtStart : Break
   Within : Break
 
--- This was delivered of a file that holds the bytes xs, of which a read failed: all in front of what is left. Where nothing is left, the
--- failed read was that of the file's end: then the file may count as ended.
+-- This was delivered of a file that holds the bytes xs, of which a read failed: all in front of what is left. It counts as ended only where
+-- nothing is left and the bytes end in a blank line without LF: then the failed read was that of the file's end, and this line has ended
+-- the last block.
 abbrev pub IsDelivered : List ℕ → Option (List ℕ) → File → Type 0
-IsDelivered xs after file = (rest : List ℕ) × (after ≡ Some rest) × (xs ≡ file.bytes ++ rest) × (file.is_ended ≡ true → rest ≡ [])
+IsDelivered xs after file = (rest : List ℕ) × (after ≡ Some rest) × (xs ≡ file.bytes ++ rest)
+    × (file.is_ended ≡ true → (rest ≡ []) × (ends_in_blank_line xs ≡ true))
 
 -- What was read where a file can't be read, behind files of these contents. A start that fails delivers nothing of the file; what was
 -- delivered holds no fault.

@@ -4,6 +4,7 @@ use Rattle.dk_base.specs.Reading.{LineFault}
 use Rattle.dk_base.specs.declared.faults.Fault.{Fault}
 use Rattle.dk_base.specs.declared.faults.Fault.TheVariants as fault
 use Rattle.dk_blocks.specs.History.{History, file_ended}
+use Rattle.dk_blocks.specs.LastLines.{LeavesBlank, ends_in_blank_line}
 use Rattle.dk_blocks.specs.Steps.{groups_left}
 use Rattle.dk_lines.specs.Reading.{Reading, room_of}
 use Rattle.dk_driver.specs.Consuming.{Record, Told}
@@ -16,18 +17,21 @@ use Rattle.dk_driver.specs.declared.fault.FilesFault.TheVariants as files
 use Rattle.dk_driver.specs.declared.feed.Feed.{Feed}
 
 -- Within a file: behind these records, what the first history says of what was left is what the next one says of what is left now. So it
--- is of a file that is cut off, unless it is cut off behind its last line and no LF ends that.
+-- is of a file that is cut off, unless it is cut off behind its last line and no LF ends that; where this isn't the file's end, that line
+-- is blank.
 pub record Within (ignores : Bool) (place : ℕ) (history : History) (old : Reading) (xs : List ℕ) (found : List Record) (next : History)
     (is_over : Bool) (new : Reading) (ys : List ℕ) : Type 0 where
   pub front : List ℕ
   pub split : xs ≡ front ++ ys
   pub room : room_of new ≡ room_of old - length front
   pub nothing : is_over ≡ true → ys ≡ []
+  pub last : LeavesBlank new ys → LeavesBlank old xs
   pub same : walk_behind ignores place history (groups_left false old true xs)
       ≡ behind_records found (walk_behind ignores place next (groups_left is_over new true ys))
   pub cut : (d rest : List ℕ) → ys ≡ d ++ rest →
       (walk_behind ignores place history (groups_left false old false (front ++ d))
-      ≡ behind_records found (walk_behind ignores place next (groups_left is_over new false d))) ⊎ (ys ≡ [])
+      ≡ behind_records found (walk_behind ignores place next (groups_left is_over new false d)))
+      ⊎ ((ys ≡ []) × (is_over ≡ false → LeavesBlank old xs))
 
 -- What is kept stands for a history within the file and the records up to it, of which these stood before the file.
 pub record FileGoesOn (ignores : Bool) (place : ℕ) (history : History) (before : List Record) (old : Reading) (xs : List ℕ)
@@ -53,14 +57,14 @@ pub record ComesToEnd (ignores : Bool) (place : ℕ) (history : History) (before
 abbrev pub HasFault : Bool → ℕ → History → Reading → List ℕ → LineFault → Type 0
 HasFault ignores place history old xs fault = (walk_behind ignores place history (groups_left false old true xs)).end ≡ Err fault
 
--- Of the file's bytes xs a front without a fault was delivered. Where it is all, it may count as ended.
+-- Of the file's bytes xs a front without a fault was delivered. Where it is all, and ends in a blank line without LF, it may count as ended.
 pub record IsBroken (ignores : Bool) (place : ℕ) (history : History) (old : Reading) (xs : List ℕ) (left : Option (List ℕ)) : Type 0 where
   pub front : List ℕ
   pub rest : List ℕ
   pub left_is : left ≡ Some rest
   pub split : xs ≡ front ++ rest
   pub is_ended : Bool
-  pub ended : is_ended ≡ true → rest ≡ []
+  pub ended : is_ended ≡ true → (rest ≡ []) × (ends_in_blank_line xs ≡ true)
   pub next : History
   pub all : (walk_behind ignores place history (groups_left false old is_ended front)).end ≡ Ok next
 

@@ -43,6 +43,7 @@ pub mod AllParts
 pub mod Narrowing
 pub mod Running
 pub mod Raising
+pub mod Bounding
 pub mod Applying
 pub mod Leaving
 pub mod Grown

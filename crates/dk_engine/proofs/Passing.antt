@@ -1,5 +1,5 @@
--- Slots that no sample of near numbers changes, in which some variables have the numbers that they had or are missing, and notes of
--- them.
+-- Slots that no sample changes in which the variables of planes have near numbers, and some have the numbers that they had, or are
+-- missing, and notes of them.
 use Rattle.std.specs.Prelude.{◌≡◌, ◌≢◌, ◌<◌, ◌≤◌, ◌+◌, ◌+ℤ◌, ◌*ℤ◌, ◌^◌, ◌&&◌, ◌||◌, ◌==◌, ℕ, zero, suc, ℤ, pos, negsuc, neg_ℤ, true, false, List, [], ◌∷◌, fold, if◌then◌else◌, length, nat_le, nat_lt, refl, replicate, slice_set, unsigned_abs}
 use Rattle.std.specs.List.{list_all, list_any}
 use Rattle.std.specs.Ordering.{int_eq}
@@ -25,12 +25,13 @@ use Rattle.dk_template.specs.declared.grammar.RowId.{RowId}
 use Rattle.dk_ternary.specs.Rows.{linear_ternary_row}
 use Rattle.dk_engine.proofs.Stretches.{planar_sample}
 use Rattle.dk_engine.specs.Feeding.{with_sample}
-use Rattle.dk_engine.specs.Idle.{AreNotes, AreSkips, IsIdle, PassesStill, agree, are_fixed, are_near, are_same, has_number, is_axis, is_diagonal, is_fixed, is_idle_over, is_listed, is_near, is_number, is_passed, later, skip_in}
+use Rattle.dk_engine.specs.Idle.{AreNotes, AreSkips, IsIdle, PassesStill, agree, are_among, are_fixed, are_near, are_same, has_number, is_axis, is_diagonal, is_among, is_fixed, is_idle_over, is_listed, is_near, is_number, is_passed, later, meets, skip_in}
 use Rattle.dk_engine.specs.Narrow.{change_by, with_change, with_growth, with_state}
 use Rattle.dk_engine.specs.Parts.{no_slot, slot_in}
 use Rattle.dk_engine.specs.declared.changes.Change.{Change}
 use Rattle.dk_engine.specs.declared.growing.Growth.{Growth}
 use Rattle.dk_engine.specs.declared.idle.Fixed.{Fixed}
+use Rattle.dk_engine.specs.declared.idle.Watch.{Watch}
 use Rattle.dk_engine.specs.declared.slot.Slot.{Slot}
 
 -- ---- samples of near numbers
@@ -40,11 +41,18 @@ one_near (value.Int z) h there = (z, refl, h)
 one_near value.Missing h there = absurd (false≢true there)
 one_near _ h there = absurd (false≢true h)
 
-near_at : (sample : List Value) → are_near sample ≡ true → (n : ℕ) → is_present (value_at sample n) ≡ true
-    → (z : ℤ) × (value_at sample n ≡ value.Int z) × (nat_le (unsigned_abs z) (2 ^ 30) ≡ true)
-near_at [] near n there = absurd (false≢true there)
-near_at (x ∷ sample) near zero there = one_near x (and_parts (is_near x) (list_all is_near sample) near).0 there
-near_at (x ∷ sample) near (suc n) there = near_at sample (and_parts (is_near x) (list_all is_near sample) near).1 n there
+near_among : (near : List VarId) (sample : List Value) → are_near near sample ≡ true → (v : VarId) → is_among near v ≡ true → is_near (value_in sample v) ≡ true
+near_among [] sample are v h = absurd (false≢true h)
+near_among (n ∷ near) sample are v h =
+    let told = and_parts (is_near (value_in sample n)) (are_near near sample) are in
+    elim (cases_Bool (n.0 == v.0)) as (λ _. is_near (value_in sample v) ≡ true) [
+      | inl e ↦ subst (λ i. is_near (value_at sample i) ≡ true) (eqb-true n.0 v.0 e) told.0
+      | inr e ↦ near_among near sample told.1 v (sym (ap (λ t. t || is_among near v) e) ∙ h)
+    ]
+
+near_at : (near : List VarId) (sample : List Value) → are_near near sample ≡ true → (v : VarId) → is_among near v ≡ true → is_present (value_in sample v) ≡ true
+    → (z : ℤ) × (value_in sample v ≡ value.Int z) × (nat_le (unsigned_abs z) (2 ^ 30) ≡ true)
+near_at near sample are v among there = one_near (value_in sample v) (near_among near sample are v among) there
 
 -- ---- planes that are idle
 diagonal : (x z : ℤ) → pos 1 *ℤ x +ℤ negsuc 0 *ℤ x +ℤ pos 0 *ℤ z ≡ neg_ℤ (pos 0)
@@ -180,9 +188,11 @@ lies_in fixed u v w a b c d h sample agrees x y z at_u at_v at_w = elim (cases_B
   | inr n ↦ fixed_lies_in fixed u v w a b c d (sym (ap (λ t. t || are_fixed fixed u v w a b c d) n) ∙ h) sample agrees x y z at_u at_v at_w
 ]
 
-idle_plane : (fixed : List Fixed) (u v w : VarId) (state : State) → is_idle_over fixed u v w state ≡ true → (sample : List Value) → are_near sample ≡ true → agree sample fixed ≡ true
-    → with_sample linear_ternary_row (u ∷ v ∷ w ∷ []) sample state ≡ state
-idle_plane fixed u v w (Plane a b c d) h sample near agrees =
+idle_plane : (near : List VarId) (fixed : List Fixed) (u v w : VarId) (state : State) → is_idle_over fixed u v w state ≡ true → are_among near u v w ≡ true
+    → (sample : List Value) → are_near near sample ≡ true → agree sample fixed ≡ true → with_sample linear_ternary_row (u ∷ v ∷ w ∷ []) sample state ≡ state
+idle_plane near fixed u v w (Plane a b c d) h among sample are agrees =
+    let among1 = and_parts (is_among near u) (is_among near v && is_among near w) among in
+    let among2 = and_parts (is_among near v) (is_among near w) among1.1 in
     let row = linear_ternary_row in
     let s = Plane a b c d in
     let t = tuple_in (u ∷ v ∷ w ∷ []) sample in
@@ -192,21 +202,23 @@ idle_plane fixed u v w (Plane a b c d) h sample near agrees =
           let p1 = and_parts (is_present (value_in sample u)) (list_all is_present (value_in sample v ∷ value_in sample w ∷ [])) whole in
           let p2 = and_parts (is_present (value_in sample v)) (list_all is_present (value_in sample w ∷ [])) p1.1 in
           let p3 = and_parts (is_present (value_in sample w)) true p2.1 in
-          let x = near_at sample near u.0 p1.0 in
-          let y = near_at sample near v.0 p2.0 in
-          let z = near_at sample near w.0 p3.0 in
+          let x = near_at near sample are u among1.0 p1.0 in
+          let y = near_at near sample are v among2.0 p2.0 in
+          let z = near_at near sample are w among2.1 p3.0 in
           let space : in_space (x.0, y.0, z.0) ≡ true =
           and_from (nat_le (unsigned_abs x.0) (2 ^ 30)) _ x.2 (and_from (nat_le (unsigned_abs y.0) (2 ^ 30)) _ y.2 z.2) in
           let stays = (plane_stays (a, b, c, d) (x.0, y.0, z.0)).0
           (and_from (in_space (x.0, y.0, z.0)) _ space (lies_in fixed u v w a b c d h sample agrees x.0 y.0 z.0 x.1 y.1 z.1)) in
           sym (planar_sample u v w sample x.0 y.0 z.0 x.1 y.1 z.1 s) ∙ stays
     ]
-idle_plane fixed u v w _ h sample near agrees = absurd (false≢true h)
+idle_plane near fixed u v w _ h among sample are agrees = absurd (false≢true h)
 
-pub idle_slot : (fixed : List Fixed) (slot : Slot) → slot.row.0 ≡ 67 → (u v w : VarId) → slot.leaders ≡ u ∷ v ∷ w ∷ [] → is_idle_over fixed u v w slot.state ≡ true → IsIdle fixed slot
-idle_slot fixed slot e u v w over h sample near agrees =
+pub idle_slot : (watch : Watch) (slot : Slot) → slot.row.0 ≡ 67 → (u v w : VarId) → slot.leaders ≡ u ∷ v ∷ w ∷ []
+    → is_idle_over watch.fixed.items u v w slot.state ≡ true → are_among watch.near.items u v w ≡ true → IsIdle watch slot
+idle_slot watch slot e u v w over h among sample meeting =
+    let told = and_parts (are_near watch.near.items sample) (agree sample watch.fixed.items) meeting in
     let row : slot.row ≡ linear_ternary_row = ap (λ (n : ℕ). (let r : RowId = record { 0 = n } in r)) e in
-    ap (λ r. with_sample r slot.leaders sample slot.state) row ∙ (ap (λ vs. with_sample linear_ternary_row vs sample slot.state) over ∙ idle_plane fixed u v w slot.state h sample near agrees)
+    ap (λ r. with_sample r slot.leaders sample slot.state) row ∙ (ap (λ vs. with_sample linear_ternary_row vs sample slot.state) over ∙ idle_plane watch.near.items watch.fixed.items u v w slot.state h among sample told.0 told.1)
 
 -- ---- notes
 none_in : (n k : ℕ) → skip_in (replicate n 0) k ≡ 0
@@ -215,8 +227,8 @@ none_in (suc n) zero = refl
 none_in (suc n) (suc k) = none_in n k
 
 -- where no place is noted
-pub no_notes : (fixed : List Fixed) (slots : List Slot) → AreNotes fixed slots (replicate (length slots) 0)
-no_notes fixed slots = (
+pub no_notes : (watch : Watch) (slots : List Slot) → AreNotes watch slots (replicate (length slots) 0)
+no_notes watch slots = (
   length-replicate (length slots) 0,
   record {
     noted = λ k j a l. let none = none_in (length slots) k in absurd (omega (arith, none, l));
@@ -224,8 +236,8 @@ no_notes fixed slots = (
   },
 )
 
-pub none_passed : (fixed : List Fixed) (slots : List Slot) → AreSkips fixed slots []
-none_passed fixed slots = record { noted = λ k j a l. absurd (omega (arith, l)); idle = λ j l. absurd (omega (arith, l)) }
+pub none_passed : (watch : Watch) (slots : List Slot) → AreSkips watch slots []
+none_passed watch slots = record { noted = λ k j a l. absurd (omega (arith, l)); idle = λ j l. absurd (omega (arith, l)) }
 
 later_next : (next skip : ℕ) → next ≤ later next skip
 later_next next skip = elim (cases_Bool (nat_lt skip next)) as (λ _. next ≤ later next skip) [
@@ -240,7 +252,7 @@ later_skip next skip j a l = elim (cases_Bool (nat_lt skip next)) as (λ _. j < 
 ]
 
 -- a place that is passed over, with those behind it that are
-module _ (fixed : List Fixed) (slots : List Slot) (skips : List ℕ) (p : ℕ) (idle : IsIdle fixed (slot_in slots p)) (are : AreNotes fixed slots skips) (within : p < length slots) where
+module _ (watch : Watch) (slots : List Slot) (skips : List ℕ) (p : ℕ) (idle : IsIdle watch (slot_in slots p)) (are : AreNotes watch slots skips) (within : p < length slots) where
   abbrev end : ℕ
   end = later (p + 1) (skip_in skips (p + 1))
 
@@ -268,7 +280,7 @@ module _ (fixed : List Fixed) (slots : List Slot) (skips : List ℕ) (p : ℕ) (
       let low : p + 1 ≤ j = omega (arith, a, n) in
       are.1.noted (p + 1) j low (later_skip (p + 1) (skip_in skips (p + 1)) j low (subst (λ n. j < n) put_at l))
 
-  pub notes_more : AreNotes fixed slots put
+  pub notes_more : AreNotes watch slots put
   notes_more = (
     length-set skips p end ∙ are.0,
     record {
@@ -279,41 +291,41 @@ module _ (fixed : List Fixed) (slots : List Slot) (skips : List ℕ) (p : ℕ) (
           | inr m ↦ still_noted j (behind_noted j (omega (arith, a, e)) m (subst (λ i. j < skip_in put i) e l))
         ]
       ];
-      idle = λ j l. elim (cases_eq j p) as (λ _. IsIdle fixed (slot_in slots j)) [
-        | inl e ↦ subst (λ i. IsIdle fixed (slot_in slots i)) (sym e) idle
+      idle = λ j l. elim (cases_eq j p) as (λ _. IsIdle watch (slot_in slots j)) [
+        | inl e ↦ subst (λ i. IsIdle watch (slot_in slots i)) (sym e) idle
         | inr n ↦ are.1.idle j (let at = else_at j n in omega (arith, at, l))
       ];
     },
   )
 
--- a sample of near numbers with these changes none that is passed over
-pub passes_still : (fixed : List Fixed) (slots : List Slot) (skips : List ℕ) → AreSkips fixed slots skips → (sample : List Value) → are_near sample ≡ true → agree sample fixed ≡ true → PassesStill sample slots skips
-passes_still fixed slots skips are sample near agrees k j a l = are.idle j (are.noted k j a l) sample near agrees
+-- a sample that meets the watch changes none that is passed over
+pub passes_still : (watch : Watch) (slots : List Slot) (skips : List ℕ) → AreSkips watch slots skips → (sample : List Value) → meets watch sample ≡ true → PassesStill sample slots skips
+passes_still watch slots skips are sample meeting k j a l = are.idle j (are.noted k j a l) sample meeting
 
 pub none_passes : (sample : List Value) (slots : List Slot) → PassesStill sample slots []
 none_passes sample slots k j a l = absurd (omega (arith, l))
 
 -- ---- notes after changes
-change_unpassed : (fixed : List Fixed) (slots : List Slot) (skips : List ℕ) (c : Change) → (c.place < skip_in skips c.place → ⊥) → AreSkips fixed slots skips → AreSkips fixed (with_change slots c) skips
-change_unpassed fixed slots skips c out are = record {
+change_unpassed : (watch : Watch) (slots : List Slot) (skips : List ℕ) (c : Change) → (c.place < skip_in skips c.place → ⊥) → AreSkips watch slots skips → AreSkips watch (with_change slots c) skips
+change_unpassed watch slots skips c out are = record {
   noted = are.noted;
   idle = λ j l.
       let other : j ≢ c.place = λ e. out (subst (λ i. i < skip_in skips i) e l) in
-      subst (IsIdle fixed) (sym (get_or-set_other slots c.place j (with_state (slot_in slots c.place) c.state) no_slot other)) (are.idle j l);
+      subst (IsIdle watch) (sym (get_or-set_other slots c.place j (with_state (slot_in slots c.place) c.state) no_slot other)) (are.idle j l);
 }
 
-pub growths_unpassed : (fixed : List Fixed) (skips : List ℕ) (growths : List Growth) → list_any (λ (g : Growth). is_passed skips g.place) growths ≡ false
-    → (slots : List Slot) → AreSkips fixed slots skips → AreSkips fixed (fold with_growth slots growths) skips
-growths_unpassed fixed skips [] out slots are = are
-growths_unpassed fixed skips (g ∷ growths) out slots are =
+pub growths_unpassed : (watch : Watch) (skips : List ℕ) (growths : List Growth) → list_any (λ (g : Growth). is_passed skips g.place) growths ≡ false
+    → (slots : List Slot) → AreSkips watch slots skips → AreSkips watch (fold with_growth slots growths) skips
+growths_unpassed watch skips [] out slots are = are
+growths_unpassed watch skips (g ∷ growths) out slots are =
     let parts = or_parts (is_passed skips g.place) (list_any (λ (h : Growth). is_passed skips h.place) growths) out in
     let here : g.place < skip_in skips g.place → ⊥ = λ l. true≢false (sym (lt-ltb g.place (skip_in skips g.place) l) ∙ parts.0) in
-    growths_unpassed fixed skips growths parts.1 (with_growth slots g) (change_unpassed fixed slots skips (change_by slots g) here are)
+    growths_unpassed watch skips growths parts.1 (with_growth slots g) (change_unpassed watch slots skips (change_by slots g) here are)
 
-pub changes_unpassed : (fixed : List Fixed) (skips : List ℕ) (changes : List Change) → list_any (λ (c : Change). is_passed skips c.place) changes ≡ false
-    → (slots : List Slot) → AreSkips fixed slots skips → AreSkips fixed (fold with_change slots changes) skips
-changes_unpassed fixed skips [] out slots are = are
-changes_unpassed fixed skips (c ∷ changes) out slots are =
+pub changes_unpassed : (watch : Watch) (skips : List ℕ) (changes : List Change) → list_any (λ (c : Change). is_passed skips c.place) changes ≡ false
+    → (slots : List Slot) → AreSkips watch slots skips → AreSkips watch (fold with_change slots changes) skips
+changes_unpassed watch skips [] out slots are = are
+changes_unpassed watch skips (c ∷ changes) out slots are =
     let parts = or_parts (is_passed skips c.place) (list_any (λ (d : Change). is_passed skips d.place) changes) out in
     let here : c.place < skip_in skips c.place → ⊥ = λ l. true≢false (sym (lt-ltb c.place (skip_in skips c.place) l) ∙ parts.0) in
-    changes_unpassed fixed skips changes parts.1 (with_change slots c) (change_unpassed fixed slots skips c here are)
+    changes_unpassed watch skips changes parts.1 (with_change slots c) (change_unpassed watch slots skips c here are)

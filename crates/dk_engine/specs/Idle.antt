@@ -1,5 +1,5 @@
--- Slots that no sample of near numbers changes, in which some variables have the numbers that they had or are missing, and how a search
--- for changed slots passes over them.
+-- Slots that no sample changes in which the variables of planes have near numbers, and some have the numbers that they had, or are
+-- missing, and how a search for changed slots passes over them.
 use Rattle.std.specs.Prelude.{◌≡◌, ◌<◌, ◌≤◌, ◌^◌, ◌&&◌, ◌||◌, ◌==◌, ℕ, ℤ, pos, negsuc, neg_ℤ, Bool, true, false, List, if◌then◌else◌, length, nat_le, nat_lt, slice_index_or, unsigned_abs}
 use Rattle.std.specs.List.{list_all, list_any}
 use Rattle.std.specs.Ordering.{int_eq}
@@ -12,6 +12,7 @@ use Rattle.dk_grammar.specs.Runs.{with_sample}
 use Rattle.dk_samples.specs.Samples.{value_in}
 use Rattle.dk_engine.specs.Parts.{slot_in}
 use Rattle.dk_engine.specs.declared.idle.Fixed.{Fixed}
+use Rattle.dk_engine.specs.declared.idle.Watch.{Watch}
 use Rattle.dk_engine.specs.declared.slot.Slot.{Slot}
 
 -- a whole number of at most 2^30 in size, or missing
@@ -20,9 +21,16 @@ is_near (value.Int z) = nat_le (unsigned_abs z) (2 ^ 30)
 is_near value.Missing = true
 is_near _ = false
 
--- the sample's values are all such numbers or missing
-abbrev pub are_near : List Value → Bool
-are_near sample = list_all is_near sample
+-- the values of these variables are all such numbers or missing
+abbrev pub are_near : List VarId → List Value → Bool
+are_near near sample = list_all (λ v. is_near (value_in sample v)) near
+
+-- the variable is among them
+abbrev pub is_among : List VarId → VarId → Bool
+is_among near v = list_any (λ (n : VarId). n.0 == v.0) near
+
+abbrev pub are_among : List VarId → VarId → VarId → VarId → Bool
+are_among near u v w = is_among near u && (is_among near v && is_among near w)
 
 -- the plane of the points whose first two coordinates are one
 abbrev pub is_diagonal : ℤ → ℤ → ℤ → ℤ → Bool
@@ -66,10 +74,13 @@ abbrev pub is_idle_over : List Fixed → VarId → VarId → VarId → State →
 is_idle_over fixed u v w (Plane a b c d) = are_same u v w a b c d || are_fixed fixed u v w a b c d
 is_idle_over fixed u v w _ = false
 
--- no sample of near numbers with these changes the slot
-abbrev pub IsIdle : List Fixed → Slot → Type 0
-IsIdle fixed slot = (sample : List Value) → are_near sample ≡ true → agree sample fixed ≡ true
-    → with_sample slot.row slot.leaders sample slot.state ≡ slot.state
+-- in the sample the watched variables have near numbers, and those that had one number have it, or they are missing
+abbrev pub meets : Watch → List Value → Bool
+meets watch sample = are_near watch.near.items sample && agree sample watch.fixed.items
+
+-- no such sample changes the slot
+abbrev pub IsIdle : Watch → Slot → Type 0
+IsIdle watch slot = (sample : List Value) → meets watch sample ≡ true → with_sample slot.row slot.leaders sample slot.state ≡ slot.state
 
 -- ---- places that are passed over
 -- up to which place the slots from this one on are passed over
@@ -85,13 +96,13 @@ abbrev pub is_passed : List ℕ → ℕ → Bool
 is_passed skips k = nat_lt k (skip_in skips k)
 
 -- Slots that are passed over are idle. Each of them is noted so itself, so that the notes outlast changes of others.
-pub record AreSkips (fixed : List Fixed) (slots : List Slot) (skips : List ℕ) : Type 0 where
+pub record AreSkips (watch : Watch) (slots : List Slot) (skips : List ℕ) : Type 0 where
   pub noted : (k j : ℕ) → k ≤ j → j < skip_in skips k → j < skip_in skips j
-  pub idle : (j : ℕ) → j < skip_in skips j → IsIdle fixed (slot_in slots j)
+  pub idle : (j : ℕ) → j < skip_in skips j → IsIdle watch (slot_in slots j)
 
 -- a note for each slot
-abbrev pub AreNotes : List Fixed → List Slot → List ℕ → Type 0
-AreNotes fixed slots skips = (length skips ≡ length slots) × AreSkips fixed slots skips
+abbrev pub AreNotes : Watch → List Slot → List ℕ → Type 0
+AreNotes watch slots skips = (length skips ≡ length slots) × AreSkips watch slots skips
 
 -- the sample changes none of those that are passed over
 abbrev pub PassesStill : List Value → List Slot → List ℕ → Type 0

@@ -22,4 +22,5 @@ pub mod Narrow
 pub mod Restored
 pub mod Bitmaps
 pub mod Memory
+pub mod Bounding
 pub mod Idle

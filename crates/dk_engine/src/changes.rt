@@ -16,6 +16,7 @@ use crate::Slot;
 use crate::after::After;
 use crate::growing::{Growth, Seen, seen_with};
 use crate::runs::{passed_to, run_end, run_to};
+use crate::staying::is_of_bounds_or_comparisons;
 use dk_base::{List, NoMemory, View};
 use dk_suppress::{asked_of, suppressed};
 use dk_template::{RowId, State, suffices_for};
@@ -176,9 +177,9 @@ fn push_found(
     }
 }
 
-// With what the sample makes of the planes from a place up to another, which can't close where it is asked, behind what it makes of the
-// slots in front of them. Planes that are passed over aren't looked at.
-fn add_planes(
+// With what the sample makes of the slots from a place up to another, which can't close where it is asked, behind what it makes of those
+// in front of them. Slots that are passed over aren't looked at, the others one by one.
+fn add_seen(
     after: &After<'_>,
     asked: bool,
     skips: &[usize],
@@ -206,6 +207,11 @@ fn add_planes(
     Ok(())
 }
 
+// Whether the slots of a row are looked at one by one: bounds and comparisons, and planes where some of them are passed over.
+fn are_looked_at(row: RowId, skips: &[usize]) -> bool {
+    is_of_bounds_or_comparisons(row) || row.0 == 67 && !skips.is_empty()
+}
+
 // With the changes of a run of slots, from a place up to another, behind those of the slots in front of it.
 fn add_changes(
     after: &After<'_>,
@@ -227,8 +233,8 @@ fn add_changes(
     ensures { OnOk result (AreFoundBelow to (outcome asked (read_after after.now.whole.kept after.now.sample) after.now.sample) slots.now found.new) }
 {
     let row = slots[from].row;
-    if row.0 == 67 && !skips.is_empty() {
-        return add_planes(after, asked, skips, slots, from, to, found);
+    if are_looked_at(row, skips) {
+        return add_seen(after, asked, skips, slots, from, to, found);
     }
     let sample = after.sample();
     let mut place = run_to(after, row, slots, from, to);

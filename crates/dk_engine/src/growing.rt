@@ -1,7 +1,6 @@
 // Planes and stretches of a line with a sample: whether they stay as they are, and stretches that grow, as the sample's point lies on the
 // line, beyond the last one.
-ghost use Rattle.std.specs.Prelude.{◌≡◌, ◌≢◌, ◌≤◌, ◌∷◌, [], ◌^◌, ◌*ℤ◌, ◌-ℤ◌, unsigned_abs, nat_le, IsTrue};
-ghost use Rattle.std.specs.Ordering.{int_eq};
+ghost use Rattle.std.specs.Prelude.{◌≡◌, ◌≢◌, ◌∷◌, [], ◌^◌, unsigned_abs, nat_le, IsTrue};
 ghost use Rattle.dk_base.specs.Values.{values_of};
 ghost use Rattle.dk_fits.specs.Fits.{is_whole, tuple_in};
 ghost use Rattle.dk_forms.specs.Plane.{IsPlaneState, IsPoint, IsSpan, are_aligned, are_parallel, in_space, is_before, plane_join, plane_of};
@@ -14,6 +13,7 @@ ghost use Rattle.dk_engine.specs.Narrow.{IsSeen, grown_state, may_stay, prolonge
 
 use crate::Slot;
 use crate::operations::number_at;
+use crate::staying::is_seen_to_stay;
 use dk_base::{VarId, View};
 use dk_forms::{distance, plane_stays, same_products};
 use dk_samples::{is_present, value_at};
@@ -237,14 +237,27 @@ fn seen_by(slot: &Slot, sample: &[View<'_>], place: usize, u: VarId, v: VarId, w
     }
 }
 
-/// What a sample makes of the slot at a place: a plane or a stretch of a line may be seen to stay as it is, or to grow.
+// What a sample makes of a slot of another row: a bound or a comparison may be seen to stay as it is.
+#[inline(always)]
+fn seen_of_another(slot: &Slot, sample: &[View<'_>], place: usize) -> Seen
+    ensures { IsSeen slot.now (with_sample slot.now.row slot.now.leaders (values_of sample.now) slot.now.state) place result }
+{
+    if is_seen_to_stay(slot, sample) {
+        Seen::Stays
+    } else {
+        Seen::Neither
+    }
+}
+
+/// What a sample makes of the slot at a place: a plane, a stretch of a line, a bound or a comparison may be seen to stay as it is, and a
+/// stretch to grow.
 #[inline(always)]
 pub(crate) fn seen_with(slot: &Slot, sample: &[View<'_>], place: usize) -> Seen
     requires { IsProper (form_of slot.now.row) slot.now.state }
     ensures { IsSeen slot.now (with_sample slot.now.row slot.now.leaders (values_of sample.now) slot.now.state) place result }
 {
     if slot.row.0 != 67 {
-        return Seen::Neither;
+        return seen_of_another(slot, sample, place);
     }
     match slot.leaders.as_slice() {
         [u, v, w] => seen_by(slot, sample, place, *u, *v, *w),

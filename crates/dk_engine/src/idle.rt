@@ -1,13 +1,15 @@
-// Slots that no sample of near numbers changes: planes that say of a variable, which stands at two roles, that it is itself, and such
-// that say of a variable that it has the number that it had, as a constant has. A search for changed slots passes over them, where the
-// variables have these numbers or are missing.
-ghost use Rattle.std.specs.Prelude.{◌≡◌, ◌<◌, ◌+◌, ◌==◌, ◌&&◌, ◌∷◌, [], neg_ℤ, IfOk, IsTrue, length, replicate, slice_set};
+// Slots that no sample changes in which their variables have near numbers: planes that say of a variable, which stands at two roles, that
+// it is itself, and such that say of a variable that it has the number that it had, as a constant has. A search for changed slots passes
+// over them, where the variables of such planes have near numbers, and those of the second kind these, or are missing. Other variables
+// aren't asked, so that truth values, codes, strings and sequences at a point don't matter.
+ghost use Rattle.std.specs.Prelude.{◌≡◌, ◌<◌, ◌+◌, ◌==◌, ◌&&◌, ◌∷◌, [], neg_ℤ, true, IfOk, IsTrue, length, replicate, slice_set};
 ghost use Rattle.std.specs.Ordering.{int_eq};
 ghost use Rattle.dk_base.specs.Values.{value_of, values_of};
-ghost use Rattle.dk_engine.specs.Idle.{AreNotes, AreSkips, IsIdle, agree, are_fixed, are_near, are_same, has_number, is_axis, is_diagonal, is_fixed, is_idle_over, is_listed, is_near, is_passed, later, skip_in};
+ghost use Rattle.dk_engine.specs.Idle.{AreNotes, AreSkips, IsIdle, agree, are_among, are_fixed, are_near, are_same, has_number, is_axis, is_diagonal, is_fixed, is_idle_over, is_listed, is_near, is_passed, later, meets, skip_in};
 
 use crate::Slot;
 use crate::ends::ends_of;
+use crate::near::{Near, is_among};
 use dk_base::{NoMemory, VarId, View};
 use dk_samples::value_at;
 use dk_template::State;
@@ -20,11 +22,19 @@ pub(crate) struct Fixed {
     pub(crate) number: i64,
 }
 
-/// What is noted of slots: variables with their numbers, and for each place, up to where the slots from there on are passed over, and
-/// where those of its row end.
+/// What a sample is asked before slots are passed over: whether these variables have near numbers, and these the numbers that they had,
+/// or are missing.
+#[derive(Drop)]
+pub(crate) struct Watch {
+    pub(crate) near: Vec<VarId>,
+    pub(crate) fixed: Vec<Fixed>,
+}
+
+/// What is noted of slots: what a sample is asked, and for each place, up to where the slots from there on are passed over, and where
+/// those of its row end.
 #[derive(Drop)]
 pub(crate) struct Notes {
-    pub(crate) fixed: Vec<Fixed>,
+    pub(crate) watch: Watch,
     pub(crate) skips: Vec<usize>,
     pub(crate) ends: Vec<usize>,
 }
@@ -40,12 +50,12 @@ fn is_near(value: View<'_>) -> bool
     }
 }
 
-// Whether all values of a sample are such numbers or missing.
-fn are_near(sample: &[View<'_>]) -> bool
-    ensures { result ≡ are_near (values_of sample.now) }
+// Whether the values of these variables in a sample are all such numbers or missing.
+fn are_near(sample: &[View<'_>], near: &[VarId]) -> bool
+    ensures { result ≡ are_near near.now (values_of sample.now) }
 {
-    for value in sample {
-        if !is_near(*value) {
+    for v in near {
+        if !is_near(value_at(sample, *v)) {
             return false;
         }
     }
@@ -82,11 +92,11 @@ fn agree(sample: &[View<'_>], fixed: &[Fixed]) -> bool
     true
 }
 
-/// Whether all values of a sample that aren't missing are near numbers, and these variables have theirs.
-pub(crate) fn has_numbers(sample: &[View<'_>], fixed: &[Fixed]) -> bool
-    ensures { result ≡ (are_near (values_of sample.now) && agree (values_of sample.now) fixed.now) }
+/// Whether a sample meets the watch: its variables have near numbers, or the numbers that they had, or are missing.
+pub(crate) fn meets(watch: &Watch, sample: &[View<'_>]) -> bool
+    ensures { result ≡ meets watch.now (values_of sample.now) }
 {
-    are_near(sample) && agree(sample, fixed)
+    are_near(sample, watch.near.as_slice()) && agree(sample, watch.fixed.as_slice())
 }
 
 // Whether one number is the opposite of another.
@@ -165,24 +175,32 @@ fn is_idle_over(fixed: &[Fixed], u: VarId, v: VarId, w: VarId, state: &State) ->
     }
 }
 
+// Whether three variables are seen to be among these.
+fn are_among(near: &[VarId], places: &[usize], u: VarId, v: VarId, w: VarId) -> bool
+    ensures { IsTrue result → are_among near.now u v w ≡ true }
+{
+    is_among(near, places, u) && (is_among(near, places, v) && is_among(near, places, w))
+}
+
 // Whether a slot of row 67 over three leaders is seen to be idle.
-fn is_idle_by(fixed: &[Fixed], slot: &Slot, u: VarId, v: VarId, w: VarId) -> bool
+fn is_idle_by(watch: &Watch, places: &[usize], slot: &Slot, u: VarId, v: VarId, w: VarId) -> bool
     requires row { slot.now.row.0 ≡ 67 }
     requires leaders { slot.now.leaders ≡ u ∷ v ∷ w ∷ [] }
-    ensures { IsTrue result → IsIdle fixed.now slot.now }
+    ensures { IsTrue result → IsIdle watch.now slot.now }
 {
-    is_idle_over(fixed, u, v, w, &slot.state)
+    is_idle_over(watch.fixed.as_slice(), u, v, w, &slot.state)
+        && are_among(watch.near.as_slice(), places, u, v, w)
 }
 
 // Whether the slot is seen to be idle.
-fn is_idle(fixed: &[Fixed], slot: &Slot) -> bool
-    ensures { IsTrue result → IsIdle fixed.now slot.now }
+fn is_idle(watch: &Watch, places: &[usize], slot: &Slot) -> bool
+    ensures { IsTrue result → IsIdle watch.now slot.now }
 {
     if slot.row.0 != 67 {
         return false;
     }
     match slot.leaders.as_slice() {
-        [u, v, w] => is_idle_by(fixed, slot, *u, *v, *w),
+        [u, v, w] => is_idle_by(watch, places, slot, *u, *v, *w),
         _ => false,
     }
 }
@@ -262,6 +280,37 @@ fn fixed_by(alloc: Global, slots: &[Slot]) -> Result<Vec<Fixed>, NoMemory> {
     Ok(fixed)
 }
 
+// Whether a plane says no more than what is known of the variables.
+fn is_known_plane(fixed: &[Fixed], slot: &Slot) -> bool {
+    if slot.row.0 != 67 {
+        return false;
+    }
+    match slot.leaders.as_slice() {
+        [u, v, w] => is_idle_over(fixed, *u, *v, *w, &slot.state),
+        _ => false,
+    }
+}
+
+// With the variables of such a plane.
+fn add_known(fixed: &[Fixed], near: &mut Near, slot: &Slot) -> Result<(), NoMemory> {
+    if !is_known_plane(fixed, slot) {
+        return Ok(());
+    }
+    for v in slot.leaders.as_slice() {
+        near.add(*v)?;
+    }
+    Ok(())
+}
+
+// The variables of all such planes.
+fn near_by(alloc: Global, fixed: &[Fixed], slots: &[Slot]) -> Result<Near, NoMemory> {
+    let mut near = Near::none(alloc);
+    for slot in slots {
+        add_known(fixed, &mut near, slot)?;
+    }
+    Ok(near)
+}
+
 /// Up to which place the slots from this one on are passed over.
 pub(crate) fn skip_at(skips: &[usize], place: usize) -> usize
     ensures { result ≡ skip_in skips.now place }
@@ -297,12 +346,12 @@ fn note(skips: &mut [usize], place: usize)
 }
 
 // The slot at the place is passed over, if it is seen to be idle.
-fn note_idle(fixed: &[Fixed], skips: &mut [usize], slots: &[Slot], place: usize)
+fn note_idle(watch: &Watch, places: &[usize], skips: &mut [usize], slots: &[Slot], place: usize)
     requires within { place < length slots.now }
-    requires notes { AreNotes fixed.now slots.now skips.old }
-    ensures { AreNotes fixed.now slots.now skips.new }
+    requires notes { AreNotes watch.now slots.now skips.old }
+    ensures { AreNotes watch.now slots.now skips.new }
 {
-    if !is_idle(fixed, &slots[place]) {
+    if !is_idle(watch, places, &slots[place]) {
         return;
     }
     note(skips, place);
@@ -316,14 +365,35 @@ fn none_passed(alloc: Global, count: usize) -> Result<Vec<usize>, NoMemory>
 }
 
 // Which of the slots are passed over.
-fn skips_of(alloc: Global, fixed: &[Fixed], slots: &[Slot]) -> Result<Vec<usize>, NoMemory>
-    ensures { IfOk result (λ skips. AreSkips fixed.now slots.now skips.items) }
+fn skips_of(
+    alloc: Global,
+    watch: &Watch,
+    places: &[usize],
+    slots: &[Slot],
+) -> Result<Vec<usize>, NoMemory>
+    ensures { IfOk result (λ skips. AreSkips watch.now slots.now skips.items) }
 {
     let mut skips = none_passed(alloc, slots.len())?;
     for behind in 0..slots.len() {
-        note_idle(fixed, skips.as_mut_slice(), slots, slots.len() - 1 - behind);
+        note_idle(
+            watch,
+            places,
+            skips.as_mut_slice(),
+            slots,
+            slots.len() - 1 - behind,
+        );
     }
     Ok(skips)
+}
+
+impl Watch {
+    // Nothing is asked. It takes no memory.
+    fn none(alloc: Global) -> Watch {
+        Watch {
+            near: Vec::new(alloc),
+            fixed: Vec::new(alloc),
+        }
+    }
 }
 
 impl Notes {
@@ -332,7 +402,7 @@ impl Notes {
         ensures { result.skips.items ≡ [] }
     {
         Notes {
-            fixed: Vec::new(alloc),
+            watch: Watch::none(alloc),
             skips: Vec::new(alloc),
             ends: Vec::new(alloc),
         }
@@ -340,19 +410,21 @@ impl Notes {
 
     // What can be noted of slots.
     fn of(alloc: Global, slots: &[Slot]) -> Result<Notes, NoMemory>
-        ensures { IfOk result (λ notes. AreSkips notes.fixed.items slots.now notes.skips.items) }
+        ensures { IfOk result (λ notes. AreSkips notes.watch slots.now notes.skips.items) }
     {
         let fixed = fixed_by(alloc, slots)?;
-        let skips = skips_of(alloc, fixed.as_slice(), slots)?;
+        let Near { vars, places } = near_by(alloc, fixed.as_slice(), slots)?;
+        let watch = Watch { near: vars, fixed };
+        let skips = skips_of(alloc, &watch, places.as_slice(), slots)?;
         let ends = ends_of(alloc, slots)?;
-        Ok(Notes { fixed, skips, ends })
+        Ok(Notes { watch, skips, ends })
     }
 }
 
 /// What is noted of slots, and what can be, if nothing is noted and memory can be had.
 pub(crate) fn notes_of(alloc: Global, slots: &[Slot], notes: Notes) -> Notes
-    requires { AreSkips notes.fixed.items slots.now notes.skips.items }
-    ensures { AreSkips result.fixed.items slots.now result.skips.items }
+    requires { AreSkips notes.watch slots.now notes.skips.items }
+    ensures { AreSkips result.watch slots.now result.skips.items }
 {
     if !notes.skips.is_empty() {
         return notes;

@@ -27,8 +27,8 @@ fn place_from(present: &[VarId], from: usize, v: VarId) -> usize
     present.len()
 }
 
-// Whether the variable stands at the place.
-fn stands_at(present: &[VarId], place: usize, v: VarId) -> bool
+/// Whether the variable stands at the place.
+pub(crate) fn stands_at(present: &[VarId], place: usize, v: VarId) -> bool
     ensures stands { IsTrue result → (place < length present.now) × ((d : VarId) → (get_or present.now place d).0 ≡ v.0) }
     ensures not { result ≡ false → place < length present.now → (d : VarId) → (get_or present.now place d).0 ≢ v.0 }
 {

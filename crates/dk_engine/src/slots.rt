@@ -11,7 +11,7 @@ use crate::Slot;
 use crate::changes::{Change, Found};
 use crate::changing::is_broken;
 use crate::growing::{Growth, grow};
-use crate::idle::{Notes, has_numbers, is_passed, notes_of};
+use crate::idle::{Notes, is_passed, meets, notes_of};
 use dk_base::{NoMemory, View};
 use std::alloc::Global;
 use std::marker::Model;
@@ -32,7 +32,7 @@ impl Model for Slots {
 
     ghost view = { λ s. s.all.items };
 
-    ghost invariant = { λ s. AreSkips s.notes.fixed.items s.all.items s.notes.skips.items };
+    ghost invariant = { λ s. AreSkips s.notes.watch s.all.items s.notes.skips.items };
 }
 
 // Makes a change.
@@ -107,7 +107,7 @@ fn some_found_passed(skips: &[usize], found: &Found) -> bool
 
 // Lets the notes hold of the slots with all growths and changes: forgets them, where a slot that is passed over is among these.
 fn keep_notes(alloc: Global, notes: &mut Notes, found: &Found)
-    ensures { (slots : List KeptSlot) → AreSkips notes.old.fixed.items slots notes.old.skips.items → AreSkips notes.new.fixed.items (fold with_change (fold with_growth slots found.now.growths) found.now.changes) notes.new.skips.items }
+    ensures { (slots : List KeptSlot) → AreSkips notes.old.watch slots notes.old.skips.items → AreSkips notes.new.watch (fold with_change (fold with_growth slots found.now.growths) found.now.changes) notes.new.skips.items }
 {
     if some_found_passed(notes.skips.as_slice(), found) {
         *notes = Notes::none(alloc);
@@ -146,8 +146,7 @@ impl Slots {
     pub(crate) fn skips(&self, sample: &[View<'_>]) -> &[usize]
         ensures { PassesStill (values_of sample.now) self.now result.now }
     {
-        let fixed = self.notes.fixed.as_slice();
-        if has_numbers(sample, fixed) {
+        if meets(&self.notes.watch, sample) {
             self.notes.skips.as_slice()
         } else {
             &[]

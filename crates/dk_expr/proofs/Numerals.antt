@@ -1,17 +1,13 @@
 -- Numbers in the front of a text.
-use Rattle.std.specs.Prelude.{◌≡◌, ◌<◌, ◌^◌, ◌∷◌, ◌++◌, ◌==◌, [], ℕ, ℤ, pos, negsuc, neg_ℤ, zero, suc, true, false, not, List, Ok, Result, length, take, unsigned_abs, refl}
+use Rattle.std.specs.Prelude.{◌≡◌, ◌<◌, ◌^◌, ◌∷◌, ◌++◌, ◌==◌, [], ℕ, ℤ, pos, negsuc, suc, true, false, not, List, length, take, unsigned_abs, refl}
 use Rattle.std.specs.Fmt.{decimal, signed_decimal}
 use Rattle.std.specs.List.{list_all, position_or_len}
-use Rattle.std.specs.Str.{IsAscii, IsUtf8}
-use Rattle.std.specs.Str.Parse.{AllDigits, ParsesSigned}
-use Rattle.std.proofs.Common.{◌∙◌, ap, arith, subst}
+use Rattle.std.specs.Str.Parse.{AllDigits}
+use Rattle.std.proofs.Common.{◌∙◌, ap, arith}
 use Rattle.std.proofs.lemmas.Bool.{and_parts, ne_eqb}
-use Rattle.std.proofs.lemmas.Fmt.{IsAscii-decimal_wide, decimal_is_IsNumeral_wide}
+use Rattle.std.proofs.lemmas.Fmt.{decimal_is_IsNumeral_wide}
 use Rattle.std.proofs.lemmas.List.{take_at}
-use Rattle.std.proofs.lemmas.Result.{Ok-from_Ok_iff}
-use Rattle.std.proofs.lemmas.Str.{IsUtf8-from_ascii}
-use Rattle.std.proofs.lemmas.Str.Parse.{digit_from_value, numerals_by_value, parse_signed_digits, parse_signed_minus, tells_digits}
-use mir.Syntax.{w128}
+use Rattle.std.proofs.lemmas.Str.Parse.{digit_from_value}
 use Rattle.dk_expr.specs.Readable.{begins_behind_number, ends_number}
 
 -- ---- where it ends

@@ -6,7 +6,7 @@ ghost use Rattle.dk_io.specs.Streams.{untold};
 
 use crate::replacement::Replacement;
 use dk_io::{Failed, Sinks, Stream};
-use std::alloc::AllocError;
+use std::fmt::InlineText;
 use std::io;
 use std::io::{ErrorKind, Write};
 use std::marker::Model;
@@ -23,6 +23,9 @@ const UNWRITTEN: u8 = 4;
 
 /// The number where memory could not be had.
 const NO_MEMORY: u8 = 5;
+
+/// The room for what is said of a failed write. The system's words of an error have at most 256 bytes.
+const LINE_ROOM: usize = 320;
 
 /// A write that failed.
 #[derive(Clone, Copy)]
@@ -118,9 +121,8 @@ impl<R: Files + Alloc, O: Write, E: Write> HostSinks<R, O, E> {
     }
 
     fn tell_fault(&mut self, fault: Fault) {
-        if let Ok(line) = fault_line(&self.rt, fault) {
-            self.say(line.as_str());
-        }
+        let line = fault_line(fault);
+        self.say(line.as_str());
     }
 
     // There is no other place to say that this fails.
@@ -204,12 +206,12 @@ fn noun_of(stream: Stream) -> &'static str {
     }
 }
 
-// What is said of a failed write.
-fn fault_line<R: Alloc>(rt: &R, fault: Fault) -> Result<String<R::A>, AllocError> {
-    let words = format!(in rt.alloc(); "{}", fault.error)?;
+// What is said of a failed write. It takes no memory, since there may be none left.
+fn fault_line(fault: Fault) -> InlineText<LINE_ROOM> {
+    let words = InlineText::<LINE_ROOM>::of(fault.error);
     let noun = noun_of(fault.stream);
     let reason = without_number(words.as_str());
-    format!(in rt.alloc(); "daikon: cannot write the {noun}: {reason}\n")
+    InlineText::of(format_args!("daikon: cannot write the {noun}: {reason}\n"))
 }
 
 // The system's words of an error, without its number, which stands behind them.

@@ -1,20 +1,12 @@
 -- What the words of the command ask for.
-use Rattle.std.specs.Prelude.{◌∷◌, [], ℕ, List, Option, Some, codes, true, unwrap_or}
+use Rattle.std.specs.Prelude.{◌∷◌, [], List, Option, Some, codes, true, unwrap_or}
 use Rattle.clap.specs.Words.{Row, Text}
-use Rattle.dk_arguments.specs.Descriptions.{Command as Described, Form, number, positionals}
+use Rattle.dk_arguments.specs.Descriptions.{Command as Described, count, positionals}
 use Rattle.dk_arguments.specs.Given.{number_at, texts_at}
 use Rattle.dk_arguments.specs.Requests.{request_of as asked_of}
 use Rattle.dk_arguments.specs.declared.request.Request.{Request}
 use Rattle.dk_merge_words.specs.Texts.{help_text, usage_line, version_text}
 use Rattle.dk_merge_words.specs.declared.command.Command.{Command}
-
--- the most samples, or records in a turn, that words can name
-abbrev pub most : ℕ
-most = 1000000000
-
--- the numbers of them
-abbrev pub count : Form
-count = number 1 most
 
 -- the command: which words it accepts; a file has to be named
 abbrev pub dk_merge : Described

@@ -13,7 +13,6 @@ ghost use Rattle.dk_report.specs.Counting.{AreAt, AreFound, AreIndexes, IsIndexO
 
 use dk_base::{NoMemory, PointId, VarId, VarInfo};
 use dk_bitmaps::PatternIndex;
-use dk_presence::contains;
 use dk_engine::Engine;
 use dk_hierarchy::{Merged, Way, merge};
 use dk_points::Points;

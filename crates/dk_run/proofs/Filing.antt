@@ -16,6 +16,7 @@ use Rattle.dk_io.specs.declared.outside.Stream.TheVariants.{Report}
 use Rattle.dk_lines.proofs.Lined.{at_end}
 use Rattle.dk_lines.specs.Left.{Left, Over}
 use Rattle.dk_lines.specs.Reading.{Reading, room_of, left_of}
+use Rattle.dk_blocks.proofs.LastLines.{blank_ends}
 use Rattle.dk_blocks.specs.Blocks.{Groups, Last, groups_of}
 use Rattle.dk_blocks.specs.History.{Effect, History, Taken, effect_of, file_ended, no_block}
 use Rattle.dk_blocks.specs.Reading.{Stepped, after_next}
@@ -135,6 +136,7 @@ within_on ignores h h1 h2 r new last xs ys zs after effect over over2 a b = reco
   split = split_on xs a.front ys b.front zs a.split b.split;
   room = room_on (room_of r) (room_of new) (room_of last) a.front b.front a.room b.room;
   nothing = b.nothing a.nothing;
+  last = λ leaves. a.last (b.last leaves);
   same = a.same ∙ ap (behind_histories after) (course_on ignores h1 h2 effect (groups_left over new true ys) (groups_left over2 last true zs) b.takes) ∙ onto_more after (h2 ∷ []) (course_behind ignores h2 (groups_left over2 last true zs));
   cut = λ d rest e. elim (a.cut (b.front ++ d) rest (split_on ys b.front zs d rest b.split e)) [
     | inl same ↦ elim (b.cut d rest e) [
@@ -142,9 +144,9 @@ within_on ignores h h1 h2 r new last xs ys zs after effect over over2 a b = reco
           ap (λ (l : List ℕ). course_behind ignores h (groups_left false r false l)) (append_assoc a.front b.front d)
           ∙ same ∙ ap (behind_histories after) (course_on ignores h1 h2 effect (groups_left over new false (b.front ++ d)) (groups_left over2 last false d) more)
           ∙ onto_more after (h2 ∷ []) (course_behind ignores h2 (groups_left over2 last false d)))
-      | inr none ↦ inr none.0
+      | inr none ↦ inr (none.0.0, λ goes. a.last (none.0.1 goes))
     ]
-    | inr none ↦ inr (nothing_behind b.front zs (sym none ∙ b.split))
+    | inr none ↦ inr (nothing_behind b.front zs (sym none.0 ∙ b.split), λ goes. absurd (cc (goes, b.ends none.0)))
   ];
 }
 
@@ -166,6 +168,7 @@ not_begun command n h r (Some xs) s begun reads counts = record {
     split = refl;
     room = omega arith;
     nothing = λ is. absurd (cc (begun, is));
+    last = λ leaves. leaves;
     same = ap (λ (b : Bool). course_behind command.ignore_missing_entry h (groups_left b r true xs)) (sym begun);
     cut = λ d rest e. inl (ap (λ (b : Bool). course_behind command.ignore_missing_entry h (groups_left b r false d)) (sym begun));
   };
@@ -291,14 +294,14 @@ file_fault command n h Stood r new last (Some xs) mid left text s fault same a a
             record {
               front = xs;
               rest = [];
-              left_is = stops.left_is ∙ ap (λ (l : List ℕ). Some l) (nothing_behind stops.front stops.rest (sym nothing ∙ stops.split));
+              left_is = stops.left_is ∙ ap (λ (l : List ℕ). Some l) (nothing_behind stops.front stops.rest (sym nothing.0 ∙ stops.split));
               split = sym (append-nil xs);
               is_ended = true;
-              ended = λ e. refl;
+              ended = λ e. (refl, blank_ends r xs (nothing.1 stops.goes_on));
               after = a.after;
               told = a.told;
               next = a.next;
-              all = a.within.same ∙ ap (λ (l : List ℕ). behind_histories a.after (course_behind command.ignore_missing_entry a.next (groups_left (over_of s) new true l))) nothing
+              all = a.within.same ∙ ap (λ (l : List ℕ). behind_histories a.after (course_behind command.ignore_missing_entry a.next (groups_left (over_of s) new true l))) nothing.0
                   ∙ ap (behind_histories a.after) (course_done command.ignore_missing_entry a.next (over_of s) new) ∙ onto_end a.after (Ok a.next);
             }
       ]

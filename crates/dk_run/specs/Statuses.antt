@@ -3,6 +3,7 @@ use Rattle.std.specs.Prelude.{◌≡◌, ◌≢◌, ◌≤◌, ◌<◌, ◌⊎�
 use Rattle.std.specs.Io.{StartsWith}
 use Rattle.dk_base.specs.declared.why.Why.{Why}
 use Rattle.dk_base.specs.declared.why.Why.TheVariants.{BadState, TooLong}
+use Rattle.dk_blocks.specs.LastLines.{ends_in_blank_line}
 use Rattle.dk_io.specs.Outside.{DeliversUpTo, HeldFile, Absent, Holds, Untold, Rose}
 use Rattle.dk_io.specs.Streams.{Texts}
 use Rattle.dk_io.specs.declared.outside.Stream.TheVariants as stream
@@ -63,10 +64,12 @@ pub data Break : Type 0 where
   AtStart : Break
   Within : Break
 
--- This was delivered of a file that holds the bytes xs, of which a read failed: all in front of what is left. Where nothing is left, the
--- failed read was that of the file's end: then the file may count as ended.
+-- This was delivered of a file that holds the bytes xs, of which a read failed: all in front of what is left. It counts as ended only where
+-- nothing is left and the bytes end in a blank line without LF: then the failed read was that of the file's end, and this line has ended
+-- the last block.
 abbrev pub IsDelivered : List ℕ → Option (List ℕ) → File → Type 0
-IsDelivered xs after file = (rest : List ℕ) × (after ≡ Some rest) × (xs ≡ file.bytes ++ rest) × (file.is_ended ≡ true → rest ≡ [])
+IsDelivered xs after file = (rest : List ℕ) × (after ≡ Some rest) × (xs ≡ file.bytes ++ rest)
+    × (file.is_ended ≡ true → (rest ≡ []) × (ends_in_blank_line xs ≡ true))
 
 -- The cause of a break, where this is told of the file: a start fails where the file is absent or a fault of the inputs rose, and a read
 -- only where one rose, of a file that is not absent.

@@ -7,6 +7,7 @@ use Rattle.dk_lines.specs.Reading.{Reading, room_of}
 use Rattle.dk_blocks.specs.Blocks.{Groups}
 use Rattle.dk_blocks.specs.History.{History, effect_of, file_ended}
 use Rattle.dk_core.specs.Standing.{SessionReadsFor, SessionStandsFor, blocks_of, over_of}
+use Rattle.dk_blocks.specs.LastLines.{LeavesBlank, ends_in_blank_line}
 use Rattle.dk_blocks.specs.Steps.{groups_left}
 use Rattle.dk_core.specs.declared.session.Session.{Session}
 use Rattle.dk_words.specs.declared.command.Command.{Command}
@@ -25,18 +26,21 @@ abbrev pub course_behind : Bool → History → Groups → Course LineFault
 course_behind ignores history groups = course_of_groups ignores (effect_of ignores history) groups
 
 -- Within a file: behind these histories, what the first history says of what was left is what the next one says of what is left now. So it
--- is of a file that is cut off, unless it is cut off behind its last line and no LF ends that.
+-- is of a file that is cut off, unless it is cut off behind its last line and no LF ends that; where this isn't the file's end, that line
+-- is blank.
 pub record Within (ignores : Bool) (history : History) (old : Reading) (xs : List ℕ) (after : List History) (next : History)
     (is_over : Bool) (new : Reading) (ys : List ℕ) : Type 0 where
   pub front : List ℕ
   pub split : xs ≡ front ++ ys
   pub room : room_of new ≡ room_of old - length front
   pub nothing : is_over ≡ true → ys ≡ []
+  pub last : LeavesBlank new ys → LeavesBlank old xs
   pub same : course_behind ignores history (groups_left false old true xs)
       ≡ behind_histories after (course_behind ignores next (groups_left is_over new true ys))
   pub cut : (d rest : List ℕ) → ys ≡ d ++ rest →
       (course_behind ignores history (groups_left false old false (front ++ d))
-      ≡ behind_histories after (course_behind ignores next (groups_left is_over new false d))) ⊎ (ys ≡ [])
+      ≡ behind_histories after (course_behind ignores next (groups_left is_over new false d)))
+      ⊎ ((ys ≡ []) × (is_over ≡ false → LeavesBlank old xs))
 
 -- A session goes on from a history: its reader stands for it, and where the session Stood for the one in front, all of it does.
 pub record GoesOnFrom {F : Type 0} (Stood : Type 0) (session : Session F) (history : History) : Type 0 where
@@ -77,7 +81,7 @@ pub record HasFault (command : Command) (n : ℕ) (history : History) (Stood : T
   pub all : course_behind command.ignore_missing_entry history (groups_left false old true xs) ≡ record { after = after; end = Err fault }
 
 -- Of the file's bytes xs a front without a fault was delivered, and where the session Stood for the history, the reports that are due
--- within it are told. Where it is all, it may count as ended.
+-- within it are told. Where it is all, and ends in a blank line without LF, it may count as ended.
 pub record IsBroken (command : Command) (n : ℕ) (history : History) (Stood : Type 0) (old : Reading) (xs text : List ℕ)
     (left : Option (List ℕ)) : Type 0 where
   pub front : List ℕ
@@ -85,7 +89,7 @@ pub record IsBroken (command : Command) (n : ℕ) (history : History) (Stood : T
   pub left_is : left ≡ Some rest
   pub split : xs ≡ front ++ rest
   pub is_ended : Bool
-  pub ended : is_ended ≡ true → rest ≡ []
+  pub ended : is_ended ≡ true → (rest ≡ []) × (ends_in_blank_line xs ≡ true)
   pub after : List History
   pub told : Stood → text ≡ due_from command (n + 1) after
   pub next : History

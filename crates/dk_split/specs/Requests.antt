@@ -1,7 +1,7 @@
 -- What the words of the command ask for.
 use Rattle.std.specs.Prelude.{◌∷◌, [], List, Option, Some, codes, false, unwrap_or}
 use Rattle.clap.specs.Words.{Row, Text}
-use Rattle.dk_arguments.specs.Descriptions.{Command as Described, flag, number, positionals}
+use Rattle.dk_arguments.specs.Descriptions.{Command as Described, count, flag, positionals}
 use Rattle.dk_arguments.specs.Given.{is_given, number_at, texts_at}
 use Rattle.dk_arguments.specs.Requests.{request_of as asked_of}
 use Rattle.dk_arguments.specs.declared.request.Request.{Request}
@@ -13,7 +13,7 @@ abbrev pub dk_split : Described
 dk_split = record {
   name = codes "dk_split";
   arguments =
-      record { name = codes "min-samples"; form = number 1 1000000000 }
+      record { name = codes "min-samples"; form = count }
       ∷ record { name = codes "ignore-missing-entry"; form = flag }
       ∷ record { name = codes "file"; form = positionals false }
       ∷ [];

@@ -1,6 +1,6 @@
 // What the arguments of the command ask for.
 use crate::texts::{HELP_TEXT, USAGE_LINE, VERSION_TEXT};
-use dk_arguments::{Argument, Arguments, ArgumentsFault, Description, Form, Matches};
+use dk_arguments::{Argument, Arguments, ArgumentsFault, COUNT, Description, Form, Matches};
 use dk_driver::Traces;
 use std::alloc::Global;
 
@@ -18,10 +18,7 @@ const DESCRIPTION: Description = Description {
     arguments: &[
         Argument {
             name: "min-samples",
-            form: Form::Number {
-                least: 1,
-                most: 1_000_000_000,
-            },
+            form: COUNT,
         },
         Argument {
             name: "ignore-missing-entry",

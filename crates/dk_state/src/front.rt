@@ -1,5 +1,5 @@
 // What is left of a state file while it is read.
-ghost use Rattle.std.specs.Prelude.{◌≡◌, ◌++◌, ◌-◌, ◌<◌, ◌≤◌, ◌^◌, [], ℕ, ℤ, IfOk, IfSome, IsTrue, List, Some, length, pos, nat_eq, take, drop, unsigned_abs, unwrap_or};
+ghost use Rattle.std.specs.Prelude.{◌≡◌, ◌++◌, ◌-◌, ◌<◌, ◌≤◌, ◌^◌, [], ℕ, ℤ, IfOk, IsTrue, List, Some, length, nat_eq, take, drop, unsigned_abs, unwrap_or};
 ghost use Rattle.std.specs.List.{position_or_len, starts_with};
 ghost use Rattle.std.specs.Fmt.{decimal, signed_decimal};
 ghost use Rattle.dk_base.specs.Names.{escaped};
@@ -10,7 +10,8 @@ ghost use Rattle.dk_state.specs.Lines.{behind_blank};
 ghost use Rattle.dk_state.specs.Reading.{BeginsWith, HasNone, begins_number, ends_field, ends_line};
 
 use dk_base::{
-    Arena, Kind, NoMemory, Text, Value, ValueFault, in_i64, in_u64, parse_value, parse_wide, unescape,
+    Arena, Kind, NoMemory, Text, Value, ValueFault, in_i64, in_u64, parse_value, parse_wide,
+    unescape,
 };
 use std::alloc::Global;
 use std::marker::Model;

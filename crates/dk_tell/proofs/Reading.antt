@@ -9,8 +9,8 @@ use Rattle.dk_lines.specs.Reading.{Reading, room_of}
 use Rattle.dk_lines.specs.declared.lines.Limits.{Limits}
 use Rattle.dk_lines.specs.declared.lines.LineFault.{LineFault}
 use Rattle.dk_lines.specs.declared.lines.LineFault.TheVariants as fault
-use Rattle.dk_program.specs.Openings.{OpeningGives}
-use Rattle.dk_tell.specs.Reports.{fault_of, sections_in}
+use Rattle.dk_program.specs.Openings.{OpeningGives, fault_of_lines}
+use Rattle.dk_tell.specs.Reports.{sections_in}
 use Rattle.dk_tell.specs.Standing.{sections_of}
 use Rattle.dk_tell.specs.declared.reported.Reported.{Reported}
 
@@ -36,7 +36,7 @@ module _ (r last : Reading) (left : Option (List ℕ)) (fresh : r ≡ fresh_read
 
   -- or why they are not read
   pub fault_told : (o : Option (List ℕ)) (x : LineFault) → IfSome o (λ xs. SectionsGive r xs (Err x) last left)
-      → IfSome o (λ xs. OpeningGives {K = Reported} sections_in sections_of xs (Err (fault_of x)) last left)
+      → IfSome o (λ xs. OpeningGives {K = Reported} sections_in sections_of xs (Err (fault_of_lines x)) last left)
   fault_told None x gives = tt
   fault_told (Some xs) (fault.LongLine n) e = sym (started_sections r _ xs fresh limits room) ∙ e
   fault_told (Some xs) (fault.TooLong n) e = sym (started_sections r _ xs fresh limits room) ∙ e

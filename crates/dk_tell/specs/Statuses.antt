@@ -4,9 +4,9 @@ use Rattle.dk_arguments.specs.declared.request.Request.{Request}
 use Rattle.dk_claims.specs.declared.sections.Section.{Section}
 use Rattle.dk_events.specs.declared.ended.Ended.{Ended}
 use Rattle.dk_program.specs.Moments.{Outside}
-use Rattle.dk_program.specs.Openings.{IsOpeningCalmlyComplete, Opening, OpeningComesTo}
+use Rattle.dk_program.specs.Openings.{IsOfBytes, IsOpeningCalmlyComplete, Opening, OpeningComesTo}
 use Rattle.dk_program.specs.Statuses.{Completes, IsARun as IsProgramRun, Says as ProgramSays}
-use Rattle.dk_tell.specs.Reports.{IsOfBytes, IsToldOf, sections_in}
+use Rattle.dk_tell.specs.Reports.{IsToldOf, sections_in}
 use Rattle.dk_tell.specs.Requests.{dk_tell}
 use Rattle.dk_tell.specs.declared.command.Command.{Command}
 

@@ -1,6 +1,5 @@
 // Verdicts, and their lines.
 ghost use Rattle.std.specs.Prelude.{◌≡◌, ◌++◌, ℕ, List, OnOk};
-ghost use Rattle.std.specs.Fmt.{decimal};
 ghost use Rattle.dk_verdicts.specs.Reports.{IsNamed, verdict_line, verdict_text};
 
 use dk_base::{NoMemory, Text};

@@ -1,6 +1,6 @@
 // What a run is to do.
 use crate::texts::{HELP_TEXT, USAGE_LINE, VERSION_TEXT};
-use dk_arguments::{Argument, Arguments, ArgumentsFault, Description, Form, Matches, Word};
+use dk_arguments::{Argument, Arguments, ArgumentsFault, COUNT, Description, Form, Matches, Word};
 use dk_base::List;
 use std::alloc::Global;
 
@@ -36,12 +36,6 @@ pub struct Command {
     /// The names of the files, in order. One that stands twice is read twice.
     pub files: List<Word>,
 }
-
-/// The numbers of `--min-samples` and `--every`.
-const COUNT: Form = Form::Number {
-    least: 1,
-    most: 1_000_000_000,
-};
 
 const DESCRIPTION: Description = Description {
     name: "daikon",

@@ -5,7 +5,7 @@ A file whose bytes have all come and whose end isn't found is told from one that
 
 from __future__ import annotations
 
-from writing import Case, last_reads, wanted
+from writing import READ, Case, calls_of, last_reads, wanted, with_key
 
 PIECES = (7, 64)
 X = b"ppt P\nvariable x\nrep-type int\n\n"
@@ -42,14 +42,35 @@ def daikon() -> list[Case]:
                     ("a faulty line in the second file", {"t": X + ONE, "u": TWO + WRONG}),
                     ("a block that isn't ended in the second file", {"t": X + ONE, "u": OPEN})) \
         + cases_of("daikon", "--min-samples 1 --resume s t", ("a state", {"s": STATE, "t": TWO}),
-                   ("a faulty line behind a state", {"s": STATE, "t": TWO + WRONG})) + reports_due()
+                   ("a faulty line behind a state", {"s": STATE, "t": TWO + WRONG})) + reports_due() + last_lines()
+
+
+FIRST = b"--- after 1 blocks\n"
+BOTH = FIRST + b"--- after 2 blocks\n" + b"=" * 75 + b"\nP  [1]\nx == 1  [1]\n"
 
 
 def reports_due() -> list[Case]:
     """Reports that were due stand in front of the message: those behind the two blocks of the file."""
-    report = b"--- after 1 blocks\n--- after 2 blocks\n" + b"=" * 75 + b"\nP  [1]\nx == 1  [1]\n"
     failing = cases_of("daikon", "--min-samples 1 --every 1 t", ("reports that were due", {"t": X + ONE}))
-    return [case.coming_to(case.status, report=report, messages=case.texts["messages"]) for case in failing]
+    return [case.coming_to(case.status, report=BOTH, messages=case.texts["messages"]) for case in failing]
+
+
+def last_lines() -> list[Case]:
+    """A last line without LF is one when the file's end was found behind it, and a blank one then ends its block. The next call fails."""
+    found = []
+    for name, text, due, later in (("blanks", X + ONE[:-1] + b" \t", FIRST, BOTH), ("a CR", X + ONE[:-1] + b"\r", FIRST, BOTH),
+                                   ("a mark", X + ONE[:-2], FIRST, FIRST), ("a comment", X + ONE + b"# no", BOTH, BOTH)):
+        case = Case(f"{name} behind the last LF", "daikon", ("--min-samples", "1", "--every", "1", "t"), {"t": text})
+        for piece in PIECES:
+            number = calls_of(text, piece)
+            found.append(read_in_vain(with_key(case, "the end of t", piece, "failing-reads", number), due))
+            found.append(read_in_vain(with_key(case, "the call behind it", piece, "failing-reads", number + 1), later))
+    return found
+
+
+def read_in_vain(case: Case, report: bytes) -> Case:
+    """The case where t could not be read, and these reports were due."""
+    return case.coming_to(READ, report=report, messages=b"daikon: cannot read t\n")
 
 
 def split() -> list[Case]:

@@ -79,7 +79,7 @@ push_found-requires-clause-stays_open c =
     let place = c.loop-place.place in
     shut_of_run c.args.asked (slot_in slots c.args.from).row (slot_in slots place) (c.requires.run place c.loop-place.invariant.1 c.loop-place-test.true)
 
-pub add_planes-requires-clause-stay_open : goal.add_planes-requires-clause-stay_open
-add_planes-requires-clause-stay_open c k from to =
+pub add_seen-requires-clause-stay_open : goal.add_seen-requires-clause-stay_open
+add_seen-requires-clause-stay_open c k from to =
     let slots = c.args.slots.now in
     shut_of_run c.args.asked (slot_in slots c.args.from).row (slot_in slots k) (c.requires.run k from to)

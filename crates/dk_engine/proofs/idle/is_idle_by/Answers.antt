@@ -1,6 +1,16 @@
-use Rattle.std.proofs.Common.{◌∙◌, sym}
+use Rattle.std.specs.Prelude.{◌≡◌, true}
+use Rattle.std.proofs.Common.{rules}
 use Rattle.dk_engine.proofs.Passing.{idle_slot}
+use Rattle.dk_engine.specs.Idle.{are_among, is_idle_over}
 use Rattle.dk_engine.proofs.idle.is_idle_by.Goals as goal
 
-pub returns : goal.returns
-returns c h = idle_slot c.args.fixed.now c.args.slot.now c.requires.row c.args.u c.args.v c.args.w c.requires.leaders (sym c.is_idle_over.ensures ∙ h)
+pub returns-then-is_idle_over : goal.returns-then-is_idle_over
+returns-then-is_idle_over c h =
+    let watch = c.args.watch.now in
+    let slot = c.args.slot.now in
+    let u = c.args.u in
+    let v = c.args.v in
+    let w = c.args.w in
+    let over : is_idle_over watch.fixed.items u v w slot.state ≡ true = search rules in
+    let among : are_among watch.near.items u v w ≡ true = search rules in
+    idle_slot watch slot c.requires.row u v w c.requires.leaders over among

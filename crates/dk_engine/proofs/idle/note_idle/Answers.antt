@@ -15,10 +15,10 @@ note-requires c =
 
 pub returns : goal.returns
 returns c =
-    let fixed = c.args.fixed.now in
+    let watch = c.args.watch.now in
     let slots = c.args.slots.now in
     let place = c.args.place in
     let item : Slot = c.index-slots-place.result in
     let at : item ≡ slot_in slots place = c.index-slots-place.is ∙ get_or_default slots place item no_slot c.requires.within in
-    let idle : IsIdle fixed (slot_in slots place) = subst (IsIdle fixed) at (c.is_idle.ensures c.if-not-is_idle.false) in
-    subst (AreNotes fixed slots) (sym c.note.ensures) (notes_more fixed slots c.args.skips.now place idle c.requires.notes c.requires.within)
+    let idle : IsIdle watch (slot_in slots place) = subst (IsIdle watch) at (c.is_idle.ensures c.if-not-is_idle.false) in
+    subst (AreNotes watch slots) (sym c.note.ensures) (notes_more watch slots c.args.skips.now place idle c.requires.notes c.requires.within)

@@ -12,18 +12,18 @@ use Rattle.dk_engine.proofs.slots.keep_notes.Goals as goal
 pub returns-then-some_found_passed : goal.returns-then-some_found_passed
 returns-then-some_found_passed c slots are =
     let found : Found = c.args.found.now in
-    let fixed = c.none.result.fixed.items in
+    let watch = c.none.result.watch in
     let changed = fold with_change (fold with_growth slots found.growths) found.changes in
-    subst (AreSkips fixed changed) (sym c.none.ensures) (none_passed fixed changed)
+    subst (AreSkips watch changed) (sym c.none.ensures) (none_passed watch changed)
 
 pub returns-else-some_found_passed : goal.returns-else-some_found_passed
 returns-else-some_found_passed c slots are =
     let found : Found = c.args.found.now in
     let skips = c.args.notes.now.skips.items in
-    let fixed = c.args.notes.now.fixed.items in
+    let watch = c.args.notes.now.watch in
     let same : c.as_slice.result.now ≡ skips = search rules in
     let grown : list_any (λ (g : Growth). is_passed skips g.place) found.growths ≡ false =
     subst (λ (ks : List ℕ). list_any (λ (g : Growth). is_passed ks g.place) found.growths ≡ false) same (c.some_found_passed.ensures.growths c.if-some_found_passed.false) in
     let changed : list_any (λ (d : Change). is_passed skips d.place) found.changes ≡ false =
     subst (λ (ks : List ℕ). list_any (λ (d : Change). is_passed ks d.place) found.changes ≡ false) same (c.some_found_passed.ensures.changes c.if-some_found_passed.false) in
-    changes_unpassed fixed skips found.changes changed (fold with_growth slots found.growths) (growths_unpassed fixed skips found.growths grown slots are)
+    changes_unpassed watch skips found.changes changed (fold with_growth slots found.growths) (growths_unpassed watch skips found.growths grown slots are)

@@ -14,4 +14,4 @@ returns-in_ok-push-in-Some c =
     let value = c.in-Some.value.now in
     let told : known_in_both c.args.first.now.kept c.args.second.now.kept c.args.v ≡ Some value = sym c.known_in_both.ensures ∙ ap option_copied c.in-Some.is in
     c.in_ok-push-in-Some.ensures.ok
-    ∙ (ap (λ (x : Value). c.args.known ++ (c.args.v, x) ∷ []) c.in_ok-copy_value-in-Some.ensures ∙ one_more c.args.first.now.kept c.args.second.now.kept c.args.v value c.args.known told)
+    ∙ (ap (λ (x : Value). c.args.known ++ (c.args.v, x) ∷ []) c.in_ok-copy-in-Some.ensures ∙ one_more c.args.first.now.kept c.args.second.now.kept c.args.v value c.args.known told)

@@ -1,4 +1,5 @@
 use Rattle.std.proofs.Common.{◌≤◌, ℕ, map, string_bytes, IfSome, Option, Some, None, subst, sym}
+use Rattle.dk_arguments.specs.Descriptions.{largest_count}
 use Rattle.dk_arguments.specs.Laws.{IsWithin}
 use Rattle.dk_arguments.specs.declared.request.Request.{Request}
 use Rattle.dk_program.proofs.Completing.{without_run_completes}
@@ -10,11 +11,11 @@ use Rattle.dk_merge.proofs.Recorders.{no_run_writes, recorders_say}
 use Rattle.dk_merge.proofs.Saying.{run_says, says_more}
 use Rattle.dk_merge.specs.Statuses.{IsCalmlyComplete, RunComesTo}
 use Rattle.dk_merge_words.proofs.Whole.{file_named, numbers_within}
-use Rattle.dk_merge_words.specs.Requests.{dk_merge, most, request_of}
+use Rattle.dk_merge_words.specs.Requests.{dk_merge, request_of}
 use Rattle.dk_merge_words.specs.declared.command.Command.{Command}
 use Rattle.dk_merge.proofs.top.run_merge.Goals as goal
 
-one_at_least : (turns : Option ℕ) → IfSome turns (IsWithin 1 most) → IfSome turns (λ n. 1 ≤ n)
+one_at_least : (turns : Option ℕ) → IfSome turns (IsWithin 1 largest_count) → IfSome turns (λ n. 1 ≤ n)
 one_at_least None within = tt
 one_at_least (Some n) within = within.0
 

@@ -19,4 +19,4 @@ invariant_of-self c =
     c.grow_slots.ensures ∙ (ap (λ (ss : List Slot). fold with_growth ss c.as_slice.result.now) c.as_mut_slice-slots.ensures.value ∙ ap (λ (gs : List Growth). fold with_growth s.all.items gs) growths) in
     let all : c.change_slots.new.slots ≡ with_found s.all.items found =
     c.change_slots.ensures ∙ (ap (λ (ss : List Slot). fold with_change ss c.into_vec.result.items) grown ∙ ap (λ (cs : List Change). fold with_change (fold with_growth s.all.items found.growths) cs) c.into_vec.ensures) in
-    subst (λ (ss : List Slot). AreSkips c.keep_notes.new.notes.fixed.items ss c.keep_notes.new.notes.skips.items) (sym (found_all s.all.items found s.all.len long c.change_slots.new.slots all _)) (c.keep_notes.ensures s.all.items c.self.invariant)
+    subst (λ (ss : List Slot). AreSkips c.keep_notes.new.notes.watch ss c.keep_notes.new.notes.skips.items) (sym (found_all s.all.items found s.all.len long c.change_slots.new.slots all _)) (c.keep_notes.ensures s.all.items c.self.invariant)

@@ -5,5 +5,5 @@ use Rattle.dk_engine.proofs.slots.Slots.new.Goals as goal
 
 pub invariant_of-result : goal.invariant_of-result
 invariant_of-result c =
-    let fixed = c.none.result.fixed.items in
-    subst (AreSkips fixed c.new.result.items) (sym c.none.ensures) (none_passed fixed c.new.result.items)
+    let watch = c.none.result.watch in
+    subst (AreSkips watch c.new.result.items) (sym c.none.ensures) (none_passed watch c.new.result.items)

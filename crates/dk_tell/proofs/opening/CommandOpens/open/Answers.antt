@@ -15,5 +15,5 @@ returns-in-Ok-clause-gives g c =
 pub returns-in-Err-clause-gives : goal.returns-in-Err-clause-gives
 returns-in-Err-clause-gives g c =
     subst (λ (fault : FileFault). IfSome (left_of c.args.lines.now (g.I.Inputs.rest c.args.inputs.now))
-    (λ xs. OpeningGives {K = Reported} sections_in sections_of xs (Err fault) c.read_sections.new.lines (left_of c.read_sections.new.lines (g.I.Inputs.rest c.read_sections.new.inputs)))) (sym c.fault_of.ensures)
+    (λ xs. OpeningGives {K = Reported} sections_in sections_of xs (Err fault) c.read_sections.new.lines (left_of c.read_sections.new.lines (g.I.Inputs.rest c.read_sections.new.inputs)))) (sym c.fault_of_lines.ensures)
     (fault_told c.args.lines.now c.read_sections.new.lines _ c.requires.fresh c.requires.limits c.requires.room _ c.in-Err.fault c.in-Err.ensures.gives)

@@ -1,7 +1,7 @@
 use Rattle.std.specs.Prelude.{◌-◌, ◌≤◌}
 use Rattle.dk_engine.specs.Feeding.{read_after}
 use Rattle.dk_engine.specs.Narrow.{AreFoundBelow, outcome}
-use Rattle.dk_engine.proofs.changes.add_planes.Given as goal
+use Rattle.dk_engine.proofs.changes.add_seen.Given as goal
 
 abbrev pub invariant-loop-place : goal.invariant-loop-place
 invariant-loop-place l =

@@ -6,7 +6,7 @@ use Rattle.dk_engine.specs.Feeding.{read_after}
 use Rattle.dk_engine.specs.Levels.{OneMore}
 use Rattle.dk_engine.specs.Narrow.{StayBetween, outcome}
 use Rattle.dk_engine.specs.Step.{Answer}
-use Rattle.dk_engine.proofs.changes.add_planes.Goals as goal
+use Rattle.dk_engine.proofs.changes.add_seen.Goals as goal
 
 pub loop-place-init : goal.loop-place-init
 loop-place-init c =
