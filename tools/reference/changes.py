@@ -1,6 +1,10 @@
 """Changes of lines, and of the lines of states. Each takes the lines and the place of one."""
 
+from __future__ import annotations
+
 import re
+from random import Random
+from typing import Callable
 
 from rows import ROWS
 
@@ -8,28 +12,28 @@ ODD_BYTES = [b" ", b"\t", b"\r", b"\\", b'"', b"[", b"]", b"0", b"-", b"\xff", b
              b"_", b"."]
 
 
-def delete_line(random_, lines, at):
+def delete_line(random_: Random, lines: list[bytes], at: int) -> None:
     del lines[at]
 
 
-def double_line(random_, lines, at):
+def double_line(random_: Random, lines: list[bytes], at: int) -> None:
     lines.insert(at, lines[at])
 
 
-def odd_byte(random_, lines, at):
+def odd_byte(random_: Random, lines: list[bytes], at: int) -> None:
     k = random_.randint(0, len(lines[at]))
     keep = k if random_.random() < 0.5 else k + 1
     lines[at] = lines[at][:k] + random_.choice(ODD_BYTES) + lines[at][keep:]
 
 
-def delete_byte(random_, lines, at):
+def delete_byte(random_: Random, lines: list[bytes], at: int) -> None:
     k = random_.randint(0, len(lines[at]))
     lines[at] = lines[at][:k] + lines[at][k + 1:]
 
 
 # ---------------------------------------------------------------- states
 
-def changed_state(random_, text):
+def changed_state(random_: Random, text: bytes) -> bytes:
     """One to three changes of the state's lines."""
     lines = text.split(b"\n")[:-1]
     for _ in range(random_.choice([1, 1, 1, 2, 3])):
@@ -38,7 +42,7 @@ def changed_state(random_, text):
     return b"".join(line + b"\n" for line in lines)
 
 
-def word_of(line):
+def word_of(line: bytes) -> bytes:
     """The first word of a state's line; for a slot the row and the word of its state."""
     words = line.split(b" ")
     if words[0] == b"slot":
@@ -46,41 +50,41 @@ def word_of(line):
     return words[0]
 
 
-def some_line(random_, lines):
+def some_line(random_: Random, lines: list[bytes]) -> int:
     """The place of a line; there are few lines of most words, and each word is as likely."""
     word = random_.choice(sorted(set(map(word_of, lines))))
     return random_.choice([k for k, line in enumerate(lines) if word_of(line) == word])
 
 
-def line_with(random_, lines, word):
+def line_with(random_: Random, lines: list[bytes], word: bytes) -> int | None:
     """The place of a line with this first word, or None."""
     places = [k for k, line in enumerate(lines) if line.split(b" ")[0] == word]
     return random_.choice(places) if places else None
 
 
-def exchange_with_next(random_, lines, at):
+def exchange_with_next(random_: Random, lines: list[bytes], at: int) -> None:
     lines[at:at + 2] = lines[at:at + 2][::-1]
 
 
-def blank_added(random_, lines, at):
+def blank_added(random_: Random, lines: list[bytes], at: int) -> None:
     places = [0, len(lines[at])] + [k for k, byte in enumerate(lines[at]) if byte == ord(" ")]
     place = random_.choice(places)
     lines[at] = lines[at][:place] + random_.choice([b" ", b" ", b"\t", b"\r"]) + lines[at][place:]
 
 
-def field_removed(random_, lines, at):
+def field_removed(random_: Random, lines: list[bytes], at: int) -> None:
     fields = lines[at].split(b" ")
     del fields[random_.randrange(len(fields))]
     lines[at] = b" ".join(fields)
 
 
-def field_doubled(random_, lines, at):
+def field_doubled(random_: Random, lines: list[bytes], at: int) -> None:
     fields = lines[at].split(b" ")
     fields.insert(random_.randrange(len(fields)), random_.choice(fields))
     lines[at] = b" ".join(fields)
 
 
-def version_changed(random_, lines, at):
+def version_changed(random_: Random, lines: list[bytes], at: int) -> None:
     lines[0] = b"daikon-state " + random_.choice([b"0", b"1", b"2", b"3", b"01", b"", b"-1"])
 
 
@@ -93,7 +97,7 @@ LIMITS_OF_NUMBERS = {
 }
 
 
-def number_instead(random_, lines, at, number_of):
+def number_instead(random_: Random, lines: list[bytes], at: int, number_of: Callable[[int], int]) -> None:
     places = list(re.finditer(rb"-?[0-9]+", lines[at]))
     if places:
         place = random_.choice(places)
@@ -101,19 +105,19 @@ def number_instead(random_, lines, at, number_of):
         lines[at] = lines[at][:place.start()] + number + lines[at][place.end():]
 
 
-def number_by_one(random_, lines, at):
+def number_by_one(random_: Random, lines: list[bytes], at: int) -> None:
     number_instead(random_, lines, at, lambda number: number + random_.choice([-1, 1]))
 
 
-def number_to_zero(random_, lines, at):
+def number_to_zero(random_: Random, lines: list[bytes], at: int) -> None:
     number_instead(random_, lines, at, lambda number: 0)
 
 
-def small_number(random_, lines, at):
+def small_number(random_: Random, lines: list[bytes], at: int) -> None:
     number_instead(random_, lines, at, lambda number: random_.randint(-3, 9))
 
 
-def number_to_limit(random_, lines, at):
+def number_to_limit(random_: Random, lines: list[bytes], at: int) -> None:
     powers = LIMITS_OF_NUMBERS.get(word_of(lines[at]), [31, 32, 63, 64, 127, 128])
     limit = random_.choice([1, -1]) * 2 ** random_.choice(powers) + random_.choice([-1, 0, 1])
     number_instead(random_, lines, at, lambda number: limit)
@@ -121,7 +125,7 @@ def number_to_limit(random_, lines, at):
 
 # ---------------------------------------------------------------- declarations in states
 
-def tab_in_name(random_, lines, at):
+def tab_in_name(random_: Random, lines: list[bytes], at: int) -> None:
     place = line_with(random_, lines, random_.choice([b"point", b"edge", b"var", b"mapped"]))
     if place is not None:
         fields = lines[place].split(b" ")
@@ -137,7 +141,7 @@ VALUES = [b"missing", b"0", b"1", b"-0", b"true", b"false", b"null", b"0x0", b"0
           b"9223372036854775808", b"-9223372036854775808", b"0x10000000000000000"]
 
 
-def constant_changed(random_, lines, at):
+def constant_changed(random_: Random, lines: list[bytes], at: int) -> None:
     """Another constant, or one where there was none."""
     place = line_with(random_, lines, b"constant")
     if place is None or random_.random() < 0.5:
@@ -149,7 +153,7 @@ def constant_changed(random_, lines, at):
     lines[place] = b"constant " + random_.choice(VALUES)
 
 
-def mapped_added(random_, lines, at):
+def mapped_added(random_: Random, lines: list[bytes], at: int) -> None:
     place = line_with(random_, lines, b"var")
     if place is not None:
         name = random_.choice([lines[place].split(b" ")[-1], b"z", b"a\tb", b"\\_", b"a b"])
@@ -158,7 +162,7 @@ def mapped_added(random_, lines, at):
         lines.insert(place + 1, b"mapped %d %s" % (random_.randint(0, 2), name))
 
 
-def edge_added(random_, lines, at):
+def edge_added(random_: Random, lines: list[bytes], at: int) -> None:
     place = line_with(random_, lines, b"point")
     if place is not None:
         name = random_.choice([b"P", b"Q", b"M:::EXIT", b"nowhere", b"a\tb", b"a\\_b", b""])
@@ -168,7 +172,7 @@ def edge_added(random_, lines, at):
 
 # ---------------------------------------------------------------- samples in states
 
-def part_of_samples(random_, lines):
+def part_of_samples(random_: Random, lines: list[bytes]) -> tuple[int, int] | None:
     """Where the lines of one point's samples begin and end, or None."""
     start = line_with(random_, lines, b"samples")
     if start is None:
@@ -176,11 +180,11 @@ def part_of_samples(random_, lines):
     return start, next((k for k in range(start, len(lines)) if lines[k] == b"end"), len(lines))
 
 
-def lines_in(lines, part, word):
+def lines_in(lines: list[bytes], part: tuple[int, int], word: bytes) -> list[int]:
     return [k for k in range(*part) if lines[k].startswith(word + b" ")]
 
 
-def samples_moved(random_, lines, at):
+def samples_moved(random_: Random, lines: list[bytes], at: int) -> None:
     """The samples under another point's number."""
     place = line_with(random_, lines, b"samples")
     if place is not None:
@@ -190,7 +194,7 @@ def samples_moved(random_, lines, at):
         lines[place] = b" ".join(fields)
 
 
-def bit_flipped(random_, lines, at):
+def bit_flipped(random_: Random, lines: list[bytes], at: int) -> None:
     patterns = [k for k, line in enumerate(lines) if re.fullmatch(rb"pattern [0-9]+ [01]+", line)]
     if patterns:
         place = random_.choice(patterns)
@@ -198,7 +202,7 @@ def bit_flipped(random_, lines, at):
         lines[place] = lines[place][:k] + random_.choice([b"0", b"1"]) + lines[place][k + 1:]
 
 
-def one_sample_more(random_, lines, at):
+def one_sample_more(random_: Random, lines: list[bytes], at: int) -> None:
     """One more, or one less, in the number of samples and in a pattern."""
     part = part_of_samples(random_, lines)
     if part is not None:
@@ -208,7 +212,7 @@ def one_sample_more(random_, lines, at):
                 match.group(1), int(match.group(2)) + step), lines[place])
 
 
-def pattern_twice(random_, lines, at):
+def pattern_twice(random_: Random, lines: list[bytes], at: int) -> None:
     """A pattern in two lines, or one more with the number 0."""
     place = line_with(random_, lines, b"pattern")
     if place is not None:
@@ -219,11 +223,11 @@ def pattern_twice(random_, lines, at):
                 lines[place:place + 1 - k] = [b" ".join([fields[0], b"%d" % number] + fields[2:])]
 
 
-def classes_joined(random_, lines, at):
+def classes_joined(random_: Random, lines: list[bytes], at: int) -> None:
     """Two classes become one; what was said of the second leader goes."""
     part = part_of_samples(random_, lines)
     classes = lines_in(lines, part, b"class") if part is not None else []
-    if len(classes) < 2:
+    if part is None or len(classes) < 2:
         return
     first, second = sorted(random_.sample(range(len(classes)), 2))
     members = lines[classes[first]].split(b" ")[1:] + lines[classes[second]].split(b" ")[1:]
@@ -245,23 +249,23 @@ def classes_joined(random_, lines, at):
     lines[:] = kept
 
 
-def known_left_out(random_, lines, at):
+def known_left_out(random_: Random, lines: list[bytes], at: int) -> None:
     place = line_with(random_, lines, b"known")
     if place is not None:
         del lines[place]
 
 
-def other_known(random_, lines, at):
+def other_known(random_: Random, lines: list[bytes], at: int) -> None:
     place = line_with(random_, lines, b"known")
     if place is not None:
         lines[place] = b" ".join(lines[place].split(b" ")[:2] + [random_.choice(VALUES)])
 
 
-def known_added(random_, lines, at):
+def known_added(random_: Random, lines: list[bytes], at: int) -> None:
     """A leader that is known besides; its slots stay or go."""
     part = part_of_samples(random_, lines)
     classes = lines_in(lines, part, b"class") if part is not None else []
-    if classes:
+    if part is not None and classes:
         leader = lines[random_.choice(classes)].split(b" ")[1]
         place = max(lines_in(lines, part, b"pattern") + classes) + 1
         lines.insert(place, b"known " + leader + b" " + random_.choice(VALUES))
@@ -270,7 +274,7 @@ def known_added(random_, lines, at):
                         if not (part[0] <= k <= part[1] and is_slot_over(line, leader))]
 
 
-def is_slot_over(line, leader):
+def is_slot_over(line: bytes, leader: bytes) -> bool:
     fields = line.split(b" ")
     return fields[0] == b"slot" and leader in fields[2:5]
 
@@ -302,28 +306,28 @@ STATES = [
 ]
 
 
-def state_for(random_, row):
+def state_for(random_: Random, row: int) -> bytes:
     """Mostly a state of a form that the row has."""
     words = ROWS[row].words + ("empty",)
     fitting = [state for state in STATES if state.split(" ")[0] in words]
     return random_.choice(fitting if random_.random() < 0.85 else STATES).encode()
 
 
-def numbers_of(line):
+def numbers_of(line: bytes) -> list[int]:
     """The row and the leaders of a slot's line."""
     match = re.match(rb"slot((?: [0-9]+)*)(?= )", line)
     return [int(number) for number in match.group(1).split()] if match else []
 
 
-def parts_of_slot(line):
+def parts_of_slot(line: bytes) -> tuple[int, list[int]]:
     """The row, which must be one, and the leaders of a slot's line."""
     numbers = numbers_of(line)
     return (numbers[0], numbers[1:]) if numbers and numbers[0] in ROWS else (1, [0])
 
 
-def some_slot(random_, lines):
+def some_slot(random_: Random, lines: list[bytes]) -> int | None:
     """The place of a slot; each row is as likely as another, plain ones less."""
-    rows = {}
+    rows: dict[tuple[int, ...], list[int]] = {}
     for k, line in enumerate(lines):
         plain = line.endswith((b" holds", b" empty"))
         if line.startswith(b"slot ") and (not plain or random_.random() < 0.1):
@@ -331,19 +335,19 @@ def some_slot(random_, lines):
     return random_.choice(rows[random_.choice(list(rows))]) if rows else None
 
 
-def slot_line(random_, row, leaders):
+def slot_line(random_: Random, row: int, leaders: list[int]) -> bytes:
     numbers = b"".join(b" %d" % number for number in [row] + leaders)
     return b"slot" + numbers + b" " + state_for(random_, row)
 
 
-def other_state(random_, lines, at):
+def other_state(random_: Random, lines: list[bytes], at: int) -> None:
     """Another state of a slot."""
     place = some_slot(random_, lines)
     if place is not None:
         lines[place] = slot_line(random_, *parts_of_slot(lines[place]))
 
 
-def slot_added(random_, lines, at):
+def slot_added(random_: Random, lines: list[bytes], at: int) -> None:
     """A slot of a row that takes the same kinds as another one's, or of the other order of its
     variables, or of a known leader, in its place."""
     place = some_slot(random_, lines)
@@ -367,7 +371,7 @@ def slot_added(random_, lines, at):
     lines[start:end] = sorted(lines[start:end], key=numbers_of)
 
 
-def slot_left_out(random_, lines, at):
+def slot_left_out(random_: Random, lines: list[bytes], at: int) -> None:
     place = some_slot(random_, lines)
     if place is not None:
         del lines[place]

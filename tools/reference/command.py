@@ -1,11 +1,14 @@
 """What the programs have in common: words, statuses, messages, files and where they write."""
 
+from __future__ import annotations
+
 import os
 import re
 from dataclasses import dataclass, field
+from typing import Callable, Iterator, Protocol, Sequence
 
 from input_language import WHY, Fault, blocks_of, lines_of
-from points import effect_of
+from points import Entry, History, effect_of
 
 DONE, REFUSED, USAGE_STATUS, READ, WRITE = 0, 1, 2, 3, 4
 MOST_PERIOD = 1_000_000_000
@@ -18,7 +21,7 @@ class Usage(Exception):
 class Ended(Exception):
     """The run ends early, with a status and a message."""
 
-    def __init__(self, status, message):
+    def __init__(self, status: int, message: bytes) -> None:
         super().__init__(status)
         self.status = status
         self.message = message
@@ -28,12 +31,12 @@ class Ended(Exception):
 
 @dataclass
 class Words:
-    flags: set = field(default_factory=set)
-    values: dict = field(default_factory=dict)
-    files: list = field(default_factory=list)
+    flags: set[str] = field(default_factory=set)
+    values: dict[str, str] = field(default_factory=dict)
+    files: list[str] = field(default_factory=list)
 
 
-def words_of_command(words, flags, with_value):
+def words_of_command(words: list[str], flags: Sequence[str], with_value: Sequence[str]) -> Words:
     """Options and FILEs in any order. A flag or option that is given twice, an unknown word, a
     short option, a prefix of a word, a flag with a value and an option without one are refused.
     After `--` every word is a FILE; `-` is one too."""
@@ -65,19 +68,19 @@ def words_of_command(words, flags, with_value):
     return found
 
 
-def number_between(text, low, high):
+def number_between(text: str, low: int, high: int) -> int:
     """One `+` in front and leading zeros pass."""
     if not re.fullmatch(r"\+?[0-9]+", text, re.ASCII) or not low <= int(text) <= high:
         raise Usage
     return int(text)
 
 
-def least_number(values):
+def least_number(values: dict[str, str]) -> int:
     """The number of `--min-samples`."""
     return number_between(values.get("--min-samples", "5"), 1, MOST_PERIOD)
 
 
-def demand_text(word):
+def demand_text(word: str) -> None:
     """A word that isn't UTF-8 is refused."""
     try:
         word.encode()
@@ -87,12 +90,12 @@ def demand_text(word):
 
 # ---------------------------------------------------------------- files
 
-def refused(name, fault):
+def refused(name: str, fault: Fault) -> Ended:
     place = b"daikon: %s:%d: " % (os.fsencode(name), fault.line)
     return Ended(REFUSED, place + b"%d %s\n" % (fault.why, WHY[fault.why].encode()))
 
 
-def bytes_of_file(folder, name):
+def bytes_of_file(folder: str, name: str) -> bytes:
     try:
         with open(os.path.join(folder, name) if name else name, "rb") as file:
             return file.read()
@@ -103,14 +106,14 @@ def bytes_of_file(folder, name):
 class Reader:
     """Adds the effects of files to a history. The bytes of all of them count for the limit."""
 
-    def __init__(self, history, ignore_missing_entry, bytes_before=0):
+    def __init__(self, history: History, ignore_missing_entry: bool, bytes_before: int = 0) -> None:
         self.history = history
         self.ignore_missing_entry = ignore_missing_entry
         self.bytes_before = bytes_before
 
-    def read(self, name, data):
+    def read(self, name: str, data: bytes) -> Iterator[None]:
         """Stops after each block that counts. Entries wait within their file."""
-        waiting = []
+        waiting: list[Entry] = []
         lines, cut = lines_of(data, self.bytes_before)
         try:
             for block in blocks_of(lines, cut):
@@ -123,17 +126,30 @@ class Reader:
 
 # ---------------------------------------------------------------- running
 
+class Sinks(Protocol):
+    """Where a run writes."""
+
+    def report(self, text: bytes) -> None:
+        """Takes a part of the report."""
+
+    def message(self, text: bytes) -> None:
+        """Takes a message."""
+
+    def state(self, text: bytes) -> None:
+        """Takes the state."""
+
+
 class HostSinks:
     """Standard output, standard error and the file `daikon.state`, which is replaced by a whole
     one."""
 
-    def report(self, text):
+    def report(self, text: bytes) -> None:
         self.write(1, text)
 
-    def message(self, text):
+    def message(self, text: bytes) -> None:
         self.write(2, text)
 
-    def state(self, text):
+    def state(self, text: bytes) -> None:
         """Written beside the old one and put in its place, so that no fault leaves half a state."""
         path = os.path.realpath("daikon.state")
         beside = path + ".new"
@@ -147,7 +163,7 @@ class HostSinks:
             raise Ended(WRITE, b"") from None
 
     @staticmethod
-    def write(stream, text):
+    def write(stream: int, text: bytes) -> None:
         try:
             while text:
                 text = text[os.write(stream, text):]
@@ -155,7 +171,7 @@ class HostSinks:
             raise Ended(WRITE, b"") from None
 
 
-def status_of_run(run, words, sinks, folder, usage):
+def status_of_run(run: Callable[[list[str], Sinks, str], None], words: list[str], sinks: Sinks, folder: str, usage: bytes) -> int:
     """Runs the words and gives the status."""
     try:
         run(words, sinks, folder)
@@ -168,7 +184,7 @@ def status_of_run(run, words, sinks, folder, usage):
     return DONE
 
 
-def host_status(status_of, words):
+def host_status(status_of: Callable[[list[str], Sinks, str], int], words: list[str]) -> int:
     try:
         return status_of(words, HostSinks(), "")
     except Ended as ended:

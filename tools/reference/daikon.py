@@ -9,11 +9,13 @@ program is the one of an earlier stage. The cuts are
   first-form     the second declaration form isn't known
 """
 
+from __future__ import annotations
+
 import sys
 from dataclasses import dataclass, field
 
-from command import (MOST_PERIOD, Reader, Usage, bytes_of_file, demand_text, host_status,
-                     least_number, number_between, refused, status_of_run, words_of_command)
+from command import (MOST_PERIOD, Reader, Sinks, Usage, bytes_of_file, demand_text, host_status, least_number, number_between, refused,
+                     status_of_run, words_of_command)
 from generated import generated
 from input_language import TOTAL_LIMIT, Fault
 from points import History, Table
@@ -34,19 +36,19 @@ WITH_VALUE = ["--min-samples", "--every", "--select", "--resume", "--generate"]
 @dataclass
 class Options:
     least: int = 5
-    every: object = None
+    every: int | None = None
     prefix: bytes = b""
-    filters_on: list = field(default_factory=list)
+    filters_on: list[str] = field(default_factory=list)
     ignore_missing_entry: bool = False
     stats: bool = False
     save: bool = False
-    resume: object = None
-    generate: object = None
-    files: list = field(default_factory=list)
-    cuts: tuple = ()
+    resume: str | None = None
+    generate: int | None = None
+    files: list[str] = field(default_factory=list)
+    cuts: tuple[str, ...] = ()
 
 
-def options_of(words):
+def options_of(words: list[str]) -> Options:
     found = words_of_command(words, FLAGS, WITH_VALUE)
     values = found.values
     options = Options(files=found.files, least=least_number(values))
@@ -64,7 +66,7 @@ def options_of(words):
     return options
 
 
-def one_file_options_of(words):
+def one_file_options_of(words: list[str]) -> Options:
     """Exactly one word, which is the FILE, whatever it is."""
     if len(words) != 1:
         raise Usage
@@ -75,7 +77,7 @@ def one_file_options_of(words):
 class Run:
     """A run over the files of a folder."""
 
-    def __init__(self, options, sinks, folder):
+    def __init__(self, options: Options, sinks: Sinks, folder: str) -> None:
         self.options = options
         self.sinks = sinks
         self.folder = folder
@@ -85,7 +87,7 @@ class Run:
         self.reader = Reader(history, options.ignore_missing_entry)
         self.blocks = 0
 
-    def whole(self):
+    def whole(self) -> None:
         """The state file, the generated text, the FILEs, the last report, the state."""
         options = self.options
         if options.resume is not None:
@@ -99,7 +101,7 @@ class Run:
         if options.save:
             self.sinks.state(state_file(self.reader.history))
 
-    def resume(self, name):
+    def resume(self, name: str) -> None:
         data = bytes_of_file(self.folder, name)
         if len(data) > TOTAL_LIMIT:
             raise refused(name, Fault(17, 0))
@@ -109,22 +111,22 @@ class Run:
             raise refused(name, Fault(18, 0)) from None
         self.reader = Reader(history, self.options.ignore_missing_entry, len(data))
 
-    def read_file(self, name, data):
+    def read_file(self, name: str, data: bytes) -> None:
         for _ in self.reader.read(name, data):
             self.blocks += 1
             self.periodic_report()
 
-    def periodic_report(self):
+    def periodic_report(self) -> None:
         if self.options.every is not None and self.blocks % self.options.every == 0:
             self.sinks.report(b"--- after %d blocks\n" % self.blocks)
             self.sinks.report(self.report())
 
-    def last_report(self):
+    def last_report(self) -> None:
         if self.options.every is not None:
             self.sinks.report(b"--- end after %d blocks\n" % self.blocks)
         self.sinks.report(self.report())
 
-    def report(self):
+    def report(self) -> bytes:
         options = self.options
         if "bounds" in options.cuts:
             return bounds_report(self.reader.history)
@@ -135,17 +137,17 @@ class Run:
 CUTS = {"one-file", "bounds", "first-grammar", "first-form"}
 
 
-def cuts_and_words(words):
+def cuts_and_words(words: list[str]) -> tuple[tuple[str, ...], list[str]]:
     if len(words) >= 2 and words[0] == "--stage" and set(words[1].split(",")) <= CUTS:
         return tuple(words[1].split(",")), words[2:]
     return (), words
 
 
-def status_of(words, sinks, folder):
+def status_of(words: list[str], sinks: Sinks, folder: str) -> int:
     cuts, words = cuts_and_words(words)
     one_file = "one-file" in cuts or "bounds" in cuts
 
-    def run(words, sinks, folder):
+    def run(words: list[str], sinks: Sinks, folder: str) -> None:
         options = one_file_options_of(words) if one_file else options_of(words)
         options.cuts = cuts
         Run(options, sinks, folder).whole()

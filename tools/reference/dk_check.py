@@ -1,25 +1,30 @@
 #!/usr/bin/env python3
 """The checker: the lines of a report against the records of other traces."""
 
+from __future__ import annotations
+
 import re
 import sys
 from dataclasses import dataclass
+from typing import Any, Iterator, Sequence, Tuple
 
-from command import (Reader, Usage, bytes_of_file, host_status, refused, status_of_run,
-                     words_of_command)
+from command import Reader, Sinks, Usage, bytes_of_file, host_status, refused, status_of_run, words_of_command
 from input_language import MISSING, STRING, lines_of
-from points import History
-from rows import (BROKEN, EMPTY, HOLDS, ROWS, fits, is_proper, join, rows_of, state_of, text_of)
+from points import History, Point, Sample, Table, VarInfo
+from rows import BROKEN, EMPTY, HOLDS, ROWS, Places, State, fits, is_proper, join, rows_of, state_of, text_of
 from samples import capped, instances, moved
 
 USAGE = b"usage: dk_check [--ignore-missing-entry] ASSERTIONS [FILE]...\n"
 GRAMMAR = 2
 ONE_CODE = ("code", 1)
 
+# a sample that reaches a point, after its FILE and line
+Arrival = Tuple[str, int, Sample]
+
 
 # ---------------------------------------------------------------- reading a text
 
-def assertion_of(variables, text):
+def assertion_of(variables: Sequence[VarInfo], text: bytes) -> tuple[int, Places, State] | None:
     """The first instance that has this text with a state, and that state, which is Empty for the
     text of only one value; or None."""
     for number in rows_of(GRAMMAR):
@@ -32,7 +37,7 @@ def assertion_of(variables, text):
     return None
 
 
-def candidates(number, names, text):
+def candidates(number: int, names: list[bytes], text: bytes) -> list[State]:
     """States of which one has the text, if any state of the row has it."""
     words = ROWS[number].words
     if words == ("holds",):
@@ -44,7 +49,7 @@ def candidates(number, names, text):
     return [state for word in words for state in with_numbers(number, word, names, text)]
 
 
-def with_numbers(number, word, names, text):
+def with_numbers(number: int, word: str, names: list[bytes], text: bytes) -> list[State]:
     """The states of this word with what stands in the text."""
     if word in ("least", "greatest"):
         return [(word, k) for k in numbers_in(rb".* [<>]= (-?[0-9]+)", text)]
@@ -64,7 +69,7 @@ def with_numbers(number, word, names, text):
     return []
 
 
-def numbers_in(pattern, text):
+def numbers_in(pattern: bytes, text: bytes) -> list[Any]:
     """The numbers of the pattern's groups, if the whole text has its form."""
     match = re.fullmatch(pattern, text, re.S)
     if not match:
@@ -73,12 +78,12 @@ def numbers_in(pattern, text):
     return [found if len(found) > 1 else found[0]]
 
 
-def behind_subject(number, names, text):
+def behind_subject(number: int, names: list[bytes], text: bytes) -> bytes:
     subject = names[0] + (b" elements" if number in (35, 47) else b"")
     return text[len(subject):]
 
 
-def equations(names, text):
+def equations(names: list[bytes], text: bytes) -> list[tuple[int, ...]]:
     """The coefficients of the names and the constant."""
     pattern = rb"(?:([0-9]+) \* )?" + re.escape(names[0])
     for name in names[1:]:
@@ -93,7 +98,7 @@ def equations(names, text):
     return [tuple(numbers) + (signed(others[-2], others[-1] or 0),)]
 
 
-def signed(sign, size):
+def signed(sign: bytes | None, size: bytes | int) -> int:
     return -int(size) if sign == b"-" else int(size)
 
 
@@ -106,12 +111,12 @@ class Line:
     text: bytes
 
 
-def without_count(line):
+def without_count(line: bytes) -> bytes:
     """Without a last number in brackets, which follows two blanks."""
     return re.sub(rb"  \[[0-9]+\]\Z", b"", line)
 
 
-def assertions_in(lines):
+def assertions_in(lines: list[bytes]) -> list[Line]:
     """Lines of `=` are passed over, and the next other line that isn't blank is a heading."""
     found = []
     heading = b""
@@ -129,7 +134,7 @@ def assertions_in(lines):
     return found
 
 
-def untrimmed(data):
+def untrimmed(data: bytes) -> list[bytes]:
     """The lines without LF and without one CR at the end."""
     pieces = data.split(b"\n")
     if pieces[-1] == b"":
@@ -139,7 +144,7 @@ def untrimmed(data):
 
 # ---------------------------------------------------------------- records and verdicts
 
-def reached(table, point, sample):
+def reached(table: Table, point: Point, sample: Sample) -> Iterator[tuple[Point, Sample]]:
     """The points that a sample of the point reaches, once for each path of edges, each with the
     sample as it is mapped there."""
     yield point, sample
@@ -147,11 +152,11 @@ def reached(table, point, sample):
         yield from reached(table, parent, moved(sample, table.partners(edge, point, parent)))
 
 
-def verdict(history, arrivals, line):
+def verdict(history: History, arrivals: dict[int, list[Arrival]], line: Line) -> bytes:
     """`arrivals` lists for each point by its position what reaches it, as (FILE, line, sample)."""
     point = history.table.find(line.point)
     found = assertion_of(point.variables, line.text) if point is not None else None
-    if found is None:
+    if point is None or found is None:
         return b"unknown"
     number, places, state = found
     joined = state
@@ -167,7 +172,7 @@ def verdict(history, arrivals, line):
     return b"ok [%d]" % capped(count)
 
 
-def run(words, sinks, folder):
+def run(words: list[str], sinks: Sinks, folder: str) -> None:
     found = words_of_command(words, ["--ignore-missing-entry"], [])
     if not found.files:
         raise Usage
@@ -179,7 +184,7 @@ def run(words, sinks, folder):
     if fault is not None:
         raise refused(name, fault)
     reader.bytes_before = len(data)
-    arrivals = {}
+    arrivals: dict[int, list[Arrival]] = {}
     for file in files:
         for _ in reader.read(file, bytes_of_file(folder, file)):
             if history.newest is not None:
@@ -190,7 +195,7 @@ def run(words, sinks, folder):
         sinks.report(b"%s: %s: %s\n" % (line.point, line.text, verdict(history, arrivals, line)))
 
 
-def status_of(words, sinks, folder):
+def status_of(words: list[str], sinks: Sinks, folder: str) -> int:
     return status_of_run(run, words, sinks, folder, USAGE)
 
 

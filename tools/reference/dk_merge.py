@@ -1,14 +1,18 @@
 #!/usr/bin/env python3
 """States of one table merged, or the traces of several recorders read in turns."""
 
-import sys
+from __future__ import annotations
 
-from command import (MOST_PERIOD, Reader, Usage, bytes_of_file, host_status, least_number,
-                     number_between, refused, status_of_run, words_of_command)
-from input_language import WHY, Fault, blocks_of, first_word_and_rest, lines_of
+import sys
+from collections import Counter
+from typing import Iterator
+
+from command import (MOST_PERIOD, Reader, Sinks, Usage, bytes_of_file, host_status, least_number, number_between, refused, status_of_run,
+                     words_of_command)
+from input_language import WHY, Block, Fault, blocks_of, first_word_and_rest, lines_of
 from points import History
 from report import FILTERS, report
-from samples import Samples
+from samples import Compact, Samples
 from state_file import BadState, load, state_file, written
 
 USAGE = b"usage: dk_merge [--min-samples N] [--turns N] FILE...\n"
@@ -20,21 +24,21 @@ WHY.update({DIFFERENT_STATE: "DifferentState", JOINED_STATE: "JoinedState"})
 
 # ---------------------------------------------------------------- merging
 
-def declarations_in(state):
+def declarations_in(state: bytes) -> list[bytes]:
     """What stands before the first `samples` line, or of `end-state` where there is none."""
     lines = state.split(b"\n")
     ends = [k for k, line in enumerate(lines) if line.startswith((b"samples ", b"end-state"))]
     return lines[:ends[0]]
 
 
-def joined_form(a, b):
+def joined_form(a: Compact, b: Compact) -> Compact:
     """The compact form of two lists together, from theirs."""
     places = list(range(len(a.variables)))
-    both = Samples(a.variables, a.grammar, {}, [(a, places, 1), (b, places, 1)])
+    both = Samples(a.variables, a.grammar, Counter(), [(a, places, 1), (b, places, 1)])
     return both.compact_form()
 
 
-def merged(name, a, b):
+def merged(name: str, a: bytes, b: bytes) -> bytes:
     """The state of two states together. `name` is the second one's."""
     if declarations_in(a) != declarations_in(b):
         raise refused(name, Fault(DIFFERENT_STATE, 0))
@@ -49,7 +53,7 @@ def merged(name, a, b):
     return text
 
 
-def is_spelling(data):
+def is_spelling(data: bytes) -> bool:
     try:
         load(data)
     except BadState:
@@ -57,17 +61,17 @@ def is_spelling(data):
     return True
 
 
-def merged_history(names, folder):
+def merged_history(names: list[str], folder: str) -> History:
     """The files are judged one by one."""
-    state = None
+    state = b""
     for name, data in files_of(names, folder):
         if not is_spelling(data):
             raise refused(name, Fault(BAD_STATE, 0))
-        state = data if state is None else merged(name, state, data)
+        state = merged(name, state, data) if state else data
     return load(state)
 
 
-def files_of(names, folder):
+def files_of(names: list[str], folder: str) -> Iterator[tuple[str, bytes]]:
     size = 0
     for name in names:
         data = bytes_of_file(folder, name)
@@ -79,7 +83,7 @@ def files_of(names, folder):
 
 # ---------------------------------------------------------------- turns
 
-def kept_lines(block):
+def kept_lines(block: Block) -> tuple[list[bytes], bool]:
     """The block's lines without the comments before its record, and whether the record is a
     sample."""
     kept = []
@@ -101,7 +105,7 @@ def kept_lines(block):
     return kept, is_sample
 
 
-def turns(n, files):
+def turns(n: int, files: list[bytes]) -> bytes:
     """The blocks without a sample file by file, then n samples of each file in rounds."""
     blocks = []
     samples = []
@@ -117,7 +121,7 @@ def turns(n, files):
     return b"\n".join(b"".join(line + b"\n" for line in block) for block in blocks)
 
 
-def history_in_turns(n, names, folder):
+def history_in_turns(n: int, names: list[str], folder: str) -> History:
     history = History()
     text = turns(n, [data for _, data in files_of(names, folder)])
     for _ in Reader(history, False).read("turns", text):
@@ -125,7 +129,7 @@ def history_in_turns(n, names, folder):
     return history
 
 
-def run(words, sinks, folder):
+def run(words: list[str], sinks: Sinks, folder: str) -> None:
     found = words_of_command(words, [], ["--min-samples", "--turns"])
     least = least_number(found.values)
     if not found.files:
@@ -139,7 +143,7 @@ def run(words, sinks, folder):
     sinks.state(state_file(history))
 
 
-def status_of(words, sinks, folder):
+def status_of(words: list[str], sinks: Sinks, folder: str) -> int:
     return status_of_run(run, words, sinks, folder, USAGE)
 
 

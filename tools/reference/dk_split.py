@@ -1,14 +1,16 @@
 #!/usr/bin/env python3
 """Implications: what holds where a truth value is true, or where it is false."""
 
+from __future__ import annotations
+
 import sys
 from collections import Counter
+from typing import Iterator
 
-from command import (Reader, bytes_of_file, host_status, least_number, status_of_run,
-                     words_of_command)
-from points import History
+from command import Reader, Sinks, bytes_of_file, host_status, least_number, status_of_run, words_of_command
+from points import History, Point, Sample, Table
 from report import PointFacts, heading
-from rows import fits, rows_of, text_of
+from rows import Places, State, fits, rows_of, text_of
 from samples import Samples, instances
 
 USAGE = b"usage: dk_split [--min-samples N] [--ignore-missing-entry] [FILE]...\n"
@@ -16,27 +18,28 @@ FILTERS = ("few", "incomparable", "member", "implied", "constant")
 
 
 class OneList:
-    """One list of samples for whatever point is asked."""
+    """One list of samples for whatever point is asked, of a table without edges."""
 
-    def __init__(self, samples):
+    def __init__(self, samples: Samples) -> None:
         self.samples = samples
+        self.table = Table()
 
-    def of(self, point):
+    def of(self, point: Point) -> Samples:
         return self.samples
 
 
-def samples_of(point, samples, grammar):
+def samples_of(point: Point, samples: list[Sample], grammar: int) -> Samples:
     return Samples(point.variables, grammar, Counter(samples), [])
 
 
-def conditions(point, whole):
+def conditions(point: Point, whole: Samples) -> list[int]:
     """The base truth values that are the first of those that agree with them."""
     truths = [place for place, variable in enumerate(point.variables)
               if variable.kind == "Bool" and variable.is_base()]
     return [b for b in truths if not any(whole.agree(a, b) for a in truths if a < b)]
 
 
-def implications(point, samples, grammar, least):
+def implications(point: Point, samples: list[Sample], grammar: int, least: int) -> Iterator[tuple[int, bool, bytes, int]]:
     """Each with its truth value, the half's value, the instance's text and its count there."""
     whole = samples_of(point, samples, grammar)
     for b in conditions(point, whole):
@@ -48,7 +51,7 @@ def implications(point, samples, grammar, least):
                 yield b, value, text_of(number, state, names), half.count(places)
 
 
-def held(facts, whole, b):
+def held(facts: PointFacts, whole: Samples, b: int) -> Iterator[tuple[int, Places, State]]:
     """The instances without a variable that agrees with b, that hold on the half with another
     state than on the whole and that no filter drops there."""
     half = facts.samples
@@ -61,7 +64,7 @@ def held(facts, whole, b):
                 yield number, places, state
 
 
-def section(point, samples, grammar, least):
+def section(point: Point, samples: list[Sample], grammar: int, least: int) -> bytes:
     text = heading(point, len(samples))
     for b, value, instance, count in implications(point, samples, grammar, least):
         truth = b"true" if value else b"false"
@@ -69,7 +72,7 @@ def section(point, samples, grammar, least):
     return text
 
 
-def run(words, sinks, folder):
+def run(words: list[str], sinks: Sinks, folder: str) -> None:
     found = words_of_command(words, ["--ignore-missing-entry"], ["--min-samples"])
     least = least_number(found.values)
     history = History()
@@ -83,7 +86,7 @@ def run(words, sinks, folder):
             sinks.report(section(point, samples, history.grammar, least))
 
 
-def status_of(words, sinks, folder):
+def status_of(words: list[str], sinks: Sinks, folder: str) -> int:
     return status_of_run(run, words, sinks, folder, USAGE)
 
 

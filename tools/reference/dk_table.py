@@ -1,15 +1,18 @@
 #!/usr/bin/env python3
 """Tables of comma-separated values as traces."""
 
+from __future__ import annotations
+
 import csv
 import io
 import os
 import re
 import sys
+from codecs import BOM_UTF8
 from dataclasses import dataclass
+from typing import Any, Tuple
 
-from command import (Ended, Usage, bytes_of_file, host_status, number_between, status_of_run,
-                     words_of_command)
+from command import Ended, Sinks, Usage, bytes_of_file, host_status, number_between, status_of_run, words_of_command
 
 USAGE = b"usage: dk_table [--point NAME] [--separator C] [--types ROWS] [--no-header] FILE...\n"
 MOST_ROWS = 1 << 40
@@ -22,24 +25,30 @@ ESCAPES = {'"': '\\"', "\\": "\\\\", "\n": "\\n", "\r": "\\r", "\t": "\\t"}
 # what begins a line that is no record's first one
 OTHER_LINES = ("#", "//", "decl-version", "var-comparability", "input-language", "ppt ", "DECLARE", "ListImplementors", "VarComparability")
 
+# of a column: a word, and the spellings of truth values or the number of decimal places
+Kind = Tuple[str, Any]
+# a row, after its file and number
+PlacedRow = Tuple[str, int, "list[str]"]
 
-def refused(name, row, why):
+
+def refused(name: str, row: int, why: int) -> Ended:
     text = f"daikon: {name}: row {row}: {why} {WHY[why]}\n"
     return Ended(REFUSED, os.fsencode(text))
 
 
 # ---------------------------------------------------------------- rows
 
-def rows_of(data, separator):
+def rows_of(data: bytes, separator: str) -> list[list[str]]:
     """The rows of a file. Each byte is read as one character."""
-    text = data.removeprefix(b"\xef\xbb\xbf").decode("latin-1")
+    text = data[len(BOM_UTF8) if data.startswith(BOM_UTF8) else 0:].decode("latin-1")
     csv.field_size_limit(len(text) + 1)
     return [row for row in csv.reader(io.StringIO(text, newline=""), delimiter=separator) if row]
 
 
-def table_of(files, separator, has_header):
+def table_of(files: list[tuple[str, bytes]], separator: str, has_header: bool) -> tuple[list[str], list[PlacedRow]]:
     """The names of the columns, and the rows with the file and the number of each."""
-    names, found = None, []
+    names: list[str] | None = None
+    found: list[PlacedRow] = []
     for name, data in files:
         rows = rows_of(data, separator)
         if names is None:
@@ -58,20 +67,20 @@ def table_of(files, separator, has_header):
                 raise refused(name, number, 3)
         placed = [(name, number, row) for number, row in enumerate(rows, 1)]
         found += placed[1:] if has_header else placed
-    return names, found
+    return names or [], found
 
 
 # ---------------------------------------------------------------- columns
 
-def within(number):
+def within(number: int) -> bool:
     return -1 << 63 <= number < 1 << 63
 
 
-def whole(cell):
+def whole(cell: str) -> int | None:
     return int(cell) if re.fullmatch(WHOLE, cell) and within(int(cell)) else None
 
 
-def value_text(kind, cell):
+def value_text(kind: Kind, cell: str) -> str | None:
     """The text of what a cell writes in a column of this kind; none where it writes nothing of it."""
     name, how = kind
     if name == "whole":
@@ -88,7 +97,7 @@ def value_text(kind, cell):
     return '"' + "".join(ESCAPES.get(it, it) for it in cell) + '"'
 
 
-def kind_of(cells):
+def kind_of(cells: list[str]) -> Kind:
     known = [cell for cell in cells if cell]
     kinds = [("whole", None)] + [("truth", it) for it in SPELLINGS] + [("decimal", k) for k in range(1, 19)]
     for kind in kinds if known else []:
@@ -100,21 +109,21 @@ def kind_of(cells):
 REP = {"whole": "int", "truth": "boolean", "decimal": "int", "text": "java.lang.String"}
 
 
-def variable(name, kind):
+def variable(name: str, kind: Kind) -> str:
     return f"{name} * 1{'0' * kind[1]}" if kind[0] == "decimal" else name
 
 
 # ---------------------------------------------------------------- the trace
 
-def spelled(name):
+def spelled(name: str) -> str:
     return name.replace("\\", "\\\\").replace(" ", "\\_")
 
 
-def is_told(name):
+def is_told(name: str) -> bool:
     return bool(name) and "\n" not in name and name[0] != "\t" and name[-1] not in "\t\r"
 
 
-def trace(point, names, kinds, rows):
+def trace(point: str, names: list[str], kinds: list[Kind], rows: list[PlacedRow]) -> str:
     variables = [variable(*it) for it in zip(names, kinds)]
     lines = [HEADER, f"ppt {spelled(point)}\n"]
     for name, kind in zip(variables, kinds):
@@ -133,14 +142,14 @@ FLAGS, WITH_VALUE = ["--no-header"], ["--point", "--separator", "--types"]
 @dataclass
 class Options:
     """What the words ask for."""
-    files: list
+    files: list[str]
     point: str
     separator: str
-    types: object
+    types: int | None
     has_header: bool
 
 
-def options_of(words):
+def options_of(words: list[str]) -> Options:
     found = words_of_command(words, FLAGS, WITH_VALUE)
     separator = found.values.get("--separator", ",")
     if not found.files or len(os.fsencode(separator)) != 1 or separator in '"\n\r':
@@ -149,7 +158,7 @@ def options_of(words):
     return Options(found.files, found.values.get("--point", found.files[0]), separator, types, "--no-header" not in found.flags)
 
 
-def run(words, sinks, folder):
+def run(words: list[str], sinks: Sinks, folder: str) -> None:
     found = options_of(words)
     files = [(name, bytes_of_file(folder, name)) for name in found.files]
     names, rows = table_of(files, found.separator, found.has_header)
@@ -165,7 +174,7 @@ def run(words, sinks, folder):
     sinks.report(trace(point, names, kinds, rows).encode("latin-1"))
 
 
-def status_of(words, sinks, folder):
+def status_of(words: list[str], sinks: Sinks, folder: str) -> int:
     return status_of_run(run, words, sinks, folder, USAGE)
 
 

@@ -6,14 +6,14 @@ from __future__ import annotations
 import json
 import re
 import sys
-from dataclasses import dataclass, field
 
-from command import Reader, Usage, bytes_of_file, host_status, refused, status_of_run, words_of_command
-from dk_check import assertion_of, untrimmed, without_count
+from command import Reader, Sinks, Usage, Words, bytes_of_file, host_status, refused, status_of_run, words_of_command
+from dk_check import assertion_of, untrimmed
 from input_language import lines_of
 from languages import Speaker
 from points import History, VarInfo
-from rows import EMPTY
+from rows import EMPTY, State
+from sections import Section, sections_in
 from tell_pages import page_of, sections_of
 
 USAGE = b"usage: dk_tell [--format json|python|c|smtlib|html] [--ignore-missing-entry] REPORT [FILE]...\n"
@@ -27,40 +27,6 @@ PARAMETERS = {"least": ("least",), "greatest": ("greatest",), "code": ("code",),
               "straight": ("a", "b", "c"), "plane": ("a", "b", "c", "d"), "offset": ("offset",)}
 
 
-# ---------------------------------------------------------------- sections of a report
-
-@dataclass
-class Section:
-    """A heading with the lines below it, each a text with a number of samples."""
-    point: bytes
-    samples: int | None
-    lines: list[tuple[bytes, int | None]] = field(default_factory=list)
-
-
-def count_of(text: bytes) -> int | None:
-    """The number of a last count, within 64 bits."""
-    match = re.search(rb"  \[([0-9]+)\]\Z", text)
-    return int(match[1]) if match and int(match[1]) < 1 << 64 else None
-
-
-def sections_in(lines: list[bytes]) -> list[Section]:
-    """The sections of a report; claims above the first heading are one of the empty name."""
-    front = Section(b"", None)
-    found = [front]
-    awaits_heading = False
-    for text in lines:
-        if text.strip(b" \t") == b"":
-            continue
-        if re.fullmatch(rb"=+", text):
-            awaits_heading = True
-        elif awaits_heading:
-            found.append(Section(without_count(text), count_of(text)))
-            awaits_heading = False
-        elif not text.startswith((b"--- ", b"stats ")):
-            found[-1].lines.append((without_count(text), count_of(text)))
-    return found if front.lines else found[1:]
-
-
 # ---------------------------------------------------------------- JSON
 
 def json_text(text: bytes) -> str | list[int]:
@@ -71,7 +37,7 @@ def json_text(text: bytes) -> str | list[int]:
         return list(text)
 
 
-def state_object(state: tuple) -> dict[str, object]:
+def state_object(state: State) -> dict[str, object]:
     """The parameters of a state by name."""
     if state[0] == "ints":
         return {"values": list(state[1])}
@@ -154,7 +120,7 @@ def told_section(language: str, section: Section, variables: list[VarInfo]) -> b
 FLAGS, WITH_VALUE = ["--ignore-missing-entry"], ["--format"]
 
 
-def options_of(words):
+def options_of(words: list[str]) -> tuple[Words, str]:
     """The words of the command, and the format."""
     found = words_of_command(words, FLAGS, WITH_VALUE)
     form = found.values.get("--format", "json")
@@ -163,7 +129,7 @@ def options_of(words):
     return found, form
 
 
-def run(words, sinks, folder):
+def run(words: list[str], sinks: Sinks, folder: str) -> None:
     found, form = options_of(words)
     name, *files = found.files
     data = bytes_of_file(folder, name)
@@ -188,7 +154,7 @@ def run(words, sinks, folder):
         sinks.report(told_section(language, section, variables) if language else json_section(section, variables))
 
 
-def status_of(words, sinks, folder):
+def status_of(words: list[str], sinks: Sinks, folder: str) -> int:
     return status_of_run(run, words, sinks, folder, USAGE)
 
 

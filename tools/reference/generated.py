@@ -1,5 +1,7 @@
 """The generated input: calls of push and pop on a stack of eight items."""
 
+from __future__ import annotations
+
 CALLS = 10_000
 TOP = [b"variable this.top", b"var-kind field top", b"rep-type int"]
 ITEMS = [b"variable this.items[..]", b"var-kind array", b"rep-type int[]"]
@@ -10,15 +12,15 @@ PUSH, POP = b"Stack.push(int):::", b"Stack.pop():::"
 
 
 class Draws:
-    def __init__(self, start):
+    def __init__(self, start: int) -> None:
         self.u = start
 
-    def draw(self):
+    def draw(self) -> int:
         self.u = (self.u * 6364136223846793005 + 1442695040888963407) % (1 << 64)
         return self.u >> 33
 
 
-def declaration(name, point_type, extra):
+def declaration(name: bytes, point_type: bytes, extra: list[bytes]) -> list[bytes]:
     lines = [b"ppt " + name, b"ppt-type " + point_type]
     to_object = []
     if name != b"Stack:::OBJECT":
@@ -27,7 +29,7 @@ def declaration(name, point_type, extra):
     return lines + TOP + to_object + ITEMS + to_object + extra
 
 
-def declarations():
+def declarations() -> list[list[bytes]]:
     return [
         [b"decl-version 2.0", b"var-comparability none"],
         declaration(b"Stack:::OBJECT", b"object", []),
@@ -38,7 +40,7 @@ def declarations():
     ]
 
 
-def record(name, nonce, top, items, more):
+def record(name: bytes, nonce: int, top: int, items: list[int], more: list[tuple[bytes, int]]) -> list[bytes]:
     lines = [name, b"this_invocation_nonce", b"%d" % nonce]
     listed = b"[" + b" ".join(b"%d" % item for item in items) + b"]"
     values = [(b"this.top", b"%d" % top), (b"this.items[..]", listed)]
@@ -47,7 +49,7 @@ def record(name, nonce, top, items, more):
     return lines
 
 
-def generated(start):
+def generated(start: int) -> bytes:
     draws = Draws(start)
     blocks = declarations()
     top = -1

@@ -4,13 +4,27 @@ Everything here is a function of whole lists: a file's bytes give its lines, its
 blocks, and a block is read line after line. A faulty line ends the reading by raising Fault.
 """
 
+from __future__ import annotations
+
 import re
 import sys
 from dataclasses import dataclass, field
+from typing import TYPE_CHECKING, Any, Iterator, Tuple
 
-sys.set_int_max_str_digits(0)
+if TYPE_CHECKING:
+    from points import History, Point, Table
 
+if hasattr(sys, "set_int_max_str_digits"):
+    sys.set_int_max_str_digits(0)
+
+# of a variable: a bool, an int or bytes by its kind, a tuple of such for a sequence, or MISSING
+Value = Any
 MISSING = None
+
+# its number within the file, and its bytes
+Line = Tuple[int, bytes]
+# the numbers of elements and of the index
+Comparability = Tuple[int, int]
 
 WHY = {
     1: "LongLine", 2: "BadHeader", 3: "BadPoint", 4: "BadVariable", 5: "DuplicatePoint",
@@ -41,7 +55,7 @@ COMPARABILITY = re.compile(rb"(-?[0-9]+)((?:\[-?[0-9]+\])*)")
 class Fault(Exception):
     """A refusal: its line within the file, and its number."""
 
-    def __init__(self, why, line):
+    def __init__(self, why: int, line: int) -> None:
         super().__init__(why, line)
         self.why = why
         self.line = line
@@ -53,10 +67,11 @@ class NoValue(Exception):
 
 # ---------------------------------------------------------------- lines and blocks
 
-def lines_of(data, bytes_before=0, line_limit=LINE_LIMIT, total_limit=TOTAL_LIMIT):
+def lines_of(data: bytes, bytes_before: int = 0, line_limit: int = LINE_LIMIT,
+             total_limit: int = TOTAL_LIMIT) -> tuple[list[Line], Fault | None]:
     """The file's lines as (number, bytes without CR and without blanks and tabs at the ends), and
     the fault of the first byte that is one too many, after the lines before it, or None."""
-    lines = []
+    lines: list[Line] = []
     start = bytes_before
     pieces = data.split(b"\n")
     for number, piece in enumerate(pieces, 1):
@@ -82,17 +97,17 @@ class Block:
     """A longest run of lines that aren't blank. `end` is the number of the blank line that ends
     it, or one more than the file's last line. `cut` is the fault of a byte that is one too many,
     met before the block's end."""
-    lines: list
+    lines: list[Line]
     end: int
-    cut: object = None
+    cut: Fault | None = None
 
-    def each_line(self):
+    def each_line(self) -> Iterator[Line]:
         yield from self.lines
         if self.cut is not None:
             raise self.cut
 
 
-def blocks_of(lines, cut):
+def blocks_of(lines: list[Line], cut: Fault | None) -> list[Block]:
     blocks = []
     current = []
     for number, line in lines:
@@ -106,36 +121,36 @@ def blocks_of(lines, cut):
     return blocks
 
 
-def words_of(line):
+def words_of(line: bytes) -> list[bytes]:
     return [word for word in re.split(rb"[ \t]+", line) if word]
 
 
-def first_word_and_rest(line):
+def first_word_and_rest(line: bytes) -> tuple[bytes, bytes]:
     """The rest is what follows the first word and the blanks and tabs after it."""
-    word = re.match(rb"[^ \t]*", line).group()
+    word = re.split(rb"[ \t]", line, maxsplit=1)[0]
     return word, line[len(word):].lstrip(b" \t")
 
 
 # ---------------------------------------------------------------- names and values
 
-def unescape(text):
+def unescape(text: bytes) -> bytes:
     """`\\_` stands for a blank and `\\\\` for a backslash; any other backslash stays."""
     return re.sub(rb"\\([_\\])", lambda m: b" " if m.group(1) == b"_" else b"\\", text)
 
 
-def escape(name):
+def escape(name: bytes) -> bytes:
     return name.replace(b"\\", b"\\\\").replace(b" ", b"\\_")
 
 
-def fits_i64(number):
+def fits_i64(number: int) -> bool:
     return -(1 << 63) <= number < 1 << 63
 
 
-def fits_u64(number):
+def fits_u64(number: int) -> bool:
     return 0 <= number < 1 << 64
 
 
-def scalar_of(kind, text):
+def scalar_of(kind: str, text: bytes) -> Value:
     """The value of a text of a scalar kind. A number outside its 64-bit type is missing."""
     if text in MISSING_WORDS:
         return MISSING
@@ -158,14 +173,14 @@ def scalar_of(kind, text):
     raise NoValue
 
 
-def items_of(text):
+def items_of(text: bytes) -> list[bytes]:
     """The items of a text between brackets, separated by one or more blanks."""
     if len(text) < 2 or text[:1] != b"[" or text[-1:] != b"]":
         raise NoValue
     return items_between_blanks(text[1:-1])
 
 
-def items_between_blanks(inner):
+def items_between_blanks(inner: bytes) -> list[bytes]:
     items = []
     at = 0
     while at < len(inner):
@@ -182,7 +197,7 @@ def items_between_blanks(inner):
     return items
 
 
-def value_of(kind, text):
+def value_of(kind: str, text: bytes) -> Value:
     """The value of a text, MISSING, or NoValue. A missing item makes a sequence missing; an item
     that is no text of its kind makes the whole text no value."""
     if kind not in ELEMENT:
@@ -195,7 +210,7 @@ def value_of(kind, text):
 
 # ---------------------------------------------------------------- headers
 
-def read_headers(lines, history):
+def read_headers(lines: Iterator[Line], history: History) -> tuple[bool, Line | None]:
     """Reads comments and header lines before the record. Gives whether anything but comments
     was there, and the record's first line or None."""
     anything = False
@@ -222,7 +237,7 @@ def read_headers(lines, history):
     return anything, None
 
 
-def set_comparability(history, word, number):
+def set_comparability(history: History, word: bytes, number: int) -> None:
     if word not in (b"none", b"implicit"):
         raise Fault(2, number)
     history.implicit = word == b"implicit"
@@ -238,22 +253,22 @@ class Variable:
     """A declared variable. Kind None is opaque. `parents` lists the position of an edge of the
     block and the name of the parent's variable, one for each parent line that counts."""
     name: bytes
-    kind: object = None
-    comparability: tuple = NO_COMPARABILITY
+    kind: str | None = None
+    comparability: Comparability = NO_COMPARABILITY
     constant_line: bool = False
-    constant: object = MISSING
-    parents: list = field(default_factory=list)
+    constant: Value = MISSING
+    parents: list[tuple[int, bytes]] = field(default_factory=list)
 
 
 @dataclass
 class Declaration:
     """Two declarations are the same exactly where they are equal."""
     name: bytes
-    edges: list = field(default_factory=list)
-    variables: list = field(default_factory=list)
+    edges: list[tuple[bytes, int]] = field(default_factory=list)
+    variables: list[Variable] = field(default_factory=list)
 
 
-def comparability_of(text):
+def comparability_of(text: bytes) -> Comparability | None:
     """An integer counts as E with index -1; `E[I]` is both, further brackets have no effect."""
     match = COMPARABILITY.fullmatch(text)
     if not match:
@@ -264,7 +279,7 @@ def comparability_of(text):
     return (numbers[0], numbers[1] if len(numbers) > 1 else -1)
 
 
-def edge_number_of(text):
+def edge_number_of(text: bytes) -> int | None:
     """A decimal number below 2^32, without a sign."""
     if not re.fullmatch(rb"[0-9]+", text) or int(text) >= 1 << 32:
         return None
@@ -281,7 +296,7 @@ class OpenVariable:
     constant_text: bytes = b""
 
 
-def read_ppt_block(number, rest, lines, implicit):
+def read_ppt_block(number: int, rest: bytes, lines: Iterator[Line], implicit: bool) -> Declaration:
     """A declaration of format 2.0, whose first line is `ppt NAME`."""
     if rest == b"":
         raise Fault(3, number)
@@ -300,7 +315,7 @@ def read_ppt_block(number, rest, lines, implicit):
     return declaration
 
 
-def point_line(declaration, at, word, text):
+def point_line(declaration: Declaration, at: int, word: bytes, text: bytes) -> None:
     words = words_of(text)
     if word == b"ppt-type":
         if len(words) != 1 or words[0].lower() not in POINT_TYPES:
@@ -309,20 +324,20 @@ def point_line(declaration, at, word, text):
         if len(words) != 3 or edge_number_of(words[2]) is None:
             raise Fault(3, at)
         if words[0] == b"parent":
-            edge = (unescape(words[1]), edge_number_of(words[2]))
+            edge = (unescape(words[1]), int(words[2]))
             if edge in declaration.edges:
                 raise Fault(3, at)
             declaration.edges.append(edge)
 
 
-def begin_variable(declaration, at, text):
+def begin_variable(declaration: Declaration, at: int, text: bytes) -> OpenVariable:
     name = unescape(text)
     if name == b"" or any(variable.name == name for variable in declaration.variables):
         raise Fault(4, at)
     return OpenVariable(at, Variable(name))
 
 
-def variable_line(declaration, opened, at, word, text, implicit):
+def variable_line(declaration: Declaration, opened: OpenVariable, at: int, word: bytes, text: bytes, implicit: bool) -> None:
     variable = opened.variable
     words = words_of(text)
     if word == b"rep-type":
@@ -342,13 +357,13 @@ def variable_line(declaration, opened, at, word, text, implicit):
     elif word == b"parent":
         if len(words) not in (2, 3) or edge_number_of(words[1]) is None:
             raise Fault(4, at)
-        edge = (unescape(words[0]), edge_number_of(words[1]))
+        edge = (unescape(words[0]), int(words[1]))
         if edge in declaration.edges:
             name = unescape(words[2]) if len(words) == 3 else variable.name
             variable.parents.append((declaration.edges.index(edge), name))
 
 
-def end_variable(declaration, opened):
+def end_variable(declaration: Declaration, opened: OpenVariable | None) -> None:
     """A variable without `rep-type` is judged before its constant."""
     if opened is None:
         return
@@ -360,7 +375,7 @@ def end_variable(declaration, opened):
     declaration.variables.append(opened.variable)
 
 
-def constant_of(kind, text, at):
+def constant_of(kind: str | None, text: bytes, at: int) -> Value:
     """A constant's text must be a value of the kind that isn't missing; for an opaque variable it
     isn't read."""
     if kind is None:
@@ -374,7 +389,7 @@ def constant_of(kind, text, at):
     return value
 
 
-def read_declare_block(number, lines, implicit):
+def read_declare_block(number: int, lines: Iterator[Line], implicit: bool) -> Declaration:
     """A declaration of format 1.0: `DECLARE`, the point's name, and four lines a variable."""
     declaration = None
     variable = None
@@ -403,7 +418,7 @@ def read_declare_block(number, lines, implicit):
     return declaration
 
 
-def read_representation(variable, at, line):
+def read_representation(variable: Variable, at: int, line: bytes) -> None:
     """A rep-type, or a rep-type, `=` as a word of its own, and a constant's text."""
     rep_type, rest = first_word_and_rest(line)
     if rep_type not in REP_TYPES:
@@ -424,15 +439,15 @@ def read_representation(variable, at, line):
 class Record:
     """`values` are those of the declared variables that aren't opaque, constants filled in."""
     line: int
-    point: object
-    nonce: object
-    values: list
+    point: Point
+    nonce: int | None
+    values: list[Value]
 
 
 NONCE_LINE = b"this_invocation_nonce"
 
 
-def read_record(number, line, lines, table, end):
+def read_record(number: int, line: bytes, lines: Iterator[Line], table: Table, end: int) -> Record:
     """A sample record: the point's name, perhaps a nonce, then name, value and mark of each
     declared variable without a constant. A block that ends too early is Truncated at `end`."""
     point = table.find(unescape(line))
@@ -458,21 +473,21 @@ def read_record(number, line, lines, table, end):
     return Record(number, point, nonce, values)
 
 
-def needed(lines, end):
+def needed(lines: Iterator[Line], end: int) -> Line:
     line = next(lines, None)
     if line is None:
         raise Fault(12, end)
     return line
 
 
-def read_nonce(line):
+def read_nonce(line: Line) -> int:
     at, text = line
     if not DECIMAL.fullmatch(text) or not fits_i64(int(text)):
         raise Fault(8, at)
     return int(text)
 
 
-def read_value(variable, name_line, lines, end):
+def read_value(variable: Variable, name_line: Line, lines: Iterator[Line], end: int) -> Value:
     """A value is judged when its mark is read; with mark 2 it is missing, whatever the text."""
     at, name = name_line
     if unescape(name) != variable.name:

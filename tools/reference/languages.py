@@ -13,7 +13,7 @@ from dataclasses import dataclass
 
 from input_language import ELEMENT
 from points import VarInfo
-from rows import EMPTY
+from rows import EMPTY, State
 
 SPECS = os.path.join(os.path.dirname(os.path.abspath(__file__)), "../../crates/dk_languages/specs")
 LANGUAGES = ("Python", "C", "Smtlib")
@@ -85,7 +85,7 @@ def string(language: str, text: bytes) -> str:
     return "b" + "".join(chr(b) if b < 128 else f"\\{b:03o}" for b in text) + '.decode("utf-8", "surrogateescape")'
 
 
-def literal(language: str, value: object) -> str:
+def literal(language: str, value: bool | int | bytes) -> str:
     """A value in the language."""
     if isinstance(value, bool):
         return str(value) if language == "Python" else str(value).lower()
@@ -99,9 +99,9 @@ def is_string_of(language: str, text: bytes) -> bool:
 
 # ---------------------------------------------------------------- lines
 
-def line(language: str, row: int, roles: list[dict[str, str]], state: tuple) -> str:
+def line(language: str, row: int, roles: list[dict[str, str]], state: State) -> str:
     """What the row says in the language of variables with these values, starts, ends and presences."""
-    fillings = {}
+    fillings: dict[str, str] = {}
     for role, letters in zip(roles, ("XFT", "YGU", "ZHV")):
         fillings.update(zip(letters, (role["value"], role["start"], role["end"])))
     numbers = [] if state[0] in ("ints", "texts", "truth", "code") else list(state[1:])

@@ -4,11 +4,22 @@ The table holds each point with its declaration (an implicit exit has none), its
 entry and its edges. The history adds the comparability word, the grammar and the samples.
 """
 
+from __future__ import annotations
+
 import re
 from dataclasses import dataclass, field
+from typing import TYPE_CHECKING, Any, Callable, Sequence, Tuple
 
-from input_language import (ELEMENT, MISSING, Fault, read_declare_block, read_headers,
-                            read_ppt_block, read_record, first_word_and_rest)
+from input_language import (ELEMENT, MISSING, Block, Comparability, Declaration, Fault, Record, Value, Variable, first_word_and_rest,
+                            read_declare_block, read_headers, read_ppt_block, read_record)
+
+if TYPE_CHECKING:
+    from samples import Compact
+
+# the values of a point's variables
+Sample = Tuple[Value, ...]
+# a word and the positions of bases
+Form = Tuple[Any, ...]
 
 POINTS_LIMIT = 65_535
 DECLARED_LIMIT = 1_024
@@ -22,52 +33,61 @@ class VarInfo:
     value at the entry."""
     name: bytes
     kind: str
-    form: tuple
-    comparability: tuple
+    form: Form
+    comparability: Comparability
     plain: bytes
     orig: bool
 
-    def is_base(self):
+    def is_base(self) -> bool:
         return self.form[0] in ("declared", "orig")
 
 
 @dataclass
 class Edge:
     """An edge of a point to a parent of that name. `source` is the declaration whose parent lines
-    name the partners, and `position` the edge's place there; both are None for a made edge."""
+    name the partners, or None for a made edge, and `position` the edge's place there."""
     parent: bytes
-    source: object = None
-    position: object = None
+    source: Declaration | None = None
+    position: int = 0
+
+    def named(self) -> tuple[bytes, int] | None:
+        """The PPT and ID of the parent line, where the edge has one."""
+        return self.source.edges[self.position] if self.source is not None else None
 
 
 @dataclass(eq=False)
 class Point:
     index: int
     name: bytes
-    declaration: object
-    variables: list
-    entry: object
-    edges: list
+    declaration: Declaration | None
+    variables: list[VarInfo]
+    entry: Point | None
+    edges: list[Edge]
 
-    def base(self):
+    def base(self) -> list[VarInfo]:
         return [variable for variable in self.variables if variable.is_base()]
 
 
-def method_and_tag(name):
+def method_and_tag(name: bytes) -> tuple[bytes, bytes] | tuple[None, None]:
     """The method is what stands before the last `:::`, the tag what follows."""
     method, colons, tag = name.rpartition(b":::")
     return (method, tag) if colons else (None, None)
 
 
-def is_entry(name):
+def beside(name: bytes, tag: bytes) -> bytes:
+    """The name of the point of the same method with this tag."""
+    return name.rpartition(b":::")[0] + b":::" + tag
+
+
+def is_entry(name: bytes) -> bool:
     return method_and_tag(name)[1] == b"ENTER"
 
 
-def is_combined_exit(name):
+def is_combined_exit(name: bytes) -> bool:
     return method_and_tag(name)[1] == b"EXIT"
 
 
-def is_subexit(name):
+def is_subexit(name: bytes) -> bool:
     tag = method_and_tag(name)[1]
     return tag is not None and re.fullmatch(rb"EXIT[0-9]+", tag) is not None
 
@@ -75,15 +95,15 @@ def is_subexit(name):
 class Table:
     """`second_form` tells whether declarations of format 1.0 are read at all."""
 
-    def __init__(self, second_form=True):
+    def __init__(self, second_form: bool = True) -> None:
         self.second_form = second_form
-        self.points = []
-        self.by_name = {}
+        self.points: list[Point] = []
+        self.by_name: dict[bytes, Point] = {}
 
-    def find(self, name):
+    def find(self, name: bytes) -> Point | None:
         return self.by_name.get(name)
 
-    def declare(self, declaration, line):
+    def declare(self, declaration: Declaration, line: int) -> bool:
         """Adds the declared point, before it an implicit exit where one is made. Gives False
         where the same block was there before."""
         known = self.find(declaration.name)
@@ -108,7 +128,7 @@ class Table:
             raise Fault(6, line)
         return True
 
-    def points_of(self, declaration):
+    def points_of(self, declaration: Declaration) -> list[Point]:
         """The points that a new declaration brings."""
         name = declaration.name
         entry = self.entry_of_exit(name)
@@ -118,7 +138,7 @@ class Table:
         index = len(self.points)
         if not is_subexit(name):
             return [Point(index, name, declaration, variables, entry, declared)]
-        combined = method_and_tag(name)[0] + b":::EXIT"
+        combined = beside(name, b"EXIT")
         exit_point = self.find(combined)
         added = []
         if exit_point is None:
@@ -132,23 +152,23 @@ class Table:
         added.append(Point(index, name, declaration, variables, entry, kept))
         return added
 
-    def entry_of_exit(self, name):
+    def entry_of_exit(self, name: bytes) -> Point | None:
         """The entry of an exit, where it was declared before."""
         if not (is_combined_exit(name) or is_subexit(name)):
             return None
-        return self.find(method_and_tag(name)[0] + b":::ENTER")
+        return self.find(beside(name, b"ENTER"))
 
-    def edges_from(self, point):
+    def edges_from(self, point: Point) -> list[tuple[Edge, Point]]:
         """The point's edges to points of the table, as (edge, parent)."""
         found = [(edge, self.find(edge.parent)) for edge in point.edges]
         return [(edge, parent) for edge, parent in found if parent is not None]
 
-    def edges_into(self, point):
+    def edges_into(self, point: Point) -> list[tuple[Edge, Point]]:
         """The edges into the point, as (edge, child)."""
         return [(edge, child) for child in self.points for edge in child.edges
                 if edge.parent == point.name]
 
-    def has_cycle_through(self, point):
+    def has_cycle_through(self, point: Point) -> bool:
         """Whether the edges of the table lead from the point back to it."""
         reached = set()
         ahead = [parent for _, parent in self.edges_from(point)]
@@ -161,23 +181,22 @@ class Table:
                 ahead += [parent for _, parent in self.edges_from(here)]
         return False
 
-    def partners(self, edge, child, parent):
+    def partners(self, edge: Edge, child: Point, parent: Point) -> list[int | None]:
         """For each variable of the parent the position of its partner in the child, or None."""
-        found = {}
+        found: dict[int, int | None] = {}
         for position, variable in enumerate(parent.variables):
             found[position] = partner(edge, child, parent, variable, found)
         return [found[position] for position in range(len(parent.variables))]
 
 
-def is_taken_over(exit_point, edge):
+def is_taken_over(exit_point: Point, edge: Edge) -> bool:
     """Whether the implicit exit has an edge with this PPT and ID."""
     if exit_point.declaration is not None:
         return False
-    named = edge.source.edges[edge.position]
-    return any(named == other.source.edges[other.position] for other in exit_point.edges)
+    return any(edge.named() == other.named() for other in exit_point.edges)
 
 
-def partner(edge, child, parent, variable, found):
+def partner(edge: Edge, child: Point, parent: Point, variable: VarInfo, found: dict[int, int | None]) -> int | None:
     """`found` holds the partners of the parent's earlier variables."""
     if not variable.is_base():
         bases = tuple(found[base] for base in variable.form[1:])
@@ -187,22 +206,23 @@ def partner(edge, child, parent, variable, found):
     if edge.source is None:
         return position_of(child, lambda v: (v.name, v.kind, v.form)
                            == (variable.name, variable.kind, variable.form))
-    named = first_with_line(edge, variable.plain)
+    named = first_with_line(edge.source, edge.position, variable.plain)
     if named is None or named.kind != variable.kind:
         return None
-    return position_of(child, lambda v: v.is_base() and v.plain == named.name
-                       and v.kind == named.kind and v.orig == variable.orig)
+    name = named.name
+    return position_of(child, lambda v: v.is_base() and v.plain == name
+                       and v.kind == variable.kind and v.orig == variable.orig)
 
 
-def first_with_line(edge, name):
+def first_with_line(declaration: Declaration, edge: int, name: bytes) -> Variable | None:
     """The first declared variable with a counting parent line of the edge that gives the name."""
-    for variable in edge.source.variables:
-        if (edge.position, name) in variable.parents:
+    for variable in declaration.variables:
+        if (edge, name) in variable.parents:
             return variable
     return None
 
 
-def position_of(point, condition):
+def position_of(point: Point, condition: Callable[[VarInfo], bool]) -> int | None:
     for position, variable in enumerate(point.variables):
         if condition(variable):
             return position
@@ -211,9 +231,9 @@ def position_of(point, condition):
 
 # ---------------------------------------------------------------- variables
 
-def variables_of(declaration, entry, second_form):
+def variables_of(declaration: Declaration, entry: Point | None, second_form: bool) -> list[VarInfo]:
     """Declared variables that aren't opaque, orig variables, then derived ones. Where there would
-    be too many, the list is one longer than allowed and has no derived ones."""
+    be too many, the list is longer than allowed and has no derived ones."""
     base = [VarInfo(v.name, v.kind, ("declared",), v.comparability, v.name, False)
             for v in declaration.variables if v.kind is not None]
     for old in entry.base() if entry is not None else []:
@@ -222,11 +242,11 @@ def variables_of(declaration, entry, second_form):
                 base.append(VarInfo(b"orig(" + now.name + b")", now.kind, ("orig",),
                                     now.comparability, now.name, True))
     if number_of_variables(base) > VARIABLES_LIMIT:
-        return [None] * (VARIABLES_LIMIT + 1)
+        return base[:1] * (VARIABLES_LIMIT + 1)
     return base + derived_variables(base, second_form)
 
 
-def number_of_variables(base):
+def number_of_variables(base: list[VarInfo]) -> int:
     total = len(base)
     for orig in (False, True):
         sequences = sum(v.kind in ELEMENT and v.orig == orig for v in base)
@@ -235,7 +255,7 @@ def number_of_variables(base):
     return total
 
 
-def derived_variables(base, second_form):
+def derived_variables(base: list[VarInfo], second_form: bool) -> list[VarInfo]:
     found = []
     for s, sequence in enumerate(base):
         if sequence.kind not in ELEMENT:
@@ -244,7 +264,7 @@ def derived_variables(base, second_form):
         elem, index = sequence.comparability
         name = short_name(sequence.plain, second_form)
 
-        def add(form, kind, text, comparability):
+        def add(form: Form, kind: str, text: bytes, comparability: Comparability) -> None:
             printed = b"orig(" + text + b")" if sequence.orig else text
             found.append(VarInfo(printed, kind, form, comparability, text, sequence.orig))
 
@@ -263,7 +283,7 @@ def derived_variables(base, second_form):
     return found
 
 
-def short_name(name, second_form):
+def short_name(name: bytes, second_form: bool) -> bytes:
     """The name without a final `[..]` or, where it has none, without a final `[]`."""
     for ending in (b"[..]", b"[]") if second_form else (b"[..]",):
         if name.endswith(ending):
@@ -271,7 +291,7 @@ def short_name(name, second_form):
     return name
 
 
-def derived_value(form, values):
+def derived_value(form: Form, values: Sequence[Value]) -> Value:
     """The value of a derived form over the values of its bases; a missing base makes it missing."""
     bases = [values[base] for base in form[1:]]
     if any(base is MISSING for base in bases):
@@ -296,7 +316,7 @@ def derived_value(form, values):
     return s[i + 1:] if -1 <= i < n else MISSING
 
 
-def with_derived(variables, base_values):
+def with_derived(variables: list[VarInfo], base_values: list[Value]) -> Sample:
     values = list(base_values)
     for variable in variables[len(base_values):]:
         values.append(derived_value(variable.form, base_values))
@@ -314,19 +334,19 @@ class History:
     table: Table = field(default_factory=Table)
     implicit: bool = True
     grammar: int = 2
-    loaded: dict = field(default_factory=dict)
-    own: dict = field(default_factory=dict)
-    newest: object = None
+    loaded: dict[int, Compact] = field(default_factory=dict)
+    own: dict[int, list[Sample]] = field(default_factory=dict)
+    newest: tuple[int, Point, Sample] | None = None
 
 
 @dataclass
 class Entry:
-    method: bytes
-    nonce: object
-    values: list
+    method: bytes | None
+    nonce: int | None
+    values: list[Value]
 
 
-def taken_by(waiting, method, nonce):
+def taken_by(waiting: list[Entry], method: bytes | None, nonce: int | None) -> list[int]:
     """The positions of the waiting entries that an exit takes, the latest of its method first."""
     of_method = [k for k, entry in enumerate(waiting)
                  if entry.method == method and entry.nonce == nonce]
@@ -338,7 +358,7 @@ def taken_by(waiting, method, nonce):
     return [latest] + [k for k in range(latest + 1, len(waiting)) if waiting[k].nonce is None]
 
 
-def effect_of(block, history, waiting, ignore_missing_entry):
+def effect_of(block: Block, history: History, waiting: list[Entry], ignore_missing_entry: bool) -> bool:
     """Adds the effect of a block to the history. Gives False where it is no block. `waiting` is
     the list of the file's entries that wait before it."""
     history.newest = None
@@ -361,7 +381,7 @@ def effect_of(block, history, waiting, ignore_missing_entry):
     return True
 
 
-def add_record(record, history, waiting, ignore_missing_entry):
+def add_record(record: Record, history: History, waiting: list[Entry], ignore_missing_entry: bool) -> None:
     point = record.point
     method = method_and_tag(point.name)[0]
     values = list(record.values)
@@ -371,7 +391,7 @@ def add_record(record, history, waiting, ignore_missing_entry):
             if ignore_missing_entry:
                 return
             raise Fault(14, record.line)
-        values += orig_values(point, waiting[taken[0]])
+        values += orig_values(point, point.entry, waiting[taken[0]])
         waiting[:] = [entry for k, entry in enumerate(waiting) if k not in taken]
     if is_entry(point.name):
         waiting.append(Entry(method, record.nonce, list(record.values)))
@@ -380,8 +400,8 @@ def add_record(record, history, waiting, ignore_missing_entry):
     history.newest = (record.line, point, sample)
 
 
-def orig_values(point, entry):
+def orig_values(point: Point, entry_point: Point, entry: Entry) -> list[Value]:
     """The entry's values of the exit's orig variables."""
-    names = [variable.name for variable in point.entry.base()]
+    names = [variable.name for variable in entry_point.base()]
     return [entry.values[names.index(variable.plain)]
             for variable in point.base() if variable.orig]

@@ -1,63 +1,75 @@
 """Filter facts, sections, lines of --stats, and the report of the first stage."""
 
+from __future__ import annotations
+
 from itertools import product
+from typing import Callable, Iterator, Protocol, Sequence
 
 from input_language import ELEMENT
-from rows import (EQUALITIES, ONE_OF_BESIDE, ONE_OF_SCALAR, fits, is_suppressed, rows_of, text_of)
-from samples import AllSamples, capped, instances
+from points import History, Point, Sample, Table, VarInfo
+from rows import EQUALITIES, ONE_OF_BESIDE, ONE_OF_SCALAR, Places, State, fits, is_suppressed, rows_of, text_of
+from samples import AllSamples, Samples, capped, instances
 
 FILTERS = ("few", "incomparable", "member", "implied", "constant", "parent")
 SLICES_AND_ELEMENTS = ("at", "upto", "before", "since", "after")
 
 
-def comparable(one, other):
+def comparable(one: int, other: int) -> bool:
     """Two E numbers are comparable if they are equal or one is negative."""
     return one == other or one < 0 or other < 0
+
+
+class SamplesOfPoints(Protocol):
+    """What gives the samples of each point."""
+    table: Table
+
+    def of(self, point: Point) -> Samples:
+        """The samples of the point."""
 
 
 class PointFacts:
     """The facts of the instances of one point. `all_samples` gives the samples of every point."""
 
-    def __init__(self, all_samples, point, least_number):
+    def __init__(self, all_samples: SamplesOfPoints, point: Point, least_number: int) -> None:
         self.all_samples = all_samples
         self.point = point
         self.variables = point.variables
         self.samples = all_samples.of(point)
         self.least_number = least_number
-        self.firsts = None
-        self.parents = None
+        self.firsts: list[int] | None = None
+        self.parents: list[tuple[Point, list[list[int]]]] | None = None
 
-    def drops(self, name, number, places, state):
+    def drops(self, name: str, number: int, places: Places, state: State) -> bool:
         return getattr(self, "is_" + name)(number, places, state)
 
-    def is_few(self, number, places, state):
+    def is_few(self, number: int, places: Places, state: State) -> bool:
         return self.samples.count(places) < self.least_number
 
-    def is_incomparable(self, number, places, state):
+    def is_incomparable(self, number: int, places: Places, state: State) -> bool:
         return are_incomparable(self.variables, places)
 
-    def first_of(self, place):
+    def first_of(self, place: int) -> int:
         """The first of those that agree with the variable and have its comparability pair."""
         if self.firsts is None:
             self.firsts = [next(w for w in range(v + 1) if self.is_like(w, v))
                            for v in range(len(self.variables))]
         return self.firsts[place]
 
-    def is_like(self, v, w):
+    def is_like(self, v: int, w: int) -> bool:
         return (self.variables[v].comparability == self.variables[w].comparability
                 and self.samples.agree(v, w))
 
-    def is_equality_of_member(self, number, places):
+    def is_equality_of_member(self, number: int, places: Places) -> bool:
         """Whether it is an equality of a first variable with one that it stands for."""
         return (number in EQUALITIES and places[0] != places[1]
                 and places[0] == self.first_of(places[1]))
 
-    def is_member(self, number, places, state):
+    def is_member(self, number: int, places: Places, state: State) -> bool:
         if self.is_equality_of_member(number, places):
             return False
         return any(self.first_of(place) != place for place in places)
 
-    def is_implied(self, number, places, state):
+    def is_implied(self, number: int, places: Places, state: State) -> bool:
         if is_suppressed(self.samples, number, places):
             return True
         if number in ONE_OF_BESIDE:
@@ -70,12 +82,12 @@ class PointFacts:
             return any(fits(self.samples.fit(24, order)) for order in sums)
         return False
 
-    def is_constant(self, number, places, state):
+    def is_constant(self, number: int, places: Places, state: State) -> bool:
         if len(places) < 2 or self.is_equality_of_member(number, places):
             return False
         return any(self.has_one_value(place) for place in places)
 
-    def has_one_value(self, place):
+    def has_one_value(self, place: int) -> bool:
         """Whether a scalar variable fits its OneOf row with one value."""
         kind = self.variables[place].kind
         if kind in ELEMENT:
@@ -85,7 +97,7 @@ class PointFacts:
             return len(state[1]) == 1
         return fits(state)
 
-    def parents_and_partners(self):
+    def parents_and_partners(self) -> list[tuple[Point, list[list[int]]]]:
         """For each edge to a parent the parent and, for each variable here, the variables there
         whose partner it is."""
         if self.parents is None:
@@ -97,7 +109,7 @@ class PointFacts:
                                               for place in range(len(self.variables))]))
         return self.parents
 
-    def is_parent(self, number, places, state):
+    def is_parent(self, number: int, places: Places, state: State) -> bool:
         for parent, with_partner in self.parents_and_partners():
             for there in product(*[with_partner[place] for place in places]):
                 if (len(set(there)) == len(there)
@@ -107,7 +119,7 @@ class PointFacts:
         return False
 
 
-def are_incomparable(variables, places):
+def are_incomparable(variables: list[VarInfo], places: Places) -> bool:
     """Two of the variables aren't comparable, or the index of an element or slice isn't
     comparable with the sequence's index number."""
     numbers = [variables[place].comparability[0] for place in places]
@@ -122,7 +134,7 @@ def are_incomparable(variables, places):
     return False
 
 
-def kept_instances(facts, filters_on):
+def kept_instances(facts: PointFacts, filters_on: Sequence[str]) -> Iterator[tuple[int, Places, State]]:
     """The instances that fit and for which no filter that is on has its fact, in order."""
     for number in rows_of(facts.samples.grammar):
         for places in instances(number, facts.variables):
@@ -132,11 +144,11 @@ def kept_instances(facts, filters_on):
                 yield number, places, state
 
 
-def heading(point, number):
+def heading(point: Point, number: int) -> bytes:
     return b"=" * 75 + b"\n" + b"%s  [%d]\n" % (point.name, capped(number))
 
 
-def section(all_samples, point, least_number, filters_on):
+def section(all_samples: AllSamples, point: Point, least_number: int, filters_on: Sequence[str]) -> bytes:
     """The section of a point that has samples."""
     facts = PointFacts(all_samples, point, least_number)
     text = heading(point, facts.samples.number())
@@ -146,7 +158,7 @@ def section(all_samples, point, least_number, filters_on):
     return text
 
 
-def stats_line(all_samples, point):
+def stats_line(all_samples: AllSamples, point: Point) -> bytes:
     """The sizes of the compact form of the point's own samples."""
     form = all_samples.own(point).compact_form()
     sizes = (capped(form.number), len(form.classes), len(form.known), len(form.patterns),
@@ -155,7 +167,7 @@ def stats_line(all_samples, point):
             % ((point.name,) + sizes))
 
 
-def report(history, least_number, prefix, filters_on, with_stats):
+def report(history: History, least_number: int, prefix: bytes, filters_on: Sequence[str], with_stats: bool) -> bytes:
     all_samples = AllSamples(history)
     text = b""
     for point in history.table.points:
@@ -167,7 +179,7 @@ def report(history, least_number, prefix, filters_on, with_stats):
     return text
 
 
-def bounds_report(history):
+def bounds_report(history: History) -> bytes:
     """The report of the stage that has bounds alone: for each point with own samples the least
     and the greatest values of its base variables of kind Int, over its own samples."""
     text = b""
@@ -179,7 +191,7 @@ def bounds_report(history):
     return text
 
 
-def bounds(point, samples, relation, choose):
+def bounds(point: Point, samples: list[Sample], relation: bytes, choose: Callable[[list[int]], int]) -> bytes:
     text = b""
     for place, variable in enumerate(point.base()):
         numbers = [sample[place] for sample in samples if sample[place] is not None]

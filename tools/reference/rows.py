@@ -6,10 +6,31 @@ A state is a tuple whose first item is its word in a state file:
 ('span', x1, y1, z1, x2, y2, z2) ('plane', a, b, c, d) ('offset', k)
 """
 
+from __future__ import annotations
+
 from dataclasses import dataclass
 from math import gcd
+from typing import TYPE_CHECKING, Any, Callable, Collection, Iterable, Protocol, Sequence, Tuple
 
-from input_language import ELEMENT, STRING, fits_i64, fits_u64
+from input_language import ELEMENT, STRING, Value, fits_i64, fits_u64
+
+if TYPE_CHECKING:
+    from points import VarInfo
+
+State = Tuple[Any, ...]
+Numbers = Tuple[int, ...]
+# the positions of variables, by the roles of a row
+Places = Tuple[int, ...]
+# the values of variables in one sample
+Values = Tuple[Value, ...]
+Tuples = Collection[Values]
+Relation = Callable[..., bool]
+StateOfValues = Callable[[Collection[Value]], State]
+StateOfTuples = Callable[[Tuples], State]
+TextOfState = Callable[[Sequence[bytes], State], bytes]
+# of each role the kind, and ANY or BASE
+Takes = Tuple[Tuple[str, str], ...]
+Premise = Tuple[Any, ...]
 
 EMPTY = ("empty",)
 BROKEN = ("broken",)
@@ -27,27 +48,27 @@ class Row:
     lists the roles that may be exchanged. A plain row has a relation, another one the function
     that gives the state of a list of tuples, and the words that its states may have."""
     number: int
-    takes: tuple
-    exchange: tuple
-    relation: object
-    state_of_tuples: object
-    words: tuple
-    text: object
+    takes: Takes
+    exchange: Places
+    relation: Relation | None
+    state_of_tuples: StateOfTuples | None
+    words: tuple[str, ...]
+    text: TextOfState
 
 
 # ---------------------------------------------------------------- states of a list of values
 
-def least(values):
+def least(values: Collection[int]) -> State:
     return ("least", min(values)) if values else EMPTY
 
 
-def greatest(values):
+def greatest(values: Collection[int]) -> State:
     return ("greatest", max(values)) if values else EMPTY
 
 
-def few_of(word, most):
+def few_of(word: str, most: int) -> StateOfValues:
     """The distinct values, ascending, if there are at most so many."""
-    def state(values):
+    def state(values: Iterable[Value]) -> State:
         values = sorted(set(values))
         if not values:
             return EMPTY
@@ -55,8 +76,8 @@ def few_of(word, most):
     return state
 
 
-def single_of(word):
-    def state(values):
+def single_of(word: str) -> StateOfValues:
+    def state(values: Iterable[Value]) -> State:
         values = set(values)
         if not values:
             return EMPTY
@@ -64,7 +85,7 @@ def single_of(word):
     return state
 
 
-def modulus(values):
+def modulus(values: Iterable[int]) -> State:
     """For several values the greatest common divisor of all differences and the remainder."""
     values = list(set(values))
     if not values:
@@ -77,7 +98,7 @@ def modulus(values):
     return BROKEN if m == 1 else ("modulus", m, values[0] % m)
 
 
-def signed(numbers, constant):
+def signed(numbers: Numbers, constant: int) -> Numbers:
     """Divides by the greatest common divisor; the first number that isn't 0 becomes positive."""
     divisor = 0
     for number in numbers:
@@ -87,16 +108,16 @@ def signed(numbers, constant):
     return tuple(number // divisor for number in numbers) + (constant // divisor,)
 
 
-def line_through(p, q):
+def line_through(p: Numbers, q: Numbers) -> Numbers:
     a, b = q[1] - p[1], p[0] - q[0]
     return signed((a, b), -(a * p[0] + b * p[1]))
 
 
-def is_on(equation, point):
+def is_on(equation: Numbers, point: Numbers) -> bool:
     return sum(c * x for c, x in zip(equation, point)) + equation[-1] == 0
 
 
-def linear(points):
+def linear(points: Iterable[Numbers]) -> State:
     points = list(set(points))
     if any(abs(number) > LINEAR_RANGE for point in points for number in point):
         return BROKEN
@@ -106,15 +127,15 @@ def linear(points):
     return ("straight",) + line if all(is_on(line, point) for point in points) else BROKEN
 
 
-def difference(p, q):
+def difference(p: Numbers, q: Numbers) -> Numbers:
     return tuple(b - a for a, b in zip(p, q))
 
 
-def cross(u, v):
+def cross(u: Numbers, v: Numbers) -> Numbers:
     return (u[1] * v[2] - u[2] * v[1], u[2] * v[0] - u[0] * v[2], u[0] * v[1] - u[1] * v[0])
 
 
-def plane(points):
+def plane(points: Iterable[Numbers]) -> State:
     points = sorted(set(points))
     if any(abs(number) > PLANE_RANGE for point in points for number in point):
         return BROKEN
@@ -132,7 +153,7 @@ def plane(points):
     return ("span",) + first + last
 
 
-def offset(pairs):
+def offset(pairs: Tuples) -> State:
     if any(len(s) != len(t) for s, t in pairs):
         return BROKEN
     return single_of("offset")([y - x for s, t in pairs for x, y in zip(s, t)])
@@ -140,63 +161,63 @@ def offset(pairs):
 
 # ---------------------------------------------------------------- relations
 
-def is_product_square(x, y):
+def is_product_square(x: int, y: int) -> bool:
     return x == y * y
 
 
-def divides(x, y):
+def divides(x: int, y: int) -> bool:
     return y != 0 and x % y == 0
 
 
-def quotient(x, y):
+def quotient(x: int, y: int) -> int:
     """The quotient cut towards 0."""
     size = abs(x) // abs(y)
     return size if (x < 0) == (y < 0) else -size
 
 
-def neighbours(relation):
+def neighbours(relation: Relation) -> Relation:
     return lambda s: all(relation(a, b) for a, b in zip(s, s[1:]))
 
 
-def each_against(relation):
+def each_against(relation: Relation) -> Relation:
     return lambda s, x: all(relation(element, x) for element in s)
 
 
-def elementwise(relation):
+def elementwise(relation: Relation) -> Relation:
     return lambda s, t: len(s) == len(t) and all(relation(a, b) for a, b in zip(s, t))
 
 
-def equal(x, y):
+def equal(x: Value, y: Value) -> bool:
     return x == y
 
 
-def unequal(x, y):
+def unequal(x: Value, y: Value) -> bool:
     return x != y
 
 
-def below(x, y):
+def below(x: int, y: int) -> bool:
     return x < y
 
 
-def at_most(x, y):
+def at_most(x: int, y: int) -> bool:
     return x <= y
 
 
-def above(x, y):
+def above(x: int, y: int) -> bool:
     return x > y
 
 
-def at_least(x, y):
+def at_least(x: int, y: int) -> bool:
     return x >= y
 
 
-def is_subset(s, t):
+def is_subset(s: Collection[Value], t: Collection[Value]) -> bool:
     return set(s) <= set(t)
 
 
 # ---------------------------------------------------------------- texts
 
-def value_text(value):
+def value_text(value: Value) -> bytes:
     """The one text of a value, as in a state file."""
     if value is None:
         return b"missing"
@@ -205,14 +226,14 @@ def value_text(value):
     return value if isinstance(value, bytes) else b"%d" % value
 
 
-def one_of(subject, values):
+def one_of(subject: bytes, values: Collection[Value]) -> bytes:
     texts = [value_text(value) for value in values]
     if len(texts) == 1:
         return subject + b" == " + texts[0]
     return subject + b" one of { " + b", ".join(texts) + b" }"
 
 
-def terms_text(numbers, names, constant):
+def terms_text(numbers: Numbers, names: Sequence[bytes], constant: int) -> bytes:
     """The first number that isn't 0 is positive, and the first one isn't 0 where this is asked."""
     text = b""
     for number, name in zip(numbers, names):
@@ -224,44 +245,45 @@ def terms_text(numbers, names, constant):
     return text + b" == 0"
 
 
-def offset_text(names, k):
+def offset_text(names: Sequence[bytes], k: int) -> bytes:
     sign = b"+" if k > 0 else b"-"
     return b"%s == %s %s %d (elementwise)" % (names[1], names[0], sign, abs(k))
 
 
-def code_text(subject, state, otherwise):
+def code_text(subject: bytes, state: State, otherwise: bytes) -> bytes:
     return subject + (b" == null" if state[1] == 0 else otherwise)
 
 
-def infix(operator, ending=b""):
+def infix(operator: bytes, ending: bytes = b"") -> TextOfState:
     return lambda names, state: names[0] + operator + names[1] + ending
 
 
-def suffix(ending):
+def suffix(ending: bytes) -> TextOfState:
     return lambda names, state: names[0] + ending
 
 
-def function(before, between, after=b""):
+def function(before: bytes, between: bytes, after: bytes = b"") -> TextOfState:
     return lambda names, state: (names[0] + b" == " + before + names[1] + between + names[2]
                                  + after)
 
 
 # ---------------------------------------------------------------- the rows
 
-ROWS = {}
+ROWS: dict[int, Row] = {}
 
 
-def row(number, takes, text, relation=None, states=None, words=(), exchange=()):
+def row(number: int, takes: Takes, text: TextOfState, relation: Relation | None = None, states: StateOfTuples | None = None,
+        words: tuple[str, ...] = (), exchange: Places = ()) -> None:
     ROWS[number] = Row(number, takes, exchange, relation, states,
                        ("holds",) if relation else words, text)
 
 
-def single(function_of_values):
+def single(function_of_values: StateOfValues) -> StateOfTuples:
     """The state of the values of the one variable."""
     return lambda tuples: function_of_values([t[0] for t in tuples])
 
 
-def of_elements(function_of_values):
+def of_elements(function_of_values: StateOfValues) -> StateOfTuples:
     """The state of all elements of all tuples."""
     return lambda tuples: function_of_values([element for t in tuples for element in t[0]])
 
@@ -270,7 +292,7 @@ INT, BOOL, HASH, STR = ("Int", ANY), ("Bool", ANY), ("Hash", ANY), ("Str", ANY)
 INTS, BOOLS, HASHES, STRS = ("IntSeq", ANY), ("BoolSeq", ANY), ("HashSeq", ANY), ("StrSeq", ANY)
 
 
-def base(*takes):
+def base(*takes: tuple[str, str]) -> Takes:
     return tuple((kind, BASE) for kind, _ in takes)
 
 
@@ -278,7 +300,7 @@ BOTH = (0, 1)
 ARGUMENTS = (1, 2)
 
 
-def scalar_rows():
+def scalar_rows() -> None:
     row(1, (INT,), lambda n, s: one_of(n[0], s[1]), states=single(few_of("ints", 3)),
         words=("ints",))
     row(2, (INT,), lambda n, s: b"%s >= %d" % (n[0], s[1]), states=single(least), words=("least",))
@@ -297,7 +319,7 @@ def scalar_rows():
     row(10, (STR,), suffix(b" != null"), lambda x: x != b"null")
 
 
-def pair_rows():
+def pair_rows() -> None:
     row(11, (INT, INT), infix(b" == "), equal, exchange=BOTH)
     row(12, (INT, INT), infix(b" != "), unequal, exchange=BOTH)
     row(13, (INT, INT), infix(b" < "), below)
@@ -314,7 +336,7 @@ def pair_rows():
     row(23, (STR, STR), infix(b" != "), unequal, exchange=BOTH)
 
 
-def triple_rows():
+def triple_rows() -> None:
     three = base(INT, INT, INT)
     row(24, three, function(b"", b" + "), lambda z, x, y: z == x + y, exchange=ARGUMENTS)
     row(25, three, function(b"", b" - "), lambda z, x, y: z == x - y)
@@ -333,7 +355,7 @@ def triple_rows():
         exchange=ARGUMENTS)
 
 
-def sequence_rows():
+def sequence_rows() -> None:
     row(35, (INTS,), lambda n, s: one_of(n[0] + b" elements", s[1]),
         states=of_elements(few_of("ints", 3)), words=("ints",))
     row(36, (INTS,), lambda n, s: b"%s elements >= %d" % (n[0], s[1]), states=of_elements(least),
@@ -356,7 +378,7 @@ def sequence_rows():
     row(48, (STRS,), suffix(b" elements != null"), lambda s: b"null" not in s)
 
 
-def sequence_pair_rows():
+def sequence_pair_rows() -> None:
     for number, takes in ((49, (INT, INTS)), (50, (HASH, HASHES)), (51, (STR, STRS))):
         row(number, base(*takes), infix(b" in "), lambda x, s: x in s)
     against = (INTS, ("Int", BASE))
@@ -375,7 +397,7 @@ def sequence_pair_rows():
         exchange=BOTH)
 
 
-def second_grammar_rows():
+def second_grammar_rows() -> None:
     row(67, base(INT, INT, INT), lambda n, s: terms_text(s[1:4], n, s[4]), states=plane,
         words=("span", "plane"), exchange=(0, 1, 2))
     row(68, base(INTS, INTS), lambda n, s: offset_text(n, s[1]), states=offset,
@@ -387,7 +409,7 @@ for make in (scalar_rows, pair_rows, triple_rows, sequence_rows, sequence_pair_r
     make()
 
 
-def rows_of(grammar):
+def rows_of(grammar: int) -> range:
     return range(1, 67 if grammar == 1 else 69)
 
 
@@ -396,17 +418,19 @@ ONE_OF_SCALAR = {"Int": 1, "Bool": 6, "Hash": 7, "Str": 9}
 ONE_OF_BESIDE = {2: 1, 3: 1, 4: 1, 5: 1, 8: 7, 10: 9, 36: 35, 37: 35, 38: 35, 46: 45, 48: 47}
 
 
-def state_of(number, tuples):
+def state_of(number: int, tuples: Tuples) -> State:
     """The row's state of a set of tuples without a missing value."""
     here = ROWS[number]
-    if here.relation is None:
+    if here.state_of_tuples is not None:
         return here.state_of_tuples(tuples)
+    relation = here.relation
+    assert relation is not None
     if not tuples:
         return EMPTY
-    return HOLDS if all(here.relation(*values) for values in tuples) else BROKEN
+    return HOLDS if all(relation(*values) for values in tuples) else BROKEN
 
 
-def fits(state):
+def fits(state: State) -> bool:
     """Whether an instance with this state is an invariant."""
     if state[0] == "straight":
         return 0 not in state[1:3]
@@ -417,11 +441,11 @@ def fits(state):
     return state[0] not in ("empty", "broken", "one", "spot", "span")
 
 
-def text_of(number, state, names):
+def text_of(number: int, state: State, names: Sequence[bytes]) -> bytes:
     return ROWS[number].text(names, state)
 
 
-def admits(number, variables, places):
+def admits(number: int, variables: Sequence[VarInfo], places: Places) -> bool:
     """Whether the row takes these variables, in this order of roles."""
     takes = ROWS[number].takes
     if len(takes) != len(places):
@@ -430,7 +454,7 @@ def admits(number, variables, places):
                for (kind, which), place in zip(takes, places))
 
 
-def is_written(number, places):
+def is_written(number: int, places: Places) -> bool:
     """Whether the variables in the exchangeable roles don't descend."""
     exchanged = [places[role] for role in ROWS[number].exchange]
     return exchanged == sorted(exchanged)
@@ -438,7 +462,7 @@ def is_written(number, places):
 
 # ---------------------------------------------------------------- both lists together
 
-def join(number, a, b):
+def join(number: int, a: State, b: State) -> State:
     """The state of two lists together, from their states."""
     if a == EMPTY or b == BROKEN:
         return b
@@ -458,12 +482,12 @@ def join(number, a, b):
     return BROKEN
 
 
-def modulus_values(state):
+def modulus_values(state: State) -> list[int]:
     """Values with this state."""
     return [state[1]] if state[0] == "one" else [state[2], state[2] + state[1]]
 
 
-def join_linear(a, b):
+def join_linear(a: State, b: State) -> State:
     if a[0] == "straight" and b[0] == "straight":
         return BROKEN
     if a[0] == "spot" and b[0] == "spot":
@@ -472,7 +496,7 @@ def join_linear(a, b):
     return line if is_on(line[1:], spot[1:]) else BROKEN
 
 
-def join_plane(a, b):
+def join_plane(a: State, b: State) -> State:
     if a[0] == "plane" and b[0] == "plane":
         return BROKEN
     if a[0] == "span" and b[0] == "span":
@@ -482,10 +506,10 @@ def join_plane(a, b):
     return flat if both_on else BROKEN
 
 
-def exchanged(number, state, order):
+def exchanged(number: int, state: State, order: Sequence[int]) -> State:
     """The state of the tuples in another order of roles, in which role k is the old role
     order[k]."""
-    def moved(numbers):
+    def moved(numbers: Numbers) -> Numbers:
         return tuple(numbers[role] for role in order)
 
     if state[0] == "spot":
@@ -500,7 +524,7 @@ def exchanged(number, state, order):
     return state
 
 
-def written_order(number, places):
+def written_order(number: int, places: Sequence[int]) -> list[int]:
     """The order of roles that writes the tuple: role k of the written one is role order[k]."""
     order = list(range(len(places)))
     roles = ROWS[number].exchange
@@ -509,7 +533,7 @@ def written_order(number, places):
     return order
 
 
-def is_proper(number, state):
+def is_proper(number: int, state: State) -> bool:
     """Whether the state is one that the row can have."""
     word = state[0]
     if state in (EMPTY, BROKEN):
@@ -521,9 +545,9 @@ def is_proper(number, state):
         return fits_i64(numbers[0])
     if word in ("ints", "texts"):
         values = numbers[0]
-        good = fits_i64 if word == "ints" else is_string
         ascending = all(x < y for x, y in zip(values, values[1:]))
-        return 1 <= len(values) <= 3 and all(map(good, values)) and ascending
+        good = all(fits_i64(value) if word == "ints" else is_string(value) for value in values)
+        return 1 <= len(values) <= 3 and good and ascending
     if word == "code":
         return fits_u64(numbers[0])
     if word == "modulus":
@@ -542,11 +566,11 @@ def is_proper(number, state):
     return True
 
 
-def is_string(text):
+def is_string(text: bytes) -> bool:
     return text == b"null" or STRING.fullmatch(text) is not None
 
 
-def is_proper_equation(numbers, most):
+def is_proper_equation(numbers: Numbers, most: int) -> bool:
     coefficients = numbers[:-1]
     if all(number == 0 for number in coefficients):
         return False
@@ -557,19 +581,27 @@ def is_proper_equation(numbers, most):
 
 # ---------------------------------------------------------------- rules of suppression
 
-def fit(number, *roles):
+class Answers(Protocol):
+    """What is asked of the samples that a rule is about."""
+    variables: list[VarInfo]
+
+    def fit(self, number: int, places: Places) -> State:
+        """The state of the row over these variables."""
+
+
+def fit(number: int, *roles: int) -> Premise:
     return ("holds", number, roles)
 
 
-def least_at_least(role, k):
+def least_at_least(role: int, k: int) -> Premise:
     return ("least", role, k)
 
 
-def greatest_at_most(role, k):
+def greatest_at_most(role: int, k: int) -> Premise:
     return ("greatest", role, k)
 
 
-def only(role, k):
+def only(role: int, k: int) -> Premise:
     return ("only", role, k)
 
 
@@ -577,7 +609,7 @@ X, Y = 0, 1
 # For rows of three the roles are z, x and y.
 Z3, X3, Y3 = 0, 1, 2
 
-RULES = [
+RULES: list[tuple[int, list[Premise]]] = [
     (4, [least_at_least(X, 1)]),
     (4, [greatest_at_most(X, -1)]),
     (12, [fit(13, X, Y)]),
@@ -641,7 +673,7 @@ RULES = [
 ]
 
 
-def premise_fits(answers, premise, places):
+def premise_fits(answers: Answers, premise: Premise, places: Places) -> bool:
     """Whether a premise over the conclusion's variables fits. `answers` gives the variables and
     the state of each row over them."""
     word = premise[0]
@@ -658,7 +690,7 @@ def premise_fits(answers, premise, places):
     return answers.fit(1, (place,)) == ("ints", (k,))
 
 
-def is_suppressed(answers, number, places):
+def is_suppressed(answers: Answers, number: int, places: Places) -> bool:
     """Whether all premises of one of the row's rules fit."""
     return any(all(premise_fits(answers, premise, places) for premise in premises)
                for conclusion, premises in RULES if conclusion == number)

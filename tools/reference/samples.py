@@ -6,18 +6,27 @@ state files hold, each with the position of its variable for each variable here 
 the variable is missing in all those samples) and the number of times that it counts.
 """
 
+from __future__ import annotations
+
 from collections import Counter
 from dataclasses import dataclass
 from itertools import product
+from typing import Any, Iterable, Iterator, Sequence, Tuple
 
-from input_language import MISSING
-from rows import (BROKEN, EMPTY, HOLDS, ROWS, exchanged, is_suppressed, is_written, join, rows_of,
-                  state_of, written_order)
+from input_language import MISSING, Value
+from points import History, Point, Sample, VarInfo
+from rows import (BROKEN, EMPTY, HOLDS, ROWS, Places, State, Values, exchanged, is_suppressed, is_written, join, rows_of, state_of,
+                  written_order)
+
+# which leaders, or variables, are present
+Pattern = Tuple[bool, ...]
+# a row, and its leaders
+Slot = Tuple[int, Places]
 
 MOST = (1 << 64) - 1
 
 
-def capped(number):
+def capped(number: int) -> int:
     """Numbers of samples and blocks end at 2^64 - 1 when they are answered."""
     return min(number, MOST)
 
@@ -29,30 +38,30 @@ class Compact:
     """The compact form of a nonempty list of samples: its number, the classes of variables that
     agree, the patterns of present leaders with their counts, the values of the constant leaders,
     and the kept slots with their states."""
-    variables: list
+    variables: list[VarInfo]
     grammar: int
     number: int
-    classes: list
-    patterns: dict
-    known: dict
-    slots: dict
+    classes: list[list[int]]
+    patterns: dict[Pattern, int]
+    known: dict[int, Value]
+    slots: dict[Slot, State]
 
-    def prepare(self):
+    def prepare(self) -> None:
         self.leader = {place: group[0] for group in self.classes for place in group}
         self.rank = {group[0]: k for k, group in enumerate(self.classes)}
-        self.cache = {}
+        self.cache: dict[Slot, State] = {}
 
-    def is_present(self, bits, place):
+    def is_present(self, bits: Pattern, place: int) -> bool:
         return bits[self.rank[self.leader[place]]]
 
-    def count(self, places):
+    def count(self, places: Sequence[int]) -> int:
         return sum(count for bits, count in self.patterns.items()
                    if all(self.is_present(bits, place) for place in places))
 
-    def agree(self, v, w):
+    def agree(self, v: int, w: int) -> bool:
         return self.leader[v] == self.leader[w]
 
-    def fit(self, number, places):
+    def fit(self, number: int, places: Places) -> State:
         """The state of a row over any variables that it admits: each variable's leader stands for
         it, and the roles are exchanged where the leaders aren't in written order."""
         leaders = [self.leader[place] for place in places]
@@ -61,13 +70,13 @@ class Compact:
         back = [order.index(role) for role in range(len(order))]
         return exchanged(number, self.written_fit(number, written), back)
 
-    def written_fit(self, number, leaders):
+    def written_fit(self, number: int, leaders: Places) -> State:
         key = (number, leaders)
         if key not in self.cache:
             self.cache[key] = self.find_fit(number, leaders)
         return self.cache[key]
 
-    def find_fit(self, number, leaders):
+    def find_fit(self, number: int, leaders: Places) -> State:
         if all(leader in self.known for leader in leaders):
             values = tuple(self.known[leader] for leader in leaders)
             return state_of(number, set() if MISSING in values else {values})
@@ -80,27 +89,31 @@ class Compact:
 
 # ---------------------------------------------------------------- samples
 
+# a compact form, the position of its variable for each variable, and how many times it counts
+Part = Tuple[Compact, Sequence[Any], int]
+
+
 class Samples:
-    def __init__(self, variables, grammar, samples, compacts):
+    def __init__(self, variables: list[VarInfo], grammar: int, samples: Counter[Sample], compacts: list[Part]) -> None:
         """`samples` counts each different sample; `compacts` lists (compact form, positions,
         times)."""
         self.variables = variables
         self.grammar = grammar
         self.samples = samples
         self.compacts = compacts
-        self.cache = {}
-        self.tuple_cache = {}
+        self.cache: dict[Slot, State] = {}
+        self.tuple_cache: dict[Places, set[Values]] = {}
         self.times = list(samples.values())
         self.number_columns()
-        self.present = Counter()
+        self.present: Counter[Pattern] = Counter()
         for sample, times in samples.items():
             self.present[presence(sample)] += times
 
-    def number_columns(self):
+    def number_columns(self) -> None:
         """Each different value of a kind gets a number, so that columns compare quickly."""
-        numbers = {}
-        self.values = {}
-        self.columns = []
+        numbers: dict[str, dict[Value, int]] = {}
+        self.values: dict[str, list[Value]] = {}
+        self.columns: list[list[int]] = []
         for place, variable in enumerate(self.variables):
             of_kind = numbers.setdefault(variable.kind, {})
             column = [of_kind.setdefault(sample[place], len(of_kind)) for sample in self.samples]
@@ -108,11 +121,11 @@ class Samples:
         for kind, of_kind in numbers.items():
             self.values[kind] = list(of_kind)
 
-    def number(self):
+    def number(self) -> int:
         return sum(self.times) + sum(times * compact.number
                                      for compact, _, times in self.compacts)
 
-    def tuples(self, places):
+    def tuples(self, places: Places) -> set[Values]:
         """The set of tuples that the variables have in the samples in which none is missing."""
         if places not in self.tuple_cache:
             values = [self.values.get(self.variables[place].kind, []) for place in places]
@@ -124,7 +137,7 @@ class Samples:
             self.tuple_cache[places] = found
         return self.tuple_cache[places]
 
-    def fit(self, number, places):
+    def fit(self, number: int, places: Places) -> State:
         """The row's state of the tuples of the variables, repeats and any order allowed."""
         key = (number, places)
         if key not in self.cache:
@@ -136,7 +149,7 @@ class Samples:
             self.cache[key] = state
         return self.cache[key]
 
-    def count(self, places):
+    def count(self, places: Sequence[int]) -> int:
         """The number of samples in which none of the variables is missing."""
         total = sum(times for present, times in self.present.items()
                     if all(present[place] for place in places))
@@ -146,7 +159,7 @@ class Samples:
                 total += times * compact.count(moved)
         return capped(total)
 
-    def agree(self, v, w):
+    def agree(self, v: int, w: int) -> bool:
         """Whether two variables of one kind have equal values in each sample."""
         return (self.variables[v].kind == self.variables[w].kind
                 and self.columns[v] == self.columns[w]
@@ -154,19 +167,18 @@ class Samples:
                         for compact, positions, _ in self.compacts))
 
     @staticmethod
-    def agree_in(compact, v, w):
-        if v is None and w is None:
-            return True
-        if v is None or w is None:
-            return compact.count([w if v is None else v]) == 0
-        return compact.agree(v, w)
+    def agree_in(compact: Compact, v: int | None, w: int | None) -> bool:
+        if v is not None and w is not None:
+            return compact.agree(v, w)
+        present = [place for place in (v, w) if place is not None]
+        return not present or compact.count(present) == 0
 
-    def leaders(self):
+    def leaders(self) -> list[int]:
         """For each variable the first one that agrees with it."""
         return [next(w for w in range(v + 1) if self.agree(w, v))
                 for v in range(len(self.variables))]
 
-    def constant(self, v):
+    def constant(self, v: int) -> list[Value]:
         """A list of the one value that the variable has in all samples, Missing counted; or no
         value."""
         kind = self.variables[v].kind
@@ -182,7 +194,7 @@ class Samples:
 
     # ------------------------------------------------------------ compact form
 
-    def compact_form(self):
+    def compact_form(self) -> Compact:
         """Asks that there are samples."""
         leaders = self.leaders()
         classes = [[v for v, leader in enumerate(leaders) if leader == first]
@@ -195,8 +207,8 @@ class Samples:
         return Compact(self.variables, self.grammar, self.number(), classes,
                        self.patterns(firsts), known, self.slots(firsts, known))
 
-    def patterns(self, firsts):
-        patterns = Counter()
+    def patterns(self, firsts: list[int]) -> dict[Pattern, int]:
+        patterns: Counter[Pattern] = Counter()
         for present, times in self.present.items():
             patterns[tuple(present[leader] for leader in firsts)] += times
         for compact, positions, times in self.compacts:
@@ -206,8 +218,8 @@ class Samples:
                                for leader in firsts)] += times * count
         return dict(patterns)
 
-    def slots(self, firsts, known):
-        slots = {}
+    def slots(self, firsts: list[int], known: dict[int, Value]) -> dict[Slot, State]:
+        slots: dict[Slot, State] = {}
         for number in rows_of(self.grammar):
             for places in tuples_for(number, self.variables, firsts):
                 if not is_written(number, places) or all(place in known for place in places):
@@ -218,11 +230,11 @@ class Samples:
         return slots
 
 
-def presence(sample):
+def presence(sample: Sample) -> Pattern:
     return tuple(value is not MISSING for value in sample)
 
 
-def tuples_for(number, variables, places):
+def tuples_for(number: int, variables: Sequence[VarInfo], places: Sequence[int]) -> Iterable[Places]:
     """The tuples over these variables that the row admits, repeats included, ascending."""
     choices = [[place for place in places if variables[place].kind == kind
                 and (which == "any" or variables[place].is_base())]
@@ -230,7 +242,7 @@ def tuples_for(number, variables, places):
     return product(*choices)
 
 
-def instances(number, variables):
+def instances(number: int, variables: Sequence[VarInfo]) -> Iterator[Places]:
     """The admitted, written tuples of distinct variables, by the variables in order of roles."""
     for places in tuples_for(number, variables, range(len(variables))):
         if len(set(places)) == len(places) and is_written(number, places):
@@ -239,8 +251,8 @@ def instances(number, variables):
 
 # ---------------------------------------------------------------- samples of a point
 
-def own_samples(history, point):
-    compacts = []
+def own_samples(history: History, point: Point) -> Samples:
+    compacts: list[Part] = []
     if point.index in history.loaded:
         compact = history.loaded[point.index]
         compacts.append((compact, list(range(len(point.variables))), 1))
@@ -251,23 +263,23 @@ def own_samples(history, point):
 class AllSamples:
     """The samples of each point: its own, then for each edge into it the child's, mapped."""
 
-    def __init__(self, history):
+    def __init__(self, history: History) -> None:
         self.history = history
         self.table = history.table
-        self.found = {}
-        self.own_found = {}
+        self.found: dict[int, Samples] = {}
+        self.own_found: dict[int, Samples] = {}
 
-    def own(self, point):
+    def own(self, point: Point) -> Samples:
         if point.index not in self.own_found:
             self.own_found[point.index] = own_samples(self.history, point)
         return self.own_found[point.index]
 
-    def of(self, point):
+    def of(self, point: Point) -> Samples:
         if point.index not in self.found:
             self.found[point.index] = self.merged(point)
         return self.found[point.index]
 
-    def merged(self, point):
+    def merged(self, point: Point) -> Samples:
         edges = self.table.edges_into(point)
         if not edges:
             return self.own(point)
@@ -283,14 +295,14 @@ class AllSamples:
         return Samples(point.variables, self.history.grammar, samples, together(compacts))
 
 
-def moved(items, partners):
+def moved(items: Sequence[Any], partners: Sequence[int | None]) -> tuple[Any, ...]:
     """Each item moved to the variable whose partner holds it; nothing without a partner."""
     return tuple(None if partner is None else items[partner] for partner in partners)
 
 
-def together(compacts):
+def together(compacts: list[Part]) -> list[Part]:
     """Equal compact forms with equal positions count as many times as they stand there."""
-    found = {}
+    found: dict[tuple[int, tuple[int | None, ...]], Part] = {}
     for compact, positions, times in compacts:
         key = (id(compact), tuple(positions))
         _, _, before = found.get(key, (compact, positions, 0))

@@ -4,12 +4,15 @@ A text is a spelling exactly where it is read, meets the conditions, and is writ
 same bytes.
 """
 
-import re
+from __future__ import annotations
 
-from input_language import (ELEMENT, MISSING, REP_TYPES, Declaration, Fault, NoValue, Variable,
-                            escape, fits_i64, items_between_blanks, unescape, value_of)
-from points import History, Table
-from rows import BROKEN, EMPTY, ROWS, admits, is_proper, is_suppressed, is_written, rows_of
+import re
+from typing import Iterable, Iterator
+
+from input_language import (ELEMENT, MISSING, REP_TYPES, Declaration, Fault, NoValue, Value, Variable, escape, fits_i64,
+                            items_between_blanks, unescape, value_of)
+from points import History, Table, VarInfo
+from rows import BROKEN, EMPTY, ROWS, Places, State, admits, is_proper, is_suppressed, is_written, rows_of
 from samples import Compact, capped, own_samples
 
 SAMPLES_LIMIT = 1 << 40
@@ -24,18 +27,18 @@ class BadState(Exception):
     """The bytes are no spelling."""
 
 
-def demand(condition):
+def demand(condition: object) -> None:
     if not condition:
         raise BadState
 
 
 # ---------------------------------------------------------------- writing
 
-def spelled(kind, value):
+def spelled(kind: str | None, value: Value) -> bytes:
     """The one spelling of a value of the kind."""
     if value is MISSING:
         return b"missing"
-    if kind in ELEMENT:
+    if kind is not None and kind in ELEMENT:
         return b"[" + b" ".join(spelled(ELEMENT[kind], item) for item in value) + b"]"
     if kind == "Bool":
         return b"true" if value else b"false"
@@ -44,7 +47,7 @@ def spelled(kind, value):
     return value if kind == "Str" else b"%d" % value
 
 
-def spelled_state(state):
+def spelled_state(state: State) -> bytes:
     word = state[0].encode()
     if word == b"truth":
         return b"truth " + spelled("Bool", state[1])
@@ -57,11 +60,11 @@ def spelled_state(state):
     return word + (b" " + spelled_numbers(state[1:]) if state[1:] else b"")
 
 
-def spelled_numbers(numbers):
+def spelled_numbers(numbers: Iterable[int]) -> bytes:
     return b" ".join(b"%d" % number for number in numbers)
 
 
-def declaration_lines(declaration):
+def declaration_lines(declaration: Declaration) -> Iterator[bytes]:
     yield b"point " + escape(declaration.name)
     for name, number in declaration.edges:
         yield b"edge %d %s" % (number, escape(name))
@@ -75,7 +78,7 @@ def declaration_lines(declaration):
     yield b"end"
 
 
-def compact_lines(index, form):
+def compact_lines(index: int, form: Compact) -> Iterator[bytes]:
     yield b"samples %d %d" % (index, capped(form.number))
     for group in sorted(sorted(group) for group in form.classes):
         yield b"class " + spelled_numbers(group)
@@ -91,7 +94,7 @@ def compact_lines(index, form):
     yield b"end"
 
 
-def state_lines(history, forms):
+def state_lines(history: History, forms: list[tuple[int, Compact]]) -> Iterator[bytes]:
     declarations = [point.declaration for point in history.table.points
                     if point.declaration is not None]
     yield b"daikon-state %d" % history.grammar
@@ -104,11 +107,11 @@ def state_lines(history, forms):
     yield b"end-state"
 
 
-def written(history, forms):
+def written(history: History, forms: list[tuple[int, Compact]]) -> bytes:
     return b"".join(line + b"\n" for line in state_lines(history, forms))
 
 
-def state_file(history):
+def state_file(history: History) -> bytes:
     """The text of the history: the compact form of each point with samples of its own."""
     forms = []
     for point in history.table.points:
@@ -121,41 +124,41 @@ def state_file(history):
 # ---------------------------------------------------------------- reading
 
 class Lines:
-    def __init__(self, data):
+    def __init__(self, data: bytes) -> None:
         demand(data.endswith(b"\n"))
         self.lines = data[:-1].split(b"\n")
         self.at = 0
 
-    def next_word(self):
+    def next_word(self) -> bytes | None:
         return self.lines[self.at].split(b" ", 1)[0] if self.at < len(self.lines) else None
 
-    def rest_of(self, word):
+    def rest_of(self, word: bytes) -> bytes:
         """The next line, which must begin with the word; what follows the word and a blank."""
         demand(self.next_word() == word)
         line = self.lines[self.at]
         self.at += 1
         return line[len(word) + 1:]
 
-    def all_of(self, word):
+    def all_of(self, word: bytes) -> list[bytes]:
         found = []
         while self.next_word() == word:
             found.append(self.rest_of(word))
         return found
 
 
-def number_of(text):
+def number_of(text: bytes) -> int:
     demand(re.fullmatch(rb"-?[0-9]+", text))
     return int(text)
 
 
-def fields(text, most):
+def fields(text: bytes, most: int) -> list[bytes]:
     """At most so many fields, the last one with all that is left."""
     found = text.split(b" ", most - 1)
     demand(len(found) == most)
     return found
 
 
-def load(data, second_grammar=True, second_form=True):
+def load(data: bytes, second_grammar: bool = True, second_form: bool = True) -> History:
     """The history that the bytes stand for, or BadState."""
     try:
         history, forms = read_state(data, second_grammar, second_form)
@@ -166,7 +169,7 @@ def load(data, second_grammar=True, second_form=True):
     return history
 
 
-def read_state(data, second_grammar, second_form):
+def read_state(data: bytes, second_grammar: bool, second_form: bool) -> tuple[History, list[tuple[int, Compact]]]:
     lines = Lines(data)
     history = History(Table(second_form))
     version = lines.rest_of(b"daikon-state")
@@ -187,11 +190,11 @@ def read_state(data, second_grammar, second_form):
     return history, forms
 
 
-def demand_name(name):
+def demand_name(name: bytes) -> None:
     demand(name != b"" and not name.startswith(b"\t") and not name.endswith(b"\t"))
 
 
-def read_declaration(lines):
+def read_declaration(lines: Lines) -> Declaration:
     declaration = Declaration(unescape(lines.rest_of(b"point")))
     demand_name(declaration.name)
     for text in lines.all_of(b"edge"):
@@ -209,7 +212,7 @@ def read_declaration(lines):
     return declaration
 
 
-def read_variable(lines, declaration):
+def read_variable(lines: Lines, declaration: Declaration) -> Variable:
     rep_type, elem, index, name = fields(lines.rest_of(b"var"), 4)
     demand(rep_type in REP_TYPES)
     variable = Variable(unescape(name), REP_TYPES[rep_type], (number_of(elem), number_of(index)))
@@ -231,7 +234,7 @@ def read_variable(lines, declaration):
     return variable
 
 
-def read_samples(lines, history):
+def read_samples(lines: Lines, history: History) -> tuple[int, Compact]:
     index, number = [number_of(text) for text in fields(lines.rest_of(b"samples"), 2)]
     demand(0 <= index < len(history.table.points) and 1 <= number <= SAMPLES_LIMIT)
     point = history.table.points[index]
@@ -254,7 +257,7 @@ def read_samples(lines, history):
     return index, form
 
 
-def demand_classes(classes, variables):
+def demand_classes(classes: list[list[int]], variables: list[VarInfo]) -> None:
     """The classes hold each variable once, each class of one kind."""
     demand(sorted(place for group in classes for place in group) == list(range(len(variables))))
     for group in classes:
@@ -263,7 +266,7 @@ def demand_classes(classes, variables):
     demand(classes == sorted(classes))
 
 
-def read_pattern(form, text):
+def read_pattern(form: Compact, text: bytes) -> None:
     """Patterns differ and count at least one sample."""
     count, bits = fields(text, 2) if form.classes else (text, b"")
     demand(len(bits) == len(form.classes) and re.fullmatch(rb"[01]*", bits))
@@ -272,7 +275,7 @@ def read_pattern(form, text):
     form.patterns[pattern] = number_of(count)
 
 
-def read_known(form, text):
+def read_known(form: Compact, text: bytes) -> None:
     """A leader known as missing is absent from every pattern, another one is in every pattern."""
     place, value = fields(text, 2)
     leader = number_of(place)
@@ -282,7 +285,7 @@ def read_known(form, text):
     demand(all(form.is_present(bits, leader) == there for bits in form.patterns))
 
 
-def read_slot(form, text):
+def read_slot(form: Compact, text: bytes) -> None:
     row_text, rest = fields(text, 2)
     number = number_of(row_text)
     demand(number in rows_of(form.grammar))
@@ -299,7 +302,7 @@ def read_slot(form, text):
     form.slots[number, places] = state
 
 
-def demand_empty(form, number, places, state):
+def demand_empty(form: Compact, number: int, places: Places, state: State) -> None:
     """Where no pattern has all the leaders the state is empty; a plain row's is empty only
     there."""
     if form.count(places) == 0:
@@ -308,7 +311,7 @@ def demand_empty(form, number, places, state):
         demand(state != EMPTY)
 
 
-def read_state_text(text):
+def read_state_text(text: bytes) -> State:
     word, _, rest = text.partition(b" ")
     if word == b"truth":
         value = value_of("Bool", rest)

@@ -4,14 +4,12 @@ from __future__ import annotations
 
 import re
 from collections import Counter
-from functools import cache
-from typing import NamedTuple, Optional
+from functools import lru_cache
 
-from dk_check import assertion_of, untrimmed, without_count
+from dk_check import assertion_of, untrimmed
 from page_parts import parts
 from points import History, VarInfo
-
-LARGEST = 2**64 - 1
+from sections import Line, Section, sections_in
 
 # the groups in their order, with the rows of docs/GRAMMAR.md that they have
 GROUPS: dict[str, tuple[int, ...]] = {
@@ -36,45 +34,12 @@ GROUP_OF_ROW = {row: group for group, rows in GROUPS.items() for row in rows}
 
 # ---------------------------------------------------------------- what a report says
 
-class Line(NamedTuple):
-    """A line of a report: its text, and its number of samples, if it has one."""
-
-    text: bytes
-    count: Optional[int]
-
-
-class Section(NamedTuple):
-    """A point of a report: its name, its number of samples, if it has one, and its lines."""
-
-    name: bytes
-    count: Optional[int]
-    lines: list[Line]
-
-
-def parted(line: bytes) -> Line:
-    """A line's text, and the number of its last count, where 64 bits hold it."""
-    found = re.search(rb"  \[([0-9]+)\]\Z", line)
-    number = int(found[1]) if found else None
-    return Line(without_count(line), None if number is None or number > LARGEST else number)
-
-
 def sections_of(report: bytes) -> list[Section]:
-    """The sections in their order; lines before the first heading are of a point with the empty name."""
-    sections = [Section(b"", None, [])]
-    is_below_ruler = False
-    for line in untrimmed(report):
-        if not line.strip(b" \t"):
-            continue
-        is_ruler = not line.strip(b"=")
-        if is_below_ruler and not is_ruler:
-            sections.append(Section(*parted(line), []))
-        elif not is_ruler and not line.startswith((b"--- ", b"stats ")):
-            sections[-1].lines.append(parted(line))
-        is_below_ruler = is_ruler
-    return [section for section in sections if section != Section(b"", None, [])]
+    """The sections in their order, but for those that say nothing."""
+    return [section for section in sections_in(untrimmed(report)) if section != Section(b"", None, [])]
 
 
-@cache
+@lru_cache(maxsize=None)
 def group_of(variables: tuple[VarInfo, ...], text: bytes) -> str:
     """The group of the first instance that has the text; else it is a condition's line, or another one."""
     found = assertion_of(variables, text)
@@ -127,21 +92,21 @@ def ids_of(sections: list[Section]) -> list[str]:
     seen: Counter[bytes] = Counter()
     ids = []
     for section in sections:
-        seen[section.name] += 1
-        ids.append(id_of(section.name, seen[section.name]))
+        seen[section.point] += 1
+        ids.append(id_of(section.point, seen[section.point]))
     return ids
 
 
 def row_of(key: str, section: Section) -> str:
     """A section's row in the list of points."""
-    samples = "" if section.count is None else section.count
-    return f'<tr><td><a href="#{key}">{shown_name(section.name)}</a></td><td>{samples}</td><td>{len(section.lines)}</td></tr>\n'
+    samples = "" if section.samples is None else section.samples
+    return f'<tr><td><a href="#{key}">{shown_name(section.point)}</a></td><td>{samples}</td><td>{len(section.lines)}</td></tr>\n'
 
 
 def item_of(section: Section, line: Line) -> str:
     """A line as an item."""
-    element = "i" if line.count == section.count else "b"
-    number = "" if line.count is None else f"<{element}>{line.count}</{element}>"
+    element = "i" if line.samples == section.samples else "b"
+    number = "" if line.samples is None else f"<{element}>{line.samples}</{element}>"
     return f"<li><code>{shown(line.text)}</code>{number}</li>\n"
 
 
@@ -153,9 +118,9 @@ def part_of(section: Section, group: str, lines: list[Line]) -> str:
 
 def section_of(key: str, section: Section, variables: tuple[VarInfo, ...]) -> str:
     """A section with its groups."""
-    samples = "" if section.count is None else f"samples <b>{section.count}</b> "
+    samples = "" if section.samples is None else f"samples <b>{section.samples}</b> "
     numbers = f"<small>{samples}lines <b>{len(section.lines)}</b></small>"
-    title = f'<section id="{key}">\n<h2><a href="#{key}">{shown_name(section.name)}</a> {numbers}</h2>\n'
+    title = f'<section id="{key}">\n<h2><a href="#{key}">{shown_name(section.point)}</a> {numbers}</h2>\n'
     grouped: dict[str, list[Line]] = {group: [] for group in GROUPS}
     for line in section.lines:
         grouped[group_of(variables, line.text)].append(line)
@@ -164,7 +129,7 @@ def section_of(key: str, section: Section, variables: tuple[VarInfo, ...]) -> st
 
 def page_of(sections: list[Section], history: History) -> str:
     """The sections as a page, with the points of the history."""
-    points = [history.table.find(section.name) for section in sections]
+    points = [history.table.find(section.point) for section in sections]
     variables = [tuple(point.variables) if point else () for point in points]
     ids = ids_of(sections)
     head, middle, foot = parts()

@@ -15,16 +15,20 @@ of runs in one folder; a run is a list of words. The kinds are
 `--first-form` leaves the second declaration form out, `--first-grammar` states of version 2.
 """
 
+from __future__ import annotations
+
 import os
 import random
 import re
 import sys
 from dataclasses import dataclass, field
 from math import gcd
+from random import Random
+from typing import Callable, List, Sequence, Tuple, TypeVar
 
 from changes import STATES, changed_state, delete_byte, delete_line, double_line, odd_byte
 from input_language import Fault, blocks_of, lines_of
-from points import History, Table, effect_of
+from points import Entry, History, Table, VarInfo, effect_of
 from random_tables import tables_and_words
 from report import FILTERS, report
 from rows import ROWS
@@ -62,18 +66,24 @@ STRINGS = [b'"a"', b'"b c"', b'"a\\"]"', b"null", b'""', b'"\\\\"', b'"#"', b'"1
            b'"a\tb"']
 MISSING_WORDS = [b"nonsensical", b"uninit", b"missing"]
 
+Item = TypeVar("Item")
+# names and rep-types
+Variables = List[Tuple[bytes, bytes]]
+# of a parent line: the relation, the parent's name and the edge's number
+EdgePlan = Tuple[bytes, bytes, int]
+
 
 @dataclass
 class PointPlan:
     """A point as the generator means it: its spelled name, its variables as (name, rep-type,
     whether a constant stands there), and its block's lines."""
     name: bytes
-    variables: list
-    block: list
+    variables: list[tuple[bytes, bytes, bool]]
+    block: list[bytes]
     declared: bool = False
 
 
-def resumed(name):
+def resumed(name: str) -> list[str]:
     """The words of a run that resumes the state, reads nothing more and saves it again."""
     return ["--resume", name, "--save", "--min-samples", "1", "--stats"]
 
@@ -82,43 +92,43 @@ def resumed(name):
 class Case:
     """Where `is_cut` is set, the last run ends as the first one does. `changed` names the states
     that perhaps no samples give."""
-    files: dict = field(default_factory=dict)
-    runs: list = field(default_factory=list)
+    files: dict[str, bytes] = field(default_factory=dict)
+    runs: list[list[str]] = field(default_factory=list)
     is_cut: bool = False
-    changed: set = field(default_factory=set)
+    changed: set[str] = field(default_factory=set)
 
-    def promises_no_report(self, run):
+    def promises_no_report(self, run: list[str]) -> bool:
         """Whether the run reads records after a state that perhaps no samples give."""
         return any(name in run and run != resumed(name) for name in self.changed)
 
-    def state_that_stays(self, run):
+    def state_that_stays(self, run: list[str]) -> bytes | None:
         """The state that the run must save again as it is, or None."""
         return next((text for name, text in self.files.items() if run == resumed(name)), None)
 
 
 class Maker:
-    def __init__(self, seed, second_form=True):
+    def __init__(self, seed: int, second_form: bool = True) -> None:
         self.random = random.Random(seed)
         self.second_form = second_form
-        self.styles = {}
+        self.styles: dict[tuple[bytes, int], tuple[str, int]] = {}
         self.latent = 0
-        self.latent_list = []
+        self.latent_list: list[int] = []
         self.pair = (0, 0)
         self.theme = self.random.choice(["mixed", "mixed", "arithmetic", "lists"])
         self.unit = self.random.choice([1, -1])
         self.pair_range = self.random.choice([(0, 6), (1, 12), (-8, 8), (0, 1), (1, 3)])
-        self.points = []
-        self.waiting = []
+        self.points: list[PointPlan] = []
+        self.waiting: list[tuple[bytes, int | None]] = []
         self.nonce = 0
         self.use_comparability = self.chance(0.5)
         self.missing_rate = self.random.choice([0, 0, 0.05, 0.3])
         self.bad_rate = self.random.choice([0, 0, 0, 0.01])
         self.with_nonces = self.random.choice([0, 0.5, 1])
 
-    def chance(self, rate):
+    def chance(self, rate: float) -> bool:
         return self.random.random() < rate
 
-    def some(self, items, most):
+    def some(self, items: Sequence[Item], most: int) -> list[Item]:
         """A few of the items, in their order."""
         number = self.random.randint(1, min(most, len(items)))
         chosen = self.random.sample(range(len(items)), number)
@@ -126,7 +136,7 @@ class Maker:
 
     # ------------------------------------------------------------ points
 
-    def plan_points(self):
+    def plan_points(self) -> None:
         variables = self.some(self.themed(), self.random.choice([2, 3, 4, 6]))
         if self.theme == "arithmetic" and self.chance(0.8):
             variables = [(name, b"int") for name in (b"x", b"y", b"z", b"w")]
@@ -141,7 +151,7 @@ class Maker:
         for name in names:
             self.points.append(self.plan_point(name, variables, names))
 
-    def themed(self):
+    def themed(self) -> Variables:
         if self.theme == "truths":
             return [(name, rep) for name, rep in VARIABLES if name in TRUTHS_AND_OTHERS]
         if self.theme == "lists":
@@ -149,7 +159,7 @@ class Maker:
             return [(name, rep) for name, rep in VARIABLES if rep.endswith((kinds, kinds + b"[]"))]
         return VARIABLES
 
-    def plan_point(self, name, variables, names):
+    def plan_point(self, name: bytes, variables: Variables, names: list[bytes]) -> PointPlan:
         mine = self.some(variables, 6) if self.chance(0.5) else list(variables)
         if self.chance(0.1):
             self.random.shuffle(mine)
@@ -162,7 +172,7 @@ class Maker:
             return self.plan_declare(name, mine)
         return self.plan_ppt(name, mine, names)
 
-    def plan_ppt(self, name, mine, names):
+    def plan_ppt(self, name: bytes, mine: Variables, names: list[bytes]) -> PointPlan:
         lines = [b"ppt " + name]
         if self.chance(0.9):
             lines.append(b"ppt-type " + self.random.choice(POINT_TYPES))
@@ -178,14 +188,14 @@ class Maker:
             lines += self.variable_lines(variable, rep_type, constant, edges, mine)
         return PointPlan(name, planned, lines)
 
-    def edges_for(self, name, names):
+    def edges_for(self, name: bytes, names: list[bytes]) -> list[EdgePlan]:
         """Mostly to later points, so that there is no cycle."""
         others = names[names.index(name) + 1:] if self.chance(0.98) else names
         if self.chance(0.95):
             others = [other for other in others if b":::EXIT" not in other]
         if not others or self.chance(0.4):
             return []
-        edges = []
+        edges: list[EdgePlan] = []
         for _ in range(self.random.choice([1, 1, 2, 3])):
             relation = b"parent" if self.chance(0.9) else b"user"
             parent = b"Nowhere" if self.chance(0.05) else self.random.choice(others)
@@ -195,7 +205,7 @@ class Maker:
                     edges.append(edge)
         return edges
 
-    def variable_lines(self, variable, rep_type, constant, edges, mine):
+    def variable_lines(self, variable: bytes, rep_type: bytes, constant: bool, edges: list[EdgePlan], mine: Variables) -> list[bytes]:
         lines = [b"variable " + variable]
         more = [b"rep-type " + rep_type]
         if self.use_comparability and self.chance(0.8):
@@ -213,7 +223,7 @@ class Maker:
             self.random.shuffle(more)
         return lines + more
 
-    def plan_declare(self, name, mine):
+    def plan_declare(self, name: bytes, mine: Variables) -> PointPlan:
         lines = [b"DECLARE", name]
         planned = []
         for variable, rep_type in mine:
@@ -227,19 +237,19 @@ class Maker:
 
     # ------------------------------------------------------------ values
 
-    def new_latent(self):
+    def new_latent(self) -> None:
         self.latent = self.random.randint(-2, 12)
         length = self.random.choice([0, 1, 2, 3, 3, 4])
         self.latent_list = [self.random.randint(-1, 6) for _ in range(length)]
         self.pair = (self.random.randint(*self.pair_range), self.random.randint(*self.pair_range))
 
-    def style(self, variable, styles):
+    def style(self, variable: bytes, styles: list[str]) -> tuple[str, int]:
         key = (variable, len(styles))
         if key not in self.styles:
             self.styles[key] = (self.random.choice(styles), self.random.randint(-3, 5))
         return self.styles[key]
 
-    def arithmetic(self, variable):
+    def arithmetic(self, variable: bytes) -> int:
         """A number made of the two numbers of the record."""
         style, k = self.style(variable, ARITHMETIC_STYLES)
         x, y = self.pair
@@ -254,7 +264,7 @@ class Maker:
         }
         return numbers[style]
 
-    def integer(self, variable):
+    def integer(self, variable: bytes) -> int:
         if self.theme == "arithmetic":
             return self.arithmetic(variable)
         style, k = self.style(variable, INTEGER_STYLES)
@@ -269,7 +279,7 @@ class Maker:
         }
         return numbers[style]
 
-    def integers(self, variable):
+    def integers(self, variable: bytes) -> list[int]:
         style, k = self.style(variable, SEQUENCE_STYLES)
         latent = self.latent_list
         lists = {
@@ -281,7 +291,7 @@ class Maker:
         }
         return lists[style]
 
-    def scalar_text(self, element, number):
+    def scalar_text(self, element: bytes, number: int) -> bytes:
         """A text of the scalar kind that stands for the number."""
         if element == b"int":
             if number in (0, 1) and self.chance(0.05):
@@ -297,7 +307,7 @@ class Maker:
             return b"1.5"
         return STRINGS[number % len(STRINGS)]
 
-    def text_of(self, variable, rep_type):
+    def text_of(self, variable: bytes, rep_type: bytes) -> bytes:
         if rep_type.endswith(b"[]"):
             element = rep_type[:-2]
             items = [self.scalar_text(element, item) for item in self.integers(variable)]
@@ -308,7 +318,7 @@ class Maker:
             return b"[ " + inner + b" ]" if self.chance(0.1) else b"[" + inner + b"]"
         return self.scalar_text(rep_type, self.integer(variable))
 
-    def value_lines(self, variable, rep_type):
+    def value_lines(self, variable: bytes, rep_type: bytes) -> list[bytes]:
         text = self.text_of(variable, rep_type)
         mark = self.random.choice([b"1", b"1", b"0"])
         if self.chance(self.missing_rate):
@@ -322,7 +332,7 @@ class Maker:
 
     # ------------------------------------------------------------ blocks
 
-    def record(self, point):
+    def record(self, point: PointPlan) -> list[bytes]:
         self.new_latent()
         lines = [point.name]
         method, _, tag = point.name.rpartition(b":::")
@@ -334,7 +344,7 @@ class Maker:
                 lines += self.value_lines(variable, rep_type)
         return lines
 
-    def nonce_for(self, method, tag):
+    def nonce_for(self, method: bytes, tag: bytes) -> int | None:
         """Mostly a nonce that fits the entries that wait."""
         if tag == b"ENTER":
             self.nonce += 1
@@ -348,7 +358,7 @@ class Maker:
             return nonce
         return self.random.randint(-3, 3) if self.chance(0.05) else None
 
-    def may_have_record(self, point):
+    def may_have_record(self, point: PointPlan) -> bool:
         """Exits without a waiting entry mostly wait for one."""
         if not point.declared:
             return self.chance(0.002)
@@ -359,7 +369,7 @@ class Maker:
             return True
         return any(name == method for name, _ in self.waiting) or self.chance(0.01)
 
-    def blocks(self, records):
+    def blocks(self, records: int) -> list[list[bytes]]:
         """Declarations, most of them first, and sample records."""
         blocks = [self.odd_block()] if self.chance(0.3) else []
         for point in self.points:
@@ -375,20 +385,20 @@ class Maker:
                 blocks.append(self.record(point))
         return blocks
 
-    def records(self, number):
+    def records(self, number: int) -> list[list[bytes]]:
         """Sample records of declared points, as far as there are such."""
-        blocks = []
+        blocks: list[list[bytes]] = []
         for _ in range(20 * number):
             point = self.random.choice(self.points)
             if len(blocks) < number and point.declared and self.may_have_record(point):
                 blocks.append(self.record(point))
         return blocks
 
-    def declare(self, point):
+    def declare(self, point: PointPlan) -> list[bytes]:
         point.declared = True
         return list(point.block)
 
-    def odd_block(self):
+    def odd_block(self) -> list[bytes]:
         headers = [[b"decl-version 2.0"], [b"var-comparability none"], [b"ListImplementors", b"x"],
                    [b"var-comparability implicit"], [b"input-language C"], [b"# comment"],
                    [b"// comment", b"decl-version \t2.0"]]
@@ -398,7 +408,7 @@ class Maker:
 
     # ------------------------------------------------------------ text
 
-    def text(self, blocks):
+    def text(self, blocks: list[list[bytes]]) -> bytes:
         dressed = self.chance(0.3)
         ending = b"\r\n" if self.chance(0.1) else b"\n"
         text = b""
@@ -414,7 +424,7 @@ class Maker:
             text = text.rstrip(b"\r\n")
         return text
 
-    def dressed(self, line):
+    def dressed(self, line: bytes) -> bytes:
         if self.chance(0.05):
             line = self.random.choice([b" ", b"\t", b"  \t"]) + line
         if self.chance(0.05):
@@ -423,13 +433,13 @@ class Maker:
             line = line.replace(b" ", b" \t", 1)
         return line
 
-    def blank_lines(self, ending):
+    def blank_lines(self, ending: bytes) -> bytes:
         return b"".join(self.random.choice([b"", b"", b" ", b"\t ", b"\r"]) + ending
                         for _ in range(self.random.choice([1, 1, 1, 2])))
 
     # ------------------------------------------------------------ faults
 
-    def mutated(self, text):
+    def mutated(self, text: bytes) -> bytes:
         lines = text.split(b"\n")
         for _ in range(self.random.choice([1, 1, 2, 4])):
             at = self.random.randrange(len(lines))
@@ -463,37 +473,37 @@ SECOND_FORM_LINES = [b"DECLARE", b"DECLARE x", b"VarComparability", b"VarCompara
                      b"double =", b"float", b"String = \"a b\""]
 
 
-def odd_line(random_, lines, at):
+def odd_line(random_: Random, lines: list[bytes], at: int) -> None:
     lines[at] = random_.choice(ODD_LINES)
 
 
-def insert_odd_line(random_, lines, at):
+def insert_odd_line(random_: Random, lines: list[bytes], at: int) -> None:
     lines.insert(at, random_.choice(ODD_LINES))
 
 
-def second_form_line(random_, lines, at):
+def second_form_line(random_: Random, lines: list[bytes], at: int) -> None:
     lines.insert(at, random_.choice(SECOND_FORM_LINES))
 
 
-def exchange_lines(random_, lines, at):
+def exchange_lines(random_: Random, lines: list[bytes], at: int) -> None:
     other = random_.randrange(len(lines))
     lines[at], lines[other] = lines[other], lines[at]
 
 
-def line_of_elsewhere(random_, lines, at):
+def line_of_elsewhere(random_: Random, lines: list[bytes], at: int) -> None:
     lines[at] = random_.choice(lines)
 
 
-def cut_after(random_, lines, at):
+def cut_after(random_: Random, lines: list[bytes], at: int) -> None:
     del lines[at + 1:]
 
 
-def cut_within(random_, lines, at):
+def cut_within(random_: Random, lines: list[bytes], at: int) -> None:
     del lines[at + 1:]
     lines[at] = lines[at][:random_.randint(0, len(lines[at]))]
 
 
-def delete_block_end(random_, lines, at):
+def delete_block_end(random_: Random, lines: list[bytes], at: int) -> None:
     """Joins the block with the next one."""
     for k in range(at, len(lines)):
         if lines[k].strip() == b"":
@@ -501,13 +511,13 @@ def delete_block_end(random_, lines, at):
             return
 
 
-def odd_number(random_, lines, at):
+def odd_number(random_: Random, lines: list[bytes], at: int) -> None:
     """Another number in the line's place of one."""
     numbers = [b"0", b"-1", b"1", b"2", b"99999999999999999999", b"4294967296", b"007", b"-0"]
     lines[at] = re.sub(rb"-?[0-9]+", random_.choice(numbers), lines[at], count=1)
 
 
-def odd_sibling(random_, lines, at):
+def odd_sibling(random_: Random, lines: list[bytes], at: int) -> None:
     """Another line with the first word of one that has such; in place of a value another one."""
     for k in list(range(at, len(lines))) + list(range(at)):
         first = lines[k].split()[:1]
@@ -517,20 +527,20 @@ def odd_sibling(random_, lines, at):
             return
 
 
-def odd_header(random_, lines, at):
+def odd_header(random_: Random, lines: list[bytes], at: int) -> None:
     """A header line before a block."""
     starts = [k + 1 for k, line in enumerate(lines[:-1]) if line.strip() == b""] + [0]
     lines.insert(random_.choice(starts), random_.choice(ODD_HEADERS))
 
 
-def odd_nonce(random_, lines, at):
+def odd_nonce(random_: Random, lines: list[bytes], at: int) -> None:
     places = [k + 1 for k, line in enumerate(lines[:-1])
               if line.strip() == b"this_invocation_nonce"]
     if places:
         lines[random_.choice(places)] = random_.choice(ODD_NONCES)
 
 
-def odd_in_declare(random_, lines, at):
+def odd_in_declare(random_: Random, lines: list[bytes], at: int) -> None:
     """Another line within a declaration of the second form."""
     starts = [k for k, line in enumerate(lines) if line.strip() == b"DECLARE"]
     if starts:
@@ -543,7 +553,7 @@ def odd_in_declare(random_, lines, at):
             lines[place] = random_.choice(SECOND_FORM_LINES + ODD_LINES)
 
 
-def odd_value(random_, lines, at):
+def odd_value(random_: Random, lines: list[bytes], at: int) -> None:
     """Another text in place of one that looks like a value or a mark."""
     places = [k for k, line in enumerate(lines)
               if line.strip()[:1] in (b"[", b'"', b"-", b"0", b"1", b"2", b"n", b"t", b"f")
@@ -578,7 +588,7 @@ MUTATIONS = [odd_sibling, odd_sibling, odd_header, odd_nonce, odd_in_declare, od
 
 # ---------------------------------------------------------------- cases
 
-def one_file_case(seed, second_form=True):
+def one_file_case(seed: int, second_form: bool = True) -> Case:
     """One file of one run; in about half of the cases with faults put in."""
     maker = Maker(seed, second_form)
     if maker.chance(0.02):
@@ -596,18 +606,18 @@ def one_file_case(seed, second_form=True):
 
 # ---------------------------------------------------------------- limits
 
-def block_of(lines):
+def block_of(lines: list[bytes]) -> bytes:
     return b"".join(line + b"\n" for line in lines) + b"\n"
 
 
-def plain_point(name, variables):
+def plain_point(name: bytes, variables: Variables) -> bytes:
     lines = [b"ppt " + name]
     for variable, rep_type in variables:
         lines += [b"variable " + variable, b"rep-type " + rep_type]
     return block_of(lines)
 
 
-def many_points(random_):
+def many_points(random_: Random) -> bytes:
     """As many points as there may be, or one more; at the end a subexit counts twice."""
     number = 65_535 + random_.choice([-1, 0, 1])
     names = [b"p%d" % k for k in range(number)]
@@ -616,14 +626,14 @@ def many_points(random_):
     return b"".join(block_of([b"ppt " + name]) for name in names)
 
 
-def many_variables(random_):
+def many_variables(random_: Random) -> bytes:
     """As many declared variables as there may be, or one more."""
     number = 1_024 + random_.choice([0, 1])
     rep_type = random_.choice([b"int", b"double"])
     return plain_point(b"P", [(b"x%d" % k, rep_type) for k in range(number)])
 
 
-def many_derived(random_):
+def many_derived(random_: Random) -> bytes:
     """As many variables in all as there may be, or a few more."""
     variables = [(b"a%d[..]" % k, b"int[]") for k in range(40)]
     variables += [(b"i%d" % k, b"int") for k in range(80)]
@@ -632,7 +642,7 @@ def many_derived(random_):
     return plain_point(b"P", variables)
 
 
-def many_orig(random_):
+def many_orig(random_: Random) -> bytes:
     """The same with orig variables."""
     variables = [(b"a%d[..]" % k, b"int[]") for k in range(20)]
     variables += [(b"i%d" % k, b"int") for k in range(80)]
@@ -641,7 +651,7 @@ def many_orig(random_):
     return plain_point(b"M:::ENTER", variables) + plain_point(b"M:::" + tag, variables)
 
 
-def long_line(random_):
+def long_line(random_: Random) -> bytes:
     """A line of the greatest length, or one byte more."""
     length = 16_777_216 + random_.choice([0, 1, 1])
     filler = random_.choice([b"x", b"#", b" ", b"\t"])
@@ -655,7 +665,7 @@ def long_line(random_):
 LIMITS = [many_points, many_variables, many_derived, many_orig, long_line, long_line]
 
 
-def full_case(seed, second_form=True, grammar=2):
+def full_case(seed: int, second_form: bool = True, grammar: int = 2) -> Case:
     """Several files, runs with all words, states saved, changed and resumed."""
     maker = Maker(seed, second_form)
     maker.plan_points()
@@ -678,7 +688,7 @@ def full_case(seed, second_form=True, grammar=2):
     return case
 
 
-def state_case(maker, case, grammar):
+def state_case(maker: Maker, case: Case, grammar: int) -> Case:
     """A run that resumes the state of the first file and saves it again. With faults put in it
     reads no more files: what comes of a state that no samples give is promised only until then."""
     text = state_file(history_of(case.files["t"], maker.random.randint(1, grammar),
@@ -693,10 +703,10 @@ def state_case(maker, case, grammar):
     return case
 
 
-def history_of(text, grammar=2, second_form=True):
+def history_of(text: bytes, grammar: int = 2, second_form: bool = True) -> History:
     """The history of the text up to its first fault."""
     history = History(Table(second_form), grammar=grammar)
-    waiting = []
+    waiting: list[Entry] = []
     try:
         for block in blocks_of(*lines_of(text)):
             effect_of(block, history, waiting, True)
@@ -705,7 +715,7 @@ def history_of(text, grammar=2, second_form=True):
     return history
 
 
-def cut_case(seed, second_form=True, grammar=2):
+def cut_case(seed: int, second_form: bool = True, grammar: int = 2) -> Case:
     """A run over some files; then the same files cut after one or two of them, or before
     all or after all. Each part resumes what the one before it saved."""
     maker = Maker(seed, second_form)
@@ -720,7 +730,7 @@ def cut_case(seed, second_form=True, grammar=2):
         options.append("--ignore-missing-entry")
     case.runs.append(options + names)
     cuts = sorted(maker.random.choices(range(len(names) + 1), k=maker.random.choice([1, 1, 2])))
-    resume = []
+    resume: list[str] = []
     for start, end in zip([0] + cuts, cuts + [len(names)]):
         case.runs.append(options + resume + names[start:end])
         resume = ["--resume", "daikon.state"]
@@ -730,7 +740,7 @@ def cut_case(seed, second_form=True, grammar=2):
 STATES_OF_A_CASE = 10
 
 
-def states_case(seed, second_form=True, grammar=2):
+def states_case(seed: int, second_form: bool = True, grammar: int = 2) -> Case:
     """The state of a file, and changed ones: each is resumed and saved again, and resumed with
     a few records."""
     maker = Maker(seed, second_form)
@@ -763,7 +773,7 @@ RECORD_OF_KIND = {b"int": b"-5", b"boolean": b"true", b"hashcode": b"0x7",
                   b"hashcode[]": b"[1 null]", b"java.lang.String[]": b'["a" null]'}
 
 
-def forms_case(seed, second_form=True, grammar=2):
+def forms_case(seed: int, second_form: bool = True, grammar: int = 2) -> Case:
     """States of one point with two samples, one of them without any value, and a single slot.
     Thirty seeds have them all."""
     declaration = plain_point(b"P", ALL_KINDS)
@@ -784,7 +794,7 @@ def forms_case(seed, second_form=True, grammar=2):
     return case
 
 
-def leaders_for(row, variables):
+def leaders_for(row: int, variables: list[VarInfo]) -> bytes:
     """The first variables of the kinds that the row takes."""
     ahead = [(variable.kind, place) for place, variable in enumerate(variables)]
     found = []
@@ -794,7 +804,7 @@ def leaders_for(row, variables):
     return b" ".join(b"%d" % place for _, place in found)
 
 
-def order_case(seed, second_form=True, grammar=2):
+def order_case(seed: int, second_form: bool = True, grammar: int = 2) -> Case:
     """A run over what is right, faulty or not there, and one that resumes what it saved."""
     maker = Maker(seed, second_form)
     maker.plan_points()
@@ -806,20 +816,20 @@ def order_case(seed, second_form=True, grammar=2):
         groups = [[name] for name in maker.random.choices(
             ["t"] * 8 + ["f", "nowhere", "s", "."], k=maker.random.choice([0, 1, 1, 2, 3]))]
         name = maker.random.choice(resumable)
-        resume = maker.random.choice([[], ["--resume", name], ["--resume=" + name]])
+        resume: list[str] = maker.random.choice([[], ["--resume", name], ["--resume=" + name]])
         # (the generated records are read only now and then, since they take a while)
         generates = maker.chance(0.5 if resume and name not in ("s", "daikon.state") else 0.03)
-        for group, rate in ((resume, 1), (["--generate", "1"], generates), (["--save"], 0.7),
-                            (["--stats"], 0.3), (["--min-samples", "1"], 0.9),
-                            (["--every", maker.random.choice(["1", "3"])], not generates and 0.4),
-                            (["--ignore-missing-entry"], 0.9)):
+        choices: list[tuple[list[str], float]] = [
+            (resume, 1), (["--generate", "1"], generates), (["--save"], 0.7), (["--stats"], 0.3), (["--min-samples", "1"], 0.9),
+            (["--every", maker.random.choice(["1", "3"])], 0 if generates else 0.4), (["--ignore-missing-entry"], 0.9)]
+        for group, rate in choices:
             if maker.chance(rate):
                 groups.insert(maker.random.randint(0, len(groups)), group)
         case.runs.append([word for group in groups for word in group])
     return case
 
 
-def random_options(maker, with_every=True):
+def random_options(maker: Maker, with_every: bool = True) -> list[str]:
     chosen = []
     if maker.chance(0.85):
         chosen += ["--min-samples", maker.random.choice(["1", "1", "1", "2", "+3", "004", "0", "x"]
@@ -837,7 +847,7 @@ def random_options(maker, with_every=True):
     return chosen
 
 
-def mixed(maker, options, names):
+def mixed(maker: Maker, options: list[str], names: list[str]) -> list[str]:
     """FILEs may stand between the options."""
     if maker.chance(0.02):
         options = options + [maker.random.choice(["--stats", "--min", "-x", "--stats=1", "--save=",
@@ -847,7 +857,7 @@ def mixed(maker, options, names):
 
 # ---------------------------------------------------------------- the other programs
 
-def several_files(maker, records):
+def several_files(maker: Maker, records: list[int]) -> dict[str, bytes]:
     """One to three files, now and then with faults put in."""
     files = {}
     for name in ["t", "u", "v"][:maker.random.choice([1, 1, 2, 3])]:
@@ -857,11 +867,11 @@ def several_files(maker, records):
     return files
 
 
-def some_words(maker, *choices):
+def some_words(maker: Maker, *choices: tuple[list[str], float]) -> list[str]:
     return [word for words, rate in choices if maker.chance(rate) for word in words]
 
 
-def split_case(seed, second_form=True, grammar=2):
+def split_case(seed: int, second_form: bool = True, grammar: int = 2) -> Case:
     maker = Maker(seed, second_form)
     maker.theme = maker.random.choice(["truths", "truths", "mixed"])
     maker.plan_points()
@@ -872,7 +882,7 @@ def split_case(seed, second_form=True, grammar=2):
     return case
 
 
-def check_case(seed, second_form=True, grammar=2):
+def check_case(seed: int, second_form: bool = True, grammar: int = 2) -> Case:
     """The lines of a report about the first file, some of them changed, against the files."""
     maker = Maker(seed, second_form)
     maker.plan_points()
@@ -892,23 +902,23 @@ def check_case(seed, second_form=True, grammar=2):
     return case
 
 
-def tell_case(seed, second_form=True, grammar=2):
+def tell_case(seed: int, second_form: bool = True, grammar: int = 2) -> Case:
     """The report and the files of a case for dk_check, in some format."""
     case = check_case(seed, second_form)
     words = case.runs[0]
     names = [word for word in words if not word.startswith("-")]
     flags = [word for word in words if word == "--ignore-missing-entry"]
-    formats = random.Random(seed).choice([[], ["json"], ["python"], ["c"], ["smtlib"], ["smtlib"], ["c"], ["python"]])
+    formats: list[str] = random.Random(seed).choice([[], ["json"], ["python"], ["c"], ["smtlib"], ["smtlib"], ["c"], ["python"]])
     return Case(case.files, [flags + [word for name in formats for word in ("--format", name)] + names])
 
 
-def table_case(seed, second_form=True, grammar=2):
+def table_case(seed: int, second_form: bool = True, grammar: int = 2) -> Case:
     """Tables, mostly of one header."""
     files, words = tables_and_words(random.Random(seed))
     return Case(files, [words])
 
 
-def merge_case(seed, second_form=True, grammar=2):
+def merge_case(seed: int, second_form: bool = True, grammar: int = 2) -> Case:
     """States of files with the same declarations, or files read in turns."""
     maker = Maker(seed, second_form)
     maker.plan_points()
@@ -936,22 +946,22 @@ def merge_case(seed, second_form=True, grammar=2):
     return case
 
 
-def heading_line(random_, lines, at):
+def heading_line(random_: Random, lines: list[bytes], at: int) -> None:
     lines.insert(at, random_.choice([b"=", b"==", b"=====", b"= ", b"P", b"P  [4]", b"M:::EXIT",
                                      b"M:::EXIT  [x]", b"", b" ", b"--- end", b"stats x"]))
 
 
-def other_count(random_, lines, at):
+def other_count(random_: Random, lines: list[bytes], at: int) -> None:
     lines[at] = re.sub(rb"  \[[0-9]+\]$", random_.choice([b"", b" [4]", b"  []", b"  [4]  [5]",
                                                           b"  [4] "]), lines[at])
 
 
-def other_number(random_, lines, at):
+def other_number(random_: Random, lines: list[bytes], at: int) -> None:
     number = random_.choice([b"0", b"1", b"2", b"3", b"-1", b"99999999999999999999", b"01"])
     lines[at] = re.sub(rb"-?[0-9]+", number, lines[at], count=1)
 
 
-def carriage_return(random_, lines, at):
+def carriage_return(random_: Random, lines: list[bytes], at: int) -> None:
     lines[at] += random_.choice([b"\r", b"\r\r", b" "])
 
 
@@ -962,22 +972,25 @@ ASSERTION_CHANGES = [delete_line, double_line, exchange_lines, odd_byte, delete_
 
 # ---------------------------------------------------------------- the case of a seed
 
-def without_grammar(case_of_seed):
+CaseOfSeed = Callable[[int, bool, int], Case]
+
+
+def without_grammar(case_of_seed: Callable[[int, bool], Case]) -> CaseOfSeed:
     return lambda seed, second_form, grammar: case_of_seed(seed, second_form)
 
 
-KINDS = {"one-file": without_grammar(one_file_case), "full": full_case, "cut": cut_case,
-         "states": states_case, "forms": forms_case, "order": order_case, "split": split_case,
-         "check": check_case, "merge": merge_case, "tell": tell_case, "table": table_case}
+KINDS: dict[str, CaseOfSeed] = {
+    "one-file": without_grammar(one_file_case), "full": full_case, "cut": cut_case, "states": states_case, "forms": forms_case,
+    "order": order_case, "split": split_case, "check": check_case, "merge": merge_case, "tell": tell_case, "table": table_case}
 
 
-def write_files(case, folder):
+def write_files(case: Case, folder: str) -> None:
     for name, text in case.files.items():
         with open(os.path.join(folder, name), "wb") as file:
             file.write(text)
 
 
-def main(words):
+def main(words: list[str]) -> None:
     options = [word for word in words if word.startswith("--")]
     kind, seed, folder = [word for word in words if not word.startswith("--")]
     case = KINDS[kind](int(seed), "--first-form" not in options,

@@ -75,7 +75,8 @@ def unread(case: Case, name: str) -> Case:
 
 def failing_reads(case: Case, names: list[str], piece: int) -> list[Case]:
     """The case with each of its calls on these files failing in turn; no file has a fault. One call more would fail, and isn't made."""
-    found, number = [], 0
+    found: list[Case] = []
+    number = 0
     for name in names:
         for _ in range(calls_of(case.files[name], piece)):
             number += 1
@@ -87,7 +88,8 @@ def failing_reads(case: Case, names: list[str], piece: int) -> list[Case]:
 def failing_writes(case: Case, stream: str, piece: int, texts: list[bytes] | None = None) -> list[Case]:
     """The case with each of its writes failing in turn; all of its output goes to this stream, in these texts one after another, each in
     pieces. Where no texts are given it is one. One write more would fail, and isn't made."""
-    written, found = 0, []
+    found: list[Case] = []
+    written = 0
     for text in texts or [case.texts[stream]]:
         for at in range(0, len(text), piece):
             number = len(found) + 1

@@ -4,10 +4,9 @@ from __future__ import annotations
 
 import os
 import re
-from importlib.machinery import SourceFileLoader
-from importlib.util import module_from_spec, spec_from_loader
 
 from command import DONE
+from scripts import script
 from writing import Case, failing_writes, wanted
 
 HERE = os.path.dirname(os.path.dirname(os.path.abspath(__file__)))
@@ -113,9 +112,7 @@ def runs_of_samples() -> list[Case]:
 
 def stored_file(path: str, case: str, name: str) -> bytes:
     """A file of a stored case."""
-    loader = SourceFileLoader("cases", os.path.join(HERE, "cases"))
-    cases = module_from_spec(spec_from_loader("cases", loader))
-    loader.exec_module(cases)
+    cases = script("cases")
     return next(it for it in cases.cases_of(os.path.join(TOP, "crates", "dk_cases", "data", path)) if it.name == case).bytes_of(name)
 
 

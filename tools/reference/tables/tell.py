@@ -130,8 +130,8 @@ def calls() -> list[Case]:
     lines = (b"x == orig(x)", b"orig(x) >= 1", b"return != orig(x)", b"orig(this.a[..]) elements >= 0", b"orig(size(this.a[..])) == 2",
              b"size(this.a[..]) == orig(size(this.a[..]))", b"orig(this.a[x]) <= 4", b"old_x >= 0", b"orig(old_x) >= 0")
     report = section(b"C.m(int):::EXIT  [4]", *lines) + section(b"C.m(int):::EXIT1  [4]", lines[0])
-    variables = variables[:2]
-    clear = declared(b"C.m(int):::ENTER", *variables) + declared(b"C.m(int):::EXIT1", *variables, (b"return", b"int"))
+    others = variables[:2]
+    clear = declared(b"C.m(int):::ENTER", *others) + declared(b"C.m(int):::EXIT1", *others, (b"return", b"int"))
     return in_formats("values at the entry", report, trace) + in_formats("values at the entry, without a clash", report, clear)
 
 
