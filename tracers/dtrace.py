@@ -28,6 +28,8 @@ Commands
 It needs Python 3.9 or later and its standard library alone.
 """
 
+from __future__ import annotations
+
 import argparse
 import fnmatch
 import os

@@ -10,6 +10,11 @@ import fcntl
 import marshal
 import os
 
+# `typing` isn't loaded into the program
+TYPE_CHECKING = False
+if TYPE_CHECKING:
+    from typing import Any, Iterator
+
 # From this descriptor on lie ours.
 FIRST_DESCRIPTOR = 200
 
@@ -139,7 +144,7 @@ class Spool(File):
             size -= len(part)
         return b"".join(parts)
 
-    def batches(self):
+    def batches(self) -> Iterator[list]:
         """The records in order, many at a time: those in the file and then those that are pending."""
         end = self.pending[0]
         position = 0
@@ -148,7 +153,7 @@ class Spool(File):
             yield batch
         yield self.pending[1:]
 
-    def records(self):
+    def records(self) -> Iterator[Any]:
         """The records in order."""
         for batch in self.batches():
             yield from batch

@@ -1,5 +1,7 @@
 """Where a call's parameters, its frame and its result lie."""
 
+from __future__ import annotations
+
 import re
 import struct
 from typing import Dict, List, Optional, Tuple
@@ -7,7 +9,7 @@ from typing import Dict, List, Optional, Tuple
 import gdb
 
 from functions import Function
-from kinds import INTEGER_CODES, RECORD_CODES, REFERENCE_CODES, Member, plain
+from kinds import INTEGER_CODES, RECORD_CODES, REFERENCE_CODES, Member, plain, type_of
 from process import RAX, RBP, RDX, RSP, Process
 
 # Parameters that compilers add to constructors and destructors.
@@ -45,12 +47,12 @@ class Frames:
 
 def parameters_of(function: Function) -> List[gdb.Symbol]:
     """The parameters of a function that have names."""
-    return [symbol for symbol in function.block if symbol.is_argument and symbol.name and symbol.name not in HIDDEN]
+    return [symbol for symbol in function.symbols() if symbol.is_argument and symbol.name and symbol.name not in HIDDEN]
 
 
 def locations_of(function: Function) -> Dict[str, Tuple[int, bool]]:
     """What the debugging information says of parameters at a fixed distance: this distance, and whether their address lies there."""
-    text = gdb.execute("info scope *%d" % function.begin, to_string=True)
+    text = gdb.execute("info scope *%d" % function.begin, to_string=True) or ""
     return {found.group(1): (int(found.group(2)), found.group(3) is not None) for found in LOCATION.finditer(text)}
 
 
@@ -58,7 +60,7 @@ def frame_base(parameters: List[gdb.Symbol], locations: Dict[str, Tuple[int, boo
     """What distances are counted from, less the frame: some compilers count from the frame pointer."""
     for symbol in parameters:
         distance, is_address = locations.get(symbol.name, (0, True))
-        if not is_address and plain(symbol.type).code not in REFERENCE_CODES:
+        if not is_address and plain(type_of(symbol)).code not in REFERENCE_CODES:
             address = gdb.selected_frame().read_var(symbol).address
             return int(address) - distance - frame
     return 0
@@ -72,7 +74,8 @@ def find_slots(function: Function, symbols: List[gdb.Symbol], frame: int) -> Dic
     for symbol in symbols:
         if symbol.name in locations:
             distance, is_address = locations[symbol.name]
-            slots[symbol.name] = Member(symbol.name, symbol.type.reference() if is_address else symbol.type, distance + base)
+            kind = type_of(symbol)
+            slots[symbol.name] = Member(symbol.name, kind.reference() if is_address else kind, distance + base)
     return slots
 
 
@@ -93,7 +96,7 @@ class Parameters:
             if slot is not None:
                 self.members.append((0, Member(slot.name, slot.kind, slot.place - self.first)))
             else:
-                self.members.append((1 + self.others.index(symbol), Member(symbol.name, symbol.type, 0)))
+                self.members.append((1 + self.others.index(symbol), Member(symbol.name, type_of(symbol), 0)))
 
     @property
     def pieces(self) -> int:
@@ -142,7 +145,7 @@ class Result:
 
     def __init__(self, process: Process, function: Function) -> None:
         self.process = process
-        declared = function.symbol.type.target()
+        declared = type_of(function.symbol).target()
         inner = plain(declared)
         self.is_float = inner.code == gdb.TYPE_CODE_FLT and inner.sizeof <= WORD
         is_large = inner.code in RECORD_CODES and inner.sizeof > LARGEST_RESULT

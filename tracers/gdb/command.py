@@ -4,6 +4,8 @@ gdb has neither our streams nor our group; `starting.py` gives these back to the
 and gets the terminal's signals.
 """
 
+from __future__ import annotations
+
 import argparse
 import json
 import os
@@ -195,7 +197,7 @@ def run(options: argparse.Namespace) -> Dict[str, Any]:
         process = start_gdb(gdb, orders, start, log.fileno())
         os.close(answer_end)
         answers = read_answers(answer)
-        first = next(answers, {})
+        first: Dict[str, Any] = next(answers, {})
         wait_for(first.get("pid"), process.pid)
         log.seek(0)
         early = {"failure": "gdb ended early", "fault": log.read().decode(errors="replace")}

@@ -1,8 +1,10 @@
 """What a compiled program's file says of itself: its machine, its entry, its sections and its functions' addresses."""
 
+from __future__ import annotations
+
 import struct
 from dataclasses import dataclass
-from typing import Dict, Iterator, List, Tuple
+from typing import Dict, Iterator
 
 MAGIC = b"\x7fELF"
 CLASS_64 = 2
@@ -67,6 +69,6 @@ class Elf:
 def entry_of_process(pid: int) -> int:
     """The address at which the process's program begins: the entry of its file, moved to where it was loaded."""
     with open("/proc/%d/auxv" % pid, "rb") as file:
-        pairs: List[Tuple[int, int]] = list(struct.iter_unpack("<QQ", file.read()))
+        pairs = [(key, value) for key, value in struct.iter_unpack("<QQ", file.read())]
     entry_kind = 9
     return dict(pairs)[entry_kind]

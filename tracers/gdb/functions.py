@@ -5,14 +5,17 @@ compilers turn `return e;` into a jump to the function's end, so the last instru
 the `return`.
 """
 
+from __future__ import annotations
+
 import re
 from dataclasses import dataclass, field
 from functools import lru_cache
-from typing import Dict, Iterator, List, Optional, Set, Tuple
+from typing import Any, Dict, Iterator, List, Optional, Set, Tuple
 
 import gdb
 
 from elf import Elf
+from kinds import type_of
 
 RETURN = re.compile(r"(?:(?:bnd|repz?|data16|cs) )*ret")
 JUMP = re.compile(r"(?:(?:bnd|notrack) )*(j\w+) +0x([0-9a-f]+)")
@@ -61,6 +64,10 @@ class Function:
     usual_line: int = 0
     has_frame_pointer: bool = False
 
+    def symbols(self) -> Iterator[gdb.Symbol]:
+        """The symbols of its code: parameters and local variables."""
+        return symbols_of(self.block)
+
     @property
     def file(self) -> str:
         """The path of the source file."""
@@ -99,15 +106,26 @@ def return_line(lines: List[str], line: int) -> Optional[int]:
     return None
 
 
+def symbols_of(block: Any) -> Iterator[gdb.Symbol]:
+    """The symbols of a block."""
+    return iter(block)
+
+
+def disassembled(architecture: gdb.Architecture, *limits: int) -> List[Tuple[int, str]]:
+    """The addresses and the texts of the instructions between the limits."""
+    found: Any = architecture.disassemble(*limits)
+    return [(each["addr"], each["asm"]) for each in found]
+
+
 def read_instructions(function: Function, architecture: gdb.Architecture) -> List[Instruction]:
     """The instructions of a function."""
     symtab = function.symbol.symtab
     instructions = []
-    for each in architecture.disassemble(function.block.start, function.block.end - 1):
-        place = gdb.find_pc_line(each["addr"])
+    for address, text in disassembled(architecture, function.block.start, function.block.end - 1):
+        place = gdb.find_pc_line(address)
         line = place.line if place.symtab is not None and place.symtab.filename == symtab.filename else 0
-        jump = JUMP.match(each["asm"])
-        instructions.append(Instruction(each["addr"], each["asm"], line, int(jump.group(2), 16) if jump else None))
+        jump = JUMP.match(text)
+        instructions.append(Instruction(address, text, line, int(jump.group(2), 16) if jump else None))
     return instructions
 
 
@@ -122,7 +140,7 @@ def find_begin(function: Function, architecture: gdb.Architecture) -> None:
     """Finds where the function's calls begin, after the prologue: where the next line begins, or after all that saves parameters where
     the line is told once for the whole function."""
     start, end = function.block.start, function.block.end
-    first = [(each["addr"], each["asm"]) for each in architecture.disassemble(start, end - 1, LONGEST_PROLOGUE)]
+    first = disassembled(architecture, start, end - 1, LONGEST_PROLOGUE)
     after = behind_frame([text for _, text in first])
     function.has_frame_pointer = after is not None
     index = min(after or 0, len(first) - 1)
@@ -173,7 +191,7 @@ def find_returns(function: Function) -> Tuple[Dict[int, int], int]:
     instructions = function.instructions
     last_line = next((each.line for each in reversed(instructions) if RETURN.match(each.text)), 0)
     lines = source_lines(function.file)
-    returns_value = function.symbol.type.target().strip_typedefs().code != gdb.TYPE_CODE_VOID
+    returns_value = type_of(function.symbol).target().strip_typedefs().code != gdb.TYPE_CODE_VOID
     region = end_region(instructions, lines, last_line)
     marks = {}
     is_certain = True
@@ -202,7 +220,9 @@ def function_at(address: int) -> Optional[Function]:
     block = gdb.block_for_pc(address)
     while block is not None and block.function is None:
         block = block.superblock
-    if block is None or block.start != address or block.function.symtab is None or gdb.find_pc_line(address).symtab is None:
+    if block is None or block.function is None or block.start != address:
+        return None
+    if block.function.symtab is None or gdb.find_pc_line(address).symtab is None:
         return None
     return Function(block, block.function)
 

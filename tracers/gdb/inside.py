@@ -4,6 +4,8 @@
 pipe.
 """
 
+from __future__ import annotations
+
 import json
 import os
 import shlex
@@ -17,8 +19,8 @@ sys.path[:0] = [os.path.dirname(os.path.abspath(__file__)), os.path.dirname(os.p
 
 from dtrace import Kinds, Output, Selection, Spool, temporary  # noqa: E402
 from elf import Elf, entry_of_process  # noqa: E402
-from functions import Function, all_functions, find_begin  # noqa: E402
-from kinds import RECORD_CODES, REFERENCE_CODES, fields_of, plain  # noqa: E402
+from functions import Function, all_functions, find_begin, symbols_of  # noqa: E402
+from kinds import RECORD_CODES, REFERENCE_CODES, fields_of, plain, type_of  # noqa: E402
 from points import Making, Method, file_labels, is_own, name_of  # noqa: E402
 from process import Process  # noqa: E402
 from tracing import Traced, Tracer  # noqa: E402
@@ -117,10 +119,10 @@ def names_below(kind: gdb.Type, depth: int) -> Iterator[str]:
 
 def check_arrays(functions: List[Function], orders: Dict[str, Any]) -> None:
     """Refuses arrays and lengths by names that no parameter, field or global variable has."""
-    symbols = [symbol for function in functions for symbol in function.block if symbol.is_argument]
+    symbols = [symbol for function in functions for symbol in function.symbols() if symbol.is_argument]
     if orders["globals"]:
         symbols += [symbol for found in globals_by_file(functions).values() for symbol in found]
-    types = {str(symbol.type): symbol.type for symbol in symbols}
+    types = {str(symbol.type): type_of(symbol) for symbol in symbols}
     known = {symbol.name for symbol in symbols} | {name for kind in types.values() for name in names_below(kind, orders["depth"] + 1)}
     for pair in orders["arrays"].items():
         for text in pair:
@@ -136,8 +138,8 @@ def file_symbols(functions: List[Function]) -> Iterator[gdb.Symbol]:
         path = function.symbol.symtab.fullname()
         if path not in seen:
             seen.add(path)
-            yield from function.block.static_block
-            yield from function.block.global_block
+            for block in (function.block.static_block, function.block.global_block):
+                yield from symbols_of(block)
 
 
 def globals_by_file(functions: List[Function]) -> Dict[str, List[gdb.Symbol]]:
@@ -187,7 +189,7 @@ class Watch:
         self.status = 0
         gdb.events.exited.connect(self.exited)
 
-    def exited(self, event: gdb.ExitedEvent) -> None:
+    def exited(self, event: object) -> None:
         """Called by gdb when the process ends."""
         self.is_alive = False
         self.status = getattr(event, "exit_code", 0)

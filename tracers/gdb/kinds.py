@@ -1,5 +1,7 @@
 """What gdb tells of a program's types, and what values of them are."""
 
+from __future__ import annotations
+
 import re
 import struct
 from dataclasses import dataclass
@@ -21,6 +23,13 @@ DEFAULT_ARGUMENT = re.compile(r", std::(?:allocator|less|hash|equal_to|char_trai
 INTEGER_CODES = (gdb.TYPE_CODE_INT, gdb.TYPE_CODE_CHAR, gdb.TYPE_CODE_ENUM, gdb.TYPE_CODE_RANGE)
 RECORD_CODES = (gdb.TYPE_CODE_STRUCT, gdb.TYPE_CODE_UNION)
 REFERENCE_CODES = (gdb.TYPE_CODE_REF, gdb.TYPE_CODE_RVALUE_REF)
+
+
+def type_of(symbol: gdb.Symbol) -> gdb.Type:
+    """The type of a function, a parameter or a variable."""
+    kind = symbol.type
+    assert kind is not None
+    return kind
 
 
 def plain(kind: gdb.Type) -> gdb.Type:

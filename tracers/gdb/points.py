@@ -1,5 +1,7 @@
 """The program points of functions: their names, their variables, and what reads these."""
 
+from __future__ import annotations
+
 import os
 from dataclasses import dataclass, field, replace
 from typing import Dict, Iterable, List, Optional, Set, Tuple
@@ -9,7 +11,7 @@ import gdb
 from calls import Parameters, Result
 from dtrace import Point, Variable, fitting
 from functions import Function
-from kinds import LIBRARIES, Member, plain, short_name
+from kinds import LIBRARIES, Member, plain, short_name, type_of
 from readers import Fixed, Reader, Values
 from variables import Found, Shapes
 
@@ -43,7 +45,7 @@ def class_of(function: Function, name: str) -> Optional[str]:
     parts = split_scope(name)
     if parts is None:
         return None
-    for symbol in function.block:
+    for symbol in function.symbols():
         if symbol.is_argument and symbol.name == "this":
             return parts[0]
     try:
@@ -67,7 +69,7 @@ def split_scope(name: str) -> Optional[Tuple[str, str]]:
 
 def c_parameters(function: Function) -> str:
     """The list of the parameters' types of a function in C."""
-    kind = function.symbol.type
+    kind = type_of(function.symbol)
     texts = [str(each.type) for each in kind.fields()]
     if str(kind).endswith("...)"):
         texts.append("...")
@@ -115,7 +117,7 @@ def name_of(function: Function, label: str) -> Name:
     name, parameters = split_parameters(text)
     if not parameters:
         return Name(label + "." + text, c_parameters(function))
-    if any(symbol.is_argument and symbol.name == "__closure" for symbol in function.block):
+    if any(symbol.is_argument and symbol.name == "__closure" for symbol in function.symbols()):
         return Name("%s.<lambda>@%d" % (label, gdb.find_pc_line(function.block.start).line), parameters)
     owner = class_of(function, name)
     if owner is None:
@@ -258,7 +260,7 @@ class Making:
     def global_variable(self, symbol: gdb.Symbol) -> Optional[Found]:
         """The variables of a global variable."""
         address = symbol.value().address
-        found = self.shapes.value("::" + symbol.name, symbol.type, self.shapes.options.depth, "variable")
+        found = self.shapes.value("::" + symbol.name, type_of(symbol), self.shapes.options.depth, "variable")
         return found and Found(Fixed(self.shapes.process, int(address), found.reader), found.variables)
 
 

@@ -3,6 +3,8 @@
 gdb's own calls do the same, but take ten times as long: they unwind the stack first.
 """
 
+from __future__ import annotations
+
 import ctypes
 import os
 import struct

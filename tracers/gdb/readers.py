@@ -4,6 +4,8 @@ A reader gives the values of its variables, in their order, from bytes: `read(da
 missing one. `data` is None where the memory can't be read.
 """
 
+from __future__ import annotations
+
 import struct
 from typing import Callable, List, Optional, Sequence, Tuple
 

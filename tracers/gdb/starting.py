@@ -1,6 +1,8 @@
 """Becomes the program: gdb runs this in the process that it watches. It gives the program what it has without us: the streams, the group,
 the environment and the words of its command."""
 
+from __future__ import annotations
+
 import json
 import os
 import signal

@@ -1,6 +1,8 @@
 """From the types of parameters, fields and global variables to the variables of points, and to readers of their values. A reader is made
 once a function."""
 
+from __future__ import annotations
+
 from dataclasses import dataclass
 from typing import Callable, Dict, List, Optional, Sequence, Tuple
 
@@ -213,7 +215,8 @@ class Shapes:
         if text is None or plain(member.kind).code != gdb.TYPE_CODE_PTR:
             return None
         if text.isdigit():
-            return "-1", lambda data, offset: int(text)
+            length = int(text)
+            return "-1", lambda data, offset: length
         last = text.replace("->", ".").rsplit(".", 1)[-1]
         for sibling in siblings:
             inner = plain(sibling.kind)

@@ -1,5 +1,7 @@
 """dk_python: runs a Python program, and writes a trace of its functions' calls for `daikon`."""
 
+from __future__ import annotations
+
 import argparse
 import marshal
 import os

@@ -19,16 +19,29 @@ Classes are told apart by `id`, since a metaclass may define `__hash__`, and all
 from __future__ import annotations
 
 import sys
-from _collections import deque
+from _collections import deque  # type: ignore[import]
 from binascii import crc32
 from types import BuiltinFunctionType, FunctionType, GetSetDescriptorType, MemberDescriptorType, ModuleType, SimpleNamespace
 
-class_dict = type.__dict__["__dict__"].__get__
-class_bases = type.__dict__["__mro__"].__get__
-class_module = type.__dict__["__module__"].__get__
-class_qualname = type.__dict__["__qualname__"].__get__
-class_flags = type.__dict__["__flags__"].__get__
-module_dict = ModuleType.__dict__["__dict__"].__get__
+# `typing` isn't loaded into the program
+TYPE_CHECKING = False
+if TYPE_CHECKING:
+    from typing import Any, Callable, Dict, Iterable, List, Optional, Tuple
+
+    # takes a value, how deep its fields are read, and where its tokens and its data go
+    Encoder = Callable[[Any, int, List[int], List[Any]], None]
+    Converter = Callable[[Any], Any]
+    # the tokens without and with fields, whether the elements are told, and how they are converted
+    Variant = Tuple[int, int, bool, Optional[Dict[int, Optional[Converter]]]]
+    # the token of the fields, how many values are read, and the places of those that are told, where not all are
+    Layout = Tuple[int, int, Optional[List[int]]]
+
+class_dict = vars(type)["__dict__"].__get__
+class_bases = vars(type)["__mro__"].__get__
+class_module = vars(type)["__module__"].__get__
+class_qualname = vars(type)["__qualname__"].__get__
+class_flags = vars(type)["__flags__"].__get__
+module_dict = vars(ModuleType)["__dict__"].__get__
 slot_value = MemberDescriptorType.__get__
 
 HEAP_TYPE = 1 << 9
@@ -73,7 +86,7 @@ def is_variable(value: object) -> bool:
     return not any(kind is each for each in NO_VARIABLES) and not is_subclass(kind, type)
 
 
-def member(module: str, name: str) -> object:
+def member(module: str, name: str) -> Any:
     """A member of a module that is loaded, or None."""
     found = sys.modules.get(module)
     return module_dict(found).get(name) if type(found) is ModuleType else None
@@ -96,7 +109,7 @@ def cut_text(text: str) -> str:
     return "%s... (%d characters, %08x)" % (text[:KEPT_OF_STRING], len(text), crc32(text.encode("utf-8", "surrogatepass")))
 
 
-def attribute(bases: tuple, name: str) -> object:
+def attribute(bases: tuple, name: str) -> Any:
     """What the first of the classes that has the name has there, or None."""
     for base in bases:
         if name in class_dict(base):
@@ -104,7 +117,7 @@ def attribute(bases: tuple, name: str) -> object:
     return None
 
 
-def dict_reader(bases: tuple):
+def dict_reader(bases: tuple) -> Callable[[Any], Any] | None:
     """What reads the `__dict__` of a class's instances, or None. A property of this name is passed over."""
     for base in bases:
         found = class_dict(base).get("__dict__")
@@ -116,7 +129,7 @@ def dict_reader(bases: tuple):
 class Looker:
     """Encodes values. `owns(module, qualname)` tells of which classes fields are read, `module_name(name)` how modules are named."""
 
-    def __init__(self, elements: int, owns, module_name) -> None:
+    def __init__(self, elements: int, owns: Callable[[str, str], bool], module_name: Callable[[str], str]) -> None:
         self.elements = elements
         self.owns = owns
         self.module_name = module_name
@@ -137,7 +150,7 @@ class Looker:
         self.scalar(str, "string", cut_text)
         # the scalars whose values are their own data
         self.plain = frozenset(map(id, (int, bool, float)))
-        self.conversions = {id(int): None, id(bool): None, id(type(None)): None, id(str): cut_text}
+        self.conversions: dict[int, Converter | None] = {id(int): None, id(bool): None, id(type(None)): None, id(str): cut_text}
         self.element_kinds = {id(kind): self.descriptions[self.token_of(kind)] for kind in (int, bool, type(None), str)}
 
     # ------------------------------------------------------------ tables
@@ -165,7 +178,7 @@ class Looker:
         names = {int: "int", bool: "boolean", str: "string"}
         return self.token((names[kind], self.class_number(kind))) if kind in names else self.none
 
-    def add(self, kind: type, encoder):
+    def add(self, kind: type, encoder: Encoder) -> Encoder:
         """From now on the encoder encodes the values of the class."""
         self.kept.append(kind)
         self.encoders[id(kind)] = encoder
@@ -173,7 +186,7 @@ class Looker:
 
     # ------------------------------------------------------------ encoders
 
-    def encode(self, values, depth: int, tokens: list, data: list) -> None:
+    def encode(self, values: Iterable[Any], depth: int, tokens: list, data: list) -> None:
         """Encodes the values one after another, with fields down to the depth."""
         encoders = self.encoders
         for value in values:
@@ -189,7 +202,7 @@ class Looker:
                     encoder = self.add(kind, self.encoder_of(kind))
                 encoder(value, depth, tokens, data)
 
-    def encoder_of(self, kind: type):
+    def encoder_of(self, kind: type) -> Encoder:
         """What encodes the values of a class that is met for the first time."""
         bases = class_bases(kind)
         if is_subclass(type(kind), member("enum", "EnumMeta")):
@@ -202,56 +215,56 @@ class Looker:
         fields = self.fields_of(kind, bases)
         if kind is memoryview:
             return self.sequence(kind, view_length, view_elements, fields)
-        for base in (list, tuple, range, bytes, bytearray, member("array", "array")):
-            if is_subclass(kind, base):
-                return self.sequence(kind, base.__len__, base.__getitem__, fields)
+        for known in (list, tuple, range, bytes, bytearray, member("array", "array")):
+            if is_subclass(kind, known):
+                return self.sequence(kind, known.__len__, known.__getitem__, fields)
         for base, length in LENGTHS:
             if is_subclass(kind, base):
                 return self.container(kind, length, fields)
         return self.object(kind, fields)
 
-    def encode_globals(self, value, depth, tokens, data):
+    def encode_globals(self, value: Globals, depth: int, tokens: list[int], data: list[Any]) -> None:
         """Global variables, as fields of nothing."""
         values = value.values()
         tokens.append(self.token(("fields", tuple(value.names))))
         self.encode(values, depth, tokens, data)
 
     @staticmethod
-    def nothing(token: int):
+    def nothing(token: int) -> Encoder:
         """Values that the token tells alone."""
 
-        def encode(value, depth, tokens, data):
+        def encode(value: Any, depth: int, tokens: list[int], data: list[Any]) -> None:
             tokens.append(token)
 
         return encode
 
-    def scalar(self, kind: type, name: str, convert, told_as: type = None) -> int:
+    def scalar(self, kind: type, name: str, convert: Converter | None, told_as: type | None = None) -> int:
         """Values that are data, as they are or converted, told as those of another class where one is named. Answers their token."""
         token = self.token((name, self.class_number(told_as or kind)))
 
-        def encode(value, depth, tokens, data):
+        def encode(value: Any, depth: int, tokens: list[int], data: list[Any]) -> None:
             tokens.append(token)
             data.append(convert(value) if convert else value)
 
         self.add(kind, encode)
         return token
 
-    def number(self, kind: type):
+    def number(self, kind: type) -> Encoder:
         """Numbers of a class of whole numbers."""
         self.scalar(kind, "int", int.__pos__)
         self.element_kinds[id(kind)] = ("int", self.class_number(kind))
         self.conversions[id(kind)] = int.__pos__
         return self.encoders[id(kind)]
 
-    def fraction(self, kind: type):
+    def fraction(self, kind: type) -> Encoder:
         """Numbers of a class of floating point."""
         self.scalar(kind, "double", float.__float__)
         return self.encoders[id(kind)]
 
-    def text(self, kind: type):
+    def text(self, kind: type) -> Encoder:
         """Strings of a class of strings. All strings are compared with each other."""
 
-        def convert(value):
+        def convert(value: str) -> str:
             return cut_text(str.__str__(value))
 
         self.scalar(kind, "string", convert, str)
@@ -259,7 +272,7 @@ class Looker:
         self.conversions[id(kind)] = convert
         return self.encoders[id(kind)]
 
-    def enumeration(self, kind: type, bases: tuple):
+    def enumeration(self, kind: type, bases: tuple) -> Encoder:
         """Members of an enumeration: the number of an integer or of flags, the string of strings, and else the member's name."""
         if is_subclass(kind, int):
             return self.number(kind)
@@ -271,7 +284,7 @@ class Looker:
         token = self.token((name, self.class_number(kind)))
         bare = self.token(("object", self.class_number(kind), False))
 
-        def encode(value, depth, tokens, data):
+        def encode(value: Any, depth: int, tokens: list[int], data: list[Any]) -> None:
             found = dict.get(read(value), key) if read else None
             if type(found) is expected:
                 tokens.append(token)
@@ -282,7 +295,7 @@ class Looker:
 
         return encode
 
-    def sequence(self, kind: type, length_of, items_of, fields):
+    def sequence(self, kind: type, length_of: Callable[[Any], int], items_of: Callable[[Any, slice], Any], fields: Encoder | None) -> Encoder:
         """Sequences of whole numbers, truth values or strings; containers where elements are others."""
         number = self.class_number(kind)
         unreadable = self.token(("object", number, False))
@@ -291,7 +304,7 @@ class Looker:
         # for each set of the elements' classes: the tokens with and without fields, and how the elements are converted
         variants: dict = {}
 
-        def variant_of(key, items):
+        def variant_of(key: tuple[frozenset[int], bool], items: list[Any]) -> Variant:
             kinds, is_cut = key
             for item in items:
                 if id(type(item)) not in self.encoders:
@@ -299,14 +312,14 @@ class Looker:
             known = kinds <= self.element_kinds.keys()
             if known:
                 descriptions = tuple(sorted(self.element_kinds[each] for each in kinds))
-                made = [self.token(("sequence", number, descriptions, is_cut, has_fields)) for has_fields in (False, True)]
+                bare, full = (self.token(("sequence", number, descriptions, is_cut, has_fields)) for has_fields in (False, True))
             else:
-                made = [self.token(("container", number, has_fields)) for has_fields in (False, True)]
+                bare, full = (self.token(("container", number, has_fields)) for has_fields in (False, True))
             conversions = {each: self.conversions[each] for each in kinds} if known else {}
-            variants[key] = variant = (*made, known, conversions if any(conversions.values()) else None)
+            variants[key] = variant = (bare, full, known, conversions if any(conversions.values()) else None)
             return variant
 
-        def encode(value, depth, tokens, data):
+        def encode(value: Any, depth: int, tokens: list[int], data: list[Any]) -> None:
             data.append(id(value))
             try:
                 length = length_of(value)
@@ -327,11 +340,11 @@ class Looker:
 
         return encode
 
-    def container(self, kind: type, length_of, fields):
+    def container(self, kind: type, length_of: Callable[[Any], int], fields: Encoder | None) -> Encoder:
         """Other containers, which are told by identity and length."""
         bare, full = (self.token(("container", self.class_number(kind), has_fields)) for has_fields in (False, True))
 
-        def encode(value, depth, tokens, data):
+        def encode(value: Any, depth: int, tokens: list[int], data: list[Any]) -> None:
             data.append(id(value))
             data.append(length_of(value))
             if depth and fields:
@@ -342,11 +355,11 @@ class Looker:
 
         return encode
 
-    def object(self, kind: type, fields):
+    def object(self, kind: type, fields: Encoder | None) -> Encoder:
         """Other objects, which are told by identity and fields."""
         bare, full = (self.token(("object", self.class_number(kind), has_fields)) for has_fields in (False, True))
 
-        def encode(value, depth, tokens, data):
+        def encode(value: Any, depth: int, tokens: list[int], data: list[Any]) -> None:
             data.append(id(value))
             if depth and fields:
                 tokens.append(full)
@@ -356,14 +369,14 @@ class Looker:
 
         return encode
 
-    def named_tuple(self, kind: type, bases: tuple):
+    def named_tuple(self, kind: type, bases: tuple) -> Encoder:
         """Named tuples, whose fields are their elements."""
         bare, full = (self.token(("object", self.class_number(kind), has_fields)) for has_fields in (False, True))
         names = attribute(bases, "_fields")[:MOST_FIELDS]
         fields = self.token(("fields", names))
         count = len(names)
 
-        def encode(value, depth, tokens, data):
+        def encode(value: Any, depth: int, tokens: list[int], data: list[Any]) -> None:
             data.append(id(value))
             items = tuple.__getitem__(value, slice(0, count))
             if depth and len(items) == count:
@@ -377,7 +390,7 @@ class Looker:
 
     # ------------------------------------------------------------ fields
 
-    def fields_of(self, kind: type, bases: tuple):
+    def fields_of(self, kind: type, bases: tuple) -> Encoder | None:
         """What encodes the fields of a class's instances, or None where they aren't read."""
         if not class_flags(kind) & HEAP_TYPE and kind is not SimpleNamespace:
             return None
@@ -389,18 +402,18 @@ class Looker:
             return None
         return self.fields_by(read, slots)
 
-    def fields_by(self, read, slots: list):
+    def fields_by(self, read: Callable[[Any], Any] | None, slots: list) -> Encoder:
         """What encodes the fields in these slots and those in the dictionary that is read."""
         layouts: dict = {}
         slot_names = [name for name, _ in slots]
         known: set = set()
 
-        def is_known(name):
+        def is_known(name: str) -> bool:
             if is_field(name) and len(known) < MOST_FIELDS:
                 known.add(name)
             return name in known
 
-        def layout_of(joined, values):
+        def layout_of(joined: str, values: tuple[Any, ...]) -> Layout:
             names = slot_names + (joined.split("\0") if joined or len(values) > len(slots) else [])
             if len(names) != len(values):
                 return self.token(("fields", ())), len(values), []
@@ -411,7 +424,7 @@ class Looker:
                 layouts[joined] = layout
             return layout
 
-        def encode(value, depth, tokens, data):
+        def encode(value: Any, depth: int, tokens: list[int], data: list[Any]) -> None:
             joined = ""
             values = tuple([read_slot(slot, value) for _, slot in slots]) if slots else ()
             dictionary = read(value) if read else None
@@ -447,7 +460,7 @@ def slots_of(kind: type) -> list:
             if type(slot) is MemberDescriptorType and type(name) is str and is_field(name)]
 
 
-def read_slot(slot, value: object) -> object:
+def read_slot(slot: MemberDescriptorType, value: object) -> object:
     """What the slot holds."""
     try:
         return slot_value(slot, value)

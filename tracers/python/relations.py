@@ -9,6 +9,14 @@ from __future__ import annotations
 
 import ast
 
+# `typing` isn't loaded into the program
+TYPE_CHECKING = False
+if TYPE_CHECKING:
+    from typing import Any, Callable, Tuple, Union
+
+    Function = Union[ast.FunctionDef, ast.AsyncFunctionDef, ast.Lambda]
+    Node = Tuple[Any, ...]
+
 LENGTH = ("", "length")
 # of a product or a quotient the parts are of other kinds; of a shift or a quotient of whole numbers the left part isn't
 BOTH_SIDES = (ast.Add, ast.Sub, ast.Mod)
@@ -19,29 +27,29 @@ class Relations:
     """Nodes that are of one kind, and those that are places in the values of others."""
 
     def __init__(self) -> None:
-        self.parents: dict = {}
+        self.parents: dict[Node, Node] = {}
         # pairs of a node and one that is a place in its value
-        self.places: list = []
+        self.places: list[tuple[Node, Node]] = []
 
-    def first(self, node: tuple) -> tuple:
+    def first(self, node: Node) -> Node:
         """The node that stands for all that are of one kind with this one."""
         while self.parents.get(node, node) != node:
             node = self.parents[node]
         return node
 
-    def join(self, nodes: list) -> list:
+    def join(self, nodes: list[Node]) -> list[Node]:
         """The nodes are of one kind."""
         for node in nodes[1:]:
             self.parents[self.first(node)] = self.first(nodes[0])
         return nodes
 
-    def add(self, node, owner: tuple, class_name: str | None) -> None:
+    def add(self, node: Function, owner: tuple, class_name: str | None) -> None:
         """Takes down what a function does. `class_name` is that of the class whose objects it is a method of."""
         reader = Reader(self, owner, class_name, node)
         for statement in node.body if isinstance(node.body, list) else [ast.Return(node.body)]:
             reader.visit(statement)
 
-    def lengths(self, is_sequence) -> set:
+    def lengths(self, is_sequence: Callable[[Node], bool]) -> set[Node]:
         """What stands for the nodes that are lengths, or places in values of which `is_sequence(node)` says that they are sequences."""
         nodes = {node for pair in self.places for node in pair} | set(self.parents)
         sequences = {self.first(node) for node in nodes if is_sequence(node)}
@@ -51,7 +59,7 @@ class Relations:
 class Reader(ast.NodeVisitor):
     """Reads a function's statements."""
 
-    def __init__(self, relations: Relations, owner: tuple, class_name: str | None, function) -> None:
+    def __init__(self, relations: Relations, owner: tuple, class_name: str | None, function: Function) -> None:
         self.relations = relations
         self.owner = owner
         self.class_name = class_name
@@ -60,7 +68,7 @@ class Reader(ast.NodeVisitor):
 
     # ------------------------------------------------------------ nodes of expressions
 
-    def nodes(self, expression) -> list:
+    def nodes(self, expression: ast.expr) -> list[Node]:
         """The nodes that an expression's value is of one kind with."""
         if isinstance(expression, (ast.Name, ast.Attribute)):
             path = path_of(expression)
@@ -80,28 +88,28 @@ class Reader(ast.NodeVisitor):
             return self.nodes_of(expression.args) if expression.func.id in ("min", "max", "abs", "range") else []
         return []
 
-    def nodes_of(self, expressions: list) -> list:
+    def nodes_of(self, expressions: list[ast.expr]) -> list[Node]:
         """The nodes of several expressions."""
         return [node for expression in expressions for node in self.nodes(expression)]
 
-    def node(self, path: tuple) -> tuple:
+    def node(self, path: tuple[str, ...]) -> Node:
         """The node of a variable or a field."""
         if len(path) > 1 and path[0] == self.object_name:
             return (self.class_name, *path[1:])
         return (self.owner, *path)
 
-    def join(self, expressions: list) -> None:
+    def join(self, expressions: list[ast.expr]) -> None:
         """The expressions' values are of one kind."""
         self.relations.join(self.nodes_of(expressions))
 
     # ------------------------------------------------------------ what is done
 
-    def visit_FunctionDef(self, node) -> None:
+    def visit_FunctionDef(self, node: ast.AST) -> None:
         """Other functions are read by themselves."""
 
     visit_AsyncFunctionDef = visit_Lambda = visit_ClassDef = visit_FunctionDef
 
-    def visit_joining(self, node) -> None:
+    def visit_joining(self, node: ast.expr) -> None:
         """An expression whose parts are of one kind where `nodes` names several: a sum, a choice, an assignment within an expression, a call of
         `min` and the like."""
         self.relations.join(self.nodes(node))
@@ -109,7 +117,7 @@ class Reader(ast.NodeVisitor):
 
     visit_BinOp = visit_IfExp = visit_NamedExpr = visit_Call = visit_joining
 
-    def visit_Compare(self, node) -> None:
+    def visit_Compare(self, node: ast.Compare) -> None:
         """A comparison, but for that of an element with a sequence and of identities."""
         sides = [node.left, *node.comparators]
         for place, operator in enumerate(node.ops):
@@ -117,13 +125,13 @@ class Reader(ast.NodeVisitor):
                 self.join(sides[place:place + 2])
         self.generic_visit(node)
 
-    def visit_Assign(self, node) -> None:
+    def visit_Assign(self, node: ast.Assign) -> None:
         """An assignment, also of several values to several targets."""
         for target in node.targets:
             self.assign(target, node.value)
         self.generic_visit(node)
 
-    def assign(self, target, value) -> None:
+    def assign(self, target: ast.expr, value: ast.expr) -> None:
         """A value is assigned."""
         if isinstance(target, ast.Tuple) and isinstance(value, ast.Tuple) and len(target.elts) == len(value.elts):
             for each, part in zip(target.elts, value.elts):
@@ -131,19 +139,19 @@ class Reader(ast.NodeVisitor):
         else:
             self.join([target, value])
 
-    def visit_AugAssign(self, node) -> None:
+    def visit_AugAssign(self, node: ast.AugAssign) -> None:
         """An assignment of a sum."""
         if isinstance(node.op, (*BOTH_SIDES,)):
             self.join([node.target, node.value])
         self.generic_visit(node)
 
-    def visit_AnnAssign(self, node) -> None:
+    def visit_AnnAssign(self, node: ast.AnnAssign) -> None:
         """An assignment with a type."""
         if node.value is not None:
             self.assign(node.target, node.value)
         self.generic_visit(node)
 
-    def visit_For(self, node) -> None:
+    def visit_For(self, node: ast.For) -> None:
         """A loop over a range, or over elements with their numbers."""
         call = node.iter
         if isinstance(call, ast.Call) and isinstance(call.func, ast.Name):
@@ -153,23 +161,24 @@ class Reader(ast.NodeVisitor):
                 self.relations.join([LENGTH, *self.nodes(node.target.elts[0])])
         self.generic_visit(node)
 
-    def visit_Return(self, node) -> None:
+    def visit_Return(self, node: ast.Return) -> None:
         """A value is returned."""
         if node.value is not None:
             self.relations.join([(self.owner, "return"), *self.nodes(node.value)])
             self.visit(node.value)
 
-    def visit_Subscript(self, node) -> None:
+    def visit_Subscript(self, node: ast.Subscript) -> None:
         """An element at a place, or a slice between two."""
-        parts = [node.slice.lower, node.slice.upper] if isinstance(node.slice, ast.Slice) else [node.slice]
+        index: Any = node.slice
+        parts = [index.lower, index.upper] if isinstance(index, ast.Slice) else [index]
         for place in self.nodes_of([part for part in parts if part is not None]):
             self.relations.places += [(container, place) for container in self.nodes(node.value)]
         self.generic_visit(node)
 
 
-def path_of(expression) -> tuple:
+def path_of(expression: ast.expr) -> tuple[str, ...]:
     """The names of a variable and its fields, or nothing where the expression is another one."""
-    names: list = []
+    names: list[str] = []
     while isinstance(expression, ast.Attribute):
         names.insert(0, expression.attr)
         expression = expression.value

@@ -7,6 +7,13 @@ import ast
 
 from relations import Relations
 
+# `typing` isn't loaded into the program
+TYPE_CHECKING = False
+if TYPE_CHECKING:
+    from typing import Iterator
+
+    from relations import Function
+
 NO_METHODS = ("__new__", "__init_subclass__", "__class_getitem__")
 FUNCTIONS = (ast.FunctionDef, ast.AsyncFunctionDef)
 SCOPES = (*FUNCTIONS, ast.Lambda, ast.ClassDef)
@@ -15,7 +22,7 @@ SCOPES = (*FUNCTIONS, ast.Lambda, ast.ClassDef)
 class Definition:
     """A function's definition. `class_name` is that of the class whose objects it is a method of; `returns` has the lines of each `return`."""
 
-    def __init__(self, node, owner: tuple, qualname: str, class_name: str | None) -> None:
+    def __init__(self, node: ast.AST | None, owner: tuple, qualname: str, class_name: str | None) -> None:
         self.owner = owner
         self.qualname = qualname
         self.class_name = class_name if is_method(node) else None
@@ -66,7 +73,7 @@ class Source:
             cls.known[path] = cls(path)
         return cls.known[path]
 
-    def visit(self, node, prefix: str, class_name: str | None) -> None:
+    def visit(self, node: ast.AST, prefix: str, class_name: str | None) -> None:
         """Takes down what is defined below the node, whose names begin with the prefix."""
         for child in ast.iter_child_nodes(node):
             if isinstance(child, ast.ClassDef):
@@ -78,7 +85,7 @@ class Source:
             else:
                 self.visit(child, prefix, class_name)
 
-    def add(self, node, name: str, qualname: str, class_name: str | None) -> None:
+    def add(self, node: Function, name: str, qualname: str, class_name: str | None) -> None:
         """Takes down a definition. Of two that begin in the same line and have the same name the first one counts for both."""
         decorators = getattr(node, "decorator_list", [])
         line = min([node.lineno] + [each.lineno for each in decorators])
@@ -100,7 +107,7 @@ class Source:
         return len(self.counts.get((qualname, names), ())) > 1
 
 
-def is_method(node) -> bool:
+def is_method(node: ast.AST | None) -> bool:
     """Whether a function in a class takes an object of the class first."""
     if not isinstance(node, FUNCTIONS) or node.name in NO_METHODS:
         return False
@@ -108,30 +115,30 @@ def is_method(node) -> bool:
     return bool(node.args.posonlyargs + node.args.args) and "staticmethod" not in decorators and "classmethod" not in decorators
 
 
-def is_none(node) -> bool:
+def is_none(node: ast.expr) -> bool:
     """Whether an expression is None."""
     return isinstance(node, ast.Constant) and node.value is None
 
 
-def parameter_names(node) -> tuple:
+def parameter_names(node: Function) -> tuple:
     """The names of a function's parameters, in the order in which they are declared."""
     many = node.args
     rest, others = ([each] if each else [] for each in (many.vararg, many.kwarg))
     return tuple(each.arg for each in (*many.posonlyargs, *many.args, *rest, *many.kwonlyargs, *others))
 
 
-def unwinding_lines(node) -> range:
+def unwinding_lines(node: ast.AST) -> range:
     """The lines of what is done when a statement is left."""
     if isinstance(node, ast.With):
         return range(node.lineno, max(node.lineno + 1, node.body[0].lineno))
     if isinstance(node, ast.Try) and node.finalbody:
-        return range(node.finalbody[0].lineno, node.finalbody[-1].end_lineno + 1)
+        return range(node.finalbody[0].lineno, (node.finalbody[-1].end_lineno or 0) + 1)
     return range(0)
 
 
-def own_nodes(node):
+def own_nodes(node: ast.FunctionDef | ast.AsyncFunctionDef) -> Iterator[ast.AST]:
     """The nodes of a function's body, without those of other scopes in it."""
-    waiting = list(node.body)
+    waiting: list[ast.AST] = list(node.body)
     while waiting:
         each = waiting.pop()
         yield each

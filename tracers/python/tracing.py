@@ -9,19 +9,32 @@ Python 3.12 and later have `sys.monitoring`, by which code that isn't traced run
 
 from __future__ import annotations
 
-import _signal
+import _signal  # type: ignore[import]
 import _thread
 import atexit
 import marshal
 import os
 import sys
 import time
-from _functools import partial
+from _functools import partial  # type: ignore[import]
 from itertools import count
 from operator import itemgetter
 
 from looking import UNSET, Globals, Looker, member
 from spool import Spool
+
+# `typing` isn't loaded into the program
+TYPE_CHECKING = False
+if TYPE_CHECKING:
+    from types import CodeType, FrameType
+    from typing import Any, Callable, Mapping, Tuple, Type
+
+    from source import Source
+
+    # takes a place, the call's nonce and the values, and makes the record
+    Look = Callable[["Place", int, Tuple[Any, ...]], Tuple[Any, ...]]
+    Hook = Callable[..., Any]
+    Hooks = Tuple[Hook, Hook, Hook]
 
 OPTIMIZED = 0x1
 # generators, coroutines, iterable coroutines and asynchronous generators
@@ -70,7 +83,7 @@ class Function:
 
     __slots__ = ("code", "module", "names", "read", "due", "entry", "exits", "more")
 
-    def __init__(self, code, module: str, entry: Place, more: tuple) -> None:
+    def __init__(self, code: CodeType, module: str, entry: Place, more: tuple) -> None:
         self.code = code
         self.module = module
         self.names = parameters(code)
@@ -82,7 +95,7 @@ class Function:
         self.more = more
 
 
-def parameters(code) -> tuple:
+def parameters(code: CodeType) -> tuple:
     """The names of the code's parameters, in the order in which they are declared."""
     names = code.co_varnames
     positional, keywords = code.co_argcount, code.co_argcount + code.co_kwonlyargcount
@@ -92,7 +105,7 @@ def parameters(code) -> tuple:
     return names[:positional] + rest + names[positional:keywords] + others
 
 
-def starred_parameters(code) -> list:
+def starred_parameters(code: CodeType) -> list:
     """The names of the code's parameters, with their stars."""
     names = list(parameters(code))
     if code.co_flags & VARIABLE_ARGUMENTS:
@@ -102,7 +115,7 @@ def starred_parameters(code) -> list:
     return names
 
 
-def reader(names: tuple):
+def reader(names: tuple) -> Any:
     """What reads the values of these names from a frame's locals, as a tuple."""
     if len(names) == 1:
         name = names[0]
@@ -110,12 +123,12 @@ def reader(names: tuple):
     return itemgetter(*names) if names else lambda variables: ()
 
 
-def values_there(function: Function, variables) -> tuple:
+def values_there(function: Function, variables: Mapping[str, Any]) -> tuple:
     """The values of the function's parameters, of which some have been deleted."""
     return tuple([variables.get(name, UNSET) for name in function.names])
 
 
-def begun_without_signals(function):
+def begun_without_signals(function: Any) -> Any:
     """The function, in whose first instruction no signal is noticed: so its body's `try` sees each exception that a signal's handler raises.
     Before Python 3.11 a `try` that comes first is entered without a look at signals, too."""
     code = bytearray(function.__code__.co_code)
@@ -151,11 +164,11 @@ class Tracer:
         # whether an interrupt is still to be told to the program, and whether a handler's exception may have ended tracing
         self.is_interrupted = False
         self.may_end_early = False
-        self.monitor = None
-        self.threading = None
+        self.monitor: int | None = None
+        self.threading: Any = None
         # before Python 3.12, what takes events, and the same as it is told to Python, which can be paused
-        self.on_event = None
-        self.hook = None
+        self.on_event: Hook | None = None
+        self.hook: Any = None
         self.handler = self.on_signal
 
     # ------------------------------------------------------------ what is traced
@@ -188,7 +201,7 @@ class Tracer:
         """The module's name in the names of points: that of the script, where it is the one that is run."""
         return self.settings["main"] if name == "__main__" else name if type(name) is str else "?"
 
-    def discover(self, frame):
+    def discover(self, frame: FrameType) -> Function | None:
         """The function of the frame's code, which is met for the first time, or None where it isn't traced."""
         code = frame.f_code
         if code.co_filename[:1] == "<":
@@ -214,14 +227,14 @@ class Tracer:
             self.modules[id(variables)] = Globals(variables)
         return (self.modules[id(variables)],)
 
-    def qualname_of(self, code) -> str:
+    def qualname_of(self, code: CodeType) -> str:
         """The code's qualified name: what the code tells, or before Python 3.11 what its file says, where a glob asks for it."""
         if self.source is None:
             return getattr(code, "co_qualname", code.co_name)
         path = os.path.join(self.settings["start"], code.co_filename)
         return self.source.of(path).find(code.co_firstlineno, code.co_name, code.co_name).qualname
 
-    def place(self, code, module: str, lines: list) -> Place:
+    def place(self, code: CodeType, module: str, lines: list) -> Place:
         """A new place of a function: its entry, or an exit, with the lines of the instructions from there backwards."""
         path = os.path.join(self.settings["start"], code.co_filename)
         name = self.qualname_of(code)
@@ -238,14 +251,14 @@ class Tracer:
         self.shapes.append((place.number, tokens))
         return number
 
-    def looker_at(self):
+    def looker_at(self) -> Look:
         """What makes the record of values that aren't all scalars, or whose classes aren't those that are usual there."""
         encode = self.looker.encode
         plain = self.looker.plain
         depth = self.settings["depth"]
         shapes = self.shapes
 
-        def look_at_new(place, kinds, nonce, values):
+        def look_at_new(place: Place, kinds: tuple[int, ...], nonce: int, values: tuple[Any, ...]) -> tuple[Any, ...]:
             tokens: list = []
             data: list = []
             encode(values, depth, tokens, data)
@@ -259,7 +272,7 @@ class Tracer:
                 place.plain[kinds] = number
             return (number, nonce, *data)
 
-        def look(place, nonce, values):
+        def look(place: Place, nonce: int, values: tuple[Any, ...]) -> tuple[Any, ...]:
             classes = tuple(map(type, values))
             kinds = tuple(map(id, classes))
             number = place.plain.get(kinds)
@@ -270,7 +283,7 @@ class Tracer:
 
         return look
 
-    def hooks(self):
+    def hooks(self) -> Hooks:
         """What is to be called at an entry and at an exit of a function that is traced, and what takes the nonce of a frame that ends."""
         waiting: dict = {}
         next_nonce = count(1).__next__
@@ -281,7 +294,7 @@ class Tracer:
         most = self.spool.batch
         flush = self.spool.flush
 
-        def enter(function, frame):
+        def enter(function: Function, frame: FrameType) -> None:
             if every > 1:
                 function.due -= 1
                 if function.due:
@@ -305,8 +318,8 @@ class Tracer:
             if len(pending) > most:
                 flush()
 
-        def leave(function, frame, nonce, offset, value):
-            place = function.exits.get(offset)
+        def leave(function: Function, frame: FrameType, nonce: int, offset: int, value: object) -> None:
+            place: Any = function.exits.get(offset)
             if place is None:
                 place = self.exit_of(function, frame, offset, value)
             if not place:
@@ -325,7 +338,7 @@ class Tracer:
 
         return enter, leave, waiting.pop
 
-    def exit_of(self, function: Function, frame, offset: int, value: object):
+    def exit_of(self, function: Function, frame: FrameType, offset: int, value: object) -> Place | bool:
         """The exit of the function at this place in its code, which is met for the first time; False where an exception leaves, which
         `sys.setprofile` tells as a return of None, too."""
         is_return = value is not None or self.monitor is not None or function.code.co_code[offset] == RETURN_VALUE
@@ -334,14 +347,14 @@ class Tracer:
 
     # ------------------------------------------------------------ events
 
-    def profile_hook(self):
+    def profile_hook(self) -> Hook:
         """The hook for `sys.setprofile`."""
         enter, leave, take = self.hooks()
         find = self.functions.get
         discover = self.discover
         failed = self.failed
 
-        def on_event(frame, event, argument):
+        def on_event(frame: FrameType, event: str, argument: object) -> None:
             try:
                 if event == "call":
                     function = find(id(frame.f_code), UNKNOWN)
@@ -382,7 +395,7 @@ class Tracer:
 
     def start_monitoring(self) -> None:
         """Begins to trace with `sys.monitoring`."""
-        monitoring = sys.monitoring
+        monitoring = sys.monitoring  # type: ignore[attr-defined]
         tool = next(number for number in (4, 3, 2, 1, 0) if monitoring.get_tool(number) is None)
         enter, leave, take = self.hooks()
         find = self.functions.get
@@ -391,7 +404,7 @@ class Tracer:
         disable = monitoring.DISABLE
         frame_of = sys._getframe
 
-        def on_start(code, offset):
+        def on_start(code: CodeType, offset: int) -> Any:
             try:
                 frame = frame_of(1)
                 function = find(id(code), UNKNOWN)
@@ -403,7 +416,7 @@ class Tracer:
             except BaseException as problem:
                 failed(problem)
 
-        def on_return(code, offset, value):
+        def on_return(code: CodeType, offset: int, value: object) -> Any:
             try:
                 frame = frame_of(1)
                 nonce = take(frame, None)
@@ -414,7 +427,7 @@ class Tracer:
             except BaseException as problem:
                 failed(problem)
 
-        def on_unwind(code, offset, exception):
+        def on_unwind(code: CodeType, offset: int, exception: BaseException) -> None:
             try:
                 take(frame_of(1), None)
             except BaseException as problem:
@@ -429,12 +442,13 @@ class Tracer:
 
     def set_monitoring(self, is_on: bool) -> None:
         """Has events told, or no longer."""
-        events = sys.monitoring.events
-        sys.monitoring.set_events(self.monitor, events.PY_START | events.PY_RETURN | events.PY_UNWIND if is_on else 0)
+        monitoring = sys.monitoring  # type: ignore[attr-defined]
+        events = monitoring.events
+        monitoring.set_events(self.monitor, events.PY_START | events.PY_RETURN | events.PY_UNWIND if is_on else 0)
 
     def failed(self, problem: BaseException) -> None:
         """An exception came up while something was recorded: in the handler of a signal, which the program is to see, or here."""
-        trace = problem.__traceback__
+        trace: Any = problem.__traceback__
         while trace.tb_next is not None:
             trace = trace.tb_next
         if not trace.tb_frame.f_code.co_filename.startswith(OUR_FOLDER):
@@ -501,11 +515,11 @@ class Tracer:
         frame = sys._current_frames().get(thread)
         return frame is not None and frame.f_code.co_filename.startswith(OUR_FOLDER)
 
-    def on_interrupt(self, number: int, frame) -> None:
+    def on_interrupt(self, number: int, frame: FrameType | None) -> None:
         """An interrupt that comes while the trace is written."""
         self.is_interrupted = True
 
-    def on_signal(self, number: int, frame) -> None:
+    def on_signal(self, number: int, frame: FrameType | None) -> None:
         """A signal that ends the program: it does so when the trace is written."""
         if self.is_done and os.getpid() == self.process:
             return
@@ -559,14 +573,14 @@ class Tracer:
             raise OSError("its writer ended with status %d" % (status >> 8 or status))
 
 
-def source_reader():
+def source_reader() -> Type[Source]:
     """What reads the names of functions from their files."""
     from source import Source
 
     return Source
 
 
-def lines_before(code, offset: int, frame) -> list:
+def lines_before(code: CodeType, offset: int, frame: FrameType) -> list:
     """The lines of a return and of the instructions before it, the last one first. From Python 3.10 on, a return that leaves a `with` or a
     `finally` has the line of that."""
     if not hasattr(code, "co_lines"):

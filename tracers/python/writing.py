@@ -10,12 +10,14 @@ import hashlib
 import marshal
 import os
 import sys
+from functools import partial
+from typing import Callable, Iterable, Iterator
 
 HERE = os.path.dirname(os.path.abspath(__file__))
 sys.path[:0] = [HERE, os.path.dirname(HERE)]
 
 import dtrace  # noqa: E402
-from source import Source  # noqa: E402
+from source import Definition, Source  # noqa: E402
 from tracing import MOST_SHAPES  # noqa: E402
 
 LIMIT = 1 << 63
@@ -212,7 +214,7 @@ class Lister:
 class Function:
     """A function of the traced program: what was seen of its variables, and where they were there."""
 
-    def __init__(self, name: str, module: str, path: str, line: int, definition, parameters: tuple) -> None:
+    def __init__(self, name: str, module: str, path: str, line: int, definition: Definition, parameters: tuple) -> None:
         self.name = name
         self.module = module
         self.path = path
@@ -275,11 +277,11 @@ class Program:
             functions = [function for function in self.functions.values() if function.path == path]
             relations = Source.of(path).relations
             nodes = dict(self.nodes_of(functions))
-            lengths = relations.lengths(lambda node, nodes=nodes: node in nodes and self.has_places(nodes[node]))
+            lengths = relations.lengths(partial(self.is_sequence, nodes))
             for node, seen in nodes.items():
                 seen.is_length = seen.is_length or relations.first(node) in lengths
 
-    def nodes_of(self, functions: list):
+    def nodes_of(self, functions: list) -> Iterator[tuple[tuple, Seen]]:
         """The variables of a file's functions as nodes of its relations, and what was seen of them."""
         for function in functions:
             for name in (*function.parameters, "return"):
@@ -287,6 +289,10 @@ class Program:
             if function.definition.class_name:
                 for name, seen in self.root(function, function.parameters[0]).fields.items():
                     yield from nodes_below((function.definition.class_name, name), seen)
+
+    def is_sequence(self, nodes: dict, node: tuple) -> bool:
+        """Whether the node is one of these, with values that have places."""
+        return node in nodes and self.has_places(nodes[node])
 
     def has_places(self, seen: Seen) -> bool:
         """Whether the values are strings, lists and the like."""
@@ -297,7 +303,7 @@ class Program:
 
     # ------------------------------------------------------------ places
 
-    def place(self, module, path, name, qualname, line, parameters, starred, lines) -> Place:
+    def place(self, module: str, path: str, name: str, qualname: str, line: int, parameters: tuple, starred: list[str], lines: list) -> Place:
         """The place that the tracer tells of."""
         source = Source.of(path)
         definition = source.find(line, name, qualname)
@@ -331,7 +337,7 @@ class Program:
             add_present(place.present, (name,), node)
 
 
-def nodes_below(node: tuple, seen: Seen):
+def nodes_below(node: tuple, seen: Seen) -> Iterator[tuple[tuple, Seen]]:
     """A variable and its fields, as nodes."""
     yield node, seen
     for name, field in seen.fields.items():
@@ -414,8 +420,7 @@ class Declarations:
         if point in self.variables:
             found.append((point, 1))
             first = function.parameters[0]
-            counterparts = {("self", *path[1:]): path for path in [(first,)]}
-            counterparts.update({(each.path, each.aspect): each.variable.name for each in self.variables[point]})
+            counterparts = {(each.path, each.aspect): each.variable.name for each in self.variables[point]}
             for each in declared:
                 name = counterparts.get((("self", *each.path[1:]), each.aspect)) if each.path[0] == first else None
                 if name:
@@ -441,7 +446,7 @@ def fraction(value: float) -> str:
     return {"nan": "NaN", "inf": "Infinity", "-inf": "-Infinity"}.get(repr(float(value)), repr(float(value)))
 
 
-def list_of(texts) -> str | None:
+def list_of(texts: Iterable[str]) -> str | None:
     """A sequence's value; one that is longer than a line may be is missing."""
     text = dtrace.sequence(texts)
     return text if len(text) * 4 < LONGEST_VALUE else None
@@ -493,30 +498,31 @@ class Plan:
         sources = [(each.variable.name, *source_of(each, found.get(each.path))) for each in declared]
         self.parts = [(place, function) for _, _, place, function in sources if function]
         self.template = dtrace.record_template(name, [(each, dtrace.VALUE_WITH_MARK if function else text) for each, text, _, function in sources])
+        self.text: Callable[[tuple], str] = self.general_text
         places = [place for place, _ in self.parts]
         if places == list(range(2, width)) and all(function is dtrace.integer for _, function in self.parts):
             self.text = self.integers_text(dtrace.record_template(name, [(each, "%d" if function else text) for each, text, _, function in sources]))
 
-    def text(self, data) -> str:
+    def general_text(self, data: tuple) -> str:
         """The text of a record."""
         return self.template % (data[1], *[dtrace.with_mark(function(data[place])) for place, function in self.parts])
 
-    def integers_text(self, template: str):
+    def integers_text(self, template: str) -> Callable[[tuple], str]:
         """What makes the text of a record that has whole numbers alone: at once, where none has more than 64 bits."""
-        general = self.text
+        general = self.general_text
         # the shape's number is formatted to nothing
         template = "%.0s" + template
         # in a text that isn't longer no number has so many digits
         most = len(template % ((0,) * (2 + len(self.parts)))) + DIGITS_OF_LIMIT - 2
 
-        def text(data) -> str:
+        def text(data: tuple) -> str:
             text = template % data
             return text if len(text) <= most or max(data) < LIMIT and min(data) >= -LIMIT else general(data)
 
         return text
 
 
-def paths_of(path: tuple, nodes: dict):
+def paths_of(path: tuple, nodes: dict) -> Iterator[tuple[tuple, Node]]:
     """The values and their fields, with the paths to them."""
     for name, node in nodes.items():
         yield (*path, name), node

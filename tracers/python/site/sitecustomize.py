@@ -1,11 +1,13 @@
 """Python loads this module before the script, where `dk_python` has put its folder into PYTHONPATH. It begins to trace, takes all traces of
 itself away, and loads the module of this name that Python would have found without it."""
 
+from __future__ import annotations
+
 import os
 import sys
 
 
-def take_settings():
+def take_settings() -> dict:
     """The command's settings, which are taken out of the environment, as this folder is taken out of the path."""
     import marshal
 
@@ -21,7 +23,7 @@ def take_settings():
     return settings
 
 
-def begin():
+def begin() -> None:
     """Begins to trace. The tracer's modules keep no name by which the program could find them."""
     settings = take_settings()
     folder = os.path.dirname(os.path.dirname(os.path.abspath(__file__)))
