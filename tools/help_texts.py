@@ -1,4 +1,7 @@
 """The help texts of the five programs, as their sources have them."""
+
+from __future__ import annotations
+
 import os
 import re
 

@@ -22,7 +22,8 @@ PATIENCE = 60.0
 
 def found() -> Optional[str]:
     """Where Chromium is installed, if it is."""
-    return next((path for path in map(shutil.which, NAMES) if path), None)
+    paths = (shutil.which(name) for name in NAMES)
+    return next((path for path in paths if path), None)
 
 
 class Browser:

@@ -1,5 +1,7 @@
 """Lines and blocks of a trace, as docs/FORMATS.md has them, in large pieces of bytes."""
 
+from __future__ import annotations
+
 import os
 import re
 from bisect import bisect_right

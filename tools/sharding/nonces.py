@@ -1,5 +1,7 @@
 """Patterns that find calls by their nonces, at the speed of a search."""
 
+from __future__ import annotations
+
 import re
 from bisect import bisect_right
 from itertools import accumulate

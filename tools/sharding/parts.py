@@ -1,5 +1,7 @@
 """One part of a run: its texts are given to daikon, and its state or its refused line is kept."""
 
+from __future__ import annotations
+
 import fcntl
 import json
 import os
@@ -7,7 +9,7 @@ import re
 import subprocess
 import sys
 import tempfile
-from typing import BinaryIO, Iterator, List, NamedTuple, Optional, Tuple
+from typing import IO, Iterator, List, NamedTuple, Optional, Tuple
 
 from .planning import Plan, Text, texts_of
 
@@ -80,7 +82,7 @@ def read_between(path: str, start: int, end: int) -> Iterator[bytes]:
             yield read
 
 
-def copy_between(path: str, start: int, end: int, out: BinaryIO) -> None:
+def copy_between(path: str, start: int, end: int, out: IO[bytes]) -> None:
     """Copies a stretch of a file within the kernel."""
     with open(path, "rb", buffering=0) as file:
         while start < end:
@@ -95,7 +97,7 @@ def blank_line(path: str, end: int) -> bytes:
     return b"\n" if b"".join(read_between(path, end - 1, end)) == b"\n" else b"\n\n"
 
 
-def write_text(plan: Plan, text: Text, out: BinaryIO) -> None:
+def write_text(plan: Plan, text: Text, out: IO[bytes]) -> None:
     """A whole file as it is; spans with a blank line after each. `out` has no buffer."""
     for file, start, end in text.spans:
         path = plan.sources[file].path
@@ -151,7 +153,7 @@ def part_words(plan: Plan, given: List[Given]) -> List[str]:
     return ["--save", NOTHING, *plan.words, "--", *(text.name for text in given)]
 
 
-def feed(plan: Plan, text: Optional[Text], pipe: BinaryIO) -> bool:
+def feed(plan: Plan, text: Optional[Text], pipe: IO[bytes]) -> bool:
     """Writes a text into a program's input; false where the program closed it before the end."""
     try:
         with pipe:
@@ -184,6 +186,7 @@ def run_daikon(daikon: str, plan: Plan, given: List[Given], work: str) -> Tuple[
         run = subprocess.Popen([daikon, *part_words(plan, given)], cwd=work, bufsize=0, stdin=subprocess.PIPE,
                                stdout=subprocess.DEVNULL, stderr=messages)
         try:
+            assert run.stdin is not None
             was_read = feed(plan, streamed, run.stdin)
         except BaseException:
             run.kill()

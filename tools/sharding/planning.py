@@ -7,13 +7,15 @@ exit and the entry that it takes are in one part, and an entry that is moved was
 of its own piece.
 """
 
+from __future__ import annotations
+
 import gc
 import json
 import os
 from concurrent.futures import Executor, ProcessPoolExecutor
 from dataclasses import asdict, dataclass, field
 from itertools import groupby, repeat
-from typing import Dict, FrozenSet, Iterable, List, Optional, Sequence, Set, Tuple
+from typing import Any, Callable, Dict, FrozenSet, Iterable, List, Optional, Sequence, Set, Tuple
 
 from . import blocks
 from .nonces import Owned, owned_by_each, owner_of
@@ -80,10 +82,14 @@ class Plan:
         """The plan of a file."""
         with open(path, encoding="utf-8") as file:
             found = json.load(file)
-        parts = [Part(**{key: [tuple(span) for span in spans] for key, spans in part.items()})
-                 for part in found["parts"]]
-        return Plan([Source(**source) for source in found["sources"]], found["words"], parts,
-                    [tuple(span) for span in found["declared"]], [tuple(span) for span in found["fronts"]])
+        parts = [Part(**{key: spans_of(spans) for key, spans in part.items()}) for part in found["parts"]]
+        return Plan([Source(**source) for source in found["sources"]], found["words"], parts, spans_of(found["declared"]),
+                    spans_of(found["fronts"]))
+
+
+def spans_of(found: List[Any]) -> List[Span]:
+    """Spans that were read as lists."""
+    return [(file, start, end) for file, start, end in found]
 
 
 @dataclass
@@ -254,7 +260,7 @@ def scans_of(pool: Executor, stretches: List[Stretch], owned: List[Owned], plain
     sought = sought_in(stretches, scans, owned, others)
     found = pool.map(calls_with, [stretches[at] for at in sought], sought.values(), repeat(plain_exits))
     for at, calls in zip(sought, found):
-        told = sorted({*scans[at].calls, *calls}, key=lambda call: call.place)
+        told = sorted({*(scans[at].calls or ()), *calls}, key=lambda call: call.place)
         scans[at] = scans[at]._replace(calls=told)
     return scans
 
@@ -277,7 +283,7 @@ def sought_in(stretches: List[Stretch], scans: List[Scan], owned: List[Owned], o
             for place in range(at, at + count):
                 for call in scans[place].calls or ():
                     owner = owner_of(call.nonce, owned[at:at + count])
-                    if owner is not None and stretches[at + owner].piece != stretches[place].piece:
+                    if owner is not None and call.nonce is not None and stretches[at + owner].piece != stretches[place].piece:
                         sought.setdefault(at + owner, set()).add(call.nonce)
         at += count
     return sought
@@ -303,7 +309,7 @@ def located(crossings: List[Crossing]) -> List[Tuple[Crossing, Span]]:
 # ---------------------------------------------------------------- the plan
 
 def planned(sources: List[Source], words: List[str], parts: int, least: int, jobs: int,
-            tell=lambda line: None) -> Plan:
+            tell: Callable[[str], None] = lambda line: None) -> Plan:
     """Cuts the files into parts."""
     uncut: Set[int] = set()
     while True:

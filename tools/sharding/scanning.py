@@ -9,6 +9,8 @@ it, in one of two ways:
 - call by call: told are the exits for which no entry of the stretch waits, and the entries that wait at its end.
 """
 
+from __future__ import annotations
+
 import re
 from typing import Collection, Dict, FrozenSet, List, NamedTuple, Optional, Pattern, Tuple
 

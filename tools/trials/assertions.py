@@ -1,5 +1,7 @@
 """Kinds of trials with assertion files."""
 
+from __future__ import annotations
+
 import random
 import re
 from typing import Iterator, List, Optional

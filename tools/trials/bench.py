@@ -1,5 +1,7 @@
 """Starts programs in one folder, thousands of times, under limits and with what they read in pieces, and keeps what they wrote."""
 
+from __future__ import annotations
+
 import os
 import resource
 import signal
@@ -7,6 +9,8 @@ import stat
 from collections import Counter
 from dataclasses import dataclass, replace
 from typing import Dict, List, Optional, Tuple
+
+from processes import exit_code
 
 STATE = "daikon.state"
 # seconds of the processor, of all clocks, and between two looks
@@ -107,9 +111,17 @@ class Bench:
         self.runs[program] += 1
         if how.piped:
             words = ["/dev/stdin" if word == how.piped else word for word in words]
-        source, feeding = os.pipe() if how.piped else (os.open(os.devnull, os.O_RDONLY), None)
-        taking, report = os.pipe() if how.reader_takes is not None else (None, opened(how.report_to or self.report_path))
-        if how.reader_takes == 0:
+        feeding: Optional[int] = None
+        taking: Optional[int] = None
+        if how.piped:
+            source, feeding = os.pipe()
+        else:
+            source = os.open(os.devnull, os.O_RDONLY)
+        if how.reader_takes is not None:
+            taking, report = os.pipe()
+        else:
+            report = opened(how.report_to or self.report_path)
+        if taking is not None and how.reader_takes == 0:
             os.close(taking)
         messages = opened(how.messages_to or self.messages_path)
         start = forked if how.limits or how.as_nobody or how.ignores else spawned
@@ -122,10 +134,11 @@ class Bench:
         try:
             if feeding is not None:
                 feed(feeding, self.there[how.piped], how.piece)
-            taken = taken_from(taking, how.reader_takes) if how.reader_takes else b""
-            status: Optional[int] = os.waitstatus_to_exitcode(os.waitpid(child, 0)[1])
+            taken = taken_from(taking, how.reader_takes) if taking is not None and how.reader_takes else b""
+            status: Optional[int] = exit_code(os.waitpid(child, 0)[1])
         except Late:
-            status, taken = killed(child), b""
+            killed(child)
+            status, taken = None, b""
         signal.setitimer(signal.ITIMER_REAL, 0)
         return Outcome(status, text_of(report) if taking is None else taken, text_of(messages), read(STATE))
 

@@ -1,5 +1,7 @@
 """Kinds of trials in which reads and writes fail, and memory or stack ends."""
 
+from __future__ import annotations
+
 import os
 import random
 import resource
@@ -7,7 +9,7 @@ import shutil
 import signal
 import subprocess
 from dataclasses import replace
-from typing import Iterator, List, Optional, Tuple
+from typing import Dict, Iterator, List, Optional, Tuple
 
 from trials.bench import STATE, Bench, How, Outcome
 from trials.laws import NO_MEMORY, broken_form, differing, says_front_of_fault
@@ -35,12 +37,13 @@ def read_fault_trials(seed: int) -> Iterator[Trial]:
     flags = ["--ignore-missing-entry"] if maker.chance(0.7) else []
     state = state_file(history_of(text))
     states = {name: state for name in names}
-    for program, files, words in (
-            ("daikon", traces, flags + ["--every", "2"]), ("dk_split", traces, flags),
-            ("dk_check", {**traces, "a": b"=\nP\nx >= 1\n"}, flags + ["a"]),
-            ("dk_tell", {**traces, "a": b"=\nP\nx >= 1\n"}, flags + ["a"]), ("dk_table", {name: b"x,y\n1,2\n" for name in names}, []),
-            ("daikon", {**traces, "s": state}, flags + ["--save", "--resume", "s"]), ("dk_merge", states, []),
-            ("dk_merge", traces, ["--turns", "2"])):
+    runs: List[Tuple[str, Dict[str, bytes], List[str]]] = [
+        ("daikon", traces, flags + ["--every", "2"]), ("dk_split", traces, flags),
+        ("dk_check", {**traces, "a": b"=\nP\nx >= 1\n"}, flags + ["a"]),
+        ("dk_tell", {**traces, "a": b"=\nP\nx >= 1\n"}, flags + ["a"]), ("dk_table", {name: b"x,y\n1,2\n" for name in names}, []),
+        ("daikon", {**traces, "s": state}, flags + ["--save", "--resume", "s"]), ("dk_merge", states, []),
+        ("dk_merge", traces, ["--turns", "2"])]
+    for program, files, words in runs:
         for faulty in [name for name in words + names if name in files]:
             yield Trial("read faults", program, Case(files, [words + names]), How(piped=faulty, shape=maker.random.choice(PLACES)))
 

@@ -1,5 +1,7 @@
 """Laws of every run: which statuses it has, which messages, and what it leaves in its folder."""
 
+from __future__ import annotations
+
 import os
 import re
 import signal
@@ -43,9 +45,9 @@ def broken_streams(program: str, words: List[str], files: Dict[str, bytes], outc
     if outcome.report and not outcome.report.endswith(b"\n") and outcome.status not in (WRITE, NO_MEMORY):
         return "report without its last line end"
     if outcome.report and not done and not any(word.startswith("--every") for word in words) and outcome.status not in (WRITE, NO_MEMORY):
-        return "report of status %d" % outcome.status
+        return "report of status %s" % outcome.status
     if outcome.state != files.get(STATE) and not done:
-        return "state changed at status %d" % outcome.status
+        return "state changed at status %s" % outcome.status
     if outcome.state is not None and done and not outcome.state.endswith(b"end-state\n") and outcome.state != files.get(STATE):
         return "half a state"
     return None

@@ -1,5 +1,7 @@
 """The table of the programs that are tried."""
 
+from __future__ import annotations
+
 import os
 import subprocess
 import sys

@@ -1,7 +1,9 @@
 """Kinds of trials with traces and with words."""
 
+from __future__ import annotations
+
 import re
-from typing import Iterator, List, Optional
+from typing import Dict, Iterator, List, Optional
 
 from trials.bench import STATE, Bench
 from trials.laws import HELP, broken_form, differing
@@ -68,7 +70,8 @@ def judge_alike(bench: Bench, trial: Trial) -> Optional[str]:
     words = trial.words
     flags = words[:1] if words[:1] == ["--ignore-missing-entry"] else []
     outcomes = []
-    for program, front in (("daikon", []), ("dk_split", []), ("dk_check", ["a"]), ("dk_tell", ["a"])):
+    fronts: Dict[str, List[str]] = {"daikon": [], "dk_split": [], "dk_check": ["a"], "dk_tell": ["a"]}
+    for program, front in fronts.items():
         all_words = flags + front + words[len(flags):]
         outcome = bench.run(program, all_words)
         bench.tried[program, trial.kind] += files_read(outcome, words[len(flags):])

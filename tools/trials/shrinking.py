@@ -1,5 +1,7 @@
 """Makes the files of a trial smaller, as long as it still breaks its law."""
 
+from __future__ import annotations
+
 import re
 import time
 from typing import Callable, List

@@ -1,5 +1,7 @@
 """Kinds of trials with states."""
 
+from __future__ import annotations
+
 from typing import Iterator, List, Optional, Tuple
 
 from trials.bench import STATE, Bench, Outcome
@@ -85,7 +87,7 @@ def judge_merge(bench: Bench, trial: Trial) -> Optional[str]:
     if any(outcome.status != DONE for outcome in parts + [whole]):
         return None
     states = {"s1": parts[0].state, "s2": parts[1].state, "s3": parts[2].state}
-    are_alike = len({tuple(declarations_in(state)) for state in states.values()}) == 1
+    are_alike = len({tuple(declarations_in(state or b"")) for state in states.values()}) == 1
     bench.put({name: state for name, state in states.items() if state is not None})
     for steps in merges.groupings(trial.words):
         outcome = merged_in_steps(bench, steps)

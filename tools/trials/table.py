@@ -1,5 +1,7 @@
 """The table of the kinds of trials."""
 
+from __future__ import annotations
+
 from typing import Dict, List
 
 from trials.assertions import assertion_trials, judge_assertions, judge_verdicts, verdict_trials

@@ -1,5 +1,7 @@
 """A kind of trials with tables."""
 
+from __future__ import annotations
+
 import random
 import re
 from typing import Iterator, List, Optional, Tuple

@@ -1,5 +1,7 @@
 """A kind of trials with reports that are told in another language."""
 
+from __future__ import annotations
+
 import json
 import random
 from typing import Iterator, Optional

@@ -1,5 +1,7 @@
 """Texts with changes in them."""
 
+from __future__ import annotations
+
 import random
 from typing import Callable, Dict, List, Tuple
 
@@ -13,7 +15,8 @@ INPUTS_OF_A_SEED = 20
 
 
 def random_bytes(draw: random.Random, lines: List[bytes], at: int) -> None:
-    lines[at] = draw.randbytes(draw.randint(1, 12))
+    count = draw.randint(1, 12)
+    lines[at] = draw.getrandbits(8 * count).to_bytes(count, "little")
 
 
 def long_line(draw: random.Random, lines: List[bytes], at: int) -> None:

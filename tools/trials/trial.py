@@ -1,5 +1,7 @@
 """A trial, a kind of trials, and the modules of the other implementation that have no ending."""
 
+from __future__ import annotations
+
 from dataclasses import dataclass, field, replace
 from importlib.machinery import SourceFileLoader
 from importlib.util import module_from_spec, spec_from_loader

@@ -1,5 +1,7 @@
 """Kinds of trials in which one input is read in several ways: in pieces, its front alone, in several runs, by another implementation."""
 
+from __future__ import annotations
+
 import random
 from dataclasses import replace
 from typing import Iterator, Optional, Tuple
