@@ -1,4 +1,4 @@
-"""Changes of lines, and of the lines of states. Each takes the lines and the place of one."""
+"""Changes of lines, and of the lines of states. Each takes the lines and the place of one. And fewer parts of a text."""
 
 from __future__ import annotations
 
@@ -29,6 +29,23 @@ def odd_byte(random_: Random, lines: list[bytes], at: int) -> None:
 def delete_byte(random_: Random, lines: list[bytes], at: int) -> None:
     k = random_.randint(0, len(lines[at]))
     lines[at] = lines[at][:k] + lines[at][k + 1:]
+
+
+# ---------------------------------------------------------------- fewer parts
+
+def fewest_parts(parts: list[bytes], stays: Callable[[list[bytes]], bool]) -> list[bytes]:
+    """Leaves parts out, halves first, as long as what is looked for stays with the others."""
+    size = max(1, len(parts) // 2)
+    while size >= 1:
+        at = 0
+        while at < len(parts):
+            fewer = parts[:at] + parts[at + size:]
+            if stays(fewer):
+                parts = fewer
+            else:
+                at += size
+        size //= 2
+    return parts
 
 
 # ---------------------------------------------------------------- states

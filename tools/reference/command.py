@@ -124,6 +124,14 @@ class Reader:
         self.bytes_before += len(data)
 
 
+def reader_after(name: str, data: bytes, ignore_missing_entry: bool) -> Reader:
+    """A reader of traces after a file of lines, whose bytes count for the limit, too."""
+    _, fault = lines_of(data)
+    if fault is not None:
+        raise refused(name, fault)
+    return Reader(History(), ignore_missing_entry, len(data))
+
+
 # ---------------------------------------------------------------- running
 
 class Sinks(Protocol):
@@ -137,6 +145,25 @@ class Sinks(Protocol):
 
     def state(self, text: bytes) -> None:
         """Takes the state."""
+
+
+class KeptSinks:
+    """Keeps what a run writes."""
+
+    def __init__(self) -> None:
+        self.texts = {"report": b"", "messages": b"", "state": b""}
+
+    def report(self, text: bytes) -> None:
+        """Adds to the report."""
+        self.texts["report"] += text
+
+    def message(self, text: bytes) -> None:
+        """Adds to the messages."""
+        self.texts["messages"] += text
+
+    def state(self, text: bytes) -> None:
+        """Adds to the state."""
+        self.texts["state"] += text
 
 
 class HostSinks:

@@ -5,14 +5,14 @@ from __future__ import annotations
 
 import re
 import sys
-from dataclasses import dataclass
-from typing import Any, Iterator, Sequence, Tuple
+from typing import Any, Iterator, NamedTuple, Sequence, Tuple
 
-from command import Reader, Sinks, Usage, bytes_of_file, host_status, refused, status_of_run, words_of_command
-from input_language import MISSING, STRING, lines_of
+from command import Sinks, Usage, bytes_of_file, host_status, reader_after, status_of_run, words_of_command
+from input_language import MISSING, STRING
 from points import History, Point, Sample, Table, VarInfo
 from rows import BROKEN, EMPTY, HOLDS, ROWS, Places, State, fits, is_proper, join, rows_of, state_of, text_of
 from samples import capped, instances, moved
+from sections import sections_in, untrimmed
 
 USAGE = b"usage: dk_check [--ignore-missing-entry] ASSERTIONS [FILE]...\n"
 GRAMMAR = 2
@@ -54,10 +54,10 @@ def with_numbers(number: int, word: str, names: list[bytes], text: bytes) -> lis
     if word in ("least", "greatest"):
         return [(word, k) for k in numbers_in(rb".* [<>]= (-?[0-9]+)", text)]
     if word == "ints":
-        items = re.findall(rb"-?[0-9]+", behind_subject(number, names, text))
+        items = re.findall(rb"-?[0-9]+", after_subject(number, names, text))
         return [(word, tuple(int(item) for item in items))]
     if word == "texts":
-        items = re.findall(STRING.pattern + rb"|null", behind_subject(number, names, text), re.S)
+        items = re.findall(STRING.pattern + rb"|null", after_subject(number, names, text), re.S)
         return [(word, tuple(items))]
     if word == "modulus":
         return [(word, m, r) for r, m in numbers_in(rb".* == ([0-9]+) \(mod ([0-9]+)\)", text)]
@@ -78,7 +78,7 @@ def numbers_in(pattern: bytes, text: bytes) -> list[Any]:
     return [found if len(found) > 1 else found[0]]
 
 
-def behind_subject(number: int, names: list[bytes], text: bytes) -> bytes:
+def after_subject(number: int, names: list[bytes], text: bytes) -> bytes:
     subject = names[0] + (b" elements" if number in (35, 47) else b"")
     return text[len(subject):]
 
@@ -104,42 +104,15 @@ def signed(sign: bytes | None, size: bytes | int) -> int:
 
 # ---------------------------------------------------------------- assertion files
 
-@dataclass
-class Line:
+class Assertion(NamedTuple):
     """An assertion as it stands in the file: the heading's name and the text."""
     point: bytes
     text: bytes
 
 
-def without_count(line: bytes) -> bytes:
-    """Without a last number in brackets, which follows two blanks."""
-    return re.sub(rb"  \[[0-9]+\]\Z", b"", line)
-
-
-def assertions_in(lines: list[bytes]) -> list[Line]:
-    """Lines of `=` are passed over, and the next other line that isn't blank is a heading."""
-    found = []
-    heading = b""
-    awaits_heading = False
-    for line in lines:
-        if line.strip(b" \t") == b"":
-            continue
-        if re.fullmatch(rb"=+", line):
-            awaits_heading = True
-        elif awaits_heading:
-            heading = without_count(line)
-            awaits_heading = False
-        elif not line.startswith((b"--- ", b"stats ")):
-            found.append(Line(heading, without_count(line)))
-    return found
-
-
-def untrimmed(data: bytes) -> list[bytes]:
-    """The lines without LF and without one CR at the end."""
-    pieces = data.split(b"\n")
-    if pieces[-1] == b"":
-        pieces.pop()
-    return [piece[:-1] if piece.endswith(b"\r") else piece for piece in pieces]
+def assertions_in(lines: list[bytes]) -> list[Assertion]:
+    """The lines of a report's sections, without their counts."""
+    return [Assertion(section.point, line.text) for section in sections_in(lines) for line in section.lines]
 
 
 # ---------------------------------------------------------------- records and verdicts
@@ -152,7 +125,7 @@ def reached(table: Table, point: Point, sample: Sample) -> Iterator[tuple[Point,
         yield from reached(table, parent, moved(sample, table.partners(edge, point, parent)))
 
 
-def verdict(history: History, arrivals: dict[int, list[Arrival]], line: Line) -> bytes:
+def verdict(history: History, arrivals: dict[int, list[Arrival]], line: Assertion) -> bytes:
     """`arrivals` lists for each point by its position what reaches it, as (FILE, line, sample)."""
     point = history.table.find(line.point)
     found = assertion_of(point.variables, line.text) if point is not None else None
@@ -176,14 +149,10 @@ def run(words: list[str], sinks: Sinks, folder: str) -> None:
     found = words_of_command(words, ["--ignore-missing-entry"], [])
     if not found.files:
         raise Usage
-    history = History()
-    reader = Reader(history, "--ignore-missing-entry" in found.flags)
     name, *files = found.files
     data = bytes_of_file(folder, name)
-    _, fault = lines_of(data)
-    if fault is not None:
-        raise refused(name, fault)
-    reader.bytes_before = len(data)
+    reader = reader_after(name, data, "--ignore-missing-entry" in found.flags)
+    history = reader.history
     arrivals: dict[int, list[Arrival]] = {}
     for file in files:
         for _ in reader.read(file, bytes_of_file(folder, file)):

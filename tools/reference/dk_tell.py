@@ -7,13 +7,12 @@ import json
 import re
 import sys
 
-from command import Reader, Sinks, Usage, Words, bytes_of_file, host_status, refused, status_of_run, words_of_command
-from dk_check import assertion_of, untrimmed
-from input_language import lines_of
+from command import Sinks, Usage, Words, bytes_of_file, host_status, reader_after, status_of_run, words_of_command
+from dk_check import assertion_of
 from languages import Speaker
-from points import History, VarInfo
+from points import VarInfo
 from rows import EMPTY, State
-from sections import Section, sections_in
+from sections import Section, sections_in, untrimmed
 from tell_pages import page_of, sections_of
 
 USAGE = b"usage: dk_tell [--format json|python|c|smtlib|html] [--ignore-missing-entry] REPORT [FILE]...\n"
@@ -133,12 +132,8 @@ def run(words: list[str], sinks: Sinks, folder: str) -> None:
     found, form = options_of(words)
     name, *files = found.files
     data = bytes_of_file(folder, name)
-    _, fault = lines_of(data)
-    if fault is not None:
-        raise refused(name, fault)
-    history = History()
-    reader = Reader(history, "--ignore-missing-entry" in found.flags)
-    reader.bytes_before = len(data)
+    reader = reader_after(name, data, "--ignore-missing-entry" in found.flags)
+    history = reader.history
     for file in files:
         for _ in reader.read(file, bytes_of_file(folder, file)):
             pass

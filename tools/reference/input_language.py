@@ -22,7 +22,7 @@ Value = Any
 MISSING = None
 
 # its number within the file, and its bytes
-Line = Tuple[int, bytes]
+NumberedLine = Tuple[int, bytes]
 # the numbers of elements and of the index
 Comparability = Tuple[int, int]
 
@@ -68,10 +68,10 @@ class NoValue(Exception):
 # ---------------------------------------------------------------- lines and blocks
 
 def lines_of(data: bytes, bytes_before: int = 0, line_limit: int = LINE_LIMIT,
-             total_limit: int = TOTAL_LIMIT) -> tuple[list[Line], Fault | None]:
+             total_limit: int = TOTAL_LIMIT) -> tuple[list[NumberedLine], Fault | None]:
     """The file's lines as (number, bytes without CR and without blanks and tabs at the ends), and
     the fault of the first byte that is one too many, after the lines before it, or None."""
-    lines: list[Line] = []
+    lines: list[NumberedLine] = []
     start = bytes_before
     pieces = data.split(b"\n")
     for number, piece in enumerate(pieces, 1):
@@ -97,17 +97,17 @@ class Block:
     """A longest run of lines that aren't blank. `end` is the number of the blank line that ends
     it, or one more than the file's last line. `cut` is the fault of a byte that is one too many,
     met before the block's end."""
-    lines: list[Line]
+    lines: list[NumberedLine]
     end: int
     cut: Fault | None = None
 
-    def each_line(self) -> Iterator[Line]:
+    def each_line(self) -> Iterator[NumberedLine]:
         yield from self.lines
         if self.cut is not None:
             raise self.cut
 
 
-def blocks_of(lines: list[Line], cut: Fault | None) -> list[Block]:
+def blocks_of(lines: list[NumberedLine], cut: Fault | None) -> list[Block]:
     blocks = []
     current = []
     for number, line in lines:
@@ -210,7 +210,7 @@ def value_of(kind: str, text: bytes) -> Value:
 
 # ---------------------------------------------------------------- headers
 
-def read_headers(lines: Iterator[Line], history: History) -> tuple[bool, Line | None]:
+def read_headers(lines: Iterator[NumberedLine], history: History) -> tuple[bool, NumberedLine | None]:
     """Reads comments and header lines before the record. Gives whether anything but comments
     was there, and the record's first line or None."""
     anything = False
@@ -296,7 +296,7 @@ class OpenVariable:
     constant_text: bytes = b""
 
 
-def read_ppt_block(number: int, rest: bytes, lines: Iterator[Line], implicit: bool) -> Declaration:
+def read_ppt_block(number: int, rest: bytes, lines: Iterator[NumberedLine], implicit: bool) -> Declaration:
     """A declaration of format 2.0, whose first line is `ppt NAME`."""
     if rest == b"":
         raise Fault(3, number)
@@ -389,7 +389,7 @@ def constant_of(kind: str | None, text: bytes, at: int) -> Value:
     return value
 
 
-def read_declare_block(number: int, lines: Iterator[Line], implicit: bool) -> Declaration:
+def read_declare_block(number: int, lines: Iterator[NumberedLine], implicit: bool) -> Declaration:
     """A declaration of format 1.0: `DECLARE`, the point's name, and four lines a variable."""
     declaration = None
     variable = None
@@ -447,7 +447,7 @@ class Record:
 NONCE_LINE = b"this_invocation_nonce"
 
 
-def read_record(number: int, line: bytes, lines: Iterator[Line], table: Table, end: int) -> Record:
+def read_record(number: int, line: bytes, lines: Iterator[NumberedLine], table: Table, end: int) -> Record:
     """A sample record: the point's name, perhaps a nonce, then name, value and mark of each
     declared variable without a constant. A block that ends too early is Truncated at `end`."""
     point = table.find(unescape(line))
@@ -473,21 +473,21 @@ def read_record(number: int, line: bytes, lines: Iterator[Line], table: Table, e
     return Record(number, point, nonce, values)
 
 
-def needed(lines: Iterator[Line], end: int) -> Line:
+def needed(lines: Iterator[NumberedLine], end: int) -> NumberedLine:
     line = next(lines, None)
     if line is None:
         raise Fault(12, end)
     return line
 
 
-def read_nonce(line: Line) -> int:
+def read_nonce(line: NumberedLine) -> int:
     at, text = line
     if not DECIMAL.fullmatch(text) or not fits_i64(int(text)):
         raise Fault(8, at)
     return int(text)
 
 
-def read_value(variable: Variable, name_line: Line, lines: Iterator[Line], end: int) -> Value:
+def read_value(variable: Variable, name_line: NumberedLine, lines: Iterator[NumberedLine], end: int) -> Value:
     """A value is judged when its mark is read; with mark 2 it is missing, whatever the text."""
     at, name = name_line
     if unescape(name) != variable.name:

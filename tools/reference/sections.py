@@ -5,8 +5,6 @@ from __future__ import annotations
 import re
 from typing import Iterable, List, NamedTuple, Optional
 
-from dk_check import without_count
-
 LIMIT = 1 << 64
 
 
@@ -23,6 +21,19 @@ class Section(NamedTuple):
     lines: List[Line]
 
 
+def untrimmed(data: bytes) -> list[bytes]:
+    """The lines without LF and without one CR at the end."""
+    pieces = data.split(b"\n")
+    if pieces[-1] == b"":
+        pieces.pop()
+    return [piece[:-1] if piece.endswith(b"\r") else piece for piece in pieces]
+
+
+def without_count(line: bytes) -> bytes:
+    """Without a last number in brackets, which follows two blanks."""
+    return re.sub(rb"  \[[0-9]+\]\Z", b"", line)
+
+
 def line_of(text: bytes) -> Line:
     """A line, or a heading: its text, and its last count, where it has one within 64 bits."""
     count = re.search(rb"  \[([0-9]+)\]\Z", text)
@@ -30,7 +41,7 @@ def line_of(text: bytes) -> Line:
 
 
 def sections_in(lines: Iterable[bytes]) -> list[Section]:
-    """The sections in their order; lines above the first heading are of a point with the empty name."""
+    """The sections in their order. A heading follows a line of `=`; lines above the first heading are of a point with the empty name."""
     front = Section(b"", None, [])
     found = [front]
     awaits_heading = False

@@ -6,10 +6,10 @@ import re
 from collections import Counter
 from functools import lru_cache
 
-from dk_check import assertion_of, untrimmed
+from dk_check import assertion_of
 from page_parts import parts
 from points import History, VarInfo
-from sections import Line, Section, sections_in
+from sections import Line, Section, sections_in, untrimmed
 
 # the groups in their order, with the rows of docs/GRAMMAR.md that they have
 GROUPS: dict[str, tuple[int, ...]] = {

@@ -984,8 +984,9 @@ KINDS: dict[str, CaseOfSeed] = {
     "order": order_case, "split": split_case, "check": check_case, "merge": merge_case, "tell": tell_case, "table": table_case}
 
 
-def write_files(case: Case, folder: str) -> None:
-    for name, text in case.files.items():
+def write_files(files: dict[str, bytes], folder: str) -> None:
+    """Writes the files into the folder."""
+    for name, text in files.items():
         with open(os.path.join(folder, name), "wb") as file:
             file.write(text)
 
@@ -995,7 +996,7 @@ def main(words: list[str]) -> None:
     kind, seed, folder = [word for word in words if not word.startswith("--")]
     case = KINDS[kind](int(seed), "--first-form" not in options,
                        1 if "--first-grammar" in options else 2)
-    write_files(case, folder)
+    write_files(case.files, folder)
     for run in case.runs:
         print(" ".join(run))
 

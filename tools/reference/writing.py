@@ -3,12 +3,12 @@
 from __future__ import annotations
 
 import importlib
-import os
 import re
 import tempfile
 from dataclasses import dataclass, field, replace
 
-from command import READ, REFUSED, WRITE
+from command import READ, REFUSED, WRITE, KeptSinks
+from traces import write_files
 
 STREAMS = ("report", "messages", "state")
 
@@ -31,32 +31,11 @@ class Case:
 
 # ---------------------------------------------------------------- what a case comes to
 
-class Sinks:
-    """Streams in memory."""
-
-    def __init__(self) -> None:
-        self.texts = dict.fromkeys(STREAMS, b"")
-
-    def report(self, text: bytes) -> None:
-        """Adds to Report."""
-        self.texts["report"] += text
-
-    def message(self, text: bytes) -> None:
-        """Adds to Messages."""
-        self.texts["messages"] += text
-
-    def state(self, text: bytes) -> None:
-        """Adds to State."""
-        self.texts["state"] += text
-
-
 def wanted(case: Case) -> Case:
     """The case with what this implementation makes of it."""
-    sinks = Sinks()
+    sinks = KeptSinks()
     with tempfile.TemporaryDirectory() as folder:
-        for name, text in case.files.items():
-            with open(os.path.join(folder, name), "wb") as file:
-                file.write(text)
+        write_files(case.files, folder)
         status = importlib.import_module(case.program).status_of(list(case.words), sinks, folder)
     return case.coming_to(status, **sinks.texts)
 

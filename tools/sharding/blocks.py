@@ -162,7 +162,7 @@ def slices(file: BinaryIO, start: int, end: int) -> Iterator[Tuple[int, bytes]]:
         length = SLICE if cut else 2 * length
 
 
-def block_end_behind(file: BinaryIO, offset: int, size: int) -> Optional[int]:
+def block_end_after(file: BinaryIO, offset: int, size: int) -> Optional[int]:
     """The end of the first blank line that ends after the offset, or nothing where no block
     follows it."""
     at = max(offset - 1, 0)

@@ -125,7 +125,7 @@ def pieces_of(number: int, source: Source, count: int, least: int) -> List[Span]
     cuts = [0]
     with open(source.path, "rb", buffering=0) as file:
         for k in range(1, count):
-            cut = blocks.block_end_behind(file, max(source.size * k // count, cuts[-1] + least), source.size)
+            cut = blocks.block_end_after(file, max(source.size * k // count, cuts[-1] + least), source.size)
             if cut is not None and source.size - cut >= least:
                 cuts.append(cut)
     return [(number, start, end) for start, end in zip(cuts, cuts[1:] + [source.size])]
@@ -140,7 +140,7 @@ def stretches_of(sources: Sequence[Source], layout: List[List[Span]]) -> List[St
             is_cut = (start, end) != (0, source.size)
             with open(source.path, "rb", buffering=0) as file:
                 while start < end:
-                    cut = blocks.block_end_behind(file, start + STRETCH, source.size)
+                    cut = blocks.block_end_after(file, start + STRETCH, source.size)
                     cut = end if cut is None else min(cut, end)
                     found.append(Stretch(source.path, number, part, start, cut, is_cut))
                     start = cut

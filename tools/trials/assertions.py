@@ -12,7 +12,8 @@ from trials.texts import INPUTS_OF_A_SEED, blocks_doubled, planned, random_bytes
 from trials.trial import Trial
 
 from command import DONE  # noqa: E402
-from dk_check import assertions_in, untrimmed  # noqa: E402
+from dk_check import assertions_in  # noqa: E402
+from sections import untrimmed  # noqa: E402
 from traces import ASSERTION_CHANGES, Case  # noqa: E402
 
 
@@ -73,7 +74,7 @@ def verdict_trials(seed: int) -> Iterator[Trial]:
         yield Trial("verdicts", "dk_check", Case({"t": text}, [[word for word in KEEPS if maker.chance(0.3)]]))
 
 
-def declares_behind_records(trace: bytes) -> bool:
+def declares_after_records(trace: bytes) -> bool:
     """Whether a point is declared after a record: an edge to it counts for later records alone, in dk_check, and for all in a report."""
     blocks = [block.strip() for block in re.split(rb"\n[ \t\r]*\n", trace) if block.strip()]
     kinds = [re.search(rb"(?m)^[ \t]*(ppt |DECLARE)", block) is not None for block in blocks]
@@ -84,7 +85,7 @@ def declares_behind_records(trace: bytes) -> bool:
 
 def judge_verdicts(bench: Bench, trial: Trial) -> Optional[str]:
     """Each line of a report holds in its own trace, in as many samples, where all points are declared before the records."""
-    if declares_behind_records(trial.case.files["t"]):
+    if declares_after_records(trial.case.files["t"]):
         return None
     bench.put(trial.case.files)
     report = report_of(bench, trial.words)

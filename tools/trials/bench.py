@@ -10,7 +10,7 @@ from collections import Counter
 from dataclasses import dataclass, replace
 from typing import Dict, List, Optional, Tuple
 
-from processes import exit_code
+from trials.processes import exit_code
 
 STATE = "daikon.state"
 # seconds of the processor, of all clocks, and between two looks

@@ -8,6 +8,8 @@ from typing import Callable, List
 
 from trials.trial import Trial
 
+from changes import fewest_parts  # noqa: E402
+
 LONGEST = 60
 SEPARATORS = (rb"(?<=\n)[ \t\r]*\n", b"\n")
 
@@ -24,16 +26,10 @@ def shrunk(trial: Trial, breaks: Callable[[Trial], bool]) -> Trial:
 
 
 def with_fewer_parts(trial: Trial, name: str, separator: bytes, breaks: Callable[[Trial], bool]) -> Trial:
-    parts: List[bytes] = re.split(separator, trial.case.files[name])
-    size = max(1, len(parts) // 2)
-    while size >= 1:
-        at = 0
-        while at < len(parts):
-            fewer = parts[:at] + parts[at + size:]
-            smaller = trial.with_files({**trial.case.files, name: b"\n".join(fewer)})
-            if breaks(smaller):
-                trial, parts = smaller, fewer
-            else:
-                at += size
-        size //= 2
-    return trial
+    """Leaves out parts of the file between separators."""
+    def with_parts(parts: List[bytes]) -> Trial:
+        return trial.with_files({**trial.case.files, name: b"\n".join(parts)})
+
+    parts = re.split(separator, trial.case.files[name])
+    fewest = fewest_parts(parts, lambda fewer: breaks(with_parts(fewer)))
+    return with_parts(fewest) if fewest != parts else trial

@@ -32,7 +32,7 @@ def table_trials(seed: int) -> Iterator[Trial]:
 
 def expected(bench: Bench, words: List[str]) -> Tuple[int, bytes, bytes]:
     """What the other implementation says of the words over the files that are there."""
-    sinks = compare.KeptSinks(bench.folder)
+    sinks = compare.FolderSinks(bench.folder)
     status = dk_table.status_of(words, sinks, bench.folder)
     return status, sinks.texts["report"], sinks.texts["messages"]
 

@@ -46,7 +46,7 @@ def judge_tellings(bench: Bench, trial: Trial) -> Optional[str]:
     broken = broken_form("dk_tell", words, files, outcome)
     if broken is not None:
         return broken
-    sinks = compare.KeptSinks(bench.folder)
+    sinks = compare.FolderSinks(bench.folder)
     status = dk_tell.status_of(words, sinks, bench.folder)
     if (status, sinks.texts["messages"]) != (outcome.status, outcome.messages):
         return "%s: status or message" % form

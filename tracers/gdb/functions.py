@@ -129,7 +129,7 @@ def read_instructions(function: Function, architecture: gdb.Architecture) -> Lis
     return instructions
 
 
-def behind_frame(texts: List[str]) -> Optional[int]:
+def after_frame(texts: List[str]) -> Optional[int]:
     """The place after the instructions that set the frame pointer, where the function begins with these."""
     index = 1 if texts and texts[0].startswith("endbr64") else 0
     setting = [" ".join(text.split()) for text in texts[index:index + 2]]
@@ -141,7 +141,7 @@ def find_begin(function: Function, architecture: gdb.Architecture) -> None:
     the line is told once for the whole function."""
     start, end = function.block.start, function.block.end
     first = disassembled(architecture, start, end - 1, LONGEST_PROLOGUE)
-    after = behind_frame([text for _, text in first])
+    after = after_frame([text for _, text in first])
     function.has_frame_pointer = after is not None
     index = min(after or 0, len(first) - 1)
     place = gdb.find_pc_line(first[index][0])

@@ -2,7 +2,7 @@
 
 A *function* is a code object that is traced. A call of it gives a record for its entry and one for the exit by which it returns; a *shape*
 is such a point with the tokens of the values that were read there (`looking.py`). Shapes are numbered, and a record is a tuple of a shape's
-number, the call's nonce, and the data. Behind -1 a record has its place, its tokens, and then such a tuple.
+number, the call's nonce, and the data. After -1 a record has its place, its tokens, and then such a tuple.
 
 Python 3.12 and later have `sys.monitoring`, by which code that isn't traced runs as fast as without us. Earlier ones have `sys.setprofile`.
 """
