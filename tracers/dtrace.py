@@ -21,7 +21,7 @@ Files
     Both lie at high descriptors, so those of the traced program have the numbers that they have without us. The spool stands in `spool.py`.
 
 Commands
-    add_words(parser)     the words that the tracers have in common
+    add_arguments(parser)     the arguments that the tracers have in common
     Selection(include, exclude).takes(name)
     report(tracer, ..)    runs the command that reports on a trace, for --report
 
@@ -45,7 +45,7 @@ from spool import File, LostFile, Spool, open_high
 __all__ = [
     "BOOLEAN", "DOUBLE", "HASHCODE", "INT", "MISSING", "MISSING_MARK", "PRESENT_MARK", "STRING", "VALUE_WITH_MARK",
     "File", "Kinds", "LostFile", "Output", "Point",
-    "Selection", "Spool", "Variable", "add_words", "boolean", "declaration", "escape_name", "fitting", "header", "integer",
+    "Selection", "Spool", "Variable", "add_arguments", "boolean", "declaration", "escape_name", "fitting", "header", "integer",
     "number_from", "open_high", "quote", "quote_bytes", "record", "record_template", "report", "sequence", "temporary", "with_mark",
 ]
 
@@ -326,8 +326,8 @@ def number_from(least: int, most: int = 1_000_000_000) -> Any:
     return parse
 
 
-def add_words(parser: argparse.ArgumentParser, program: str, names: str, elements: int) -> None:
-    """Adds the words that the tracers have in common. `program` is what they call the traced program, `names` what globs are matched with."""
+def add_arguments(parser: argparse.ArgumentParser, program: str, names: str, elements: int) -> None:
+    """Adds the arguments that the tracers have in common. `program` is what they call the traced program, `names` what globs are matched with."""
     parser.add_argument("--out", metavar="FILE",
                         help="the trace's file (default: %s.dtrace in the current folder)" % program)
     parser.add_argument("--include", metavar="GLOB", action="append", default=[],

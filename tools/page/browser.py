@@ -42,16 +42,16 @@ class Browser:
 
     def start(self, program: str, told: int, telling: int) -> int:
         """Starts the program, which hears at 3 and answers at 4; its number."""
-        words = [program, "--headless", "--remote-debugging-pipe", f"--user-data-dir={self.room}", "--no-first-run", "--disable-gpu",
-                 "--disable-background-networking", "--disable-component-update", "--disable-dev-shm-usage", "--hide-scrollbars",
-                 "about:blank"]
+        arguments = [program, "--headless", "--remote-debugging-pipe", f"--user-data-dir={self.room}", "--no-first-run", "--disable-gpu",
+                     "--disable-background-networking", "--disable-component-update", "--disable-dev-shm-usage", "--hide-scrollbars",
+                     "about:blank"]
         if os.geteuid() == 0:
-            words.insert(1, "--no-sandbox")
+            arguments.insert(1, "--no-sandbox")
         # neither end may lie at 3 or 4 before it is laid there
         above = [fcntl.fcntl(end, fcntl.F_DUPFD_CLOEXEC, 10) for end in (told, telling)]
         silent = os.open(os.devnull, os.O_RDWR | os.O_CLOEXEC)
         laid = [(os.POSIX_SPAWN_DUP2, end, place) for end, place in ((silent, 0), (silent, 1), (silent, 2), (above[0], 3), (above[1], 4))]
-        process = os.posix_spawn(program, words, os.environ, file_actions=laid, setsid=True)
+        process = os.posix_spawn(program, arguments, os.environ, file_actions=laid, setsid=True)
         for end in (*above, silent):
             os.close(end)
         return process
@@ -82,10 +82,10 @@ class Browser:
         heard: dict[str, Any] = json.loads(message)
         return heard
 
-    def call(self, method: str, session: Optional[str] = None, **words: Any) -> dict[str, Any]:
+    def call(self, method: str, session: Optional[str] = None, **arguments: Any) -> dict[str, Any]:
         """What Chromium answers; events that it tells of meanwhile are kept."""
         self.number += 1
-        message = {"id": self.number, "method": method, "params": words, **({"sessionId": session} if session else {})}
+        message = {"id": self.number, "method": method, "params": arguments, **({"sessionId": session} if session else {})}
         os.write(self.telling, json.dumps(message).encode() + b"\0")
         until = time.monotonic() + PATIENCE
         while True:
@@ -128,9 +128,9 @@ class Page:
     def __exit__(self, kind: Optional[type[BaseException]], error: Optional[BaseException], trace: Optional[TracebackType]) -> None:
         self.browser.call("Target.closeTarget", targetId=self.target)
 
-    def call(self, method: str, **words: Any) -> dict[str, Any]:
+    def call(self, method: str, **arguments: Any) -> dict[str, Any]:
         """What Chromium answers for this page."""
-        return self.browser.call(method, self.session, **words)
+        return self.browser.call(method, self.session, **arguments)
 
     def paint(self, is_dark: bool) -> None:
         """Lets the system's choice be dark or light."""

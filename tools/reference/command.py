@@ -1,4 +1,4 @@
-"""What the programs have in common: words, statuses, messages, files and where they write."""
+"""What the programs have in common: arguments, statuses, messages, files and where they write."""
 
 from __future__ import annotations
 
@@ -15,7 +15,7 @@ MOST_PERIOD = 1_000_000_000
 
 
 class Usage(Exception):
-    """The words are refused."""
+    """The arguments are refused."""
 
 
 class Ended(Exception):
@@ -27,23 +27,23 @@ class Ended(Exception):
         self.message = message
 
 
-# ---------------------------------------------------------------- words
+# ---------------------------------------------------------------- arguments
 
 @dataclass
-class Words:
+class Arguments:
     flags: set[str] = field(default_factory=set)
     values: dict[str, str] = field(default_factory=dict)
     files: list[str] = field(default_factory=list)
 
 
-def words_of_command(words: list[str], flags: Sequence[str], with_value: Sequence[str]) -> Words:
-    """Options and FILEs in any order. A flag or option that is given twice, an unknown word, a
+def arguments_of_command(arguments: list[str], flags: Sequence[str], with_value: Sequence[str]) -> Arguments:
+    """Options and FILEs in any order. A flag or option that is given twice, an unknown argument, a
     short option, a prefix of a word, a flag with a value and an option without one are refused.
-    After `--` every word is a FILE; `-` is one too."""
-    for word in words:
+    After `--` every argument is a FILE; `-` is one too."""
+    for word in arguments:
         demand_text(word)
-    found = Words()
-    ahead = list(words)
+    found = Arguments()
+    ahead = list(arguments)
     while ahead:
         word = ahead.pop(0)
         if word == "--":
@@ -81,7 +81,7 @@ def least_number(values: dict[str, str]) -> int:
 
 
 def demand_text(word: str) -> None:
-    """A word that isn't UTF-8 is refused."""
+    """An argument that isn't UTF-8 is refused."""
     try:
         word.encode()
     except UnicodeEncodeError:
@@ -198,10 +198,10 @@ class HostSinks:
             raise Ended(WRITE, b"") from None
 
 
-def status_of_run(run: Callable[[list[str], Sinks, str], None], words: list[str], sinks: Sinks, folder: str, usage: bytes) -> int:
-    """Runs the words and gives the status."""
+def status_of_run(run: Callable[[list[str], Sinks, str], None], arguments: list[str], sinks: Sinks, folder: str, usage: bytes) -> int:
+    """Runs the program on the arguments and gives the status."""
     try:
-        run(words, sinks, folder)
+        run(arguments, sinks, folder)
     except Usage:
         sinks.message(usage)
         return USAGE_STATUS
@@ -211,8 +211,8 @@ def status_of_run(run: Callable[[list[str], Sinks, str], None], words: list[str]
     return DONE
 
 
-def host_status(status_of: Callable[[list[str], Sinks, str], int], words: list[str]) -> int:
+def host_status(status_of: Callable[[list[str], Sinks, str], int], arguments: list[str]) -> int:
     try:
-        return status_of(words, HostSinks(), "")
+        return status_of(arguments, HostSinks(), "")
     except Ended as ended:
         return ended.status

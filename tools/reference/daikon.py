@@ -1,9 +1,9 @@
 #!/usr/bin/env python3
 """An independent reading of the product's rules, for comparison with the built program.
 
-The words are those of the product. Before them `--stage CUT,CUT...` may stand: then the
+The arguments are those of the product. Before them `--stage CUT,CUT...` may stand: then the
 program is the one of an earlier stage. The cuts are
-  one-file       the only word is one FILE; the least number is 5 and all filters are on
+  one-file       the only argument is one FILE; the least number is 5 and all filters are on
   bounds         as one-file, and the report has the bounds of each point's own samples alone
   first-grammar  rows 1 to 66 and state files of version 1 alone
   first-form     the second declaration form isn't known
@@ -15,7 +15,7 @@ import sys
 from dataclasses import dataclass, field
 
 from command import (MOST_PERIOD, Reader, Sinks, Usage, bytes_of_file, demand_text, host_status, least_number, number_between, refused,
-                     status_of_run, words_of_command)
+                     status_of_run, arguments_of_command)
 from generated import generated
 from input_language import TOTAL_LIMIT, Fault
 from points import History, Table
@@ -48,8 +48,8 @@ class Options:
     cuts: tuple[str, ...] = ()
 
 
-def options_of(words: list[str]) -> Options:
-    found = words_of_command(words, FLAGS, WITH_VALUE)
+def options_of(arguments: list[str]) -> Options:
+    found = arguments_of_command(arguments, FLAGS, WITH_VALUE)
     values = found.values
     options = Options(files=found.files, least=least_number(values))
     if "--every" in values:
@@ -66,12 +66,12 @@ def options_of(words: list[str]) -> Options:
     return options
 
 
-def one_file_options_of(words: list[str]) -> Options:
-    """Exactly one word, which is the FILE, whatever it is."""
-    if len(words) != 1:
+def one_file_options_of(arguments: list[str]) -> Options:
+    """Exactly one argument, which is the FILE, whatever it is."""
+    if len(arguments) != 1:
         raise Usage
-    demand_text(words[0])
-    return Options(files=words, filters_on=list(FILTERS))
+    demand_text(arguments[0])
+    return Options(files=arguments, filters_on=list(FILTERS))
 
 
 class Run:
@@ -137,22 +137,22 @@ class Run:
 CUTS = {"one-file", "bounds", "first-grammar", "first-form"}
 
 
-def cuts_and_words(words: list[str]) -> tuple[tuple[str, ...], list[str]]:
-    if len(words) >= 2 and words[0] == "--stage" and set(words[1].split(",")) <= CUTS:
-        return tuple(words[1].split(",")), words[2:]
-    return (), words
+def cuts_and_arguments(arguments: list[str]) -> tuple[tuple[str, ...], list[str]]:
+    if len(arguments) >= 2 and arguments[0] == "--stage" and set(arguments[1].split(",")) <= CUTS:
+        return tuple(arguments[1].split(",")), arguments[2:]
+    return (), arguments
 
 
-def status_of(words: list[str], sinks: Sinks, folder: str) -> int:
-    cuts, words = cuts_and_words(words)
+def status_of(arguments: list[str], sinks: Sinks, folder: str) -> int:
+    cuts, arguments = cuts_and_arguments(arguments)
     one_file = "one-file" in cuts or "bounds" in cuts
 
-    def run(words: list[str], sinks: Sinks, folder: str) -> None:
-        options = one_file_options_of(words) if one_file else options_of(words)
+    def run(arguments: list[str], sinks: Sinks, folder: str) -> None:
+        options = one_file_options_of(arguments) if one_file else options_of(arguments)
         options.cuts = cuts
         Run(options, sinks, folder).whole()
 
-    return status_of_run(run, words, sinks, folder, ONE_FILE_USAGE if one_file else USAGE)
+    return status_of_run(run, arguments, sinks, folder, ONE_FILE_USAGE if one_file else USAGE)
 
 
 if __name__ == "__main__":

@@ -7,7 +7,7 @@ import re
 import sys
 from typing import Any, Iterator, NamedTuple, Sequence, Tuple
 
-from command import Sinks, Usage, bytes_of_file, host_status, reader_after, status_of_run, words_of_command
+from command import Sinks, Usage, bytes_of_file, host_status, reader_after, status_of_run, arguments_of_command
 from input_language import MISSING, STRING
 from points import History, Point, Sample, Table, VarInfo
 from rows import BROKEN, EMPTY, HOLDS, ROWS, Places, State, fits, is_proper, join, rows_of, state_of, text_of
@@ -145,8 +145,8 @@ def verdict(history: History, arrivals: dict[int, list[Arrival]], line: Assertio
     return b"ok [%d]" % capped(count)
 
 
-def run(words: list[str], sinks: Sinks, folder: str) -> None:
-    found = words_of_command(words, ["--ignore-missing-entry"], [])
+def run(arguments: list[str], sinks: Sinks, folder: str) -> None:
+    found = arguments_of_command(arguments, ["--ignore-missing-entry"], [])
     if not found.files:
         raise Usage
     name, *files = found.files
@@ -164,8 +164,8 @@ def run(words: list[str], sinks: Sinks, folder: str) -> None:
         sinks.report(b"%s: %s: %s\n" % (line.point, line.text, verdict(history, arrivals, line)))
 
 
-def status_of(words: list[str], sinks: Sinks, folder: str) -> int:
-    return status_of_run(run, words, sinks, folder, USAGE)
+def status_of(arguments: list[str], sinks: Sinks, folder: str) -> int:
+    return status_of_run(run, arguments, sinks, folder, USAGE)
 
 
 if __name__ == "__main__":

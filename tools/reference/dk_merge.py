@@ -8,7 +8,7 @@ from collections import Counter
 from typing import Iterator
 
 from command import (MOST_PERIOD, Reader, Sinks, Usage, bytes_of_file, host_status, least_number, number_between, refused, status_of_run,
-                     words_of_command)
+                     arguments_of_command)
 from input_language import WHY, Block, Fault, blocks_of, first_word_and_rest, lines_of
 from points import History
 from report import FILTERS, report
@@ -129,8 +129,8 @@ def history_in_turns(n: int, names: list[str], folder: str) -> History:
     return history
 
 
-def run(words: list[str], sinks: Sinks, folder: str) -> None:
-    found = words_of_command(words, [], ["--min-samples", "--turns"])
+def run(arguments: list[str], sinks: Sinks, folder: str) -> None:
+    found = arguments_of_command(arguments, [], ["--min-samples", "--turns"])
     least = least_number(found.values)
     if not found.files:
         raise Usage
@@ -143,8 +143,8 @@ def run(words: list[str], sinks: Sinks, folder: str) -> None:
     sinks.state(state_file(history))
 
 
-def status_of(words: list[str], sinks: Sinks, folder: str) -> int:
-    return status_of_run(run, words, sinks, folder, USAGE)
+def status_of(arguments: list[str], sinks: Sinks, folder: str) -> int:
+    return status_of_run(run, arguments, sinks, folder, USAGE)
 
 
 if __name__ == "__main__":

@@ -7,7 +7,7 @@ import sys
 from collections import Counter
 from typing import Iterator
 
-from command import Reader, Sinks, bytes_of_file, host_status, least_number, status_of_run, words_of_command
+from command import Reader, Sinks, bytes_of_file, host_status, least_number, status_of_run, arguments_of_command
 from points import History, Point, Sample, Table
 from report import PointFacts, heading
 from rows import Places, State, fits, rows_of, text_of
@@ -72,8 +72,8 @@ def section(point: Point, samples: list[Sample], grammar: int, least: int) -> by
     return text
 
 
-def run(words: list[str], sinks: Sinks, folder: str) -> None:
-    found = words_of_command(words, ["--ignore-missing-entry"], ["--min-samples"])
+def run(arguments: list[str], sinks: Sinks, folder: str) -> None:
+    found = arguments_of_command(arguments, ["--ignore-missing-entry"], ["--min-samples"])
     least = least_number(found.values)
     history = History()
     reader = Reader(history, "--ignore-missing-entry" in found.flags)
@@ -86,8 +86,8 @@ def run(words: list[str], sinks: Sinks, folder: str) -> None:
             sinks.report(section(point, samples, history.grammar, least))
 
 
-def status_of(words: list[str], sinks: Sinks, folder: str) -> int:
-    return status_of_run(run, words, sinks, folder, USAGE)
+def status_of(arguments: list[str], sinks: Sinks, folder: str) -> int:
+    return status_of_run(run, arguments, sinks, folder, USAGE)
 
 
 if __name__ == "__main__":

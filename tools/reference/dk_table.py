@@ -12,7 +12,7 @@ from codecs import BOM_UTF8
 from dataclasses import dataclass
 from typing import Any, Tuple
 
-from command import Ended, Sinks, Usage, bytes_of_file, host_status, number_between, status_of_run, words_of_command
+from command import Ended, Sinks, Usage, bytes_of_file, host_status, number_between, status_of_run, arguments_of_command
 
 USAGE = b"usage: dk_table [--point NAME] [--separator C] [--types ROWS] [--no-header] FILE...\n"
 MOST_ROWS = 1 << 40
@@ -141,7 +141,7 @@ FLAGS, WITH_VALUE = ["--no-header"], ["--point", "--separator", "--types"]
 
 @dataclass
 class Options:
-    """What the words ask for."""
+    """What the arguments ask for."""
     files: list[str]
     point: str
     separator: str
@@ -149,8 +149,8 @@ class Options:
     has_header: bool
 
 
-def options_of(words: list[str]) -> Options:
-    found = words_of_command(words, FLAGS, WITH_VALUE)
+def options_of(arguments: list[str]) -> Options:
+    found = arguments_of_command(arguments, FLAGS, WITH_VALUE)
     separator = found.values.get("--separator", ",")
     if not found.files or len(os.fsencode(separator)) != 1 or separator in '"\n\r':
         raise Usage
@@ -158,8 +158,8 @@ def options_of(words: list[str]) -> Options:
     return Options(found.files, found.values.get("--point", found.files[0]), separator, types, "--no-header" not in found.flags)
 
 
-def run(words: list[str], sinks: Sinks, folder: str) -> None:
-    found = options_of(words)
+def run(arguments: list[str], sinks: Sinks, folder: str) -> None:
+    found = options_of(arguments)
     files = [(name, bytes_of_file(folder, name)) for name in found.files]
     names, rows = table_of(files, found.separator, found.has_header)
     kinds = [kind_of([row[k] for _, _, row in rows[:found.types]]) for k in range(len(names))]
@@ -174,8 +174,8 @@ def run(words: list[str], sinks: Sinks, folder: str) -> None:
     sinks.report(trace(point, names, kinds, rows).encode("latin-1"))
 
 
-def status_of(words: list[str], sinks: Sinks, folder: str) -> int:
-    return status_of_run(run, words, sinks, folder, USAGE)
+def status_of(arguments: list[str], sinks: Sinks, folder: str) -> int:
+    return status_of_run(run, arguments, sinks, folder, USAGE)
 
 
 if __name__ == "__main__":

@@ -7,7 +7,7 @@ import json
 import re
 import sys
 
-from command import Sinks, Usage, Words, bytes_of_file, host_status, reader_after, status_of_run, words_of_command
+from command import Sinks, Usage, Arguments, bytes_of_file, host_status, reader_after, status_of_run, arguments_of_command
 from dk_check import assertion_of
 from languages import Speaker
 from points import VarInfo
@@ -119,17 +119,17 @@ def told_section(language: str, section: Section, variables: list[VarInfo]) -> b
 FLAGS, WITH_VALUE = ["--ignore-missing-entry"], ["--format"]
 
 
-def options_of(words: list[str]) -> tuple[Words, str]:
-    """The words of the command, and the format."""
-    found = words_of_command(words, FLAGS, WITH_VALUE)
+def options_of(arguments: list[str]) -> tuple[Arguments, str]:
+    """The arguments of the command, and the format."""
+    found = arguments_of_command(arguments, FLAGS, WITH_VALUE)
     form = found.values.get("--format", "json")
     if not found.files or form not in ("json", "html", *LANGUAGES):
         raise Usage
     return found, form
 
 
-def run(words: list[str], sinks: Sinks, folder: str) -> None:
-    found, form = options_of(words)
+def run(arguments: list[str], sinks: Sinks, folder: str) -> None:
+    found, form = options_of(arguments)
     name, *files = found.files
     data = bytes_of_file(folder, name)
     reader = reader_after(name, data, "--ignore-missing-entry" in found.flags)
@@ -149,8 +149,8 @@ def run(words: list[str], sinks: Sinks, folder: str) -> None:
         sinks.report(told_section(language, section, variables) if language else json_section(section, variables))
 
 
-def status_of(words: list[str], sinks: Sinks, folder: str) -> int:
-    return status_of_run(run, words, sinks, folder, USAGE)
+def status_of(arguments: list[str], sinks: Sinks, folder: str) -> int:
+    return status_of_run(run, arguments, sinks, folder, USAGE)
 
 
 if __name__ == "__main__":

@@ -1,4 +1,4 @@
-"""Random tables of comma-separated values, and words for them, by a generator of random numbers."""
+"""Random tables of comma-separated values, and arguments for them, by a generator of random numbers."""
 
 from __future__ import annotations
 
@@ -61,8 +61,8 @@ def changed(draw: random.Random, text: bytes) -> bytes:
     return text
 
 
-def tables_and_words(draw: random.Random) -> tuple[dict[str, bytes], list[str]]:
-    """A few tables, mostly of one header, and words."""
+def tables_and_arguments(draw: random.Random) -> tuple[dict[str, bytes], list[str]]:
+    """A few tables, mostly of one header, and arguments."""
     separator = draw.choice(SEPARATORS)
     width = draw.choice([1, 1, 2, 3, 5])
     odd_names = draw.random() < 0.15
@@ -75,11 +75,11 @@ def tables_and_words(draw: random.Random) -> tuple[dict[str, bytes], list[str]]:
         rows = [[column[k] for column in columns] for k in range(count)]
         text = text_of(draw, ([names] if has_header else []) + rows, separator)
         files[name] = changed(draw, text) if draw.random() < 0.25 else text
-    words = [] if has_header else ["--no-header"]
+    arguments = [] if has_header else ["--no-header"]
     if separator != ",":
-        words += draw.choice([["--separator", separator], ["--separator=" + separator]])
+        arguments += draw.choice([["--separator", separator], ["--separator=" + separator]])
     if draw.random() < 0.3:
-        words += ["--types", str(draw.choice([1, 2, 5, 1 << 40]))]
+        arguments += ["--types", str(draw.choice([1, 2, 5, 1 << 40]))]
     if draw.random() < 0.4:
-        words += ["--point", draw.choice(["P", "a b", "#P", "ppt x", "DECLARE", "A.b(int):::EXIT1", "c\\d", "", "\t", "decl-version"])]
-    return files, words + sorted(files)
+        arguments += ["--point", draw.choice(["P", "a b", "#P", "ppt x", "DECLARE", "A.b(int):::EXIT1", "c\\d", "", "\t", "decl-version"])]
+    return files, arguments + sorted(files)

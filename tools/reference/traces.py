@@ -4,13 +4,13 @@
 usage: traces.py [--first-form] [--first-grammar] KIND SEED FOLDER
 
 Writes the files of the seed's case into FOLDER and prints its runs, one a line. A case is a list
-of runs in one folder; a run is a list of words. The kinds are
-  one-file   one run with one word
-  full       all words of the command, states saved, changed and resumed
+of runs in one folder; a run is a list of arguments. The kinds are
+  one-file   one run with one argument
+  full       all arguments of the command, states saved, changed and resumed
   cut        a run over some files, and the same files cut into runs that resume each other
   states     states with changes put in, each resumed alone and with records
   forms      states with one slot, of each row with each form of a state
-  order      states and files that are right, faulty or not there, in all places of the words
+  order      states and files that are right, faulty or not there, in all places of the arguments
   split, check, merge, tell, table   runs of the other programs
 `--first-form` leaves the second declaration form out, `--first-grammar` states of version 2.
 """
@@ -29,7 +29,7 @@ from typing import Callable, List, Sequence, Tuple, TypeVar
 from changes import STATES, changed_state, delete_byte, delete_line, double_line, odd_byte
 from input_language import Fault, blocks_of, lines_of
 from points import Entry, History, Table, VarInfo, effect_of
-from random_tables import tables_and_words
+from random_tables import tables_and_arguments
 from report import FILTERS, report
 from rows import ROWS
 from state_file import state_file
@@ -84,7 +84,7 @@ class PointPlan:
 
 
 def resumed(name: str) -> list[str]:
-    """The words of a run that resumes the state, reads nothing more and saves it again."""
+    """The arguments of a run that resumes the state, reads nothing more and saves it again."""
     return ["--resume", name, "--save", "--min-samples", "1", "--stats"]
 
 
@@ -666,7 +666,7 @@ LIMITS = [many_points, many_variables, many_derived, many_orig, long_line, long_
 
 
 def full_case(seed: int, second_form: bool = True, grammar: int = 2) -> Case:
-    """Several files, runs with all words, states saved, changed and resumed."""
+    """Several files, runs with all arguments, states saved, changed and resumed."""
     maker = Maker(seed, second_form)
     maker.plan_points()
     case = Case()
@@ -693,13 +693,13 @@ def state_case(maker: Maker, case: Case, grammar: int) -> Case:
     reads no more files: what comes of a state that no samples give is promised only until then."""
     text = state_file(history_of(case.files["t"], maker.random.randint(1, grammar),
                                  maker.second_form))
-    words = resumed("s")
+    arguments = resumed("s")
     if maker.chance(0.7):
         case.files = {"s": maker.mutated(text)}
     else:
         case.files["s"] = text
-        words += sorted(set(case.files) - {"s", "t"})
-    case.runs.append(words)
+        arguments += sorted(set(case.files) - {"s", "t"})
+    case.runs.append(arguments)
     return case
 
 
@@ -867,8 +867,8 @@ def several_files(maker: Maker, records: list[int]) -> dict[str, bytes]:
     return files
 
 
-def some_words(maker: Maker, *choices: tuple[list[str], float]) -> list[str]:
-    return [word for words, rate in choices if maker.chance(rate) for word in words]
+def some_arguments(maker: Maker, *choices: tuple[list[str], float]) -> list[str]:
+    return [word for arguments, rate in choices if maker.chance(rate) for word in arguments]
 
 
 def split_case(seed: int, second_form: bool = True, grammar: int = 2) -> Case:
@@ -876,9 +876,9 @@ def split_case(seed: int, second_form: bool = True, grammar: int = 2) -> Case:
     maker.theme = maker.random.choice(["truths", "truths", "mixed"])
     maker.plan_points()
     case = Case(several_files(maker, [3, 6, 12, 25]))
-    words = some_words(maker, (["--min-samples", maker.random.choice(["1", "2", "3"])], 0.9),
-                       (["--ignore-missing-entry"], 0.8), (["--save"], 0.01))
-    case.runs.append(words + sorted(case.files))
+    arguments = some_arguments(maker, (["--min-samples", maker.random.choice(["1", "2", "3"])], 0.9),
+                               (["--ignore-missing-entry"], 0.8), (["--save"], 0.01))
+    case.runs.append(arguments + sorted(case.files))
     return case
 
 
@@ -895,27 +895,27 @@ def check_case(seed: int, second_form: bool = True, grammar: int = 2) -> Case:
                                                maker.random.randrange(len(lines)))
         lines = lines or [b""]
     case.files["a"] = b"\n".join(lines[:400])
-    words = some_words(maker, (["--ignore-missing-entry"], 0.8), (["--stats"], 0.01))
+    arguments = some_arguments(maker, (["--ignore-missing-entry"], 0.8), (["--stats"], 0.01))
     names = sorted(set(case.files) - {"a"})
     names = maker.random.sample(names, maker.random.randint(0, len(names)))
-    case.runs.append(words + ["a"] + names)
+    case.runs.append(arguments + ["a"] + names)
     return case
 
 
 def tell_case(seed: int, second_form: bool = True, grammar: int = 2) -> Case:
     """The report and the files of a case for dk_check, in some format."""
     case = check_case(seed, second_form)
-    words = case.runs[0]
-    names = [word for word in words if not word.startswith("-")]
-    flags = [word for word in words if word == "--ignore-missing-entry"]
+    arguments = case.runs[0]
+    names = [word for word in arguments if not word.startswith("-")]
+    flags = [word for word in arguments if word == "--ignore-missing-entry"]
     formats: list[str] = random.Random(seed).choice([[], ["json"], ["python"], ["c"], ["smtlib"], ["smtlib"], ["c"], ["python"]])
     return Case(case.files, [flags + [word for name in formats for word in ("--format", name)] + names])
 
 
 def table_case(seed: int, second_form: bool = True, grammar: int = 2) -> Case:
     """Tables, mostly of one header."""
-    files, words = tables_and_words(random.Random(seed))
-    return Case(files, [words])
+    files, arguments = tables_and_arguments(random.Random(seed))
+    return Case(files, [arguments])
 
 
 def merge_case(seed: int, second_form: bool = True, grammar: int = 2) -> Case:
@@ -926,7 +926,7 @@ def merge_case(seed: int, second_form: bool = True, grammar: int = 2) -> Case:
     names = ["s1", "s2", "s3"][:maker.random.choice([1, 2, 2, 3])]
     in_turns = maker.chance(0.4)
     case = Case()
-    least = some_words(maker, (["--min-samples", "1"], 0.9))
+    least = some_arguments(maker, (["--min-samples", "1"], 0.9))
     for name in names:
         maker.waiting = []
         blocks = declarations + maker.records(maker.random.choice([0, 1, 3, 6, 12]))
@@ -991,9 +991,9 @@ def write_files(files: dict[str, bytes], folder: str) -> None:
             file.write(text)
 
 
-def main(words: list[str]) -> None:
-    options = [word for word in words if word.startswith("--")]
-    kind, seed, folder = [word for word in words if not word.startswith("--")]
+def main(arguments: list[str]) -> None:
+    options = [word for word in arguments if word.startswith("--")]
+    kind, seed, folder = [word for word in arguments if not word.startswith("--")]
     case = KINDS[kind](int(seed), "--first-form" not in options,
                        1 if "--first-grammar" in options else 2)
     write_files(case.files, folder)

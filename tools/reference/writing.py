@@ -18,7 +18,7 @@ class Case:
     """A run, and what it is to come to. `keys` are further lines, as `piece` and `failing-reads`."""
     name: str
     program: str
-    words: tuple[str, ...] = ()
+    arguments: tuple[str, ...] = ()
     files: dict[str, bytes] = field(default_factory=dict)
     keys: dict[str, str] = field(default_factory=dict)
     status: int = 0
@@ -36,7 +36,7 @@ def wanted(case: Case) -> Case:
     sinks = KeptSinks()
     with tempfile.TemporaryDirectory() as folder:
         write_files(case.files, folder)
-        status = importlib.import_module(case.program).status_of(list(case.words), sinks, folder)
+        status = importlib.import_module(case.program).status_of(list(case.arguments), sinks, folder)
     return case.coming_to(status, **sinks.texts)
 
 
@@ -149,8 +149,8 @@ def lines_of_case(case: Case, before: Case | None) -> list[str]:
     found = [f"again {case.name}" if is_again else f"case {case.name}"]
     if case.program != front.program:
         found.append(f"program {case.program}")
-    if case.words != front.words:
-        found += words_lines(case.words)
+    if case.arguments != front.arguments:
+        found += words_lines(case.arguments)
     found += [f"{key} {value}" for key, value in case.keys.items() if front.keys.get(key) != value]
     for name, text in case.files.items():
         if front.files.get(name) != text:
@@ -160,10 +160,10 @@ def lines_of_case(case: Case, before: Case | None) -> list[str]:
     return found + stream_lines(case, front)
 
 
-def words_lines(words: tuple[str, ...]) -> list[str]:
+def words_lines(arguments: tuple[str, ...]) -> list[str]:
     """The lines of words: one for all, and one for each word that a line of words doesn't tell, with those after it."""
-    plain = next((k for k, word in enumerate(words) if word == "" or re.search(r"\s", word)), len(words))
-    return [" ".join(("words", *words[:plain])), *(f"word {word}" for word in words[plain:])]
+    plain = next((k for k, word in enumerate(arguments) if word == "" or re.search(r"\s", word)), len(arguments))
+    return [" ".join(("words", *arguments[:plain])), *(f"word {word}" for word in arguments[plain:])]
 
 
 def stream_lines(case: Case, front: Case) -> list[str]:

@@ -148,8 +148,8 @@ def write_texts(plan: Plan, given: List[Given], folder: str) -> None:
 
 # ---------------------------------------------------------------- a run of daikon
 
-def part_words(plan: Plan, given: List[Given]) -> List[str]:
-    """The words of daikon for a part."""
+def part_arguments(plan: Plan, given: List[Given]) -> List[str]:
+    """The arguments of daikon for a part."""
     return ["--save", NOTHING, *plan.words, "--", *(text.name for text in given)]
 
 
@@ -183,7 +183,7 @@ def run_daikon(daikon: str, plan: Plan, given: List[Given], work: str) -> Tuple[
     """Runs daikon in a folder, and gives its status and its messages."""
     streamed = next((text.text for text in given if text.name == STDIN), None)
     with tempfile.TemporaryFile(dir=work) as messages:
-        run = subprocess.Popen([daikon, *part_words(plan, given)], cwd=work, bufsize=0, stdin=subprocess.PIPE,
+        run = subprocess.Popen([daikon, *part_arguments(plan, given)], cwd=work, bufsize=0, stdin=subprocess.PIPE,
                                stdout=subprocess.DEVNULL, stderr=messages)
         try:
             assert run.stdin is not None

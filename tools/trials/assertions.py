@@ -17,8 +17,8 @@ from sections import untrimmed  # noqa: E402
 from traces import ASSERTION_CHANGES, Case  # noqa: E402
 
 
-def report_of(bench: Bench, words: List[str]) -> bytes:
-    return bench.run("daikon", words + ["--min-samples", "1", "--ignore-missing-entry", "t"]).report
+def report_of(bench: Bench, arguments: List[str]) -> bytes:
+    return bench.run("daikon", arguments + ["--min-samples", "1", "--ignore-missing-entry", "t"]).report
 
 
 KEEPS = ["--keep-implied", "--keep-incomparable", "--keep-members", "--keep-constant", "--keep-parent"]
@@ -27,10 +27,10 @@ KEEPS = ["--keep-implied", "--keep-incomparable", "--keep-members", "--keep-cons
 def assertion_trials(seed: int) -> Iterator[Trial]:
     maker = planned(seed)
     text = trace_of(maker)
-    words = [word for word in KEEPS if maker.chance(0.3)]
+    arguments = [word for word in KEEPS if maker.chance(0.3)]
     for k in range(INPUTS_OF_A_SEED):
         shape = "%d" % maker.random.randrange(1 << 30) if k else "as it is"
-        yield Trial("assertions", "dk_check", Case({"t": text}, [words]), How(shape=shape))
+        yield Trial("assertions", "dk_check", Case({"t": text}, [arguments]), How(shape=shape))
 
 
 def changed_lines(draw: random.Random, text: bytes) -> bytes:
@@ -47,14 +47,14 @@ def judge_assertions(bench: Bench, trial: Trial) -> Optional[str]:
     files = trial.case.files
     if "a" not in files:
         bench.put(files)
-        report = report_of(bench, trial.words)
+        report = report_of(bench, trial.arguments)
         is_report = trial.how.shape == "as it is"
         files = {**files, "a": report if is_report else changed_lines(random.Random(int(trial.how.shape)), report)}
     bench.put(files)
-    words = ["--ignore-missing-entry", "a", "t"]
-    outcome = bench.run("dk_check", words)
+    arguments = ["--ignore-missing-entry", "a", "t"]
+    outcome = bench.run("dk_check", arguments)
     bench.tried["dk_check", trial.kind] += 1
-    broken = broken_form("dk_check", words, files, outcome)
+    broken = broken_form("dk_check", arguments, files, outcome)
     if broken is not None or outcome.status != DONE:
         return broken
     claims = assertions_in(untrimmed(files["a"]))
@@ -88,7 +88,7 @@ def judge_verdicts(bench: Bench, trial: Trial) -> Optional[str]:
     if declares_after_records(trial.case.files["t"]):
         return None
     bench.put(trial.case.files)
-    report = report_of(bench, trial.words)
+    report = report_of(bench, trial.arguments)
     bench.put({**trial.case.files, "a": report})
     outcome = bench.run("dk_check", ["--ignore-missing-entry", "a", "t"])
     bench.tried["dk_check", trial.kind] += 1

@@ -106,11 +106,11 @@ class Bench:
 
     # ---------------------------------------------------------------- runs
 
-    def run(self, program: str, words: List[str], how: How = How()) -> Outcome:
+    def run(self, program: str, arguments: List[str], how: How = How()) -> Outcome:
         """Runs the program in the folder and waits for its end."""
         self.runs[program] += 1
         if how.piped:
-            words = ["/dev/stdin" if word == how.piped else word for word in words]
+            arguments = ["/dev/stdin" if word == how.piped else word for word in arguments]
         feeding: Optional[int] = None
         taking: Optional[int] = None
         if how.piped:
@@ -125,7 +125,7 @@ class Bench:
             os.close(taking)
         messages = opened(how.messages_to or self.messages_path)
         start = forked if how.limits or how.as_nobody or how.ignores else spawned
-        child = start([self.paths[program]] + words, (source, report, messages), how)
+        child = start([self.paths[program]] + arguments, (source, report, messages), how)
         os.close(source)
         if taking is not None:
             os.close(report)
@@ -148,11 +148,11 @@ class Bench:
         if seconds_of(self.child) > MOST_SECONDS or self.looks * LOOKS > MOST_WAITING:
             raise Late
 
-    def whole(self, program: str, words: List[str], files: Dict[str, bytes]) -> Outcome:
+    def whole(self, program: str, arguments: List[str], files: Dict[str, bytes]) -> Outcome:
         """What a run without faults over these files comes to. The last one is kept, since many faults are tried on one run."""
-        if self.last_whole is None or self.last_whole[:3] != (program, words, files):
+        if self.last_whole is None or self.last_whole[:3] != (program, arguments, files):
             self.put(files)
-            self.last_whole = program, words, files, self.run(program, words)
+            self.last_whole = program, arguments, files, self.run(program, arguments)
         self.put(files)
         return self.last_whole[3]
 

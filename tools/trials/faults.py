@@ -43,19 +43,19 @@ def read_fault_trials(seed: int) -> Iterator[Trial]:
         ("dk_tell", {**traces, "a": b"=\nP\nx >= 1\n"}, flags + ["a"]), ("dk_table", {name: b"x,y\n1,2\n" for name in names}, []),
         ("daikon", {**traces, "s": state}, flags + ["--save", "--resume", "s"]), ("dk_merge", states, []),
         ("dk_merge", traces, ["--turns", "2"])]
-    for program, files, words in runs:
-        for faulty in [name for name in words + names if name in files]:
-            yield Trial("read faults", program, Case(files, [words + names]), How(piped=faulty, shape=maker.random.choice(PLACES)))
+    for program, files, arguments in runs:
+        for faulty in [name for name in arguments + names if name in files]:
+            yield Trial("read faults", program, Case(files, [arguments + names]), How(piped=faulty, shape=maker.random.choice(PLACES)))
 
 
 def judge_read_faults(bench: Bench, trial: Trial) -> Optional[str]:
     """What stands before the file that can't be read is judged first; then the message names it."""
-    files, words, faulty, shape = trial.case.files, trial.words, trial.how.piped, trial.how.shape
+    files, arguments, faulty, shape = trial.case.files, trial.arguments, trial.how.piped, trial.how.shape
     if shape == "unreadable" and not bench.starts(trial.program, How(as_nobody=True)):
         return None
     bench.put(files)
-    front = words[:words.index(faulty)]
-    before = bench.run(trial.program, front) if any(name in files for name in front) and "--turns" not in words else None
+    front = arguments[:arguments.index(faulty)]
+    before = bench.run(trial.program, front) if any(name in files for name in front) and "--turns" not in arguments else None
     bench.put({name: text for name, text in files.items() if name != faulty or shape == "unreadable"})
     if shape == "folder":
         os.mkdir(faulty)
@@ -63,15 +63,15 @@ def judge_read_faults(bench: Bench, trial: Trial) -> Optional[str]:
         os.chmod(faulty, 0)
         bench.there.pop(faulty)
     named = MEMORY if shape == "memory" else faulty
-    words = [named if word == faulty else word for word in words]
-    outcome = bench.run(trial.program, words, How(as_nobody=shape == "unreadable"))
+    arguments = [named if word == faulty else word for word in arguments]
+    outcome = bench.run(trial.program, arguments, How(as_nobody=shape == "unreadable"))
     bench.tried[trial.program, trial.kind] += 1
     if before is not None and before.status == REFUSED:
         part = differing(before, outcome)
         return "%s, refused in front: %s" % (shape, part) if part is not None else None
     if outcome.status != READ or outcome.messages != b"daikon: cannot read %s\n" % named.encode():
         return shape + ": not said that it can't be read"
-    broken = broken_form(trial.program, words, files, outcome)
+    broken = broken_form(trial.program, arguments, files, outcome)
     return "%s: %s" % (shape, broken) if broken is not None else None
 
 
@@ -106,10 +106,10 @@ def judge_write_faults(bench: Bench, trial: Trial) -> Optional[str]:
     files, how = trial.case.files, trial.how
     if how.as_nobody and not bench.starts(trial.program, how):
         return None
-    whole = bench.whole(trial.program, trial.words, files)
+    whole = bench.whole(trial.program, trial.arguments, files)
     if how.shape == "state is a folder":
         os.mkdir(STATE)
-    outcome = bench.run(trial.program, trial.words, how)
+    outcome = bench.run(trial.program, trial.arguments, how)
     was_killed = outcome.status is not None and outcome.status < 0
     left = [name for name in bench.names() if name not in files and name != STATE and not was_killed]
     bench.tried[trial.program, trial.kind] += 1
@@ -221,18 +221,18 @@ def memory_trials(seed: int) -> Iterator[Trial]:
 def state_memory_trials(maker: Maker) -> Iterator[Trial]:
     """States of a run without limits, resumed and merged."""
     text = state_file(history_of(trace_of(maker)))
-    for program, words in (("daikon", ["--resume", "s", "--save"]), ("dk_merge", ["s", "s"])):
+    for program, arguments in (("daikon", ["--resume", "s", "--save"]), ("dk_merge", ["s", "s"])):
         for _ in range(4):
             limit = maker.random.randrange(64 << 10, MEGABYTE, 4096)
-            yield Trial("memory", program, Case({"s": text}, [words]), How(limits=((resource.RLIMIT_DATA, limit),)))
+            yield Trial("memory", program, Case({"s": text}, [arguments]), How(limits=((resource.RLIMIT_DATA, limit),)))
 
 
 def judge_memory(bench: Bench, trial: Trial) -> Optional[str]:
     """Within a limit of memory a run comes to the same, or says that memory ended; then its report is a front of the whole one."""
     if not bench.starts(trial.program, trial.how):
         return None
-    whole = bench.whole(trial.program, trial.words, trial.case.files)
-    outcome = bench.run(trial.program, trial.words, trial.how)
+    whole = bench.whole(trial.program, trial.arguments, trial.case.files)
+    outcome = bench.run(trial.program, trial.arguments, trial.how)
     bench.tried[trial.program, trial.kind] += 1
     broken = broken_by_memory(trial, whole, outcome)
     return "within a limit of memory: " + broken if broken is not None else None
@@ -246,7 +246,7 @@ def broken_by_memory(trial: Trial, whole: Outcome, outcome: Outcome) -> Optional
         return "%s (status %s)" % (part, outcome.status) if part is not None else None
     if not whole.report.startswith(outcome.report):
         return "report"
-    return broken_form(trial.program, trial.words, trial.case.files, outcome)
+    return broken_form(trial.program, trial.arguments, trial.case.files, outcome)
 
 
 # ---------------------------------------------------------------- allocations
@@ -278,16 +278,16 @@ def judge_allocations(bench: Bench, trial: Trial) -> Optional[str]:
     library = refusing(bench, bench.paths[trial.program])
     if library is None:
         return None
-    whole = bench.whole(trial.program, trial.words, trial.case.files)
+    whole = bench.whole(trial.program, trial.arguments, trial.case.files)
     loaded = (("LD_PRELOAD", library),)
-    bench.run(trial.program, trial.words, How(surroundings=loaded + (("REFUSE_COUNT", bench.count_path),)))
+    bench.run(trial.program, trial.arguments, How(surroundings=loaded + (("REFUSE_COUNT", bench.count_path),)))
     with open(bench.count_path, encoding="ascii") as file:
         count = int(file.read())
     numbers = range(1, count + 1)
     for number in random.Random(count).sample(numbers, min(count, REFUSALS_OF_A_RUN)):
         surroundings = loaded + (("REFUSE_AT", str(number)),) + ((("REFUSE_LATER", "1"),) if trial.how.shape else ())
         bench.put(trial.case.files)
-        outcome = bench.run(trial.program, trial.words, How(surroundings=surroundings))
+        outcome = bench.run(trial.program, trial.arguments, How(surroundings=surroundings))
         bench.tried[trial.program, trial.kind] += 1
         broken = broken_by_memory(trial, whole, outcome)
         if broken is not None:
@@ -304,8 +304,8 @@ def stack_trials(seed: int) -> Iterator[Trial]:
 
 def judge_stack(bench: Bench, trial: Trial) -> Optional[str]:
     """With a small stack a run comes to the same."""
-    whole = bench.whole(trial.program, trial.words, trial.case.files)
-    outcome = bench.run(trial.program, trial.words, trial.how)
+    whole = bench.whole(trial.program, trial.arguments, trial.case.files)
+    outcome = bench.run(trial.program, trial.arguments, trial.how)
     bench.tried[trial.program, trial.kind] += 1
     part = differing(whole, outcome)
     return "with a stack of %d KB: %s" % (trial.how.limits[0][1] >> 10, part) if part is not None else None

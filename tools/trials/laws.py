@@ -24,7 +24,7 @@ HELP = {"-h", "--help", "-V", "--version"}
 VERDICT = re.compile(rb"(?:ok \[[0-9]+\]|unknown|violated at .*:[0-9]+)", re.S)
 
 
-def broken_form(program: str, words: List[str], files: Dict[str, bytes], outcome: Outcome) -> Optional[str]:
+def broken_form(program: str, arguments: List[str], files: Dict[str, bytes], outcome: Outcome) -> Optional[str]:
     """What is wrong with a run's status, messages, report or state, whatever it read; or nothing."""
     status = outcome.status
     if status is None:
@@ -32,19 +32,19 @@ def broken_form(program: str, words: List[str], files: Dict[str, bytes], outcome
     if status not in MESSAGES:
         return "ended by " + signal.Signals(-status).name if status < 0 else "status %d" % status
     messages = outcome.messages
-    if "--generate" in " ".join(words) and messages.startswith(GENERATED):
+    if "--generate" in " ".join(arguments) and messages.startswith(GENERATED):
         messages = messages[len(GENERATED):]
-    if not MESSAGES[status](program, words, files, messages):
+    if not MESSAGES[status](program, arguments, files, messages):
         return "message of status %d" % status
-    return broken_streams(program, words, files, outcome)
+    return broken_streams(program, arguments, files, outcome)
 
 
-def broken_streams(program: str, words: List[str], files: Dict[str, bytes], outcome: Outcome) -> Optional[str]:
+def broken_streams(program: str, arguments: List[str], files: Dict[str, bytes], outcome: Outcome) -> Optional[str]:
     """What is wrong with report or state."""
     done = outcome.status == DONE
     if outcome.report and not outcome.report.endswith(b"\n") and outcome.status not in (WRITE, NO_MEMORY):
         return "report without its last line end"
-    if outcome.report and not done and not any(word.startswith("--every") for word in words) and outcome.status not in (WRITE, NO_MEMORY):
+    if outcome.report and not done and not any(word.startswith("--every") for word in arguments) and outcome.status not in (WRITE, NO_MEMORY):
         return "report of status %s" % outcome.status
     if outcome.state != files.get(STATE) and not done:
         return "state changed at status %s" % outcome.status
@@ -53,11 +53,11 @@ def broken_streams(program: str, words: List[str], files: Dict[str, bytes], outc
     return None
 
 
-def says_nothing(program: str, words: List[str], files: Dict[str, bytes], messages: bytes) -> bool:
+def says_nothing(program: str, arguments: List[str], files: Dict[str, bytes], messages: bytes) -> bool:
     return messages == b""
 
 
-def says_refused(program: str, words: List[str], files: Dict[str, bytes], messages: bytes) -> bool:
+def says_refused(program: str, arguments: List[str], files: Dict[str, bytes], messages: bytes) -> bool:
     """A file that was named, a line or row that it may have, and a reason under its name."""
     is_table = program == "dk_table"
     match = (TABLE_REFUSAL if is_table else REFUSAL).fullmatch(messages)
@@ -68,23 +68,23 @@ def says_refused(program: str, words: List[str], files: Dict[str, bytes], messag
         return False
     if is_table and name in files:
         return 1 <= line <= files[name].count(b"\n") + files[name].count(b"\r") + 1
-    return line <= files[name].count(b"\n") + 2 if name in files else name in ("turns", "generated", "/dev/stdin") or bool(names_of(words))
+    return line <= files[name].count(b"\n") + 2 if name in files else name in ("turns", "generated", "/dev/stdin") or bool(names_of(arguments))
 
 
-def says_usage(program: str, words: List[str], files: Dict[str, bytes], messages: bytes) -> bool:
+def says_usage(program: str, arguments: List[str], files: Dict[str, bytes], messages: bytes) -> bool:
     return messages == PROGRAMS[program].usage
 
 
-def says_unread(program: str, words: List[str], files: Dict[str, bytes], messages: bytes) -> bool:
-    """A name that stands in the words."""
+def says_unread(program: str, arguments: List[str], files: Dict[str, bytes], messages: bytes) -> bool:
+    """A name that stands in the arguments."""
     front, end = b"daikon: cannot read ", b"\n"
     if not (messages.startswith(front) and messages.endswith(end)):
         return False
     name = os.fsdecode(messages[len(front):-len(end)])
-    return any(word == name or word.endswith("=" + name) for word in words)
+    return any(word == name or word.endswith("=" + name) for word in arguments)
 
 
-def says_fault(program: str, words: List[str], files: Dict[str, bytes], messages: bytes) -> bool:
+def says_fault(program: str, arguments: List[str], files: Dict[str, bytes], messages: bytes) -> bool:
     return FAULT.fullmatch(messages) is not None
 
 

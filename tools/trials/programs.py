@@ -60,6 +60,6 @@ def is_built(path: str) -> bool:
         return file.read(4) == b"\x7fELF"
 
 
-def names_of(words: List[str]) -> List[str]:
-    """The words that may name files."""
-    return [word for word in words if not word.startswith("-") or word == "-"]
+def names_of(arguments: List[str]) -> List[str]:
+    """The arguments that may name files."""
+    return [word for word in arguments if not word.startswith("-") or word == "-"]

@@ -29,14 +29,14 @@ def state_trials(seed: int) -> Iterator[Trial]:
 def judge_state(bench: Bench, trial: Trial) -> Optional[str]:
     """A state is resumed alone and merged alone: both take it or refuse it, and who takes it writes it again as it is."""
     bench.put(trial.case.files)
-    alone = bench.run("daikon", trial.words)
-    merge_words = ["--min-samples", "1", "s"]
+    alone = bench.run("daikon", trial.arguments)
+    merge_arguments = ["--min-samples", "1", "s"]
     bench.put(trial.case.files)
-    merged = bench.run("dk_merge", merge_words)
+    merged = bench.run("dk_merge", merge_arguments)
     bench.tried["daikon", trial.kind] += 1
     bench.tried["dk_merge", trial.kind] += 1
-    for program, words, outcome in (("daikon", trial.words, alone), ("dk_merge", merge_words, merged)):
-        broken = broken_form(program, words, trial.case.files, outcome)
+    for program, arguments, outcome in (("daikon", trial.arguments, alone), ("dk_merge", merge_arguments, merged)):
+        broken = broken_form(program, arguments, trial.case.files, outcome)
         if broken is not None:
             return "%s: %s" % (program, broken)
     if alone.status == DONE and alone.state != trial.case.files["s"]:
@@ -57,10 +57,10 @@ def joined_trials(seed: int) -> Iterator[Trial]:
 def judge_joined(bench: Bench, trial: Trial) -> Optional[str]:
     """Changed states after a right one: what is merged is a state that is taken again."""
     bench.put(trial.case.files)
-    outcome = bench.run("dk_merge", trial.words)
-    names = [name for name in trial.words if name in trial.case.files]
+    outcome = bench.run("dk_merge", trial.arguments)
+    names = [name for name in trial.arguments if name in trial.case.files]
     bench.tried["dk_merge", trial.kind] += files_read(outcome, names) - 1
-    broken = broken_form("dk_merge", trial.words, trial.case.files, outcome)
+    broken = broken_form("dk_merge", trial.arguments, trial.case.files, outcome)
     if broken is not None or outcome.status != DONE:
         return broken
     again = bench.run("daikon", ["--resume", STATE, "--save", "--min-samples", "1"])
@@ -80,16 +80,16 @@ def merge_trials(seed: int) -> Iterator[Trial]:
 def judge_merge(bench: Bench, trial: Trial) -> Optional[str]:
     """The states of parts, merged in an order and in each group, are that of one run over all parts."""
     bench.put(trial.case.files)
-    words = ["--min-samples", "1", "--ignore-missing-entry", "--save", "d"]
-    parts = [bench.run("daikon", words + [name]) for name in ("p1", "p2", "p3")]
-    whole = bench.run("daikon", words + ["p1", "p2", "p3"])
+    arguments = ["--min-samples", "1", "--ignore-missing-entry", "--save", "d"]
+    parts = [bench.run("daikon", arguments + [name]) for name in ("p1", "p2", "p3")]
+    whole = bench.run("daikon", arguments + ["p1", "p2", "p3"])
     bench.tried["daikon", trial.kind] += 4
     if any(outcome.status != DONE for outcome in parts + [whole]):
         return None
     states = {"s1": parts[0].state, "s2": parts[1].state, "s3": parts[2].state}
     are_alike = len({tuple(declarations_in(state or b"")) for state in states.values()}) == 1
     bench.put({name: state for name, state in states.items() if state is not None})
-    for steps in merges.groupings(trial.words):
+    for steps in merges.groupings(trial.arguments):
         outcome = merged_in_steps(bench, steps)
         bench.tried["dk_merge", trial.kind] += 3
         if not are_alike and (outcome.status != REFUSED or b": 19 DifferentState" not in outcome.messages):
@@ -102,8 +102,8 @@ def judge_merge(bench: Bench, trial: Trial) -> Optional[str]:
 
 def merged_in_steps(bench: Bench, steps: List[Tuple[List[str], Optional[str]]]) -> Outcome:
     """What the last step comes to, or the first that isn't done."""
-    for words, name in steps:
-        outcome = bench.run("dk_merge", ["--min-samples", "1"] + words)
+    for arguments, name in steps:
+        outcome = bench.run("dk_merge", ["--min-samples", "1"] + arguments)
         if outcome.status != DONE:
             break
         if name is not None and outcome.state is not None:

@@ -7,7 +7,7 @@ from typing import Dict, List
 from trials.assertions import assertion_trials, judge_assertions, judge_verdicts, verdict_trials
 from trials.faults import (allocation_trials, judge_allocations, judge_memory, judge_read_faults, judge_stack, judge_write_faults,
                            memory_trials, read_fault_trials, stack_trials, write_fault_trials)
-from trials.reading import alike_trials, judge_alike, judge_trace, judge_words, trace_trials, word_trials
+from trials.reading import alike_trials, judge_alike, judge_trace, judge_arguments, trace_trials, argument_trials
 from trials.states import joined_trials, judge_joined, judge_merge, judge_state, merge_trials, state_trials
 from trials.tables import judge_tables, table_trials
 from trials.tellings import judge_tellings, telling_trials
@@ -24,7 +24,7 @@ KINDS: Dict[str, Kind] = {kind.name: kind for kind in (
     Kind("verdicts", 2, verdict_trials, judge_verdicts),
     Kind("tables", 4, table_trials, judge_tables),
     Kind("tellings", 3, telling_trials, judge_tellings),
-    Kind("words", 5, word_trials, judge_words),
+    Kind("words", 5, argument_trials, judge_arguments),
     Kind("pieces", 3, piece_trials, judge_pieces),
     Kind("fronts", 4, front_trials, judge_fronts),
     Kind("cut", 3, cut_trials, judge_cut),

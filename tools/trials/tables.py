@@ -13,7 +13,7 @@ from trials.trial import Trial, script
 
 import dk_table  # noqa: E402
 from command import DONE, REFUSED  # noqa: E402
-from random_tables import changed, tables_and_words  # noqa: E402
+from random_tables import changed, tables_and_arguments  # noqa: E402
 from traces import Case  # noqa: E402
 
 compare = script("compare")
@@ -23,29 +23,29 @@ TRACE = "trace"
 def table_trials(seed: int) -> Iterator[Trial]:
     draw = random.Random(seed)
     for _ in range(INPUTS_OF_A_SEED):
-        files, words = tables_and_words(draw)
+        files, arguments = tables_and_arguments(draw)
         if draw.random() < 0.3:
             name = draw.choice(sorted(files))
             files = {**files, name: changed(draw, files[name])}
-        yield Trial("tables", "dk_table", Case(files, [words]), How(piece=draw.choice([1, 7, 4096])))
+        yield Trial("tables", "dk_table", Case(files, [arguments]), How(piece=draw.choice([1, 7, 4096])))
 
 
-def expected(bench: Bench, words: List[str]) -> Tuple[int, bytes, bytes]:
-    """What the other implementation says of the words over the files that are there."""
+def expected(bench: Bench, arguments: List[str]) -> Tuple[int, bytes, bytes]:
+    """What the other implementation says of the arguments over the files that are there."""
     sinks = compare.FolderSinks(bench.folder)
-    status = dk_table.status_of(words, sinks, bench.folder)
+    status = dk_table.status_of(arguments, sinks, bench.folder)
     return status, sinks.texts["report"], sinks.texts["messages"]
 
 
 def judge_tables(bench: Bench, trial: Trial) -> Optional[str]:
     """The trace is the other implementation's, and daikon reads of it, through a pipe, a sample for each row."""
     bench.put(trial.case.files)
-    outcome = bench.run("dk_table", trial.words)
+    outcome = bench.run("dk_table", trial.arguments)
     bench.tried["dk_table", trial.kind] += 1
-    broken = broken_form("dk_table", trial.words, trial.case.files, outcome)
+    broken = broken_form("dk_table", trial.arguments, trial.case.files, outcome)
     if broken is not None:
         return broken
-    if (outcome.status, outcome.report, outcome.messages) != expected(bench, trial.words):
+    if (outcome.status, outcome.report, outcome.messages) != expected(bench, trial.arguments):
         return "another trace than the other implementation's"
     return judge_trace(bench, trial, outcome.report) if outcome.status == DONE else None
 

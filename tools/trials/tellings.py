@@ -33,21 +33,21 @@ def telling_trials(seed: int) -> Iterator[Trial]:
 def judge_tellings(bench: Bench, trial: Trial) -> Optional[str]:
     """What is told of a report, and of one with changes, is what the other implementation tells, and JSON is read as its values."""
     files = trial.case.files
-    *keeps, form = trial.words
+    *keeps, form = trial.arguments
     if "a" not in files:
         bench.put({"t": files["whole"]})
         report = report_of(bench, keeps)
         changed = report if trial.how.shape == "as it is" else changed_lines(random.Random(int(trial.how.shape)), report)
         files = {"t": files["t"], "a": changed}
     bench.put(files)
-    words = ["--format", form, "--ignore-missing-entry", "a", "t"]
-    outcome = bench.run("dk_tell", words)
+    arguments = ["--format", form, "--ignore-missing-entry", "a", "t"]
+    outcome = bench.run("dk_tell", arguments)
     bench.tried["dk_tell", trial.kind] += 1
-    broken = broken_form("dk_tell", words, files, outcome)
+    broken = broken_form("dk_tell", arguments, files, outcome)
     if broken is not None:
         return broken
     sinks = compare.FolderSinks(bench.folder)
-    status = dk_tell.status_of(words, sinks, bench.folder)
+    status = dk_tell.status_of(arguments, sinks, bench.folder)
     if (status, sinks.texts["messages"]) != (outcome.status, outcome.messages):
         return "%s: status or message" % form
     if form == "json" and status == DONE:

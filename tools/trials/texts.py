@@ -129,7 +129,7 @@ def mutated_traces(maker: Maker, text: bytes) -> Dict[str, bytes]:
 
 
 def files_read(outcome: Outcome, names: List[str]) -> int:
-    """How many files the run has looked at; words that are refused are one input."""
+    """How many files the run has looked at; arguments that are refused are one input."""
     if outcome.status == USAGE_STATUS:
         return 1
     name = faulty_file(outcome)

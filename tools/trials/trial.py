@@ -16,14 +16,14 @@ from traces import Case  # noqa: E402
 
 @dataclass(frozen=True)
 class Trial:
-    """Files and words for one program, or for several that are judged together."""
+    """Files and arguments for one program, or for several that are judged together."""
     kind: str
     program: str
     case: Case
     how: How = field(default_factory=How)
 
     @property
-    def words(self) -> List[str]:
+    def arguments(self) -> List[str]:
         return self.case.runs[0]
 
     def with_files(self, files: Dict[str, bytes]) -> "Trial":

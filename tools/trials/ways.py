@@ -9,13 +9,13 @@ from typing import Iterator, Optional, Tuple
 from trials.bench import Bench, How
 from trials.laws import broken_form, differing
 from trials.programs import PROGRAMS
-from trials.reading import trace_words
+from trials.reading import trace_arguments
 from trials.texts import INPUTS_OF_A_SEED, mutated, planned, trace_of
 from trials.trial import Trial, script
 
 from changes import changed_state  # noqa: E402
 from command import DONE, REFUSED  # noqa: E402
-from random_tables import tables_and_words  # noqa: E402
+from random_tables import tables_and_arguments  # noqa: E402
 from state_file import state_file  # noqa: E402
 from traces import Case, Maker, cut_case, history_of  # noqa: E402
 
@@ -25,15 +25,15 @@ compare = script("compare")
 
 
 def some_input(maker: Maker) -> Tuple[str, Case, str]:
-    """A program, files and words, and the name of the file that may be piped."""
+    """A program, files and arguments, and the name of the file that may be piped."""
     draw = maker.random
     text = trace_of(maker)
     trace = mutated(maker, text) if maker.chance(0.6) else text
     program = draw.choice(["daikon", "daikon", "dk_split", "dk_check", "dk_merge", "dk_tell", "state", "assertions", "told", "states", "table"])
     if program == "state":
         state = changed_state(draw, state_file(history_of(text))) if maker.chance(0.6) else state_file(history_of(text))
-        words = ["--resume", "s", "--save", "--ignore-missing-entry", "t"]
-        return "daikon", Case({"t": trace, "s": state}, [words]), draw.choice(["s", "t"])
+        arguments = ["--resume", "s", "--save", "--ignore-missing-entry", "t"]
+        return "daikon", Case({"t": trace, "s": state}, [arguments]), draw.choice(["s", "t"])
     if program == "states":
         state = state_file(history_of(text))
         return "dk_merge", Case({"s": changed_state(draw, state), "t": state}, [["--min-samples", "1", "t", "s"]]), draw.choice(["s", "t"])
@@ -42,12 +42,12 @@ def some_input(maker: Maker) -> Tuple[str, Case, str]:
         case = Case({"t": trace, "a": b"==\n" + lines}, [["--ignore-missing-entry", "a", "t"]])
         return "dk_check" if program == "assertions" else "dk_tell", case, "a"
     if program == "table":
-        files, words = tables_and_words(draw)
+        files, arguments = tables_and_arguments(draw)
         # the name of the first file would be the point's
-        words = words if "--point" in words else ["--point", "P"] + words
-        return "dk_table", Case(files, [words]), draw.choice(sorted(files))
-    words = trace_words(maker, program, ["t"])
-    return program, Case({"t": trace, "a": b"=\nP\nx >= 1\n"}, [words]), "t"
+        arguments = arguments if "--point" in arguments else ["--point", "P"] + arguments
+        return "dk_table", Case(files, [arguments]), draw.choice(sorted(files))
+    arguments = trace_arguments(maker, program, ["t"])
+    return program, Case({"t": trace, "a": b"=\nP\nx >= 1\n"}, [arguments]), "t"
 
 
 def piece_trials(seed: int) -> Iterator[Trial]:
@@ -60,11 +60,11 @@ def piece_trials(seed: int) -> Iterator[Trial]:
 def judge_pieces(bench: Bench, trial: Trial) -> Optional[str]:
     """What comes through a pipe, in pieces, is read as it is in a file."""
     bench.put(trial.case.files)
-    by_file = bench.run(trial.program, trial.words)
+    by_file = bench.run(trial.program, trial.arguments)
     bench.put(trial.case.files)
-    by_pipe = bench.run(trial.program, trial.words, trial.how)
+    by_pipe = bench.run(trial.program, trial.arguments, trial.how)
     bench.tried[trial.program, trial.kind] += 1
-    broken = broken_form(trial.program, trial.words, trial.case.files, by_file)
+    broken = broken_form(trial.program, trial.arguments, trial.case.files, by_file)
     if broken is not None:
         return broken
     name = trial.how.piped
@@ -80,10 +80,10 @@ def front_trials(seed: int) -> Iterator[Trial]:
         text = trace_of(maker)
         text = mutated(maker, text) if maker.chance(0.6) else text
         program = maker.random.choice(["daikon", "daikon", "dk_split", "dk_check", "dk_tell"])
-        words = {"daikon": ["--every", "1", "--min-samples", "1"], "dk_check": ["a"], "dk_tell": ["a"]}.get(program, [])
+        arguments = {"daikon": ["--every", "1", "--min-samples", "1"], "dk_check": ["a"], "dk_tell": ["a"]}.get(program, [])
         flags = ["--ignore-missing-entry"] if maker.chance(0.5) else []
         shape = "%f" % maker.random.random()
-        yield Trial("fronts", program, Case({"t": text, "a": b""}, [flags + words + ["t"]]), How(shape=shape))
+        yield Trial("fronts", program, Case({"t": text, "a": b""}, [flags + arguments + ["t"]]), How(shape=shape))
 
 
 def front_of(text: bytes, place: float) -> bytes:
@@ -95,14 +95,14 @@ def front_of(text: bytes, place: float) -> bytes:
 
 def judge_fronts(bench: Bench, trial: Trial) -> Optional[str]:
     """A fault in the blocks in front is the fault of the whole, and interim reports don't know what comes."""
-    files, words = trial.case.files, trial.words
+    files, arguments = trial.case.files, trial.arguments
     bench.put(files)
-    whole = bench.run(trial.program, words)
+    whole = bench.run(trial.program, arguments)
     front_files = {**files, "t": front_of(files["t"], float(trial.how.shape))}
     bench.put(front_files)
-    front = bench.run(trial.program, words)
+    front = bench.run(trial.program, arguments)
     bench.tried[trial.program, trial.kind] += 2
-    broken = broken_form(trial.program, words, files, whole) or broken_form(trial.program, words, front_files, front)
+    broken = broken_form(trial.program, arguments, files, whole) or broken_form(trial.program, arguments, front_files, front)
     if broken is not None:
         return broken
     if front.status == REFUSED:
@@ -128,14 +128,14 @@ def cut_trials(seed: int) -> Iterator[Trial]:
 def judge_cut(bench: Bench, trial: Trial) -> Optional[str]:
     """Files that are read in several runs, each of which resumes the state of the one before, come to what one run comes to."""
     bench.put(trial.case.files)
-    whole = bench.run("daikon", trial.words)
+    whole = bench.run("daikon", trial.arguments)
     bench.tried["daikon", trial.kind] += 2 * len(trial.case.files)
-    broken = broken_form("daikon", trial.words, trial.case.files, whole)
+    broken = broken_form("daikon", trial.arguments, trial.case.files, whole)
     if broken is not None:
         return broken
     last = whole
-    for words in trial.case.runs[1:]:
-        last = bench.run("daikon", words)
+    for arguments in trial.case.runs[1:]:
+        last = bench.run("daikon", arguments)
         if last.status != DONE:
             break
     part = differing(replace(last, state=None), replace(whole, state=None)) if whole.status != DONE else differing(last, whole)
@@ -156,7 +156,7 @@ def compared_trials(seed: int) -> Iterator[Trial]:
 def judge_compared(bench: Bench, trial: Trial) -> Optional[str]:
     """Another implementation of the rules comes to the same."""
     case = trial.case
-    arguments = compare.argparse.Namespace(command=bench.paths[trial.program], words=[], stage=None, cases=trial.how.shape,
+    arguments = compare.argparse.Namespace(command=bench.paths[trial.program], arguments=[], stage=None, cases=trial.how.shape,
                                            without_state=False)
     difference, _ = compare.Comparison(arguments).different(case)
     bench.tried[trial.program, trial.kind] += len(case.runs)

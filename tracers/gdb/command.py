@@ -19,7 +19,7 @@ from typing import Any, Dict, Iterator, List, Optional
 HERE = os.path.dirname(os.path.abspath(__file__))
 sys.path[:0] = [HERE, os.path.dirname(HERE)]
 
-from dtrace import Output, add_words, open_high, report  # noqa: E402
+from dtrace import Output, add_arguments, open_high, report  # noqa: E402
 from elf import Elf, NoProgram  # noqa: E402
 
 FAILED = 1
@@ -58,12 +58,12 @@ def array(text: str) -> List[str]:
 
 
 def make_parser() -> argparse.ArgumentParser:
-    """The words of the command."""
+    """The arguments of the command."""
     parser = argparse.ArgumentParser(
         prog="dk_gdb", description=DESCRIPTION, epilog=DETAILS, formatter_class=argparse.RawDescriptionHelpFormatter, allow_abbrev=False,
         usage="dk_gdb [--out FILE] [--include GLOB]... [--exclude GLOB]... [--depth N] [--elements N] [--every N] [--globals]\n"
               "              [--array PARAM=LENGTH]... [--report] PROGRAM [ARG]...")
-    add_words(parser, "PROGRAM", "file.c.function or Class.method", 100)
+    add_arguments(parser, "PROGRAM", "file.c.function or Class.method", 100)
     parser.add_argument("--array", metavar="PARAM=LENGTH", type=array, action="append", default=[],
                         help="the pointer PARAM, a parameter or a field, points to as many elements as the parameter or field LENGTH "
                              "beside it says, or to so many where LENGTH is a number (default: none, to one)")
@@ -184,7 +184,7 @@ def run(options: argparse.Namespace) -> Dict[str, Any]:
         raise Problem("cannot write %s: %s" % (options.out, error.strerror), UNWRITABLE) from error
     start = {
         "others": inherited(), "streams": keep_streams(), "group": os.getpgrp(), "environment": dict(os.environ), "program": path,
-        "words": [options.program, *options.arguments],
+        "arguments": [options.program, *options.arguments],
     }
     signal.pthread_sigmask(signal.SIG_BLOCK, {signal.SIGCHLD, *FORWARDED})
     answer, answer_end = os.pipe()
@@ -222,7 +222,7 @@ def tell_end(options: argparse.Namespace, answer: Dict[str, Any]) -> None:
 
 
 def main() -> int:
-    """Does what the words say, and answers the status: the program's, where it ran."""
+    """Does what the arguments say, and answers the status: the program's, where it ran."""
     options = make_parser().parse_args()
     options.out = options.out or os.path.basename(options.program) + ".dtrace"
     try:

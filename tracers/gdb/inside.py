@@ -49,7 +49,7 @@ class Failure(Exception):
 
 
 class Refusal(Failure):
-    """The words of the command don't fit the program; the text says why."""
+    """The arguments of the command don't fit the program; the text says why."""
 
 
 def command(text: str) -> str:

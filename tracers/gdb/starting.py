@@ -1,5 +1,5 @@
 """Becomes the program: gdb runs this in the process that it watches. It gives the program what it has without us: the streams, the group,
-the environment and the words of its command."""
+the environment and the arguments of its command."""
 
 from __future__ import annotations
 
@@ -34,7 +34,7 @@ def main() -> None:
     # Python ignores these
     signal.signal(signal.SIGPIPE, signal.SIG_DFL)
     signal.signal(signal.SIGXFSZ, signal.SIG_DFL)
-    os.execve(start["program"], start["words"], start["environment"])
+    os.execve(start["program"], start["arguments"], start["environment"])
 
 
 main()

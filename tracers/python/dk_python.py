@@ -50,29 +50,29 @@ class Help(argparse.RawDescriptionHelpFormatter):
     """Help with the description's own lines, as wide as the terminal."""
 
 
-def parser_of_words() -> argparse.ArgumentParser:
-    """The words before the script."""
+def parser_of_arguments() -> argparse.ArgumentParser:
+    """The arguments before the script."""
     parser = argparse.ArgumentParser(prog="dk_python", usage=USAGE, description=DESCRIPTION, epilog=DETAILS, formatter_class=Help,
                                      allow_abbrev=False)
-    dtrace.add_words(parser, "SCRIPT", "module.qualname", 100)
+    dtrace.add_arguments(parser, "SCRIPT", "module.qualname", 100)
     parser.add_argument("-m", dest="module", metavar="MODULE", help="run this module in place of a script")
-    parser.add_argument("words", nargs=argparse.REMAINDER, metavar="SCRIPT [ARG]...", help="the script, and its own arguments")
+    parser.add_argument("arguments", nargs=argparse.REMAINDER, metavar="SCRIPT [ARG]...", help="the script, and its own arguments")
     return parser
 
 
-def split_words(words: list) -> tuple:
-    """The words before the script or after `-m MODULE`, and those that are the program's own: the parser sees only ours."""
+def split_arguments(arguments: list) -> tuple:
+    """The arguments before the script or after `-m MODULE`, and those that are the program's own: the parser sees only ours."""
     with_value = {"--out", "--include", "--exclude", "--depth", "--elements", "--every"}
     place = 0
-    while place < len(words) and words[place].startswith("-") and words[place] != "-":
-        if words[place] == "-m":
-            return words[:place + 2], words[place + 2:]
-        if words[place].startswith("-m"):
-            return words[:place + 1], words[place + 1:]
-        if words[place] == "--":
-            return words[:place], words[place + 1:]
-        place += 2 if words[place] in with_value else 1
-    return words[:place], words[place:]
+    while place < len(arguments) and arguments[place].startswith("-") and arguments[place] != "-":
+        if arguments[place] == "-m":
+            return arguments[:place + 2], arguments[place + 2:]
+        if arguments[place].startswith("-m"):
+            return arguments[:place + 1], arguments[place + 1:]
+        if arguments[place] == "--":
+            return arguments[:place], arguments[place + 1:]
+        place += 2 if arguments[place] in with_value else 1
+    return arguments[:place], arguments[place:]
 
 
 def name_and_folder(script: str) -> tuple:
@@ -83,10 +83,10 @@ def name_and_folder(script: str) -> tuple:
     return os.path.splitext(os.path.basename(script))[0], os.path.dirname(path)
 
 
-def main(words: list) -> None:
-    """Reads the words, opens the files, and becomes the program."""
-    parser = parser_of_words()
-    ours, rest = split_words(words)
+def main(arguments: list) -> None:
+    """Reads the arguments, opens the files, and becomes the program."""
+    parser = parser_of_arguments()
+    ours, rest = split_arguments(arguments)
     known = parser.parse_args(ours)
     if known.module is None and not rest:
         parser.error("a SCRIPT or -m MODULE is needed")

@@ -1,6 +1,6 @@
 """Makes the trace of what `tracing.py` has recorded: declarations, whose types are joined over the run, and then the records.
 
-It runs as a process of its own when the traced program ends, with the settings as its one word.
+It runs as a process of its own when the traced program ends, with the settings as its one argument.
 """
 
 from __future__ import annotations
@@ -584,9 +584,9 @@ class Writer:
         return max(by_point.values(), default=0)
 
 
-def main(words: list) -> int:
+def main(arguments: list) -> int:
     """Writes the trace, and the report where it is asked for."""
-    settings = marshal.loads(bytes.fromhex(words[0]))
+    settings = marshal.loads(bytes.fromhex(arguments[0]))
     os.chdir(settings["start"])
     # the records that are read hold no circles
     gc.disable()

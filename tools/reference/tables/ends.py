@@ -29,9 +29,9 @@ end-state
 CLAIMS = b"=\nP\nx >= 1\n"
 
 
-def cases_of(program: str, words: str, *runs: tuple[str, dict[str, bytes]], judging: str = "lines") -> list[Case]:
-    """Runs with these words over files, which are read in their order, with the last call on each file failing."""
-    whole = [wanted(Case(name, program, tuple(words.split()), files)) for name, files in runs]
+def cases_of(program: str, arguments: str, *runs: tuple[str, dict[str, bytes]], judging: str = "lines") -> list[Case]:
+    """Runs with these arguments over files, which are read in their order, with the last call on each file failing."""
+    whole = [wanted(Case(name, program, tuple(arguments.split()), files)) for name, files in runs]
     return [failing for case in whole for piece in PIECES for failing in last_reads(case, piece, judging)]
 
 

@@ -51,13 +51,13 @@ def changes(state: bytes) -> list[tuple[str, bytes]]:
 def resumed(name: str, state: bytes) -> list[Case]:
     """A run from the state alone, which is refused or saves the same bytes; of one that is taken, a run with samples -5, missing and 9 too,
     which is asked for all that holds, bounds and remainders among it."""
-    words = ("--min-samples", "1", "--keep-implied", "--resume", "s", "--save")
-    alone = wanted(Case(name, "daikon", words, {"s": state}))
+    arguments = ("--min-samples", "1", "--keep-implied", "--resume", "s", "--save")
+    alone = wanted(Case(name, "daikon", arguments, {"s": state}))
     if alone.status != DONE:
         return [alone]
     if alone.texts["state"] != state:
         raise SystemExit(f"{name}: another state is saved")
-    return [alone, wanted(Case(f"{name}, and -5, missing and 9", "daikon", (*words, "t"), {"s": state, "t": MORE}))]
+    return [alone, wanted(Case(f"{name}, and -5, missing and 9", "daikon", (*arguments, "t"), {"s": state, "t": MORE}))]
 
 
 def changed_states() -> list[Case]:

@@ -10,9 +10,9 @@ PIECE = 64
 USED = b"name,price,kept\nbolt,1.25,true\n\"nut, small\",0.50,false\n,-0.75,true\n"
 
 
-def run(name: str, words: str | tuple[str, ...], **files: bytes) -> Case:
+def run(name: str, arguments: str | tuple[str, ...], **files: bytes) -> Case:
     """A run over files; a file's name has `_` in the place of `.`."""
-    split = tuple(words.split()) if isinstance(words, str) else words
+    split = tuple(arguments.split()) if isinstance(arguments, str) else arguments
     return wanted(Case(name, "dk_table", split, {key.replace("_", "."): text for key, text in files.items()}))
 
 
@@ -95,10 +95,10 @@ def rows() -> list[Case]:
     ]
 
 
-def named(name: str, header: bytes, *words: str) -> Case:
+def named(name: str, header: bytes, *arguments: str) -> Case:
     """A table whose names are refused."""
     count = header.count(b",") + 1
-    return run(name, (*words, "t.csv"), t_csv=header + b"\n" + b",".join([b"0.5"] * count) + b"\n")
+    return run(name, (*arguments, "t.csv"), t_csv=header + b"\n" + b",".join([b"0.5"] * count) + b"\n")
 
 
 def refusals() -> list[Case]:
@@ -164,8 +164,8 @@ def bad_cells() -> list[Case]:
     ]
 
 
-def words() -> list[Case]:
-    """Words that are refused."""
+def arguments() -> list[Case]:
+    """Arguments that are refused."""
     files = {"t_csv": b"x\n1\n"}
     refused = ("", "--point P", "--separator ab t.csv", "--separator= t.csv --separator ; t.csv", "--separator \" t.csv", "--types 0 t.csv",
                "--types 1099511627777 t.csv", "--types -1 t.csv", "--types t.csv", "--types 1 --types 1 t.csv", "--no-header --no-header t.csv",
@@ -198,7 +198,7 @@ TABLES = {
     "dk_table/rows.cases": ("Rows of tables.", rows),
     "dk_table/refusals.cases": ("Tables that are refused.", refusals),
     "dk_table/bad_cells.cases": ("Cells behind the first rows, by which kinds are found.", bad_cells),
-    "dk_table/words.cases": ("Words that are refused. A read would fail.", words),
+    "dk_table/words.cases": ("Words that are refused. A read would fail.", arguments),
     "dk_table/failing_reads.cases": ("Each read of a table that fails: one call starts a file, and the last one finds its end.", reads),
     "dk_table/failing_writes.cases": ("A write that fails leaves a front of the trace, or of the message.", writes),
 }

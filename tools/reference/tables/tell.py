@@ -18,10 +18,10 @@ KINDS = {"Int": b"int", "Bool": b"boolean", "Hash": b"hashcode", "Str": b"java.l
 MARK = b"=" * 75 + b"\n"
 
 
-def run(name: str, words: str, report: bytes, *traces: bytes) -> Case:
+def run(name: str, arguments: str, report: bytes, *traces: bytes) -> Case:
     """A run over a report `a` and files `t`, `u`."""
     files = {"a": report, **dict(zip("tu", traces))}
-    return wanted(Case(name, "dk_tell", tuple(words.split()), files))
+    return wanted(Case(name, "dk_tell", tuple(arguments.split()), files))
 
 
 def in_formats(name: str, report: bytes, *traces: bytes) -> list[Case]:
@@ -181,14 +181,14 @@ def sections() -> list[Case]:
         + in_formats("no file", section(b"P", b"x >= 1"))
 
 
-# ---------------------------------------------------------------- files and words
+# ---------------------------------------------------------------- files and arguments
 
 RECORD = b"P\nx\n1\n1\n\n"
 REPORT = section(b"P  [4]", b"x >= 1  [4]", b"x <= 7  [3]", b"y == 1")
 
 
 def files() -> list[Case]:
-    """Files and words that are refused."""
+    """Files and arguments that are refused."""
     exits = declared(b"m:::ENTER", (b"x", b"int")) + declared(b"m:::EXIT1", (b"x", b"int")) + b"m:::EXIT1\nx\n7\n1\n\n"
     return [
         run("records behind the declarations", "a t", REPORT, X + RECORD),
@@ -205,8 +205,8 @@ def files() -> list[Case]:
     ]
 
 
-def words() -> list[Case]:
-    """Words that are refused."""
+def arguments() -> list[Case]:
+    """Arguments that are refused."""
     refused = ("", "--format json", "--format xml a", "--format JSON a", "--format= a", "--format a", "--format json --format json a",
                "--ignore-missing-entry --ignore-missing-entry a", "--ignore-missing-entry=1 a", "--min-samples 1 a", "-f json a", "--form json a",
                "--help=1 a", "--colour --help")
@@ -235,7 +235,7 @@ TABLES = {
     "dk_tell/values.cases": ("Strings and numbers in each language.", lambda: strings() + numbers()),
     "dk_tell/sections.cases": ("Sections of a report, in each format.", sections),
     "dk_tell/files.cases": ("Files that are read, and what is refused.", files),
-    "dk_tell/words.cases": ("Words that are refused. A read would fail.", words),
+    "dk_tell/words.cases": ("Words that are refused. A read would fail.", arguments),
     "dk_tell/failing_reads.cases": ("Each read that fails: one call starts a file, and the last one finds its end.", reads),
     "dk_tell/failing_writes.cases": ("A write that fails leaves a front of what is told, or of the message.", writes),
 }

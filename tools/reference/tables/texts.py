@@ -1,4 +1,4 @@
-"""Tables of runs that are asked for a text. It is the constant that the program's source has; what counts is which words ask for it."""
+"""Tables of runs that are asked for a text. It is the constant that the program's source has; what counts is which arguments ask for it."""
 
 from __future__ import annotations
 
@@ -14,17 +14,17 @@ from help_texts import help_text, version_text  # noqa: E402
 WORDS = ("--help", "-h", "--help --colour", "t --help", "--version", "-V", "-V --help")
 
 
-def asked(program: str, words: str) -> Case:
+def asked(program: str, arguments: str) -> Case:
     """A run that asks for help or the version, whichever stands first. A read would fail."""
-    first = next(word for word in words.split() if word in ("--help", "-h", "--version", "-V"))
+    first = next(word for word in arguments.split() if word in ("--help", "-h", "--version", "-V"))
     text = help_text(program) if first in ("--help", "-h") else version_text(program)
-    case = Case(f"asked for a text: {words}", program, tuple(words.split()), {}, {"failing-reads": "1"})
+    case = Case(f"asked for a text: {arguments}", program, tuple(arguments.split()), {}, {"failing-reads": "1"})
     return case.coming_to(0, report=text.encode())
 
 
 def cases_of(program: str) -> list[Case]:
-    """The words that ask for a text."""
-    return [asked(program, words) for words in WORDS]
+    """The arguments that ask for a text."""
+    return [asked(program, arguments) for arguments in WORDS]
 
 
 ABOUT = "Words that ask for a text. No file need be named, and a read would fail."
