@@ -188,8 +188,8 @@ def with_mark(value: Optional[str]) -> str:
 
 
 def record_template(name: str, fields: Iterable[Tuple[str, Optional[str]]]) -> str:
-    """A template of samples for `%`, with the blank line in front: first the nonce is put in, and then what the values ask for. A value is a
-    text, `%d` or `%s` for one that is there, VALUE_WITH_MARK for one that may be missing, or None for one that is."""
+    """A template of samples for `%`, with the blank line in front: first the nonce is put in, and then what the values ask for. A value is
+    a text, `%d` or `%s` for one that is there, VALUE_WITH_MARK for one that may be missing, or None for one that is."""
     parts = ["\n", escape_name(name).replace("%", "%%"), "\nthis_invocation_nonce\n%d\n"]
     for variable, value in fields:
         parts += [escape_name(variable).replace("%", "%%"), "\n"]
@@ -327,11 +327,13 @@ def number_from(least: int, most: int = 1_000_000_000) -> Any:
 
 
 def add_arguments(parser: argparse.ArgumentParser, program: str, names: str, elements: int) -> None:
-    """Adds the arguments that the tracers have in common. `program` is what they call the traced program, `names` what globs are matched with."""
+    """Adds the arguments that the tracers have in common. `program` is what they call the traced program, `names` what globs are matched
+    with."""
     parser.add_argument("--out", metavar="FILE",
                         help="the trace's file (default: %s.dtrace in the current folder)" % program)
     parser.add_argument("--include", metavar="GLOB", action="append", default=[],
-                        help="trace only functions of which a GLOB matches %s, wherever they lie (default: all of the program's own)" % names)
+                        help="trace only functions of which a GLOB matches %s, wherever they lie "
+                             "(default: all of the program's own)" % names)
     parser.add_argument("--exclude", metavar="GLOB", action="append", default=[],
                         help="leave out functions of which a GLOB matches %s (default: none)" % names)
     parser.add_argument("--depth", metavar="N", type=number_from(0, 10), default=1,
@@ -345,8 +347,8 @@ def add_arguments(parser: argparse.ArgumentParser, program: str, names: str, ele
 
 
 def daikon_command(path: str, most_samples: int) -> List[str]:
-    """The command that reports on the trace. A report asks for 5 samples of a line, and for fewer where no point has as many. The program is
-    the one in the folder COBDAWU_PROGRAMS, where that is set, else the one at the top, which is built where that is due."""
+    """The command that reports on the trace. A report asks for 5 samples of a line, and for fewer where no point has as many. The program
+    is the one in the folder COBDAWU_PROGRAMS, where that is set, else the one at the top, which is built where that is due."""
     folder = os.environ.get("COBDAWU_PROGRAMS") or os.path.dirname(os.path.dirname(os.path.abspath(__file__)))
     least = max(1, min(5, most_samples))
     return [os.path.join(folder, "daikon"), "--min-samples", str(least), path]

@@ -97,8 +97,8 @@ class Spool(File):
                 self.lock.release()
 
     def seal(self) -> int:
-        """Puts the pending records into the file, and takes no more. Answers where the records end. A thread that is writing has two seconds
-        to end; one that was interrupted by the handler that calls this never does."""
+        """Puts the pending records into the file, and takes no more. Answers where the records end. A thread that is writing has two
+        seconds to end; one that was interrupted by the handler that calls this never does."""
         self.is_sealed = True
         was_free = self.lock.acquire(timeout=self.SECONDS)
         try:

@@ -122,8 +122,8 @@ def line(language: str, row: int, roles: list[dict[str, str]], state: State) -> 
 
 # ---------------------------------------------------------------- names
 
-C_KEYWORDS = set("""alignas alignof asm auto bool break case char const constexpr continue default do double else enum extern false float for
-goto if inline int long nullptr register restrict return short signed sizeof static static_assert struct switch thread_local true typedef
+C_KEYWORDS = set("""alignas alignof asm auto bool break case char const constexpr continue default do double else enum extern false float
+for goto if inline int long nullptr register restrict return short signed sizeof static static_assert struct switch thread_local true typedef
 typeof typeof_unqual union unsigned void volatile while""".split())
 KEYWORDS = {"Python": set(keyword.kwlist), "C": C_KEYWORDS}
 PYTHON_NAMES = set(re.findall(r"\b[a-z]+\b", " ".join(ROWS["Python"])))

@@ -44,7 +44,8 @@ def broken_streams(program: str, arguments: List[str], files: Dict[str, bytes], 
     done = outcome.status == DONE
     if outcome.report and not outcome.report.endswith(b"\n") and outcome.status not in (WRITE, NO_MEMORY):
         return "report without its last line end"
-    if outcome.report and not done and not any(word.startswith("--every") for word in arguments) and outcome.status not in (WRITE, NO_MEMORY):
+    is_interim = any(word.startswith("--every") for word in arguments)
+    if outcome.report and not done and not is_interim and outcome.status not in (WRITE, NO_MEMORY):
         return "report of status %s" % outcome.status
     if outcome.state != files.get(STATE) and not done:
         return "state changed at status %s" % outcome.status
@@ -68,7 +69,9 @@ def says_refused(program: str, arguments: List[str], files: Dict[str, bytes], me
         return False
     if is_table and name in files:
         return 1 <= line <= files[name].count(b"\n") + files[name].count(b"\r") + 1
-    return line <= files[name].count(b"\n") + 2 if name in files else name in ("turns", "generated", "/dev/stdin") or bool(names_of(arguments))
+    if name in files:
+        return line <= files[name].count(b"\n") + 2
+    return name in ("turns", "generated", "/dev/stdin") or bool(names_of(arguments))
 
 
 def says_usage(program: str, arguments: List[str], files: Dict[str, bytes], messages: bytes) -> bool:

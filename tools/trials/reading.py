@@ -49,7 +49,8 @@ def judge_trace(bench: Bench, trial: Trial) -> Optional[str]:
     if broken is not None or outcome.state is None or trial.program != "daikon" or "--every" in trial.arguments:
         return broken
     # a point may have a file's name
-    arguments = [word for before, word in zip(["", *trial.arguments], trial.arguments) if word not in trial.case.files or before == "--select"]
+    arguments = [word for before, word in zip(["", *trial.arguments], trial.arguments)
+                 if word not in trial.case.files or before == "--select"]
     again = bench.run("daikon", ["--resume", STATE] + arguments)
     part = differing(outcome, again)
     return "resumed alone: " + part if part is not None else None

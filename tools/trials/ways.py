@@ -29,7 +29,8 @@ def some_input(maker: Maker) -> Tuple[str, Case, str]:
     draw = maker.random
     text = trace_of(maker)
     trace = mutated(maker, text) if maker.chance(0.6) else text
-    program = draw.choice(["daikon", "daikon", "dk_split", "dk_check", "dk_merge", "dk_tell", "state", "assertions", "told", "states", "table"])
+    program = draw.choice([
+        "daikon", "daikon", "dk_split", "dk_check", "dk_merge", "dk_tell", "state", "assertions", "told", "states", "table"])
     if program == "state":
         state = changed_state(draw, state_file(history_of(text))) if maker.chance(0.6) else state_file(history_of(text))
         arguments = ["--resume", "s", "--save", "--ignore-missing-entry", "t"]

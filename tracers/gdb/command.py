@@ -160,7 +160,8 @@ def wait_for(program: Optional[int], gdb: int) -> None:
 
 
 def hand_on(number: int, program: Optional[int], gdb: int) -> None:
-    """Sends a signal to the program, or to gdb where there is none yet. When the program has ended, the trace is written, and isn't to be cut."""
+    """Sends a signal to the program, or to gdb where there is none yet. When the program has ended, the trace is written, and isn't to be
+    cut."""
     try:
         os.kill(program or gdb, number)
     except ProcessLookupError:

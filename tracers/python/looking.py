@@ -169,7 +169,8 @@ class Looker:
         if number is None:
             number = self.class_numbers[id(kind)] = len(self.classes)
             module = self.module_name(plain_text(class_module(kind)))
-            self.classes.append(plain_text(class_qualname(kind)) if module == "builtins" else module + "." + plain_text(class_qualname(kind)))
+            name = plain_text(class_qualname(kind))
+            self.classes.append(name if module == "builtins" else module + "." + name)
             self.kept.append(kind)
         return number
 
@@ -295,7 +296,8 @@ class Looker:
 
         return encode
 
-    def sequence(self, kind: type, length_of: Callable[[Any], int], items_of: Callable[[Any, slice], Any], fields: Encoder | None) -> Encoder:
+    def sequence(self, kind: type, length_of: Callable[[Any], int], items_of: Callable[[Any, slice], Any],
+                 fields: Encoder | None) -> Encoder:
         """Sequences of whole numbers, truth values or strings; containers where elements are others."""
         number = self.class_number(kind)
         unreadable = self.token(("object", number, False))

@@ -1,8 +1,8 @@
 """What a file's functions do with their values: which are compared with each other, and which are lengths, or places in sequences.
 
-A *node* is a variable of a function, or a field of a class's objects, as (OWNER, NAME, FIELD...). The owner of variables is the first line and
-the name of the function, that of fields the name of the class. Nodes whose values are added, compared or assigned to each other are of one
-kind of things; `LENGTH` is one of them.
+A *node* is a variable of a function, or a field of a class's objects, as (OWNER, NAME, FIELD...). The owner of variables is the first line
+and the name of the function, that of fields the name of the class. Nodes whose values are added, compared or assigned to each other are of
+one kind of things; `LENGTH` is one of them.
 """
 
 from __future__ import annotations
@@ -110,8 +110,8 @@ class Reader(ast.NodeVisitor):
     visit_AsyncFunctionDef = visit_Lambda = visit_ClassDef = visit_FunctionDef
 
     def visit_joining(self, node: ast.expr) -> None:
-        """An expression whose parts are of one kind where `nodes` names several: a sum, a choice, an assignment within an expression, a call of
-        `min` and the like."""
+        """An expression whose parts are of one kind where `nodes` names several: a sum, a choice, an assignment within an expression, a
+        call of `min` and the like."""
         self.relations.join(self.nodes(node))
         self.generic_visit(node)
 

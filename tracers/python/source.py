@@ -20,7 +20,8 @@ SCOPES = (*FUNCTIONS, ast.Lambda, ast.ClassDef)
 
 
 class Definition:
-    """A function's definition. `class_name` is that of the class whose objects it is a method of; `returns` has the lines of each `return`."""
+    """A function's definition. `class_name` is that of the class whose objects it is a method of; `returns` has the lines of each
+    `return`."""
 
     def __init__(self, node: ast.AST | None, owner: tuple, qualname: str, class_name: str | None) -> None:
         self.owner = owner
@@ -96,7 +97,8 @@ class Source:
             self.counts.setdefault(key, set()).add(line)
 
     def find(self, line: int, name: str, qualname: str) -> Definition:
-        """The definition that begins at this line and has this name; one that knows the qualified name alone, where the source isn't there."""
+        """The definition that begins at this line and has this name; one that knows the qualified name alone, where the source isn't
+        there."""
         found = self.definitions.get((line, name))
         if found is None:
             found = Definition(None, (line, name), qualname, None)

@@ -129,8 +129,8 @@ def values_there(function: Function, variables: Mapping[str, Any]) -> tuple:
 
 
 def begun_without_signals(function: Any) -> Any:
-    """The function, in whose first instruction no signal is noticed: so its body's `try` sees each exception that a signal's handler raises.
-    Before Python 3.11 a `try` that comes first is entered without a look at signals, too."""
+    """The function, in whose first instruction no signal is noticed: so its body's `try` sees each exception that a signal's handler
+    raises. Before Python 3.11 a `try` that comes first is entered without a look at signals, too."""
     code = bytearray(function.__code__.co_code)
     resume = RESUME.get(sys.version_info[:2])
     for place in range(0, len(code), 2):
@@ -180,7 +180,8 @@ class Tracer:
             path = os.path.realpath(os.path.join(self.settings["start"], name))
             known = self.files[name] = (
                 is_below(path, self.settings["folder"])
-                and not any(is_below(path, library) and not is_below(self.settings["folder"], library) for library in self.settings["library"])
+                and not any(is_below(path, library) and not is_below(self.settings["folder"], library)
+                            for library in self.settings["library"])
                 and "site-packages" not in path and "dist-packages" not in path and os.path.exists(path))
         return known
 
@@ -342,7 +343,8 @@ class Tracer:
         """The exit of the function at this place in its code, which is met for the first time; False where an exception leaves, which
         `sys.setprofile` tells as a return of None, too."""
         is_return = value is not None or self.monitor is not None or function.code.co_code[offset] == RETURN_VALUE
-        place = function.exits[offset] = is_return and self.place(function.code, function.module, lines_before(function.code, offset, frame))
+        lines = lines_before(function.code, offset, frame) if is_return else []
+        place = function.exits[offset] = is_return and self.place(function.code, function.module, lines)
         return place
 
     # ------------------------------------------------------------ events

@@ -172,7 +172,8 @@ class Lister:
     def value(self, seen: Seen, name: str, path: tuple, rep_type: str, var_kind: str) -> Declared:
         """The variable of a value itself."""
         self.kinds.join(self.kinds_of(seen, rep_type))
-        names = sorted({self.classes[description[1]] for description in seen.descriptions if len(description) > 1 and description[0] != "fields"})
+        names = sorted({self.classes[description[1]] for description in seen.descriptions
+                        if len(description) > 1 and description[0] != "fields"})
         dec_type = "|".join(names + ["None"] * seen.was_none())
         return Declared(path, "value", seen, dtrace.Variable(name, rep_type, dec_type, var_kind))
 
@@ -303,7 +304,8 @@ class Program:
 
     # ------------------------------------------------------------ places
 
-    def place(self, module: str, path: str, name: str, qualname: str, line: int, parameters: tuple, starred: list[str], lines: list) -> Place:
+    def place(self, module: str, path: str, name: str, qualname: str, line: int, parameters: tuple, starred: list[str],
+              lines: list) -> Place:
         """The place that the tracer tells of."""
         source = Source.of(path)
         definition = source.find(line, name, qualname)
@@ -320,7 +322,8 @@ class Program:
         return [(name, parser.node()) for name in place.names], parser.place
 
     def root(self, function: Function, name: str) -> Seen:
-        """What was seen of a value of the function. Its class's methods have the object in common, and its module's functions the globals."""
+        """What was seen of a value of the function. Its class's methods have the object in common, and its module's functions the
+        globals."""
         if name == "":
             return self.module_roots.setdefault(function.module, Seen())
         if function.definition.class_name and name == function.parameters[0]:
@@ -475,7 +478,8 @@ SCALARS = ("boolean", "int", "double", "string")
 
 
 def source_of(declared: Declared, node: Node | None) -> tuple:
-    """How a variable's value is made of a record: a text that is always the same, or None; the place of its data; and the function of it."""
+    """How a variable's value is made of a record: a text that is always the same, or None; the place of its data; and the function of
+    it."""
     if node is None or node.kind == "unset":
         return None, 0, None
     if declared.aspect == "is None":
@@ -497,11 +501,13 @@ class Plan:
         found = dict(paths_of((), {each: node for each, node in nodes}))
         sources = [(each.variable.name, *source_of(each, found.get(each.path))) for each in declared]
         self.parts = [(place, function) for _, _, place, function in sources if function]
-        self.template = dtrace.record_template(name, [(each, dtrace.VALUE_WITH_MARK if function else text) for each, text, _, function in sources])
+        values = [(each, dtrace.VALUE_WITH_MARK if function else text) for each, text, _, function in sources]
+        self.template = dtrace.record_template(name, values)
         self.text: Callable[[tuple], str] = self.general_text
         places = [place for place, _ in self.parts]
         if places == list(range(2, width)) and all(function is dtrace.integer for _, function in self.parts):
-            self.text = self.integers_text(dtrace.record_template(name, [(each, "%d" if function else text) for each, text, _, function in sources]))
+            numbers = [(each, "%d" if function else text) for each, text, _, function in sources]
+            self.text = self.integers_text(dtrace.record_template(name, numbers))
 
     def general_text(self, data: tuple) -> str:
         """The text of a record."""

@@ -125,7 +125,8 @@ def parts() -> list[Case]:
         first, rest = b"\n\n".join(blocks[:count]) + b"\n", b"\n\n".join(blocks[count:])
         begun = wanted(Case(f"{what}, saved", "daikon", ("--min-samples", "1", "--save", "t"), {"t": first}))
         state = begun.texts["state"]
-        gone_on = wanted(Case(f"the rest behind {what}", "daikon", ("--min-samples", "1", "--resume", "s", "--save", "u"), {"s": state, "u": rest}))
+        gone_on = wanted(Case(f"the rest behind {what}", "daikon", ("--min-samples", "1", "--resume", "s", "--save", "u"),
+                              {"s": state, "u": rest}))
         found += [begun, gone_on]
     if len({(case.texts["report"], case.texts["state"]) for case in found[1::2]}) != 1:
         raise SystemExit("a run in parts comes to something else")
@@ -146,5 +147,6 @@ TABLES = {
     "daikon/changed_states.cases": ("States in which a line or a number is changed: each is refused, or saved again with the same bytes.",
                                     changed_states),
     "daikon/third_samples.cases": ("What is kept after a second and a third sample.", third_samples),
-    "daikon/samples.cases": ("What is kept of runs of samples, in which variables agree, are missing, or end to be constants.", runs_of_samples),
+    "daikon/samples.cases": (
+        "What is kept of runs of samples, in which variables agree, are missing, or end to be constants.", runs_of_samples),
 }

@@ -107,8 +107,8 @@ def rows() -> list[Case]:
 
 def names() -> list[Case]:
     """Names that a language says otherwise, or can't say."""
-    odd = (b"this", b"this.x", b"this.list->size", b"list->size", b"return", b"class", b"len", b"register", b"dk_x", b"x.class", b"x.register",
-           b"a\\_b", b"x-y", b"9x", b"x|y", b"x\\\\y", b"\xff", "ü".encode(), b'"q"', b"x?y", b"x\x07y", b"_", b"x.", b"x..y", b"x->")
+    odd = (b"this", b"this.x", b"this.list->size", b"list->size", b"return", b"class", b"len", b"register", b"dk_x", b"x.class",
+           b"x.register", b"a\\_b", b"x-y", b"9x", b"x|y", b"x\\\\y", b"\xff", "ü".encode(), b'"q"', b"x?y", b"x\x07y", b"_", b"x.", b"x..y", b"x->")
     shown = [name.replace(b"\\_", b" ").replace(b"\\\\", b"\\") for name in odd]
     trace = declared(b"P.m", *[(name, b"int") for name in odd])
     clash = declared(b"Q", (b"result", b"int"), (b"return", b"int"), (b"x", b"int"), (b"self", b"int"), (b"this.y", b"int"))
@@ -137,8 +137,8 @@ def calls() -> list[Case]:
 
 def strings() -> list[Case]:
     """Strings that a language reads as a trace does, and ones that it doesn't."""
-    texts = (b'"a"', b'""', b'"\\n\\r\\t\\"\\\\"', b'"\\033"', b'"\\177"', b'"\\200"', b'"\\x"', b'"\\0"', b'"??="', b'"\ttab"', b'"\x07"', b'"\x7f"',
-             b'"\xff"', "\"ü\"".encode(), b"null", b'"null"')
+    texts = (b'"a"', b'""', b'"\\n\\r\\t\\"\\\\"', b'"\\033"', b'"\\177"', b'"\\200"', b'"\\x"', b'"\\0"', b'"??="', b'"\ttab"', b'"\x07"',
+             b'"\x7f"', b'"\xff"', "\"ü\"".encode(), b"null", b'"null"')
     lines = [b"s == " + text for text in texts] + [b't one of { "a", "b", null }', b'q[..] elements one of { "?", "\xff" }']
     variables = ((b"s", KINDS["Str"]), (b"t", KINDS["Str"]), (b"q[..]", KINDS["Str"] + b"[]"))
     return in_formats("strings", section(b"P", *lines), declared(b"P", *variables))
@@ -163,13 +163,16 @@ def sections() -> list[Case]:
     """What of a report is a section and a line."""
     odd_points = b"".join(declared(name, (b"x", b"int")) for name in (b"a\\_b|c", b'C.m(int):::EXIT"1"', b"\xff\\\\"))
     reports = (
-        ("no bytes", b""), ("a blank line", b" \t\n"), ("a heading alone", section(b"P  [4]")), ("a heading without a number", section(b"P")),
+        ("no bytes", b""), ("a blank line", b" \t\n"), ("a heading alone", section(b"P  [4]")),
+        ("a heading without a number", section(b"P")),
         ("lines above the first heading", b"x >= 1  [2]\n" + section(b"P", b"x >= 2")),
         ("two headings of one name", section(b"P  [2]", b"x >= 1") + section(b"P  [3]", b"x >= 2")),
         ("a point that isn't declared", section(b"Q", b"x >= 1  [2]")),
         ("texts that no invariant has", section(b"P", b"x >= 01", b"x>=1", b"y >= 1", b"x >= 1 ", b" x >= 1", b'say "what"?', b"\x07\xff")),
-        ("counts", section(b"P  [00012]", b"x >= 1  [99999999999999999999999]", b"x >= 2 [3]", b"x >= 3  [3]  [4]", b"x >= 4  []", b"x >= 5  [-1]")),
-        ("lines that are passed over", b"--- after 2 blocks\n" + section(b"P", b"x >= 1", b"stats P: samples 1", b"--- end after 3 blocks")),
+        ("counts", section(b"P  [00012]", b"x >= 1  [99999999999999999999999]", b"x >= 2 [3]", b"x >= 3  [3]  [4]", b"x >= 4  []",
+                           b"x >= 5  [-1]")),
+        ("lines that are passed over",
+         b"--- after 2 blocks\n" + section(b"P", b"x >= 1", b"stats P: samples 1", b"--- end after 3 blocks")),
         ("lines of = in a row", MARK + b"=\n" + b"P\nx >= 1\n=\n\n \nP  [1]\nx >= 2\n=\n"),
         ("CR LF", section(b"P  [4]", b"x >= 1  [4]").replace(b"\n", b"\r\n")),
         ("without the last line end", section(b"P  [4]", b"x >= 1  [4]")[:-1]),
@@ -208,8 +211,8 @@ def files() -> list[Case]:
 def arguments() -> list[Case]:
     """Arguments that are refused."""
     refused = ("", "--format json", "--format xml a", "--format JSON a", "--format= a", "--format a", "--format json --format json a",
-               "--ignore-missing-entry --ignore-missing-entry a", "--ignore-missing-entry=1 a", "--min-samples 1 a", "-f json a", "--form json a",
-               "--help=1 a", "--colour --help")
+               "--ignore-missing-entry --ignore-missing-entry a", "--ignore-missing-entry=1 a", "--min-samples 1 a", "-f json a",
+               "--form json a", "--help=1 a", "--colour --help")
     cases = [run(f"refused: {text or 'no words'}", text, REPORT) for text in refused]
     return [replace(case, keys={"failing-reads": "1"}) for case in cases]
 
