@@ -27,8 +27,10 @@ def constant(program: str, name: str) -> str:
 
 
 def help_text(program: str) -> str:
+    """The help text of a program."""
     return constant(program, "HELP_TEXT")
 
 
 def version_text(program: str) -> str:
+    """What a program says of its version."""
     return constant(program, "VERSION_TEXT")

@@ -13,20 +13,24 @@ ODD_BYTES = [b" ", b"\t", b"\r", b"\\", b'"', b"[", b"]", b"0", b"-", b"\xff", b
 
 
 def delete_line(random_: Random, lines: list[bytes], at: int) -> None:
+    """Leaves the line out."""
     del lines[at]
 
 
 def double_line(random_: Random, lines: list[bytes], at: int) -> None:
+    """Has the line twice."""
     lines.insert(at, lines[at])
 
 
 def odd_byte(random_: Random, lines: list[bytes], at: int) -> None:
+    """Puts a byte in, or in the place of one."""
     k = random_.randint(0, len(lines[at]))
     keep = k if random_.random() < 0.5 else k + 1
     lines[at] = lines[at][:k] + random_.choice(ODD_BYTES) + lines[at][keep:]
 
 
 def delete_byte(random_: Random, lines: list[bytes], at: int) -> None:
+    """Leaves a byte out."""
     k = random_.randint(0, len(lines[at]))
     lines[at] = lines[at][:k] + lines[at][k + 1:]
 
@@ -80,28 +84,33 @@ def line_with(random_: Random, lines: list[bytes], word: bytes) -> int | None:
 
 
 def exchange_with_next(random_: Random, lines: list[bytes], at: int) -> None:
+    """Exchanges the line with the next one."""
     lines[at:at + 2] = lines[at:at + 2][::-1]
 
 
 def blank_added(random_: Random, lines: list[bytes], at: int) -> None:
+    """Puts a blank, a tab or a carriage return in."""
     places = [0, len(lines[at])] + [k for k, byte in enumerate(lines[at]) if byte == ord(" ")]
     place = random_.choice(places)
     lines[at] = lines[at][:place] + random_.choice([b" ", b" ", b"\t", b"\r"]) + lines[at][place:]
 
 
 def field_removed(random_: Random, lines: list[bytes], at: int) -> None:
+    """Leaves a field out."""
     fields = lines[at].split(b" ")
     del fields[random_.randrange(len(fields))]
     lines[at] = b" ".join(fields)
 
 
 def field_doubled(random_: Random, lines: list[bytes], at: int) -> None:
+    """Has a field twice."""
     fields = lines[at].split(b" ")
     fields.insert(random_.randrange(len(fields)), random_.choice(fields))
     lines[at] = b" ".join(fields)
 
 
 def version_changed(random_: Random, lines: list[bytes], at: int) -> None:
+    """Puts another version into the first line."""
     lines[0] = b"daikon-state " + random_.choice([b"0", b"1", b"2", b"3", b"01", b"", b"-1"])
 
 
@@ -115,6 +124,7 @@ LIMITS_OF_NUMBERS = {
 
 
 def number_instead(random_: Random, lines: list[bytes], at: int, number_of: Callable[[int], int]) -> None:
+    """Puts another number in the place of one of the line's."""
     places = list(re.finditer(rb"-?[0-9]+", lines[at]))
     if places:
         place = random_.choice(places)
@@ -123,18 +133,22 @@ def number_instead(random_: Random, lines: list[bytes], at: int, number_of: Call
 
 
 def number_by_one(random_: Random, lines: list[bytes], at: int) -> None:
+    """Makes a number one more or less."""
     number_instead(random_, lines, at, lambda number: number + random_.choice([-1, 1]))
 
 
 def number_to_zero(random_: Random, lines: list[bytes], at: int) -> None:
+    """Makes a number 0."""
     number_instead(random_, lines, at, lambda number: 0)
 
 
 def small_number(random_: Random, lines: list[bytes], at: int) -> None:
+    """Puts a small number in the place of one."""
     number_instead(random_, lines, at, lambda number: random_.randint(-3, 9))
 
 
 def number_to_limit(random_: Random, lines: list[bytes], at: int) -> None:
+    """Puts a number at or beside a limit in the place of one."""
     powers = LIMITS_OF_NUMBERS.get(word_of(lines[at]), [31, 32, 63, 64, 127, 128])
     limit = random_.choice([1, -1]) * 2 ** random_.choice(powers) + random_.choice([-1, 0, 1])
     number_instead(random_, lines, at, lambda number: limit)
@@ -143,6 +157,7 @@ def number_to_limit(random_: Random, lines: list[bytes], at: int) -> None:
 # ---------------------------------------------------------------- declarations in states
 
 def tab_in_name(random_: Random, lines: list[bytes], at: int) -> None:
+    """Puts a tab, a carriage return or an escape into a name."""
     place = line_with(random_, lines, random_.choice([b"point", b"edge", b"var", b"mapped"]))
     if place is not None:
         fields = lines[place].split(b" ")
@@ -171,6 +186,7 @@ def constant_changed(random_: Random, lines: list[bytes], at: int) -> None:
 
 
 def mapped_added(random_: Random, lines: list[bytes], at: int) -> None:
+    """Adds a line of a parent's variable."""
     place = line_with(random_, lines, b"var")
     if place is not None:
         name = random_.choice([lines[place].split(b" ")[-1], b"z", b"a\tb", b"\\_", b"a b"])
@@ -180,6 +196,7 @@ def mapped_added(random_: Random, lines: list[bytes], at: int) -> None:
 
 
 def edge_added(random_: Random, lines: list[bytes], at: int) -> None:
+    """Adds an edge to a point."""
     place = line_with(random_, lines, b"point")
     if place is not None:
         name = random_.choice([b"P", b"Q", b"M:::EXIT", b"nowhere", b"a\tb", b"a\\_b", b""])
@@ -198,6 +215,7 @@ def part_of_samples(random_: Random, lines: list[bytes]) -> tuple[int, int] | No
 
 
 def lines_in(lines: list[bytes], part: tuple[int, int], word: bytes) -> list[int]:
+    """The places of the part's lines with this first word."""
     return [k for k in range(*part) if lines[k].startswith(word + b" ")]
 
 
@@ -212,6 +230,7 @@ def samples_moved(random_: Random, lines: list[bytes], at: int) -> None:
 
 
 def bit_flipped(random_: Random, lines: list[bytes], at: int) -> None:
+    """Puts another bit into a pattern."""
     patterns = [k for k, line in enumerate(lines) if re.fullmatch(rb"pattern [0-9]+ [01]+", line)]
     if patterns:
         place = random_.choice(patterns)
@@ -267,12 +286,14 @@ def classes_joined(random_: Random, lines: list[bytes], at: int) -> None:
 
 
 def known_left_out(random_: Random, lines: list[bytes], at: int) -> None:
+    """Leaves a constant leader out."""
     place = line_with(random_, lines, b"known")
     if place is not None:
         del lines[place]
 
 
 def other_known(random_: Random, lines: list[bytes], at: int) -> None:
+    """Gives a constant leader another value."""
     place = line_with(random_, lines, b"known")
     if place is not None:
         lines[place] = b" ".join(lines[place].split(b" ")[:2] + [random_.choice(VALUES)])
@@ -292,6 +313,7 @@ def known_added(random_: Random, lines: list[bytes], at: int) -> None:
 
 
 def is_slot_over(line: bytes, leader: bytes) -> bool:
+    """Whether the line is that of a slot over the leader."""
     fields = line.split(b" ")
     return fields[0] == b"slot" and leader in fields[2:5]
 
@@ -353,6 +375,7 @@ def some_slot(random_: Random, lines: list[bytes]) -> int | None:
 
 
 def slot_line(random_: Random, row: int, leaders: list[int]) -> bytes:
+    """The line of a slot, with some state."""
     numbers = b"".join(b" %d" % number for number in [row] + leaders)
     return b"slot" + numbers + b" " + state_for(random_, row)
 
@@ -389,6 +412,7 @@ def slot_added(random_: Random, lines: list[bytes], at: int) -> None:
 
 
 def slot_left_out(random_: Random, lines: list[bytes], at: int) -> None:
+    """Leaves a slot out."""
     place = some_slot(random_, lines)
     if place is not None:
         del lines[place]

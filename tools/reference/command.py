@@ -31,6 +31,7 @@ class Ended(Exception):
 
 @dataclass
 class Arguments:
+    """The flags that are given, the values of options, and the FILEs."""
     flags: set[str] = field(default_factory=set)
     values: dict[str, str] = field(default_factory=dict)
     files: list[str] = field(default_factory=list)
@@ -91,11 +92,13 @@ def demand_text(word: str) -> None:
 # ---------------------------------------------------------------- files
 
 def refused(name: str, fault: Fault) -> Ended:
+    """A refusal of a file, as the run ends with it."""
     place = b"daikon: %s:%d: " % (os.fsencode(name), fault.line)
     return Ended(REFUSED, place + b"%d %s\n" % (fault.why, WHY[fault.why].encode()))
 
 
 def bytes_of_file(folder: str, name: str) -> bytes:
+    """What the file has; the run ends where it can't be read."""
     try:
         with open(os.path.join(folder, name) if name else name, "rb") as file:
             return file.read()
@@ -171,9 +174,11 @@ class HostSinks:
     one."""
 
     def report(self, text: bytes) -> None:
+        """Writes to standard output."""
         self.write(1, text)
 
     def message(self, text: bytes) -> None:
+        """Writes to standard error."""
         self.write(2, text)
 
     def state(self, text: bytes) -> None:
@@ -191,6 +196,7 @@ class HostSinks:
 
     @staticmethod
     def write(stream: int, text: bytes) -> None:
+        """Writes all of the text to a stream."""
         try:
             while text:
                 text = text[os.write(stream, text):]
@@ -212,6 +218,7 @@ def status_of_run(run: Callable[[list[str], Sinks, str], None], arguments: list[
 
 
 def host_status(status_of: Callable[[list[str], Sinks, str], int], arguments: list[str]) -> int:
+    """The status of a run on this machine."""
     try:
         return status_of(arguments, HostSinks(), "")
     except Ended as ended:

@@ -35,6 +35,7 @@ WITH_VALUE = ["--min-samples", "--every", "--select", "--resume", "--generate"]
 
 @dataclass
 class Options:
+    """What the arguments ask for."""
     least: int = 5
     every: int | None = None
     prefix: bytes = b""
@@ -49,6 +50,7 @@ class Options:
 
 
 def options_of(arguments: list[str]) -> Options:
+    """What the arguments ask for."""
     found = arguments_of_command(arguments, FLAGS, WITH_VALUE)
     values = found.values
     options = Options(files=found.files, least=least_number(values))
@@ -102,6 +104,7 @@ class Run:
             self.sinks.state(state_file(self.reader.history))
 
     def resume(self, name: str) -> None:
+        """Begins with the history of a state file."""
         data = bytes_of_file(self.folder, name)
         if len(data) > TOTAL_LIMIT:
             raise refused(name, Fault(17, 0))
@@ -112,21 +115,25 @@ class Run:
         self.reader = Reader(history, self.options.ignore_missing_entry, len(data))
 
     def read_file(self, name: str, data: bytes) -> None:
+        """Reads a file, with the interim reports that fall due."""
         for _ in self.reader.read(name, data):
             self.blocks += 1
             self.periodic_report()
 
     def periodic_report(self) -> None:
+        """Writes an interim report where one is due."""
         if self.options.every is not None and self.blocks % self.options.every == 0:
             self.sinks.report(b"--- after %d blocks\n" % self.blocks)
             self.sinks.report(self.report())
 
     def last_report(self) -> None:
+        """Writes the last report."""
         if self.options.every is not None:
             self.sinks.report(b"--- end after %d blocks\n" % self.blocks)
         self.sinks.report(self.report())
 
     def report(self) -> bytes:
+        """The report of what was read so far."""
         options = self.options
         if "bounds" in options.cuts:
             return bounds_report(self.reader.history)
@@ -138,12 +145,14 @@ CUTS = {"one-file", "bounds", "first-grammar", "first-form"}
 
 
 def cuts_and_arguments(arguments: list[str]) -> tuple[tuple[str, ...], list[str]]:
+    """The cuts of an earlier stage, and the other arguments."""
     if len(arguments) >= 2 and arguments[0] == "--stage" and set(arguments[1].split(",")) <= CUTS:
         return tuple(arguments[1].split(",")), arguments[2:]
     return (), arguments
 
 
 def status_of(arguments: list[str], sinks: Sinks, folder: str) -> int:
+    """Runs the program; its status."""
     cuts, arguments = cuts_and_arguments(arguments)
     one_file = "one-file" in cuts or "bounds" in cuts
 

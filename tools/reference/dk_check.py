@@ -79,6 +79,7 @@ def numbers_in(pattern: bytes, text: bytes) -> list[Any]:
 
 
 def after_subject(number: int, names: list[bytes], text: bytes) -> bytes:
+    """What stands after the names that the row's text begins with."""
     subject = names[0] + (b" elements" if number in (35, 47) else b"")
     return text[len(subject):]
 
@@ -99,6 +100,7 @@ def equations(names: list[bytes], text: bytes) -> list[tuple[int, ...]]:
 
 
 def signed(sign: bytes | None, size: bytes | int) -> int:
+    """A size with its sign."""
     return -int(size) if sign == b"-" else int(size)
 
 
@@ -146,6 +148,7 @@ def verdict(history: History, arrivals: dict[int, list[Arrival]], line: Assertio
 
 
 def run(arguments: list[str], sinks: Sinks, folder: str) -> None:
+    """Runs the program on the arguments."""
     found = arguments_of_command(arguments, ["--ignore-missing-entry"], [])
     if not found.files:
         raise Usage
@@ -165,6 +168,7 @@ def run(arguments: list[str], sinks: Sinks, folder: str) -> None:
 
 
 def status_of(arguments: list[str], sinks: Sinks, folder: str) -> int:
+    """Runs the program; its status."""
     return status_of_run(run, arguments, sinks, folder, USAGE)
 
 

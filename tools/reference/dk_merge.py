@@ -54,6 +54,7 @@ def merged(name: str, a: bytes, b: bytes) -> bytes:
 
 
 def is_spelling(data: bytes) -> bool:
+    """Whether the bytes are a state file."""
     try:
         load(data)
     except BadState:
@@ -72,6 +73,7 @@ def merged_history(names: list[str], folder: str) -> History:
 
 
 def files_of(names: list[str], folder: str) -> Iterator[tuple[str, bytes]]:
+    """The files' names and bytes, within the limit of all together."""
     size = 0
     for name in names:
         data = bytes_of_file(folder, name)
@@ -122,6 +124,7 @@ def turns(n: int, files: list[bytes]) -> bytes:
 
 
 def history_in_turns(n: int, names: list[str], folder: str) -> History:
+    """The history of the files that are read in turns."""
     history = History()
     text = turns(n, [data for _, data in files_of(names, folder)])
     for _ in Reader(history, False).read("turns", text):
@@ -130,6 +133,7 @@ def history_in_turns(n: int, names: list[str], folder: str) -> History:
 
 
 def run(arguments: list[str], sinks: Sinks, folder: str) -> None:
+    """Runs the program on the arguments."""
     found = arguments_of_command(arguments, [], ["--min-samples", "--turns"])
     least = least_number(found.values)
     if not found.files:
@@ -144,6 +148,7 @@ def run(arguments: list[str], sinks: Sinks, folder: str) -> None:
 
 
 def status_of(arguments: list[str], sinks: Sinks, folder: str) -> int:
+    """Runs the program; its status."""
     return status_of_run(run, arguments, sinks, folder, USAGE)
 
 

@@ -25,10 +25,12 @@ class OneList:
         self.table = Table()
 
     def of(self, point: Point) -> Samples:
+        """The samples, whatever the point is."""
         return self.samples
 
 
 def samples_of(point: Point, samples: list[Sample], grammar: int) -> Samples:
+    """The samples of a point as a whole."""
     return Samples(point.variables, grammar, Counter(samples), [])
 
 
@@ -65,6 +67,7 @@ def held(facts: PointFacts, whole: Samples, b: int) -> Iterator[tuple[int, Place
 
 
 def section(point: Point, samples: list[Sample], grammar: int, least: int) -> bytes:
+    """The section of a point."""
     text = heading(point, len(samples))
     for b, value, instance, count in implications(point, samples, grammar, least):
         truth = b"true" if value else b"false"
@@ -73,6 +76,7 @@ def section(point: Point, samples: list[Sample], grammar: int, least: int) -> by
 
 
 def run(arguments: list[str], sinks: Sinks, folder: str) -> None:
+    """Runs the program on the arguments."""
     found = arguments_of_command(arguments, ["--ignore-missing-entry"], ["--min-samples"])
     least = least_number(found.values)
     history = History()
@@ -87,6 +91,7 @@ def run(arguments: list[str], sinks: Sinks, folder: str) -> None:
 
 
 def status_of(arguments: list[str], sinks: Sinks, folder: str) -> int:
+    """Runs the program; its status."""
     return status_of_run(run, arguments, sinks, folder, USAGE)
 
 

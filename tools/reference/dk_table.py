@@ -32,6 +32,7 @@ PlacedRow = Tuple[str, int, "list[str]"]
 
 
 def refused(name: str, row: int, why: int) -> Ended:
+    """A refusal of a row, as the run ends with it."""
     text = f"daikon: {name}: row {row}: {why} {WHY[why]}\n"
     return Ended(REFUSED, os.fsencode(text))
 
@@ -73,10 +74,12 @@ def table_of(files: list[tuple[str, bytes]], separator: str, has_header: bool) -
 # ---------------------------------------------------------------- columns
 
 def within(number: int) -> bool:
+    """Whether the number has at most 64 bits."""
     return -1 << 63 <= number < 1 << 63
 
 
 def whole(cell: str) -> int | None:
+    """The whole number that a cell writes, if it does."""
     return int(cell) if re.fullmatch(WHOLE, cell) and within(int(cell)) else None
 
 
@@ -98,6 +101,7 @@ def value_text(kind: Kind, cell: str) -> str | None:
 
 
 def kind_of(cells: list[str]) -> Kind:
+    """The first kind of which each cell that isn't empty writes a value."""
     known = [cell for cell in cells if cell]
     kinds = [("whole", None)] + [("truth", it) for it in SPELLINGS] + [("decimal", k) for k in range(1, 19)]
     for kind in kinds if known else []:
@@ -110,20 +114,24 @@ REP = {"whole": "int", "truth": "boolean", "decimal": "int", "text": "java.lang.
 
 
 def variable(name: str, kind: Kind) -> str:
+    """The name of a column's variable."""
     return f"{name} * 1{'0' * kind[1]}" if kind[0] == "decimal" else name
 
 
 # ---------------------------------------------------------------- the trace
 
 def spelled(name: str) -> str:
+    """A name as declarations spell it."""
     return name.replace("\\", "\\\\").replace(" ", "\\_")
 
 
 def is_told(name: str) -> bool:
+    """Whether a trace can tell the name."""
     return bool(name) and "\n" not in name and name[0] != "\t" and name[-1] not in "\t\r"
 
 
 def trace(point: str, names: list[str], kinds: list[Kind], rows: list[PlacedRow]) -> str:
+    """The whole trace."""
     variables = [variable(*it) for it in zip(names, kinds)]
     lines = [HEADER, f"ppt {spelled(point)}\n"]
     for name, kind in zip(variables, kinds):
@@ -150,6 +158,7 @@ class Options:
 
 
 def options_of(arguments: list[str]) -> Options:
+    """What the arguments ask for."""
     found = arguments_of_command(arguments, FLAGS, WITH_VALUE)
     separator = found.values.get("--separator", ",")
     if not found.files or len(os.fsencode(separator)) != 1 or separator in '"\n\r':
@@ -159,6 +168,7 @@ def options_of(arguments: list[str]) -> Options:
 
 
 def run(arguments: list[str], sinks: Sinks, folder: str) -> None:
+    """Runs the program on the arguments."""
     found = options_of(arguments)
     files = [(name, bytes_of_file(folder, name)) for name in found.files]
     names, rows = table_of(files, found.separator, found.has_header)
@@ -175,6 +185,7 @@ def run(arguments: list[str], sinks: Sinks, folder: str) -> None:
 
 
 def status_of(arguments: list[str], sinks: Sinks, folder: str) -> int:
+    """Runs the program; its status."""
     return status_of_run(run, arguments, sinks, folder, USAGE)
 
 

@@ -129,6 +129,7 @@ def options_of(arguments: list[str]) -> tuple[Arguments, str]:
 
 
 def run(arguments: list[str], sinks: Sinks, folder: str) -> None:
+    """Runs the program on the arguments."""
     found, form = options_of(arguments)
     name, *files = found.files
     data = bytes_of_file(folder, name)
@@ -150,6 +151,7 @@ def run(arguments: list[str], sinks: Sinks, folder: str) -> None:
 
 
 def status_of(arguments: list[str], sinks: Sinks, folder: str) -> int:
+    """Runs the program; its status."""
     return status_of_run(run, arguments, sinks, folder, USAGE)
 
 

@@ -12,15 +12,19 @@ PUSH, POP = b"Stack.push(int):::", b"Stack.pop():::"
 
 
 class Draws:
+    """Numbers that follow from a first one."""
+
     def __init__(self, start: int) -> None:
         self.u = start
 
     def draw(self) -> int:
+        """The next number."""
         self.u = (self.u * 6364136223846793005 + 1442695040888963407) % (1 << 64)
         return self.u >> 33
 
 
 def declaration(name: bytes, point_type: bytes, extra: list[bytes]) -> list[bytes]:
+    """The lines of a point's declaration."""
     lines = [b"ppt " + name, b"ppt-type " + point_type]
     to_object = []
     if name != b"Stack:::OBJECT":
@@ -30,6 +34,7 @@ def declaration(name: bytes, point_type: bytes, extra: list[bytes]) -> list[byte
 
 
 def declarations() -> list[list[bytes]]:
+    """The blocks of headers and declarations."""
     return [
         [b"decl-version 2.0", b"var-comparability none"],
         declaration(b"Stack:::OBJECT", b"object", []),
@@ -41,6 +46,7 @@ def declarations() -> list[list[bytes]]:
 
 
 def record(name: bytes, nonce: int, top: int, items: list[int], more: list[tuple[bytes, int]]) -> list[bytes]:
+    """The lines of a sample."""
     lines = [name, b"this_invocation_nonce", b"%d" % nonce]
     listed = b"[" + b" ".join(b"%d" % item for item in items) + b"]"
     values = [(b"this.top", b"%d" % top), (b"this.items[..]", listed)]
@@ -50,6 +56,7 @@ def record(name: bytes, nonce: int, top: int, items: list[int], more: list[tuple
 
 
 def generated(start: int) -> bytes:
+    """The whole text, of draws from this number on."""
     draws = Draws(start)
     blocks = declarations()
     top = -1

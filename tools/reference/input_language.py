@@ -102,12 +102,14 @@ class Block:
     cut: Fault | None = None
 
     def each_line(self) -> Iterator[NumberedLine]:
+        """The lines; the fault comes after them."""
         yield from self.lines
         if self.cut is not None:
             raise self.cut
 
 
 def blocks_of(lines: list[NumberedLine], cut: Fault | None) -> list[Block]:
+    """The blocks of a file."""
     blocks = []
     current = []
     for number, line in lines:
@@ -122,6 +124,7 @@ def blocks_of(lines: list[NumberedLine], cut: Fault | None) -> list[Block]:
 
 
 def words_of(line: bytes) -> list[bytes]:
+    """The words between blanks and tabs."""
     return [word for word in re.split(rb"[ \t]+", line) if word]
 
 
@@ -139,14 +142,17 @@ def unescape(text: bytes) -> bytes:
 
 
 def escape(name: bytes) -> bytes:
+    """A name as a state file spells it."""
     return name.replace(b"\\", b"\\\\").replace(b" ", b"\\_")
 
 
 def fits_i64(number: int) -> bool:
+    """Whether the number has 64 bits with a sign."""
     return -(1 << 63) <= number < 1 << 63
 
 
 def fits_u64(number: int) -> bool:
+    """Whether the number has 64 bits without a sign."""
     return 0 <= number < 1 << 64
 
 
@@ -181,6 +187,7 @@ def items_of(text: bytes) -> list[bytes]:
 
 
 def items_between_blanks(inner: bytes) -> list[bytes]:
+    """The items of a sequence's inner text; a string is one item with its blanks."""
     items = []
     at = 0
     while at < len(inner):
@@ -238,6 +245,7 @@ def read_headers(lines: Iterator[NumberedLine], history: History) -> tuple[bool,
 
 
 def set_comparability(history: History, word: bytes, number: int) -> None:
+    """Takes the word of comparability."""
     if word not in (b"none", b"implicit"):
         raise Fault(2, number)
     history.implicit = word == b"implicit"
@@ -316,6 +324,7 @@ def read_ppt_block(number: int, rest: bytes, lines: Iterator[NumberedLine], impl
 
 
 def point_line(declaration: Declaration, at: int, word: bytes, text: bytes) -> None:
+    """Reads a line of a declaration before its first variable."""
     words = words_of(text)
     if word == b"ppt-type":
         if len(words) != 1 or words[0].lower() not in POINT_TYPES:
@@ -331,6 +340,7 @@ def point_line(declaration: Declaration, at: int, word: bytes, text: bytes) -> N
 
 
 def begin_variable(declaration: Declaration, at: int, text: bytes) -> OpenVariable:
+    """The variable that a `variable` line begins."""
     name = unescape(text)
     if name == b"" or any(variable.name == name for variable in declaration.variables):
         raise Fault(4, at)
@@ -338,6 +348,7 @@ def begin_variable(declaration: Declaration, at: int, text: bytes) -> OpenVariab
 
 
 def variable_line(declaration: Declaration, opened: OpenVariable, at: int, word: bytes, text: bytes, implicit: bool) -> None:
+    """Reads a line of a variable."""
     variable = opened.variable
     words = words_of(text)
     if word == b"rep-type":
@@ -474,6 +485,7 @@ def read_record(number: int, line: bytes, lines: Iterator[NumberedLine], table: 
 
 
 def needed(lines: Iterator[NumberedLine], end: int) -> NumberedLine:
+    """The next line, which must be there."""
     line = next(lines, None)
     if line is None:
         raise Fault(12, end)
@@ -481,6 +493,7 @@ def needed(lines: Iterator[NumberedLine], end: int) -> NumberedLine:
 
 
 def read_nonce(line: NumberedLine) -> int:
+    """The nonce of a line."""
     at, text = line
     if not DECIMAL.fullmatch(text) or not fits_i64(int(text)):
         raise Fault(8, at)

@@ -39,6 +39,7 @@ class VarInfo:
     orig: bool
 
     def is_base(self) -> bool:
+        """Whether the variable isn't derived."""
         return self.form[0] in ("declared", "orig")
 
 
@@ -57,6 +58,7 @@ class Edge:
 
 @dataclass(eq=False)
 class Point:
+    """A point of the table."""
     index: int
     name: bytes
     declaration: Declaration | None
@@ -65,6 +67,7 @@ class Point:
     edges: list[Edge]
 
     def base(self) -> list[VarInfo]:
+        """The point's variables that aren't derived."""
         return [variable for variable in self.variables if variable.is_base()]
 
 
@@ -80,14 +83,17 @@ def beside(name: bytes, tag: bytes) -> bytes:
 
 
 def is_entry(name: bytes) -> bool:
+    """Whether it is the name of an entry."""
     return method_and_tag(name)[1] == b"ENTER"
 
 
 def is_combined_exit(name: bytes) -> bool:
+    """Whether it is the name of an exit that all numbered ones have in common."""
     return method_and_tag(name)[1] == b"EXIT"
 
 
 def is_subexit(name: bytes) -> bool:
+    """Whether it is the name of a numbered exit."""
     tag = method_and_tag(name)[1]
     return tag is not None and re.fullmatch(rb"EXIT[0-9]+", tag) is not None
 
@@ -101,6 +107,7 @@ class Table:
         self.by_name: dict[bytes, Point] = {}
 
     def find(self, name: bytes) -> Point | None:
+        """The point of this name, if there is one."""
         return self.by_name.get(name)
 
     def declare(self, declaration: Declaration, line: int) -> bool:
@@ -223,6 +230,7 @@ def first_with_line(declaration: Declaration, edge: int, name: bytes) -> Variabl
 
 
 def position_of(point: Point, condition: Callable[[VarInfo], bool]) -> int | None:
+    """The position of the first variable that meets the condition."""
     for position, variable in enumerate(point.variables):
         if condition(variable):
             return position
@@ -247,6 +255,7 @@ def variables_of(declaration: Declaration, entry: Point | None, second_form: boo
 
 
 def number_of_variables(base: list[VarInfo]) -> int:
+    """How many variables there are with the derived ones."""
     total = len(base)
     for orig in (False, True):
         sequences = sum(v.kind in ELEMENT and v.orig == orig for v in base)
@@ -256,6 +265,7 @@ def number_of_variables(base: list[VarInfo]) -> int:
 
 
 def derived_variables(base: list[VarInfo], second_form: bool) -> list[VarInfo]:
+    """The derived variables of these, in their order."""
     found = []
     for s, sequence in enumerate(base):
         if sequence.kind not in ELEMENT:
@@ -317,6 +327,7 @@ def derived_value(form: Form, values: Sequence[Value]) -> Value:
 
 
 def with_derived(variables: list[VarInfo], base_values: list[Value]) -> Sample:
+    """The values of all variables."""
     values = list(base_values)
     for variable in variables[len(base_values):]:
         values.append(derived_value(variable.form, base_values))
@@ -341,6 +352,7 @@ class History:
 
 @dataclass
 class Entry:
+    """An entry that waits for its exit."""
     method: bytes | None
     nonce: int | None
     values: list[Value]
@@ -382,6 +394,7 @@ def effect_of(block: Block, history: History, waiting: list[Entry], ignore_missi
 
 
 def add_record(record: Record, history: History, waiting: list[Entry], ignore_missing_entry: bool) -> None:
+    """Adds what a sample record says."""
     point = record.point
     method = method_and_tag(point.name)[0]
     values = list(record.values)

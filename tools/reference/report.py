@@ -40,12 +40,15 @@ class PointFacts:
         self.parents: list[tuple[Point, list[list[int]]]] | None = None
 
     def drops(self, name: str, number: int, places: Places, state: State) -> bool:
+        """Whether the filter drops the instance."""
         return getattr(self, "is_" + name)(number, places, state)
 
     def is_few(self, number: int, places: Places, state: State) -> bool:
+        """Whether there are too few samples."""
         return self.samples.count(places) < self.least_number
 
     def is_incomparable(self, number: int, places: Places, state: State) -> bool:
+        """Whether the variables can't be compared."""
         return are_incomparable(self.variables, places)
 
     def first_of(self, place: int) -> int:
@@ -56,6 +59,7 @@ class PointFacts:
         return self.firsts[place]
 
     def is_like(self, v: int, w: int) -> bool:
+        """Whether two variables agree and have one comparability pair."""
         return (self.variables[v].comparability == self.variables[w].comparability
                 and self.samples.agree(v, w))
 
@@ -65,11 +69,13 @@ class PointFacts:
                 and places[0] == self.first_of(places[1]))
 
     def is_member(self, number: int, places: Places, state: State) -> bool:
+        """Whether the first variables of those here say the same."""
         if self.is_equality_of_member(number, places):
             return False
         return any(self.first_of(place) != place for place in places)
 
     def is_implied(self, number: int, places: Places, state: State) -> bool:
+        """Whether another instance says the same or more."""
         if is_suppressed(self.samples, number, places):
             return True
         if number in ONE_OF_BESIDE:
@@ -83,6 +89,7 @@ class PointFacts:
         return False
 
     def is_constant(self, number: int, places: Places, state: State) -> bool:
+        """Whether a variable has only one value."""
         if len(places) < 2 or self.is_equality_of_member(number, places):
             return False
         return any(self.has_one_value(place) for place in places)
@@ -110,6 +117,7 @@ class PointFacts:
         return self.parents
 
     def is_parent(self, number: int, places: Places, state: State) -> bool:
+        """Whether the same is said at a parent."""
         for parent, with_partner in self.parents_and_partners():
             for there in product(*[with_partner[place] for place in places]):
                 if (len(set(there)) == len(there)
@@ -145,6 +153,7 @@ def kept_instances(facts: PointFacts, filters_on: Sequence[str]) -> Iterator[tup
 
 
 def heading(point: Point, number: int) -> bytes:
+    """The heading of a point."""
     return b"=" * 75 + b"\n" + b"%s  [%d]\n" % (point.name, capped(number))
 
 
@@ -168,6 +177,7 @@ def stats_line(all_samples: AllSamples, point: Point) -> bytes:
 
 
 def report(history: History, least_number: int, prefix: bytes, filters_on: Sequence[str], with_stats: bool) -> bytes:
+    """The whole report."""
     all_samples = AllSamples(history)
     text = b""
     for point in history.table.points:
@@ -192,6 +202,7 @@ def bounds_report(history: History) -> bytes:
 
 
 def bounds(point: Point, samples: list[Sample], relation: bytes, choose: Callable[[list[int]], int]) -> bytes:
+    """The lines of one bound of the point's variables."""
     text = b""
     for place, variable in enumerate(point.base()):
         numbers = [sample[place] for sample in samples if sample[place] is not None]

@@ -59,16 +59,19 @@ class Row:
 # ---------------------------------------------------------------- states of a list of values
 
 def least(values: Collection[int]) -> State:
+    """The least value."""
     return ("least", min(values)) if values else EMPTY
 
 
 def greatest(values: Collection[int]) -> State:
+    """The greatest value."""
     return ("greatest", max(values)) if values else EMPTY
 
 
 def few_of(word: str, most: int) -> StateOfValues:
     """The distinct values, ascending, if there are at most so many."""
     def state(values: Iterable[Value]) -> State:
+        """The state of a list of values."""
         values = sorted(set(values))
         if not values:
             return EMPTY
@@ -77,7 +80,9 @@ def few_of(word: str, most: int) -> StateOfValues:
 
 
 def single_of(word: str) -> StateOfValues:
+    """The value, if there is only one."""
     def state(values: Iterable[Value]) -> State:
+        """The state of a list of values."""
         values = set(values)
         if not values:
             return EMPTY
@@ -109,15 +114,18 @@ def signed(numbers: Numbers, constant: int) -> Numbers:
 
 
 def line_through(p: Numbers, q: Numbers) -> Numbers:
+    """The equation of the line through two points."""
     a, b = q[1] - p[1], p[0] - q[0]
     return signed((a, b), -(a * p[0] + b * p[1]))
 
 
 def is_on(equation: Numbers, point: Numbers) -> bool:
+    """Whether the point meets the equation."""
     return sum(c * x for c, x in zip(equation, point)) + equation[-1] == 0
 
 
 def linear(points: Iterable[Numbers]) -> State:
+    """The point, or the line that all points are on."""
     points = list(set(points))
     if any(abs(number) > LINEAR_RANGE for point in points for number in point):
         return BROKEN
@@ -128,14 +136,17 @@ def linear(points: Iterable[Numbers]) -> State:
 
 
 def difference(p: Numbers, q: Numbers) -> Numbers:
+    """What leads from one point to another."""
     return tuple(b - a for a, b in zip(p, q))
 
 
 def cross(u: Numbers, v: Numbers) -> Numbers:
+    """The cross product."""
     return (u[1] * v[2] - u[2] * v[1], u[2] * v[0] - u[0] * v[2], u[0] * v[1] - u[1] * v[0])
 
 
 def plane(points: Iterable[Numbers]) -> State:
+    """The ends of a line that all points are on, or the plane that they are on."""
     points = sorted(set(points))
     if any(abs(number) > PLANE_RANGE for point in points for number in point):
         return BROKEN
@@ -154,6 +165,7 @@ def plane(points: Iterable[Numbers]) -> State:
 
 
 def offset(pairs: Tuples) -> State:
+    """The one difference of elements at the same place."""
     if any(len(s) != len(t) for s, t in pairs):
         return BROKEN
     return single_of("offset")([y - x for s, t in pairs for x, y in zip(s, t)])
@@ -162,10 +174,12 @@ def offset(pairs: Tuples) -> State:
 # ---------------------------------------------------------------- relations
 
 def is_product_square(x: int, y: int) -> bool:
+    """Whether x is the square of y."""
     return x == y * y
 
 
 def divides(x: int, y: int) -> bool:
+    """Whether y divides x."""
     return y != 0 and x % y == 0
 
 
@@ -176,42 +190,52 @@ def quotient(x: int, y: int) -> int:
 
 
 def neighbours(relation: Relation) -> Relation:
+    """The relation of each element to the next one."""
     return lambda s: all(relation(a, b) for a, b in zip(s, s[1:]))
 
 
 def each_against(relation: Relation) -> Relation:
+    """The relation of each element to a number."""
     return lambda s, x: all(relation(element, x) for element in s)
 
 
 def elementwise(relation: Relation) -> Relation:
+    """The relation of elements at the same place, in sequences of one length."""
     return lambda s, t: len(s) == len(t) and all(relation(a, b) for a, b in zip(s, t))
 
 
 def equal(x: Value, y: Value) -> bool:
+    """Whether both are the same."""
     return x == y
 
 
 def unequal(x: Value, y: Value) -> bool:
+    """Whether both differ."""
     return x != y
 
 
 def below(x: int, y: int) -> bool:
+    """Whether x is less than y."""
     return x < y
 
 
 def at_most(x: int, y: int) -> bool:
+    """Whether x is not more than y."""
     return x <= y
 
 
 def above(x: int, y: int) -> bool:
+    """Whether x is more than y."""
     return x > y
 
 
 def at_least(x: int, y: int) -> bool:
+    """Whether x is not less than y."""
     return x >= y
 
 
 def is_subset(s: Collection[Value], t: Collection[Value]) -> bool:
+    """Whether each element of s is one of t's."""
     return set(s) <= set(t)
 
 
@@ -227,6 +251,7 @@ def value_text(value: Value) -> bytes:
 
 
 def one_of(subject: bytes, values: Collection[Value]) -> bytes:
+    """The text of a few values."""
     texts = [value_text(value) for value in values]
     if len(texts) == 1:
         return subject + b" == " + texts[0]
@@ -246,23 +271,28 @@ def terms_text(numbers: Numbers, names: Sequence[bytes], constant: int) -> bytes
 
 
 def offset_text(names: Sequence[bytes], k: int) -> bytes:
+    """The text of a difference of elements at the same place."""
     sign = b"+" if k > 0 else b"-"
     return b"%s == %s %s %d (elementwise)" % (names[1], names[0], sign, abs(k))
 
 
 def code_text(subject: bytes, state: State, otherwise: bytes) -> bytes:
+    """The text of a hash code: null is told, another one isn't."""
     return subject + (b" == null" if state[1] == 0 else otherwise)
 
 
 def infix(operator: bytes, ending: bytes = b"") -> TextOfState:
+    """The text with the operator between two names."""
     return lambda names, state: names[0] + operator + names[1] + ending
 
 
 def suffix(ending: bytes) -> TextOfState:
+    """The text with an ending after the name."""
     return lambda names, state: names[0] + ending
 
 
 def function(before: bytes, between: bytes, after: bytes = b"") -> TextOfState:
+    """The text of a function of two names."""
     return lambda names, state: (names[0] + b" == " + before + names[1] + between + names[2]
                                  + after)
 
@@ -274,6 +304,7 @@ ROWS: dict[int, Row] = {}
 
 def row(number: int, takes: Takes, text: TextOfState, relation: Relation | None = None, states: StateOfTuples | None = None,
         words: tuple[str, ...] = (), exchange: Places = ()) -> None:
+    """Adds a row to the table."""
     ROWS[number] = Row(number, takes, exchange, relation, states,
                        ("holds",) if relation else words, text)
 
@@ -293,6 +324,7 @@ INTS, BOOLS, HASHES, STRS = ("IntSeq", ANY), ("BoolSeq", ANY), ("HashSeq", ANY),
 
 
 def base(*takes: tuple[str, str]) -> Takes:
+    """The kinds, of base variables alone."""
     return tuple((kind, BASE) for kind, _ in takes)
 
 
@@ -301,6 +333,7 @@ ARGUMENTS = (1, 2)
 
 
 def scalar_rows() -> None:
+    """Rows of one scalar."""
     row(1, (INT,), lambda n, s: one_of(n[0], s[1]), states=single(few_of("ints", 3)),
         words=("ints",))
     row(2, (INT,), lambda n, s: b"%s >= %d" % (n[0], s[1]), states=single(least), words=("least",))
@@ -320,6 +353,7 @@ def scalar_rows() -> None:
 
 
 def pair_rows() -> None:
+    """Rows of two scalars."""
     row(11, (INT, INT), infix(b" == "), equal, exchange=BOTH)
     row(12, (INT, INT), infix(b" != "), unequal, exchange=BOTH)
     row(13, (INT, INT), infix(b" < "), below)
@@ -337,6 +371,7 @@ def pair_rows() -> None:
 
 
 def triple_rows() -> None:
+    """Rows of three numbers."""
     three = base(INT, INT, INT)
     row(24, three, function(b"", b" + "), lambda z, x, y: z == x + y, exchange=ARGUMENTS)
     row(25, three, function(b"", b" - "), lambda z, x, y: z == x - y)
@@ -356,6 +391,7 @@ def triple_rows() -> None:
 
 
 def sequence_rows() -> None:
+    """Rows of one sequence."""
     row(35, (INTS,), lambda n, s: one_of(n[0] + b" elements", s[1]),
         states=of_elements(few_of("ints", 3)), words=("ints",))
     row(36, (INTS,), lambda n, s: b"%s elements >= %d" % (n[0], s[1]), states=of_elements(least),
@@ -379,6 +415,7 @@ def sequence_rows() -> None:
 
 
 def sequence_pair_rows() -> None:
+    """Rows of a sequence and a scalar, and of two sequences."""
     for number, takes in ((49, (INT, INTS)), (50, (HASH, HASHES)), (51, (STR, STRS))):
         row(number, base(*takes), infix(b" in "), lambda x, s: x in s)
     against = (INTS, ("Int", BASE))
@@ -398,6 +435,7 @@ def sequence_pair_rows() -> None:
 
 
 def second_grammar_rows() -> None:
+    """Rows that the second grammar adds."""
     row(67, base(INT, INT, INT), lambda n, s: terms_text(s[1:4], n, s[4]), states=plane,
         words=("span", "plane"), exchange=(0, 1, 2))
     row(68, base(INTS, INTS), lambda n, s: offset_text(n, s[1]), states=offset,
@@ -410,6 +448,7 @@ for make in (scalar_rows, pair_rows, triple_rows, sequence_rows, sequence_pair_r
 
 
 def rows_of(grammar: int) -> range:
+    """The numbers of the grammar's rows."""
     return range(1, 67 if grammar == 1 else 69)
 
 
@@ -442,6 +481,7 @@ def fits(state: State) -> bool:
 
 
 def text_of(number: int, state: State, names: Sequence[bytes]) -> bytes:
+    """The text of an instance."""
     return ROWS[number].text(names, state)
 
 
@@ -488,6 +528,7 @@ def modulus_values(state: State) -> list[int]:
 
 
 def join_linear(a: State, b: State) -> State:
+    """The state of both lists of pairs, from theirs."""
     if a[0] == "straight" and b[0] == "straight":
         return BROKEN
     if a[0] == "spot" and b[0] == "spot":
@@ -497,6 +538,7 @@ def join_linear(a: State, b: State) -> State:
 
 
 def join_plane(a: State, b: State) -> State:
+    """The state of both lists of triples, from theirs."""
     if a[0] == "plane" and b[0] == "plane":
         return BROKEN
     if a[0] == "span" and b[0] == "span":
@@ -567,10 +609,12 @@ def is_proper(number: int, state: State) -> bool:
 
 
 def is_string(text: bytes) -> bool:
+    """Whether the bytes are a value of strings."""
     return text == b"null" or STRING.fullmatch(text) is not None
 
 
 def is_proper_equation(numbers: Numbers, most: int) -> bool:
+    """Whether the coefficients are those of one spelling, within their limits."""
     coefficients = numbers[:-1]
     if all(number == 0 for number in coefficients):
         return False
@@ -590,18 +634,22 @@ class Answers(Protocol):
 
 
 def fit(number: int, *roles: int) -> Premise:
+    """A premise: the row holds over these roles."""
     return ("holds", number, roles)
 
 
 def least_at_least(role: int, k: int) -> Premise:
+    """A premise: the least value is at least k."""
     return ("least", role, k)
 
 
 def greatest_at_most(role: int, k: int) -> Premise:
+    """A premise: the greatest value is at most k."""
     return ("greatest", role, k)
 
 
 def only(role: int, k: int) -> Premise:
+    """A premise: k is the only value."""
     return ("only", role, k)
 
 

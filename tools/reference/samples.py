@@ -47,18 +47,22 @@ class Compact:
     slots: dict[Slot, State]
 
     def prepare(self) -> None:
+        """Makes what is looked up."""
         self.leader = {place: group[0] for group in self.classes for place in group}
         self.rank = {group[0]: k for k, group in enumerate(self.classes)}
         self.cache: dict[Slot, State] = {}
 
     def is_present(self, bits: Pattern, place: int) -> bool:
+        """Whether the variable is present in samples of this pattern."""
         return bits[self.rank[self.leader[place]]]
 
     def count(self, places: Sequence[int]) -> int:
+        """The number of samples in which none of the variables is missing."""
         return sum(count for bits, count in self.patterns.items()
                    if all(self.is_present(bits, place) for place in places))
 
     def agree(self, v: int, w: int) -> bool:
+        """Whether two variables are of one class."""
         return self.leader[v] == self.leader[w]
 
     def fit(self, number: int, places: Places) -> State:
@@ -71,12 +75,14 @@ class Compact:
         return exchanged(number, self.written_fit(number, written), back)
 
     def written_fit(self, number: int, leaders: Places) -> State:
+        """The state of a row over leaders in written order."""
         key = (number, leaders)
         if key not in self.cache:
             self.cache[key] = self.find_fit(number, leaders)
         return self.cache[key]
 
     def find_fit(self, number: int, leaders: Places) -> State:
+        """The same, found anew: of constants, of a slot, or by the rules."""
         if all(leader in self.known for leader in leaders):
             values = tuple(self.known[leader] for leader in leaders)
             return state_of(number, set() if MISSING in values else {values})
@@ -94,6 +100,8 @@ Part = Tuple[Compact, Sequence[Any], int]
 
 
 class Samples:
+    """A list of samples, and what is asked of it."""
+
     def __init__(self, variables: list[VarInfo], grammar: int, samples: Counter[Sample], compacts: list[Part]) -> None:
         """`samples` counts each different sample; `compacts` lists (compact form, positions,
         times)."""
@@ -122,6 +130,7 @@ class Samples:
             self.values[kind] = list(of_kind)
 
     def number(self) -> int:
+        """The number of samples."""
         return sum(self.times) + sum(times * compact.number
                                      for compact, _, times in self.compacts)
 
@@ -168,6 +177,7 @@ class Samples:
 
     @staticmethod
     def agree_in(compact: Compact, v: int | None, w: int | None) -> bool:
+        """Whether two variables agree in the samples of a compact form."""
         if v is not None and w is not None:
             return compact.agree(v, w)
         present = [place for place in (v, w) if place is not None]
@@ -208,6 +218,7 @@ class Samples:
                        self.patterns(firsts), known, self.slots(firsts, known))
 
     def patterns(self, firsts: list[int]) -> dict[Pattern, int]:
+        """The patterns of these leaders, with their counts."""
         patterns: Counter[Pattern] = Counter()
         for present, times in self.present.items():
             patterns[tuple(present[leader] for leader in firsts)] += times
@@ -219,6 +230,7 @@ class Samples:
         return dict(patterns)
 
     def slots(self, firsts: list[int], known: dict[int, Value]) -> dict[Slot, State]:
+        """The slots that are kept, with their states."""
         slots: dict[Slot, State] = {}
         for number in rows_of(self.grammar):
             for places in tuples_for(number, self.variables, firsts):
@@ -231,6 +243,7 @@ class Samples:
 
 
 def presence(sample: Sample) -> Pattern:
+    """Which variables are present in the sample."""
     return tuple(value is not MISSING for value in sample)
 
 
@@ -252,6 +265,7 @@ def instances(number: int, variables: Sequence[VarInfo]) -> Iterator[Places]:
 # ---------------------------------------------------------------- samples of a point
 
 def own_samples(history: History, point: Point) -> Samples:
+    """The point's own samples."""
     compacts: list[Part] = []
     if point.index in history.loaded:
         compact = history.loaded[point.index]
@@ -270,16 +284,19 @@ class AllSamples:
         self.own_found: dict[int, Samples] = {}
 
     def own(self, point: Point) -> Samples:
+        """The point's own samples."""
         if point.index not in self.own_found:
             self.own_found[point.index] = own_samples(self.history, point)
         return self.own_found[point.index]
 
     def of(self, point: Point) -> Samples:
+        """All samples of the point."""
         if point.index not in self.found:
             self.found[point.index] = self.merged(point)
         return self.found[point.index]
 
     def merged(self, point: Point) -> Samples:
+        """The own samples with those of the children."""
         edges = self.table.edges_into(point)
         if not edges:
             return self.own(point)

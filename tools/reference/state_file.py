@@ -28,6 +28,7 @@ class BadState(Exception):
 
 
 def demand(condition: object) -> None:
+    """Ends the reading where the condition isn't met."""
     if not condition:
         raise BadState
 
@@ -48,6 +49,7 @@ def spelled(kind: str | None, value: Value) -> bytes:
 
 
 def spelled_state(state: State) -> bytes:
+    """The one spelling of a state."""
     word = state[0].encode()
     if word == b"truth":
         return b"truth " + spelled("Bool", state[1])
@@ -61,10 +63,12 @@ def spelled_state(state: State) -> bytes:
 
 
 def spelled_numbers(numbers: Iterable[int]) -> bytes:
+    """Numbers with a blank between them."""
     return b" ".join(b"%d" % number for number in numbers)
 
 
 def declaration_lines(declaration: Declaration) -> Iterator[bytes]:
+    """The lines of a declaration."""
     yield b"point " + escape(declaration.name)
     for name, number in declaration.edges:
         yield b"edge %d %s" % (number, escape(name))
@@ -79,6 +83,7 @@ def declaration_lines(declaration: Declaration) -> Iterator[bytes]:
 
 
 def compact_lines(index: int, form: Compact) -> Iterator[bytes]:
+    """The lines of a point's samples."""
     yield b"samples %d %d" % (index, capped(form.number))
     for group in sorted(sorted(group) for group in form.classes):
         yield b"class " + spelled_numbers(group)
@@ -95,6 +100,7 @@ def compact_lines(index: int, form: Compact) -> Iterator[bytes]:
 
 
 def state_lines(history: History, forms: list[tuple[int, Compact]]) -> Iterator[bytes]:
+    """The lines of a state file."""
     declarations = [point.declaration for point in history.table.points
                     if point.declaration is not None]
     yield b"daikon-state %d" % history.grammar
@@ -108,6 +114,7 @@ def state_lines(history: History, forms: list[tuple[int, Compact]]) -> Iterator[
 
 
 def written(history: History, forms: list[tuple[int, Compact]]) -> bytes:
+    """The text of a state file."""
     return b"".join(line + b"\n" for line in state_lines(history, forms))
 
 
@@ -124,12 +131,15 @@ def state_file(history: History) -> bytes:
 # ---------------------------------------------------------------- reading
 
 class Lines:
+    """The lines that are still to be read."""
+
     def __init__(self, data: bytes) -> None:
         demand(data.endswith(b"\n"))
         self.lines = data[:-1].split(b"\n")
         self.at = 0
 
     def next_word(self) -> bytes | None:
+        """The first word of the next line."""
         return self.lines[self.at].split(b" ", 1)[0] if self.at < len(self.lines) else None
 
     def rest_of(self, word: bytes) -> bytes:
@@ -140,6 +150,7 @@ class Lines:
         return line[len(word) + 1:]
 
     def all_of(self, word: bytes) -> list[bytes]:
+        """What follows the word in each of the next lines that begin with it."""
         found = []
         while self.next_word() == word:
             found.append(self.rest_of(word))
@@ -147,6 +158,7 @@ class Lines:
 
 
 def number_of(text: bytes) -> int:
+    """The number that the text is."""
     demand(re.fullmatch(rb"-?[0-9]+", text))
     return int(text)
 
@@ -170,6 +182,7 @@ def load(data: bytes, second_grammar: bool = True, second_form: bool = True) -> 
 
 
 def read_state(data: bytes, second_grammar: bool, second_form: bool) -> tuple[History, list[tuple[int, Compact]]]:
+    """The history, and the compact forms of its points."""
     lines = Lines(data)
     history = History(Table(second_form))
     version = lines.rest_of(b"daikon-state")
@@ -191,10 +204,12 @@ def read_state(data: bytes, second_grammar: bool, second_form: bool) -> tuple[Hi
 
 
 def demand_name(name: bytes) -> None:
+    """Ends the reading where it can't be a name."""
     demand(name != b"" and not name.startswith(b"\t") and not name.endswith(b"\t"))
 
 
 def read_declaration(lines: Lines) -> Declaration:
+    """The next declaration."""
     declaration = Declaration(unescape(lines.rest_of(b"point")))
     demand_name(declaration.name)
     for text in lines.all_of(b"edge"):
@@ -213,6 +228,7 @@ def read_declaration(lines: Lines) -> Declaration:
 
 
 def read_variable(lines: Lines, declaration: Declaration) -> Variable:
+    """The next variable of a declaration."""
     rep_type, elem, index, name = fields(lines.rest_of(b"var"), 4)
     demand(rep_type in REP_TYPES)
     variable = Variable(unescape(name), REP_TYPES[rep_type], (number_of(elem), number_of(index)))
@@ -235,6 +251,7 @@ def read_variable(lines: Lines, declaration: Declaration) -> Variable:
 
 
 def read_samples(lines: Lines, history: History) -> tuple[int, Compact]:
+    """The samples of the next point."""
     index, number = [number_of(text) for text in fields(lines.rest_of(b"samples"), 2)]
     demand(0 <= index < len(history.table.points) and 1 <= number <= SAMPLES_LIMIT)
     point = history.table.points[index]
@@ -286,6 +303,7 @@ def read_known(form: Compact, text: bytes) -> None:
 
 
 def read_slot(form: Compact, text: bytes) -> None:
+    """Reads a slot."""
     row_text, rest = fields(text, 2)
     number = number_of(row_text)
     demand(number in rows_of(form.grammar))
@@ -312,6 +330,7 @@ def demand_empty(form: Compact, number: int, places: Places, state: State) -> No
 
 
 def read_state_text(text: bytes) -> State:
+    """The state that the text spells."""
     word, _, rest = text.partition(b" ")
     if word == b"truth":
         value = value_of("Bool", rest)

@@ -107,6 +107,8 @@ class Case:
 
 
 class Maker:
+    """Makes declarations, records and texts by a seed."""
+
     def __init__(self, seed: int, second_form: bool = True) -> None:
         self.random = random.Random(seed)
         self.second_form = second_form
@@ -126,6 +128,7 @@ class Maker:
         self.with_nonces = self.random.choice([0, 0.5, 1])
 
     def chance(self, rate: float) -> bool:
+        """True at this rate."""
         return self.random.random() < rate
 
     def some(self, items: Sequence[Item], most: int) -> list[Item]:
@@ -137,6 +140,7 @@ class Maker:
     # ------------------------------------------------------------ points
 
     def plan_points(self) -> None:
+        """Plans the points and their variables."""
         variables = self.some(self.themed(), self.random.choice([2, 3, 4, 6]))
         if self.theme == "arithmetic" and self.chance(0.8):
             variables = [(name, b"int") for name in (b"x", b"y", b"z", b"w")]
@@ -152,6 +156,7 @@ class Maker:
             self.points.append(self.plan_point(name, variables, names))
 
     def themed(self) -> Variables:
+        """The variables of the theme."""
         if self.theme == "truths":
             return [(name, rep) for name, rep in VARIABLES if name in TRUTHS_AND_OTHERS]
         if self.theme == "lists":
@@ -160,6 +165,7 @@ class Maker:
         return VARIABLES
 
     def plan_point(self, name: bytes, variables: Variables, names: list[bytes]) -> PointPlan:
+        """Plans a point in one of the forms of declarations."""
         mine = self.some(variables, 6) if self.chance(0.5) else list(variables)
         if self.chance(0.1):
             self.random.shuffle(mine)
@@ -173,6 +179,7 @@ class Maker:
         return self.plan_ppt(name, mine, names)
 
     def plan_ppt(self, name: bytes, mine: Variables, names: list[bytes]) -> PointPlan:
+        """Plans a point in the first form."""
         lines = [b"ppt " + name]
         if self.chance(0.9):
             lines.append(b"ppt-type " + self.random.choice(POINT_TYPES))
@@ -206,6 +213,7 @@ class Maker:
         return edges
 
     def variable_lines(self, variable: bytes, rep_type: bytes, constant: bool, edges: list[EdgePlan], mine: Variables) -> list[bytes]:
+        """The lines of a variable."""
         lines = [b"variable " + variable]
         more = [b"rep-type " + rep_type]
         if self.use_comparability and self.chance(0.8):
@@ -224,6 +232,7 @@ class Maker:
         return lines + more
 
     def plan_declare(self, name: bytes, mine: Variables) -> PointPlan:
+        """Plans a point in the second form."""
         lines = [b"DECLARE", name]
         planned = []
         for variable, rep_type in mine:
@@ -238,12 +247,14 @@ class Maker:
     # ------------------------------------------------------------ values
 
     def new_latent(self) -> None:
+        """Draws the numbers that the next record's values are made of."""
         self.latent = self.random.randint(-2, 12)
         length = self.random.choice([0, 1, 2, 3, 3, 4])
         self.latent_list = [self.random.randint(-1, 6) for _ in range(length)]
         self.pair = (self.random.randint(*self.pair_range), self.random.randint(*self.pair_range))
 
     def style(self, variable: bytes, styles: list[str]) -> tuple[str, int]:
+        """How the variable's values are made, which stays the same."""
         key = (variable, len(styles))
         if key not in self.styles:
             self.styles[key] = (self.random.choice(styles), self.random.randint(-3, 5))
@@ -265,6 +276,7 @@ class Maker:
         return numbers[style]
 
     def integer(self, variable: bytes) -> int:
+        """A number for the variable."""
         if self.theme == "arithmetic":
             return self.arithmetic(variable)
         style, k = self.style(variable, INTEGER_STYLES)
@@ -280,6 +292,7 @@ class Maker:
         return numbers[style]
 
     def integers(self, variable: bytes) -> list[int]:
+        """A list of numbers for the variable."""
         style, k = self.style(variable, SEQUENCE_STYLES)
         latent = self.latent_list
         lists = {
@@ -308,6 +321,7 @@ class Maker:
         return STRINGS[number % len(STRINGS)]
 
     def text_of(self, variable: bytes, rep_type: bytes) -> bytes:
+        """A value's text."""
         if rep_type.endswith(b"[]"):
             element = rep_type[:-2]
             items = [self.scalar_text(element, item) for item in self.integers(variable)]
@@ -319,6 +333,7 @@ class Maker:
         return self.scalar_text(rep_type, self.integer(variable))
 
     def value_lines(self, variable: bytes, rep_type: bytes) -> list[bytes]:
+        """The three lines of a value."""
         text = self.text_of(variable, rep_type)
         mark = self.random.choice([b"1", b"1", b"0"])
         if self.chance(self.missing_rate):
@@ -333,6 +348,7 @@ class Maker:
     # ------------------------------------------------------------ blocks
 
     def record(self, point: PointPlan) -> list[bytes]:
+        """The lines of a sample record."""
         self.new_latent()
         lines = [point.name]
         method, _, tag = point.name.rpartition(b":::")
@@ -395,10 +411,12 @@ class Maker:
         return blocks
 
     def declare(self, point: PointPlan) -> list[bytes]:
+        """The lines of the point's declaration."""
         point.declared = True
         return list(point.block)
 
     def odd_block(self) -> list[bytes]:
+        """A block of headers or comments."""
         headers = [[b"decl-version 2.0"], [b"var-comparability none"], [b"ListImplementors", b"x"],
                    [b"var-comparability implicit"], [b"input-language C"], [b"# comment"],
                    [b"// comment", b"decl-version \t2.0"]]
@@ -409,6 +427,7 @@ class Maker:
     # ------------------------------------------------------------ text
 
     def text(self, blocks: list[list[bytes]]) -> bytes:
+        """The blocks as a text."""
         dressed = self.chance(0.3)
         ending = b"\r\n" if self.chance(0.1) else b"\n"
         text = b""
@@ -425,6 +444,7 @@ class Maker:
         return text
 
     def dressed(self, line: bytes) -> bytes:
+        """A line with blanks that don't count."""
         if self.chance(0.05):
             line = self.random.choice([b" ", b"\t", b"  \t"]) + line
         if self.chance(0.05):
@@ -434,12 +454,14 @@ class Maker:
         return line
 
     def blank_lines(self, ending: bytes) -> bytes:
+        """What parts two blocks."""
         return b"".join(self.random.choice([b"", b"", b" ", b"\t ", b"\r"]) + ending
                         for _ in range(self.random.choice([1, 1, 1, 2])))
 
     # ------------------------------------------------------------ faults
 
     def mutated(self, text: bytes) -> bytes:
+        """The text with faults put in."""
         lines = text.split(b"\n")
         for _ in range(self.random.choice([1, 1, 2, 4])):
             at = self.random.randrange(len(lines))
@@ -474,31 +496,38 @@ SECOND_FORM_LINES = [b"DECLARE", b"DECLARE x", b"VarComparability", b"VarCompara
 
 
 def odd_line(random_: Random, lines: list[bytes], at: int) -> None:
+    """Puts an odd line in the place of this one."""
     lines[at] = random_.choice(ODD_LINES)
 
 
 def insert_odd_line(random_: Random, lines: list[bytes], at: int) -> None:
+    """Puts an odd line in."""
     lines.insert(at, random_.choice(ODD_LINES))
 
 
 def second_form_line(random_: Random, lines: list[bytes], at: int) -> None:
+    """Puts a line of the second form in."""
     lines.insert(at, random_.choice(SECOND_FORM_LINES))
 
 
 def exchange_lines(random_: Random, lines: list[bytes], at: int) -> None:
+    """Exchanges the line with another one."""
     other = random_.randrange(len(lines))
     lines[at], lines[other] = lines[other], lines[at]
 
 
 def line_of_elsewhere(random_: Random, lines: list[bytes], at: int) -> None:
+    """Puts another line of the text in the place of this one."""
     lines[at] = random_.choice(lines)
 
 
 def cut_after(random_: Random, lines: list[bytes], at: int) -> None:
+    """Cuts the text after the line."""
     del lines[at + 1:]
 
 
 def cut_within(random_: Random, lines: list[bytes], at: int) -> None:
+    """Cuts the text within the line."""
     del lines[at + 1:]
     lines[at] = lines[at][:random_.randint(0, len(lines[at]))]
 
@@ -534,6 +563,7 @@ def odd_header(random_: Random, lines: list[bytes], at: int) -> None:
 
 
 def odd_nonce(random_: Random, lines: list[bytes], at: int) -> None:
+    """Puts an odd nonce in the place of one."""
     places = [k + 1 for k, line in enumerate(lines[:-1])
               if line.strip() == b"this_invocation_nonce"]
     if places:
@@ -607,10 +637,12 @@ def one_file_case(seed: int, second_form: bool = True) -> Case:
 # ---------------------------------------------------------------- limits
 
 def block_of(lines: list[bytes]) -> bytes:
+    """The lines as a block."""
     return b"".join(line + b"\n" for line in lines) + b"\n"
 
 
 def plain_point(name: bytes, variables: Variables) -> bytes:
+    """A declaration of these variables."""
     lines = [b"ppt " + name]
     for variable, rep_type in variables:
         lines += [b"variable " + variable, b"rep-type " + rep_type]
@@ -830,6 +862,7 @@ def order_case(seed: int, second_form: bool = True, grammar: int = 2) -> Case:
 
 
 def random_options(maker: Maker, with_every: bool = True) -> list[str]:
+    """Options of daikon."""
     chosen = []
     if maker.chance(0.85):
         chosen += ["--min-samples", maker.random.choice(["1", "1", "1", "2", "+3", "004", "0", "x"]
@@ -868,10 +901,12 @@ def several_files(maker: Maker, records: list[int]) -> dict[str, bytes]:
 
 
 def some_arguments(maker: Maker, *choices: tuple[list[str], float]) -> list[str]:
+    """Each of the choices at its rate."""
     return [word for arguments, rate in choices if maker.chance(rate) for word in arguments]
 
 
 def split_case(seed: int, second_form: bool = True, grammar: int = 2) -> Case:
+    """A run of dk_split."""
     maker = Maker(seed, second_form)
     maker.theme = maker.random.choice(["truths", "truths", "mixed"])
     maker.plan_points()
@@ -947,21 +982,25 @@ def merge_case(seed: int, second_form: bool = True, grammar: int = 2) -> Case:
 
 
 def heading_line(random_: Random, lines: list[bytes], at: int) -> None:
+    """Puts a line in that begins a section, or looks like it."""
     lines.insert(at, random_.choice([b"=", b"==", b"=====", b"= ", b"P", b"P  [4]", b"M:::EXIT",
                                      b"M:::EXIT  [x]", b"", b" ", b"--- end", b"stats x"]))
 
 
 def other_count(random_: Random, lines: list[bytes], at: int) -> None:
+    """Puts another count in the place of one."""
     lines[at] = re.sub(rb"  \[[0-9]+\]$", random_.choice([b"", b" [4]", b"  []", b"  [4]  [5]",
                                                           b"  [4] "]), lines[at])
 
 
 def other_number(random_: Random, lines: list[bytes], at: int) -> None:
+    """Puts another number in the place of the first one."""
     number = random_.choice([b"0", b"1", b"2", b"3", b"-1", b"99999999999999999999", b"01"])
     lines[at] = re.sub(rb"-?[0-9]+", number, lines[at], count=1)
 
 
 def carriage_return(random_: Random, lines: list[bytes], at: int) -> None:
+    """Puts a carriage return or a blank at the end."""
     lines[at] += random_.choice([b"\r", b"\r\r", b" "])
 
 
@@ -976,6 +1015,7 @@ CaseOfSeed = Callable[[int, bool, int], Case]
 
 
 def without_grammar(case_of_seed: Callable[[int, bool], Case]) -> CaseOfSeed:
+    """The case of a seed, whatever the grammar is."""
     return lambda seed, second_form, grammar: case_of_seed(seed, second_form)
 
 
@@ -992,6 +1032,7 @@ def write_files(files: dict[str, bytes], folder: str) -> None:
 
 
 def main(arguments: list[str]) -> None:
+    """Writes the files of a case, and prints its runs."""
     options = [word for word in arguments if word.startswith("--")]
     kind, seed, folder = [word for word in arguments if not word.startswith("--")]
     case = KINDS[kind](int(seed), "--first-form" not in options,

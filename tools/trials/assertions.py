@@ -18,6 +18,7 @@ from traces import ASSERTION_CHANGES, Case  # noqa: E402
 
 
 def report_of(bench: Bench, arguments: List[str]) -> bytes:
+    """What daikon reports on the trace."""
     return bench.run("daikon", arguments + ["--min-samples", "1", "--ignore-missing-entry", "t"]).report
 
 
@@ -25,6 +26,7 @@ KEEPS = ["--keep-implied", "--keep-incomparable", "--keep-members", "--keep-cons
 
 
 def assertion_trials(seed: int) -> Iterator[Trial]:
+    """Reports with changes in them, as assertion files."""
     maker = planned(seed)
     text = trace_of(maker)
     arguments = [word for word in KEEPS if maker.chance(0.3)]
@@ -68,6 +70,7 @@ def judge_assertions(bench: Bench, trial: Trial) -> Optional[str]:
 
 
 def verdict_trials(seed: int) -> Iterator[Trial]:
+    """Reports as assertion files about their own traces."""
     maker = planned(seed)
     for _ in range(INPUTS_OF_A_SEED // 2):
         text = trace_of(maker)

@@ -37,6 +37,7 @@ class How:
     shape: str = ""
 
     def shaped(self, shape: str) -> "How":
+        """The same with this shape."""
         return replace(self, shape=shape)
 
 
@@ -102,6 +103,7 @@ class Bench:
         self.there.pop(STATE, None)
 
     def names(self) -> List[str]:
+        """The names in the folder."""
         return sorted(os.listdir("."))
 
     # ---------------------------------------------------------------- runs
@@ -166,11 +168,13 @@ class Bench:
 
 
 def opened(path: str) -> int:
+    """The file at the path, opened to be written to."""
     flags = os.O_RDWR | os.O_CREAT | os.O_TRUNC
     return os.open(path, os.O_WRONLY if stat_is_device(path) else flags, 0o666)
 
 
 def stat_is_device(path: str) -> bool:
+    """Whether the path is that of a device."""
     return path.startswith("/dev/") and os.path.exists(path) and stat.S_ISCHR(os.stat(path).st_mode)
 
 
@@ -183,6 +187,7 @@ def text_of(file: int) -> bytes:
 
 
 def read(name: str) -> Optional[bytes]:
+    """What the file has, or None where it can't be read."""
     try:
         with open(name, "rb") as file:
             return file.read()
@@ -191,12 +196,14 @@ def read(name: str) -> Optional[bytes]:
 
 
 def write(name: str, text: bytes) -> None:
+    """Writes a file anew."""
     remove(name)
     with open(name, "wb", buffering=0) as file:
         file.write(text)
 
 
 def remove(name: str) -> None:
+    """Takes away what has this name."""
     try:
         os.unlink(name)
     except IsADirectoryError:
@@ -206,6 +213,7 @@ def remove(name: str) -> None:
 
 
 def spawned(command: List[str], streams: Tuple[int, int, int], how: How) -> int:
+    """Starts the command with these streams."""
     moves = [(os.POSIX_SPAWN_DUP2, stream, number) for number, stream in enumerate(streams)]
     return os.posix_spawn(command[0], command, {**os.environ, **dict(how.surroundings)}, file_actions=moves, setsigdef=SIGNALS)
 

@@ -82,6 +82,7 @@ OLD = b"daikon-state 2\ncomparability implicit\npoints 0\nend-state\n"
 
 
 def write_fault_trials(seed: int) -> Iterator[Trial]:
+    """Runs whose report, messages or state can't be written."""
     maker = planned(seed)
     text = trace_of(maker)
     for shape in SINKS * 2:
@@ -94,6 +95,7 @@ def write_fault_trials(seed: int) -> Iterator[Trial]:
 
 
 def how_of(shape: str, maker: Maker) -> How:
+    """How a run is started that has this fault."""
     sizes = ((resource.RLIMIT_FSIZE, maker.random.choice([0, 1, 50, 200, 400, 1000, 3000, 10000])),)
     return {"full": How(report_to="/dev/full"), "messages full": How(messages_to="/dev/full"), "reader gone": How(reader_takes=0),
             "reader goes": How(reader_takes=maker.random.choice([1, 100, 4096])), "limit": How(limits=sizes, ignores=True),
@@ -120,6 +122,7 @@ def judge_write_faults(bench: Bench, trial: Trial) -> Optional[str]:
 
 
 def broken_fault(trial: Trial, whole: Outcome, outcome: Outcome) -> Optional[str]:
+    """What is wrong with a run whose writes fail."""
     old = trial.case.files.get(STATE)
     if not whole.report.startswith(outcome.report):
         return "report"
@@ -152,10 +155,12 @@ STACKS = [128 << 10, 192 << 10, 256 << 10, 512 << 10, MEGABYTE, 8 * MEGABYTE]
 
 
 def record(point: bytes, variables: List[Tuple[bytes, bytes]], texts: List[bytes]) -> bytes:
+    """A sample."""
     return point + b"\n" + b"".join(b"%s\n%s\n1\n" % (name, text) for (name, _), text in zip(variables, texts)) + b"\n"
 
 
 def records(point: bytes, variables: List[Tuple[bytes, bytes]], values: List[List[bytes]]) -> bytes:
+    """Samples of these values."""
     return b"".join(record(point, variables, texts) for texts in values)
 
 
@@ -167,22 +172,26 @@ def numbers(maker: Maker) -> bytes:
 
 
 def points(maker: Maker) -> bytes:
+    """A chain of many points."""
     count = maker.random.choice([200, 1_000])
     edges = [b""] + [b"parent parent p%d 1\n" % k for k in range(count - 1)]
     return b"".join(b"ppt p%d\n" % k + edge + b"variable x\nrep-type int\n\n" for k, edge in enumerate(edges))
 
 
 def long_text(maker: Maker) -> bytes:
+    """Samples of long strings."""
     text = b'"' + b"a" * maker.random.choice([100_000, 1_000_000, 3_000_000]) + b'"'
     variables = [(b"s", b"String"), (b"u", b"String")]
     return plain_point(b"P", variables) + records(b"P", variables, [[text, b'"b"'], [text, text]])
 
 
 def digits(maker: Maker, length: int) -> bytes:
+    """So many digits with blanks between them."""
     return b" ".join(b"%d" % maker.random.randint(0, 9) for _ in range(length))
 
 
 def sequences(maker: Maker) -> bytes:
+    """Samples of long sequences."""
     variables = [(b"a%d[..]" % k, b"int[]") for k in range(6)] + [(b"i%d" % k, b"int") for k in range(4)]
     values = [[b"[" + digits(maker, maker.random.choice([0, 3, 2_000])) + b"]" for _ in range(6)] + [digits(maker, 1) for _ in range(4)]
               for _ in range(3)]
@@ -193,6 +202,7 @@ LARGE = [numbers, numbers, points, long_text, sequences, trace_of]
 
 
 def large_table(maker: Maker) -> bytes:
+    """A table of many cells."""
     width = maker.random.choice([1, 10, 100])
     row = b",".join(b"%d" % maker.random.randint(0, 99) for _ in range(width)) + b"\n"
     return b",".join(b"x%d" % k for k in range(width)) + b"\n" + row * maker.random.choice([10, 1_000])
@@ -210,6 +220,7 @@ def large_inputs(maker: Maker) -> List[Tuple[str, Case]]:
 
 
 def memory_trials(seed: int) -> Iterator[Trial]:
+    """Runs with little memory."""
     maker = planned(seed)
     for program, case in maker.random.sample(large_inputs(maker), 1):
         for limit in maker.random.sample(STEPS, 6) + [maker.random.randrange(256 << 10, 4 * MEGABYTE, 4096) for _ in range(6)]:
@@ -255,6 +266,7 @@ REFUSALS_OF_A_RUN = 60
 
 
 def allocation_trials(seed: int) -> Iterator[Trial]:
+    """Runs in which one request for memory after the other is refused."""
     maker = planned(seed)
     for _ in range(3):
         program, case, _ = some_input(maker)
@@ -296,6 +308,7 @@ def judge_allocations(bench: Bench, trial: Trial) -> Optional[str]:
 
 
 def stack_trials(seed: int) -> Iterator[Trial]:
+    """Runs with a small stack."""
     maker = planned(seed)
     for program, case in maker.random.sample(large_inputs(maker), 1):
         for limit in STACKS:

@@ -55,6 +55,7 @@ def broken_streams(program: str, arguments: List[str], files: Dict[str, bytes], 
 
 
 def says_nothing(program: str, arguments: List[str], files: Dict[str, bytes], messages: bytes) -> bool:
+    """Whether there is no message."""
     return messages == b""
 
 
@@ -75,6 +76,7 @@ def says_refused(program: str, arguments: List[str], files: Dict[str, bytes], me
 
 
 def says_usage(program: str, arguments: List[str], files: Dict[str, bytes], messages: bytes) -> bool:
+    """Whether the message is the program's usage."""
     return messages == PROGRAMS[program].usage
 
 
@@ -88,6 +90,7 @@ def says_unread(program: str, arguments: List[str], files: Dict[str, bytes], mes
 
 
 def says_fault(program: str, arguments: List[str], files: Dict[str, bytes], messages: bytes) -> bool:
+    """Whether the message is that of a fault of a file."""
     return FAULT.fullmatch(messages) is not None
 
 

@@ -31,6 +31,7 @@ class Program:
 
     @property
     def usage(self) -> bytes:
+        """What the program says where its arguments are refused."""
         return self.reference.USAGE
 
 

@@ -18,6 +18,7 @@ from traces import Case, Maker, mixed, random_options  # noqa: E402
 
 
 def trace_arguments(maker: Maker, program: str, names: List[str]) -> List[str]:
+    """Arguments of a program for these traces."""
     least = ["--min-samples", maker.random.choice(["1", "2"])]
     ignore = ["--ignore-missing-entry"] if maker.chance(0.8) else []
     if program == "daikon":
@@ -31,6 +32,7 @@ def trace_arguments(maker: Maker, program: str, names: List[str]) -> List[str]:
 
 
 def trace_trials(seed: int) -> Iterator[Trial]:
+    """Traces with changes in them."""
     maker = planned(seed)
     text = trace_of(maker)
     for _ in range(INPUTS_OF_A_SEED):
@@ -57,6 +59,7 @@ def judge_trace(bench: Bench, trial: Trial) -> Optional[str]:
 
 
 def alike_trials(seed: int) -> Iterator[Trial]:
+    """Traces with changes in them, for several programs."""
     maker = planned(seed)
     text = trace_of(maker)
     for _ in range(INPUTS_OF_A_SEED):
@@ -93,6 +96,7 @@ ODD_VALUES = ["0", "1", "5", "+5", "005", "1000000000", "1000000001", "184467440
 
 
 def some_word(maker: Maker, program: str) -> List[str]:
+    """Some argument, or an option with its value."""
     draw = maker.random
     spec = PROGRAMS[program]
     shape = draw.randrange(8)
@@ -107,6 +111,7 @@ def some_word(maker: Maker, program: str) -> List[str]:
 
 
 def argument_trials(seed: int) -> Iterator[Trial]:
+    """Random arguments."""
     maker = Maker(seed)
     for _ in range(2 * INPUTS_OF_A_SEED):
         program = maker.random.choice(sorted(PROGRAMS))
@@ -130,6 +135,7 @@ def are_refused(program: str, arguments: List[str]) -> bool:
 
 
 def is_number(text: str) -> bool:
+    """Whether the text is a number that options take."""
     return re.fullmatch(r"\+?[0-9]+", text, re.ASCII) is not None and 1 <= int(text) <= 1_000_000_000
 
 

@@ -19,6 +19,7 @@ merges = script("merges")
 
 
 def state_trials(seed: int) -> Iterator[Trial]:
+    """States with changes in them."""
     maker = planned(seed)
     text = state_file(history_of(trace_of(maker), maker.random.choice([1, 2, 2, 2])))
     for _ in range(INPUTS_OF_A_SEED):
@@ -46,6 +47,7 @@ def judge_state(bench: Bench, trial: Trial) -> Optional[str]:
 
 
 def joined_trials(seed: int) -> Iterator[Trial]:
+    """States with changes in them, for dk_merge."""
     maker = planned(seed)
     text = state_file(history_of(trace_of(maker)))
     for _ in range(INPUTS_OF_A_SEED):
@@ -69,6 +71,7 @@ def judge_joined(bench: Bench, trial: Trial) -> Optional[str]:
 
 
 def merge_trials(seed: int) -> Iterator[Trial]:
+    """States of parts of a trace."""
     maker = Maker(seed)
     texts = merges.parts_of(seed)
     for _ in range(3):

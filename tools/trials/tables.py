@@ -21,6 +21,7 @@ TRACE = "trace"
 
 
 def table_trials(seed: int) -> Iterator[Trial]:
+    """Tables, with changes in some."""
     draw = random.Random(seed)
     for _ in range(INPUTS_OF_A_SEED):
         files, arguments = tables_and_arguments(draw)

@@ -21,6 +21,7 @@ FORMATS = ("json", "python", "c", "smtlib")
 
 
 def telling_trials(seed: int) -> Iterator[Trial]:
+    """Reports with changes in them, told in some format."""
     maker = planned(seed)
     text = trace_of(maker)
     keeps = [word for word in KEEPS if maker.chance(0.3)]

@@ -15,24 +15,29 @@ INPUTS_OF_A_SEED = 20
 
 
 def random_bytes(draw: random.Random, lines: List[bytes], at: int) -> None:
+    """Puts random bytes in the place of the line."""
     count = draw.randint(1, 12)
     lines[at] = draw.getrandbits(8 * count).to_bytes(count, "little")
 
 
 def long_line(draw: random.Random, lines: List[bytes], at: int) -> None:
+    """Makes the line long."""
     lines[at] += draw.choice([b"x", b" ", b"9", b"[", b"\\", b'"', b"\xc3"]) * draw.choice([100, 5_000, 70_000])
 
 
 def blocks_doubled(draw: random.Random, lines: List[bytes], at: int) -> None:
+    """Has a stretch of lines again."""
     lines[at:at] = lines[at:at + 40] * draw.choice([1, 1, 3])
 
 
 def zero_byte(draw: random.Random, lines: List[bytes], at: int) -> None:
+    """Puts a byte 0 in."""
     place = draw.randint(0, len(lines[at]))
     lines[at] = lines[at][:place] + b"\0" + lines[at][place:]
 
 
 def carriage_return(draw: random.Random, lines: List[bytes], at: int) -> None:
+    """Puts a carriage return at the end."""
     lines[at] += draw.choice([b"\r", b"\r\r", b" \r"])
 
 
@@ -55,6 +60,7 @@ def mark_changed(draw: random.Random, lines: List[bytes], at: int) -> None:
 
 
 def blanks_around(draw: random.Random, lines: List[bytes], at: int) -> None:
+    """Puts blanks around the line."""
     lines[at] = draw.choice([b" ", b"\t", b""]) + lines[at] + draw.choice([b" ", b"\t", b"\r", b""])
 
 
@@ -77,11 +83,13 @@ def block_at(lines: List[bytes], at: int) -> Tuple[int, int]:
 
 
 def block_doubled(draw: random.Random, lines: List[bytes], at: int) -> None:
+    """Has the block again."""
     start, end = block_at(lines, at)
     lines[start:start] = lines[start:end] * draw.choice([1, 1, 5])
 
 
 def block_left_out(draw: random.Random, lines: List[bytes], at: int) -> None:
+    """Leaves the block out, unless it is a declaration."""
     start, end = block_at(lines, at)
     if not lines[start].startswith((b"ppt", b"DECLARE")):
         del lines[start:end]
@@ -94,6 +102,7 @@ HOSTILE: List[Change] = [random_bytes, long_line, blocks_doubled, zero_byte, car
 
 
 def changed(maker: Maker, text: bytes, changes: List[Change]) -> bytes:
+    """The text with one to three changes."""
     lines = text.split(b"\n")
     for change in maker.random.choices(changes, k=maker.random.randint(1, 3)):
         change(maker.random, lines, maker.random.randrange(len(lines)))
@@ -110,12 +119,14 @@ def mutated(maker: Maker, text: bytes) -> bytes:
 
 
 def planned(seed: int) -> Maker:
+    """A maker whose points are planned."""
     maker = Maker(seed)
     maker.plan_points()
     return maker
 
 
 def trace_of(maker: Maker) -> bytes:
+    """A trace of the maker's points."""
     maker.waiting = []
     text: bytes = maker.text(maker.blocks(maker.random.choice([2, 4, 8, 16])))
     return text

@@ -24,9 +24,11 @@ class Trial:
 
     @property
     def arguments(self) -> List[str]:
+        """The arguments of the first run."""
         return self.case.runs[0]
 
     def with_files(self, files: Dict[str, bytes]) -> "Trial":
+        """The trial with these files."""
         return replace(self, case=replace(self.case, files=files))
 
 

@@ -52,6 +52,7 @@ def some_input(maker: Maker) -> Tuple[str, Case, str]:
 
 
 def piece_trials(seed: int) -> Iterator[Trial]:
+    """An input that is read as a file, and through a pipe in pieces."""
     maker = planned(seed)
     for _ in range(INPUTS_OF_A_SEED // 2):
         program, case, name = some_input(maker)
@@ -76,6 +77,7 @@ def judge_pieces(bench: Bench, trial: Trial) -> Optional[str]:
 
 
 def front_trials(seed: int) -> Iterator[Trial]:
+    """Traces, and what stands before their first fault."""
     maker = planned(seed)
     for _ in range(INPUTS_OF_A_SEED // 2):
         text = trace_of(maker)
@@ -118,6 +120,7 @@ def judge_fronts(bench: Bench, trial: Trial) -> Optional[str]:
 
 
 def cut_trials(seed: int) -> Iterator[Trial]:
+    """Files that are read in one run, and in several."""
     maker = Maker(seed)
     case = cut_case(seed)
     yield Trial("cut", "daikon", case)
@@ -146,6 +149,7 @@ def judge_cut(bench: Bench, trial: Trial) -> Optional[str]:
 # ---------------------------------------------------------------- the other implementation
 
 def compared_trials(seed: int) -> Iterator[Trial]:
+    """Cases on which the other implementation answers, too."""
     draw = random.Random(seed)
     program = draw.choice(["daikon", "daikon", "daikon", "dk_split", "dk_check", "dk_merge", "dk_table", "dk_tell"])
     kind = draw.choice(PROGRAMS[program].cases)

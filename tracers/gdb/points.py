@@ -282,6 +282,7 @@ class Pieces(Reader):
         self.extent = max(reader.extent for reader in readers)
 
     def read(self, data: Optional[bytes], offset: int, values: Values) -> None:
+        """The values of the part whose piece has these bytes."""
         for reader in self.readers:
             reader.read(data, offset, values)
 

@@ -182,6 +182,7 @@ class Begin(Stop):
         return super().stop()
 
     def see(self) -> None:
+        """Takes the values at a call's begin."""
         self.traced.enter()
 
 
@@ -193,6 +194,7 @@ class Mark(Stop):
         self.line = line
 
     def see(self) -> None:
+        """Takes the line of the return."""
         self.traced.mark(self.line)
 
 
@@ -200,4 +202,5 @@ class End(Stop):
     """Where a call ends."""
 
     def see(self) -> None:
+        """Takes the values at a call's end."""
         self.traced.leave()
