@@ -41,7 +41,7 @@ one_near (value.Int z) h there = (z, refl, h)
 one_near value.Missing h there = absurd (false≢true there)
 one_near _ h there = absurd (false≢true h)
 
-near_among : (near : List VarId) (sample : List Value) → are_near near sample ≡ true → (v : VarId) → is_among near v ≡ true → is_near (value_in sample v) ≡ true
+pub near_among : (near : List VarId) (sample : List Value) → are_near near sample ≡ true → (v : VarId) → is_among near v ≡ true → is_near (value_in sample v) ≡ true
 near_among [] sample are v h = absurd (false≢true h)
 near_among (n ∷ near) sample are v h =
     let told = and_parts (is_near (value_in sample n)) (are_near near sample) are in

@@ -8,7 +8,7 @@ use Rattle.dk_base.specs.declared.kinds.VarId.{VarId}
 use Rattle.dk_base.specs.declared.values.Value.{Value}
 use Rattle.dk_base.specs.declared.values.Value.TheVariants as value
 use Rattle.dk_forms.specs.declared.states.State.{State}
-use Rattle.dk_forms.specs.declared.states.State.TheVariants.{Greatest, Least, Plane}
+use Rattle.dk_forms.specs.declared.states.State.TheVariants.{Greatest, Least, Plane, Span, Straight}
 use Rattle.dk_grammar.specs.Runs.{with_sample}
 use Rattle.dk_samples.specs.Samples.{value_in}
 use Rattle.dk_engine.specs.Bounding.{compares}
@@ -97,6 +97,21 @@ is_idle_least ranges v _ = false
 abbrev pub is_idle_greatest : List Range → VarId → State → Bool
 is_idle_greatest ranges v (Greatest greatest) = is_below ranges v greatest
 is_idle_greatest ranges v _ = false
+
+-- the points of a variable with itself, three times: a stretch of the line of equal numbers, within which its numbers are
+abbrev pub is_near_number : ℤ → Bool
+is_near_number z = nat_le (unsigned_abs z) (2 ^ 30)
+
+abbrev pub is_own_stretch : List Range → VarId → VarId → VarId → State → Bool
+is_own_stretch ranges u v w (Span x1 y1 z1 x2 y2 z2) =
+    (u.0 == v.0 && v.0 == w.0)
+    && ((int_eq x1 y1 && int_eq y1 z1) && ((int_eq x2 y2 && int_eq y2 z2) && ((is_near_number x1 && is_near_number x2) && (int_le x1 x2 && (is_above ranges u x1 && is_below ranges u x2)))))
+is_own_stretch ranges u v w _ = false
+
+-- the line of equal numbers, of a variable with itself
+abbrev pub is_own_line : VarId → VarId → State → Bool
+is_own_line u v (Straight a b c) = u.0 == v.0 && (int_eq a (pos 1) && (int_eq b (negsuc 0) && int_eq c (pos 0)))
+is_own_line u v _ = false
 
 -- ---- variables that compare as they did
 -- a number and a value

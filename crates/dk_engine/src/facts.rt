@@ -32,11 +32,10 @@ pub(crate) struct Compared {
 fn is_between(least: i64, greatest: i64, value: View<'_>) -> bool
     ensures { result ≡ is_between least greatest (value_of value.entry) }
 {
-    match value {
-        View::Int(number) => least <= number && number <= greatest,
-        View::Missing => true,
-        _ => false,
+    if let View::Int(number) = value {
+        return least <= number && number <= greatest;
     }
+    matches!(value, View::Missing)
 }
 
 /// Whether the variables' numbers in a sample are within these bounds, or missing.
@@ -55,22 +54,20 @@ pub(crate) fn are_within(sample: &[View<'_>], ranges: &[Range]) -> bool
 fn compares_first(row: RowId, x: i64, second: View<'_>) -> bool
     ensures { result ≡ compares_first row.0 x (value_of second.entry) }
 {
-    match second {
-        View::Int(y) => is_so(row, x, y),
-        View::Missing => true,
-        _ => false,
+    if let View::Int(y) = second {
+        return is_so(row, x, y);
     }
+    matches!(second, View::Missing)
 }
 
 // Whether it is so of two values, or one of them is missing.
 fn compares_values(row: RowId, first: View<'_>, second: View<'_>) -> bool
     ensures { result ≡ compares_values row.0 (value_of first.entry) (value_of second.entry) }
 {
-    match first {
-        View::Int(x) => compares_first(row, x, second),
-        View::Missing => true,
-        _ => false,
+    if let View::Int(x) = first {
+        return compares_first(row, x, second);
     }
+    matches!(first, View::Missing)
 }
 
 /// Whether the variables compare so in a sample, or one of the two is missing.

@@ -3,10 +3,10 @@
 // near, and that number. Bounds that rest, and comparisons: the facts are what they say. A search for changed slots passes over them where
 // all facts are true; a fact is true of a variable that is missing. Other variables aren't asked, so that truth values, codes, strings and
 // sequences at a point don't matter.
-ghost use Rattle.std.specs.Prelude.{◌≡◌, ◌<◌, ◌≤◌, ◌+◌, ◌==◌, ◌&&◌, ◌∷◌, [], neg_ℤ, true, IfOk, IsTrue, length, replicate, slice_set};
+ghost use Rattle.std.specs.Prelude.{◌≡◌, ◌<◌, ◌≤◌, ◌+◌, ◌==◌, ◌&&◌, ◌∷◌, [], neg_ℤ, true, IfOk, IsTrue, int_le, length, replicate, slice_set};
 ghost use Rattle.std.specs.Ordering.{int_eq};
 ghost use Rattle.dk_base.specs.Values.{value_of, values_of};
-ghost use Rattle.dk_engine.specs.Idle.{AreNotes, AreSkips, IsIdle, agree, are_among, are_fixed, are_near, are_same, has_number, is_axis, is_compared, is_diagonal, is_fixed, is_idle_greatest, is_idle_least, is_idle_over, is_listed, is_near, is_passed, later, meets, skip_in};
+ghost use Rattle.dk_engine.specs.Idle.{AreNotes, AreSkips, IsIdle, agree, are_among, are_fixed, are_near, are_same, has_number, is_axis, is_compared, is_diagonal, is_fixed, is_idle_greatest, is_idle_least, is_idle_over, is_listed, is_near, is_near_number, is_own_line, is_own_stretch, is_passed, later, meets, skip_in};
 
 use crate::Slot;
 use crate::ends::ends_of;
@@ -60,11 +60,10 @@ pub(crate) struct Notes {
 fn is_near(value: View<'_>) -> bool
     ensures { result ≡ is_near (value_of value.entry) }
 {
-    match value {
-        View::Int(number) => -(1 << 30) <= number && number <= 1 << 30,
-        View::Missing => true,
-        _ => false,
+    if let View::Int(number) = value {
+        return -(1 << 30) <= number && number <= 1 << 30;
     }
+    matches!(value, View::Missing)
 }
 
 // Whether the values of these variables in a sample are all such numbers or missing.
@@ -90,11 +89,11 @@ fn is_diagonal(a: i128, b: i128, c: i128, d: i128) -> bool
 fn has_number(sample: &[View<'_>], fixed: Fixed) -> bool
     ensures { result ≡ has_number (values_of sample.now) fixed }
 {
-    match value_at(sample, fixed.var) {
-        View::Int(number) => number == fixed.number,
-        View::Missing => true,
-        _ => false,
+    let value = value_at(sample, fixed.var);
+    if let View::Int(number) = value {
+        return number == fixed.number;
     }
+    matches!(value, View::Missing)
 }
 
 // Whether all these variables have their numbers in a sample, or none.
@@ -202,7 +201,7 @@ fn are_among(near: &[VarId], places: &[usize], u: VarId, v: VarId, w: VarId) -> 
     is_among(near, places, u) && (is_among(near, places, v) && is_among(near, places, w))
 }
 
-// Whether a slot of row 67 over three leaders is seen to be idle.
+// Whether a slot of row 67 over three leaders, a plane, is seen to be idle.
 fn is_idle_by(watch: &Watch, places: &[usize], slot: &Slot, u: VarId, v: VarId, w: VarId) -> bool
     requires row { slot.now.row.0 ≡ 67 }
     requires leaders { slot.now.leaders ≡ u ∷ v ∷ w ∷ [] }
@@ -210,6 +209,100 @@ fn is_idle_by(watch: &Watch, places: &[usize], slot: &Slot, u: VarId, v: VarId, 
 {
     is_idle_over(watch.fixed.as_slice(), u, v, w, &slot.state)
         && are_among(watch.near.as_slice(), places, u, v, w)
+}
+
+// Whether a number is at most 2^30 in size.
+fn is_near_number(number: i64) -> bool
+    ensures { result ≡ is_near_number number }
+{
+    -(1 << 30) <= number && number <= 1 << 30
+}
+
+// Whether the ends of a stretch are near, and one after the other.
+fn are_ends(first: i64, last: i64) -> bool
+    ensures { result ≡ ((is_near_number first && is_near_number last) && int_le first last) }
+{
+    (is_near_number(first) && is_near_number(last)) && first <= last
+}
+
+// Whether a state is a stretch of the line of equal numbers, and a variable's numbers are seen to be within it.
+fn is_own_stretch(watch: &Watch, place: usize, u: VarId, v: VarId, w: VarId, state: &State) -> bool
+    ensures { IsTrue result → is_own_stretch watch.now.ranges.items u v w state.now ≡ true }
+{
+    match state {
+        State::Span {
+            x1,
+            y1,
+            z1,
+            x2,
+            y2,
+            z2,
+        } => {
+            (u.0 == v.0 && v.0 == w.0)
+                && (*x1 == *y1 && *y1 == *z1)
+                && (*x2 == *y2 && *y2 == *z2)
+                && are_ends(*x1, *x2)
+                && is_above(watch.ranges.as_slice(), place, u, *x1)
+                && is_below(watch.ranges.as_slice(), place, u, *x2)
+        }
+        _ => false,
+    }
+}
+
+// Whether a slot of row 67 over three leaders, a stretch, is seen to be idle.
+fn is_idle_stretch(
+    watch: &Watch,
+    places: &Places,
+    slot: &Slot,
+    u: VarId,
+    v: VarId,
+    w: VarId,
+) -> bool
+    requires row { slot.now.row.0 ≡ 67 }
+    requires leaders { slot.now.leaders ≡ u ∷ v ∷ w ∷ [] }
+    ensures { IsTrue result → IsIdle watch.now slot.now }
+{
+    let place = place_of(places.ranges.as_slice(), u);
+    is_own_stretch(watch, place, u, v, w, &slot.state)
+        && is_among(watch.near.as_slice(), places.near.as_slice(), u)
+}
+
+// Whether a state is the line of equal numbers, over one variable.
+fn is_own_line(u: VarId, v: VarId, state: &State) -> bool
+    ensures { result ≡ is_own_line u v state.now }
+{
+    match state {
+        State::Straight { a, b, c } => u.0 == v.0 && (*a == 1 && (*b == -1 && *c == 0)),
+        _ => false,
+    }
+}
+
+// Whether a slot of row 15 over two leaders is seen to be idle.
+fn is_idle_line(watch: &Watch, places: &Places, slot: &Slot, u: VarId, v: VarId) -> bool
+    requires row { slot.now.row.0 ≡ 15 }
+    requires leaders { slot.now.leaders ≡ u ∷ v ∷ [] }
+    ensures { IsTrue result → IsIdle watch.now slot.now }
+{
+    is_own_line(u, v, &slot.state) && is_among(watch.near.as_slice(), places.near.as_slice(), u)
+}
+
+// Whether a slot of row 67 over three leaders is seen to be idle.
+fn is_idle_of_three(
+    watch: &Watch,
+    places: &Places,
+    slot: &Slot,
+    u: VarId,
+    v: VarId,
+    w: VarId,
+) -> bool
+    requires row { slot.now.row.0 ≡ 67 }
+    requires leaders { slot.now.leaders ≡ u ∷ v ∷ w ∷ [] }
+    ensures { IsTrue result → IsIdle watch.now slot.now }
+{
+    if is_idle_stretch(watch, places, slot, u, v, w) {
+        return true;
+    }
+    is_idle_by(watch, places.near.as_slice(), slot, u, v, w)
 }
 
 // Whether a least value is seen to be idle.
@@ -284,13 +377,15 @@ fn is_idle(watch: &Watch, places: &mut Places, slot: &Slot) -> bool
         [u, v] => {
             if 11 <= slot.row.0 && slot.row.0 <= 14 {
                 is_idle_comparison(watch, places, slot, *u, *v)
+            } else if slot.row.0 == 15 {
+                is_idle_line(watch, places, slot, *u, *v)
             } else {
                 false
             }
         }
         [u, v, w] => {
             if slot.row.0 == 67 {
-                is_idle_by(watch, places.near.as_slice(), slot, *u, *v, *w)
+                is_idle_of_three(watch, places, slot, *u, *v, *w)
             } else {
                 false
             }
