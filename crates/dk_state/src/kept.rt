@@ -1,5 +1,5 @@
 // What is kept of a point's samples, as it is saved.
-ghost use Rattle.std.specs.Prelude.{◌≡◌, ◌++◌, ◌∷◌, [], OnOk, flat_map};
+ghost use Rattle.std.specs.Prelude.{◌≡◌, ◌++◌, ◌∷◌, [], IfOk, OnOk, flat_map};
 ghost use Rattle.std.specs.Fmt.{decimal};
 ghost use Rattle.dk_classes.specs.Leaders.{own_leaders};
 ghost use Rattle.dk_engine.specs.Saved.{parts_of};

@@ -81,11 +81,11 @@ impl Entry for List<VarId> {
 fn truths(alloc: Global, bits: &[u8]) -> Result<List<bool>, NoMemory>
     ensures { IfOk result (λ truths. truths ≡ map (λ b. b == 49) bits.now) }
 {
-    let mut truths = Vec::with_capacity(alloc, bits.len())?;
+    let mut truths = List::from_vec(Vec::with_capacity(alloc, bits.len())?);
     for bit in bits {
         truths.push(*bit == b'1')?;
     }
-    Ok(List::from_vec(truths))
+    Ok(truths)
 }
 
 // The truth values of a pattern, if any come.
