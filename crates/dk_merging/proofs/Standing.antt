@@ -23,7 +23,7 @@ use Rattle.dk_points.specs.Table.{Point}
 use Rattle.dk_state.specs.Loading.{AreLoadedAs, IsLoadedAs}
 use Rattle.dk_state.specs.Saved.{saved_text}
 use Rattle.dk_state.specs.Spelling.{CanBeSaved, compact_form_at, content_of, saved_parts}
-use Rattle.dk_state.specs.StateFile.{StandForHistory, state_file_of}
+use Rattle.dk_state.specs.StateFile.{state_file_of}
 use Rattle.dk_state.specs.declared.loading.Loaded.{Loaded}
 use Rattle.dk_state.proofs.Histories.{history_meets, loaded_stands}
 use Rattle.dk_state.proofs.Loads.{map-map}

@@ -1,10 +1,10 @@
-use Rattle.std.specs.Prelude.{◌≡◌, List, Ok, ℕ}
-use Rattle.std.proofs.Common.{◌∙◌, ap, subst, sym}
+use Rattle.std.specs.Prelude.{List, Ok, ℕ}
+use Rattle.std.proofs.Common.{◌∙◌, subst, sym}
 use Rattle.std.proofs.lemmas.Result.{err_from_is_err_and}
 use Rattle.dk_merging.specs.Loading.{text_of}
 use Rattle.dk_merging.specs.Merging.{AnswersMerge, GivesBoth, file_of_both}
 use Rattle.dk_merging.specs.declared.merging.MergeFault.TheVariants.{BadFirst}
-use Rattle.dk_merging.proofs.MergedStates.{first_bad, history_spelled, none_bad}
+use Rattle.dk_merging.proofs.MergedStates.{history_spelled, none_bad}
 use Rattle.dk_merging.proofs.merging.merge_two.Goals as goal
 
 pub returns-clause-answers : goal.returns-clause-answers

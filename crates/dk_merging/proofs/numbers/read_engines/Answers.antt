@@ -1,5 +1,5 @@
 use Rattle.std.specs.Prelude.{◌≡◌, ◌<◌, ◌+◌, ℕ, All, List, length}
-use Rattle.std.proofs.Common.{◌∙◌, arith, get_or, inl, inr, subst, sym}
+use Rattle.std.proofs.Common.{◌∙◌, arith, get_or, inl, inr, subst}
 use Rattle.std.proofs.lemmas.Bool.{cases_lt}
 use Rattle.std.proofs.lemmas.List.{get_or_default}
 use Rattle.dk_engine.specs.Levels.{Whole}
