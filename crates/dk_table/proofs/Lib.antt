@@ -1,6 +1,7 @@
 pub mod Examples
 pub mod AllRecords
 pub mod Moving
+pub mod Masks
 pub mod Cutting
 pub mod Judged
 pub mod Pieces
@@ -8,6 +9,7 @@ pub mod Formed
 pub mod Bodies
 pub mod Plain
 pub mod Spelled
+pub mod Few
 pub mod Lined
 pub mod Taking
 pub mod Contents
@@ -18,6 +20,7 @@ pub mod Saying
 pub mod Steps
 pub mod Telling
 pub mod Traced
+pub mod Fitting
 pub mod Begun
 pub mod Sampled
 pub mod Counted

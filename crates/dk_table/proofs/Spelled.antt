@@ -24,7 +24,7 @@ record Writes (ds : List ℕ) (n : ℕ) : Type 0 where
   all : AllDigits 10 ds
   value : digits_value 10 ds ≡ n
 
-from_tests : (ds : List ℕ) → list_all (λ d. is_digit d 10) ds ≡ true → AllDigits 10 ds
+pub from_tests : (ds : List ℕ) → list_all (λ d. is_digit d 10) ds ≡ true → AllDigits 10 ds
 from_tests [] h = tt
 from_tests (d ∷ ds) h =
     let parts = and_parts (is_digit d 10) (list_all (λ d. is_digit d 10) ds) h in
@@ -67,7 +67,7 @@ differ a b h = go (bytes_eq a b) refl
 agree : (a b : List ℕ) → a ≡ b → bytes_eq a b ≡ true
 agree a b h = (bytes_eq-Decides a b).1 h
 
-abbrev fitting : ℤ → Option ℤ
+abbrev pub fitting : ℤ → Option ℤ
 fitting z = if fits_i64 z then Some z else None
 
 -- what fits is there, and fits

@@ -1,11 +1,13 @@
 // What the cells of a column write.
-ghost use Rattle.std.specs.Prelude.{◌≡◌, ◌++◌, ◌∷◌, [], IfOk, None, OnOk, Some, codes, is_some, option_map};
+ghost use Rattle.std.specs.Prelude.{◌≡◌, ◌++◌, ◌∷◌, [], IfOk, None, OnOk, Some, codes, is_some, option_map, true};
 ghost use Rattle.dk_base.specs.Numbers.{integer_of};
 ghost use Rattle.dk_base.specs.declared.values.Value.TheVariants as value;
 ghost use Rattle.dk_lines.specs.Passing.{joined};
 ghost use Rattle.dk_table.specs.Columns.{cell_value, option_lines, value_lines, written_value};
 
-use crate::cells::{TruthWords, decimal, is_shortest, push_quoted, truth, whole};
+use crate::cells::{
+    TruthWords, decimal, dot_in, is_decimal, is_shortest, is_whole, leads, push_quoted, truth,
+};
 use dk_base::NoMemory;
 use itoa::Buffer;
 
@@ -53,9 +55,9 @@ fn is_written(kind: ColumnKind, cell: &[u8], digits: &mut Vec<u8>) -> Result<boo
     ensures { IfOk result (λ is. is ≡ is_some (written_value kind cell.now)) }
 {
     match kind {
-        ColumnKind::Whole => Ok(whole(cell).is_some()),
+        ColumnKind::Whole => Ok(is_whole(cell)),
         ColumnKind::Truth(words) => Ok(truth(words, cell).is_some()),
-        ColumnKind::Decimal(places) => Ok(decimal(places, cell, digits)?.is_some()),
+        ColumnKind::Decimal(places) => is_decimal(places, cell, digits),
         ColumnKind::Text => Ok(true),
     }
 }
@@ -102,10 +104,31 @@ fn push_digits(text: &mut Vec<u8>, number: i64, digits: &[u8]) -> Result<(), NoM
 
 // The lines of the whole number that a cell writes. The cell is how it is printed.
 fn push_whole(text: &mut Vec<u8>, cell: &[u8]) -> Result<(), NoMemory>
+    requires { is_some (written_value ColumnKind.Whole cell.now) ≡ true }
     ensures { OnOk result (text.new.items ≡ text.old.items ++ option_lines (written_value ColumnKind.Whole cell.now)) }
 {
-    match whole(cell) {
-        Some(_) => push_told(text, cell),
+    push_told(text, cell)
+}
+
+// The lines of the number that digits in front of a dot and behind it write, where the digits are how it is printed.
+fn push_joined(text: &mut Vec<u8>, front: &[u8], back: &[u8]) -> Result<(), NoMemory>
+    ensures { OnOk result (text.new.items ≡ text.old.items ++ joined ((front.now ++ back.now) ∷ codes "1" ∷ [])) }
+{
+    text.extend_from_slice(front)?;
+    push_told(text, back)
+}
+
+// The lines of the decimal with so many places that a cell writes, whatever leads.
+fn push_scaled(
+    text: &mut Vec<u8>,
+    places: u32,
+    cell: &[u8],
+    digits: &mut Vec<u8>,
+) -> Result<(), NoMemory>
+    ensures { OnOk result (text.new.items ≡ text.old.items ++ option_lines (written_value (ColumnKind.Decimal places) cell.now)) }
+{
+    match decimal(places, cell, digits)? {
+        Some(number) => push_digits(text, number, digits.as_slice()),
         None => push_untold(text),
     }
 }
@@ -117,11 +140,15 @@ fn push_decimal(
     cell: &[u8],
     digits: &mut Vec<u8>,
 ) -> Result<(), NoMemory>
+    requires { is_some (written_value (ColumnKind.Decimal places) cell.now) ≡ true }
     ensures { OnOk result (text.new.items ≡ text.old.items ++ option_lines (written_value (ColumnKind.Decimal places) cell.now)) }
 {
-    match decimal(places, cell, digits)? {
-        Some(number) => push_digits(text, number, digits.as_slice()),
-        None => push_untold(text),
+    let dot = dot_in(places, cell);
+    let front = &cell[..dot];
+    if leads(front) {
+        push_joined(text, front, &cell[dot + 1..])
+    } else {
+        push_scaled(text, places, cell, digits)
     }
 }
 
@@ -151,6 +178,7 @@ fn push_written(
     cell: &[u8],
     digits: &mut Vec<u8>,
 ) -> Result<(), NoMemory>
+    requires { is_some (written_value kind cell.now) ≡ true }
     ensures { OnOk result (text.new.items ≡ text.old.items ++ option_lines (written_value kind cell.now)) }
 {
     match kind {
@@ -161,14 +189,15 @@ fn push_written(
     }
 }
 
-/// The two lines of the value of a cell in a column of this kind: the value's text, and the mark. An empty cell is missing. Digits of decimals
-/// are put into `digits`.
+/// The two lines of the value of a cell in a column of this kind: the value's text, and the mark. An empty cell is missing. That the cell fits its
+/// column is known, so it isn't read again. Digits of decimals are put into `digits`.
 pub(crate) fn push_cell(
     text: &mut Vec<u8>,
     kind: ColumnKind,
     cell: &[u8],
     digits: &mut Vec<u8>,
 ) -> Result<(), NoMemory>
+    requires { is_some (cell_value kind cell.now) ≡ true }
     ensures { OnOk result (text.new.items ≡ text.old.items ++ option_lines (cell_value kind cell.now)) }
 {
     if cell.is_empty() {

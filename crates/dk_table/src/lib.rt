@@ -11,6 +11,7 @@ mod faults;
 mod judging;
 pub mod laws;
 mod lines;
+mod marks;
 mod reading;
 mod records;
 mod rows;

@@ -1,5 +1,5 @@
 // The trace of a table.
-ghost use Rattle.std.specs.Prelude.{◌≡◌, ◌++◌, IfOk, OnOk, map, option_map, replicate};
+ghost use Rattle.std.specs.Prelude.{◌≡◌, ◌++◌, IfOk, None, OnOk, map, option_map, replicate};
 ghost use Rattle.std.specs.List.{zip};
 ghost use Rattle.dk_table.specs.Outcomes.{Answers};
 ghost use Rattle.dk_table.specs.Tables.{bodies_in};
@@ -213,6 +213,7 @@ pub(crate) fn plan_of(
 ) -> Result<Plan, TableFault>
     ensures answers { Answers (λ plan. plan_writes command.now plan files.now) (trace_at command.now point.now files.now) result }
     ensures plan { IfOk result IsPlan }
+    ensures told { IfOk result (λ plan. untold_row plan.kinds (bodies_in command.now 0 files.now) ≡ None) }
 {
     let names = names_of(alloc, command, files)?;
     let columns = names.as_slice();
