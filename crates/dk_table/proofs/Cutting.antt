@@ -1,13 +1,12 @@
 -- Cutting rows of bytes without quotes into cells.
-use Rattle.std.proofs.Common.{◌≡◌, ◌≢◌, ◌≤◌, ◌<◌, ◌+◌, ◌-◌, ◌∙◌, ◌==◌, ◌&&◌, ◌||◌, ◌⊎◌, inl, inr, ◌∷◌, ◌++◌, [], ℕ, zero, suc, Bool, true, false, List, Option, Some, None, drop, get_or, length, length-drop, map, take, refl, sym, ap, subst, arith, if◌then◌else◌}
+use Rattle.std.proofs.Common.{◌≡◌, ◌≢◌, ◌≤◌, ◌<◌, ◌+◌, ◌-◌, ◌∙◌, ◌==◌, ◌||◌, ◌⊎◌, inl, inr, ◌∷◌, ◌++◌, [], ℕ, zero, suc, Bool, true, false, List, Some, None, drop, get_or, length, length-drop, map, take, refl, sym, ap, subst, arith, if◌then◌else◌}
 use Rattle.std.specs.Borrow.{Bor}
-use Rattle.std.specs.Prelude.{◌%◌, count_by, min, nat_lt}
+use Rattle.std.specs.Prelude.{◌%◌, count_by, min}
 use Rattle.std.proofs.lemmas.Bool.Decides.{nat_tests}
 use Rattle.std.proofs.lemmas.Bool.{cases_lt, eqb-false, false≢true, ne_eqb}
-use Rattle.std.proofs.lemmas.List.{map-append, drop_all, drop_more, get_or-drop, take_all, take_more}
+use Rattle.std.proofs.lemmas.List.{map-append, drop_all, drop_more, get_or-drop, take_more}
 use Rattle.csv.specs.Machine.{Read, after_end, ends_at_end, ends_with, in_field, next_record, step}
 use Rattle.csv.specs.Reading.{is_bom, records_from, records_next, strip_bom}
-use Rattle.csv.specs.declared.parser.Action.TheVariants as act
 use Rattle.csv.specs.declared.parser.Config.{Config}
 use Rattle.csv.specs.declared.parser.State.{State}
 use Rattle.csv.specs.declared.parser.State.TheVariants as st
@@ -17,7 +16,7 @@ use Rattle.dk_table.specs.Cutting.{IsCut, IsUnquoted}
 use Rattle.dk_table.specs.Marks.{IsNextEnd, ends_cell}
 use Rattle.dk_table.specs.Placed.{Placed}
 use Rattle.dk_table.specs.Tables.{are_paired, config_by, placed_from}
-use Rattle.dk_table.proofs.AllRecords.{begun, behind_end, records_end, records_more, shrinks}
+use Rattle.dk_table.proofs.AllRecords.{behind_end, records_end, records_more}
 
 -- ---- bytes without quotes
 pub unquoted_drop : (k : ℕ) (bytes : List ℕ) → IsUnquoted bytes → IsUnquoted (drop k bytes)

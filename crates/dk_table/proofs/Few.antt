@@ -1,5 +1,5 @@
 -- Few digits write a number within 64 bits.
-use Rattle.std.proofs.Common.{◌≡◌, ◌≤◌, ◌<◌, ◌+◌, ◌-◌, ◌^◌, ◌∙◌, ◌==◌, ◌&&◌, ◌∷◌, ◌++◌, [], ℕ, ℤ, zero, suc, Bool, true, false, List, Option, Some, None, codes, drop, length, nat_le, nat_lt, refl, sym, ap, subst, arith, length-append, length-drop, length-take, take, if◌then◌else◌}
+use Rattle.std.proofs.Common.{◌≡◌, ◌≤◌, ◌<◌, ◌+◌, ◌-◌, ◌^◌, ◌∙◌, ◌==◌, ◌&&◌, ◌∷◌, ◌++◌, [], ℕ, zero, suc, Bool, true, false, List, Option, Some, None, codes, drop, length, nat_le, nat_lt, refl, sym, ap, arith, length-append, length-drop, length-take, take, if◌then◌else◌}
 use Rattle.std.specs.Prelude.{is_some, option_and_then, option_map, slice_index, ◌||◌}
 use Rattle.std.specs.Char.{digit_value, is_ascii_digit, is_digit}
 use Rattle.std.specs.Int.{IsInRange}
@@ -14,7 +14,7 @@ use Rattle.std.proofs.lemmas.List.Folds.{list_all-append}
 use Rattle.std.proofs.lemmas.Slice.Eq.{bytes_eq-Decides}
 use Rattle.std.proofs.lemmas.Str.{digit_value_digit}
 use Rattle.std.proofs.lemmas.Str.Parse.{digit_from_value}
-use Rattle.dk_base.specs.Numbers.{fits_i64, integer_of, is_numeral, negated, numeral_of, signed, whole_of}
+use Rattle.dk_base.specs.Numbers.{fits_i64, integer_of, is_numeral, numeral_of, signed, whole_of}
 use Rattle.dk_table.specs.Cells.{decimal_of, dot_of, is_dot, is_front, is_shortest, size_of, whole}
 use Rattle.dk_table.proofs.Spelled.{fitting, from_tests, whole_by}
 

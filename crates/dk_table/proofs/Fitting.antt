@@ -1,6 +1,6 @@
 -- Rows whose cells fit their columns.
-use Rattle.std.proofs.Common.{◌≡◌, ◌∙◌, ◌&&◌, ◌∷◌, ◌++◌, [], ℕ, Bool, true, false, List, Option, None, Result, Ok, is_some, map, refl, sym, ap}
-use Rattle.std.specs.Prelude.{find, not}
+use Rattle.std.proofs.Common.{◌≡◌, ◌∙◌, ◌&&◌, ◌∷◌, ◌++◌, [], ℕ, Bool, true, List, None, is_some, map, refl, sym, ap}
+use Rattle.std.specs.Prelude.{not}
 use Rattle.std.specs.List.{list_all, zip}
 use Rattle.std.proofs.lemmas.Bool.{and_parts, not-false}
 use Rattle.std.proofs.lemmas.List.Folds.{list_all-append}

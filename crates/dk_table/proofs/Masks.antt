@@ -1,9 +1,9 @@
 -- Masks of bytes that end cells.
-use Rattle.std.proofs.Common.{◌≡◌, ◌≤◌, ◌<◌, ◌+◌, ◌-◌, ◌∙◌, inl, inr, ◌==◌, ◌||◌, ap, arith, Bool, bit_or, false, true, get_or, length, List, refl, subst, sym, ℕ, if◌then◌else◌}
+use Rattle.std.proofs.Common.{◌≡◌, ◌≤◌, ◌<◌, ◌+◌, ◌-◌, ◌∙◌, inl, inr, ◌==◌, ◌||◌, ap, arith, Bool, bit_or, false, true, get_or, length, List, refl, ℕ, if◌then◌else◌}
 use Rattle.std.specs.Int.{bit_at}
 use Rattle.std.specs.Prelude.{max, slice_index}
 use Rattle.std.proofs.lemmas.Bool.{cases_lt}
-use Rattle.std.proofs.lemmas.Nat.Bits.{bit_at-lt, bit_at_or, bit_at-zero}
+use Rattle.std.proofs.lemmas.Nat.Bits.{bit_at_or, bit_at-zero}
 use Rattle.dk_table.specs.Marks.{AreAhead, HasBytes, IsMask, IsNextEnd, ends_cell}
 use Rattle.dk_table.specs.declared.marks.Marks.{Marks}
 

@@ -1,16 +1,13 @@
 -- Whole numbers that cells write, by their digits.
-use Rattle.std.proofs.Common.{◌≡◌, ◌≢◌, ◌≤◌, ◌<◌, ◌+◌, ◌-◌, ◌^◌, ◌∙◌, ◌==◌, ◌&&◌, ◌||◌, ◌∷◌, ◌++◌, [], ℕ, ℤ, pos, negsuc, zero, suc, Bool, true, false, List, Option, Some, None, codes, drop, get_or, length, refl, sym, ap, subst, arith, nat_lt, append_assoc, length-append, length-drop, if◌then◌else◌}
-use Rattle.std.specs.Prelude.{not, is_some, option_and_then, option_map, take}
-use Rattle.std.specs.Char.{digit_value, is_ascii_digit, is_digit}
+use Rattle.std.proofs.Common.{◌≡◌, ◌≢◌, ◌<◌, ◌^◌, ◌∙◌, ◌==◌, ◌&&◌, ◌||◌, ◌∷◌, [], ℕ, ℤ, zero, suc, Bool, true, false, List, Option, Some, None, drop, get_or, length, refl, sym, ap, arith, nat_lt, if◌then◌else◌}
+use Rattle.std.specs.Prelude.{not, option_and_then, option_map}
+use Rattle.std.specs.Char.{digit_value, is_digit}
 use Rattle.std.specs.Fmt.{decimal, signed_decimal}
 use Rattle.std.specs.List.{list_all}
 use Rattle.std.specs.Str.{bytes_eq}
 use Rattle.std.specs.Str.Parse.{AllDigits, digits_value}
-use Rattle.std.proofs.Math.Nat.{pow-le-pow_right}
-use Rattle.std.proofs.lemmas.Bool.{and_parts, eqb-true, eqb-false, false≢true, lt-ltb, ltb-true, ne_eqb}
-use Rattle.std.proofs.lemmas.Bool.Decides.{nat_tests}
+use Rattle.std.proofs.lemmas.Bool.{and_parts, eqb-true, eqb-false, lt-ltb, ltb-true, ne_eqb}
 use Rattle.std.proofs.lemmas.Fmt.{decimal-digits_value, decimal_digit, first_decimal}
-use Rattle.std.proofs.lemmas.Int.Digits.{digits_value-lt}
 use Rattle.std.proofs.lemmas.Slice.Eq.{bytes_eq-Decides}
 use Rattle.std.proofs.lemmas.Str.Parse.{digit_from_value, numerals_by_value, tells_digits}
 use Rattle.dk_base.specs.Numbers.{fits_i64, integer_of, is_numeral, negated, numeral_of, signed, whole_of}

@@ -1,4 +1,4 @@
-use Rattle.std.proofs.Common.{◌∙◌, ap, arith, Option, Some, ℕ}
+use Rattle.std.proofs.Common.{◌∙◌, ap, arith, Some, ℕ}
 use Rattle.dk_table.proofs.Few.{decimal_dot, dot_is}
 use Rattle.dk_table.proofs.cells.dot_in.Goals as goal
 

@@ -1,4 +1,4 @@
-use Rattle.std.proofs.Common.{◌∙◌, ap, arith, sym}
+use Rattle.std.proofs.Common.{◌∙◌, ap, sym}
 use Rattle.std.specs.Prelude.{not}
 use Rattle.dk_table.proofs.Few.{digits_decide, none_decide}
 use Rattle.dk_table.proofs.cells.is_integer.Goals as goal

@@ -1,4 +1,4 @@
-use Rattle.std.proofs.Common.{◌≡◌, ◌<◌, ap, arith, inl, inr, length, map, refl, sym, List, ℕ}
+use Rattle.std.proofs.Common.{◌<◌, ap, arith, inl, inr, length, map, List, ℕ}
 use Rattle.std.specs.Borrow.{Bor}
 use Rattle.dk_table.proofs.Cutting.{cell_cut, cuts_none, pushed, row_cut}
 use Rattle.dk_table.proofs.lines.cut_cells.Goals.{then-end-bytes-via-then-end-bytes, then-end-bytes-via-else-end-bytes+then-bytes-end}

@@ -1,4 +1,4 @@
-use Rattle.std.proofs.Common.{◌≡◌, ◌<◌, ◌+◌, ◌∙◌, ap, arith, get_or, length, rules, sym, true, ℕ}
+use Rattle.std.proofs.Common.{◌≡◌, ◌<◌, ◌+◌, ◌∙◌, ap, arith, get_or, length, sym, true, ℕ}
 use Rattle.csv.specs.Machine.{ends_with}
 use Rattle.csv.specs.declared.parser.Terminator.TheVariants as term
 use Rattle.dk_table.proofs.Cutting.{blank_next, blank_passed}

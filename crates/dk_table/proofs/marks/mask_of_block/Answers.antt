@@ -1,4 +1,3 @@
-use Rattle.std.proofs.Common.{arith, sym}
 use Rattle.dk_table.proofs.Masks.{mask_joined}
 use Rattle.dk_table.proofs.marks.mask_of_block.Goals as goal
 

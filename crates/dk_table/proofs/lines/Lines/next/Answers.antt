@@ -1,4 +1,4 @@
-use Rattle.std.proofs.Common.{◌≡◌, ◌≤◌, ◌<◌, ◌+◌, ◌∙◌, ap, arith, length, List, map, refl, sym, ℕ}
+use Rattle.std.proofs.Common.{◌≤◌, ◌<◌, ◌+◌, ◌∙◌, ap, arith, length, List, map, refl, sym, ℕ}
 use Rattle.dk_table.specs.Cursors.{Cursor, line_row}
 use Rattle.dk_table.proofs.Cutting.{moves, no_row, one_row, stays}
 use Rattle.dk_table.proofs.lines.Lines.next.Goals as goal

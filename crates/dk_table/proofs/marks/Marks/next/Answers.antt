@@ -1,4 +1,4 @@
-use Rattle.std.proofs.Common.{arith, subst, ◌≡◌, ◌+◌, ℕ, length}
+use Rattle.std.proofs.Common.{subst, ◌+◌, ℕ, length}
 use Rattle.dk_table.specs.Marks.{IsNextEnd}
 use Rattle.dk_table.proofs.Masks.{lowest_ends, none_ends}
 use Rattle.dk_table.proofs.marks.Marks.next.Goals as goal
