@@ -8,6 +8,7 @@ pub mod Pieces
 pub mod Formed
 pub mod Bodies
 pub mod Plain
+pub mod Truths
 pub mod Spelled
 pub mod Few
 pub mod Lined

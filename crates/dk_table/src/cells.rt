@@ -100,6 +100,14 @@ pub(crate) fn truth(words: TruthWords, cell: &[u8]) -> Option<bool>
     }
 }
 
+/// Whether the truth value that the cell writes in this spelling is the true one, which its length tells.
+pub(crate) fn is_yes(words: TruthWords, cell: &[u8]) -> bool
+    requires { is_some (truth words cell.now) ≡ true }
+    ensures { truth words cell.now ≡ Some result }
+{
+    cell.len() == yes(words).len()
+}
+
 // Whether the bytes in front of a dot are a whole number as it is printed, or `-0`.
 #[tactic(auto, unfolding(crate::specs::Cells::is_front))]
 fn is_front(front: &[u8]) -> bool

@@ -1,12 +1,13 @@
 // What the cells of a column write.
-ghost use Rattle.std.specs.Prelude.{◌≡◌, ◌++◌, ◌∷◌, [], IfOk, None, OnOk, Some, codes, is_some, option_map, true};
+ghost use Rattle.std.specs.Prelude.{◌≡◌, ◌++◌, ◌∷◌, [], IfOk, None, OnOk, Some, codes, is_some, true};
 ghost use Rattle.dk_base.specs.Numbers.{integer_of};
 ghost use Rattle.dk_base.specs.declared.values.Value.TheVariants as value;
 ghost use Rattle.dk_lines.specs.Passing.{joined};
 ghost use Rattle.dk_table.specs.Columns.{cell_value, option_lines, value_lines, written_value};
 
 use crate::cells::{
-    TruthWords, decimal, dot_in, is_decimal, is_shortest, is_whole, leads, push_quoted, truth,
+    TruthWords, decimal, dot_in, is_decimal, is_shortest, is_whole, is_yes, leads, push_quoted,
+    truth,
 };
 use dk_base::NoMemory;
 use itoa::Buffer;
@@ -152,13 +153,15 @@ fn push_decimal(
     }
 }
 
-fn push_truth(text: &mut Vec<u8>, truth: Option<bool>) -> Result<(), NoMemory>
-    ensures { OnOk result (text.new.items ≡ text.old.items ++ option_lines (option_map (λ b. value.Bool b) truth)) }
+// The lines of the truth value that a cell writes. By the length of its word it is known which.
+fn push_truth(text: &mut Vec<u8>, words: TruthWords, cell: &[u8]) -> Result<(), NoMemory>
+    requires { is_some (written_value (ColumnKind.Truth words) cell.now) ≡ true }
+    ensures { OnOk result (text.new.items ≡ text.old.items ++ option_lines (written_value (ColumnKind.Truth words) cell.now)) }
 {
-    match truth {
-        Some(true) => push_told(text, b"true"),
-        Some(false) => push_told(text, b"false"),
-        None => push_untold(text),
+    if is_yes(words, cell) {
+        push_told(text, b"true")
+    } else {
+        push_told(text, b"false")
     }
 }
 
@@ -183,7 +186,7 @@ fn push_written(
 {
     match kind {
         ColumnKind::Whole => push_whole(text, cell),
-        ColumnKind::Truth(words) => push_truth(text, truth(words, cell)),
+        ColumnKind::Truth(words) => push_truth(text, words, cell),
         ColumnKind::Decimal(places) => push_decimal(text, places, cell, digits),
         ColumnKind::Text => push_text(text, cell),
     }

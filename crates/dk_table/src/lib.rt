@@ -8,6 +8,7 @@ mod cells;
 mod columns;
 mod command;
 mod faults;
+mod file_bytes;
 mod judging;
 pub mod laws;
 mod lines;

@@ -13,6 +13,7 @@ ghost use Rattle.dk_table.specs.Writing.{EndsCut, Tells, TellsFront, status_of};
 
 use crate::columns::{ColumnKind, push_cell};
 use crate::command::Command;
+use crate::file_bytes::FileBytes;
 use crate::rows::Rows;
 use crate::traces::Plan;
 use dk_base::{List, NoMemory, Text};
@@ -209,14 +210,14 @@ fn tell_files<S: Sinks>(
     gathered: &mut Gathered,
     form: &Form,
     command: &Command,
-    files: &[Text],
+    files: &[FileBytes],
     sinks: &mut S,
 ) -> Result<(), Halt>
     requires { all_fit form.now (bodies_in command.now 0 files.now) ≡ true }
     ensures { Tells (gathered.old.text.items ++ rows_text form.now (bodies_in command.now 0 files.now)) gathered.new.text.items (S.written sinks.old) (S.written sinks.new) (S.faults sinks.old) (S.faults sinks.new) result }
 {
     for file in 0..files.len() {
-        let mut rows = Rows::body(alloc, command, file, files[file].as_slice())?;
+        let mut rows = Rows::body(alloc, command, file, &files[file])?;
         tell_rows(gathered, form, &mut rows, sinks)?;
     }
     Ok(())
@@ -248,7 +249,7 @@ fn write_trace<S: Sinks>(
     alloc: Global,
     command: &Command,
     plan: &Plan,
-    files: &[Text],
+    files: &[FileBytes],
     sinks: &mut S,
 ) -> Result<(), Halt>
     requires plan { IsPlan plan.now }
@@ -266,7 +267,7 @@ pub(crate) fn tell_trace<S: Sinks>(
     alloc: Global,
     command: &Command,
     plan: &Plan,
-    files: &[Text],
+    files: &[FileBytes],
     sinks: &mut S,
 ) -> Ended
     requires plan { IsPlan plan.now }

@@ -26,7 +26,7 @@ returns-in_err-tell_rows g c =
     let lt : i < length files = omega arith in
     let is : bodies_in command i (drop i files) ≡ own ++ rest =
     bodies_more command [] files i c.index-files-file.result lt c.index-files-file.is
-    ∙ ap (λ (l : List Placed). l ++ rest) (sym (c.in_ok-rows.ensures ∙ ap (body_in command i) c.as_slice.ensures)) in
+    ∙ ap (λ (l : List Placed). l ++ rest) (sym c.in_ok-rows.ensures) in
     let p = err_from_is_err_and c.from_residual-in_err-tell_rows.result c.from_residual-in_err-tell_rows.ensures.1 in
     rw (p.1, p.2)
     (cut_then _ (text ++ rows_text form own) (rows_text form rest) _ _ _ _ _ _ (told_as _ _ _ _ _ _ _ (rows_apart form text (bodies_in command i (drop i files)) own rest is) c.loop-file.invariant.told)
@@ -43,7 +43,7 @@ tell_rows-requires g c =
     let lt : i < length files = omega arith in
     let is : bodies_in command i (drop i files) ≡ own ++ rest =
     bodies_more command [] files i c.index-files-file.result lt c.index-files-file.is
-    ∙ ap (λ (l : List Placed). l ++ rest) (sym (c.in_ok-rows.ensures ∙ ap (body_in command i) c.as_slice.ensures)) in
+    ∙ ap (λ (l : List Placed). l ++ rest) (sym c.in_ok-rows.ensures) in
     (fit_parts form (bodies_in command i (drop i files)) own rest is c.loop-file.invariant.fit).own_fit
 
 pub loop-file-preserved : goal.loop-file-preserved
@@ -58,7 +58,7 @@ loop-file-preserved g c =
     let lt : i < length files = omega arith in
     let is : bodies_in command i (drop i files) ≡ own ++ rest =
     bodies_more command [] files i c.index-files-file.result lt c.index-files-file.is
-    ∙ ap (λ (l : List Placed). l ++ rest) (sym (c.in_ok-rows.ensures ∙ ap (body_in command i) c.as_slice.ensures)) in
+    ∙ ap (λ (l : List Placed). l ++ rest) (sym c.in_ok-rows.ensures) in
     record {
       told =
           told_then _ (text ++ rows_text form own) (rows_text form rest) _ _ _ _ _ _
