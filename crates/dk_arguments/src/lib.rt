@@ -7,8 +7,6 @@ mod among;
 mod arguments;
 mod clap_command;
 mod description;
-#[cfg(test)]
-mod examples;
 mod fault;
 pub mod laws;
 mod matches;

@@ -87,28 +87,3 @@ impl<'p> PatternIndex<'p> {
         }
     }
 }
-
-#[cfg(test)]
-mod tests {
-    use super::*;
-    use std::process::Abort;
-    use std::test::Fail;
-
-    #[test]
-    fn an_index_tells_the_counts_of_its_leaders(rt: HostRuntime) -> Result<(), Fail> {
-        let alloc = rt.alloc();
-        let none = Presence::new(alloc)?;
-        let one = none.add(&[VarId(0), VarId(1), VarId(2)])?;
-        let two = one.add(&[VarId(0), VarId(1)])?;
-        let three = two.add(&[VarId(2)])?;
-        let four = three.add(&[VarId(0), VarId(1), VarId(2)])?;
-        let leaders = [VarId(0), VarId(1), VarId(2)];
-        let index = PatternIndex::of(alloc, &four, &leaders)?;
-        assert!(rt; index.count(&[VarId(1)]) == Some(3));
-        assert!(rt; index.count(&[VarId(2), VarId(0)]) == Some(2));
-        assert!(rt; index.count(&leaders) == Some(2));
-        assert!(rt; index.count(&[]) == Some(4));
-        assert!(rt; index.count(&[VarId(0), VarId(3)]) == None);
-        Ok(())
-    }
-}

@@ -20,11 +20,11 @@ whether it holds in all samples of its point.
   --ignore-missing-entry  leave out exits without an entry, default refuse them
   -h, --help              print this text and read nothing
   -V, --version           print the name and the version and read nothing
-  --                      take all words behind it as names of files
+  --                      take all arguments after it as names of files
 
 Only FILE may be given more than once.
 
-Behind the point's name and the text the report says one of these:
+After the point's name and the text the report says one of these:
 
   ok [N]                  it holds in all samples, and N of them have all of its
                           variables
@@ -33,9 +33,9 @@ Behind the point's name and the text the report says one of these:
   unknown                 there is no such point, or no such text of its
                           variables
 
-Status: 0 done, also where a text is violated, 1 a line is refused, 2 the words
-are refused, 3 a file can't be read, 4 the output can't be written, 5 out of
-memory.
+Status: 0 done, also where a text is violated, 1 a line is refused, 2 the
+arguments are refused, 3 a file can't be read, 4 the output can't be written, 5
+out of memory.
 
 Example: dk_check report.txt new.dtrace | grep \": violated at \"
 ";

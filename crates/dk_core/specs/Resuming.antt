@@ -3,7 +3,8 @@ use Rattle.std.specs.Prelude.{◌≡◌, ◌≤◌, ◌^◌, ℕ, List, [], fals
 use Rattle.dk_decl.specs.Headers.{awaits_word, is_implicit}
 use Rattle.dk_hierarchy.specs.Samples.{OwnSamples}
 use Rattle.dk_state.specs.Spelling.{CanBeSaved, Content, IsContent, text_of_content}
-use Rattle.dk_state.specs.StateFile.{state_file_of}
+use Rattle.dk_state.specs.StateFile.{StandForHistory, state_file_of}
+use Rattle.dk_state.specs.declared.loading.Loaded.{Loaded}
 use Rattle.dk_template.specs.declared.grammar.Grammar.{Grammar}
 use Rattle.dk_blocks.specs.History.{History, nothing_by}
 use Rattle.dk_blocks.specs.Standing.{IsBetweenFiles}
@@ -19,6 +20,14 @@ pub record IsStart (h : History) : Type 0 where
   pub no_word : awaits_word h.header ≡ false
   pub many : length h.samples ≡ length h.table
   pub saved : CanBeSaved h.grammar h.table h.samples
+
+-- A state that is loaded is this history's: it declares the same, and its engines stand for the history's samples.
+pub record IsOfLoaded (l : Loaded) (h : History) : Type 0 where
+  pub start : IsStart h
+  pub grammar : l.grammar ≡ h.grammar
+  pub table : l.points ≡ h.table
+  pub word : l.implicit ≡ is_implicit h.header
+  pub stand : StandForHistory h.grammar h.table l.engines h.samples
 
 -- A history between two files that has the table and the comparability word of a state with these bytes, whatever its samples: those of
 -- some content that has the bytes as its text.

@@ -1,12 +1,15 @@
 // A session.
-ghost use Rattle.std.specs.Prelude.{◌≡◌, ◌≤◌, ◌<◌, ◌+◌, ◌-◌, ◌^◌, min, not, ◌++◌, [], Bool, List, ℕ, Err, IfOk, OnOk, IfSome, IsErrOf, Ok, length, true, false, if◌then◌else◌};
+ghost use Rattle.std.specs.Prelude.{◌≡◌, ◌≤◌, ◌<◌, ◌+◌, ◌-◌, ◌^◌, min, not, ◌++◌, [], All, Bool, List, ℕ, Err, IfOk, OnOk, IfSome, IsErrOf, Ok, length, map, true, false, if◌then◌else◌};
 ghost use Rattle.dk_blocks.specs.History.{History, no_history, file_ended};
+ghost use Rattle.dk_blocks.specs.Standing.{IsBetweenFiles};
+ghost use Rattle.dk_decl.specs.Headers.{is_implicit};
 ghost use Rattle.dk_hierarchy.specs.Samples.{own_samples_of};
-ghost use Rattle.dk_hierarchy.specs.Standing.{EngineStandsFor};
+ghost use Rattle.dk_hierarchy.specs.Standing.{AreEnginesOf, EngineStandsFor};
 ghost use Rattle.dk_io.specs.Outside.{Rose};
 ghost use Rattle.dk_lines.specs.Reading.{left_of};
-ghost use Rattle.dk_state.specs.Spelling.{IsSpelling};
-ghost use Rattle.dk_core.specs.Resuming.{HasTableOfState, IsStart, state_file};
+ghost use Rattle.dk_state.specs.Saved.{saved_text};
+ghost use Rattle.dk_state.specs.Spelling.{IsOwnTable, IsSpelling};
+ghost use Rattle.dk_core.specs.Resuming.{HasTableOfState, IsOfLoaded, IsStart, state_file};
 ghost use Rattle.dk_core.specs.Sections.{has_own_samples, has_section, section_of, some_if, stats_of};
 ghost use Rattle.dk_core.specs.Selecting.{SelectsBy};
 ghost use Rattle.dk_core.specs.Standing.{ReportsAlike, SessionReadsFor, SessionStandsFor, blocks_of, file_of, grammar_of, left_with_answer, options_of, over_of, points_of, saved_of, select_of};
@@ -19,7 +22,7 @@ use dk_io::Inputs;
 use dk_lines::Lines;
 use dk_points::Points;
 use dk_report::Options;
-use dk_state::{LoadFault, load};
+use dk_state::{LoadFault, Loaded, load};
 use dk_template::Grammar;
 use std::alloc::Global;
 
@@ -67,6 +70,32 @@ impl<F: Fn(&[u8]) -> bool + Drop> Session<F> {
         })
     }
 
+    /// The session of a state that is loaded, in its grammar. No blocks count yet.
+    pub fn of_loaded(
+        alloc: Global,
+        select: F,
+        options: Options,
+        loaded: Loaded,
+    ) -> Result<Session<F>, NoMemory>
+        requires table { IsOwnTable loaded.points }
+        requires engines { AreEnginesOf loaded.points loaded.engines × All (λ e. e.grammar ≡ loaded.grammar) loaded.engines }
+        ensures stands { IfOk result (λ s. (h : History) → IsOfLoaded loaded h → SessionStandsFor s h) }
+        ensures reads { IfOk result (λ s. (h : History) → IsBetweenFiles h → loaded.points ≡ h.table → loaded.implicit ≡ is_implicit h.header → SessionReadsFor s h) }
+        ensures saves { IfOk result (λ s. saved_of s ≡ saved_text loaded.grammar loaded.points loaded.implicit (map (λ e. e.kept) loaded.engines)) }
+        ensures options { IfOk result (λ s. options_of s ≡ options) }
+        ensures select { IfOk result (λ s. select_of s ≡ select) }
+        ensures counts { IfOk result (λ s. (blocks_of s ≡ 0) × (file_of s ≡ 0) × (over_of s ≡ false)) }
+    {
+        let kept = Kept::of_state(alloc, loaded)?;
+        Ok(Session {
+            alloc,
+            kept,
+            select,
+            options,
+            blocks: 0,
+        })
+    }
+
     /// The session of what a state file says, in the grammar of its version. No blocks count yet. `BadState` comes exactly where the bytes are
     /// no state.
     pub fn resume(
@@ -84,16 +113,9 @@ impl<F: Fn(&[u8]) -> bool + Drop> Session<F> {
         ensures select { IfOk result (λ s. select_of s ≡ select) }
         ensures counts { IfOk result (λ s. (blocks_of s ≡ 0) × (file_of s ≡ 0) × (over_of s ≡ false)) }
     {
-        let blocks = 0;
         match load(alloc, state) {
-            Ok(loaded) => match Kept::of_state(alloc, loaded) {
-                Ok(kept) => Ok(Session {
-                    alloc,
-                    kept,
-                    select,
-                    options,
-                    blocks,
-                }),
+            Ok(loaded) => match Session::of_loaded(alloc, select, options, loaded) {
+                Ok(session) => Ok(session),
                 Err(NoMemory) => Err(LoadFault::NoMemory),
             },
             Err(fault) => Err(fault),

@@ -4,8 +4,6 @@
 #![tactic(auto)]
 
 mod consumer;
-#[cfg(test)]
-mod examples;
 mod fault;
 mod feed;
 pub mod laws;

@@ -27,7 +27,7 @@ use Rattle.dk_engine.specs.Feeding.{with_sample}
 use Rattle.dk_engine.specs.declared.slot.Slot.{Slot}
 
 -- ---- samples in which a variable is missing
-of_missing : (row : RowId) (vars : List VarId) (sample : List Value) (s : State) → is_whole (tuple_in vars sample) ≡ false → with_sample row vars sample s ≡ s
+pub of_missing : (row : RowId) (vars : List VarId) (sample : List Value) (s : State) → is_whole (tuple_in vars sample) ≡ false → with_sample row vars sample s ≡ s
 of_missing row vars sample s f =
     let t = tuple_in vars sample in
     ap (λ b. if b then joined (form_of row) s (state_of row (t ∷ [])) else s) f

@@ -1,3 +1,4 @@
+pub mod KnownNumbers
 pub mod Leading
 pub mod SlotLists
 pub mod SlotLookups

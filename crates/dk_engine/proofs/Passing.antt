@@ -25,7 +25,7 @@ use Rattle.dk_template.specs.declared.grammar.RowId.{RowId}
 use Rattle.dk_ternary.specs.Rows.{linear_ternary_row}
 use Rattle.dk_engine.proofs.Stretches.{planar_sample}
 use Rattle.dk_engine.specs.Feeding.{with_sample}
-use Rattle.dk_engine.specs.Idle.{AreNotes, AreSkips, IsIdle, PassesStill, agree, are_among, are_fixed, are_near, are_same, has_number, is_axis, is_diagonal, is_among, is_fixed, is_idle_over, is_listed, is_near, is_number, is_passed, later, meets, skip_in}
+use Rattle.dk_engine.specs.Idle.{AreNotes, AreSkips, IsIdle, PassesStill, agree, are_among, are_fixed, are_near, are_same, are_so, are_within, has_number, is_axis, is_diagonal, is_among, is_fixed, is_idle_over, is_listed, is_near, is_number, is_passed, later, meets, skip_in}
 use Rattle.dk_engine.specs.Narrow.{change_by, with_change, with_growth, with_state}
 use Rattle.dk_engine.specs.Parts.{no_slot, slot_in}
 use Rattle.dk_engine.specs.declared.changes.Change.{Change}
@@ -41,7 +41,7 @@ one_near (value.Int z) h there = (z, refl, h)
 one_near value.Missing h there = absurd (false≢true there)
 one_near _ h there = absurd (false≢true h)
 
-near_among : (near : List VarId) (sample : List Value) → are_near near sample ≡ true → (v : VarId) → is_among near v ≡ true → is_near (value_in sample v) ≡ true
+pub near_among : (near : List VarId) (sample : List Value) → are_near near sample ≡ true → (v : VarId) → is_among near v ≡ true → is_near (value_in sample v) ≡ true
 near_among [] sample are v h = absurd (false≢true h)
 near_among (n ∷ near) sample are v h =
     let told = and_parts (is_near (value_in sample n)) (are_near near sample) are in
@@ -216,9 +216,10 @@ idle_plane near fixed u v w _ h among sample are agrees = absurd (false≢true h
 pub idle_slot : (watch : Watch) (slot : Slot) → slot.row.0 ≡ 67 → (u v w : VarId) → slot.leaders ≡ u ∷ v ∷ w ∷ []
     → is_idle_over watch.fixed.items u v w slot.state ≡ true → are_among watch.near.items u v w ≡ true → IsIdle watch slot
 idle_slot watch slot e u v w over h among sample meeting =
-    let told = and_parts (are_near watch.near.items sample) (agree sample watch.fixed.items) meeting in
+    let near = and_parts (are_near watch.near.items sample) (agree sample watch.fixed.items && (are_within sample watch.ranges.items && are_so sample watch.compared.items)) meeting in
+    let told = and_parts (agree sample watch.fixed.items) (are_within sample watch.ranges.items && are_so sample watch.compared.items) near.1 in
     let row : slot.row ≡ linear_ternary_row = ap (λ (n : ℕ). (let r : RowId = record { 0 = n } in r)) e in
-    ap (λ r. with_sample r slot.leaders sample slot.state) row ∙ (ap (λ vs. with_sample linear_ternary_row vs sample slot.state) over ∙ idle_plane watch.near.items watch.fixed.items u v w slot.state h among sample told.0 told.1)
+    ap (λ r. with_sample r slot.leaders sample slot.state) row ∙ (ap (λ vs. with_sample linear_ternary_row vs sample slot.state) over ∙ idle_plane watch.near.items watch.fixed.items u v w slot.state h among sample near.0 told.0)
 
 -- ---- notes
 none_in : (n k : ℕ) → skip_in (replicate n 0) k ≡ 0

@@ -265,6 +265,10 @@ fn add_next(
     ensures within { IfOk result (λ next. next ≤ length slots.now) }
     ensures below { IfOk result (λ next. AreFoundBelow next (outcome asked (read_after after.now.whole.kept after.now.sample) after.now.sample) slots.now found.new) }
 {
+    let passed = passed_to(skips, place, slots.len());
+    if !asked && place < passed {
+        return Ok(passed);
+    }
     let end = run_end(asked, after.ends(), slots, place);
     if place < end {
         add_changes(after, asked, skips, slots, place, end, found)?;

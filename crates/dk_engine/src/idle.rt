@@ -1,18 +1,24 @@
-// Slots that no sample changes in which their variables have near numbers: planes that say of a variable, which stands at two roles, that
-// it is itself, and such that say of a variable that it has the number that it had, as a constant has. A search for changed slots passes
-// over them, where the variables of such planes have near numbers, and those of the second kind these, or are missing. Other variables
-// aren't asked, so that truth values, codes, strings and sequences at a point don't matter.
-ghost use Rattle.std.specs.Prelude.{◌≡◌, ◌<◌, ◌+◌, ◌==◌, ◌&&◌, ◌∷◌, [], neg_ℤ, true, IfOk, IsTrue, length, replicate, slice_set};
+// Slots that no sample changes of which some facts are true. Planes that say of a variable, which stands at two roles, that it is itself,
+// and such that say of a variable that it has the number that it had, as a constant has: the facts are that their variables' numbers are
+// near, and that number. Bounds that rest, and comparisons: the facts are what they say. A search for changed slots passes over them where
+// all facts are true; a fact is true of a variable that is missing. Other variables aren't asked, so that truth values, codes, strings and
+// sequences at a point don't matter.
+ghost use Rattle.std.specs.Prelude.{◌≡◌, ◌<◌, ◌≤◌, ◌+◌, ◌==◌, ◌&&◌, ◌∷◌, [], neg_ℤ, true, IfOk, IsTrue, int_le, length, replicate, slice_set};
 ghost use Rattle.std.specs.Ordering.{int_eq};
 ghost use Rattle.dk_base.specs.Values.{value_of, values_of};
-ghost use Rattle.dk_engine.specs.Idle.{AreNotes, AreSkips, IsIdle, agree, are_among, are_fixed, are_near, are_same, has_number, is_axis, is_diagonal, is_fixed, is_idle_over, is_listed, is_near, is_passed, later, meets, skip_in};
+ghost use Rattle.dk_engine.specs.Idle.{AreNotes, AreSkips, IsIdle, agree, are_among, are_fixed, are_near, are_same, has_number, is_axis, is_compared, is_diagonal, is_fixed, is_idle_greatest, is_idle_least, is_idle_over, is_listed, is_near, is_near_number, is_own_line, is_own_stretch, is_passed, later, meets, skip_in};
 
 use crate::Slot;
 use crate::ends::ends_of;
-use crate::near::{Near, is_among};
+use crate::facts::{
+    Compared, Range, Ranges, are_so, are_within, compared_by, is_above, is_below, is_compared,
+};
+use crate::moves::Moves;
+use crate::near::{Near, is_among, place_of};
+use crate::staying::holds;
 use dk_base::{NoMemory, VarId, View};
 use dk_samples::value_at;
-use dk_template::State;
+use dk_template::{RowId, State};
 use std::alloc::Global;
 
 /// A variable with the number that it had in all samples, as a plane says.
@@ -22,12 +28,23 @@ pub(crate) struct Fixed {
     pub(crate) number: i64,
 }
 
-/// What a sample is asked before slots are passed over: whether these variables have near numbers, and these the numbers that they had,
-/// or are missing.
+/// What a sample is asked before slots are passed over: whether these variables have near numbers, these the numbers that they had, these
+/// such within their bounds, and these two compare so, or are missing.
 #[derive(Drop)]
 pub(crate) struct Watch {
     pub(crate) near: Vec<VarId>,
     pub(crate) fixed: Vec<Fixed>,
+    pub(crate) ranges: Vec<Range>,
+    pub(crate) compared: Vec<Compared>,
+}
+
+// At which places of a watch's lists a variable stands, and how many comparisons are left of those that slots are looked for from behind.
+// Nothing is said of it: who uses one looks whether it is right.
+#[derive(Drop)]
+struct Places {
+    near: Vec<usize>,
+    ranges: Vec<usize>,
+    left: usize,
 }
 
 /// What is noted of slots: what a sample is asked, and for each place, up to where the slots from there on are passed over, and where
@@ -43,11 +60,10 @@ pub(crate) struct Notes {
 fn is_near(value: View<'_>) -> bool
     ensures { result ≡ is_near (value_of value.entry) }
 {
-    match value {
-        View::Int(number) => -(1 << 30) <= number && number <= 1 << 30,
-        View::Missing => true,
-        _ => false,
+    if let View::Int(number) = value {
+        return -(1 << 30) <= number && number <= 1 << 30;
     }
+    matches!(value, View::Missing)
 }
 
 // Whether the values of these variables in a sample are all such numbers or missing.
@@ -73,11 +89,11 @@ fn is_diagonal(a: i128, b: i128, c: i128, d: i128) -> bool
 fn has_number(sample: &[View<'_>], fixed: Fixed) -> bool
     ensures { result ≡ has_number (values_of sample.now) fixed }
 {
-    match value_at(sample, fixed.var) {
-        View::Int(number) => number == fixed.number,
-        View::Missing => true,
-        _ => false,
+    let value = value_at(sample, fixed.var);
+    if let View::Int(number) = value {
+        return number == fixed.number;
     }
+    matches!(value, View::Missing)
 }
 
 // Whether all these variables have their numbers in a sample, or none.
@@ -92,11 +108,14 @@ fn agree(sample: &[View<'_>], fixed: &[Fixed]) -> bool
     true
 }
 
-/// Whether a sample meets the watch: its variables have near numbers, or the numbers that they had, or are missing.
+/// Whether a sample meets the watch: all its facts are true of the sample.
 pub(crate) fn meets(watch: &Watch, sample: &[View<'_>]) -> bool
     ensures { result ≡ meets watch.now (values_of sample.now) }
 {
-    are_near(sample, watch.near.as_slice()) && agree(sample, watch.fixed.as_slice())
+    are_near(sample, watch.near.as_slice())
+        && (agree(sample, watch.fixed.as_slice())
+            && (are_within(sample, watch.ranges.as_slice())
+                && are_so(sample, watch.compared.as_slice())))
 }
 
 // Whether one number is the opposite of another.
@@ -182,7 +201,7 @@ fn are_among(near: &[VarId], places: &[usize], u: VarId, v: VarId, w: VarId) -> 
     is_among(near, places, u) && (is_among(near, places, v) && is_among(near, places, w))
 }
 
-// Whether a slot of row 67 over three leaders is seen to be idle.
+// Whether a slot of row 67 over three leaders, a plane, is seen to be idle.
 fn is_idle_by(watch: &Watch, places: &[usize], slot: &Slot, u: VarId, v: VarId, w: VarId) -> bool
     requires row { slot.now.row.0 ≡ 67 }
     requires leaders { slot.now.leaders ≡ u ∷ v ∷ w ∷ [] }
@@ -192,15 +211,185 @@ fn is_idle_by(watch: &Watch, places: &[usize], slot: &Slot, u: VarId, v: VarId, 
         && are_among(watch.near.as_slice(), places, u, v, w)
 }
 
-// Whether the slot is seen to be idle.
-fn is_idle(watch: &Watch, places: &[usize], slot: &Slot) -> bool
+// Whether a number is at most 2^30 in size.
+fn is_near_number(number: i64) -> bool
+    ensures { result ≡ is_near_number number }
+{
+    -(1 << 30) <= number && number <= 1 << 30
+}
+
+// Whether the ends of a stretch are near, and one after the other.
+fn are_ends(first: i64, last: i64) -> bool
+    ensures { result ≡ ((is_near_number first && is_near_number last) && int_le first last) }
+{
+    (is_near_number(first) && is_near_number(last)) && first <= last
+}
+
+// Whether a state is a stretch of the line of equal numbers, and a variable's numbers are seen to be within it.
+fn is_own_stretch(watch: &Watch, place: usize, u: VarId, v: VarId, w: VarId, state: &State) -> bool
+    ensures { IsTrue result → is_own_stretch watch.now.ranges.items u v w state.now ≡ true }
+{
+    match state {
+        State::Span {
+            x1,
+            y1,
+            z1,
+            x2,
+            y2,
+            z2,
+        } => {
+            (u.0 == v.0 && v.0 == w.0)
+                && (*x1 == *y1 && *y1 == *z1)
+                && (*x2 == *y2 && *y2 == *z2)
+                && are_ends(*x1, *x2)
+                && is_above(watch.ranges.as_slice(), place, u, *x1)
+                && is_below(watch.ranges.as_slice(), place, u, *x2)
+        }
+        _ => false,
+    }
+}
+
+// Whether a slot of row 67 over three leaders, a stretch, is seen to be idle.
+fn is_idle_stretch(
+    watch: &Watch,
+    places: &Places,
+    slot: &Slot,
+    u: VarId,
+    v: VarId,
+    w: VarId,
+) -> bool
+    requires row { slot.now.row.0 ≡ 67 }
+    requires leaders { slot.now.leaders ≡ u ∷ v ∷ w ∷ [] }
     ensures { IsTrue result → IsIdle watch.now slot.now }
 {
-    if slot.row.0 != 67 {
-        return false;
+    let place = place_of(places.ranges.as_slice(), u);
+    is_own_stretch(watch, place, u, v, w, &slot.state)
+        && is_among(watch.near.as_slice(), places.near.as_slice(), u)
+}
+
+// Whether a state is the line of equal numbers, over one variable.
+fn is_own_line(u: VarId, v: VarId, state: &State) -> bool
+    ensures { result ≡ is_own_line u v state.now }
+{
+    match state {
+        State::Straight { a, b, c } => u.0 == v.0 && (*a == 1 && (*b == -1 && *c == 0)),
+        _ => false,
     }
+}
+
+// Whether a slot of row 15 over two leaders is seen to be idle.
+fn is_idle_line(watch: &Watch, places: &Places, slot: &Slot, u: VarId, v: VarId) -> bool
+    requires row { slot.now.row.0 ≡ 15 }
+    requires leaders { slot.now.leaders ≡ u ∷ v ∷ [] }
+    ensures { IsTrue result → IsIdle watch.now slot.now }
+{
+    is_own_line(u, v, &slot.state) && is_among(watch.near.as_slice(), places.near.as_slice(), u)
+}
+
+// Whether a slot of row 67 over three leaders is seen to be idle.
+fn is_idle_of_three(
+    watch: &Watch,
+    places: &Places,
+    slot: &Slot,
+    u: VarId,
+    v: VarId,
+    w: VarId,
+) -> bool
+    requires row { slot.now.row.0 ≡ 67 }
+    requires leaders { slot.now.leaders ≡ u ∷ v ∷ w ∷ [] }
+    ensures { IsTrue result → IsIdle watch.now slot.now }
+{
+    if is_idle_stretch(watch, places, slot, u, v, w) {
+        return true;
+    }
+    is_idle_by(watch, places.near.as_slice(), slot, u, v, w)
+}
+
+// Whether a least value is seen to be idle.
+fn is_idle_least(watch: &Watch, places: &Places, v: VarId, state: &State) -> bool
+    ensures { IsTrue result → is_idle_least watch.now.ranges.items v state.now ≡ true }
+{
+    match state {
+        State::Least(least) => {
+            let place = place_of(places.ranges.as_slice(), v);
+            is_above(watch.ranges.as_slice(), place, v, *least)
+        }
+        _ => false,
+    }
+}
+
+// Whether a greatest value is.
+fn is_idle_greatest(watch: &Watch, places: &Places, v: VarId, state: &State) -> bool
+    ensures { IsTrue result → is_idle_greatest watch.now.ranges.items v state.now ≡ true }
+{
+    match state {
+        State::Greatest(greatest) => {
+            let place = place_of(places.ranges.as_slice(), v);
+            is_below(watch.ranges.as_slice(), place, v, *greatest)
+        }
+        _ => false,
+    }
+}
+
+// Whether a slot of row 2 or 3 over a leader is seen to be idle.
+fn is_idle_bound(watch: &Watch, places: &Places, slot: &Slot, v: VarId) -> bool
+    requires { slot.now.leaders ≡ v ∷ [] }
+    ensures { IsTrue result → IsIdle watch.now slot.now }
+{
+    if slot.row.0 == 2 {
+        is_idle_least(watch, places, v, &slot.state)
+    } else if slot.row.0 == 3 {
+        is_idle_greatest(watch, places, v, &slot.state)
+    } else {
+        false
+    }
+}
+
+// Whether the comparison of this row of these two is seen to be the last of those that are left, which it leaves then.
+fn is_next(watch: &Watch, places: &mut Places, row: RowId, u: VarId, v: VarId) -> bool
+    ensures { IsTrue result → is_compared watch.now.compared.items row.0 u v ≡ true }
+{
+    let last = places.left.saturating_sub(1);
+    if is_compared(watch.compared.as_slice(), last, row, u, v) {
+        places.left = last;
+        true
+    } else {
+        false
+    }
+}
+
+// Whether a slot of a comparison over two leaders is seen to be idle.
+fn is_idle_comparison(watch: &Watch, places: &mut Places, slot: &Slot, u: VarId, v: VarId) -> bool
+    requires from { 11 ≤ slot.now.row.0 }
+    requires to { slot.now.row.0 ≤ 14 }
+    requires leaders { slot.now.leaders ≡ u ∷ v ∷ [] }
+    ensures { IsTrue result → IsIdle watch.now slot.now }
+{
+    holds(&slot.state) && is_next(watch, places, slot.row, u, v)
+}
+
+// Whether the slot is seen to be idle.
+fn is_idle(watch: &Watch, places: &mut Places, slot: &Slot) -> bool
+    ensures { IsTrue result → IsIdle watch.now slot.now }
+{
     match slot.leaders.as_slice() {
-        [u, v, w] => is_idle_by(watch, places, slot, *u, *v, *w),
+        [v] => is_idle_bound(watch, places, slot, *v),
+        [u, v] => {
+            if 11 <= slot.row.0 && slot.row.0 <= 14 {
+                is_idle_comparison(watch, places, slot, *u, *v)
+            } else if slot.row.0 == 15 {
+                is_idle_line(watch, places, slot, *u, *v)
+            } else {
+                false
+            }
+        }
+        [u, v, w] => {
+            if slot.row.0 == 67 {
+                is_idle_of_three(watch, places, slot, *u, *v, *w)
+            } else {
+                false
+            }
+        }
         _ => false,
     }
 }
@@ -346,7 +535,7 @@ fn note(skips: &mut [usize], place: usize)
 }
 
 // The slot at the place is passed over, if it is seen to be idle.
-fn note_idle(watch: &Watch, places: &[usize], skips: &mut [usize], slots: &[Slot], place: usize)
+fn note_idle(watch: &Watch, places: &mut Places, skips: &mut [usize], slots: &[Slot], place: usize)
     requires within { place < length slots.now }
     requires notes { AreNotes watch.now slots.now skips.old }
     ensures { AreNotes watch.now slots.now skips.new }
@@ -368,16 +557,17 @@ fn none_passed(alloc: Global, count: usize) -> Result<Vec<usize>, NoMemory>
 fn skips_of(
     alloc: Global,
     watch: &Watch,
-    places: &[usize],
+    places: Places,
     slots: &[Slot],
 ) -> Result<Vec<usize>, NoMemory>
     ensures { IfOk result (λ skips. AreSkips watch.now slots.now skips.items) }
 {
+    let mut places = places;
     let mut skips = none_passed(alloc, slots.len())?;
     for behind in 0..slots.len() {
         note_idle(
             watch,
-            places,
+            &mut places,
             skips.as_mut_slice(),
             slots,
             slots.len() - 1 - behind,
@@ -392,6 +582,8 @@ impl Watch {
         Watch {
             near: Vec::new(alloc),
             fixed: Vec::new(alloc),
+            ranges: Vec::new(alloc),
+            compared: Vec::new(alloc),
         }
     }
 }
@@ -409,28 +601,39 @@ impl Notes {
     }
 
     // What can be noted of slots.
-    fn of(alloc: Global, slots: &[Slot]) -> Result<Notes, NoMemory>
+    fn of(alloc: Global, moves: &Moves, slots: &[Slot]) -> Result<Notes, NoMemory>
         ensures { IfOk result (λ notes. AreSkips notes.watch slots.now notes.skips.items) }
     {
         let fixed = fixed_by(alloc, slots)?;
-        let Near { vars, places } = near_by(alloc, fixed.as_slice(), slots)?;
-        let watch = Watch { near: vars, fixed };
-        let skips = skips_of(alloc, &watch, places.as_slice(), slots)?;
+        let near = near_by(alloc, fixed.as_slice(), slots)?;
+        let ranges = Ranges::of(alloc, moves, slots)?;
+        let compared = compared_by(alloc, slots)?;
+        let places = Places {
+            near: near.places,
+            ranges: ranges.places,
+            left: compared.len(),
+        };
+        let watch = Watch {
+            near: near.vars,
+            fixed,
+            ranges: ranges.all,
+            compared,
+        };
+        let skips = skips_of(alloc, &watch, places, slots)?;
         let ends = ends_of(alloc, slots)?;
         Ok(Notes { watch, skips, ends })
     }
 }
 
-/// What is noted of slots, and what can be, if nothing is noted and memory can be had.
-pub(crate) fn notes_of(alloc: Global, slots: &[Slot], notes: Notes) -> Notes
-    requires { AreSkips notes.watch slots.now notes.skips.items }
+/// What is noted of slots, if that is worth it and memory can be had.
+pub(crate) fn notes_of(alloc: Global, moves: &Moves, slots: &[Slot]) -> Notes
     ensures { AreSkips result.watch slots.now result.skips.items }
 {
-    if !notes.skips.is_empty() {
-        return notes;
+    if !moves.are_worth_notes() {
+        return Notes::none(alloc);
     }
-    match Notes::of(alloc, slots) {
-        Ok(more) => more,
-        Err(_) => notes,
+    match Notes::of(alloc, moves, slots) {
+        Ok(notes) => notes,
+        Err(_) => Notes::none(alloc),
     }
 }

@@ -14,8 +14,8 @@ pub(crate) struct Near {
     pub(crate) places: Vec<usize>,
 }
 
-// The place that is noted for a variable.
-fn place_of(places: &[usize], v: VarId) -> usize {
+/// The place that is noted for a variable; where none is, 0.
+pub(crate) fn place_of(places: &[usize], v: VarId) -> usize {
     match places.get(v.0 as usize) {
         Some(place) => *place,
         None => 0,
@@ -29,8 +29,8 @@ pub(crate) fn is_among(near: &[VarId], places: &[usize], v: VarId) -> bool
     stands_at(near, place_of(places, v), v)
 }
 
-// A place is noted for a variable.
-fn note_place(places: &mut Vec<usize>, v: VarId, place: usize) -> Result<(), NoMemory> {
+/// A place is noted for a variable.
+pub(crate) fn note_place(places: &mut Vec<usize>, v: VarId, place: usize) -> Result<(), NoMemory> {
     let number = v.0 as usize;
     for _ in places.len()..number + 1 {
         places.push(0)?;

@@ -12,15 +12,18 @@ use crate::changes::{Change, Found};
 use crate::changing::is_broken;
 use crate::growing::{Growth, grow};
 use crate::idle::{Notes, is_passed, meets, notes_of};
+use crate::moves::Moves;
 use dk_base::{NoMemory, View};
 use std::alloc::Global;
 use std::marker::Model;
 
-/// Slots, which contracts see as a list. Beside them may be noted which of them a search for changed slots passes over.
+/// Slots, which contracts see as a list. Beside them may be noted which of them a search for changed slots passes over, and which bounds
+/// moved.
 #[derive(Drop)]
 pub struct Slots {
     all: Vec<Slot>,
     notes: Notes,
+    moves: Moves,
 }
 
 impl Model for Slots {
@@ -114,6 +117,13 @@ fn keep_notes(alloc: Global, notes: &mut Notes, found: &Found)
     }
 }
 
+// Which bounds move with all changes, as far as memory can be had.
+fn note_moves(moves: &mut Moves, slots: &[Slot], found: &Found) {
+    if moves.note_changes(slots, found.changes.as_slice()).is_err() {
+        moves.forget();
+    }
+}
+
 impl Slots {
     /// No slots. It takes no memory.
     pub fn new(alloc: Global) -> Slots
@@ -122,6 +132,7 @@ impl Slots {
         Slots {
             all: Vec::new(alloc),
             notes: Notes::none(alloc),
+            moves: Moves::none(alloc),
         }
     }
 
@@ -162,8 +173,12 @@ impl Slots {
     pub(crate) fn of(all: Vec<Slot>) -> Slots
         ensures { result ≡ all.items }
     {
-        let notes = Notes::none(*all.allocator());
-        Slots { all, notes }
+        let alloc = *all.allocator();
+        Slots {
+            all,
+            notes: Notes::none(alloc),
+            moves: Moves::none(alloc),
+        }
     }
 
     // The slots, with the memory that they lie in.
@@ -177,6 +192,7 @@ impl Slots {
     pub(crate) fn change(&mut self, found: Found)
         ensures { self.new ≡ fold with_change (fold with_growth self.old found.growths) found.changes }
     {
+        note_moves(&mut self.moves, self.all.as_slice(), &found);
         keep_notes(*self.all.allocator(), &mut self.notes, &found);
         let Found { growths, changes } = found;
         let slots = self.all.as_mut_slice();
@@ -192,12 +208,13 @@ impl Slots {
         self.all.retain(|slot| !is_broken(&slot.state));
     }
 
-    // Notes which of the slots are passed over, if that wasn't so and memory can be had.
+    // Notes which of the slots are passed over, behind a sample more, if that isn't so or is to be done anew.
     pub(crate) fn note_skips(&mut self, alloc: Global)
         ensures { self.new ≡ self.old }
     {
-        if self.notes.skips.is_empty() {
-            self.notes = notes_of(alloc, self.all.as_slice(), Notes::none(alloc));
+        let anew = self.moves.count();
+        if anew || self.notes.skips.is_empty() {
+            self.notes = notes_of(alloc, &self.moves, self.all.as_slice());
         }
     }
 }

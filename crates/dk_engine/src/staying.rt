@@ -60,9 +60,9 @@ fn stays_greatest(slot: &Slot, sample: &[View<'_>], v: VarId) -> bool
     }
 }
 
-// Whether what a row of a comparison, one of rows 11 to 14, says is so of two numbers.
+/// Whether what a row of a comparison, one of rows 11 to 14, says is so of two numbers.
 #[inline(always)]
-fn is_so(row: RowId, x: i64, y: i64) -> bool
+pub(crate) fn is_so(row: RowId, x: i64, y: i64) -> bool
     ensures { result ≡ compares row.0 x y }
 {
     if row.0 == 13 {
@@ -76,9 +76,9 @@ fn is_so(row: RowId, x: i64, y: i64) -> bool
     }
 }
 
-// Whether the state is Holds.
+/// Whether the state is Holds.
 #[inline(always)]
-fn holds(state: &State) -> bool
+pub(crate) fn holds(state: &State) -> bool
     ensures { result ≡ is_holds state.now }
 {
     matches!(state, State::Holds)

@@ -6,6 +6,7 @@ pub mod SameNumbers
 pub mod Shapes
 pub mod ValueTexts
 pub mod Words
+pub mod Numbered
 pub mod Pushed
 pub mod Stated
 pub mod SameParts

@@ -1,6 +1,6 @@
 // What is found of an instance in a text.
 ghost use Rattle.std.specs.Prelude.{◌≡◌, ◌+◌, ◌<◌, ◌^◌, drop, if◌then◌else◌};
-ghost use Rattle.dk_expr.specs.Following.{past, start, with_factor, with_var};
+ghost use Rattle.dk_expr.specs.Following.{past, start, with_factor, with_number, with_var};
 
 use dk_base::VarId;
 
@@ -29,6 +29,16 @@ pub(crate) struct Found {
     /// Where the values begin, and where what is said of a hash code does.
     pub(crate) values: usize,
     pub(crate) code: usize,
+}
+
+/// A number that a part tells, which is no factor.
+#[derive(Clone, Copy)]
+pub(crate) enum Said {
+    Bound,
+    Remainder,
+    Modulus,
+    Offset,
+    Constant,
 }
 
 // The new value, or the old one.
@@ -93,6 +103,34 @@ impl Found {
             second_factor: chosen(role == 1, factor, self.second_factor),
             third_factor: chosen(role == 2, factor, self.third_factor),
             ..self
+        }
+    }
+
+    /// With the number that a part tells.
+    pub(crate) fn with_number(self, said: Said, number: i128) -> Found
+        ensures { result ≡ with_number said number self }
+    {
+        match said {
+            Said::Bound => Found {
+                bound: number,
+                ..self
+            },
+            Said::Remainder => Found {
+                remainder: number,
+                ..self
+            },
+            Said::Modulus => Found {
+                modulus: number,
+                ..self
+            },
+            Said::Offset => Found {
+                offset: number,
+                ..self
+            },
+            Said::Constant => Found {
+                constant: number,
+                ..self
+            },
         }
     }
 

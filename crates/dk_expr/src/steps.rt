@@ -1,13 +1,13 @@
 // The ways in which a part can be read in the front of what is left of a text.
-ghost use Rattle.std.specs.Prelude.{◌≡◌, ◌++◌, ◌+◌, ◌<◌, ◌≤◌, ◌^◌, ℕ, Contains, List, OnOk, Some, drop, if◌then◌else◌, length, map, pos, take};
+ghost use Rattle.std.specs.Prelude.{◌≡◌, ◌++◌, ◌+◌, ◌<◌, ◌≤◌, ◌^◌, ℕ, Contains, List, OnOk, Some, drop, if◌then◌else◌, length, map, take};
 ghost use Rattle.dk_graph.specs.Notes.{noted_under};
-ghost use Rattle.dk_expr.specs.Following.{past, with_var};
+ghost use Rattle.dk_expr.specs.Following.{past, with_number, with_var};
 ghost use Rattle.dk_expr.specs.Readable.{begins_blank, may_be};
 ghost use Rattle.dk_expr.specs.Searches.{FindsConstant, FindsName, FindsNumber, FindsPart, FindsProduct, FindsStep, FindsTerm, FindsTimes, KeepsAll};
 ghost use Rattle.dk_print.specs.Shown.{part_shown};
 ghost use Rattle.dk_expr.specs.declared.found.Found.{Found};
 
-use crate::found::Found;
+use crate::found::{Found, Said};
 use crate::names::Names;
 use crate::numbers::{number_at, sign_at, step_at, with_sign};
 use dk_base::{List, NoMemory, VarId};
@@ -188,74 +188,20 @@ fn with_word(text: &[u8], word: &[u8], found: Found) -> Option<Found>
     }
 }
 
-// A bound.
-fn with_bound(text: &[u8], found: Found) -> Option<Found>
-    ensures { FindsNumber text.now found (λ k. record found { bound = k }) result }
+// A number.
+fn with_number(text: &[u8], said: Said, found: Found) -> Option<Found>
+    ensures { FindsNumber text.now found (λ k. with_number said k found) result }
 {
     let number = number_at(found.rest(text))?;
-    let told = Found {
-        bound: number.value,
-        ..found
-    };
-    Some(told.past(number.len))
+    Some(found.past(number.len).with_number(said, number.value))
 }
 
-// A remainder.
-fn with_remainder(text: &[u8], found: Found) -> Option<Found>
-    ensures { FindsNumber text.now found (λ k. record found { remainder = k }) result }
-{
-    let number = number_at(found.rest(text))?;
-    let told = Found {
-        remainder: number.value,
-        ..found
-    };
-    Some(told.past(number.len))
-}
-
-// A modulus.
-fn with_modulus(text: &[u8], found: Found) -> Option<Found>
-    ensures { FindsNumber text.now found (λ k. record found { modulus = k }) result }
-{
-    let number = number_at(found.rest(text))?;
-    let told = Found {
-        modulus: number.value,
-        ..found
-    };
-    Some(told.past(number.len))
-}
-
-// An offset with its sign.
-fn with_step(text: &[u8], found: Found) -> Option<Found>
-    ensures { FindsStep text.now found (λ k. record found { offset = k }) result }
+// A number with its sign.
+fn with_step(text: &[u8], said: Said, found: Found) -> Option<Found>
+    ensures { FindsStep text.now found (λ k. with_number said k found) result }
 {
     let number = step_at(found.rest(text))?;
-    let told = Found {
-        offset: number.value,
-        ..found
-    };
-    Some(told.past(number.len))
-}
-
-// A constant with its sign.
-fn with_constant(text: &[u8], found: Found) -> Option<Found>
-    ensures { FindsStep text.now found (λ k. record found { constant = k }) result }
-{
-    let number = step_at(found.rest(text))?;
-    let told = Found {
-        constant: number.value,
-        ..found
-    };
-    Some(told.past(number.len))
-}
-
-// A constant of 0, which is left out.
-fn without_constant(found: Found) -> Found
-    ensures { result ≡ record found { constant = pos 0 } }
-{
-    Found {
-        constant: 0,
-        ..found
-    }
+    Some(found.past(number.len).with_number(said, number.value))
 }
 
 // A constant with its sign, or 0 where there is none.
@@ -263,8 +209,8 @@ fn push_constant(text: &[u8], found: Found, list: &mut List<Found>) -> Result<()
     ensures keeps { OnOk result (KeepsAll list.old list.new) }
     ensures finds { OnOk result (FindsConstant text.now found (λ k. record found { constant = k }) list.new) }
 {
-    push_some(Some(without_constant(found)), list)?;
-    push_some(with_constant(text, found), list)
+    push_some(Some(found.with_number(Said::Constant, 0)), list)?;
+    push_some(with_step(text, Said::Constant, found), list)
 }
 
 // The values, which are all that is left.
@@ -304,14 +250,14 @@ pub(crate) fn push_part(
     match part {
         Part::Word(word) => push_some(with_word(text, word, found), list),
         Part::Named(role) => push_named(names, text, role, following, found, list),
-        Part::Bound => push_some(with_bound(text, found), list),
+        Part::Bound => push_some(with_number(text, Said::Bound, found), list),
         Part::Values => push_some(Some(with_values(text, found)), list),
         Part::NullOr(_) => push_some(Some(with_code(text, found)), list),
-        Part::Remainder => push_some(with_remainder(text, found), list),
-        Part::Modulus => push_some(with_modulus(text, found), list),
+        Part::Remainder => push_some(with_number(text, Said::Remainder, found), list),
+        Part::Modulus => push_some(with_number(text, Said::Modulus, found), list),
         Part::Lead(role) => push_times(names, text, role, false, following, found, list),
         Part::Term(role) => push_term(names, text, role, following, found, list),
         Part::Constant => push_constant(text, found, list),
-        Part::Step => push_some(with_step(text, found), list),
+        Part::Step => push_some(with_step(text, Said::Offset, found), list),
     }
 }

@@ -8,8 +8,6 @@ pub mod laws;
 mod pages;
 mod reports;
 mod sections;
-#[cfg(test)]
-mod tests;
 
 pub use formats::Format;
 pub use reports::report;

@@ -4,7 +4,5 @@
 mod functions;
 mod parameters;
 mod quoting;
-#[cfg(test)]
-mod tests;
 
 pub use functions::{preamble, push_assertion, push_closing, push_comment, push_opening};

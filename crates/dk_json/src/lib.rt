@@ -5,8 +5,6 @@ mod fields;
 mod lines;
 mod rows;
 mod states;
-#[cfg(test)]
-mod tests;
 mod texts;
 
 pub use lines::{Claimed, Instance, line};

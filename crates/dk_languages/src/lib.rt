@@ -16,8 +16,6 @@ mod rows;
 mod smtlib;
 mod speaking;
 mod tellings;
-#[cfg(test)]
-mod tests;
 mod variables;
 
 pub use languages::Language;

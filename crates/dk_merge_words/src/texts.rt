@@ -25,12 +25,12 @@ in turn until none is left. The report and the state are those of that file.
                    none, the FILEs are states
   -h, --help       print this text and read nothing
   -V, --version    print the name and the version and read nothing
-  --               take all words behind it as FILEs
+  --               take all arguments after it as FILEs
 
-A value may stand behind = in the same word, as in --turns=1. Only FILE may be
-given more than once.
+A value may stand after = in the same argument, as in --turns=1. Only FILE may
+be given more than once.
 
-Status: 0 done, 1 a line or a state is refused, 2 the words are refused, 3 a
+Status: 0 done, 1 a line or a state is refused, 2 the arguments are refused, 3 a
 file can't be read, 4 the output can't be written, 5 out of memory.
 
 Examples: dk_merge --min-samples 1 monday.state tuesday.state

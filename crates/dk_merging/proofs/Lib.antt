@@ -4,9 +4,10 @@ pub mod Zipping
 pub mod Heads
 pub mod SlotsFit
 pub mod EnginesOfBoth
-pub mod MergedStates
 pub mod MergedFiles
 pub mod PartsTold
 pub mod Readings
 pub mod OneJoin
 pub mod OneAnswer
+pub mod Standing
+pub mod MergedStates

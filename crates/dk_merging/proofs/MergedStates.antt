@@ -1,26 +1,30 @@
 -- What is answered of two states.
-use Rattle.std.specs.Prelude.{◌≡◌, ℕ, Bool, List, Result, Ok, Err, refl}
-use Rattle.std.proofs.Common.{◌∙◌, subst, sym}
+use Rattle.std.specs.Prelude.{◌≡◌, ℕ, Bool, List, Result, Ok, Err, map, refl}
+use Rattle.std.proofs.Common.{◌∙◌, ap, subst, sym}
 use Rattle.dk_engine.specs.Levels.{Whole}
 use Rattle.dk_hierarchy.specs.Samples.{OwnSamples}
 use Rattle.dk_join.specs.declared.joining.JoinFault.{JoinFault}
 use Rattle.dk_join.specs.declared.joining.JoinFault.TheVariants as join
 use Rattle.dk_points.specs.Table.{Point}
-use Rattle.dk_state.specs.Spelling.{CanBeSaved, IsSpelling, content_of}
+use Rattle.dk_state.specs.Loading.{AreLoadedAs}
+use Rattle.dk_state.specs.Saved.{saved_text}
+use Rattle.dk_state.specs.Spelling.{CanBeSaved, IsSpelling, content_of, saved_parts}
 use Rattle.dk_state.specs.StateFile.{StandForHistory, state_file_of}
 use Rattle.dk_state.specs.declared.loading.Loaded.{Loaded}
 use Rattle.dk_state.proofs.Histories.{content_text, history_meets}
 use Rattle.dk_state.proofs.Loads.{content_loaded, loaded_meets, loaded_text}
+use Rattle.dk_state.proofs.SameTexts.{saved_is_state_file}
 use Rattle.dk_template.specs.declared.grammar.Grammar.{Grammar}
 use Rattle.dk_merging.specs.Engines.{HaveNoJoinSomewhere}
 use Rattle.dk_merging.specs.Faults.{IsJoinFault}
 use Rattle.dk_merging.specs.Fronts.{front_of}
-use Rattle.dk_merging.specs.Loading.{AreOfOneHead, IsBadOr, IsLoadOf, IsOfHistory, MakesBoth, head_of}
+use Rattle.dk_merging.specs.Loading.{AreOfOneHead, IsBadOr, IsLoadOf, IsOfBoth, IsOfHistory, MakesBoth, head_of, text_of, texts_of}
 use Rattle.dk_merging.specs.Merging.{AnswersMerge, CanBeMerged, GivesBoth, Head, Says, file_of_both, own_of_both}
 use Rattle.dk_merging.specs.declared.merging.MergeFault.{MergeFault}
 use Rattle.dk_merging.specs.declared.merging.MergeFault.TheVariants.{BadFirst, BadSecond, Different, Joined, NoMemory}
 use Rattle.dk_merging.proofs.EnginesOfBoth.{both_of_grammar, both_of_table, both_saved, both_stand, none_unjoined}
 use Rattle.dk_merging.proofs.Heads.{all_alike, one_front, one_head}
+use Rattle.dk_merging.proofs.Standing.{both_loaded, stand_for_history}
 
 -- ---- one state
 pub bad_bytes : (bytes : List ℕ) (bad : MergeFault) → (IsSpelling bytes → ⊥) → IsBadOr bytes bad bad
@@ -60,11 +64,6 @@ none_bad both bytes bad Different is h = h.1 is
 none_bad both bytes bad Joined is h = h.1 is
 none_bad both bytes bad NoMemory is h = tt
 
--- a fault of a join
-pub join_fault_made : (one other : Loaded) (e : JoinFault) (f : MergeFault) → (e ≡ join.Joined → HaveNoJoinSomewhere one.engines other.engines) → IsJoinFault e f → MakesBoth one other (Err f)
-join_fault_made one other join.Joined f none is = subst (λ (m : MergeFault). MakesBoth one other (Err m)) (sym is) (none refl)
-join_fault_made one other join.NoMemory f none is = subst (λ (m : MergeFault). MakesBoth one other (Err m)) (sym is) tt
-
 -- what is said by engines that can be saved is one
 pub said_spelled : (head : Head) (engines : List Whole) (bytes : List ℕ) → Says head engines bytes → IsSpelling bytes
 said_spelled head engines bytes says =
@@ -86,25 +85,39 @@ module _ (one other : Loaded) (first second : List ℕ) (is : IsLoadOf first one
         alike = all_alike one.grammar one.points one.engines other.engines is.says.of_table says.of_table is.says.of_grammar says.of_grammar;
       }
 
-  pub merged_answers : front_of second ≡ front_of first → (r : Result (List ℕ) MergeFault) → MakesBoth one other r → AnswersMerge first second r
-  merged_answers e (Ok text) made =
+  -- the engines of both are what the text of both says
+  both_says : (both : Loaded) → front_of second ≡ front_of first → IsOfBoth one other both → Says (head_of both) both.engines (text_of both)
+  both_says both e made =
       let same : head_of other ≡ head_of one = one_head (head_of one) (head_of other) one.engines other.engines first second is.says also.says e in
       let says : Says (head_of one) other.engines second = subst (λ h. Says h other.engines second) same also.says in
-      let of_table = both_of_table one.grammar one.points one.engines other.engines made.both is.says.of_table says.of_table is.says.of_grammar says.of_grammar made.each in
-      let of_grammar = both_of_grammar one.grammar one.points one.engines other.engines made.both is.says.of_table says.of_table is.says.of_grammar says.of_grammar made.each in
-      let saved = both_saved one.grammar one.points one.engines other.engines made.both is.says.of_table says.of_table is.says.of_grammar says.of_grammar made.each is.says.saved says.saved made.within in
-      let text_says : Says (head_of one) made.both text = record { table = is.says.table; of_table = of_table; of_grammar = of_grammar; saved = saved; text = made.saved } in
+      let of_table = both_of_table one.grammar one.points one.engines other.engines both.engines is.says.of_table says.of_table is.says.of_grammar says.of_grammar made.each in
+      let of_grammar = both_of_grammar one.grammar one.points one.engines other.engines both.engines is.says.of_table says.of_table is.says.of_grammar says.of_grammar made.each in
+      let saved = both_saved one.grammar one.points one.engines other.engines both.engines is.says.of_table says.of_table is.says.of_grammar says.of_grammar made.each is.says.saved says.saved made.within in
+      let kept = map (λ (engine : Whole). engine.kept) both.engines in
+      let head = sym made.head in
+      subst (λ (h : Head). Says h both.engines (text_of both)) head (record {
+        table = is.says.table;
+        of_table = of_table;
+        of_grammar = of_grammar;
+        saved = saved;
+        text = ap (λ (h : Head). saved_text h.grammar h.points h.implicit kept) head;
+      })
+
+  pub merged_answers : front_of second ≡ front_of first → (r : Result Loaded MergeFault) → MakesBoth one other r → AnswersMerge first second (texts_of r)
+  merged_answers e (Ok both) made =
+      let same : head_of other ≡ head_of one = one_head (head_of one) (head_of other) one.engines other.engines first second is.says also.says e in
+      let text_says : Says (head_of one) both.engines (text_of both) = subst (λ (h : Head). Says h both.engines (text_of both)) made.head (both_says both e made) in
       record {
         alike = record { first_is = is.spelling; second_is = also.spelling; fronts = e };
         head = head_of one;
         ones = one.engines;
         others = other.engines;
-        both = made.both;
+        both = both.engines;
         first_says = is.says;
-        second_says = says;
+        second_says = subst (λ h. Says h other.engines second) same also.says;
         each = made.each;
         text_says = text_says;
-        spelling = said_spelled (head_of one) made.both text text_says;
+        spelling = said_spelled (head_of one) both.engines (text_of both) text_says;
       }
   merged_answers e (Err BadFirst) made = absurd made
   merged_answers e (Err BadSecond) made = absurd made
@@ -122,6 +135,28 @@ module _ (one other : Loaded) (first second : List ℕ) (is : IsLoadOf first one
       }
   merged_answers e (Err NoMemory) made = tt
 
+  -- both could have been loaded of that text
+  pub both_is_load : (both : Loaded) → front_of second ≡ front_of first → IsOfBoth one other both → IsLoadOf (text_of both) both
+  both_is_load both e made =
+      let same : head_of other ≡ head_of one = one_head (head_of one) (head_of other) one.engines other.engines first second is.says also.says e in
+      let says : Says (head_of one) other.engines second = subst (λ h. Says h other.engines second) same also.says in
+      let AsLoaded : Head → List Whole → Type 0 = λ h engines. AreLoadedAs h.grammar h.points (map (λ (engine : Whole). saved_parts engine.kept) engines) engines in
+      let loaded : AsLoaded (head_of both) both.engines =
+      subst (λ (h : Head). AsLoaded h both.engines) (sym made.head)
+      (both_loaded one.grammar one.points one.engines other.engines both.engines is.says.of_table says.of_table is.says.of_grammar made.each made.sound is.loaded
+      (subst (λ (h : Head). AsLoaded h other.engines) same also.loaded)) in
+      let text_says = both_says both e made in
+      record {
+        spelling = said_spelled (head_of both) both.engines (text_of both) text_says;
+        says = text_says;
+        loaded = loaded;
+        stands = λ g ps implicit own can text. stand_for_history g ps implicit own can both (text_of both) text_says loaded text;
+      }
+
+  -- it declares what the first does
+  pub both_front : (both : Loaded) → front_of second ≡ front_of first → IsOfBoth one other both → front_of (text_of both) ≡ front_of first
+  both_front both e made = one_front (head_of one) (head_of both) one.engines both.engines first (text_of both) is.says (both_says both e made) made.head
+
   -- ---- of histories
   pub history_fronts : (g : Grammar) (ps : List Point) (implicit : Bool) (own others : OwnSamples) → IsOfHistory one g ps implicit own → IsOfHistory other g ps implicit others
       → front_of second ≡ front_of first
@@ -133,19 +168,23 @@ module _ (one other : Loaded) (first second : List ℕ) (is : IsLoadOf first one
       (λ i. record { grammar = grammars i; points = points i; implicit = words i })
 
 pub history_made : (one other : Loaded) (g : Grammar) (ps : List Point) (implicit : Bool) (own others : OwnSamples) → IsOfHistory one g ps implicit own → IsOfHistory other g ps implicit others
-    → CanBeMerged g ps own others → (r : Result (List ℕ) MergeFault) → MakesBoth one other r → GivesBoth (file_of_both g ps implicit own others) r
-history_made one other g ps implicit own others this that can (Ok text) made =
+    → CanBeMerged g ps own others → (r : Result Loaded MergeFault) → MakesBoth one other r → GivesBoth (file_of_both g ps implicit own others) (texts_of r)
+history_made one other g ps implicit own others this that can (Ok both) made =
     let all = own_of_both own others in
-    let stand : StandForHistory g ps made.both all = both_stand g ps one.engines other.engines own others this.stand that.stand made.both made.each in
-    let here : StandForHistory one.grammar one.points made.both all =
-    subst (λ h. StandForHistory h one.points made.both all) (sym this.grammar) (subst (λ qs. StandForHistory g qs made.both all) (sym this.points) stand) in
-    let grammars = this.grammar in
-    let points = this.points in
-    let words = this.word in
-    made.stands all here ∙ (λ i. state_file_of (grammars i) (points i) (words i) all)
+    let stand : StandForHistory g ps both.engines all = both_stand g ps one.engines other.engines own others this.stand that.stand both.engines made.each in
+    let grammars : both.grammar ≡ g = ap (λ (h : Head). h.grammar) made.head ∙ this.grammar in
+    let points : both.points ≡ ps = ap (λ (h : Head). h.points) made.head ∙ this.points in
+    let words : both.implicit ≡ implicit = ap (λ (h : Head). h.implicit) made.head ∙ this.word in
+    (λ i. saved_text (grammars i) (points i) (words i) (map (λ (engine : Whole). engine.kept) both.engines)) ∙ saved_is_state_file g ps implicit both.engines all stand
 history_made one other g ps implicit own others this that can (Err BadFirst) made = made
 history_made one other g ps implicit own others this that can (Err BadSecond) made = made
 history_made one other g ps implicit own others this that can (Err Different) made = made
 history_made one other g ps implicit own others this that can (Err Joined) made =
     none_unjoined g ps one.engines other.engines own others this.stand that.stand can.few made
 history_made one other g ps implicit own others this that can (Err NoMemory) made = tt
+
+-- ---- answers with their texts
+-- a fault of a join
+pub join_fault_made : (one other : Loaded) (e : JoinFault) (f : MergeFault) → (e ≡ join.Joined → HaveNoJoinSomewhere one.engines other.engines) → IsJoinFault e f → MakesBoth one other (Err f)
+join_fault_made one other join.Joined f none is = subst (λ (m : MergeFault). MakesBoth one other (Err m)) (sym is) (none refl)
+join_fault_made one other join.NoMemory f none is = subst (λ (m : MergeFault). MakesBoth one other (Err m)) (sym is) tt

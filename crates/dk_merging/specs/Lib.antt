@@ -4,6 +4,6 @@ pub mod Engines
 pub mod Merging
 pub mod Laws
 pub mod Faults
+pub mod Loading
 -- inner: cited by the clauses of bodies alone
 pub mod Numbers
-pub mod Loading

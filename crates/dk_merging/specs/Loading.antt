@@ -1,14 +1,14 @@
--- Two states as they are loaded, and the text of both.
-use Rattle.std.specs.Prelude.{◌≡◌, Bool, List, ℕ, Result, Ok, Err, map}
-use Rattle.dk_engine.specs.Levels.{Whole}
+-- States as they are loaded, and what is saved of them.
+use Rattle.std.specs.Prelude.{◌≡◌, All, Bool, List, ℕ, Result, Ok, Err, map}
 use Rattle.dk_hierarchy.specs.Samples.{OwnSamples}
 use Rattle.dk_points.specs.Table.{Point}
+use Rattle.dk_state.specs.Loading.{AreLoadedAs}
 use Rattle.dk_state.specs.Saved.{saved_text}
-use Rattle.dk_state.specs.Spelling.{CanBeSaved, IsSpelling}
+use Rattle.dk_state.specs.Spelling.{CanBeSaved, IsSpelling, saved_parts}
 use Rattle.dk_state.specs.StateFile.{StandForHistory, state_file_of}
 use Rattle.dk_state.specs.declared.loading.Loaded.{Loaded}
 use Rattle.dk_template.specs.declared.grammar.Grammar.{Grammar}
-use Rattle.dk_merging.specs.Engines.{AreAllAlike, AreEnginesOfBoth, HaveNoJoinSomewhere}
+use Rattle.dk_merging.specs.Engines.{AreAllAlike, AreEnginesOfBoth, HaveNoJoinSomewhere, IsSound}
 use Rattle.dk_merging.specs.Merging.{Head, Says}
 use Rattle.dk_merging.specs.Numbers.{AreWithin}
 use Rattle.dk_merging.specs.declared.merging.MergeFault.{MergeFault}
@@ -25,10 +25,15 @@ pub record IsOfHistory (l : Loaded) (g : Grammar) (ps : List Point) (implicit : 
   pub word : l.implicit ≡ implicit
   pub stand : StandForHistory g ps l.engines own
 
--- It was loaded from these bytes.
+-- what is saved of it
+abbrev pub text_of : Loaded → List ℕ
+text_of l = saved_text l.grammar l.points l.implicit (map (λ engine. engine.kept) l.engines)
+
+-- It says what these bytes say, of which it could have been loaded.
 pub record IsLoadOf (bytes : List ℕ) (l : Loaded) : Type 0 where
   pub spelling : IsSpelling bytes
   pub says : Says (head_of l) l.engines bytes
+  pub loaded : AreLoadedAs l.grammar l.points (map (λ engine. saved_parts engine.kept) l.engines) l.engines
   pub stands : (g : Grammar) (ps : List Point) (implicit : Bool) (own : OwnSamples)
       → CanBeSaved g ps own → state_file_of g ps implicit own ≡ bytes
       → IsOfHistory l g ps implicit own
@@ -44,17 +49,20 @@ pub record AreOfOneHead (one other : Loaded) : Type 0 where
   pub same : head_of other ≡ head_of one
   pub alike : AreAllAlike one.engines other.engines
 
--- what is saved of the engines of both
-pub record IsTextOfBoth (one other : Loaded) (text : List ℕ) : Type 0 where
-  pub both : List Whole
-  pub each : AreEnginesOfBoth one.engines other.engines both
-  pub within : AreWithin both
-  pub saved : saved_text one.grammar one.points one.implicit (map (λ engine. engine.kept) both) ≡ text
-  pub stands : (own : OwnSamples) → StandForHistory one.grammar one.points both own
-      → text ≡ state_file_of one.grammar one.points one.implicit own
+-- what both declare, with the engines of both
+pub record IsOfBoth (one other both : Loaded) : Type 0 where
+  pub head : head_of both ≡ head_of one
+  pub each : AreEnginesOfBoth one.engines other.engines both.engines
+  pub within : AreWithin both.engines
+  pub sound : All IsSound both.engines
 
-abbrev pub MakesBoth : Loaded → Loaded → Result (List ℕ) MergeFault → Type 0
-MakesBoth one other (Ok text) = IsTextOfBoth one other text
+abbrev pub MakesBoth : Loaded → Loaded → Result Loaded MergeFault → Type 0
+MakesBoth one other (Ok both) = IsOfBoth one other both
 MakesBoth one other (Err Joined) = HaveNoJoinSomewhere one.engines other.engines
 MakesBoth one other (Err NoMemory) = Unit {0}
 MakesBoth one other (Err _) = ⊥
+
+-- what is saved of an answer
+abbrev pub texts_of : Result Loaded MergeFault → Result (List ℕ) MergeFault
+texts_of (Ok l) = Ok (text_of l)
+texts_of (Err fault) = Err fault

@@ -8,8 +8,8 @@ use dk_engine::Engine;
 use dk_join::{JoinFault, join};
 use std::alloc::Global;
 
-// What is so of every engine: what it keeps meets the conditions.
-fn tell_sound(engine: &Engine)
+/// What is so of every engine: what it keeps meets the conditions.
+pub(crate) fn tell_sound(engine: &Engine)
     ensures { IsSound engine.now }
 {
     engine.kept();

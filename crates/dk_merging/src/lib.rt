@@ -1,4 +1,4 @@
-//! Two states as one: the state file of both histories, from the state file of each.
+//! States as one: the state file of all histories, from the state file of each.
 #![tactic(auto)]
 
 mod engines;
@@ -7,4 +7,4 @@ pub mod laws;
 mod merging;
 mod numbers;
 
-pub use merging::{MergeFault, merge_two};
+pub use merging::{JoinedStates, MergeFault, merge_two};

@@ -1,9 +1,10 @@
-// Two state files as one.
+// State files that are joined, each of which is read once.
 ghost use Rattle.std.specs.Prelude.{◌≡◌, Bool, IfErr, IfOk, List};
 ghost use Rattle.dk_hierarchy.specs.Samples.{OwnSamples};
-ghost use Rattle.dk_merging.specs.Loading.{AreOfOneHead, IsBadOr, IsLoadOf, MakesBoth};
+ghost use Rattle.dk_merging.specs.Loading.{AreOfOneHead, IsBadOr, IsLoadOf, MakesBoth, text_of, texts_of};
 ghost use Rattle.dk_merging.specs.Merging.{AnswersMerge, CanBeMerged, GivesBoth, file_of_both};
 ghost use Rattle.dk_points.specs.Table.{Point};
+ghost use Rattle.dk_state.specs.Spelling.{IsSpelling};
 ghost use Rattle.dk_state.specs.StateFile.{state_file_of};
 ghost use Rattle.dk_template.specs.declared.grammar.Grammar.{Grammar as Grammars};
 
@@ -14,6 +15,7 @@ use dk_base::{NoMemory, Text, same_bytes};
 use dk_join::JoinFault;
 use dk_state::{LoadFault, Loaded, load, save};
 use std::alloc::Global;
+use std::marker::Model;
 use thiserror::Error;
 
 /// Why two state files make none.
@@ -72,15 +74,92 @@ fn load_or(alloc: Global, bytes: &[u8], bad: MergeFault) -> Result<Loaded, Merge
     }
 }
 
-// The state file of two states that declare the same.
-fn merged(alloc: Global, one: Loaded, other: Loaded) -> Result<Text, MergeFault>
+// What two states that declare the same say together.
+fn joined(alloc: Global, one: Loaded, other: Loaded) -> Result<Loaded, MergeFault>
     requires { AreOfOneHead one other }
     ensures { MakesBoth one other result }
 {
     let engines = engines_of_both(alloc, one.engines, other.engines)?;
-    let both = engines.as_slice();
-    read_engines(both);
-    Ok(save(alloc, &one.points, both, one.implicit, one.grammar)?)
+    read_engines(engines.as_slice());
+    Ok(Loaded {
+        points: one.points,
+        engines,
+        implicit: one.implicit,
+        grammar: one.grammar,
+    })
+}
+
+/// States that are joined: what they say together, as it is loaded, and what stands in front of what is kept in the file of each.
+#[derive(Drop)]
+pub struct JoinedStates {
+    loaded: Loaded,
+    front: Text,
+}
+
+impl Model for JoinedStates {
+    ghost use Rattle.std.specs.Prelude.{◌≡◌};
+    ghost use Rattle.dk_merging.specs.Fronts.{front_of};
+    ghost use Rattle.dk_merging.specs.Loading.{IsLoadOf, text_of};
+    ghost use Rattle.dk_state.specs.declared.loading.Loaded.{Loaded};
+
+    ghost Value = { Loaded };
+
+    ghost view = { λ s. s.loaded };
+
+    ghost invariant = { λ s. IsLoadOf (text_of s.loaded) s.loaded × (s.front ≡ front_of (text_of s.loaded)) };
+}
+
+impl JoinedStates {
+    /// What one state file says. `BadFirst` comes exactly where the bytes are no spelling of a state.
+    pub fn of(alloc: Global, file: &[u8]) -> Result<JoinedStates, MergeFault>
+        ensures text { IfOk result (λ states. text_of states ≡ file.now) }
+        ensures spelling { IfOk result (λ states. IsSpelling file.now) }
+        ensures bad { IfErr result (IsBadOr file.now MergeFault.BadFirst) }
+    {
+        let loaded = load_or(alloc, file, MergeFault::BadFirst)?;
+        let front = Text::from_slice(alloc, front_of(file))?;
+        Ok(JoinedStates { loaded, front })
+    }
+
+    /// With one state file more, which alone is read. What they say together is what `merge_two` makes of the state file of those before,
+    /// which is a spelling, and this one, with its faults.
+    pub fn with(self, alloc: Global, file: &[u8]) -> Result<JoinedStates, MergeFault>
+        ensures answers { AnswersMerge (text_of self) file.now (texts_of result) }
+        ensures spelling { IsSpelling (text_of self) }
+        ensures both { (g : Grammars) (ps : List Point) (implicit : Bool) (own others : OwnSamples) → CanBeMerged g ps own others → state_file_of g ps implicit own ≡ text_of self → state_file_of g ps implicit others ≡ file.now → GivesBoth (file_of_both g ps implicit own others) (texts_of result) }
+    {
+        let other = load_or(alloc, file, MergeFault::BadSecond)?;
+        let JoinedStates { loaded, front } = self;
+        if !same_bytes(front.as_slice(), front_of(file)) {
+            return Err(MergeFault::Different);
+        }
+        let both = joined(alloc, loaded, other)?;
+        Ok(JoinedStates {
+            loaded: both,
+            front,
+        })
+    }
+
+    /// The state file of all.
+    pub fn text(&self, alloc: Global) -> Result<Text, NoMemory>
+        ensures { IfOk result (λ text. text ≡ text_of self.now) }
+    {
+        save(
+            alloc,
+            &self.loaded.points,
+            self.loaded.engines.as_slice(),
+            self.loaded.implicit,
+            self.loaded.grammar,
+        )
+    }
+
+    /// What they say together. It is what their state file says: it stands for every history of which that is the state file.
+    pub fn into_loaded(self) -> Loaded
+        ensures same { result ≡ self }
+        ensures held { IsLoadOf (text_of self) result }
+    {
+        self.loaded
+    }
 }
 
 /// The state file of what two state files say together: the common declarations and, for each point, the join of both engines or the
@@ -92,10 +171,7 @@ pub fn merge_two(alloc: Global, first: &[u8], second: &[u8]) -> Result<Text, Mer
     ensures answers { AnswersMerge first.now second.now result }
     ensures both { (g : Grammars) (ps : List Point) (implicit : Bool) (own others : OwnSamples) → CanBeMerged g ps own others → state_file_of g ps implicit own ≡ first.now → state_file_of g ps implicit others ≡ second.now → GivesBoth (file_of_both g ps implicit own others) result }
 {
-    let one = load_or(alloc, first, MergeFault::BadFirst)?;
-    let other = load_or(alloc, second, MergeFault::BadSecond)?;
-    if !same_bytes(front_of(first), front_of(second)) {
-        return Err(MergeFault::Different);
-    }
-    merged(alloc, one, other)
+    let one = JoinedStates::of(alloc, first)?;
+    let both = one.with(alloc, second)?;
+    Ok(both.text(alloc)?)
 }

@@ -1,9 +1,11 @@
 // The numbers of slots are within their types.
 ghost use Rattle.std.specs.Prelude.{All, IsTrue};
 ghost use Rattle.dk_base.specs.Numbers.{fits_i64};
+ghost use Rattle.dk_merging.specs.Engines.{IsSound};
 ghost use Rattle.dk_merging.specs.Numbers.{AreNumbersWithin, AreWithin};
 ghost use Rattle.dk_state.specs.Fitting.{FitsSlot};
 
+use crate::engines::tell_sound;
 use dk_engine::{Engine, Slot};
 use dk_template::State;
 
@@ -59,11 +61,13 @@ fn read_engine(engine: &Engine)
     read_states(engine.slots());
 }
 
-/// The same of all engines.
+/// What is so of all engines: what each keeps meets the conditions, and its slots are within their types.
 pub(crate) fn read_engines(engines: &[Engine])
-    ensures { AreWithin engines.now }
+    ensures within { AreWithin engines.now }
+    ensures sound { All IsSound engines.now }
 {
     for engine in engines {
         read_engine(engine);
+        tell_sound(engine);
     }
 }

@@ -9,8 +9,6 @@ mod numbers;
 mod pages;
 mod parts;
 mod showing;
-#[cfg(test)]
-mod tests;
 
 pub use groups::{Group, group_of};
 pub use headings::Headings;

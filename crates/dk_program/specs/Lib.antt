@@ -8,5 +8,3 @@ pub mod Messages
 -- what those are made of
 pub mod Outputs
 pub mod Telling
--- for worked examples
-pub mod Examples

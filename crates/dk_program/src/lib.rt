@@ -6,8 +6,6 @@
 #![tactic(auto)]
 
 mod asking;
-#[cfg(test)]
-mod examples;
 mod first_file;
 mod program;
 mod reporting;

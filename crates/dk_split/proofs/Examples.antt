@@ -9,7 +9,7 @@ use Rattle.dk_base.specs.Numbers.{natural_of}
 use Rattle.dk_blocks.specs.History.{no_history}
 use Rattle.dk_driver.specs.Walks.{walk_of}
 use Rattle.dk_events.specs.declared.ended.Ended.TheVariants.{Done}
-use Rattle.dk_halves.specs.Reports.{implications_report}
+use Rattle.dk_implications.specs.Reports.{implications_report}
 use Rattle.dk_io.specs.declared.outside.Stream.TheVariants.{Report}
 use Rattle.dk_program.specs.Moments.{Outside}
 use Rattle.dk_program.specs.Outputs.{only_on}

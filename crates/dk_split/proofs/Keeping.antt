@@ -7,7 +7,7 @@ use Rattle.dk_blocks.proofs.Growing.{same_all_vars}
 use Rattle.dk_blocks.specs.Fitting.{Extends}
 use Rattle.dk_blocks.specs.History.{own_samples_with}
 use Rattle.dk_derive.specs.Values.{values_by_form}
-use Rattle.dk_halves.specs.Standing.{Engines, StandFor}
+use Rattle.dk_implications.specs.Standing.{Engines, StandFor}
 use Rattle.dk_hierarchy.specs.Samples.{OwnSamples, all_vars_of, own_samples_of}
 use Rattle.dk_points.specs.Table.{Point}
 use Rattle.dk_split.specs.Growing.{AreGrown, IsFed, IsNewAt}

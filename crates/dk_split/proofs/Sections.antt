@@ -5,8 +5,8 @@ use Rattle.dk_base.specs.Pieces.{is_empty}
 use Rattle.dk_base.specs.declared.kinds.VarInfo.{VarInfo}
 use Rattle.dk_base.specs.declared.values.Value.{Value}
 use Rattle.dk_derive.specs.Values.{values_by_form}
-use Rattle.dk_halves.specs.Reports.{implications_at, implications_text}
-use Rattle.dk_halves.specs.Standing.{Engines, StandFor}
+use Rattle.dk_implications.specs.Reports.{implications_at, implications_text}
+use Rattle.dk_implications.specs.Standing.{Engines, StandFor}
 use Rattle.dk_hierarchy.specs.Samples.{OwnSamples, all_vars_of, own_samples_of}
 use Rattle.dk_points.specs.Table.{Point, names}
 use Rattle.dk_presence.specs.Patterns.{capped}

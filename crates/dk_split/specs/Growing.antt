@@ -4,7 +4,7 @@ use Rattle.dk_base.specs.Values.{values_of}
 use Rattle.dk_base.specs.declared.values.Value.{Value}
 use Rattle.dk_events.specs.declared.event.Event.{Event}
 use Rattle.dk_events.specs.declared.event.Event.TheVariants as event
-use Rattle.dk_halves.specs.Standing.{Engines, StandFor}
+use Rattle.dk_implications.specs.Standing.{Engines, StandFor}
 use Rattle.dk_points.specs.Table.{Point}
 use Rattle.dk_split.specs.Standing.{AreSplitsOf, IsSplitAt}
 

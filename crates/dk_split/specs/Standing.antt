@@ -1,7 +1,7 @@
 -- What the splits of points stand for.
 use Rattle.std.specs.Prelude.{◌≡◌, ℕ, List, length, slice_get, Some}
 use Rattle.dk_base.specs.declared.values.Value.{Value}
-use Rattle.dk_halves.specs.Standing.{Engines, StandFor}
+use Rattle.dk_implications.specs.Standing.{Engines, StandFor}
 use Rattle.dk_hierarchy.specs.Samples.{OwnSamples, all_vars_of, own_samples_of}
 use Rattle.dk_points.specs.Table.{Point}
 use Rattle.dk_template.specs.declared.grammar.Grammar.TheVariants.{Two}

@@ -1,7 +1,7 @@
 -- What each status of a run says.
 use Rattle.std.specs.Prelude.{◌≡◌, ℕ, List, Option}
 use Rattle.dk_events.specs.declared.ended.Ended.{Ended}
-use Rattle.dk_halves.specs.Reports.{implications_report}
+use Rattle.dk_implications.specs.Reports.{implications_report}
 use Rattle.dk_template.specs.declared.grammar.Grammar.TheVariants.{Two}
 use Rattle.dk_arguments.specs.declared.request.Request.{Request}
 use Rattle.dk_driver.specs.Consuming.{Told}

@@ -46,7 +46,7 @@ impl Begins for Command {
 
 impl InParts for Command {
     ghost use Rattle.std.specs.Prelude.{length};
-    ghost use Rattle.dk_halves.specs.Reports.{implications_at};
+    ghost use Rattle.dk_implications.specs.Reports.{implications_at};
     ghost use Rattle.dk_template.specs.declared.grammar.Grammar.TheVariants.{Two};
 
     type Kept = Splits;

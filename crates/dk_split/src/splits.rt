@@ -1,7 +1,7 @@
 // The splits of points, which take the samples of files.
 ghost use Rattle.std.specs.Prelude.{◌≡◌, ◌≤◌, ◌<◌, ◌++◌, [], OnOk, Some, length};
 ghost use Rattle.dk_events.specs.Telling.{EventFits};
-ghost use Rattle.dk_halves.specs.Reports.{implications_at};
+ghost use Rattle.dk_implications.specs.Reports.{implications_at};
 ghost use Rattle.dk_hierarchy.specs.Samples.{OwnSamples};
 ghost use Rattle.dk_template.specs.declared.grammar.Grammar.{Grammar};
 ghost use Rattle.dk_split.specs.Growing.{AreGrown, AreKeptUp, TakesEvent};
@@ -10,7 +10,7 @@ ghost use Rattle.dk_split.specs.Standing.{AreSplitsOf, StandsFor};
 use dk_base::{NoMemory, PointId, Text};
 use dk_driver::Consumer;
 use dk_events::Event;
-use dk_halves::Split;
+use dk_implications::Split;
 use dk_points::Points;
 use dk_template::Grammar;
 use std::alloc::Global;

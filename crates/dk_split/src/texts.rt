@@ -20,13 +20,13 @@ a Boolean is true, or false, and not in all of them.
   --ignore-missing-entry  leave out exits without an entry, default refuse them
   -h, --help              print this text and read nothing
   -V, --version           print the name and the version and read nothing
-  --                      take all words behind it as FILEs
+  --                      take all arguments after it as FILEs
 
-A value may stand behind = in the same word, as in --min-samples=1. Only FILE
+A value may stand after = in the same argument, as in --min-samples=1. Only FILE
 may be given more than once.
 
-Status: 0 done, 1 a line is refused, 2 the words are refused, 3 a file can't be
-read, 4 the output can't be written, 5 out of memory.
+Status: 0 done, 1 a line is refused, 2 the arguments are refused, 3 a file can't
+be read, 4 the output can't be written, 5 out of memory.
 
 Example: dk_split --min-samples 1 stack.dtrace
 ";

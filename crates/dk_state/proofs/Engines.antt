@@ -12,10 +12,10 @@ enumerate_push n [] x = ap (λ m. (m, x) ∷ []) (omega arith)
 enumerate_push n (y ∷ xs) x = ap (λ es. (n, y) ∷ es) (enumerate_push (n + 1) xs x ∙ ap (λ m. enumerate_from (n + 1) xs ++ (m, x) ∷ []) (omega arith))
 
 -- what engines keep
-abbrev kept_by : List Whole → List Kept
+abbrev pub kept_by : List Whole → List Kept
 kept_by engines = map (λ (engine : Whole). engine.kept) engines
 
-kept_more : (engines : List Whole) (i : ℕ) (engine : Whole) → i < length engines → engine ≡ get_or engines i engine
+pub kept_more : (engines : List Whole) (i : ℕ) (engine : Whole) → i < length engines → engine ≡ get_or engines i engine
     → enumerate_from 0 (kept_by (take (i + 1) engines)) ≡ enumerate_from 0 (kept_by (take i engines)) ++ (i, engine.kept) ∷ []
 kept_more engines i engine l here =
     let before = kept_by (take i engines) in

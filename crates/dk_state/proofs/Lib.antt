@@ -14,6 +14,8 @@ pub mod Blocks
 pub mod Pieces
 pub mod Declared
 pub mod Engines
+pub mod Passing
+pub mod PassedEngines
 pub mod CompactLeaders
 pub mod CompactParts
 pub mod SameTexts

@@ -1,5 +1,5 @@
 -- Declarations, as they are saved.
-use Rattle.std.specs.Prelude.{ℕ, Bool, List, [], ◌∷◌, ◌++◌, codes, filter_map, flat_map, unwrap_or, Option, if◌then◌else◌}
+use Rattle.std.specs.Prelude.{ℕ, Bool, List, [], ◌∷◌, ◌++◌, filter_map, flat_map, unwrap_or, Option, if◌then◌else◌}
 use Rattle.std.specs.Fmt.{decimal, signed_decimal}
 use Rattle.dk_base.specs.Names.{escaped}
 use Rattle.dk_base.specs.Spelling.{spelling}

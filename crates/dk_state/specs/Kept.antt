@@ -35,15 +35,22 @@ known_line k = state_line "known" (decimal k.leader.0 ∷ spelling k.value ∷ [
 abbrev pub slot_line : Slot → List ℕ
 slot_line s = state_line "slot" (decimal s.row.0 ∷ (var_fields s.leaders ++ state_fields s.state))
 
--- what is kept behind the number of samples: each class by its leader, each pattern, ascending, each constant leader, ascending, each slot
--- by row and then by variables, and `end`
-abbrev pub behind_samples : Parts → List ℕ
-behind_samples parts =
-    flat_map class_line parts.classes
-    ++ (flat_map pattern_line parts.patterns
+-- what is kept behind the classes: each pattern, ascending, each constant leader, ascending, each slot by row and then by variables, and
+-- `end`
+abbrev pub behind_classes : Parts → List ℕ
+behind_classes parts =
+    flat_map pattern_line parts.patterns
     ++ (flat_map known_line parts.known
     ++ (flat_map slot_line parts.slots
-    ++ state_line "end" [])))
+    ++ state_line "end" []))
+
+-- what is kept behind the number of samples: each class by its leader, and what is behind them
+abbrev pub behind_samples : Parts → List ℕ
+behind_samples parts = flat_map class_line parts.classes ++ behind_classes parts
+
+-- the number of samples of the point at this place, and each class
+abbrev pub opening_lines : ℕ → Parts → List ℕ
+opening_lines point parts = state_line "samples" (decimal point ∷ decimal parts.samples ∷ []) ++ flat_map class_line parts.classes
 
 -- What is kept of samples of the point at this place: `samples POINT N`, and what is kept.
 abbrev pub parts_lines : ℕ → Parts → List ℕ

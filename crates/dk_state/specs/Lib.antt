@@ -17,3 +17,4 @@ pub mod Fitting
 pub mod Numbered
 pub mod StateWords
 pub mod Within
+pub mod Matching

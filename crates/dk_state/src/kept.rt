@@ -1,13 +1,19 @@
 // What is kept of a point's samples, as it is saved.
-ghost use Rattle.std.specs.Prelude.{◌≡◌, ◌++◌, ◌∷◌, [], OnOk, flat_map};
+ghost use Rattle.std.specs.Prelude.{◌≡◌, ◌++◌, ◌∷◌, [], IfOk, OnOk, flat_map};
 ghost use Rattle.std.specs.Fmt.{decimal};
-ghost use Rattle.dk_state.specs.Kept.{bits_of, class_line, if_any, known_line, parts_lines, pattern_line, slot_line};
+ghost use Rattle.dk_classes.specs.Leaders.{own_leaders};
+ghost use Rattle.dk_engine.specs.Saved.{parts_of};
+ghost use Rattle.dk_parts.specs.Classes.{classes_of};
+ghost use Rattle.dk_parts.specs.Entries.{all_known_of};
+ghost use Rattle.dk_parts.specs.Patterns.{patterns_of};
+ghost use Rattle.dk_state.specs.Kept.{behind_classes, bits_of, class_line, if_any, known_line, opening_lines, parts_lines, pattern_line, slot_line};
 ghost use Rattle.dk_state.specs.Lines.{fields_text, state_line};
 
 use crate::fields::{end_line, push_number, push_value, push_vars};
 use crate::states::push_state;
 use dk_base::{List, NoMemory, Text, VarId};
-use dk_engine::{Known, Parts, Pattern, Slot};
+use dk_engine::{Engine, Known, Pattern, Slot};
+use dk_parts::{classes_in_order, known_in_order, patterns_in_order};
 use std::alloc::Global;
 
 fn push_class(text: &mut Text, members: &[VarId]) -> Result<(), NoMemory>
@@ -48,7 +54,8 @@ fn push_bits_field(text: &mut Text, present: &[bool]) -> Result<(), NoMemory>
     push_bits(text, present)
 }
 
-fn push_pattern(text: &mut Text, pattern: &Pattern) -> Result<(), NoMemory>
+/// A pattern's line, behind the text.
+pub(crate) fn push_pattern(text: &mut Text, pattern: &Pattern) -> Result<(), NoMemory>
     ensures { OnOk result (text.new ≡ text.old ++ pattern_line pattern.now) }
 {
     text.append(b"pattern")?;
@@ -84,7 +91,8 @@ fn push_all_known(alloc: Global, text: &mut Text, all: &[Known]) -> Result<(), N
     Ok(())
 }
 
-fn push_slot(alloc: Global, text: &mut Text, slot: &Slot) -> Result<(), NoMemory>
+/// A slot's line, behind the text.
+pub(crate) fn push_slot(alloc: Global, text: &mut Text, slot: &Slot) -> Result<(), NoMemory>
     ensures { OnOk result (text.new ≡ text.old ++ slot_line slot.now) }
 {
     text.append(b"slot")?;
@@ -103,6 +111,22 @@ fn push_slots(alloc: Global, text: &mut Text, slots: &[Slot]) -> Result<(), NoMe
     Ok(())
 }
 
+// The members of each class of the engine, in the order in which they are saved.
+fn classes_of(alloc: Global, engine: &Engine) -> Result<List<List<VarId>>, NoMemory>
+    ensures { IfOk result (λ classes. classes ≡ classes_of engine.now.kept.leaders) }
+{
+    let kept = engine.kept();
+    classes_in_order(alloc, &kept.leaders, engine.vars().len())
+}
+
+// The engine's patterns, in the order in which they are saved.
+pub(crate) fn patterns_of(alloc: Global, engine: &Engine) -> Result<List<Pattern>, NoMemory>
+    ensures { IfOk result (λ patterns. patterns ≡ patterns_of (own_leaders engine.now.kept.leaders) engine.now.kept.held) }
+{
+    let kept = engine.kept();
+    patterns_in_order(alloc, kept.leaders.leaders(), kept.held.held())
+}
+
 fn push_samples(text: &mut Text, point: usize, samples: u64) -> Result<(), NoMemory>
     ensures { OnOk result (text.new ≡ text.old ++ state_line "samples" (decimal point ∷ decimal samples ∷ [])) }
 {
@@ -112,26 +136,50 @@ fn push_samples(text: &mut Text, point: usize, samples: u64) -> Result<(), NoMem
     end_line(text)
 }
 
-// The lines behind the classes.
-fn push_tuples(alloc: Global, text: &mut Text, parts: &Parts) -> Result<(), NoMemory>
-    ensures { OnOk result (text.new ≡ text.old ++ (flat_map pattern_line parts.now.patterns ++ (flat_map known_line parts.now.known ++ (flat_map slot_line parts.now.slots ++ state_line "end" [])))) }
+/// The number of samples of the point at this place, and the engine's classes, behind the text.
+pub(crate) fn push_opening(
+    alloc: Global,
+    text: &mut Text,
+    point: usize,
+    engine: &Engine,
+) -> Result<(), NoMemory>
+    ensures { OnOk result (text.new ≡ text.old ++ opening_lines point (parts_of engine.now.kept)) }
 {
-    push_patterns(text, parts.patterns.as_slice())?;
-    push_all_known(alloc, text, parts.known.as_slice())?;
-    push_slots(alloc, text, parts.slots.as_slice())?;
+    push_samples(text, point, engine.counts().samples)?;
+    push_classes(text, classes_of(alloc, engine)?.as_slice())
+}
+
+/// The engine's constants, behind the text.
+pub(crate) fn push_constants(
+    alloc: Global,
+    text: &mut Text,
+    engine: &Engine,
+) -> Result<(), NoMemory>
+    ensures { OnOk result (text.new ≡ text.old ++ flat_map known_line (all_known_of engine.now.kept.known)) }
+{
+    let known = known_in_order(alloc, engine.constants().entries())?;
+    push_all_known(alloc, text, known.as_slice())
+}
+
+// The lines behind the classes.
+fn push_tuples(alloc: Global, text: &mut Text, engine: &Engine) -> Result<(), NoMemory>
+    ensures { OnOk result (text.new ≡ text.old ++ behind_classes (parts_of engine.now.kept)) }
+{
+    push_patterns(text, patterns_of(alloc, engine)?.as_slice())?;
+    push_constants(alloc, text, engine)?;
+    push_slots(alloc, text, engine.slots())?;
     text.append(b"end\n")
 }
 
-/// The lines of what is kept of samples of the point at this place, behind the text.
+/// The lines of what the engine keeps of samples of the point at this place, behind the text.
 pub(crate) fn push_parts(
     alloc: Global,
     text: &mut Text,
     point: usize,
-    parts: &Parts,
+    engine: &Engine,
 ) -> Result<(), NoMemory>
-    ensures { OnOk result (text.new ≡ text.old ++ parts_lines point parts.now) }
+    ensures { OnOk result (text.new ≡ text.old ++ parts_lines point (parts_of engine.now.kept)) }
 {
-    push_samples(text, point, parts.samples)?;
-    push_classes(text, parts.classes.as_slice())?;
-    push_tuples(alloc, text, parts)
+    push_opening(alloc, text, point, engine)?;
+    push_tuples(alloc, text, engine)
 }

@@ -9,6 +9,7 @@ mod given;
 mod kept;
 pub mod laws;
 mod loading;
+mod matching;
 mod reading;
 mod reading_kept;
 mod reading_states;

@@ -22,8 +22,8 @@ ghost use Rattle.dk_template.specs.declared.grammar.Grammar.{Grammar as Grammars
 use crate::entries::read_all;
 use crate::front::Front;
 use crate::given::is_given;
+use crate::matching;
 use crate::reading_kept::{next_point, parts};
-use crate::saving::save;
 use dk_base::{BlockFault, List, NoMemory, PointId, same_bytes};
 use dk_decl::PointDecl;
 use dk_derive::derive;
@@ -249,25 +249,27 @@ fn read(alloc: Global, bytes: &[u8]) -> Result<Loaded, LoadFault>
 fn saves_to(alloc: Global, loaded: &Loaded, bytes: &[u8]) -> Result<bool, NoMemory>
     ensures { IfOk result (λ same. same ≡ bytes_eq (saved_text loaded.now.grammar loaded.now.points loaded.now.implicit (map (λ e. e.kept) loaded.now.engines)) bytes.now) }
 {
-    let text = save(
+    matching::saves_to(
         alloc,
         &loaded.points,
         loaded.engines.as_slice(),
         loaded.implicit,
         loaded.grammar,
-    )?;
-    Ok(same_bytes(text.as_slice(), bytes))
+        bytes,
+    )
 }
 
 /// What a state file says. It takes exactly the spellings of states: the bytes to which some table, comparability word and kept parts that
 /// meet the conditions save. All other bytes are BadState. Saving what was loaded gives the same bytes again, and what its engines keep
-/// meets the conditions. Whatever content has these bytes, its grammar, table and word are the loaded ones.
+/// meets the conditions; each keeps what is kept of any samples that give its parts. Whatever content has these bytes, its grammar,
+/// table and word are the loaded ones.
 pub fn load(alloc: Global, bytes: &[u8]) -> Result<Loaded, LoadFault>
     ensures saves { IfOk result (λ l. saved_text l.grammar l.points l.implicit (map (λ e. e.kept) l.engines) ≡ bytes.now) }
     ensures engines { IfOk result (λ l. AreEnginesOf l.points l.engines × All (λ e. e.grammar ≡ l.grammar) l.engines) }
     ensures spelling { IfOk result (λ l. IsSpelling bytes.now) }
     ensures table { IfOk result (λ l. IsOwnTable l.points) }
     ensures saved { IfOk result (λ l. AreSaved l.grammar l.points l.engines) }
+    ensures loaded { IfOk result (λ l. AreLoadedAs l.grammar l.points (map (λ e. saved_parts e.kept) l.engines) l.engines) }
     ensures bad { result ≡ Err LoadFault.BadState → IsSpelling bytes.now → ⊥ }
     ensures content { IfOk result (λ l. (c : Content) → IsContent c → text_of_content c ≡ bytes.now → (l.grammar ≡ c.grammar) × (l.points ≡ c.points) × (l.implicit ≡ c.implicit)) }
     ensures stands { IfOk result (λ l. (g : Grammars) (ps : List Point) (implicit : Bool) (own : OwnSamples) → CanBeSaved g ps own → state_file_of g ps implicit own ≡ bytes.now → (l.grammar ≡ g) × (l.points ≡ ps) × (l.implicit ≡ implicit) × StandForHistory g ps l.engines own) }

@@ -81,7 +81,7 @@ impl Entry for List<VarId> {
 fn truths(alloc: Global, bits: &[u8]) -> Result<List<bool>, NoMemory>
     ensures { IfOk result (λ truths. truths ≡ map (λ b. b == 49) bits.now) }
 {
-    let mut truths = List::new(alloc);
+    let mut truths = List::from_vec(Vec::with_capacity(alloc, bits.len())?);
     for bit in bits {
         truths.push(*bit == b'1')?;
     }

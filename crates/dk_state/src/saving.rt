@@ -67,7 +67,7 @@ fn push_engine(
     if engine.counts().samples == 0 {
         return Ok(());
     }
-    push_parts(alloc, text, point, &engine.parts()?)
+    push_parts(alloc, text, point, engine)
 }
 
 fn push_engines(alloc: Global, text: &mut Text, engines: &[Engine]) -> Result<(), NoMemory>
@@ -79,8 +79,8 @@ fn push_engines(alloc: Global, text: &mut Text, engines: &[Engine]) -> Result<()
     Ok(())
 }
 
-// The lines in front of the declarations.
-fn push_head(
+/// The lines in front of the declarations, behind the text.
+pub(crate) fn push_head(
     text: &mut Text,
     points: &Points,
     implicit: bool,

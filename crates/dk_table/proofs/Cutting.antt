@@ -1,22 +1,22 @@
 -- Cutting rows of bytes without quotes into cells.
-use Rattle.std.proofs.Common.{◌≡◌, ◌≢◌, ◌≤◌, ◌<◌, ◌+◌, ◌-◌, ◌∙◌, ◌==◌, ◌&&◌, ◌||◌, ◌⊎◌, inl, inr, ◌∷◌, ◌++◌, [], ℕ, zero, suc, Bool, true, false, List, Option, Some, None, drop, get_or, length, length-drop, map, take, refl, sym, ap, subst, arith, if◌then◌else◌}
+use Rattle.std.proofs.Common.{◌≡◌, ◌≢◌, ◌≤◌, ◌<◌, ◌+◌, ◌-◌, ◌∙◌, ◌==◌, ◌||◌, ◌⊎◌, inl, inr, ◌∷◌, ◌++◌, [], ℕ, zero, suc, Bool, true, false, List, Some, None, drop, get_or, length, length-drop, map, take, refl, sym, ap, subst, arith, if◌then◌else◌}
 use Rattle.std.specs.Borrow.{Bor}
-use Rattle.std.specs.Prelude.{◌%◌, count_by, min, nat_lt}
+use Rattle.std.specs.Prelude.{◌%◌, count_by, min}
 use Rattle.std.proofs.lemmas.Bool.Decides.{nat_tests}
-use Rattle.std.proofs.lemmas.Bool.{eqb-true, ltb-false, ltb-true, ne_eqb}
-use Rattle.std.proofs.lemmas.List.{map-append, drop_all, drop_more, get_or-drop, take_all, take_more}
+use Rattle.std.proofs.lemmas.Bool.{cases_lt, eqb-false, false≢true, ne_eqb}
+use Rattle.std.proofs.lemmas.List.{map-append, drop_all, drop_more, get_or-drop, take_more}
 use Rattle.csv.specs.Machine.{Read, after_end, ends_at_end, ends_with, in_field, next_record, step}
 use Rattle.csv.specs.Reading.{is_bom, records_from, records_next, strip_bom}
-use Rattle.csv.specs.declared.parser.Action.TheVariants as act
 use Rattle.csv.specs.declared.parser.Config.{Config}
 use Rattle.csv.specs.declared.parser.State.{State}
 use Rattle.csv.specs.declared.parser.State.TheVariants as st
 use Rattle.csv.specs.declared.parser.Terminator.TheVariants as term
 use Rattle.dk_table.specs.Cursors.{Cursor, Moves, line_row, rows_of_bytes}
 use Rattle.dk_table.specs.Cutting.{IsCut, IsUnquoted}
+use Rattle.dk_table.specs.Marks.{IsNextEnd, ends_cell}
 use Rattle.dk_table.specs.Placed.{Placed}
 use Rattle.dk_table.specs.Tables.{are_paired, config_by, placed_from}
-use Rattle.dk_table.proofs.AllRecords.{begun, behind_end, records_end, records_more, shrinks}
+use Rattle.dk_table.proofs.AllRecords.{behind_end, records_end, records_more}
 
 -- ---- bytes without quotes
 pub unquoted_drop : (k : ℕ) (bytes : List ℕ) → IsUnquoted bytes → IsUnquoted (drop k bytes)
@@ -43,46 +43,21 @@ unquoted_behind (a ∷ b ∷ c ∷ more) h = go (is_bom a b c)
     go true = unquoted_drop 3 (a ∷ b ∷ c ∷ more) h
     go false = h
 
--- what is left behind a place, as a slice without an end gives it
-pub to_end : (xs : List ℕ) (k : ℕ) → take (length xs - k) (drop k xs) ≡ drop k xs
-to_end xs k = take_all (length xs - k) (drop k xs) (omega (arith, length-drop k xs))
-
-pub nothing : (xs : List ℕ) → (length xs == 0) ≡ true → xs ≡ []
-nothing [] h = refl
-nothing (x ∷ xs) h = let none : length (x ∷ xs) ≡ 0 = eqb-true (length (x ∷ xs)) 0 h in absurd (omega (arith, none))
-
-pub something : (xs : List ℕ) → (length xs == 0) ≡ false → 0 < length xs
-something [] h = absurd (cc h)
-something (x ∷ xs) h = omega arith
-
--- what is left behind the byte that ends a row, where there is one
-pub behind_row : (row : List ℕ) (m end : ℕ) → m ≡ min (length row) (end + 1) → take (length row - m) (drop m row) ≡ drop (end + 1) row
-behind_row row m end is = to_end row m ∙ go (nat_lt (length row) (end + 1)) refl
-  where
-    go : (b : Bool) → nat_lt (length row) (end + 1) ≡ b → drop m row ≡ drop (end + 1) row
-    go true e =
-        let short : length row < end + 1 = ltb-true (length row) (end + 1) e in
-        drop_all m row (omega (arith, is, short)) ∙ sym (drop_all (end + 1) row (omega (arith, short)))
-    go false e =
-        let long : end + 1 ≤ length row = ltb-false (length row) (end + 1) e in
-        let same : m ≡ end + 1 = omega (arith, is, long) in
-        ap (λ (n : ℕ). drop n row) same
-
--- the first byte of what is left
-pub first_left : (bytes : List ℕ) (k : ℕ) → 0 < length (take (length bytes - k) (drop k bytes))
-    → (k < length bytes → ends_with term.CRLF (get_or bytes k 0) ≡ false) → ends_with term.CRLF (get_or (take (length bytes - k) (drop k bytes)) 0 0) ≡ false
-first_left bytes k some begins =
-    let within : k < length bytes = omega (arith, ap length (to_end bytes k), length-drop k bytes, some) in
-    let at : k + 0 ≡ k = omega arith in
-    ap (λ (l : List ℕ). ends_with term.CRLF (get_or l 0 0)) (to_end bytes k)
-    ∙ ap (ends_with term.CRLF) (get_or-drop k bytes 0 0 ∙ ap (λ (n : ℕ). get_or bytes n 0) at) ∙ begins within
-
 equal : (a b : ℕ) → a ≡ b → (a == b) ≡ true
 equal a b e = grind (arith, nat_tests)
 
 -- what a push adds
 pub pushed : (items more : List (Bor (List ℕ))) (x : Bor (List ℕ)) → more ≡ items ++ x ∷ [] → map (λ c. c.now) more ≡ map (λ c. c.now) items ++ x.now ∷ []
 pushed items more x is = ap (map (λ (c : Bor (List ℕ)). c.now)) is ∙ map-append (λ (c : Bor (List ℕ)). c.now) items (x ∷ [])
+
+or_parts_false : (a b : Bool) → (a || b) ≡ false → (a ≡ false) × (b ≡ false)
+or_parts_false false false h = (refl, refl)
+or_parts_false true b h = absurd (false≢true (sym h))
+or_parts_false false true h = absurd (false≢true (sym h))
+
+or_right : (a b : Bool) → a ≡ false → (a || b) ≡ true → b ≡ true
+or_right true b h is = absurd (cc h)
+or_right false b h is = is
 
 no_quote : (c : ℕ) → c ≢ 34 → (c == 34) ≡ false
 no_quote c h = ne_eqb c 34 h
@@ -169,25 +144,27 @@ module _ (separator : ℕ) where
   records_between (suc n) s bytes h = ap (records_next (records_from cfg n)) (next_between s bytes h)
 
   -- ---- the cells so far
-  -- In front of a place in a row these cells were cut, and the last one begins at the start.
-  pub record Cuts (bytes : List ℕ) (cells : List (List ℕ)) (start place : ℕ) : Type 0 where
+  -- In front of a place in the row that begins at another one these cells were cut, and the last one begins at the start.
+  pub record Cuts (bytes : List ℕ) (from : ℕ) (cells : List (List ℕ)) (start place : ℕ) : Type 0 where
     pub state : State
     pub in_row : InRow state
     pub ordered : start ≤ place
-    pub goes_on : next_record cfg st.StartField [] [] bytes ≡ next_record cfg state cells (take (place - start) (drop start bytes)) (drop place bytes)
+    pub goes_on : next_record cfg st.StartField [] [] (drop from bytes) ≡ next_record cfg state cells (take (place - start) (drop start bytes)) (drop place bytes)
 
   none_taken : (n : ℕ) (xs : List ℕ) → take (n - n) xs ≡ []
   none_taken n xs = let none : n - n ≡ 0 = omega arith in ap (λ (k : ℕ). take k xs) none
 
-  pub cuts_none : (bytes : List ℕ) (cells : List (List ℕ)) → cells ≡ [] → Cuts bytes cells 0 0
-  cuts_none bytes cells none = record {
+  pub cuts_none : (bytes : List ℕ) (from : ℕ) (cells : List (List ℕ)) → cells ≡ [] → Cuts bytes from cells from from
+  cuts_none bytes from cells none = record {
     state = st.StartField;
     in_row = inl refl;
     ordered = omega arith;
-    goes_on = ap (λ (l : List (List ℕ)). next_record cfg st.StartField l [] bytes) (sym none);
+    goes_on =
+        ap (λ (l : List (List ℕ)). next_record cfg st.StartField l [] (drop from bytes)) (sym none)
+        ∙ ap (λ (f : List ℕ). next_record cfg st.StartField cells f (drop from bytes)) (sym (none_taken from (drop from bytes)));
   }
 
-  module _ (bytes : List ℕ) (cells : List (List ℕ)) (start place byte : ℕ) (so_far : Cuts bytes cells start place) (unquoted : IsUnquoted bytes)
+  module _ (bytes : List ℕ) (from : ℕ) (cells : List (List ℕ)) (start place byte : ℕ) (so_far : Cuts bytes from cells start place) (unquoted : IsUnquoted bytes)
       (lt : place < length bytes) (is : byte ≡ get_or bytes place 0) where
     abbrev pub field : List ℕ
     field = take (place - start) (drop start bytes)
@@ -198,7 +175,7 @@ module _ (separator : ℕ) where
     ahead : drop place bytes ≡ byte ∷ drop (place + 1) bytes
     ahead = drop_more bytes place 0 lt ∙ ap (λ (c : ℕ). c ∷ drop (place + 1) bytes) (sym is)
 
-    here : next_record cfg st.StartField [] [] bytes ≡ next_record cfg so_far.state cells field (byte ∷ drop (place + 1) bytes)
+    here : next_record cfg st.StartField [] [] (drop from bytes) ≡ next_record cfg so_far.state cells field (byte ∷ drop (place + 1) bytes)
     here = so_far.goes_on ∙ ap (next_record cfg so_far.state cells field) ahead
 
     field_more : field ++ byte ∷ [] ≡ take (place + 1 - start) (drop start bytes)
@@ -210,7 +187,7 @@ module _ (separator : ℕ) where
         let own : get_or (drop start bytes) k 0 ≡ byte = get_or-drop start bytes k 0 ∙ ap (λ (n : ℕ). get_or bytes n 0) at ∙ sym is in
         ap (λ (b : ℕ). field ++ b ∷ []) (sym own) ∙ sym (take_more (drop start bytes) k 0 within) ∙ ap (λ (n : ℕ). take n (drop start bytes)) (sym long)
 
-    pub cuts_separator : (more : List (List ℕ)) → byte ≡ separator → more ≡ cells ++ field ∷ [] → Cuts bytes more (place + 1) (place + 1)
+    pub cuts_separator : (more : List (List ℕ)) → byte ≡ separator → more ≡ cells ++ field ∷ [] → Cuts bytes from more (place + 1) (place + 1)
     cuts_separator more same pushed =
         let test : (byte == separator) ≡ true = equal byte separator same in
         record {
@@ -223,7 +200,7 @@ module _ (separator : ℕ) where
               ∙ ap (λ (f : List ℕ). next_record cfg st.StartField more f (drop (place + 1) bytes)) (sym (none_taken (place + 1) (drop (place + 1) bytes)));
         }
 
-    pub cuts_byte : byte ≢ separator → ends_with term.CRLF byte ≡ false → Cuts bytes cells start (place + 1)
+    pub cuts_byte : byte ≢ separator → ends_with term.CRLF byte ≡ false → Cuts bytes from cells start (place + 1)
     cuts_byte differs none = record {
       state = st.InField;
       in_row = inr refl;
@@ -233,7 +210,7 @@ module _ (separator : ℕ) where
           ∙ ap (λ (f : List ℕ). next_record cfg st.InField cells f (drop (place + 1) bytes)) field_more;
     }
 
-    pub cuts_end : (more : List (List ℕ)) → byte ≢ separator → ends_with term.CRLF byte ≡ true → more ≡ cells ++ field ∷ [] → IsCut separator bytes more place
+    pub cuts_end : (more : List (List ℕ)) → byte ≢ separator → ends_with term.CRLF byte ≡ true → more ≡ cells ++ field ∷ [] → IsCut separator bytes from more (place + 1)
     cuts_end more differs ends pushed = record {
       state = after_end term.CRLF byte;
       read =
@@ -243,53 +220,121 @@ module _ (separator : ℕ) where
     }
 
   -- the bytes end, and with them the row
-  pub cuts_all : (bytes : List ℕ) (cells more : List (List ℕ)) (start place end : ℕ) → Cuts bytes cells start place → length bytes ≤ place → start ≤ length bytes → end ≡ length bytes
-      → more ≡ cells ++ take (length bytes - start) (drop start bytes) ∷ [] → IsCut separator bytes more end
-  cuts_all bytes cells more start place end so_far past within is pushed =
-      let last : List ℕ = drop start bytes in
-      let whole : take (place - start) last ≡ last = take_all (place - start) last (omega (arith, length-drop start bytes, past)) in
-      let same : take (length bytes - start) last ≡ last = take_all (length bytes - start) last (omega (arith, length-drop start bytes)) in
-      let none : drop (end + 1) bytes ≡ [] = drop_all (end + 1) bytes (omega (arith, is)) in
+  pub cuts_all : (bytes : List ℕ) (from : ℕ) (cells more : List (List ℕ)) (start place next : ℕ) → Cuts bytes from cells start place → length bytes ≤ place → length bytes ≤ next
+      → more ≡ cells ++ take (place - start) (drop start bytes) ∷ [] → IsCut separator bytes from more next
+  cuts_all bytes from cells more start place next so_far past behind pushed =
+      let last : List ℕ = take (place - start) (drop start bytes) in
+      let none : drop next bytes ≡ [] = drop_all next bytes behind in
       record {
         state = st.StartRecord;
         read =
-            so_far.goes_on ∙ ap (λ (f : List ℕ). next_record cfg so_far.state cells f (drop place bytes)) whole
-            ∙ ap (next_record cfg so_far.state cells last) (drop_all place bytes past)
+            so_far.goes_on ∙ ap (next_record cfg so_far.state cells last) (drop_all place bytes past)
             ∙ at_close so_far.state cells last so_far.in_row
-            ∙ ap (λ (l : List (List ℕ)). Some (l, st.StartRecord, [])) (ap (λ (f : List ℕ). cells ++ f ∷ []) (sym same) ∙ sym pushed)
+            ∙ ap (λ (l : List (List ℕ)). Some (l, st.StartRecord, [])) (sym pushed)
             ∙ ap (λ (l : List ℕ). Some (more, st.StartRecord, l)) (sym none);
         between = refl;
       }
+
+  -- on over bytes that end no cell
+  module _ (bytes : List ℕ) (from : ℕ) (cells : List (List ℕ)) (start : ℕ) (unquoted : IsUnquoted bytes) where
+    passes : (n place : ℕ) → Cuts bytes from cells start place → place + n ≤ length bytes
+        → ((p : ℕ) → place ≤ p → p < place + n → ends_cell separator (get_or bytes p 0) ≡ false) → Cuts bytes from cells start (place + n)
+    passes zero place so_far within none =
+        let same : place ≡ place + 0 = omega arith in
+        subst (Cuts bytes from cells start) same so_far
+    passes (suc n) place so_far within none =
+        let byte : ℕ = get_or bytes place 0 in
+        let quiet = or_parts_false (byte == separator) (ends_with term.CRLF byte) (none place (omega arith) (omega arith)) in
+        let one : Cuts bytes from cells start (place + 1) =
+        cuts_byte bytes from cells start place byte so_far unquoted (omega (arith, within)) refl (eqb-false byte separator quiet.0) quiet.1 in
+        let same : place + 1 + n ≡ place + suc n = omega arith in
+        subst (Cuts bytes from cells start) same
+        (passes n (place + 1) one (omega (arith, within)) (λ p low high. none p (omega (arith, low)) (omega (arith, high))))
+
+    pub passed_to : (place end : ℕ) → Cuts bytes from cells start place → IsNextEnd separator bytes place end → Cuts bytes from cells start end
+    passed_to place end so_far next =
+        let n : ℕ = end - place in
+        let at : place + n ≡ end = omega (arith, next.low) in
+        subst (Cuts bytes from cells start) at
+        (passes n place so_far (omega (arith, at, next.high)) (λ p low high. next.none p low (omega (arith, at, high))))
+
+  -- ---- the next end of a cell
+  -- a byte in front of a row that ends a line is one
+  is_here : (bytes : List ℕ) (place end : ℕ) → IsNextEnd separator bytes place end → ends_with term.CRLF (get_or bytes place 0) ≡ true → end ≡ place
+  is_here bytes place end next ends = elim (cases_lt place end) [
+    | inl lt ↦ absurd (false≢true (sym (or_parts_false (get_or bytes place 0 == separator) (ends_with term.CRLF (get_or bytes place 0)) (next.none place (omega arith) lt)).1 ∙ ends))
+    | inr ge ↦ omega (arith, ge, next.low)
+  ]
+
+  pub blank_next : (bytes : List ℕ) (place end next : ℕ) → IsNextEnd separator bytes place end → place < length bytes → ends_with term.CRLF (get_or bytes place 0) ≡ true
+      → next ≡ min (length bytes) (end + 1) → next ≡ place + 1
+  blank_next bytes place end next ahead lt ends is = omega (arith, is_here bytes place end ahead ends, is, lt)
+
+  pub blank_passed : (bytes : List ℕ) (place next : ℕ) → place < length bytes → ends_with term.CRLF (get_or bytes place 0) ≡ true → next ≡ place + 1
+      → next_record cfg st.StartRecord [] [] (drop next bytes) ≡ next_record cfg st.StartRecord [] [] (drop place bytes)
+  blank_passed bytes place next lt ends is =
+      ap (λ (n : ℕ). next_record cfg st.StartRecord [] [] (drop n bytes)) is ∙ passed_at bytes place lt ends
+
+  module _ (bytes : List ℕ) (from : ℕ) (cells more : List (List ℕ)) (place start end next : ℕ) (unquoted : IsUnquoted bytes) (so_far : Cuts bytes from cells place place)
+      (ahead : IsNextEnd separator bytes place end) (from_start : start ≡ place) (pushed : more ≡ cells ++ take (end - start) (drop start bytes) ∷ [])
+      (is : next ≡ min (length bytes) (end + 1)) where
+    at_end_of_cell : Cuts bytes from cells place end
+    at_end_of_cell = passed_to bytes from cells place unquoted place end so_far ahead
+
+    cell_pushed : more ≡ cells ++ take (end - place) (drop place bytes) ∷ []
+    cell_pushed = pushed ∙ ap (λ (n : ℕ). cells ++ take (end - n) (drop n bytes) ∷ []) from_start
+
+    -- the next cell is ahead
+    pub cell_cut : end < length bytes → get_or bytes end 0 ≡ separator → Cuts bytes from more next next
+    cell_cut lt same =
+        let behind : end + 1 ≡ next = omega (arith, is, lt) in
+        subst (λ (n : ℕ). Cuts bytes from more n n) behind
+        (cuts_separator bytes from cells place end (get_or bytes end 0) at_end_of_cell unquoted lt refl more same cell_pushed)
+
+    -- the row ends
+    pub row_cut : (length bytes ≤ end) ⊎ ((end < length bytes) × (get_or bytes end 0 ≢ separator)) → IsCut separator bytes from more next
+    row_cut how = elim how [
+      | inl past ↦ cuts_all bytes from cells more place end next at_end_of_cell past (omega (arith, is, past)) cell_pushed
+      | inr other ↦ by_byte other.0 other.1
+    ]
+      where
+        by_byte : end < length bytes → get_or bytes end 0 ≢ separator → IsCut separator bytes from more next
+        by_byte lt differs =
+            let ends : ends_with term.CRLF (get_or bytes end 0) ≡ true = or_right (get_or bytes end 0 == separator) (ends_with term.CRLF (get_or bytes end 0)) (ne_eqb (get_or bytes end 0) separator differs) (ahead.ends lt) in
+            let behind : end + 1 ≡ next = omega (arith, is, lt) in
+            subst (IsCut separator bytes from more) behind
+            (cuts_end bytes from cells place end (get_or bytes end 0) at_end_of_cell unquoted lt refl more differs ends cell_pushed)
 
   -- ---- rows
   abbrev rows : ℕ → ℕ → List (List ℕ) → List ℕ → List Placed
   rows file number cells bytes = rows_of_bytes (line_row file number cells) cfg st.StartRecord (Some bytes)
 
   -- only line ends are left
-  pub no_row : (file number : ℕ) (cells : List (List ℕ)) (bytes row : List ℕ) → next_record cfg st.StartRecord [] [] row ≡ next_record cfg st.StartRecord [] [] bytes → row ≡ []
-      → rows file number cells bytes ≡ []
+  pub no_row : (file number : ℕ) (cells : List (List ℕ)) (bytes : List ℕ) (old place : ℕ)
+      → next_record cfg st.StartRecord [] [] (drop place bytes) ≡ next_record cfg st.StartRecord [] [] (drop old bytes) → length bytes ≤ place
+      → rows file number cells (drop old bytes) ≡ []
   unfolding next_record
-  no_row file number cells bytes row same none =
-      let ended : next_record cfg st.StartRecord [] [] bytes ≡ None = sym same ∙ ap (next_record cfg st.StartRecord [] []) none in
-      ap (placed_from file (number + 1)) (records_end cfg (length bytes + 1) st.StartRecord bytes ended)
+  no_row file number cells bytes old place same past =
+      let left : List ℕ = drop old bytes in
+      let ended : next_record cfg st.StartRecord [] [] left ≡ None = sym same ∙ ap (next_record cfg st.StartRecord [] []) (drop_all place bytes past) in
+      ap (placed_from file (number + 1)) (records_end cfg (length left + 1) st.StartRecord left ended)
 
   -- a row is cut, and those behind it are left
-  pub one_row : (file number end : ℕ) (old cells : List (List ℕ)) (bytes row behind : List ℕ)
-      → next_record cfg st.StartRecord [] [] row ≡ next_record cfg st.StartRecord [] [] bytes → 0 < length row → ends_with term.CRLF (get_or row 0 0) ≡ false
-      → IsCut separator row cells end → behind ≡ drop (end + 1) row
-      → rows file number old bytes ≡ line_row file (number + 1) cells ∷ rows file (number + 1) cells behind
-  one_row file number end old cells bytes [] behind same some first cut is = absurd (omega arith)
-  one_row file number end old cells bytes (c ∷ more) behind same some first cut is =
-      let p : Read = (cells, cut.state, drop (end + 1) (c ∷ more)) in
-      let found : next_record cfg st.StartRecord [] [] bytes ≡ Some p = sym same ∙ begins c more first ∙ cut.read in
+  pub one_row : (file number : ℕ) (past cells : List (List ℕ)) (bytes : List ℕ) (old place next : ℕ)
+      → next_record cfg st.StartRecord [] [] (drop place bytes) ≡ next_record cfg st.StartRecord [] [] (drop old bytes) → place < length bytes
+      → ends_with term.CRLF (get_or bytes place 0) ≡ false → IsCut separator bytes place cells next
+      → rows file number past (drop old bytes) ≡ line_row file (number + 1) cells ∷ rows file (number + 1) cells (drop next bytes)
+  one_row file number past cells bytes old place next same some first cut =
+      let left : List ℕ = drop old bytes in
+      let behind : List ℕ = drop next bytes in
+      let ahead : drop place bytes ≡ get_or bytes place 0 ∷ drop (place + 1) bytes = drop_more bytes place 0 some in
+      let p : Read = (cells, cut.state, behind) in
+      let found : next_record cfg st.StartRecord [] [] left ≡ Some p =
+      sym same ∙ ap (next_record cfg st.StartRecord [] []) ahead ∙ begins (get_or bytes place 0) (drop (place + 1) bytes) first
+      ∙ ap (next_record cfg st.StartField [] []) (sym ahead) ∙ cut.read in
       let tail : List (List (List ℕ)) → List Placed = λ l. line_row file (number + 1) cells ∷ placed_from file (number + 1 + 1) l in
-      ap (placed_from file (number + 1)) (records_more cfg (length bytes + 1) st.StartRecord bytes p (omega arith) refl found)
-      ∙ ap tail (records_between (length (drop (end + 1) (c ∷ more)) + 1) cut.state (drop (end + 1) (c ∷ more)) cut.between)
-      ∙ ap (λ (l : List ℕ). tail (records_from cfg (length l + 1) st.StartRecord l)) (sym is)
-
-  -- there are fewer bytes behind a row
-  pub fewer : (end : ℕ) (row : List ℕ) → 0 < length row → length (drop (end + 1) row) < length row
-  fewer end row some = omega (arith, length-drop (end + 1) row, some)
+      ap (placed_from file (number + 1)) (records_more cfg (length left + 1) st.StartRecord left p (omega arith) refl found)
+      ∙ ap tail (records_between (length behind + 1) cut.state behind cut.between)
 
   pub moves : (left : List Placed) (row : Placed) (more : List Placed) → left ≡ row ∷ more → Moves left (record { row = row; left = more }) true
   moves left row more is =

@@ -1,5 +1,5 @@
 -- A table and its trace, worked.
-use Rattle.std.proofs.Common.{◌≡◌, ◌∷◌, [], ℕ, true, false, List, Some, None, Ok, codes, refl}
+use Rattle.std.proofs.Common.{◌≡◌, ◌∷◌, [], ℕ, true, false, List, Some, None, Ok, codes, map, refl}
 use Rattle.std.specs.Prelude.{Err, negsuc, pos}
 use Rattle.std.specs.Fmt.{digits}
 use Rattle.csv.specs.Machine.{next_record}
@@ -19,8 +19,9 @@ use Rattle.dk_decl.specs.declared.decls.VarDecl.{VarDecl}
 use Rattle.dk_write.specs.Names.{is_line, is_word}
 use Rattle.dk_write.specs.Texts.{Begins, Declares, Records}
 use Rattle.dk_write.specs.Writable.{begins_record, can_declare, can_record}
-use Rattle.dk_table.specs.Cells.{decimal_of, dot_of, is_dot, is_front, quoted, truth, whole}
+use Rattle.dk_table.specs.Cells.{decimal_of, dot_of, is_dot, is_front, quoted, size_of, truth, whole}
 use Rattle.dk_table.specs.Columns.{kind_of_column}
+use Rattle.dk_table.specs.Marks.{ends_cell}
 use Rattle.dk_table.specs.Placed.{Placed}
 use Rattle.dk_table.specs.Tables.{rows_in}
 use Rattle.dk_table.specs.Traces.{any_compar, trace_by, trace_of}
@@ -89,3 +90,10 @@ other_places = refl
 quotes : quoted (codes "a\"b\n") ≡ codes "\"a\\\"b\\n\""
 unfolding quoted
 quotes = refl
+
+-- a comma, CR and LF end cells, and no digit does
+ending : map (ends_cell 44) (44 ∷ 13 ∷ 10 ∷ 53 ∷ []) ≡ true ∷ true ∷ true ∷ false ∷ []
+ending = refl
+
+sizes : map size_of (codes "-12" ∷ codes "12" ∷ codes "-" ∷ [] ∷ []) ≡ codes "12" ∷ codes "12" ∷ [] ∷ [] ∷ []
+sizes = refl

@@ -1,13 +1,16 @@
 pub mod Examples
 pub mod AllRecords
 pub mod Moving
+pub mod Masks
 pub mod Cutting
 pub mod Judged
 pub mod Pieces
 pub mod Formed
 pub mod Bodies
 pub mod Plain
+pub mod Truths
 pub mod Spelled
+pub mod Few
 pub mod Lined
 pub mod Taking
 pub mod Contents
@@ -18,6 +21,7 @@ pub mod Saying
 pub mod Steps
 pub mod Telling
 pub mod Traced
+pub mod Fitting
 pub mod Begun
 pub mod Sampled
 pub mod Counted

@@ -1,7 +1,8 @@
 -- Loops over two lists side by side.
-use Rattle.std.proofs.Common.{◌≡◌, ◌≤◌, ◌<◌, ◌+◌, ◌&&◌, ◌∙◌, ◌∷◌, ◌++◌, [], ℕ, Bool, true, List, append-nil, append_assoc, drop, eq-eqb, flat_map, get_or, length, map, min, take, sym, ap, subst, arith}
+use Rattle.std.proofs.Common.{◌≡◌, ◌≤◌, ◌<◌, ◌+◌, ◌&&◌, ◌∙◌, ◌∷◌, ◌++◌, [], ℕ, zero, suc, Bool, true, List, append-nil, append_assoc, drop, eq-eqb, flat_map, get_or, length, map, min, take, sym, ap, subst, arith}
 use Rattle.std.specs.List.{list_all, zip}
 use Rattle.std.specs.Str.{bytes_eq}
+use Rattle.std.proofs.lemmas.Bool.{and_parts}
 use Rattle.std.proofs.lemmas.Grind.{flat_map-append}
 use Rattle.std.proofs.lemmas.List.{map-append, map-id, take_all, take_more}
 use Rattle.dk_table.specs.Tables.{same_cells}
@@ -70,3 +71,16 @@ pub same_by : (names cells : List (List ℕ)) (b : Bool) → length names ≡ le
     → b ≡ same_cells names cells
 same_by names cells b same is =
     is ∙ ap (λ (t : Bool). t && list_all (λ (e : List ℕ × List ℕ). bytes_eq e.0 e.1) (zip names cells)) (sym (eq-eqb (length names) (length cells) same))
+
+-- a test that all pass, at one place
+pub all_at : {A : Type 0} (test : A → Bool) (xs : List A) (i : ℕ) (d : A) → list_all test xs ≡ true → i < length xs → test (get_or xs i d) ≡ true
+all_at test [] i d h lt = absurd (omega arith)
+all_at test (x ∷ xs) zero d h lt = (and_parts (test x) (list_all test xs) h).0
+all_at test (x ∷ xs) (suc i) d h lt = all_at test xs i d (and_parts (test x) (list_all test xs) h).1 (omega arith)
+
+-- the same of two lists side by side
+pub zip_all_at : {A B : Type 0} (test : A × B → Bool) (xs : List A) (ys : List B) (i : ℕ) (x : A) (y : B) → i < length xs → i < length ys → x ≡ get_or xs i x → y ≡ get_or ys i y
+    → list_all test (zip xs ys) ≡ true → test (x, y) ≡ true
+zip_all_at test xs ys i x y lt more first second h =
+    let within : i < length (zip xs ys) = omega (arith, zip_length xs ys) in
+    ap test (sym (zip_get xs ys i x y lt more first second)) ∙ all_at test (zip xs ys) i (x, y) h within

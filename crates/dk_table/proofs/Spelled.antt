@@ -1,16 +1,13 @@
 -- Whole numbers that cells write, by their digits.
-use Rattle.std.proofs.Common.{◌≡◌, ◌≢◌, ◌≤◌, ◌<◌, ◌+◌, ◌-◌, ◌^◌, ◌∙◌, ◌==◌, ◌&&◌, ◌||◌, ◌∷◌, ◌++◌, [], ℕ, ℤ, pos, negsuc, zero, suc, Bool, true, false, List, Option, Some, None, codes, drop, get_or, length, refl, sym, ap, subst, arith, nat_lt, append_assoc, length-append, length-drop, if◌then◌else◌}
-use Rattle.std.specs.Prelude.{not, is_some, option_and_then, option_map, take}
-use Rattle.std.specs.Char.{digit_value, is_ascii_digit, is_digit}
+use Rattle.std.proofs.Common.{◌≡◌, ◌≢◌, ◌<◌, ◌^◌, ◌∙◌, ◌==◌, ◌&&◌, ◌||◌, ◌∷◌, [], ℕ, ℤ, zero, suc, Bool, true, false, List, Option, Some, None, drop, get_or, length, refl, sym, ap, arith, nat_lt, if◌then◌else◌}
+use Rattle.std.specs.Prelude.{not, option_and_then, option_map}
+use Rattle.std.specs.Char.{digit_value, is_digit}
 use Rattle.std.specs.Fmt.{decimal, signed_decimal}
 use Rattle.std.specs.List.{list_all}
 use Rattle.std.specs.Str.{bytes_eq}
 use Rattle.std.specs.Str.Parse.{AllDigits, digits_value}
-use Rattle.std.proofs.Math.Nat.{pow-le-pow_right}
-use Rattle.std.proofs.lemmas.Bool.{and_parts, eqb-true, eqb-false, false≢true, lt-ltb, ltb-true, ne_eqb}
-use Rattle.std.proofs.lemmas.Bool.Decides.{nat_tests}
+use Rattle.std.proofs.lemmas.Bool.{and_parts, eqb-true, eqb-false, lt-ltb, ltb-true, ne_eqb}
 use Rattle.std.proofs.lemmas.Fmt.{decimal-digits_value, decimal_digit, first_decimal}
-use Rattle.std.proofs.lemmas.Int.Digits.{digits_value-lt}
 use Rattle.std.proofs.lemmas.Slice.Eq.{bytes_eq-Decides}
 use Rattle.std.proofs.lemmas.Str.Parse.{digit_from_value, numerals_by_value, tells_digits}
 use Rattle.dk_base.specs.Numbers.{fits_i64, integer_of, is_numeral, negated, numeral_of, signed, whole_of}
@@ -24,7 +21,7 @@ record Writes (ds : List ℕ) (n : ℕ) : Type 0 where
   all : AllDigits 10 ds
   value : digits_value 10 ds ≡ n
 
-from_tests : (ds : List ℕ) → list_all (λ d. is_digit d 10) ds ≡ true → AllDigits 10 ds
+pub from_tests : (ds : List ℕ) → list_all (λ d. is_digit d 10) ds ≡ true → AllDigits 10 ds
 from_tests [] h = tt
 from_tests (d ∷ ds) h =
     let parts = and_parts (is_digit d 10) (list_all (λ d. is_digit d 10) ds) h in
@@ -67,7 +64,7 @@ differ a b h = go (bytes_eq a b) refl
 agree : (a b : List ℕ) → a ≡ b → bytes_eq a b ≡ true
 agree a b h = (bytes_eq-Decides a b).1 h
 
-abbrev fitting : ℤ → Option ℤ
+abbrev pub fitting : ℤ → Option ℤ
 fitting z = if fits_i64 z then Some z else None
 
 -- what fits is there, and fits

@@ -90,7 +90,7 @@ pub record IsTraced (d : PointDecl) (kinds : List ColumnKind) (rows : List Place
   pub told : untold_row kinds rows ≡ None
   pub is : writes_of d kinds rows ≡ ws
 
-traced : (d : PointDecl) (kinds : List ColumnKind) (rows : List Placed) (ws : List Write) → trace_by d kinds rows ≡ Ok ws → IsTraced d kinds rows ws
+pub traced : (d : PointDecl) (kinds : List ColumnKind) (rows : List Placed) (ws : List Write) → trace_by d kinds rows ≡ Ok ws → IsTraced d kinds rows ws
 unfolding trace_by
 traced d kinds rows ws e = by (are_named d) (untold_row kinds rows) refl refl e
   where

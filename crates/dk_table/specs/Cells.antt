@@ -18,6 +18,11 @@ is_shortest [] = true
 is_shortest (a ∷ []) = true
 is_shortest (a ∷ b ∷ rest) = not (a == 48 || (a == 45 && b == 48))
 
+-- what stands behind a text's minus (45), or the whole text where none leads
+abbrev pub size_of : List ℕ → List ℕ
+size_of [] = []
+size_of (b ∷ bs) = if b == 45 then bs else b ∷ bs
+
 abbrev pub yes : TruthWords → List ℕ
 yes words.Lower = codes "true"
 yes words.Title = codes "True"

@@ -1,6 +1,6 @@
 -- The text of records, row by row.
-use Rattle.std.specs.Prelude.{◌++◌, ◌∷◌, [], ℕ, List, flat_map, map}
-use Rattle.std.specs.List.{zip}
+use Rattle.std.specs.Prelude.{◌++◌, ◌∷◌, [], ℕ, Bool, List, flat_map, is_some, map}
+use Rattle.std.specs.List.{list_all, zip}
 use Rattle.dk_base.specs.Names.{escaped}
 use Rattle.dk_decl.specs.declared.decls.PointDecl.{PointDecl}
 use Rattle.dk_decl.specs.declared.decls.VarDecl.{VarDecl}
@@ -28,3 +28,11 @@ row_text form row = form.point ++ (flat_map cell_lines (zip form.headings row.ce
 
 abbrev pub rows_text : Form → List Placed → List ℕ
 rows_text form rows = flat_map (row_text form) rows
+
+-- each cell of a row writes a value of its column's kind
+abbrev pub row_fits : Form → Placed → Bool
+row_fits form row = list_all (λ e. is_some (cell_value e.0.kind e.1)) (zip form.headings row.cells)
+
+-- so does each of all rows
+abbrev pub all_fit : Form → List Placed → Bool
+all_fit form rows = list_all (row_fits form) rows

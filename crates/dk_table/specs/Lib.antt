@@ -12,6 +12,7 @@ pub mod Cursors
 pub mod Cutting
 pub mod Forms
 pub mod Judging
+pub mod Marks
 pub mod Messages
 pub mod Outcomes
 pub mod Placed

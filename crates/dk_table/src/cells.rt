@@ -1,11 +1,14 @@
 // What a cell writes.
-ghost use Rattle.std.specs.Prelude.{◌≡◌, ◌<◌, ◌++◌, IfOk, IfSome, OnOk, Some, flat_map, length};
+ghost use Rattle.std.specs.Prelude.{◌≡◌, ◌<◌, ◌++◌, IfOk, IfSome, IsTrue, List, OnOk, Some, flat_map, is_some, length, true, ℕ};
 ghost use Rattle.std.specs.Char.{is_ascii_digit};
 ghost use Rattle.std.specs.List.{list_all};
 ghost use Rattle.dk_base.specs.Numbers.{integer_of};
-ghost use Rattle.dk_table.specs.Cells.{decimal_of, dot_of, is_dot, is_front, is_plain, is_shortest, no, quoted, quoted_byte, truth, whole, yes};
+ghost use Rattle.dk_table.specs.Cells.{decimal_of, dot_of, is_dot, is_front, is_plain, is_shortest, no, quoted, quoted_byte, size_of, truth, whole, yes};
 
 use dk_base::{NoMemory, parse_integer, same_bytes};
+
+/// So many digits always write a number within 64 bits.
+const SURE: usize = 18;
 
 /// A spelling of the two truth values.
 #[derive(Clone, Copy, Debug, PartialEq, Eq)]
@@ -28,16 +31,39 @@ pub(crate) fn is_shortest(text: &[u8]) -> bool
     }
 }
 
-/// The whole number that the cell writes as numbers are printed: decimal digits without leading zeros, with a minus where it is below
-/// zero, within 64 bits.
-pub(crate) fn whole(cell: &[u8]) -> Option<i64>
-    ensures { result ≡ whole cell.now }
+// What stands behind a text's minus, or the whole text where none leads.
+fn size_of(text: &[u8]) -> &[u8]
+    ensures { result.now ≡ size_of text.now }
 {
-    if is_shortest(cell) {
-        parse_integer(cell)
-    } else {
-        None
+    match text {
+        [b'-', size @ ..] => size,
+        _ => text,
     }
+}
+
+fn are_digits(text: &[u8]) -> bool
+    ensures { result ≡ list_all is_ascii_digit text.now }
+{
+    text.iter().all(|byte| byte.is_ascii_digit())
+}
+
+// Whether decimal digits, with a minus or without, write a number within 64 bits.
+fn is_integer(text: &[u8]) -> bool
+    ensures { result ≡ is_some (integer_of text.now) }
+{
+    if text.len() > SURE {
+        return parse_integer(text).is_some();
+    }
+    let size = size_of(text);
+    !size.is_empty() && are_digits(size)
+}
+
+/// Whether the cell writes a whole number as numbers are printed: decimal digits without leading zeros, with a minus where it is below zero,
+/// within 64 bits.
+pub(crate) fn is_whole(cell: &[u8]) -> bool
+    ensures { result ≡ is_some (whole cell.now) }
+{
+    is_shortest(cell) && is_integer(cell)
 }
 
 fn yes(words: TruthWords) -> &'static [u8]
@@ -74,18 +100,20 @@ pub(crate) fn truth(words: TruthWords, cell: &[u8]) -> Option<bool>
     }
 }
 
+/// Whether the truth value that the cell writes in this spelling is the true one, which its length tells.
+pub(crate) fn is_yes(words: TruthWords, cell: &[u8]) -> bool
+    requires { is_some (truth words cell.now) ≡ true }
+    ensures { truth words cell.now ≡ Some result }
+{
+    cell.len() == yes(words).len()
+}
+
 // Whether the bytes in front of a dot are a whole number as it is printed, or `-0`.
 #[tactic(auto, unfolding(crate::specs::Cells::is_front))]
 fn is_front(front: &[u8]) -> bool
     ensures { result ≡ is_front front.now }
 {
-    whole(front).is_some() || same_bytes(front, b"-0")
-}
-
-fn are_digits(text: &[u8]) -> bool
-    ensures { result ≡ list_all is_ascii_digit text.now }
-{
-    text.iter().all(|byte| byte.is_ascii_digit())
+    is_whole(front) || same_bytes(front, b"-0")
 }
 
 // Whether the byte at this place is the dot of a decimal.
@@ -128,6 +156,38 @@ pub(crate) fn decimal(
             digits.extend_from_slice(&cell[dot + 1..])?;
             Ok(parse_integer(digits.as_slice()))
         }
+    }
+}
+
+/// Whether the cell writes a decimal with so many places that is within 64 bits, times 10 to their number. Its digits are put into `digits` where
+/// they are many.
+pub(crate) fn is_decimal(places: u32, cell: &[u8], digits: &mut Vec<u8>) -> Result<bool, NoMemory>
+    ensures { IfOk result (λ is. is ≡ is_some (decimal_of places cell.now)) }
+{
+    if cell.len() > SURE {
+        return Ok(decimal(places, cell, digits)?.is_some());
+    }
+    Ok(dot_of(places as usize, cell).is_some())
+}
+
+/// Where the dot of the decimal with so many places stands that the cell writes.
+pub(crate) fn dot_in(places: u32, cell: &[u8]) -> usize
+    requires { is_some (decimal_of places cell.now) ≡ true }
+    ensures dot { dot_of places cell.now ≡ Some result }
+    ensures within { result < length cell.now }
+{
+    cell.len() - places as usize - 1
+}
+
+/// Whether neither `0` leads nor a minus and `0`. Where none does, no zero leads with more digits behind.
+pub(crate) fn leads(front: &[u8]) -> bool
+    ensures { IsTrue result → (back : List ℕ) → is_shortest (front.now ++ back) ≡ true }
+{
+    match front {
+        [b'-', second, ..] => *second != b'0',
+        [first, _, ..] => *first != b'0',
+        [first] => *first != b'0' && *first != b'-',
+        [] => false,
     }
 }
 

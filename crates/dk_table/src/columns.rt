@@ -1,11 +1,14 @@
 // What the cells of a column write.
-ghost use Rattle.std.specs.Prelude.{◌≡◌, ◌++◌, ◌∷◌, [], IfOk, None, OnOk, Some, codes, is_some, option_map};
+ghost use Rattle.std.specs.Prelude.{◌≡◌, ◌++◌, ◌∷◌, [], IfOk, None, OnOk, Some, codes, is_some, true};
 ghost use Rattle.dk_base.specs.Numbers.{integer_of};
 ghost use Rattle.dk_base.specs.declared.values.Value.TheVariants as value;
 ghost use Rattle.dk_lines.specs.Passing.{joined};
 ghost use Rattle.dk_table.specs.Columns.{cell_value, option_lines, value_lines, written_value};
 
-use crate::cells::{TruthWords, decimal, is_shortest, push_quoted, truth, whole};
+use crate::cells::{
+    TruthWords, decimal, dot_in, is_decimal, is_shortest, is_whole, is_yes, leads, push_quoted,
+    truth,
+};
 use dk_base::NoMemory;
 use itoa::Buffer;
 
@@ -53,9 +56,9 @@ fn is_written(kind: ColumnKind, cell: &[u8], digits: &mut Vec<u8>) -> Result<boo
     ensures { IfOk result (λ is. is ≡ is_some (written_value kind cell.now)) }
 {
     match kind {
-        ColumnKind::Whole => Ok(whole(cell).is_some()),
+        ColumnKind::Whole => Ok(is_whole(cell)),
         ColumnKind::Truth(words) => Ok(truth(words, cell).is_some()),
-        ColumnKind::Decimal(places) => Ok(decimal(places, cell, digits)?.is_some()),
+        ColumnKind::Decimal(places) => is_decimal(places, cell, digits),
         ColumnKind::Text => Ok(true),
     }
 }
@@ -102,16 +105,22 @@ fn push_digits(text: &mut Vec<u8>, number: i64, digits: &[u8]) -> Result<(), NoM
 
 // The lines of the whole number that a cell writes. The cell is how it is printed.
 fn push_whole(text: &mut Vec<u8>, cell: &[u8]) -> Result<(), NoMemory>
+    requires { is_some (written_value ColumnKind.Whole cell.now) ≡ true }
     ensures { OnOk result (text.new.items ≡ text.old.items ++ option_lines (written_value ColumnKind.Whole cell.now)) }
 {
-    match whole(cell) {
-        Some(_) => push_told(text, cell),
-        None => push_untold(text),
-    }
+    push_told(text, cell)
 }
 
-// The lines of the decimal with so many places that a cell writes. Mostly its digits are how the number is printed.
-fn push_decimal(
+// The lines of the number that digits in front of a dot and behind it write, where the digits are how it is printed.
+fn push_joined(text: &mut Vec<u8>, front: &[u8], back: &[u8]) -> Result<(), NoMemory>
+    ensures { OnOk result (text.new.items ≡ text.old.items ++ joined ((front.now ++ back.now) ∷ codes "1" ∷ [])) }
+{
+    text.extend_from_slice(front)?;
+    push_told(text, back)
+}
+
+// The lines of the decimal with so many places that a cell writes, whatever leads.
+fn push_scaled(
     text: &mut Vec<u8>,
     places: u32,
     cell: &[u8],
@@ -125,13 +134,34 @@ fn push_decimal(
     }
 }
 
-fn push_truth(text: &mut Vec<u8>, truth: Option<bool>) -> Result<(), NoMemory>
-    ensures { OnOk result (text.new.items ≡ text.old.items ++ option_lines (option_map (λ b. value.Bool b) truth)) }
+// The lines of the decimal with so many places that a cell writes. Mostly its digits are how the number is printed.
+fn push_decimal(
+    text: &mut Vec<u8>,
+    places: u32,
+    cell: &[u8],
+    digits: &mut Vec<u8>,
+) -> Result<(), NoMemory>
+    requires { is_some (written_value (ColumnKind.Decimal places) cell.now) ≡ true }
+    ensures { OnOk result (text.new.items ≡ text.old.items ++ option_lines (written_value (ColumnKind.Decimal places) cell.now)) }
 {
-    match truth {
-        Some(true) => push_told(text, b"true"),
-        Some(false) => push_told(text, b"false"),
-        None => push_untold(text),
+    let dot = dot_in(places, cell);
+    let front = &cell[..dot];
+    if leads(front) {
+        push_joined(text, front, &cell[dot + 1..])
+    } else {
+        push_scaled(text, places, cell, digits)
+    }
+}
+
+// The lines of the truth value that a cell writes. By the length of its word it is known which.
+fn push_truth(text: &mut Vec<u8>, words: TruthWords, cell: &[u8]) -> Result<(), NoMemory>
+    requires { is_some (written_value (ColumnKind.Truth words) cell.now) ≡ true }
+    ensures { OnOk result (text.new.items ≡ text.old.items ++ option_lines (written_value (ColumnKind.Truth words) cell.now)) }
+{
+    if is_yes(words, cell) {
+        push_told(text, b"true")
+    } else {
+        push_told(text, b"false")
     }
 }
 
@@ -151,24 +181,26 @@ fn push_written(
     cell: &[u8],
     digits: &mut Vec<u8>,
 ) -> Result<(), NoMemory>
+    requires { is_some (written_value kind cell.now) ≡ true }
     ensures { OnOk result (text.new.items ≡ text.old.items ++ option_lines (written_value kind cell.now)) }
 {
     match kind {
         ColumnKind::Whole => push_whole(text, cell),
-        ColumnKind::Truth(words) => push_truth(text, truth(words, cell)),
+        ColumnKind::Truth(words) => push_truth(text, words, cell),
         ColumnKind::Decimal(places) => push_decimal(text, places, cell, digits),
         ColumnKind::Text => push_text(text, cell),
     }
 }
 
-/// The two lines of the value of a cell in a column of this kind: the value's text, and the mark. An empty cell is missing. Digits of decimals
-/// are put into `digits`.
+/// The two lines of the value of a cell in a column of this kind: the value's text, and the mark. An empty cell is missing. That the cell fits its
+/// column is known, so it isn't read again. Digits of decimals are put into `digits`.
 pub(crate) fn push_cell(
     text: &mut Vec<u8>,
     kind: ColumnKind,
     cell: &[u8],
     digits: &mut Vec<u8>,
 ) -> Result<(), NoMemory>
+    requires { is_some (cell_value kind cell.now) ≡ true }
     ensures { OnOk result (text.new.items ≡ text.old.items ++ option_lines (cell_value kind cell.now)) }
 {
     if cell.is_empty() {

@@ -5,9 +5,11 @@ ghost use Rattle.csv.specs.declared.parser.State.TheVariants as st;
 ghost use Rattle.csv.specs.declared.parser.Terminator.TheVariants as term;
 ghost use Rattle.dk_table.specs.Cursors.{Moves, line_row, rows_of_bytes};
 ghost use Rattle.dk_table.specs.Cutting.{IsCut, IsUnquoted};
+ghost use Rattle.dk_table.specs.Marks.{AreAhead};
 ghost use Rattle.dk_table.specs.Placed.{cell_at};
 ghost use Rattle.dk_table.specs.Tables.{config_by};
 
+use crate::marks::Marks;
 use dk_base::NoMemory;
 use memchr::memchr;
 use std::alloc::Global;
@@ -26,44 +28,44 @@ fn ends_line(byte: u8) -> bool
     byte == b'\r' || byte == b'\n'
 }
 
-// The place of the first byte that ends no line, or how many bytes there are.
-fn row_start(bytes: &[u8]) -> usize
-    ensures bound { result ≤ length bytes.now }
-    ensures begins { result < length bytes.now → ends_with term.CRLF (get_or bytes.now result 0) ≡ false }
-    ensures same { (separator : ℕ) → next_record (config_by separator) st.StartRecord [] [] (drop result bytes.now) ≡ next_record (config_by separator) st.StartRecord [] [] bytes.now }
+// Goes past the bytes in front of a row that end lines.
+fn row_marks(separator: u8, bytes: &[u8], marks: Marks) -> Marks
+    requires { AreAhead separator bytes.now marks }
+    ensures ahead { AreAhead separator bytes.now result }
+    ensures later { marks.place ≤ result.place }
+    ensures begins { result.place < length bytes.now → ends_with term.CRLF (get_or bytes.now result.place 0) ≡ false }
+    ensures same { next_record (config_by separator) st.StartRecord [] [] (drop result.place bytes.now) ≡ next_record (config_by separator) st.StartRecord [] [] (drop marks.place bytes.now) }
 {
-    for place in 0..bytes.len() {
-        if !ends_line(bytes[place]) {
-            return place;
-        }
+    let mut ahead = marks;
+    'blank: while ahead.place() < bytes.len() && ends_line(bytes[ahead.place()]) {
+        let _end = ahead.next(separator, bytes);
     }
-    bytes.len()
+    ahead
 }
 
-// Cuts the cells of the row in front, and answers the place of the byte that ends it, or how many bytes there are.
+// Cuts the cells of the row that begins at the marks, and answers the marks behind it.
 fn cut_cells<'a>(
     separator: u8,
     bytes: &'a [u8],
+    marks: Marks,
     cells: &mut Vec<&'a [u8]>,
-) -> Result<usize, NoMemory>
+) -> Result<Marks, NoMemory>
     requires unquoted { IsUnquoted bytes.now }
+    requires ahead { AreAhead separator bytes.now marks }
     requires none { cells.old.items ≡ [] }
-    ensures bound { IfOk result (λ end. end ≤ length bytes.now) }
-    ensures cells { IfOk result (λ end. IsCut separator bytes.now (map (λ c. c.now) cells.new.items) end) }
+    ensures ahead { IfOk result (λ next. AreAhead separator bytes.now next) }
+    ensures moves { IfOk result (λ next. marks.place < length bytes.now → marks.place < next.place) }
+    ensures cells { IfOk result (λ next. IsCut separator bytes.now marks.place (map (λ c. c.now) cells.new.items) next.place) }
 {
-    let mut start = 0;
-    for place in 0..bytes.len() {
-        let byte = bytes[place];
-        if byte == separator {
-            cells.push(&bytes[start..place])?;
-            start = place + 1;
-        } else if ends_line(byte) {
-            cells.push(&bytes[start..place])?;
-            return Ok(place);
+    let mut ahead = marks;
+    'cells: loop {
+        let start = ahead.place();
+        let end = ahead.next(separator, bytes);
+        cells.push(&bytes[start..end])?;
+        if end >= bytes.len() || bytes[end] != separator {
+            return Ok(ahead);
         }
     }
-    cells.push(&bytes[start..])?;
-    Ok(bytes.len())
 }
 
 /// Goes through the rows of the bytes of a file without quotes, which contracts see as the row that was read last and those that are left.
@@ -73,22 +75,24 @@ pub(crate) struct Lines<'a> {
     file: usize,
     number: u64,
     cells: Vec<&'a [u8]>,
-    left: &'a [u8],
+    bytes: &'a [u8],
+    marks: Marks,
 }
 
 impl<'a> Model for Lines<'a> {
-    ghost use Rattle.std.specs.Prelude.{◌+◌, ◌<◌, ◌^◌, Some, length, map};
+    ghost use Rattle.std.specs.Prelude.{◌+◌, ◌-◌, ◌<◌, ◌^◌, Some, drop, length, map};
     ghost use Rattle.csv.specs.declared.parser.State.TheVariants as st;
     ghost use Rattle.dk_table.specs.Cursors.{Cursor, line_row, rows_of_bytes};
     ghost use Rattle.dk_table.specs.Cutting.{IsUnquoted};
+    ghost use Rattle.dk_table.specs.Marks.{AreAhead};
     ghost use Rattle.dk_table.specs.Tables.{config_by};
 
     ghost Value = { Cursor };
 
     ghost view = { λ l. let row = line_row l.file l.number (map (λ c. c.now) l.cells.items) in
-        record { row = row; left = rows_of_bytes row (config_by l.separator) st.StartRecord (Some l.left.now) } };
+        record { row = row; left = rows_of_bytes row (config_by l.separator) st.StartRecord (Some (drop l.marks.place l.bytes.now)) } };
 
-    ghost invariant = { λ l. IsUnquoted l.left.now × (l.number + length l.left.now < 2 ^ 64) };
+    ghost invariant = { λ l. IsUnquoted l.bytes.now × AreAhead l.separator l.bytes.now l.marks × (l.number + (length l.bytes.now - l.marks.place) < 2 ^ 64) };
 }
 
 impl<'a> Lines<'a> {
@@ -106,7 +110,8 @@ impl<'a> Lines<'a> {
             file,
             number: 0,
             cells: Vec::new(alloc),
-            left: bytes,
+            bytes,
+            marks: Marks::new(separator, bytes),
         }
     }
 
@@ -114,15 +119,13 @@ impl<'a> Lines<'a> {
     pub(crate) fn next(&mut self) -> Result<bool, NoMemory>
         ensures { IfOk result (λ found. Moves self.old.left self.new found) }
     {
-        let bytes = self.left;
-        let row = &bytes[row_start(bytes)..];
+        let marks = row_marks(self.separator, self.bytes, self.marks);
         self.cells.clear();
-        if row.is_empty() {
-            self.left = row;
+        if marks.place() >= self.bytes.len() {
+            self.marks = marks;
             return Ok(false);
         }
-        let end = cut_cells(self.separator, row, &mut self.cells)?;
-        self.left = &row[row.len().min(end + 1)..];
+        self.marks = cut_cells(self.separator, self.bytes, marks, &mut self.cells)?;
         self.number += 1;
         Ok(true)
     }

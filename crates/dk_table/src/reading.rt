@@ -4,8 +4,9 @@ ghost use Rattle.dk_driver.specs.Files.{file_name_at};
 ghost use Rattle.dk_io.specs.Outside.{Rose};
 ghost use Rattle.dk_table.specs.Contents.{AreReadAs, FaultSays, OwnFaultSays, ReadAs, helds_of};
 
+use crate::file_bytes::FileBytes;
 use dk_arguments::Word;
-use dk_base::{List, Text};
+use dk_base::List;
 use dk_driver::FilesFault;
 use dk_io::{AllFault, Failed, Inputs, read_all};
 use std::alloc::Global;
@@ -16,7 +17,7 @@ fn read_text<I: Inputs>(
     place: usize,
     name: &str,
     inputs: &mut I,
-) -> Result<Text, FilesFault>
+) -> Result<FileBytes, FilesFault>
     ensures read { IfOk result (ReadAs (I.file inputs.old name.now)) }
     ensures fault { IfErr result (OwnFaultSays (I.file inputs.old name.now) (Rose (I.faults inputs.old) (I.faults inputs.new)) place) }
     ensures files { I.file inputs.new ≡ I.file inputs.old }
@@ -25,7 +26,7 @@ fn read_text<I: Inputs>(
     match inputs.start(name) {
         Err(Failed) => Err(FilesFault::Start { place }),
         Ok(()) => match read_all(alloc, inputs, u64::MAX) {
-            Ok(text) => Ok(text),
+            Ok(text) => Ok(FileBytes::new(text)),
             Err(AllFault::Read) => Err(FilesFault::Read { place }),
             Err(AllFault::TooLong) => Err(FilesFault::NoMemory),
             Err(AllFault::NoMemory) => Err(FilesFault::NoMemory),
@@ -48,7 +49,7 @@ pub(crate) fn read_texts<I: Inputs>(
     alloc: Global,
     names: &[Word],
     inputs: &mut I,
-) -> Result<List<Text>, FilesFault>
+) -> Result<List<FileBytes>, FilesFault>
     ensures read { IfOk result (AreReadAs (helds_of names.now (I.file inputs.old))) }
     ensures fault { IfErr result (FaultSays names.now (I.file inputs.old) (Rose (I.faults inputs.old) (I.faults inputs.new))) }
     ensures files { I.file inputs.new ≡ I.file inputs.old }

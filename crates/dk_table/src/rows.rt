@@ -6,7 +6,8 @@ ghost use Rattle.dk_table.specs.Placed.{cell_at};
 ghost use Rattle.dk_table.specs.Tables.{body_in, rows_in};
 
 use crate::command::Command;
-use crate::lines::{Lines, is_unquoted};
+use crate::file_bytes::FileBytes;
+use crate::lines::Lines;
 use crate::records::Records;
 use dk_base::NoMemory;
 use std::alloc::Global;
@@ -51,17 +52,30 @@ impl<'a> Rows<'a> {
         alloc: Global,
         separator: u8,
         file: usize,
+        bytes: &'a FileBytes,
+    ) -> Result<Rows<'a>, NoMemory>
+        ensures left { IfOk result (λ rows. rows.left ≡ rows_in separator file bytes.entry.now) }
+        ensures few { IfOk result (λ rows. length rows.left < 2 ^ 64) }
+    {
+        if bytes.is_unquoted() {
+            let lines = Lines::new(alloc, separator, file, behind_mark(bytes.as_slice()));
+            return Ok(Rows {
+                source: Source::Lines(lines),
+            });
+        }
+        Rows::by_records(alloc, separator, file, bytes.as_slice())
+    }
+
+    /// The same, by a reader for which it doesn't matter whether there are quotes.
+    pub(crate) fn by_records(
+        alloc: Global,
+        separator: u8,
+        file: usize,
         bytes: &'a [u8],
     ) -> Result<Rows<'a>, NoMemory>
         ensures left { IfOk result (λ rows. rows.left ≡ rows_in separator file bytes.entry.now) }
         ensures few { IfOk result (λ rows. length rows.left < 2 ^ 64) }
     {
-        if is_unquoted(bytes) {
-            let lines = Lines::new(alloc, separator, file, behind_mark(bytes));
-            return Ok(Rows {
-                source: Source::Lines(lines),
-            });
-        }
         let records = Records::new(alloc, separator, file, bytes);
         Ok(Rows {
             source: Source::Records(Box::new(alloc, records)?),
@@ -73,7 +87,7 @@ impl<'a> Rows<'a> {
         alloc: Global,
         command: &Command,
         file: usize,
-        bytes: &'a [u8],
+        bytes: &'a FileBytes,
     ) -> Result<Rows<'a>, NoMemory>
         ensures { IfOk result (λ rows. rows.left ≡ body_in command.now file bytes.entry.now) }
     {

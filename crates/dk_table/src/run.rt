@@ -11,12 +11,12 @@ ghost use Rattle.dk_table.specs.Writing.{EndsCut};
 
 use crate::command::Command;
 use crate::faults::{Refusal, TableFault, TableWhy};
+use crate::file_bytes::FileBytes;
 use crate::reading::{name_at, read_texts};
 use crate::traces::plan_of;
 use crate::words::TableArguments;
 use crate::writing::tell_trace;
 use dk_arguments::Word;
-use dk_base::Text;
 use dk_events::Ended;
 use dk_io::{Inputs, Sinks, Stream};
 use dk_program::{end_with, tell_fault};
@@ -57,7 +57,7 @@ fn tell_refused<S: Sinks>(alloc: Global, names: &[Word], refusal: Refusal, sinks
 fn tell_texts<S: Sinks>(
     alloc: Global,
     arguments: &TableArguments,
-    texts: &[Text],
+    texts: &[FileBytes],
     sinks: &mut S,
 ) -> Ended
     ensures { let outcome : Outcome = outcome_of arguments.now texts.now in

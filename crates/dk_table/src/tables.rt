@@ -6,8 +6,8 @@ ghost use Rattle.dk_table.specs.Tables.{are_paired, file_rows, first_of, if_even
 
 use crate::command::Command;
 use crate::faults::{Refusal, TableFault, TableWhy};
+use crate::file_bytes::FileBytes;
 use crate::judging::Judge;
-use crate::lines::is_unquoted;
 use crate::rows::Rows;
 use dk_base::{List, NoMemory, Text, same_bytes};
 use itoa::Buffer;
@@ -73,13 +73,19 @@ fn take_table(
 }
 
 // Whether the quotes of a file go in pairs.
-fn are_paired(bytes: &[u8]) -> bool
+fn are_paired(bytes: &FileBytes) -> bool
     ensures { result ≡ are_paired bytes.now }
 {
-    if is_unquoted(bytes) {
+    if bytes.is_unquoted() {
         return true;
     }
-    bytes.iter().filter(|byte| **byte == b'"').count() % 2 == 0
+    bytes
+        .as_slice()
+        .iter()
+        .filter(|byte| **byte == b'"')
+        .count()
+        % 2
+        == 0
 }
 
 // How many rows are left.
@@ -100,7 +106,7 @@ fn take_file(
     command: &Command,
     names: &[Text],
     file: usize,
-    bytes: &[u8],
+    bytes: &FileBytes,
     judge: &mut Judge,
 ) -> Result<(), TableFault>
     ensures { Answers (λ _. judge.new) (judging_rows judge.old (file_rows command.now names.now file bytes.now)) result }
@@ -118,13 +124,13 @@ pub(crate) fn take_files(
     alloc: Global,
     command: &Command,
     names: &[Text],
-    files: &[Text],
+    files: &[FileBytes],
     judge: &mut Judge,
 ) -> Result<(), TableFault>
     ensures { Answers (λ _. judge.new) (judging_rows judge.old (rows_of_all command.now names.now 0 files.now)) result }
 {
     for file in 0..files.len() {
-        take_file(alloc, command, names, file, files[file].as_slice(), judge)?;
+        take_file(alloc, command, names, file, &files[file], judge)?;
     }
     Ok(())
 }
@@ -174,7 +180,7 @@ fn names_by(alloc: Global, has_header: bool, rows: &Rows<'_>) -> Result<List<Tex
     }
 }
 
-fn first_of(files: &[Text]) -> &[u8]
+fn first_of(files: &[FileBytes]) -> &[u8]
     ensures { result.now ≡ first_of files.now }
 {
     match files.first() {
@@ -187,11 +193,11 @@ fn first_of(files: &[Text]) -> &[u8]
 pub(crate) fn names_of(
     alloc: Global,
     command: &Command,
-    files: &[Text],
+    files: &[FileBytes],
 ) -> Result<List<Text>, TableFault>
     ensures { Answers (λ names. names) (names_of command.now.has_header (rows_in command.now.separator 0 (first_of files.now))) result }
 {
-    let mut rows = Rows::new(alloc, command.separator, 0, first_of(files))?;
+    let mut rows = Rows::by_records(alloc, command.separator, 0, first_of(files))?;
     if !rows.next()? {
         return Err(refused(0, 1, TableWhy::NoHeader));
     }

@@ -20,15 +20,15 @@ trace: one point, with a variable for each column and a record for each row.
                    are named column1 and so on
   -h, --help       print this text and read nothing
   -V, --version    print the name and the version and read nothing
-  --               take all words behind it as FILEs
+  --               take all arguments after it as FILEs
 
 A column has what all its cells write: whole numbers (64 bits, no leading zero
 or plus); true and false, or True and False, or TRUE and FALSE; decimals with
 as many places, which are taken times 10, 100 .. and named so, as in
 price * 100; or else texts, other decimals too. An empty cell is missing.
 
-Status: 0 done, 1 a table is refused, 2 the words are refused, 3 a file can't
-be read, 4 the output can't be written, 5 out of memory.
+Status: 0 done, 1 a table is refused, 2 the arguments are refused, 3 a file
+can't be read, 4 the output can't be written, 5 out of memory.
 
 Example: dk_table t.csv | daikon /dev/stdin
 ";

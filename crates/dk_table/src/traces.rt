@@ -1,5 +1,5 @@
 // The trace of a table.
-ghost use Rattle.std.specs.Prelude.{◌≡◌, ◌++◌, IfOk, OnOk, map, option_map, replicate};
+ghost use Rattle.std.specs.Prelude.{◌≡◌, ◌++◌, IfOk, None, OnOk, map, option_map, replicate};
 ghost use Rattle.std.specs.List.{zip};
 ghost use Rattle.dk_table.specs.Outcomes.{Answers};
 ghost use Rattle.dk_table.specs.Tables.{bodies_in};
@@ -8,6 +8,7 @@ ghost use Rattle.dk_table.specs.Traces.{IsJudged, IsPlan, are_named, bad_cell, d
 use crate::columns::{ColumnKind, writes};
 use crate::command::Command;
 use crate::faults::{Refusal, TableFault, TableWhy};
+use crate::file_bytes::FileBytes;
 use crate::judging::Judge;
 use crate::rows::Rows;
 use crate::tables::{names_of, refused, take_files};
@@ -156,13 +157,13 @@ fn untold_in(
     alloc: Global,
     command: &Command,
     kinds: &[ColumnKind],
-    files: &[Text],
+    files: &[FileBytes],
 ) -> Result<Option<Refusal>, NoMemory>
     ensures { IfOk result (λ refusal. refusal ≡ option_map bad_cell (untold_row kinds.now (bodies_in command.now 0 files.now))) }
 {
     let mut digits = Vec::new(alloc);
     for file in 0..files.len() {
-        let mut rows = Rows::body(alloc, command, file, files[file].as_slice())?;
+        let mut rows = Rows::body(alloc, command, file, &files[file])?;
         let refusal = untold_row(kinds, &mut rows, &mut digits)?;
         if refusal.is_some() {
             return Ok(refusal);
@@ -176,7 +177,7 @@ fn kinds_in(
     alloc: Global,
     command: &Command,
     names: &[Text],
-    files: &[Text],
+    files: &[FileBytes],
 ) -> Result<List<ColumnKind>, TableFault>
     ensures { Answers (λ kinds. kinds) (kinds_in command.now names.now files.now) result }
 {
@@ -188,7 +189,12 @@ fn kinds_in(
 // Whether the files' tables, with this declaration and columns of these kinds, have a trace. Where kinds were found by all rows, each cell is
 // of its column's kind.
 #[tactic(auto, unfolding(crate::specs::Traces::trace_by))]
-fn judge(alloc: Global, command: &Command, plan: &Plan, files: &[Text]) -> Result<(), TableFault>
+fn judge(
+    alloc: Global,
+    command: &Command,
+    plan: &Plan,
+    files: &[FileBytes],
+) -> Result<(), TableFault>
     requires { IsJudged command.now plan.now files.now }
     ensures { Answers (λ _. plan_writes command.now plan.now files.now) (trace_by plan.now.decl plan.now.kinds (bodies_in command.now 0 files.now)) result }
 {
@@ -209,10 +215,11 @@ pub(crate) fn plan_of(
     alloc: Global,
     command: &Command,
     point: &[u8],
-    files: &[Text],
+    files: &[FileBytes],
 ) -> Result<Plan, TableFault>
     ensures answers { Answers (λ plan. plan_writes command.now plan files.now) (trace_at command.now point.now files.now) result }
     ensures plan { IfOk result IsPlan }
+    ensures told { IfOk result (λ plan. untold_row plan.kinds (bodies_in command.now 0 files.now) ≡ None) }
 {
     let names = names_of(alloc, command, files)?;
     let columns = names.as_slice();

@@ -1,17 +1,19 @@
 // Writing the trace of tables.
-ghost use Rattle.std.specs.Prelude.{◌≡◌, ◌++◌, ◌∷◌, [], IfOk, OnOk, flat_map, map};
-ghost use Rattle.std.specs.List.{zip};
+ghost use Rattle.std.specs.Prelude.{◌≡◌, ◌++◌, ◌∷◌, [], IfOk, None, OnOk, flat_map, is_some, map, true};
+ghost use Rattle.std.specs.List.{list_all, zip};
 ghost use Rattle.dk_base.specs.Names.{escaped};
 ghost use Rattle.dk_io.specs.declared.outside.Stream.TheVariants as stream;
 ghost use Rattle.dk_lines.specs.Passing.{joined};
 ghost use Rattle.dk_write.specs.Texts.{Begins, Declares, block_text, trace_text};
-ghost use Rattle.dk_table.specs.Forms.{cell_lines, form_of, heading_of, row_text, rows_text};
+ghost use Rattle.dk_table.specs.Columns.{cell_value};
+ghost use Rattle.dk_table.specs.Forms.{all_fit, cell_lines, form_of, heading_of, row_fits, row_text, rows_text};
 ghost use Rattle.dk_table.specs.Tables.{bodies_in};
-ghost use Rattle.dk_table.specs.Traces.{IsPlan, plan_writes};
+ghost use Rattle.dk_table.specs.Traces.{IsPlan, plan_writes, untold_row};
 ghost use Rattle.dk_table.specs.Writing.{EndsCut, Tells, TellsFront, status_of};
 
 use crate::columns::{ColumnKind, push_cell};
 use crate::command::Command;
+use crate::file_bytes::FileBytes;
 use crate::rows::Rows;
 use crate::traces::Plan;
 use dk_base::{List, NoMemory, Text};
@@ -122,6 +124,7 @@ fn push_heading_cell(
     heading: &Heading,
     cell: &[u8],
 ) -> Result<(), NoMemory>
+    requires { is_some (cell_value heading.now.kind cell.now) ≡ true }
     ensures { OnOk result (gathered.new.text.items ≡ gathered.old.text.items ++ cell_lines (heading.now, cell.now)) }
 {
     gathered.text.extend_from_slice(heading.line.as_slice())?;
@@ -134,6 +137,7 @@ fn push_cells(
     headings: &[Heading],
     rows: &Rows<'_>,
 ) -> Result<(), NoMemory>
+    requires { list_all (λ e. is_some (cell_value e.0.kind e.1)) (zip headings.now rows.now.row.cells) ≡ true }
     ensures { OnOk result (gathered.new.text.items ≡ gathered.old.text.items ++ flat_map cell_lines (zip headings.now rows.now.row.cells)) }
 {
     for i in 0..headings.len().min(rows.len()) {
@@ -144,6 +148,7 @@ fn push_cells(
 
 // The record of a row.
 fn push_row(gathered: &mut Gathered, form: &Form, rows: &Rows<'_>) -> Result<(), NoMemory>
+    requires { row_fits form.now rows.now.row ≡ true }
     ensures { OnOk result (gathered.new.text.items ≡ gathered.old.text.items ++ row_text form.now rows.now.row) }
 {
     gathered.text.extend_from_slice(form.point.as_slice())?;
@@ -173,6 +178,7 @@ fn tell_row<S: Sinks>(
     rows: &Rows<'_>,
     sinks: &mut S,
 ) -> Result<(), Halt>
+    requires { row_fits form.now rows.now.row ≡ true }
     ensures { Tells (gathered.old.text.items ++ row_text form.now rows.now.row) gathered.new.text.items (S.written sinks.old) (S.written sinks.new) (S.faults sinks.old) (S.faults sinks.new) result }
 {
     push_row(gathered, form, rows)?;
@@ -189,6 +195,7 @@ fn tell_rows<S: Sinks>(
     rows: &mut Rows<'_>,
     sinks: &mut S,
 ) -> Result<(), Halt>
+    requires { all_fit form.now rows.old.left ≡ true }
     ensures { Tells (gathered.old.text.items ++ rows_text form.now rows.old.left) gathered.new.text.items (S.written sinks.old) (S.written sinks.new) (S.faults sinks.old) (S.faults sinks.new) result }
 {
     'rows: while rows.next()? {
@@ -203,13 +210,14 @@ fn tell_files<S: Sinks>(
     gathered: &mut Gathered,
     form: &Form,
     command: &Command,
-    files: &[Text],
+    files: &[FileBytes],
     sinks: &mut S,
 ) -> Result<(), Halt>
+    requires { all_fit form.now (bodies_in command.now 0 files.now) ≡ true }
     ensures { Tells (gathered.old.text.items ++ rows_text form.now (bodies_in command.now 0 files.now)) gathered.new.text.items (S.written sinks.old) (S.written sinks.new) (S.faults sinks.old) (S.faults sinks.new) result }
 {
     for file in 0..files.len() {
-        let mut rows = Rows::body(alloc, command, file, files[file].as_slice())?;
+        let mut rows = Rows::body(alloc, command, file, &files[file])?;
         tell_rows(gathered, form, &mut rows, sinks)?;
     }
     Ok(())
@@ -241,10 +249,11 @@ fn write_trace<S: Sinks>(
     alloc: Global,
     command: &Command,
     plan: &Plan,
-    files: &[Text],
+    files: &[FileBytes],
     sinks: &mut S,
 ) -> Result<(), Halt>
-    requires { IsPlan plan.now }
+    requires plan { IsPlan plan.now }
+    requires told { untold_row plan.now.kinds (bodies_in command.now 0 files.now) ≡ None }
     ensures { TellsFront (trace_text (plan_writes command.now plan.now files.now)) (S.written sinks.old) (S.written sinks.new) (S.faults sinks.old) (S.faults sinks.new) result }
 {
     let form = form_of(alloc, &plan.decl, plan.kinds.as_slice())?;
@@ -258,10 +267,11 @@ pub(crate) fn tell_trace<S: Sinks>(
     alloc: Global,
     command: &Command,
     plan: &Plan,
-    files: &[Text],
+    files: &[FileBytes],
     sinks: &mut S,
 ) -> Ended
-    requires { IsPlan plan.now }
+    requires plan { IsPlan plan.now }
+    requires told { untold_row plan.now.kinds (bodies_in command.now 0 files.now) ≡ None }
     ensures { EndsCut Ended.Done stream.Report (trace_text (plan_writes command.now plan.now files.now)) (S.written sinks.old) (S.written sinks.new) (S.faults sinks.old) (S.faults sinks.new) result }
 {
     match write_trace(alloc, command, plan, files, sinks) {

@@ -24,15 +24,15 @@ another language.
   --ignore-missing-entry  leave out exits without an entry, default refuse them
   -h, --help              print this text and read nothing
   -V, --version           print the name and the version and read nothing
-  --                      take all words behind it as names of files
+  --                      take all arguments after it as names of files
 
-A value may stand behind = in the same word, as in --format=c. Only FILE may be
-given more than once. A line that the language can't say, or that no instance
-of its point's variables has, is a comment; in json its row is null, and in html
-it stands among other lines.
+A value may stand after = in the same argument, as in --format=c. Only FILE may
+be given more than once. A line that the language can't say, or that is no
+invariant over its point's variables, is a comment; in json its row is null, and
+in html it stands among other lines.
 
-Status: 0 done, 1 a line is refused, 2 the words are refused, 3 a file can't be
-read, 4 the output can't be written, 5 out of memory.
+Status: 0 done, 1 a line is refused, 2 the arguments are refused, 3 a file can't
+be read, 4 the output can't be written, 5 out of memory.
 
 Example: dk_tell --format python report.txt ring.dtrace > ring_holds.py
 ";

@@ -29,8 +29,8 @@ FILEs, in order, and reports for each point the invariants no sample breaks.
   --keep-constant         print also those of constants with other variables
   --keep-parent           print also those that a parent point has
   --ignore-missing-entry  leave out exits without an entry, default refuse them
-  --stats                 print behind each report the size of what is kept
-  --save                  write the state behind the last report, to the file
+  --stats                 print after each report the size of what is kept
+  --save                  write the state after the last report, to the file
                           daikon.state, default write none
   --resume NAME           begin with the state in the file NAME, as --save wrote
                           it, default with no samples
@@ -38,12 +38,12 @@ FILEs, in order, and reports for each point the invariants no sample breaks.
                           18446744073709551615, default none
   -h, --help              print this text and read nothing
   -V, --version           print the name and the version and read nothing
-  --                      take all words behind it as FILEs
+  --                      take all arguments after it as FILEs
 
-A value may stand behind = in the same word, as in --every=100. Only FILE may be
-given more than once.
+A value may stand after = in the same argument, as in --every=100. Only FILE may
+be given more than once.
 
-Status: 0 done, 1 a line or a state is refused, 2 the words are refused, 3 a
+Status: 0 done, 1 a line or a state is refused, 2 the arguments are refused, 3 a
 file can't be read, 4 the output can't be written, 5 out of memory.
 
 Examples: daikon --min-samples 1 --select Stack.push stack.dtrace

@@ -1,4 +1,4 @@
-"""Tables of runs of daikon over states: changed ones, and what is kept after each of a few samples."""
+"""Tables of runs of daikon over states: changed ones, others, merged ones, and what is kept after each of a few samples."""
 
 from __future__ import annotations
 
@@ -60,6 +60,43 @@ def resumed(name: str, state: bytes) -> list[Case]:
     return [alone, wanted(Case(f"{name}, and -5, missing and 9", "daikon", (*arguments, "t"), {"s": state, "t": MORE}))]
 
 
+# other lines in the place of a line of FIRST, counted from 0
+OTHER_LINES = (
+    (0, b"daikon-state 01"), (1, b"comparability some"), (2, b"points 2"), (4, b"var int -1 -1 "), (4, b"var int -01 -1 x"), (6, b"samples 0 5"),
+    (6, b"samples 1 4"), (8, b"pattern 3 1"), (10, b"slot 3 0 greatest 7\nslot 4 0 holds"), (12, b"slot 15 0 0 straight 1 -1 0 0"),
+    (14, b"end-state "), (14, b"end-state\n"),
+)
+NO_POINTS = b"daikon-state 2\ncomparability none\npoints 0\nend-state\n"
+DECLARED = b"""daikon-state 1
+comparability none
+points 1
+point f():::EXIT1
+edge 1 Stack\\_of\\_\\\\
+var hashcode 3 4 a\\_b
+mapped 0 this\\_one
+var double -1 -1 d
+constant missing
+var java.lang.String[] 1 -1 s[..]
+constant ["q r" null]
+end
+end-state
+"""
+
+
+def other_states() -> list[Case]:
+    """States without samples, and states with another line in the place of one, which are none."""
+    found = resumed("no points", NO_POINTS)[:1] + resumed("edges, counterparts, constants and names with blanks", DECLARED)[:1]
+    if any(case.status != DONE for case in found):
+        raise SystemExit("a state without samples is refused")
+    for place, other in OTHER_LINES:
+        lines = FIRST.split(b"\n")
+        lines[place] = other
+        found += resumed(f"line {place + 1} is {other.decode()!r}", b"\n".join(lines))
+    if any(case.status == DONE for case in found[2:]):
+        raise SystemExit("a state with another line is taken")
+    return found
+
+
 def changed_states() -> list[Case]:
     """The states as they are, and changed."""
     found = []
@@ -108,6 +145,39 @@ def runs_of_samples() -> list[Case]:
     ]
 
 
+# ---------------------------------------------------------------- states merged
+
+NUMBERS = ((b"x", b"int"), (b"y", b"int"), (b"z", b"int"))
+# what is shown, how many numbers a sample has, and two lists of samples, in which None is missing
+TWO_LISTS: tuple[tuple[str, int, tuple[tuple[int | None, ...], ...], tuple[tuple[int | None, ...], ...]], ...] = (
+    ("one sample each, so all are constant", 3, ((1, 1, 2),), ((3, 3, 6),)),
+    ("all constant in the first alone: a sum holds in both, a product there", 3, ((4, 2, 2),), ((5, 2, 3), (9, 4, 5))),
+    ("a class splits, and a constant ends", 3, ((1, 1, 5), (2, 2, 5)), ((3, None, 5), (4, 7, 6))),
+    ("different premises suppress one row: x < y, and x == y", 2, ((1, 2), (-3, 4)), ((5, 5), (-6, -6))),
+    ("a variable that was missing, and is there", 2, ((1, None), (2, None)), ((1, 10), (3, 30))),
+    ("a maximum", 3, ((1, 2, 2), (3, 5, 5), (2, 7, 7)), ((4, 4, 4), (0, 9, 9), (8, 3, 8))),
+)
+
+
+def saved(count: int, samples: tuple[tuple[int | None, ...], ...]) -> bytes:
+    """The state of a run over samples of so many numbers."""
+    values = [tuple(b"" if number is None else b"%d" % number for number in sample) for sample in samples]
+    return sampled("", NUMBERS[:count], *values).texts["state"]
+
+
+def merged_lists() -> list[Case]:
+    """The states of two lists of samples, merged in both orders: the state of all samples."""
+    found = []
+    for what, count, first, second in TWO_LISTS:
+        files = {"a": saved(count, first), "b": saved(count, second)}
+        for words in ("a b", "b a"):
+            case = wanted(Case(f"{what}: {words}", "dk_merge", ("--min-samples", "1", *words.split()), files))
+            if case.texts["state"] != saved(count, first + second):
+                raise SystemExit(f"{case.name}: not the state of all samples")
+            found.append(case)
+    return found
+
+
 # ---------------------------------------------------------------- a run in parts
 
 def stored_file(path: str, case: str, name: str) -> bytes:
@@ -146,6 +216,9 @@ TABLES = {
     "daikon/interim_writes.cases": ("A write of a report that is due, or of the last one, fails.", interim_writes),
     "daikon/changed_states.cases": ("States in which a line or a number is changed: each is refused, or saved again with the same bytes.",
                                     changed_states),
+    "daikon/other_states.cases": ("States without samples, and states in which another line stands in the place of one: these are refused.",
+                                  other_states),
+    "dk_merge/lists.cases": ("The states of two lists of samples, merged in both orders.", merged_lists),
     "daikon/third_samples.cases": ("What is kept after a second and a third sample.", third_samples),
     "daikon/samples.cases": (
         "What is kept of runs of samples, in which variables agree, are missing, or end to be constants.", runs_of_samples),

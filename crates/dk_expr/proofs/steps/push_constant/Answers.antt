@@ -9,6 +9,6 @@ pub returns-clause-finds : goal.returns-clause-finds
 returns-clause-finds c =
     on_both c.push_some-2.result
     (λ keeps second.
-    constant_found c.args.text.now c.args.found c.push_some.new.list c.push_some-2.new.list c.without_constant.result c.with_constant.result c.without_constant.ensures c.in_ok-push_some.ensures.finds keeps
-    c.with_constant.ensures second)
+    constant_found c.args.text.now c.args.found c.push_some.new.list c.push_some-2.new.list c.with_number.result c.with_step.result c.with_number.ensures c.in_ok-push_some.ensures.finds keeps
+    c.with_step.ensures second)
     c.push_some-2.ensures.keeps c.push_some-2.ensures.finds

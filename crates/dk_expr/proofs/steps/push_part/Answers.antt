@@ -16,7 +16,7 @@ returns-in-Named-clause-finds c =
 pub returns-in-Bound-clause-finds : goal.returns-in-Bound-clause-finds
 returns-in-Bound-clause-finds c =
     shown_arm c.args.names.now c.args.text.now (map part_shown c.args.following.now) c.args.found c.push_some-in-Bound.new.list c.push_some-in-Bound.result c.args.part _ c.in-Bound.is
-    (bound_arm c.args.names.now c.args.text.now (map part_shown c.args.following.now) c.args.found c.push_some-in-Bound.new.list c.push_some-in-Bound.result c.with_bound.result c.with_bound.ensures c.push_some-in-Bound.ensures.finds)
+    (bound_arm c.args.names.now c.args.text.now (map part_shown c.args.following.now) c.args.found c.push_some-in-Bound.new.list c.push_some-in-Bound.result c.with_number.result c.with_number.ensures c.push_some-in-Bound.ensures.finds)
 
 pub returns-in-Values-clause-finds : goal.returns-in-Values-clause-finds
 returns-in-Values-clause-finds c =
@@ -31,12 +31,12 @@ returns-in-NullOr-clause-finds c =
 pub returns-in-Remainder-clause-finds : goal.returns-in-Remainder-clause-finds
 returns-in-Remainder-clause-finds c =
     shown_arm c.args.names.now c.args.text.now (map part_shown c.args.following.now) c.args.found c.push_some-in-Remainder.new.list c.push_some-in-Remainder.result c.args.part _ c.in-Remainder.is
-    (remainder_arm c.args.names.now c.args.text.now (map part_shown c.args.following.now) c.args.found c.push_some-in-Remainder.new.list c.push_some-in-Remainder.result c.with_remainder.result c.with_remainder.ensures c.push_some-in-Remainder.ensures.finds)
+    (remainder_arm c.args.names.now c.args.text.now (map part_shown c.args.following.now) c.args.found c.push_some-in-Remainder.new.list c.push_some-in-Remainder.result c.with_number-in-Remainder.result c.with_number-in-Remainder.ensures c.push_some-in-Remainder.ensures.finds)
 
 pub returns-in-Modulus-clause-finds : goal.returns-in-Modulus-clause-finds
 returns-in-Modulus-clause-finds c =
     shown_arm c.args.names.now c.args.text.now (map part_shown c.args.following.now) c.args.found c.push_some-in-Modulus.new.list c.push_some-in-Modulus.result c.args.part _ c.in-Modulus.is
-    (modulus_arm c.args.names.now c.args.text.now (map part_shown c.args.following.now) c.args.found c.push_some-in-Modulus.new.list c.push_some-in-Modulus.result c.with_modulus.result c.with_modulus.ensures c.push_some-in-Modulus.ensures.finds)
+    (modulus_arm c.args.names.now c.args.text.now (map part_shown c.args.following.now) c.args.found c.push_some-in-Modulus.new.list c.push_some-in-Modulus.result c.with_number-in-Modulus.result c.with_number-in-Modulus.ensures c.push_some-in-Modulus.ensures.finds)
 
 pub returns-in-Lead-clause-finds : goal.returns-in-Lead-clause-finds
 returns-in-Lead-clause-finds c =

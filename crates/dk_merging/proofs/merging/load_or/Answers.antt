@@ -9,6 +9,7 @@ returns-in-Ok-clause-loaded c =
     record {
       spelling = own.spelling;
       says = record { table = own.table; of_table = own.engines.0; of_grammar = own.engines.1; saved = own.saved; text = own.saves };
+      loaded = own.loaded;
       stands = λ g ps implicit samples can text.
           let of = own.stands g ps implicit samples can text in
           record { grammar = of.0; points = of.1; word = of.2; stand = of.3 };

@@ -1,5 +1,5 @@
 use Rattle.std.proofs.Common.{◌≡◌, ◌+◌, rules, sym, subst, List, length}
-use Rattle.dk_halves.specs.Standing.{Engines}
+use Rattle.dk_implications.specs.Standing.{Engines}
 use Rattle.dk_split.proofs.Keeping.{AreGrowing, growing_more, growing_none}
 use Rattle.dk_split.proofs.splits.keep_up.Goals as goal
 

@@ -1,4 +1,4 @@
-use Rattle.dk_halves.specs.Reports.{implications_report}
+use Rattle.dk_implications.specs.Reports.{implications_report}
 use Rattle.dk_split.proofs.top.run_split.Goals as goal
 
 pub returns-clause-says : goal.returns-clause-says

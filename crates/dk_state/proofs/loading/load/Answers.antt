@@ -33,6 +33,13 @@ returns-then-branch-clause-stands c g ps implicit own can text =
       loaded_stands g ps implicit own l.engines can (subst (λ points. AreEnginesOf points l.engines) loaded.1 are.0) (subst (λ h. All (λ (e : Whole). e.grammar ≡ h) l.engines) loaded.0 are.1) loaded.3,
     )
 
+pub returns-then-branch-clause-loaded : goal.returns-then-branch-clause-loaded
+returns-then-branch-clause-loaded c =
+    let l = c.in_ok-loaded.loaded in
+    let own = c.in_ok-loaded.ensures in
+    let same = (bytes_eq-Decides (saved_text l.grammar l.points l.implicit (map (λ (e : Whole). e.kept) l.engines)) c.args.bytes.now).0 (sym c.in_ok-saves_to.ensures ∙ c.if-branch.true) in
+    (own.read (content_loaded l) (loaded_meets l own.table own.engines.0.long own.saved) (loaded_text l ∙ same)).3
+
 pub returns-then-branch-clause-spelling : goal.returns-then-branch-clause-spelling
 returns-then-branch-clause-spelling c =
     let l = c.in_ok-loaded.loaded in

@@ -1,6 +1,14 @@
-use Rattle.std.proofs.Common.{map}
+use Rattle.std.proofs.Common.{◌≤◌, ◌-◌, length, map}
+use Rattle.dk_table.specs.Marks.{AreAhead}
 use Rattle.dk_table.proofs.Cutting.{Cuts}
 use Rattle.dk_table.proofs.lines.cut_cells.Given as goal
 
-abbrev pub invariant-loop-place : goal.invariant-loop-place
-invariant-loop-place l = Cuts l.separator l.bytes (map (λ c. c.now) l.cells.items) l.start l.place
+abbrev pub invariant-cells : goal.invariant-cells
+invariant-cells l = record {
+  ahead : AreAhead l.separator l.bytes l.ahead;
+  later : l.fn.marks.place ≤ l.ahead.place;
+  cut : Cuts l.separator l.bytes l.fn.marks.place (map (λ c. c.now) l.cells.items) l.ahead.place l.ahead.place;
+}
+
+abbrev pub decreases-cells : goal.decreases-cells
+decreases-cells l = length l.bytes - l.ahead.place

@@ -4,6 +4,7 @@ use Rattle.dk_decl.specs.declared.decls.PointDecl.{PointDecl}
 use Rattle.dk_write.specs.Texts.{Write}
 use Rattle.dk_table.proofs.Bodies.{plan_judged, plan_traced}
 use Rattle.dk_table.proofs.Taking.{answered_as}
+use Rattle.dk_table.proofs.Traced.{traced}
 use Rattle.dk_table.specs.Tables.{bodies_in}
 use Rattle.dk_table.specs.Traces.{declaration_of, kinds_in, plan_writes, trace_at, trace_by}
 use Rattle.dk_table.specs.declared.traces.Plan.{Plan}
@@ -56,3 +57,10 @@ returns-clause-plan c =
       names,
       c.in_ok-decl.ensures ∙ ap (λ (l : List (List ℕ)). declaration_of point l c.as_slice.result.now) c.as_slice-columns.ensures ∙ ap (declaration_of point names) c.as_slice.ensures,
     )
+
+pub returns-clause-told : goal.returns-clause-told
+returns-clause-told c =
+    let command = c.args.command.now in
+    let files = c.args.files.now in
+    let plan : Plan = record { decl = c.in_ok-decl.decl; kinds = c.in_ok-kinds.kinds } in
+    (traced plan.decl plan.kinds (bodies_in command 0 files) (plan_writes command plan files) c.in_ok-judge.ensures).told

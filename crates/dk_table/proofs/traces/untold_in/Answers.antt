@@ -13,7 +13,7 @@ returns-then-is_some c =
     let lt : i < length c.args.files.now = omega arith in
     let own : List Placed = c.in_ok-rows.rows.left in
     let rest : List Placed = bodies_in c.args.command.now (i + 1) (drop (i + 1) c.args.files.now) in
-    let is : own ≡ body_in c.args.command.now i c.index-files-file.result = c.in_ok-rows.ensures ∙ ap (body_in c.args.command.now i) c.as_slice.ensures in
+    let is : own ≡ body_in c.args.command.now i c.index-files-file.result = c.in_ok-rows.ensures in
     let some : is_some (option_map bad_cell (untold_row kinds own)) ≡ true = ap is_some (sym c.in_ok-refusal.ensures) ∙ sym c.is_some.ensures ∙ c.if-is_some.true in
     c.in_ok-refusal.ensures
     ∙ ap (option_map bad_cell)
@@ -29,7 +29,7 @@ loop-file-preserved c =
     let lt : i < length c.args.files.now = omega arith in
     let own : List Placed = c.in_ok-rows.rows.left in
     let rest : List Placed = bodies_in c.args.command.now (i + 1) (drop (i + 1) c.args.files.now) in
-    let is : own ≡ body_in c.args.command.now i c.index-files-file.result = c.in_ok-rows.ensures ∙ ap (body_in c.args.command.now i) c.as_slice.ensures in
+    let is : own ≡ body_in c.args.command.now i c.index-files-file.result = c.in_ok-rows.ensures in
     let none : is_some (option_map bad_cell (untold_row kinds own)) ≡ false = ap is_some (sym c.in_ok-refusal.ensures) ∙ sym c.is_some.ensures ∙ c.if-is_some.false in
     sym (found_later kinds own rest none)
     ∙ ap (λ (l : List Placed). untold_row kinds (l ++ rest)) is

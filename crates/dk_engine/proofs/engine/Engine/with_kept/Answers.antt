@@ -1,10 +1,15 @@
-use Rattle.std.specs.Prelude.{List}
+use Rattle.std.specs.Prelude.{All, List}
 use Rattle.std.proofs.Common.{◌∙◌, subst, sym}
 use Rattle.std.proofs.lemmas.Bool.{false≢true}
 use Rattle.dk_base.specs.declared.kinds.VarInfo.{VarInfo}
+use Rattle.dk_presence.specs.declared.held.Held.{Held}
+use Rattle.dk_samples.specs.Leaders.{VarsAscend}
 use Rattle.dk_engine.proofs.Saving.{open_can_be_fed, open_parts, parts_from_open}
 use Rattle.dk_engine.specs.Restored.{AreOpen}
 use Rattle.dk_engine.proofs.engine.Engine.with_kept.Goals as goal
+
+pub bitmaps-requires-clause-ascend : goal.bitmaps-requires-clause-ascend
+bitmaps-requires-clause-ascend c = subst (λ (hs : List Held). All (λ (h : Held). VarsAscend h.leaders) hs) (sym c.held.ensures.all) c.held.ensures.held.ascend
 
 pub returns-then-not-is_open-clause-none : goal.returns-then-not-is_open-clause-none
 returns-then-not-is_open-clause-none c = λ _ are.

@@ -5,5 +5,5 @@ use Rattle.dk_engine.proofs.slots.Slots.of.Goals as goal
 
 pub invariant_of-result : goal.invariant_of-result
 invariant_of-result c =
-    let watch = c.none-notes.result.watch in
-    subst (AreSkips watch c.args.all.items) (sym c.none-notes.ensures) (none_passed watch c.args.all.items)
+    let watch = c.none.result.watch in
+    subst (AreSkips watch c.args.all.items) (sym c.none.ensures) (none_passed watch c.args.all.items)

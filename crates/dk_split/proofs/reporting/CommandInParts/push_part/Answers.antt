@@ -1,5 +1,5 @@
 use Rattle.std.proofs.Common.{◌≡◌, ◌++◌, List, subst, sym}
-use Rattle.dk_halves.specs.Reports.{implications_at}
+use Rattle.dk_implications.specs.Reports.{implications_at}
 use Rattle.dk_points.specs.Table.{Point}
 use Rattle.dk_template.specs.declared.grammar.Grammar.TheVariants.{Two}
 use Rattle.dk_split.proofs.Sections.{on_ok}

@@ -1,4 +1,4 @@
-use Rattle.dk_halves.specs.Reports.{implications_report}
+use Rattle.dk_implications.specs.Reports.{implications_report}
 use Rattle.dk_split.proofs.reporting.CommandProgram.tell.Goals as goal
 
 pub returns : goal.returns

@@ -1,4 +1,5 @@
-use Rattle.std.proofs.Common.{◌<◌, ap, arith, length, rules, subst, sym}
+use Rattle.std.proofs.Common.{◌<◌, ◌∙◌, ap, arith, length, rules, subst, sym}
+use Rattle.csv.specs.Reading.{strip_bom}
 use Rattle.dk_table.specs.Cutting.{IsUnquoted}
 use Rattle.dk_table.specs.Tables.{config_by}
 use Rattle.dk_table.proofs.AllRecords.{few_placed}
@@ -7,7 +8,7 @@ use Rattle.dk_table.proofs.Moving.{strip_short}
 use Rattle.dk_table.proofs.rows.Rows.new.Goals as goal
 
 pub new-lines-requires : goal.new-lines-requires
-new-lines-requires c = subst IsUnquoted (sym c.behind_mark.ensures) (unquoted_behind c.args.bytes.now (c.is_unquoted.ensures c.if-is_unquoted.true))
+new-lines-requires c = subst IsUnquoted (sym (c.behind_mark.ensures ∙ ap strip_bom c.as_slice.ensures)) (unquoted_behind c.args.bytes.now (c.is_unquoted.ensures c.if-is_unquoted.true))
 
 pub returns-then-is_unquoted-clause-few : goal.returns-then-is_unquoted-clause-few
 returns-then-is_unquoted-clause-few c =

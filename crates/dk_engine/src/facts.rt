@@ -1,0 +1,242 @@
+// What is known of variables' numbers by the slots of a point: within which bounds they were, and how two compare.
+ghost use Rattle.std.specs.Prelude.{◌≡◌, ◌==◌, ◌&&◌, true, IsTrue, int_le};
+ghost use Rattle.dk_base.specs.Values.{value_of, values_of};
+ghost use Rattle.dk_engine.specs.Idle.{are_so, are_within, compares_first, compares_values, is_above, is_below, is_between, is_compared};
+
+use crate::Slot;
+use crate::moves::{Moves, bounded};
+use crate::near::{note_place, place_of};
+use crate::staying::{holds, is_so};
+use dk_base::{NoMemory, VarId, View};
+use dk_samples::value_at;
+use dk_template::{RowId, State};
+use std::alloc::Global;
+
+/// A variable whose number is from the least to the greatest, or missing.
+#[derive(Clone, Copy, Debug)]
+pub(crate) struct Range {
+    pub(crate) var: VarId,
+    pub(crate) least: i64,
+    pub(crate) greatest: i64,
+}
+
+/// A row of a comparison, one of rows 11 to 14, and two variables of whose numbers it is so, or one of which is missing.
+#[derive(Clone, Copy, Debug)]
+pub(crate) struct Compared {
+    pub(crate) row: RowId,
+    pub(crate) first: VarId,
+    pub(crate) second: VarId,
+}
+
+// Whether a value is a number from the least to the greatest, or missing.
+fn is_between(least: i64, greatest: i64, value: View<'_>) -> bool
+    ensures { result ≡ is_between least greatest (value_of value.entry) }
+{
+    if let View::Int(number) = value {
+        return least <= number && number <= greatest;
+    }
+    matches!(value, View::Missing)
+}
+
+/// Whether the variables' numbers in a sample are within these bounds, or missing.
+pub(crate) fn are_within(sample: &[View<'_>], ranges: &[Range]) -> bool
+    ensures { result ≡ are_within (values_of sample.now) ranges.now }
+{
+    for range in ranges {
+        if !is_between(range.least, range.greatest, value_at(sample, range.var)) {
+            return false;
+        }
+    }
+    true
+}
+
+// Whether a row of a comparison is so of a number and a value, or that is missing.
+fn compares_first(row: RowId, x: i64, second: View<'_>) -> bool
+    ensures { result ≡ compares_first row.0 x (value_of second.entry) }
+{
+    if let View::Int(y) = second {
+        return is_so(row, x, y);
+    }
+    matches!(second, View::Missing)
+}
+
+// Whether it is so of two values, or one of them is missing.
+fn compares_values(row: RowId, first: View<'_>, second: View<'_>) -> bool
+    ensures { result ≡ compares_values row.0 (value_of first.entry) (value_of second.entry) }
+{
+    if let View::Int(x) = first {
+        return compares_first(row, x, second);
+    }
+    matches!(first, View::Missing)
+}
+
+/// Whether the variables compare so in a sample, or one of the two is missing.
+pub(crate) fn are_so(sample: &[View<'_>], compared: &[Compared]) -> bool
+    ensures { result ≡ are_so (values_of sample.now) compared.now }
+{
+    for one in compared {
+        let first = value_at(sample, one.first);
+        let second = value_at(sample, one.second);
+        if !compares_values(one.row, first, second) {
+            return false;
+        }
+    }
+    true
+}
+
+// Whether the bounds are of this variable, and none of its numbers is less than this one.
+fn is_from(range: &Range, v: VarId, least: i64) -> bool
+    ensures { result ≡ (range.now.var.0 == v.0 && int_le least range.now.least) }
+{
+    range.var.0 == v.0 && least <= range.least
+}
+
+// Whether they are, and none is greater.
+fn is_to(range: &Range, v: VarId, greatest: i64) -> bool
+    ensures { result ≡ (range.now.var.0 == v.0 && int_le range.now.greatest greatest) }
+{
+    range.var.0 == v.0 && range.greatest <= greatest
+}
+
+/// Whether a variable's numbers are seen to be no less than this one, by the bounds at a place.
+pub(crate) fn is_above(ranges: &[Range], place: usize, v: VarId, least: i64) -> bool
+    ensures { IsTrue result → is_above ranges.now v least ≡ true }
+{
+    place < ranges.len() && is_from(&ranges[place], v, least)
+}
+
+/// Whether they are seen to be no greater.
+pub(crate) fn is_below(ranges: &[Range], place: usize, v: VarId, greatest: i64) -> bool
+    ensures { IsTrue result → is_below ranges.now v greatest ≡ true }
+{
+    place < ranges.len() && is_to(&ranges[place], v, greatest)
+}
+
+// Whether it is the comparison of this row of these two.
+fn is_of(one: &Compared, row: RowId, u: VarId, v: VarId) -> bool
+    ensures { result ≡ (one.now.row.0 == row.0 && (one.now.first.0 == u.0 && one.now.second.0 == v.0)) }
+{
+    one.row.0 == row.0 && (one.first.0 == u.0 && one.second.0 == v.0)
+}
+
+/// Whether the comparison of this row of these two is seen to stand at a place.
+pub(crate) fn is_compared(
+    compared: &[Compared],
+    place: usize,
+    row: RowId,
+    u: VarId,
+    v: VarId,
+) -> bool
+    ensures { IsTrue result → is_compared compared.now row.0 u v ≡ true }
+{
+    place < compared.len() && is_of(&compared[place], row, u, v)
+}
+
+/// Bounds of variables, each listed once, and by a variable's number at which place its bounds are. Nothing is said of the places: who uses
+/// one looks whether it is right.
+#[derive(Drop)]
+pub(crate) struct Ranges {
+    pub(crate) all: Vec<Range>,
+    pub(crate) places: Vec<usize>,
+}
+
+impl Ranges {
+    /// No bounds. It takes no memory.
+    fn none(alloc: Global) -> Ranges {
+        Ranges {
+            all: Vec::new(alloc),
+            places: Vec::new(alloc),
+        }
+    }
+
+    // Where a variable's bounds are listed, if they are.
+    fn place(&self, v: VarId) -> Option<usize> {
+        let place = place_of(self.places.as_slice(), v);
+        match self.all.get(place) {
+            Some(range) => { if range.var == v { Some(place) } else { None } }
+            None => None,
+        }
+    }
+
+    // Where they are listed. Where they aren't yet, they go last, and bound nothing.
+    fn place_or_new(&mut self, v: VarId) -> Result<usize, NoMemory> {
+        if let Some(place) = self.place(v) {
+            return Ok(place);
+        }
+        let place = self.all.len();
+        note_place(&mut self.places, v, place)?;
+        self.all.push(Range {
+            var: v,
+            least: i64::MIN,
+            greatest: i64::MAX,
+        })?;
+        Ok(place)
+    }
+
+    // With a bound of a variable, as a state says.
+    fn add(&mut self, v: VarId, state: &State) -> Result<(), NoMemory> {
+        let place = self.place_or_new(v)?;
+        if let Some(range) = self.all.get_mut(place) {
+            match state {
+                State::Least(least) => range.least = *least,
+                State::Greatest(greatest) => range.greatest = *greatest,
+                _ => {}
+            }
+        }
+        Ok(())
+    }
+
+    // With the bound that a slot says, if it is of a variable whose bounds rest.
+    fn add_slot(&mut self, moves: &Moves, slot: &Slot) -> Result<(), NoMemory> {
+        match bounded(slot) {
+            Some(v) => {
+                if moves.rests(v) {
+                    self.add(v, &slot.state)
+                } else {
+                    Ok(())
+                }
+            }
+            None => Ok(()),
+        }
+    }
+
+    /// The bounds that slots say of variables whose bounds rest.
+    pub(crate) fn of(alloc: Global, moves: &Moves, slots: &[Slot]) -> Result<Ranges, NoMemory> {
+        let mut ranges = Ranges::none(alloc);
+        for slot in slots {
+            ranges.add_slot(moves, slot)?;
+        }
+        Ok(ranges)
+    }
+}
+
+// The comparison that a slot says to be so.
+fn compared_in(slot: &Slot) -> Option<Compared> {
+    if slot.row.0 < 11 || 14 < slot.row.0 || !holds(&slot.state) {
+        return None;
+    }
+    match slot.leaders.as_slice() {
+        [first, second] => Some(Compared {
+            row: slot.row,
+            first: *first,
+            second: *second,
+        }),
+        _ => None,
+    }
+}
+
+// How many comparisons are kept: each sample is asked about all of them.
+const MOST: usize = 256;
+
+/// The comparisons that slots say to be so, the first ones if they are too many.
+pub(crate) fn compared_by(alloc: Global, slots: &[Slot]) -> Result<Vec<Compared>, NoMemory> {
+    let mut compared = Vec::new(alloc);
+    for slot in slots {
+        if let Some(one) = compared_in(slot) {
+            if compared.len() < MOST {
+                compared.push(one)?;
+            }
+        }
+    }
+    Ok(compared)
+}

@@ -1,5 +1,0 @@
-use Rattle.dk_halves.proofs.Growing.{halves_grow_one_by_one, halves_have_their_samples}
-use Rattle.dk_halves.proofs.laws.halves_have_their_samples.Goals as goal
-
-pub returns : goal.returns
-returns c = record { each = halves_have_their_samples; more = halves_grow_one_by_one }

@@ -1,6 +1,0 @@
-use Rattle.std.specs.Prelude.{◌≡◌, ◌++◌, take}
-use Rattle.dk_halves.specs.Telling.{told_lines}
-use Rattle.dk_halves.proofs.telling.Telling.push_told_lines.Given as goal
-
-abbrev pub invariant-loop-instance : goal.invariant-loop-instance
-invariant-loop-instance l = l.text ≡ l.fn.text ++ told_lines l.self.whole.now l.b l.truth (take l.instance-index l.list)

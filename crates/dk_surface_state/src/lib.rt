@@ -1,4 +1,0 @@
-//! Tests of state files over whole texts, which the crates above read and write.
-#![tactic(auto)]
-
-mod loading;

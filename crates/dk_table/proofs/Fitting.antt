@@ -1,0 +1,62 @@
+-- Rows whose cells fit their columns.
+use Rattle.std.proofs.Common.{◌≡◌, ◌∙◌, ◌&&◌, ◌∷◌, ◌++◌, [], ℕ, Bool, true, List, None, is_some, map, refl, sym, ap}
+use Rattle.std.specs.Prelude.{not}
+use Rattle.std.specs.List.{list_all, zip}
+use Rattle.std.proofs.lemmas.Bool.{and_parts, not-false}
+use Rattle.std.proofs.lemmas.List.Folds.{list_all-append}
+use Rattle.dk_decl.specs.declared.decls.PointDecl.{PointDecl}
+use Rattle.dk_decl.specs.declared.decls.VarDecl.{VarDecl}
+use Rattle.dk_table.specs.Columns.{cell_value}
+use Rattle.dk_table.specs.Cursors.{Cursor, Moves}
+use Rattle.dk_table.specs.Forms.{all_fit, form_of, heading_of, row_fits}
+use Rattle.dk_table.specs.Placed.{Placed}
+use Rattle.dk_table.specs.Traces.{is_told, untold_row}
+use Rattle.dk_table.specs.declared.columns.ColumnKind.{ColumnKind}
+use Rattle.dk_table.specs.declared.writing.Form.{Form}
+use Rattle.dk_table.specs.declared.writing.Heading.{Heading}
+use Rattle.dk_table.proofs.Moving.{moved}
+use Rattle.dk_table.proofs.Telling.{none_found}
+
+-- ---- one row and those behind it
+pub record FitsNow (form : Form) (after : Cursor) : Type 0 where
+  pub row : row_fits form after.row ≡ true
+  pub left : all_fit form after.left ≡ true
+
+pub fits_now : (form : Form) (left : List Placed) (after : Cursor) → all_fit form left ≡ true → Moves left after true → FitsNow form after
+fits_now form left after h m =
+    let parts = and_parts (row_fits form after.row) (all_fit form after.left) (sym (ap (all_fit form) (moved left after m)) ∙ h) in
+    record { row = parts.0; left = parts.1 }
+
+-- ---- the rows of one file and those behind it
+pub record FitParts (form : Form) (own rest : List Placed) : Type 0 where
+  pub own_fit : all_fit form own ≡ true
+  pub rest_fit : all_fit form rest ≡ true
+
+pub fit_parts : (form : Form) (all own rest : List Placed) → all ≡ own ++ rest → all_fit form all ≡ true → FitParts form own rest
+fit_parts form all own rest is h =
+    let parts = and_parts (all_fit form own) (all_fit form rest) (sym (list_all-append (row_fits form) own rest) ∙ sym (ap (all_fit form) is) ∙ h) in
+    record { own_fit = parts.0; rest_fit = parts.1 }
+
+-- ---- by the kinds of the columns
+abbrev tells : ColumnKind × List ℕ → Bool
+tells e = is_some (cell_value e.0 e.1)
+
+abbrev fits : Heading × List ℕ → Bool
+fits e = is_some (cell_value e.0.kind e.1)
+
+-- a column without a variable has no heading
+headed : (vars : List VarDecl) (kinds : List ColumnKind) (cells : List (List ℕ)) → list_all tells (zip kinds cells) ≡ true
+    → list_all fits (zip (map heading_of (zip vars kinds)) cells) ≡ true
+headed [] kinds cells h = refl
+headed (v ∷ vs) [] cells h = refl
+headed (v ∷ vs) (k ∷ ks) [] h = refl
+headed (v ∷ vs) (k ∷ ks) (c ∷ cs) h =
+    let parts = and_parts (tells (k, c)) (list_all tells (zip ks cs)) h in
+    ap (λ (b : Bool). b && list_all fits (zip (map heading_of (zip vs ks)) cs)) parts.0 ∙ headed vs ks cs parts.1
+
+pub told_fit : (d : PointDecl) (kinds : List ColumnKind) (rows : List Placed) → untold_row kinds rows ≡ None → all_fit (form_of d kinds) rows ≡ true
+told_fit d kinds [] e = refl
+told_fit d kinds (row ∷ rows) e =
+    let found = none_found (λ r. not (is_told kinds r)) row rows e in
+    let first : is_told kinds row ≡ true = not-false (is_told kinds row) found.0 in
+    ap (λ (b : Bool). b && all_fit (form_of d kinds) rows) (headed d.vars kinds row.cells first) ∙ told_fit d kinds rows found.1
