@@ -62,9 +62,9 @@ def resumed(name: str, state: bytes) -> list[Case]:
 
 # other lines in the place of a line of FIRST, counted from 0
 OTHER_LINES = (
-    (0, b"daikon-state 01"), (1, b"comparability some"), (2, b"points 2"), (4, b"var int -1 -1 "), (4, b"var int -01 -1 x"), (6, b"samples 0 5"),
-    (6, b"samples 1 4"), (8, b"pattern 3 1"), (10, b"slot 3 0 greatest 7\nslot 4 0 holds"), (12, b"slot 15 0 0 straight 1 -1 0 0"),
-    (14, b"end-state "), (14, b"end-state\n"),
+    (0, b"daikon-state 01"), (1, b"comparability some"), (2, b"points 2"), (4, b"var int -1 -1 "), (4, b"var int -01 -1 x"),
+    (6, b"samples 0 5"), (6, b"samples 1 4"), (8, b"pattern 3 1"), (10, b"slot 3 0 greatest 7\nslot 4 0 holds"),
+    (12, b"slot 15 0 0 straight 1 -1 0 0"), (14, b"end-state "), (14, b"end-state\n"),
 )
 NO_POINTS = b"daikon-state 2\ncomparability none\npoints 0\nend-state\n"
 DECLARED = b"""daikon-state 1
@@ -170,8 +170,8 @@ def merged_lists() -> list[Case]:
     found = []
     for what, count, first, second in TWO_LISTS:
         files = {"a": saved(count, first), "b": saved(count, second)}
-        for words in ("a b", "b a"):
-            case = wanted(Case(f"{what}: {words}", "dk_merge", ("--min-samples", "1", *words.split()), files))
+        for names in ("a b", "b a"):
+            case = wanted(Case(f"{what}: {names}", "dk_merge", ("--min-samples", "1", *names.split()), files))
             if case.texts["state"] != saved(count, first + second):
                 raise SystemExit(f"{case.name}: not the state of all samples")
             found.append(case)
