@@ -1,5 +1,5 @@
 # Completions of dk_merge for bash. In a shell: . docs/dk_merge.bash
-# They give the words that may still stand (each may be given once) where a word begins with -, and names of files elsewhere.
+# They give the options that may still stand (each may be given once) where an argument begins with -, and names of files elsewhere.
 
 _dk_merge() {
     local word=${COMP_WORDS[COMP_CWORD]} before=${COMP_WORDS[COMP_CWORD - 1]} given=' ' other left=() i
@@ -12,7 +12,7 @@ _dk_merge() {
         given+="$other "
     done
     if [[ $i -eq $COMP_CWORD ]]; then
-        # a value, which bash may have parted from its word at the =
+        # a value, which bash may have parted from its option at the =
         [[ $word == = ]] && return
         [[ $before == = ]] && before=${COMP_WORDS[COMP_CWORD - 2]}
         case $before in
