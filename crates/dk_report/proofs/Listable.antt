@@ -23,7 +23,7 @@ use Rattle.dk_report.specs.Asked.{candidates_equal, candidates_over, candidates_
 use Rattle.dk_report.specs.Keeping.{keeps}
 use Rattle.dk_report.specs.Listing.{is_equality, is_listed, listed_candidates, may_equal}
 use Rattle.dk_report.specs.Narrowing.{candidates_left, candidates_of_kept, candidates_of_slots, is_left, is_narrow, is_of_row, lacks_role}
-use Rattle.dk_report.specs.Sweeps.{behind, equal_takes, over_takes, seconds, seconds_where, suited_vars, thirds}
+use Rattle.dk_report.specs.Sweeps.{behind, equal_takes, equals, over_takes, seconds, suited_vars, thirds}
 use Rattle.dk_report.specs.declared.asking.Asking.{Asking}
 use Rattle.dk_report.specs.declared.options.Options.{Options}
 use Rattle.dk_report.specs.declared.sweeping.Standing.{Standing}
@@ -80,7 +80,7 @@ module _ (asking : Asking) where
     all_equal (Two a b) leading vars =
         let may = may_equal asking.options.now asking.found.now in
         let second = suited_vars b asking.here.now.here.infos vars in
-        all_flat IsHere (λ v. seconds_where (listed_candidates_by asking row) may v second)
+        all_flat IsHere (λ v. equals (listed_candidates_by asking row) may v second)
         (λ v. all_flat IsHere (λ w. if may v w then listed_candidates_by asking row (v ∷ w ∷ []) else []) (λ w. all_if (v ∷ w ∷ []) (may v w) (all_listed (v ∷ w ∷ []))) second)
         (suited_vars a asking.here.now.here.infos leading)
       where

@@ -18,7 +18,7 @@ use Rattle.dk_report.proofs.FlatMaps.{flat_map-filter, flat_map-same, over_one, 
 use Rattle.dk_report.proofs.Falling.{CountsFall}
 use Rattle.dk_report.proofs.Passing.{no-equality, passed, passed-scarce, unadmitted, unequal, unled}
 use Rattle.dk_report.specs.Listing.{is_equality, listed_candidates, listed_candidates_of_row, may_equal, may_lead, may_stand}
-use Rattle.dk_report.specs.Sweeps.{behind, equal_takes, firsts, over_takes, pairs, seconds, seconds_where, suited_vars, thirds, triples}
+use Rattle.dk_report.specs.Sweeps.{behind, equal_takes, equals, firsts, over_takes, pairs, seconds, suited_vars, thirds, triples}
 use Rattle.dk_report.specs.declared.options.Options.{Options}
 
 -- ---- the variables that may stand in what is kept
@@ -184,7 +184,7 @@ module _ (options : Options) (here : Answers) (parents : List Parent) (row : Row
   of_equality falls (Two a b) e =
       let first = suited_vars a here.infos (filter may_lead_here with_enough) in
       let second = suited_vars b here.infos with_enough in
-      flat_map-same (λ v. seconds_where given may_equal_here v second) (λ v. seconds given v second)
+      flat_map-same (λ v. equals given may_equal_here v second) (λ v. seconds given v second)
       (λ v. flat_map-same (λ w. if may_equal_here v w then given (v ∷ w ∷ []) else []) (λ w. given (v ∷ w ∷ [])) (λ w. equal-or-none v w) second) first
       ∙ of_pairs a b e (λ v. enough v && may_lead_here v) (filter may_lead_here with_enough) (twice_suffices enough may_lead_here) enough with_enough (filtered_suffices enough)
       (leading-fails falls) (λ v w h. scarce_fails falls 2 (v ∷ w ∷ []) refl w (inr (inl refl)) h)

@@ -1,5 +1,5 @@
 -- The candidates of a section, instance by instance.
-use Rattle.std.specs.Prelude.{◌&&◌, ◌||◌, ◌==◌, Bool, not, true, List, [], ◌∷◌, flat_map, if◌then◌else◌}
+use Rattle.std.specs.Prelude.{◌&&◌, ◌||◌, ◌==◌, Bool, not, List, [], ◌∷◌, flat_map, if◌then◌else◌}
 use Rattle.dk_base.specs.declared.kinds.VarId.{VarId}
 use Rattle.dk_filters.specs.Answers.{Answers, Parent}
 use Rattle.dk_filters.specs.Candidates.{candidate_of, it_holds}
@@ -13,8 +13,6 @@ use Rattle.dk_template.specs.Templates.{arity_of}
 use Rattle.dk_template.specs.declared.grammar.RowId.{RowId}
 use Rattle.dk_report.specs.Keeping.{keeps}
 use Rattle.dk_report.specs.declared.options.Options.{Options}
-use Rattle.dk_report.specs.declared.sweeping.Pairing.{Pairing}
-use Rattle.dk_report.specs.declared.sweeping.Pairing.TheVariants.{Any, Equal}
 
 -- ---- one instance
 -- the instance is one that the row is asked about, it holds, and no filter that is on drops it
@@ -53,8 +51,3 @@ abbrev pub may_equal : Options → PointFacts → VarId → VarId → Bool
 may_equal options found v w =
     options.keep_members
     || ((first_in found.firsts w).0 == v.0 || ((first_in found.firsts v).0 == v.0 && (first_in found.firsts w).0 == w.0))
-
--- A row is asked about v and w: about all pairs, or about those whose equality may be kept.
-abbrev pub may_pair : Pairing → Options → PointFacts → VarId → VarId → Bool
-may_pair Any options found v w = true
-may_pair Equal options found v w = may_equal options found v w

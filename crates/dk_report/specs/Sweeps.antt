@@ -39,14 +39,14 @@ module _ (listed : List VarId → List Candidate) where
   over_takes infos (Two a b) of = pairs (suited_vars a infos of) (suited_vars b infos of)
   over_takes infos (Three a b c) of = triples (suited_vars a infos of) (suited_vars b infos of) (suited_vars c infos of)
 
-  -- of a variable and one of the list, and of two, one of each list, that pass a test together
-  abbrev pub seconds_where : (VarId → VarId → Bool) → VarId → List VarId → List Candidate
-  seconds_where may v second = flat_map (λ w. if may v w then listed (v ∷ w ∷ []) else []) second
+  -- of two variables, one of each list, that pass a test together
+  abbrev pub equals : (VarId → VarId → Bool) → VarId → List VarId → List Candidate
+  equals may v second = flat_map (λ w. if may v w then listed (v ∷ w ∷ []) else []) second
 
-  abbrev pub pairs_where : (VarId → VarId → Bool) → List VarId → List VarId → List Candidate
-  pairs_where may first second = flat_map (λ v. seconds_where may v second) first
+  abbrev pub equal_pairs : (VarId → VarId → Bool) → List VarId → List VarId → List Candidate
+  equal_pairs may first second = flat_map (λ v. equals may v second) first
 
   -- the same of a row of two variables, over variables that suit its roles; other rows are over those of the second list alone
   abbrev pub equal_takes : (VarId → VarId → Bool) → List VarInfo → Takes → List VarId → List VarId → List Candidate
-  equal_takes may infos (Two a b) leading of = pairs_where may (suited_vars a infos leading) (suited_vars b infos of)
+  equal_takes may infos (Two a b) leading of = equal_pairs may (suited_vars a infos leading) (suited_vars b infos of)
   equal_takes may infos takes leading of = over_takes infos takes of

@@ -4,8 +4,8 @@ ghost use Rattle.dk_filters.specs.Candidates.{candidates_kept, candidates_of};
 ghost use Rattle.dk_filters.specs.Found.{first_in, one_value_in};
 ghost use Rattle.dk_report.specs.Keeping.{keeps};
 ghost use Rattle.dk_report.specs.Asked.{AreStanding, CanBeAsked, candidates_equal, candidates_over, candidates_standing, has_enough, here_of, listed_candidates_by, vars_for_row, vars_with_enough, views_of};
-ghost use Rattle.dk_report.specs.Listing.{is_equality, may_equal, may_lead, may_pair, may_stand};
-ghost use Rattle.dk_report.specs.Sweeps.{behind, firsts, over_takes, pairs_where, seconds_where, suited_vars, thirds, triples};
+ghost use Rattle.dk_report.specs.Listing.{is_equality, may_equal, may_lead, may_stand};
+ghost use Rattle.dk_report.specs.Sweeps.{behind, equal_pairs, equals, firsts, over_takes, pairs, seconds, suited_vars, thirds, triples};
 ghost use Rattle.dk_template.specs.Admitted.{suits};
 ghost use Rattle.dk_template.specs.Templates.{IsRow, IsRowOf};
 
@@ -98,15 +98,6 @@ fn may_equal(options: &Options, found: &PointFacts, v: VarId, w: VarId) -> bool
     let firsts = found.firsts.as_slice();
     let first = first_of(firsts, w);
     options.keep_members || first.0 == v.0 || (first_of(firsts, v).0 == v.0 && first.0 == w.0)
-}
-
-/// Which pairs of variables are asked about.
-#[derive(Clone, Copy)]
-enum Pairing {
-    /// All.
-    Any,
-    /// Those whose equality may be kept.
-    Equal,
 }
 
 /// The variables of a point, each present in enough samples: all of these, those that may stand first in an equality, and those that may
@@ -214,34 +205,21 @@ impl<'a, 'e> Asking<'a, 'e> {
         Ok(list)
     }
 
-    // Whether the two variables are asked about.
-    fn may_pair(&self, pairing: Pairing, v: VarId, w: VarId) -> bool
-        ensures { result ≡ may_pair pairing self.now.options.now self.now.found.now v w }
-    {
-        match pairing {
-            Pairing::Any => true,
-            Pairing::Equal => may_equal(self.options, self.found, v, w),
-        }
-    }
-
     // With those of a variable and one of the list.
     fn seconds(
         &self,
         row: RowId,
-        pairing: Pairing,
         v: VarId,
         second: &[VarId],
         list: List<Candidate>,
     ) -> Result<List<Candidate>, NoMemory>
         requires asked { CanBeAsked self.now }
         requires row { IsRowOf self.now.here.now.here.grammar row }
-        ensures { IfOk result (λ more. more ≡ list ++ seconds_where (listed_candidates_by self.now row) (may_pair pairing self.now.options.now self.now.found.now) v second.now) }
+        ensures { IfOk result (λ more. more ≡ list ++ seconds (listed_candidates_by self.now row) v second.now) }
     {
         let mut list = list;
         for w in second {
-            if self.may_pair(pairing, v, *w) {
-                list = self.consider(row, &[v, *w], list)?;
-            }
+            list = self.consider(row, &[v, *w], list)?;
         }
         Ok(list)
     }
@@ -270,18 +248,17 @@ impl<'a, 'e> Asking<'a, 'e> {
     fn pairs(
         &self,
         row: RowId,
-        pairing: Pairing,
         first: &[VarId],
         second: &[VarId],
         list: List<Candidate>,
     ) -> Result<List<Candidate>, NoMemory>
         requires asked { CanBeAsked self.now }
         requires row { IsRowOf self.now.here.now.here.grammar row }
-        ensures { IfOk result (λ more. more ≡ list ++ pairs_where (listed_candidates_by self.now row) (may_pair pairing self.now.options.now self.now.found.now) first.now second.now) }
+        ensures { IfOk result (λ more. more ≡ list ++ pairs (listed_candidates_by self.now row) first.now second.now) }
     {
         let mut list = list;
         for v in first {
-            list = self.seconds(row, pairing, *v, second, list)?;
+            list = self.seconds(row, *v, second, list)?;
         }
         Ok(list)
     }
@@ -364,7 +341,7 @@ impl<'a, 'e> Asking<'a, 'e> {
     {
         let first = self.vars_of_role(a, of)?;
         let second = self.vars_of_role(b, of)?;
-        self.pairs(row, Pairing::Any, first.as_slice(), second.as_slice(), list)
+        self.pairs(row, first.as_slice(), second.as_slice(), list)
     }
 
     // With those of a row of three roles.
@@ -409,6 +386,46 @@ impl<'a, 'e> Asking<'a, 'e> {
         }
     }
 
+    // With those of an equality of a variable and one of the list that may be kept.
+    fn equals(
+        &self,
+        row: RowId,
+        v: VarId,
+        second: &[VarId],
+        list: List<Candidate>,
+    ) -> Result<List<Candidate>, NoMemory>
+        requires asked { CanBeAsked self.now }
+        requires row { IsRowOf self.now.here.now.here.grammar row }
+        ensures { IfOk result (λ more. more ≡ list ++ equals (listed_candidates_by self.now row) (may_equal self.now.options.now self.now.found.now) v second.now) }
+    {
+        let mut list = list;
+        for w in second {
+            if may_equal(self.options, self.found, v, *w) {
+                list = self.consider(row, &[v, *w], list)?;
+            }
+        }
+        Ok(list)
+    }
+
+    // With those of two variables, one of each list.
+    fn equal_pairs(
+        &self,
+        row: RowId,
+        first: &[VarId],
+        second: &[VarId],
+        list: List<Candidate>,
+    ) -> Result<List<Candidate>, NoMemory>
+        requires asked { CanBeAsked self.now }
+        requires row { IsRowOf self.now.here.now.here.grammar row }
+        ensures { IfOk result (λ more. more ≡ list ++ equal_pairs (listed_candidates_by self.now row) (may_equal self.now.options.now self.now.found.now) first.now second.now) }
+    {
+        let mut list = list;
+        for v in first {
+            list = self.equals(row, *v, second, list)?;
+        }
+        Ok(list)
+    }
+
     // With those of an equality.
     fn of_equality(
         &self,
@@ -424,13 +441,7 @@ impl<'a, 'e> Asking<'a, 'e> {
             Takes::Two(a, b) => {
                 let first = self.vars_of_role(a, standing.leading.as_slice())?;
                 let second = self.vars_of_role(b, standing.all.as_slice())?;
-                self.pairs(
-                    row,
-                    Pairing::Equal,
-                    first.as_slice(),
-                    second.as_slice(),
-                    list,
-                )
+                self.equal_pairs(row, first.as_slice(), second.as_slice(), list)
             }
             Takes::One(_) | Takes::Three(_, _, _) => self.over(row, standing.all.as_slice(), list),
         }
