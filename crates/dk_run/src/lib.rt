@@ -4,7 +4,6 @@
 
 mod choosing;
 pub mod laws;
-mod loaded;
 mod messages;
 mod reading;
 mod reporting;
@@ -13,7 +12,6 @@ mod status;
 mod top;
 mod words;
 
-pub use loaded::report_loaded;
 pub use status::Status;
 pub use top::{run, run_command, tell_usage};
 pub use words::words_of;
