@@ -1,14 +1,18 @@
 -- The rows of the files, one after another.
-use Rattle.std.proofs.Common.{◌≡◌, ◌≤◌, ◌<◌, ◌+◌, ◌∙◌, ◌∷◌, ◌++◌, [], ℕ, List, Result, Ok, Err, drop, get_or, length, refl, sym, ap}
+use Rattle.std.proofs.Common.{◌≡◌, ◌≤◌, ◌<◌, ◌+◌, ◌∙◌, ◌∷◌, ◌++◌, [], ℕ, Bool, List, None, Result, Ok, Err, drop, get_or, length, refl, subst, sym, ap}
+use Rattle.std.specs.Prelude.{slice_get}
 use Rattle.std.proofs.lemmas.List.{drop_all, drop_more}
+use Rattle.csv.specs.Machine.{next_record}
+use Rattle.csv.specs.Reading.{records_from, strip_bom}
 use Rattle.dk_table.specs.Judging.{Judged, judging, judging_all, judging_rows}
 use Rattle.dk_table.specs.Outcomes.{Answers}
 use Rattle.dk_table.specs.Placed.{Placed}
-use Rattle.dk_table.specs.Tables.{◌>>=◌, bodies_in, body_in, file_rows, rows_of_all}
+use Rattle.dk_table.specs.Tables.{◌>>=◌, bodies_in, body_in, file_rows, first_of, names_of, refused, rows_in, rows_of_all}
 use Rattle.dk_table.specs.declared.command.Command.{Command}
 use Rattle.dk_table.specs.declared.faults.Refusal.{Refusal}
 use Rattle.dk_table.specs.declared.faults.TableFault.{TableFault}
 use Rattle.dk_table.specs.declared.faults.TableFault.TheVariants.{NoMemory, Refused}
+use Rattle.dk_table.specs.declared.faults.TableWhy.TheVariants.{NoHeader}
 
 judged_append : (j : Judged) (front rest : List Placed) → judging_all j (front ++ rest) ≡ judging_all (judging_all j front) rest
 judged_append j [] rest = refl
@@ -68,3 +72,15 @@ files_taken c names files i first j past so_far = so_far ∙ ap (λ (l : List (L
 
 pub bodies_none : (c : Command) (files : List (List ℕ)) (i : ℕ) → length files ≤ i → bodies_in c i (drop i files) ≡ []
 bodies_none c files i past = ap (bodies_in c i) (drop_all i files past)
+
+-- ---- no file
+none_named : (header : Bool) (separator : ℕ) → names_of header (rows_in separator 0 []) ≡ refused 0 1 NoHeader
+unfolding records_from strip_bom next_record
+none_named header separator = refl
+
+-- where there is no first file, there are no names
+pub no_names : (header : Bool) (separator : ℕ) (files : List (List ℕ)) (fault : TableFault) → None ≡ slice_get files 0 → fault ≡ Refused (record { file = 0; row = 1; why = NoHeader })
+    → Answers {A = List (List ℕ)} (λ names. names) (names_of header (rows_in separator 0 (first_of files))) (Err fault)
+no_names header separator [] fault none is =
+    subst (λ (f : TableFault). Answers {A = List (List ℕ)} (λ names. names) (names_of header (rows_in separator 0 [])) (Err f)) (sym is) (none_named header separator)
+no_names header separator (bytes ∷ more) fault none is = absurd (cc none)

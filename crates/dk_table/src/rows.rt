@@ -66,8 +66,9 @@ impl<'a> Rows<'a> {
         Rows::by_records(alloc, separator, file, bytes.as_slice())
     }
 
-    /// The same, by a reader for which it doesn't matter whether there are quotes.
-    pub(crate) fn by_records(
+    // The same, where there may be quotes. While it is made, the reader stands on the stack some times over, so that is in a function of its own.
+    #[inline(never)]
+    fn by_records(
         alloc: Global,
         separator: u8,
         file: usize,

@@ -180,15 +180,6 @@ fn names_by(alloc: Global, has_header: bool, rows: &Rows<'_>) -> Result<List<Tex
     }
 }
 
-fn first_of(files: &[FileBytes]) -> &[u8]
-    ensures { result.now ≡ first_of files.now }
-{
-    match files.first() {
-        Some(text) => text.as_slice(),
-        None => b"",
-    }
-}
-
 /// The names that the first file's first row gives.
 pub(crate) fn names_of(
     alloc: Global,
@@ -197,7 +188,10 @@ pub(crate) fn names_of(
 ) -> Result<List<Text>, TableFault>
     ensures { Answers (λ names. names) (names_of command.now.has_header (rows_in command.now.separator 0 (first_of files.now))) result }
 {
-    let mut rows = Rows::by_records(alloc, command.separator, 0, first_of(files))?;
+    let Some(first) = files.first() else {
+        return Err(refused(0, 1, TableWhy::NoHeader));
+    };
+    let mut rows = Rows::new(alloc, command.separator, 0, first)?;
     if !rows.next()? {
         return Err(refused(0, 1, TableWhy::NoHeader));
     }
