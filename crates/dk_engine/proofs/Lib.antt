@@ -1,3 +1,4 @@
+pub mod Ascending
 pub mod KnownNumbers
 pub mod Leading
 pub mod SlotLists
