@@ -1,9 +1,8 @@
--- What a sample tells of which the facts are true, and the bounds, comparisons, lines and stretches that it doesn't change then.
+-- What a sample tells of which the facts are true, and the bounds, comparisons and lines that it doesn't change then.
 use Rattle.std.specs.Prelude.{◌≡◌, ◌≤◌, ◌^◌, ◌&&◌, ◌||◌, ◌==◌, ◌+ℤ◌, ◌-ℤ◌, ◌*ℤ◌, ℕ, ℤ, pos, negsuc, neg_ℤ, Bool, true, false, List, [], ◌∷◌, None, if◌then◌else◌, int_le, int_lt, nat_le, refl, unsigned_abs}
 use Rattle.std.specs.List.{list_all}
 use Rattle.std.proofs.Common.{◌∙◌, ap, arith, inl, inr, subst, sym}
 use Rattle.std.specs.Ordering.{int_eq}
-use Rattle.std.proofs.Math.IntN.{*ℤ_comm}
 use Rattle.std.proofs.lemmas.Bool.{and_from, and_parts, cases_Bool, eqb-true, false≢true, le-leb, leb-true, or_cases}
 use Rattle.std.proofs.lemmas.Bool.Decides.{Decides-int_eq}
 use Rattle.std.proofs.lemmas.Int.{ints}
@@ -15,24 +14,20 @@ use Rattle.dk_base.specs.declared.values.Value.TheVariants as value
 use Rattle.dk_fits.specs.Fits.{is_whole, tuple_in}
 use Rattle.dk_forms.specs.declared.states.State.{State}
 use Rattle.dk_forms.proofs.LineStays.{straight_stays}
-use Rattle.dk_forms.proofs.PlaneFacts.{point_of_limit}
 use Rattle.dk_forms.specs.Line.{in_limit, is_on, line_join, line_of}
-use Rattle.dk_forms.specs.Plane.{IsSpan, are_aligned, in_space, is_before, plane_join, plane_of}
-use Rattle.dk_forms.specs.declared.states.State.TheVariants.{Greatest, Holds, Least, Span, Straight}
+use Rattle.dk_forms.specs.declared.states.State.TheVariants.{Greatest, Holds, Least, Straight}
 use Rattle.dk_rows.specs.Meanings.{meanings, state_of}
 use Rattle.dk_template.specs.Joins.{joined}
 use Rattle.dk_template.specs.Templates.{form_of, rows}
 use Rattle.dk_template.specs.declared.grammar.RowId.{RowId}
 use Rattle.dk_template.specs.declared.templates.StateForm.TheVariants as form
-use Rattle.dk_ternary.specs.Rows.{linear_ternary_row}
 use Rattle.dk_samples.specs.Samples.{is_present, value_in}
 use Rattle.dk_engine.proofs.Bounding.{compared_slot, compared_so, greatest_kept, least_kept, lower_slot, of_missing, slot_of_missing}
 use Rattle.dk_engine.proofs.Ascending.{ordered_so}
 use Rattle.dk_engine.proofs.Raising.{upper_slot}
-use Rattle.dk_engine.proofs.Stretches.{before_of, planar_sample, within_stretch}
 use Rattle.dk_engine.specs.Bounding.{compares, keeps_greatest, keeps_least}
 use Rattle.dk_engine.specs.Feeding.{with_sample}
-use Rattle.dk_engine.specs.Idle.{IsIdle, are_in_order, are_near, are_rising, are_so, are_within, compares_first, compares_values, is_above, is_below, is_between, is_compared, is_from, is_idle_greatest, is_idle_least, is_known, is_listed, is_near, is_near_number, is_numeric, is_one, is_own, is_own_line, is_own_stretch, is_so, is_to, is_told, is_within, meets}
+use Rattle.dk_engine.specs.Idle.{IsIdle, are_in_order, are_near, are_rising, are_so, are_within, compares_first, compares_values, is_above, is_below, is_between, is_compared, is_from, is_idle_greatest, is_idle_least, is_known, is_listed, is_near, is_near_number, is_numeric, is_one, is_own, is_own_line, is_so, is_to, is_told, is_within, meets}
 use Rattle.dk_engine.specs.declared.facts.Compared.{Compared}
 use Rattle.dk_engine.specs.declared.facts.Range.{Range}
 use Rattle.dk_engine.specs.declared.idle.Watch.{Watch}
@@ -54,13 +49,13 @@ module _ (watch : Watch) (sample : List Value) (meeting : meets watch sample ≡
 
 -- ---- bounds
 -- a value between two numbers is a number or missing
-by_value : (least greatest : ℤ) (P : Type 0) (i : Value) → is_between least greatest i ≡ true → (i ≡ value.Missing → P) → ((x : ℤ) → i ≡ value.Int x → P) → P
+pub by_value : (least greatest : ℤ) (P : Type 0) (i : Value) → is_between least greatest i ≡ true → (i ≡ value.Missing → P) → ((x : ℤ) → i ≡ value.Int x → P) → P
 by_value least greatest P (value.Int x) h missing number = number x refl
 by_value least greatest P value.Missing h missing number = missing refl
 by_value least greatest P _ h missing number = absurd (false≢true h)
 
 -- the bounds of the variable of which this holds
-known : (ranges : List Range) (sample : List Value) → are_within sample ranges ≡ true → (v : VarId) (holds : Range → Bool) → is_known ranges v holds ≡ true
+pub known : (ranges : List Range) (sample : List Value) → are_within sample ranges ≡ true → (v : VarId) (holds : Range → Bool) → is_known ranges v holds ≡ true
     → (r : Range) × (is_between r.least r.greatest (value_in sample v) ≡ true) × (holds r ≡ true)
 known [] sample are v holds h = absurd (false≢true h)
 known (r ∷ ranges) sample are v holds h =
@@ -72,10 +67,10 @@ known (r ∷ ranges) sample are v holds h =
       | inr n ↦ known ranges sample told.1 v holds (sym (ap (λ t. t || is_known ranges v holds) n) ∙ h)
     ]
 
-no_less : (least from to x : ℤ) → int_le least from ≡ true → (int_le from x && int_le x to) ≡ true → int_le least x ≡ true
+pub no_less : (least from to x : ℤ) → int_le least from ≡ true → (int_le from x && int_le x to) ≡ true → int_le least x ≡ true
 no_less least from to x le h = let first = (and_parts (int_le from x) (int_le x to) h).0 in grind (arith, ints)
 
-no_greater : (greatest from to x : ℤ) → int_le to greatest ≡ true → (int_le from x && int_le x to) ≡ true → int_le x greatest ≡ true
+pub no_greater : (greatest from to x : ℤ) → int_le to greatest ≡ true → (int_le from x && int_le x to) ≡ true → int_le x greatest ≡ true
 no_greater greatest from to x le h = let last = (and_parts (int_le from x) (int_le x to) h).1 in grind (arith, ints)
 
 -- such bounds with the least value that they don't move
@@ -112,7 +107,7 @@ idle_greatest watch slot row v over h sample meeting =
     (λ x at. sym (upper_slot slot row v over sample x at) ∙ greatest_kept slot.state x (told.2 x at))
 
 -- ---- near numbers, and one alone
-near_between : (least greatest x : ℤ) → nat_le (unsigned_abs least) (2 ^ 30) ≡ true → nat_le (unsigned_abs greatest) (2 ^ 30) ≡ true
+pub near_between : (least greatest x : ℤ) → nat_le (unsigned_abs least) (2 ^ 30) ≡ true → nat_le (unsigned_abs greatest) (2 ^ 30) ≡ true
     → (int_le least x && int_le x greatest) ≡ true → nat_le (unsigned_abs x) (2 ^ 30) ≡ true
 near_between least greatest x low high h =
     let p = and_parts (int_le least x) (int_le x greatest) h in
@@ -138,7 +133,7 @@ near_at ranges sample within v near there =
     (λ at. absurd (false≢true (sym (ap is_present at) ∙ there)))
     (λ x at n. (x, at, n))
 
-alone : (least greatest x : ℤ) → least ≡ greatest → (int_le least x && int_le x greatest) ≡ true → x ≡ least
+pub alone : (least greatest x : ℤ) → least ≡ greatest → (int_le least x && int_le x greatest) ≡ true → x ≡ least
 alone least greatest x e h =
     let p = and_parts (int_le least x) (int_le x greatest) h in
     let from = p.0 in
@@ -203,7 +198,7 @@ in_line x near =
     let wide = le-leb (unsigned_abs x) (2 ^ 62) (omega (arith, small)) in
     and_from (nat_le (unsigned_abs x) (2 ^ 62)) _ wide wide
 
-same_value : (sample : List Value) (u v : VarId) → (u.0 == v.0) ≡ true → (x : ℤ) → value_in sample u ≡ value.Int x → value_in sample v ≡ value.Int x
+pub same_value : (sample : List Value) (u v : VarId) → (u.0 == v.0) ≡ true → (x : ℤ) → value_in sample u ≡ value.Int x → value_in sample v ≡ value.Int x
 same_value sample u v e x at = sym (ap (value_at sample) (eqb-true u.0 v.0 e)) ∙ at
 
 -- a number is equal to itself, and at most itself
@@ -289,110 +284,3 @@ idle_line watch slot e u v over h near sample meeting =
     (λ at. slot_of_missing slot sample u (v ∷ []) over at)
     (λ x at small. ap (λ r. with_sample r slot.leaders sample slot.state) row
     ∙ (ap (λ vs. with_sample (record { 0 = 15 }) vs sample slot.state) over ∙ own_line_kept sample u v slot.state h x at small))
-
--- stretches of the line of equal numbers
-abbrev thrice : ℤ → ℤ × ℤ × ℤ
-thrice x = (x, x, x)
-
-thrice_before : (x y : ℤ) → int_le x y ≡ true → is_before (thrice x) (thrice y) ≡ true
-thrice_before x y le = elim (cases_Bool (int_eq x y)) as (λ _. is_before (thrice x) (thrice y) ≡ true) [
-  | inl e ↦ ap (λ b. if b then (if b then int_le x y else int_lt x y) else int_lt x y) e ∙ le
-  | inr n ↦ ap (λ b. if b then (if b then int_le x y else int_lt x y) else int_lt x y) n ∙ less n
-]
-  where
-    less : int_eq x y ≡ false → int_lt x y ≡ true
-    less n = elim (cases_Bool (int_lt x y)) as (λ _. int_lt x y ≡ true) [
-      | inl lt ↦ lt
-      | inr ge ↦ let same : x ≡ y = grind (arith, ints) in absurd (false≢true (sym n ∙ (Decides-int_eq x y).1 same))
-    ]
-
-thrice_aligned : (a x b : ℤ) → are_aligned (thrice a) (thrice x) (thrice b) ≡ true
-thrice_aligned a x b =
-    let one = (Decides-int_eq ((x -ℤ a) *ℤ (b -ℤ a)) ((b -ℤ a) *ℤ (x -ℤ a))).1 (*ℤ_comm (x -ℤ a) (b -ℤ a)) in
-    let test = int_eq ((x -ℤ a) *ℤ (b -ℤ a)) ((b -ℤ a) *ℤ (x -ℤ a)) in
-    and_from test _ one (and_from test _ one one)
-
-thrice_near : (x : ℤ) → nat_le (unsigned_abs x) (2 ^ 30) ≡ true → in_space (thrice x) ≡ true
-thrice_near x near = let test = nat_le (unsigned_abs x) (2 ^ 30) in and_from test _ near (and_from test _ near near)
-
--- the point of one number lies within
-thrice_stays : (a x b : ℤ) → nat_le (unsigned_abs a) (2 ^ 30) ≡ true → nat_le (unsigned_abs b) (2 ^ 30) ≡ true → nat_le (unsigned_abs x) (2 ^ 30) ≡ true
-    → int_le a b ≡ true → int_le a x ≡ true → int_le x b ≡ true → plane_join (Span a a a b b b) (plane_of (thrice x ∷ [])) ≡ Span a a a b b b
-thrice_stays a x b near_a near_b near_x ab ax xb =
-    let span : IsSpan (thrice a, thrice b) = record {
-      first = point_of_limit (thrice a) (thrice_near a near_a);
-      last = point_of_limit (thrice b) (thrice_near b near_b);
-      ordered = before_of (thrice a) (thrice b) (thrice_before a b ab);
-    } in
-    within_stretch (thrice a) (thrice b) (thrice x) span (thrice_near x near_x) (thrice_before a x ax) (thrice_before x b xb) (thrice_aligned a x b)
-
--- what is told of such a stretch
-record IsOwn (ranges : List Range) (u v w : VarId) (s : State) : Type 0 where
-  first : ℤ
-  last : ℤ
-  is : s ≡ Span first first first last last last
-  near_first : nat_le (unsigned_abs first) (2 ^ 30) ≡ true
-  near_last : nat_le (unsigned_abs last) (2 ^ 30) ≡ true
-  ordered : int_le first last ≡ true
-  from : is_above ranges u first ≡ true
-  to : is_below ranges u last ≡ true
-  second : (u.0 == v.0) ≡ true
-  third : (v.0 == w.0) ≡ true
-
-own_stretch : (ranges : List Range) (u v w : VarId) (s : State) → is_own_stretch ranges u v w s ≡ true → IsOwn ranges u v w s
-own_stretch ranges u v w (Span x1 y1 z1 x2 y2 z2) h =
-    let tail5 = is_above ranges u x1 && is_below ranges u x2 in
-    let tail4 = int_le x1 x2 && tail5 in
-    let tail3 = (is_near_number x1 && is_near_number x2) && tail4 in
-    let tail2 = (int_eq x2 y2 && int_eq y2 z2) && tail3 in
-    let tail1 = (int_eq x1 y1 && int_eq y1 z1) && tail2 in
-    let h1 = and_parts (u.0 == v.0 && v.0 == w.0) tail1 h in
-    let h2 = and_parts (int_eq x1 y1 && int_eq y1 z1) tail2 h1.1 in
-    let h3 = and_parts (int_eq x2 y2 && int_eq y2 z2) tail3 h2.1 in
-    let h4 = and_parts (is_near_number x1 && is_near_number x2) tail4 h3.1 in
-    let h5 = and_parts (int_le x1 x2) tail5 h4.1 in
-    let h6 = and_parts (is_above ranges u x1) (is_below ranges u x2) h5.1 in
-    let vars = and_parts (u.0 == v.0) (v.0 == w.0) h1.0 in
-    let firsts = and_parts (int_eq x1 y1) (int_eq y1 z1) h2.0 in
-    let lasts = and_parts (int_eq x2 y2) (int_eq y2 z2) h3.0 in
-    let nears = and_parts (is_near_number x1) (is_near_number x2) h4.0 in
-    let y1_is : x1 ≡ y1 = (Decides-int_eq x1 y1).0 firsts.0 in
-    let z1_is : y1 ≡ z1 = (Decides-int_eq y1 z1).0 firsts.1 in
-    let y2_is : x2 ≡ y2 = (Decides-int_eq x2 y2).0 lasts.0 in
-    let z2_is : y2 ≡ z2 = (Decides-int_eq y2 z2).0 lasts.1 in
-    record {
-      first = x1;
-      last = x2;
-      is = same y1_is z1_is y2_is z2_is;
-      near_first = nears.0;
-      near_last = nears.1;
-      ordered = h5.0;
-      from = h6.0;
-      to = h6.1;
-      second = vars.0;
-      third = vars.1;
-    }
-  where
-    same : x1 ≡ y1 → y1 ≡ z1 → x2 ≡ y2 → y2 ≡ z2 → Span x1 y1 z1 x2 y2 z2 ≡ Span x1 x1 x1 x2 x2 x2
-    same a b c d = cc
-own_stretch ranges u v w _ h = absurd (false≢true h)
-
-pub idle_stretch : (watch : Watch) (slot : Slot) → slot.row.0 ≡ 67 → (u v w : VarId) → slot.leaders ≡ u ∷ v ∷ w ∷ []
-    → is_own_stretch watch.ranges.items u v w slot.state ≡ true → is_near watch.ranges.items u ≡ true → IsIdle watch slot
-idle_stretch watch slot e u v w over h near sample meeting =
-    let own = own_stretch watch.ranges.items u v w slot.state h in
-    let within = all_within watch sample meeting in
-    let low = known watch.ranges.items sample within u (is_from own.first) own.from in
-    let high = known watch.ranges.items sample within u (is_to own.last) own.to in
-    let row : slot.row ≡ linear_ternary_row = ap (λ (n : ℕ). (let r : RowId = record { 0 = n } in r)) e in
-    by_near watch.ranges.items sample within u near (with_sample slot.row slot.leaders sample slot.state ≡ slot.state)
-    (λ at. slot_of_missing slot sample u (v ∷ w ∷ []) over at)
-    (λ x at small.
-    let at_v = same_value sample u v own.second x at in
-    let at_w = same_value sample v w own.third x at_v in
-    let ax = no_less own.first (low.0).least (low.0).greatest x low.2 (subst (λ i. is_between (low.0).least (low.0).greatest i ≡ true) at low.1) in
-    let xb = no_greater own.last (high.0).least (high.0).greatest x high.2 (subst (λ i. is_between (high.0).least (high.0).greatest i ≡ true) at high.1) in
-    let stays = thrice_stays own.first x own.last own.near_first own.near_last small own.ordered ax xb in
-    let joined_stays : plane_join slot.state (plane_of (thrice x ∷ [])) ≡ slot.state = subst (λ s. plane_join s (plane_of (thrice x ∷ [])) ≡ s) (sym own.is) stays in
-    ap (λ r. with_sample r slot.leaders sample slot.state) row
-    ∙ (ap (λ vs. with_sample linear_ternary_row vs sample slot.state) over ∙ (sym (planar_sample u v w sample x x x at at_v at_w slot.state) ∙ joined_stays)))

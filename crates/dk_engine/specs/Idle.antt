@@ -82,12 +82,19 @@ abbrev pub is_idle_greatest : List Range → VarId → State → Bool
 is_idle_greatest ranges v (Greatest greatest) = is_below ranges v greatest
 is_idle_greatest ranges v _ = false
 
--- the points of a variable with itself, three times: a stretch of the line of equal numbers, within which its numbers are
-abbrev pub is_own_stretch : List Range → VarId → VarId → VarId → State → Bool
-is_own_stretch ranges u v w (Span x1 y1 z1 x2 y2 z2) =
-    (u.0 == v.0 && v.0 == w.0)
-    && ((int_eq x1 y1 && int_eq y1 z1) && ((int_eq x2 y2 && int_eq y2 z2) && ((is_near_number x1 && is_near_number x2) && (int_le x1 x2 && (is_above ranges u x1 && is_below ranges u x2)))))
-is_own_stretch ranges u v w _ = false
+-- A coordinate of a stretch with near ends: the number of the variable that drives it, from the first to the last, or that of one that has
+-- no other.
+abbrev pub is_driven : List Range → VarId → ℤ → ℤ → VarId → ℤ → ℤ → Bool
+is_driven ranges driver first last v a b =
+    (is_numeric ranges v && (is_near_number a && is_near_number b))
+    && ((v.0 == driver.0 && (int_eq a first && int_eq b last)) || (int_eq a b && (is_above ranges v a && is_below ranges v a)))
+
+-- a stretch of which each coordinate is so, within which the driving variable's numbers are
+abbrev pub is_driven_stretch : List Range → VarId → ℤ → ℤ → VarId → VarId → VarId → State → Bool
+is_driven_stretch ranges driver first last u v w (Span x1 y1 z1 x2 y2 z2) =
+    is_driven ranges driver first last u x1 x2
+    && (is_driven ranges driver first last v y1 y2 && (is_driven ranges driver first last w z1 z2 && (is_above ranges driver first && is_below ranges driver last)))
+is_driven_stretch ranges driver first last u v w _ = false
 
 -- the line of equal numbers, of a variable with itself
 abbrev pub is_own_line : VarId → VarId → State → Bool

@@ -1,11 +1,13 @@
 // Variables whose numbers rise, each greater than the one before it: one walk over them tells of all their comparisons.
 ghost use Rattle.std.specs.Prelude.{◌≡◌, true, IsTrue, None};
 ghost use Rattle.dk_base.specs.Values.{value_of, values_of};
+ghost use Rattle.dk_samples.specs.Samples.{value_in};
 ghost use Rattle.dk_engine.specs.Idle.{are_in_order, are_rising, is_over, last_with, rises};
 
 use crate::Slot;
 use crate::mapping::stands_at;
 use crate::noted::{note_place, place_of};
+use crate::operations::number_at;
 use crate::staying::holds;
 use dk_base::{NoMemory, VarId, View};
 use dk_samples::value_at;
@@ -44,17 +46,36 @@ fn last_with(last: Option<i64>, value: View<'_>) -> Option<i64>
     }
 }
 
+// Whether a variable's value in a sample is such a number or missing, where it mostly is no number.
+#[cold]
+#[inline(never)]
+fn rises_or_missing(sample: &[View<'_>], v: VarId, last: Option<i64>) -> bool
+    ensures { result ≡ rises last (value_in (values_of sample.now) v) }
+{
+    rises(last, value_at(sample, v))
+}
+
+// Whether it is, where it mostly is a number.
+#[inline(always)]
+fn goes_on(sample: &[View<'_>], v: VarId, last: Option<i64>) -> bool
+    ensures { result ≡ rises last (value_in (values_of sample.now) v) }
+{
+    match number_at(sample, v) {
+        Some(x) => is_over(last, x),
+        None => rises_or_missing(sample, v, last),
+    }
+}
+
 /// Whether each of the variables has a greater number in a sample than the one before it that has one, or is missing.
 pub(crate) fn are_rising(sample: &[View<'_>], rising: &[VarId]) -> bool
     ensures { result ≡ are_rising (values_of sample.now) None rising.now }
 {
     let mut last = None;
     for v in rising {
-        let value = value_at(sample, *v);
-        if !rises(last, value) {
+        if !goes_on(sample, *v, last) {
             return false;
         }
-        last = last_with(last, value);
+        last = last_with(last, value_at(sample, *v));
     }
     true
 }

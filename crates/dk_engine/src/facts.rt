@@ -1,13 +1,14 @@
 // What is known of variables' numbers by the slots of a point: within which bounds they are, and how two compare.
-ghost use Rattle.std.specs.Prelude.{◌≡◌, ◌==◌, ◌&&◌, true, IsTrue};
+ghost use Rattle.std.specs.Prelude.{◌≡◌, ◌==◌, ◌&&◌, true, IsTrue, int_le};
 ghost use Rattle.dk_base.specs.Values.{value_of, values_of};
-ghost use Rattle.dk_engine.specs.Idle.{are_in_order, are_near, are_so, are_within, compares_first, compares_values, is_above, is_below, is_between, is_compared, is_from, is_listed, is_near, is_numeric, is_one, is_own, is_to, is_told};
+ghost use Rattle.dk_engine.specs.Idle.{are_in_order, are_near, are_so, are_within, compares_first, compares_values, is_above, is_below, is_between, is_compared, is_from, is_listed, is_near, is_numeric, is_one, is_own, is_so, is_to, is_told, is_within};
 
 use crate::Slot;
 use crate::chain::{Chain, are_in_order};
 use crate::growing::is_near;
 use crate::moves::{Moves, bounded};
 use crate::noted::{note_place, place_of};
+use crate::operations::number_at;
 use crate::staying::{holds, is_so};
 use dk_base::{NoMemory, VarId, View};
 use dk_samples::value_at;
@@ -40,12 +41,41 @@ fn is_between(least: i64, greatest: i64, value: View<'_>) -> bool
     matches!(value, View::Missing)
 }
 
+// Whether a number is within bounds.
+#[inline(always)]
+fn includes(range: &Range, x: i64) -> bool
+    ensures { result ≡ (int_le range.now.least x && int_le x range.now.greatest) }
+{
+    range.least <= x && x <= range.greatest
+}
+
+// Whether a variable's number in a sample is within bounds, or missing, where it mostly has none.
+#[cold]
+#[inline(never)]
+fn is_within_or_missing(sample: &[View<'_>], range: &Range) -> bool
+    ensures { result ≡ is_within (values_of sample.now) range.now }
+{
+    is_between(range.least, range.greatest, value_at(sample, range.var))
+}
+
+// Whether it is, where it mostly has one: whether a value is a number has two answers, and is compiled to a comparison. What has three, as
+// with the missing value, becomes a table of jumps, so that stands apart.
+#[inline(always)]
+fn is_within(sample: &[View<'_>], range: &Range) -> bool
+    ensures { result ≡ is_within (values_of sample.now) range.now }
+{
+    match number_at(sample, range.var) {
+        Some(x) => includes(range, x),
+        None => is_within_or_missing(sample, range),
+    }
+}
+
 /// Whether the variables' numbers in a sample are within these bounds, or missing.
 pub(crate) fn are_within(sample: &[View<'_>], ranges: &[Range]) -> bool
     ensures { result ≡ are_within (values_of sample.now) ranges.now }
 {
     for range in ranges {
-        if !is_between(range.least, range.greatest, value_at(sample, range.var)) {
+        if !is_within(sample, range) {
             return false;
         }
     }
@@ -72,14 +102,36 @@ fn compares_values(row: RowId, first: View<'_>, second: View<'_>) -> bool
     matches!(first, View::Missing)
 }
 
+// Whether a comparison is so in a sample, or one of its variables is missing, where one mostly has no number.
+#[cold]
+#[inline(never)]
+fn is_so_or_missing(sample: &[View<'_>], one: &Compared) -> bool
+    ensures { result ≡ is_so (values_of sample.now) one.now }
+{
+    compares_values(
+        one.row,
+        value_at(sample, one.first),
+        value_at(sample, one.second),
+    )
+}
+
+// Whether it is, where both mostly have one.
+#[inline(always)]
+fn is_so_in(sample: &[View<'_>], one: &Compared) -> bool
+    ensures { result ≡ is_so (values_of sample.now) one.now }
+{
+    match (number_at(sample, one.first), number_at(sample, one.second)) {
+        (Some(x), Some(y)) => is_so(one.row, x, y),
+        _ => is_so_or_missing(sample, one),
+    }
+}
+
 /// Whether the variables compare so in a sample, or one of the two is missing.
 pub(crate) fn are_so(sample: &[View<'_>], compared: &[Compared]) -> bool
     ensures { result ≡ are_so (values_of sample.now) compared.now }
 {
     for one in compared {
-        let first = value_at(sample, one.first);
-        let second = value_at(sample, one.second);
-        if !compares_values(one.row, first, second) {
+        if !is_so_in(sample, one) {
             return false;
         }
     }
@@ -149,8 +201,8 @@ pub(crate) fn is_listed(ranges: &[Range], place: usize, v: VarId, d: i128) -> bo
     place < ranges.len() && is_one(&ranges[place], v, d)
 }
 
-// Whether the variable is seen to have bounds.
-fn is_numeric(ranges: &[Range], place: usize, v: VarId) -> bool
+/// Whether the variable is seen to have bounds.
+pub(crate) fn is_numeric(ranges: &[Range], place: usize, v: VarId) -> bool
     ensures { IsTrue result → is_numeric ranges.now v ≡ true }
 {
     place < ranges.len() && is_of_var(&ranges[place], v)

@@ -3,16 +3,17 @@
 // near, and that number. Bounds that rest, and comparisons: the facts are what they say. All that is known of one variable are its bounds.
 // A search for changed slots passes over them where all facts are true; a fact is true of a variable that is missing. Other variables
 // aren't asked, so that truth values, codes, strings and sequences at a point don't matter.
-ghost use Rattle.std.specs.Prelude.{◌≡◌, ◌<◌, ◌≤◌, ◌+◌, ◌==◌, ◌&&◌, ◌||◌, ◌∷◌, [], true, IfOk, IsTrue, int_le, length, replicate, slice_set};
+ghost use Rattle.std.specs.Prelude.{◌≡◌, ◌<◌, ◌≤◌, ◌+◌, ◌==◌, ◌&&◌, ◌||◌, ◌∷◌, [], true, IfOk, IsTrue, length, replicate, slice_set};
+ghost use Rattle.std.specs.Ordering.{int_eq};
 ghost use Rattle.dk_base.specs.Values.{values_of};
-ghost use Rattle.dk_engine.specs.Idle.{AreNotes, AreSkips, IsIdle, are_fixed, are_near_each, are_same, is_axis, is_compared, is_diagonal, is_fixed, is_idle_greatest, is_idle_least, is_idle_over, is_near, is_near_number, is_own_line, is_own_stretch, is_passed, is_told, later, meets, skip_in};
+ghost use Rattle.dk_engine.specs.Idle.{AreNotes, AreSkips, IsIdle, are_fixed, are_near_each, are_same, is_above, is_axis, is_below, is_compared, is_diagonal, is_driven, is_driven_stretch, is_fixed, is_idle_greatest, is_idle_least, is_idle_over, is_near, is_near_number, is_own_line, is_passed, is_told, later, meets, skip_in};
 
 use crate::Slot;
 use crate::chain::{Chain, are_rising};
 use crate::ends::ends_of;
 use crate::facts::{
     Compared, Range, Ranges, are_known_near, are_so, are_within, compared_by, is_above, is_below,
-    is_compared, is_listed, is_told,
+    is_compared, is_listed, is_numeric, is_told,
 };
 use crate::growing::is_near;
 use crate::moves::Moves;
@@ -178,16 +179,94 @@ fn is_idle_by(watch: &Watch, places: &[usize], slot: &Slot, u: VarId, v: VarId, 
         && are_near_each(watch.ranges.as_slice(), places, u, v, w)
 }
 
-// Whether the ends of a stretch are near, and one after the other.
-fn are_ends(first: i64, last: i64) -> bool
-    ensures { result ≡ ((is_near_number first && is_near_number last) && int_le first last) }
-{
-    (is_near(first) && is_near(last)) && first <= last
+// The variable that drives a stretch, with its first and its last number: the one at the first coordinate that moves.
+#[derive(Clone, Copy, Debug)]
+struct Driver {
+    var: VarId,
+    first: i64,
+    last: i64,
 }
 
-// Whether a state is a stretch of the line of equal numbers, and a variable's numbers are seen to be within it.
-fn is_own_stretch(watch: &Watch, place: usize, u: VarId, v: VarId, w: VarId, state: &State) -> bool
-    ensures { IsTrue result → is_own_stretch watch.now.ranges.items u v w state.now ≡ true }
+fn driver_of(u: VarId, v: VarId, w: VarId, state: &State) -> Option<Driver> {
+    match state {
+        State::Span {
+            x1,
+            y1,
+            z1,
+            x2,
+            y2,
+            z2,
+        } => {
+            let (var, first, last) = if *x1 != *x2 {
+                (u, *x1, *x2)
+            } else if *y1 != *y2 {
+                (v, *y1, *y2)
+            } else {
+                (w, *z1, *z2)
+            };
+            Some(Driver { var, first, last })
+        }
+        _ => None,
+    }
+}
+
+// Whether a coordinate of a stretch is the driving variable's number.
+fn is_driver(driver: Driver, v: VarId, a: i64, b: i64) -> bool
+    ensures { result ≡ (v.0 == driver.var.0 && (int_eq a driver.first && int_eq b driver.last)) }
+{
+    v.0 == driver.var.0 && (a == driver.first && b == driver.last)
+}
+
+// Whether it is seen to be that of a variable that has no other.
+fn is_still(ranges: &[Range], place: usize, v: VarId, a: i64, b: i64) -> bool
+    ensures { IsTrue result → (int_eq a b && (is_above ranges.now v a && is_below ranges.now v a)) ≡ true }
+{
+    a == b && (is_above(ranges, place, v, a) && is_below(ranges, place, v, a))
+}
+
+// Whether it is seen to be one of the two.
+fn is_driven_by(ranges: &[Range], place: usize, driver: Driver, v: VarId, a: i64, b: i64) -> bool
+    ensures { IsTrue result → ((v.0 == driver.var.0 && (int_eq a driver.first && int_eq b driver.last)) || (int_eq a b && (is_above ranges.now v a && is_below ranges.now v a))) ≡ true }
+{
+    is_driver(driver, v, a, b) || is_still(ranges, place, v, a, b)
+}
+
+// Whether both ends of a coordinate are near.
+fn are_near_ends(a: i64, b: i64) -> bool
+    ensures { result ≡ (is_near_number a && is_near_number b) }
+{
+    is_near(a) && is_near(b)
+}
+
+// Whether a variable's coordinate of a stretch is seen to be driven.
+fn is_driven(ranges: &[Range], places: &[usize], driver: Driver, v: VarId, a: i64, b: i64) -> bool
+    ensures { IsTrue result → is_driven ranges.now driver.var driver.first driver.last v a b ≡ true }
+{
+    let place = place_of(places, v);
+    (is_numeric(ranges, place, v) && are_near_ends(a, b))
+        && is_driven_by(ranges, place, driver, v, a, b)
+}
+
+// Whether the driving variable's numbers are seen to be within its ends.
+fn is_within_ends(ranges: &[Range], places: &[usize], driver: Driver) -> bool
+    ensures { IsTrue result → (is_above ranges.now driver.var driver.first && is_below ranges.now driver.var driver.last) ≡ true }
+{
+    let place = place_of(places, driver.var);
+    is_above(ranges, place, driver.var, driver.first)
+        && is_below(ranges, place, driver.var, driver.last)
+}
+
+// Whether a state is a stretch that is seen to be driven so, over three variables.
+fn is_driven_stretch(
+    ranges: &[Range],
+    places: &[usize],
+    driver: Driver,
+    u: VarId,
+    v: VarId,
+    w: VarId,
+    state: &State,
+) -> bool
+    ensures { IsTrue result → is_driven_stretch ranges.now driver.var driver.first driver.last u v w state.now ≡ true }
 {
     match state {
         State::Span {
@@ -198,12 +277,10 @@ fn is_own_stretch(watch: &Watch, place: usize, u: VarId, v: VarId, w: VarId, sta
             y2,
             z2,
         } => {
-            (u.0 == v.0 && v.0 == w.0)
-                && (*x1 == *y1 && *y1 == *z1)
-                && (*x2 == *y2 && *y2 == *z2)
-                && are_ends(*x1, *x2)
-                && is_above(watch.ranges.as_slice(), place, u, *x1)
-                && is_below(watch.ranges.as_slice(), place, u, *x2)
+            is_driven(ranges, places, driver, u, *x1, *x2)
+                && (is_driven(ranges, places, driver, v, *y1, *y2)
+                    && (is_driven(ranges, places, driver, w, *z1, *z2)
+                        && is_within_ends(ranges, places, driver)))
         }
         _ => false,
     }
@@ -212,7 +289,7 @@ fn is_own_stretch(watch: &Watch, place: usize, u: VarId, v: VarId, w: VarId, sta
 // Whether a slot of row 67 over three leaders, a stretch, is seen to be idle.
 fn is_idle_stretch(
     watch: &Watch,
-    places: &Places,
+    places: &[usize],
     slot: &Slot,
     u: VarId,
     v: VarId,
@@ -222,9 +299,20 @@ fn is_idle_stretch(
     requires leaders { slot.now.leaders ≡ u ∷ v ∷ w ∷ [] }
     ensures { IsTrue result → IsIdle watch.now slot.now }
 {
-    let place = place_of(places.ranges.as_slice(), u);
-    is_own_stretch(watch, place, u, v, w, &slot.state)
-        && are_known_near(watch.ranges.as_slice(), place, u)
+    match driver_of(u, v, w, &slot.state) {
+        Some(driver) => {
+            is_driven_stretch(
+                watch.ranges.as_slice(),
+                places,
+                driver,
+                u,
+                v,
+                w,
+                &slot.state,
+            )
+        }
+        None => false,
+    }
 }
 
 // Whether a state is the line of equal numbers, over one variable.
@@ -260,7 +348,7 @@ fn is_idle_of_three(
     requires leaders { slot.now.leaders ≡ u ∷ v ∷ w ∷ [] }
     ensures { IsTrue result → IsIdle watch.now slot.now }
 {
-    if is_idle_stretch(watch, places, slot, u, v, w) {
+    if is_idle_stretch(watch, places.ranges.as_slice(), slot, u, v, w) {
         return true;
     }
     is_idle_by(watch, places.ranges.as_slice(), slot, u, v, w)
