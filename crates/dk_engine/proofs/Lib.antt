@@ -1,3 +1,5 @@
+pub mod Ascending
+pub mod Driven
 pub mod KnownNumbers
 pub mod Leading
 pub mod SlotLists
@@ -8,6 +10,7 @@ pub mod Readings
 pub mod Determined
 pub mod DeterminedParts
 pub mod OneMore
+pub mod OneTuple
 pub mod Turned
 pub mod ReadProper
 pub mod StillFed
