@@ -11,6 +11,7 @@ pub mod KnownSteps
 pub mod Counting
 pub mod Exact
 pub mod Determined
+pub mod Keys
 pub mod Tallying
 pub mod Splitting
 pub mod Joins

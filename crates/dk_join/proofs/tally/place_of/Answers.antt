@@ -1,7 +1,8 @@
 use Rattle.std.proofs.Common.{◌∙◌, Vec, Global}
 use Rattle.dk_base.specs.declared.kinds.VarId.{VarId}
 use Rattle.dk_presence.specs.Patterns.{same_vars}
-use Rattle.dk_presence.proofs.Placing.{pointwise_same, position_keys}
+use Rattle.dk_presence.proofs.Placing.{pointwise_same}
+use Rattle.dk_join.proofs.Keys.{position_keys}
 use Rattle.dk_join.proofs.tally.place_of.Goals as goal
 
 pub returns : goal.returns

@@ -2,7 +2,8 @@ use Rattle.std.proofs.Common.{◌≡◌, ap, arith, sym, subst, ◌∙◌, [], �
 use Rattle.dk_base.specs.declared.kinds.VarId.{VarId}
 use Rattle.dk_presence.specs.Patterns.{AreHeld, held_patterns, same_vars}
 use Rattle.dk_presence.specs.declared.held.Held.{Held}
-use Rattle.dk_presence.proofs.Placing.{keys_new, pointwise_same}
+use Rattle.dk_presence.proofs.Placing.{pointwise_same}
+use Rattle.dk_join.proofs.Keys.{keys_new}
 use Rattle.dk_presence.proofs.Refining.{no_held}
 use Rattle.dk_join.proofs.Tallying.{first_is, held_tallied, patterns_tallied, tallied_found, tallied_new}
 use Rattle.dk_join.specs.Tallies.{with_samples_of}
