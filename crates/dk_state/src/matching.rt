@@ -89,7 +89,7 @@ fn pass_held(
 ) -> Result<(), NoMemory>
     requires leaders { VarsAscend leaders.now }
     requires held { All (λ h. VarsAscend h.leaders) held.now }
-    ensures { OnOk result (rest.new ≡ left_behind (flat_map (λ h. pattern_line (pattern_of leaders.now h)) held.now) rest.old) }
+    ensures { OnOk result (rest.new ≡ left_behind (flat_map pattern_line (map (pattern_of leaders.now) held.now)) rest.old) }
 {
     for pattern in held {
         pass_pattern(alloc, rest, &pattern_of(alloc, leaders, pattern)?)?;
@@ -109,10 +109,9 @@ fn pass_own_patterns(
     let leaders = kept.leaders.leaders();
     let held = kept.held.held();
     if held_in_order(alloc, leaders, held)? {
-        pass_held(alloc, rest, leaders, held)
-    } else {
-        pass_patterns(alloc, rest, patterns_of(alloc, engine)?.as_slice())
+        return pass_held(alloc, rest, leaders, held);
     }
+    pass_patterns(alloc, rest, patterns_of(alloc, engine)?.as_slice())
 }
 
 // Passes a slot's line.
