@@ -1,10 +1,11 @@
 -- Bytes that are held against a text piece by piece.
-use Rattle.std.specs.Prelude.{◌≡◌, ◌<◌, ◌+◌, ◌++◌, ◌∷◌, ◌==◌, ◌&&◌, [], ℕ, Bool, true, false, List, MatchOption, Option, Some, None, flat_map, length, nat_eq, option_map, take, drop, bytes_eq, refl, if◌then◌else◌}
+use Rattle.std.specs.Prelude.{◌≡◌, ◌<◌, ◌+◌, ◌++◌, ◌∷◌, ◌==◌, ◌&&◌, [], ℕ, Bool, true, false, List, MatchOption, Option, Some, None, flat_map, length, map, nat_eq, option_map, take, drop, bytes_eq, refl, if◌then◌else◌}
 use Rattle.std.specs.Borrow.{Bor}
 use Rattle.std.specs.Cmp.Lexicographic.{pointwise}
 use Rattle.std.proofs.Common.{◌∙◌, ap, arith, get_or, sym}
 use Rattle.std.proofs.lemmas.Bool.{and_parts, false≢true}
 use Rattle.std.proofs.lemmas.List.{flat_map_more, take_more}
+use Rattle.std.proofs.lemmas.List.Concat.{flat_map-cons}
 use Rattle.dk_state.specs.Matching.{behind, is_end, left_behind}
 
 -- ---- one piece after another
@@ -31,6 +32,12 @@ one_more_passed piece items i item start left next lt here so_far step =
     ∙ ap (λ t. left_behind t start)
     (flat_map_more piece [] (take i items) item
     ∙ ap (flat_map piece) (ap (λ x. take i items ++ x ∷ []) here ∙ sym (take_more items i item lt)))
+
+-- pieces of what the items are seen as
+pub mapped_pieces : {X Y : Type 0} (seen : X → Y) (piece : Y → List ℕ) (items : List X) → flat_map (λ x. piece (seen x)) items ≡ flat_map piece (map seen items)
+mapped_pieces seen piece [] = refl
+mapped_pieces seen piece (x ∷ items) =
+    flat_map-cons (λ y. piece (seen y)) x items ∙ (ap (λ t. piece (seen x) ++ t) (mapped_pieces seen piece items) ∙ sym (flat_map-cons piece (seen x) (map seen items)))
 
 -- ---- the end
 end_choice : (c : Bool) (p : Option (List ℕ)) (q : Bool) → is_end p ≡ q → is_end (if c then p else None) ≡ (c && q)

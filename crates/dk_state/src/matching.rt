@@ -1,7 +1,10 @@
 // Bytes that are held against a state, whose text is made line by line and not kept.
-ghost use Rattle.std.specs.Prelude.{◌≡◌, OnOk, IfOk, Some, flat_map, map};
+ghost use Rattle.std.specs.Prelude.{◌≡◌, All, OnOk, IfOk, Some, flat_map, map};
 ghost use Rattle.std.specs.List.{enumerate_from};
 ghost use Rattle.std.specs.Str.{bytes_eq};
+ghost use Rattle.dk_classes.specs.Leaders.{own_leaders};
+ghost use Rattle.dk_parts.specs.Patterns.{pattern_of, patterns_of};
+ghost use Rattle.dk_samples.specs.Leaders.{VarsAscend};
 ghost use Rattle.dk_state.specs.Kept.{pattern_line, slot_line};
 ghost use Rattle.dk_state.specs.Matching.{is_end, left_behind};
 ghost use Rattle.dk_state.specs.Saved.{kept_lines, saved_text};
@@ -9,9 +12,11 @@ ghost use Rattle.dk_state.specs.Saved.{kept_lines, saved_text};
 use crate::declarations::push_points;
 use crate::kept::{patterns_of, push_constants, push_opening, push_pattern, push_slot};
 use crate::saving::push_head;
-use dk_base::{NoMemory, Text};
+use dk_base::{NoMemory, Text, VarId};
 use dk_engine::{Engine, Pattern, Slot};
+use dk_parts::{held_in_order, pattern_of};
 use dk_points::Points;
+use dk_presence::Held;
 use dk_template::Grammar;
 use std::alloc::Global;
 use std::marker::Model;
@@ -75,6 +80,40 @@ fn pass_patterns(alloc: Global, rest: &mut Rest<'_>, patterns: &[Pattern]) -> Re
     Ok(())
 }
 
+// Passes the lines of patterns over these leaders, in the order in which they are held. One pattern is in memory at a time.
+fn pass_held(
+    alloc: Global,
+    rest: &mut Rest<'_>,
+    leaders: &[VarId],
+    held: &[Held],
+) -> Result<(), NoMemory>
+    requires leaders { VarsAscend leaders.now }
+    requires held { All (λ h. VarsAscend h.leaders) held.now }
+    ensures { OnOk result (rest.new ≡ left_behind (flat_map pattern_line (map (pattern_of leaders.now) held.now)) rest.old) }
+{
+    for pattern in held {
+        pass_pattern(alloc, rest, &pattern_of(alloc, leaders, pattern)?)?;
+    }
+    Ok(())
+}
+
+// Passes the lines of the engine's patterns. A loaded engine holds them in the order in which they are saved.
+fn pass_own_patterns(
+    alloc: Global,
+    rest: &mut Rest<'_>,
+    engine: &Engine,
+) -> Result<(), NoMemory>
+    ensures { OnOk result (rest.new ≡ left_behind (flat_map pattern_line (patterns_of (own_leaders engine.now.kept.leaders) engine.now.kept.held)) rest.old) }
+{
+    let kept = engine.kept();
+    let leaders = kept.leaders.leaders();
+    let held = kept.held.held();
+    if held_in_order(alloc, leaders, held)? {
+        return pass_held(alloc, rest, leaders, held);
+    }
+    pass_patterns(alloc, rest, patterns_of(alloc, engine)?.as_slice())
+}
+
 // Passes a slot's line.
 fn pass_slot(alloc: Global, rest: &mut Rest<'_>, slot: &Slot) -> Result<(), NoMemory>
     ensures { OnOk result (rest.new ≡ left_behind (slot_line slot.now) rest.old) }
@@ -110,7 +149,7 @@ fn pass_engine(
     let mut opening = Text::new(alloc);
     push_opening(alloc, &mut opening, point, engine)?;
     rest.pass(opening.as_slice());
-    pass_patterns(alloc, rest, patterns_of(alloc, engine)?.as_slice())?;
+    pass_own_patterns(alloc, rest, engine)?;
     let mut constants = Text::new(alloc);
     push_constants(alloc, &mut constants, engine)?;
     rest.pass(constants.as_slice());
