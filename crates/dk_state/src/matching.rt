@@ -98,11 +98,7 @@ fn pass_held(
 }
 
 // Passes the lines of the engine's patterns. A loaded engine holds them in the order in which they are saved.
-fn pass_own_patterns(
-    alloc: Global,
-    rest: &mut Rest<'_>,
-    engine: &Engine,
-) -> Result<(), NoMemory>
+fn pass_own_patterns(alloc: Global, rest: &mut Rest<'_>, engine: &Engine) -> Result<(), NoMemory>
     ensures { OnOk result (rest.new ≡ left_behind (flat_map pattern_line (patterns_of (own_leaders engine.now.kept.leaders) engine.now.kept.held)) rest.old) }
 {
     let kept = engine.kept();

@@ -17,6 +17,6 @@ returns c =
     kept_passed c.args.point kept c.args.rest.now c.pass.new.self c.pass_own_patterns.new.rest c.pass-2.new.self c.pass_slots.new.rest c.pass-3.new.self some
     (c.pass.ensures ∙ ap (λ (t : List ℕ). left_behind t c.args.rest.now) (c.as_slice.ensures ∙ c.in_ok-push_opening.ensures ∙ ap (λ (t : List ℕ). t ++ opening_lines c.args.point parts) c.new-opening.ensures))
     c.in_ok-pass_own_patterns.ensures
-    (c.pass-2.ensures ∙ ap (λ (t : List ℕ). left_behind t c.pass_own_patterns.new.rest) (c.as_slice-3.ensures ∙ c.in_ok-push_constants.ensures ∙ ap (λ (t : List ℕ). t ++ flat_map known_line parts.known) c.new-constants.ensures))
+    (c.pass-2.ensures ∙ ap (λ (t : List ℕ). left_behind t c.pass_own_patterns.new.rest) (c.as_slice-2.ensures ∙ c.in_ok-push_constants.ensures ∙ ap (λ (t : List ℕ). t ++ flat_map known_line parts.known) c.new-constants.ensures))
     (c.in_ok-pass_slots.ensures ∙ ap (λ slots. left_behind (flat_map slot_line slots) c.pass-2.new.self) c.slots.ensures)
     c.pass-3.ensures
