@@ -431,7 +431,7 @@ class Maker:
         dressed = self.chance(0.3)
         ending = b"\r\n" if self.chance(0.1) else b"\n"
         text = b""
-        for k, block in enumerate(blocks):
+        for block in blocks:
             if dressed and self.chance(0.1):
                 block = self.random.choice([[b"# note"], [b"//note"], [b"decl-version 2.0"],
                                             [b"input-language"]]) + block

@@ -1,10 +1,9 @@
--- Bounds and comparisons that no sample changes of which the facts are true that they say.
-use Rattle.std.specs.Prelude.{◌≡◌, ◌≤◌, ◌^◌, ◌&&◌, ◌||◌, ◌==◌, ◌+ℤ◌, ◌-ℤ◌, ◌*ℤ◌, ℕ, ℤ, pos, negsuc, neg_ℤ, Bool, true, false, List, [], ◌∷◌, if◌then◌else◌, int_le, int_lt, nat_le, refl, unsigned_abs}
+-- What a sample tells of which the facts are true, and the bounds, comparisons and lines that it doesn't change then.
+use Rattle.std.specs.Prelude.{◌≡◌, ◌≤◌, ◌^◌, ◌&&◌, ◌||◌, ◌==◌, ◌+ℤ◌, ◌-ℤ◌, ◌*ℤ◌, ℕ, ℤ, pos, negsuc, neg_ℤ, Bool, true, false, List, [], ◌∷◌, None, if◌then◌else◌, int_le, int_lt, nat_le, refl, unsigned_abs}
 use Rattle.std.specs.List.{list_all}
 use Rattle.std.proofs.Common.{◌∙◌, ap, arith, inl, inr, subst, sym}
 use Rattle.std.specs.Ordering.{int_eq}
-use Rattle.std.proofs.Math.IntN.{*ℤ_comm}
-use Rattle.std.proofs.lemmas.Bool.{and_from, and_parts, cases_Bool, eqb-true, false≢true, le-leb, leb-true}
+use Rattle.std.proofs.lemmas.Bool.{and_from, and_parts, cases_Bool, eqb-true, false≢true, le-leb, leb-true, or_cases}
 use Rattle.std.proofs.lemmas.Bool.Decides.{Decides-int_eq}
 use Rattle.std.proofs.lemmas.Int.{ints}
 use Rattle.dk_arith.proofs.Ring.{rep, rep-add, rep-mul, rep-neg, same_rep}
@@ -15,24 +14,20 @@ use Rattle.dk_base.specs.declared.values.Value.TheVariants as value
 use Rattle.dk_fits.specs.Fits.{is_whole, tuple_in}
 use Rattle.dk_forms.specs.declared.states.State.{State}
 use Rattle.dk_forms.proofs.LineStays.{straight_stays}
-use Rattle.dk_forms.proofs.PlaneFacts.{point_of_limit}
 use Rattle.dk_forms.specs.Line.{in_limit, is_on, line_join, line_of}
-use Rattle.dk_forms.specs.Plane.{IsSpan, are_aligned, in_space, is_before, plane_join, plane_of}
-use Rattle.dk_forms.specs.declared.states.State.TheVariants.{Greatest, Holds, Least, Span, Straight}
+use Rattle.dk_forms.specs.declared.states.State.TheVariants.{Greatest, Holds, Least, Straight}
 use Rattle.dk_rows.specs.Meanings.{meanings, state_of}
 use Rattle.dk_template.specs.Joins.{joined}
 use Rattle.dk_template.specs.Templates.{form_of, rows}
 use Rattle.dk_template.specs.declared.grammar.RowId.{RowId}
 use Rattle.dk_template.specs.declared.templates.StateForm.TheVariants as form
-use Rattle.dk_ternary.specs.Rows.{linear_ternary_row}
 use Rattle.dk_samples.specs.Samples.{is_present, value_in}
 use Rattle.dk_engine.proofs.Bounding.{compared_slot, compared_so, greatest_kept, least_kept, lower_slot, of_missing, slot_of_missing}
-use Rattle.dk_engine.proofs.Passing.{near_among}
+use Rattle.dk_engine.proofs.Ascending.{ordered_so}
 use Rattle.dk_engine.proofs.Raising.{upper_slot}
-use Rattle.dk_engine.proofs.Stretches.{before_of, planar_sample, within_stretch}
 use Rattle.dk_engine.specs.Bounding.{compares, keeps_greatest, keeps_least}
 use Rattle.dk_engine.specs.Feeding.{with_sample}
-use Rattle.dk_engine.specs.Idle.{IsIdle, agree, are_near, are_so, are_within, compares_first, compares_values, is_above, is_below, is_between, is_compared, is_idle_greatest, is_idle_least, is_among, is_near, is_near_number, is_own_line, is_own_stretch, is_so, is_within, meets}
+use Rattle.dk_engine.specs.Idle.{IsIdle, are_in_order, are_near, are_rising, are_so, are_within, compares_first, compares_values, is_above, is_below, is_between, is_compared, is_from, is_idle_greatest, is_idle_least, is_known, is_listed, is_near, is_near_number, is_numeric, is_one, is_own, is_own_line, is_so, is_to, is_told, is_within, meets}
 use Rattle.dk_engine.specs.declared.facts.Compared.{Compared}
 use Rattle.dk_engine.specs.declared.facts.Range.{Range}
 use Rattle.dk_engine.specs.declared.idle.Watch.{Watch}
@@ -40,61 +35,49 @@ use Rattle.dk_engine.specs.declared.slot.Slot.{Slot}
 
 -- ---- a sample of which all facts are true
 module _ (watch : Watch) (sample : List Value) (meeting : meets watch sample ≡ true) where
-  rest : (are_within sample watch.ranges.items && are_so sample watch.compared.items) ≡ true
-  rest =
-      let near = and_parts (are_near watch.near.items sample) (agree sample watch.fixed.items && (are_within sample watch.ranges.items && are_so sample watch.compared.items)) meeting in
-      (and_parts (agree sample watch.fixed.items) (are_within sample watch.ranges.items && are_so sample watch.compared.items) near.1).1
+  rest : (are_rising sample None watch.rising.items && are_so sample watch.compared.items) ≡ true
+  rest = (and_parts (are_within sample watch.ranges.items) (are_rising sample None watch.rising.items && are_so sample watch.compared.items) meeting).1
 
-  all_within : are_within sample watch.ranges.items ≡ true
-  all_within = (and_parts (are_within sample watch.ranges.items) (are_so sample watch.compared.items) rest).0
+  pub all_within : are_within sample watch.ranges.items ≡ true
+  all_within = (and_parts (are_within sample watch.ranges.items) (are_rising sample None watch.rising.items && are_so sample watch.compared.items) meeting).0
+
+  all_rising : are_rising sample None watch.rising.items ≡ true
+  all_rising = (and_parts (are_rising sample None watch.rising.items) (are_so sample watch.compared.items) rest).0
 
   all_so : are_so sample watch.compared.items ≡ true
-  all_so = (and_parts (are_within sample watch.ranges.items) (are_so sample watch.compared.items) rest).1
+  all_so = (and_parts (are_rising sample None watch.rising.items) (are_so sample watch.compared.items) rest).1
 
 -- ---- bounds
 -- a value between two numbers is a number or missing
-by_value : (least greatest : ℤ) (P : Type 0) (i : Value) → is_between least greatest i ≡ true → (i ≡ value.Missing → P) → ((x : ℤ) → i ≡ value.Int x → P) → P
+pub by_value : (least greatest : ℤ) (P : Type 0) (i : Value) → is_between least greatest i ≡ true → (i ≡ value.Missing → P) → ((x : ℤ) → i ≡ value.Int x → P) → P
 by_value least greatest P (value.Int x) h missing number = number x refl
 by_value least greatest P value.Missing h missing number = missing refl
 by_value least greatest P _ h missing number = absurd (false≢true h)
 
--- the bounds of the variable, by which its numbers are no less
-above : (ranges : List Range) (sample : List Value) → are_within sample ranges ≡ true → (v : VarId) (least : ℤ) → is_above ranges v least ≡ true
-    → (r : Range) × (is_between r.least r.greatest (value_in sample v) ≡ true) × (int_le least r.least ≡ true)
-above [] sample are v least h = absurd (false≢true h)
-above (r ∷ ranges) sample are v least h =
+-- the bounds of the variable of which this holds
+pub known : (ranges : List Range) (sample : List Value) → are_within sample ranges ≡ true → (v : VarId) (holds : Range → Bool) → is_known ranges v holds ≡ true
+    → (r : Range) × (is_between r.least r.greatest (value_in sample v) ≡ true) × (holds r ≡ true)
+known [] sample are v holds h = absurd (false≢true h)
+known (r ∷ ranges) sample are v holds h =
     let told = and_parts (is_within sample r) (list_all (is_within sample) ranges) are in
-    elim (cases_Bool (r.var.0 == v.0 && int_le least r.least)) as (λ _. (s : Range) × (is_between s.least s.greatest (value_in sample v) ≡ true) × (int_le least s.least ≡ true)) [
+    elim (cases_Bool (r.var.0 == v.0 && holds r)) as (λ _. (s : Range) × (is_between s.least s.greatest (value_in sample v) ≡ true) × (holds s ≡ true)) [
       | inl l ↦
-          let p = and_parts (r.var.0 == v.0) (int_le least r.least) l in
+          let p = and_parts (r.var.0 == v.0) (holds r) l in
           (r, subst (λ i. is_between r.least r.greatest (value_at sample i) ≡ true) (eqb-true r.var.0 v.0 p.0) told.0, p.1)
-      | inr n ↦ above ranges sample told.1 v least (sym (ap (λ t. t || is_above ranges v least) n) ∙ h)
+      | inr n ↦ known ranges sample told.1 v holds (sym (ap (λ t. t || is_known ranges v holds) n) ∙ h)
     ]
 
--- by which they are no greater
-below : (ranges : List Range) (sample : List Value) → are_within sample ranges ≡ true → (v : VarId) (greatest : ℤ) → is_below ranges v greatest ≡ true
-    → (r : Range) × (is_between r.least r.greatest (value_in sample v) ≡ true) × (int_le r.greatest greatest ≡ true)
-below [] sample are v greatest h = absurd (false≢true h)
-below (r ∷ ranges) sample are v greatest h =
-    let told = and_parts (is_within sample r) (list_all (is_within sample) ranges) are in
-    elim (cases_Bool (r.var.0 == v.0 && int_le r.greatest greatest)) as (λ _. (s : Range) × (is_between s.least s.greatest (value_in sample v) ≡ true) × (int_le s.greatest greatest ≡ true)) [
-      | inl l ↦
-          let p = and_parts (r.var.0 == v.0) (int_le r.greatest greatest) l in
-          (r, subst (λ i. is_between r.least r.greatest (value_at sample i) ≡ true) (eqb-true r.var.0 v.0 p.0) told.0, p.1)
-      | inr n ↦ below ranges sample told.1 v greatest (sym (ap (λ t. t || is_below ranges v greatest) n) ∙ h)
-    ]
-
-no_less : (least from to x : ℤ) → int_le least from ≡ true → (int_le from x && int_le x to) ≡ true → int_le least x ≡ true
+pub no_less : (least from to x : ℤ) → int_le least from ≡ true → (int_le from x && int_le x to) ≡ true → int_le least x ≡ true
 no_less least from to x le h = let first = (and_parts (int_le from x) (int_le x to) h).0 in grind (arith, ints)
 
-no_greater : (greatest from to x : ℤ) → int_le to greatest ≡ true → (int_le from x && int_le x to) ≡ true → int_le x greatest ≡ true
+pub no_greater : (greatest from to x : ℤ) → int_le to greatest ≡ true → (int_le from x && int_le x to) ≡ true → int_le x greatest ≡ true
 no_greater greatest from to x le h = let last = (and_parts (int_le from x) (int_le x to) h).1 in grind (arith, ints)
 
 -- such bounds with the least value that they don't move
 told_least : (ranges : List Range) (sample : List Value) → are_within sample ranges ≡ true → (v : VarId) (s : State) → is_idle_least ranges v s ≡ true
     → (r : Range) × (is_between r.least r.greatest (value_in sample v) ≡ true) × ((x : ℤ) → value_in sample v ≡ value.Int x → keeps_least s x ≡ true)
 told_least ranges sample are v (Least least) h =
-    let told = above ranges sample are v least h in
+    let told = known ranges sample are v (is_from least) h in
     let r = told.0 in
     (r, told.1, λ x at. no_less least r.least r.greatest x told.2 (subst (λ i. is_between r.least r.greatest i ≡ true) at told.1))
 told_least ranges sample are v _ h = absurd (false≢true h)
@@ -102,7 +85,7 @@ told_least ranges sample are v _ h = absurd (false≢true h)
 told_greatest : (ranges : List Range) (sample : List Value) → are_within sample ranges ≡ true → (v : VarId) (s : State) → is_idle_greatest ranges v s ≡ true
     → (r : Range) × (is_between r.least r.greatest (value_in sample v) ≡ true) × ((x : ℤ) → value_in sample v ≡ value.Int x → keeps_greatest s x ≡ true)
 told_greatest ranges sample are v (Greatest greatest) h =
-    let told = below ranges sample are v greatest h in
+    let told = known ranges sample are v (is_to greatest) h in
     let r = told.0 in
     (r, told.1, λ x at. no_greater greatest r.least r.greatest x told.2 (subst (λ i. is_between r.least r.greatest i ≡ true) at told.1))
 told_greatest ranges sample are v _ h = absurd (false≢true h)
@@ -122,6 +105,49 @@ idle_greatest watch slot row v over h sample meeting =
     by_value r.least r.greatest (with_sample slot.row slot.leaders sample slot.state ≡ slot.state) (value_in sample v) told.1
     (λ at. slot_of_missing slot sample v [] over at)
     (λ x at. sym (upper_slot slot row v over sample x at) ∙ greatest_kept slot.state x (told.2 x at))
+
+-- ---- near numbers, and one alone
+pub near_between : (least greatest x : ℤ) → nat_le (unsigned_abs least) (2 ^ 30) ≡ true → nat_le (unsigned_abs greatest) (2 ^ 30) ≡ true
+    → (int_le least x && int_le x greatest) ≡ true → nat_le (unsigned_abs x) (2 ^ 30) ≡ true
+near_between least greatest x low high h =
+    let p = and_parts (int_le least x) (int_le x greatest) h in
+    let from = p.0 in
+    let to = p.1 in
+    grind (arith, ints)
+
+-- a variable whose numbers are known to be near has one, or is missing
+by_near : (ranges : List Range) (sample : List Value) → are_within sample ranges ≡ true → (v : VarId) → is_near ranges v ≡ true
+    → (P : Type 0) → (value_in sample v ≡ value.Missing → P) → ((x : ℤ) → value_in sample v ≡ value.Int x → nat_le (unsigned_abs x) (2 ^ 30) ≡ true → P) → P
+by_near ranges sample within v near P missing number =
+    let told = known ranges sample within v are_near near in
+    let r = told.0 in
+    let ends = and_parts (is_near_number r.least) (is_near_number r.greatest) told.2 in
+    by_value r.least r.greatest P (value_in sample v) told.1 missing
+    (λ x at. number x at (near_between r.least r.greatest x ends.0 ends.1 (subst (λ i. is_between r.least r.greatest i ≡ true) at told.1)))
+
+-- its number, where it isn't missing
+pub near_at : (ranges : List Range) (sample : List Value) → are_within sample ranges ≡ true → (v : VarId) → is_near ranges v ≡ true → is_present (value_in sample v) ≡ true
+    → (z : ℤ) × (value_in sample v ≡ value.Int z) × (nat_le (unsigned_abs z) (2 ^ 30) ≡ true)
+near_at ranges sample within v near there =
+    by_near ranges sample within v near ((z : ℤ) × (value_in sample v ≡ value.Int z) × (nat_le (unsigned_abs z) (2 ^ 30) ≡ true))
+    (λ at. absurd (false≢true (sym (ap is_present at) ∙ there)))
+    (λ x at n. (x, at, n))
+
+pub alone : (least greatest x : ℤ) → least ≡ greatest → (int_le least x && int_le x greatest) ≡ true → x ≡ least
+alone least greatest x e h =
+    let p = and_parts (int_le least x) (int_le x greatest) h in
+    let from = p.0 in
+    let to : int_le x least ≡ true = subst (λ i. int_le x i ≡ true) (sym e) p.1 in
+    grind (arith, ints)
+
+-- the number of a variable that has one alone
+pub listed_number : (ranges : List Range) (sample : List Value) → are_within sample ranges ≡ true → (v : VarId) (d x : ℤ) → is_listed ranges v d ≡ true → value_in sample v ≡ value.Int x → d ≡ neg_ℤ x
+listed_number ranges sample within v d x h at =
+    let told = known ranges sample within v (is_one d) h in
+    let r = told.0 in
+    let p = and_parts (int_eq r.least r.greatest) (int_eq d (neg_ℤ r.least)) told.2 in
+    let between : (int_le r.least x && int_le x r.greatest) ≡ true = subst (λ i. is_between r.least r.greatest i ≡ true) at told.1 in
+    (Decides-int_eq d (neg_ℤ r.least)).0 p.1 ∙ ap neg_ℤ (sym (alone r.least r.greatest x ((Decides-int_eq r.least r.greatest).0 p.0) between))
 
 -- ---- comparisons
 -- two variables that are listed compare so
@@ -172,19 +198,44 @@ in_line x near =
     let wide = le-leb (unsigned_abs x) (2 ^ 62) (omega (arith, small)) in
     and_from (nat_le (unsigned_abs x) (2 ^ 62)) _ wide wide
 
--- the number of a near variable
-near_number : (near : List VarId) (sample : List Value) → are_near near sample ≡ true → (v : VarId) → is_among near v ≡ true → (x : ℤ) → value_in sample v ≡ value.Int x
-    → nat_le (unsigned_abs x) (2 ^ 30) ≡ true
-near_number near sample are v among x at = subst (λ i. is_near i ≡ true) at (near_among near sample are v among)
-
--- a near variable has a number or is missing
-by_near : (P : Type 0) (i : Value) → is_near i ≡ true → (i ≡ value.Missing → P) → ((x : ℤ) → i ≡ value.Int x → P) → P
-by_near P (value.Int x) h missing number = number x refl
-by_near P value.Missing h missing number = missing refl
-by_near P _ h missing number = absurd (false≢true h)
-
-same_value : (sample : List Value) (u v : VarId) → (u.0 == v.0) ≡ true → (x : ℤ) → value_in sample u ≡ value.Int x → value_in sample v ≡ value.Int x
+pub same_value : (sample : List Value) (u v : VarId) → (u.0 == v.0) ≡ true → (x : ℤ) → value_in sample u ≡ value.Int x → value_in sample v ≡ value.Int x
 same_value sample u v e x at = sym (ap (value_at sample) (eqb-true u.0 v.0 e)) ∙ at
+
+-- a number is equal to itself, and at most itself
+with_itself : (n : ℕ) (x : ℤ) → (n == 11 || n == 14) ≡ true → compares n x x ≡ true
+with_itself n x h = elim (or_cases (n == 11) (n == 14) h) as (λ _. compares n x x ≡ true) [
+  | inl e ↦ subst (λ m. compares m x x ≡ true) (sym (eqb-true n 11 e)) ((Decides-int_eq x x).1 refl)
+  | inr e ↦ subst (λ m. compares m x x ≡ true) (sym (eqb-true n 14 e)) at_most
+]
+  where
+    at_most : int_le x x ≡ true
+    at_most = grind (arith, ints)
+
+own_so : (ranges : List Range) (sample : List Value) → are_within sample ranges ≡ true → (n : ℕ) (u v : VarId) → (is_own n u v && is_numeric ranges u) ≡ true
+    → compares_values n (value_in sample u) (value_in sample v) ≡ true
+own_so ranges sample within n u v h =
+    let p = and_parts (is_own n u v) (is_numeric ranges u) h in
+    let q = and_parts (u.0 == v.0) (n == 11 || n == 14) p.0 in
+    let told = known ranges sample within u (λ r. true) p.1 in
+    let r = told.0 in
+    by_value r.least r.greatest (compares_values n (value_in sample u) (value_in sample v) ≡ true) (value_in sample u) told.1
+    (λ at. ap (λ i. compares_values n i (value_in sample v)) at)
+    (λ x at. ap (λ i. compares_values n i (value_in sample v)) at ∙ (ap (compares_first n x) (same_value sample u v q.0 x at) ∙ with_itself n x q.1))
+
+-- comparisons that other facts tell
+pub idle_told : (watch : Watch) (slot : Slot) → 11 ≤ slot.row.0 → slot.row.0 ≤ 14 → (u v : VarId) → slot.leaders ≡ u ∷ v ∷ [] → slot.state ≡ Holds
+    → is_told watch.ranges.items watch.rising.items slot.row.0 u v ≡ true → IsIdle watch slot
+idle_told watch slot low high u v over holds h sample meeting =
+    let n = slot.row.0 in
+    kept_values slot low high u v over holds sample (value_in sample u) refl
+    (elim (or_cases (is_own n u v && is_numeric watch.ranges.items u) (n == 13 && are_in_order watch.rising.items u v) h)
+    as (λ _. compares_values n (value_in sample u) (value_in sample v) ≡ true) [
+      | inl own ↦ own_so watch.ranges.items sample (all_within watch sample meeting) n u v own
+      | inr chain ↦
+          let p = and_parts (n == 13) (are_in_order watch.rising.items u v) chain in
+          subst (λ m. compares_values m (value_in sample u) (value_in sample v) ≡ true) (sym (eqb-true n 13 p.0))
+          (ordered_so watch.rising.items sample None (all_rising watch sample meeting) u v p.1)
+    ])
 
 -- the line of equal numbers
 line_form : form_of (record { 0 = 15 }) ≡ form.Line
@@ -226,119 +277,10 @@ own_line_kept sample u v (Straight a b c) h x at near =
 own_line_kept sample u v _ h x at near = absurd (false≢true h)
 
 pub idle_line : (watch : Watch) (slot : Slot) → slot.row.0 ≡ 15 → (u v : VarId) → slot.leaders ≡ u ∷ v ∷ [] → is_own_line u v slot.state ≡ true
-    → is_among watch.near.items u ≡ true → IsIdle watch slot
-idle_line watch slot e u v over h among sample meeting =
-    let are = (and_parts (are_near watch.near.items sample) (agree sample watch.fixed.items && (are_within sample watch.ranges.items && are_so sample watch.compared.items)) meeting).0 in
+    → is_near watch.ranges.items u ≡ true → IsIdle watch slot
+idle_line watch slot e u v over h near sample meeting =
     let row : slot.row ≡ record { 0 = 15 } = ap (λ (n : ℕ). (let r : RowId = record { 0 = n } in r)) e in
-    by_near (with_sample slot.row slot.leaders sample slot.state ≡ slot.state) (value_in sample u) (near_among watch.near.items sample are u among)
+    by_near watch.ranges.items sample (all_within watch sample meeting) u near (with_sample slot.row slot.leaders sample slot.state ≡ slot.state)
     (λ at. slot_of_missing slot sample u (v ∷ []) over at)
-    (λ x at. ap (λ r. with_sample r slot.leaders sample slot.state) row
-    ∙ (ap (λ vs. with_sample (record { 0 = 15 }) vs sample slot.state) over ∙ own_line_kept sample u v slot.state h x at (near_number watch.near.items sample are u among x at)))
-
--- stretches of the line of equal numbers
-abbrev thrice : ℤ → ℤ × ℤ × ℤ
-thrice x = (x, x, x)
-
-thrice_before : (x y : ℤ) → int_le x y ≡ true → is_before (thrice x) (thrice y) ≡ true
-thrice_before x y le = elim (cases_Bool (int_eq x y)) as (λ _. is_before (thrice x) (thrice y) ≡ true) [
-  | inl e ↦ ap (λ b. if b then (if b then int_le x y else int_lt x y) else int_lt x y) e ∙ le
-  | inr n ↦ ap (λ b. if b then (if b then int_le x y else int_lt x y) else int_lt x y) n ∙ less n
-]
-  where
-    less : int_eq x y ≡ false → int_lt x y ≡ true
-    less n = elim (cases_Bool (int_lt x y)) as (λ _. int_lt x y ≡ true) [
-      | inl lt ↦ lt
-      | inr ge ↦ let same : x ≡ y = grind (arith, ints) in absurd (false≢true (sym n ∙ (Decides-int_eq x y).1 same))
-    ]
-
-thrice_aligned : (a x b : ℤ) → are_aligned (thrice a) (thrice x) (thrice b) ≡ true
-thrice_aligned a x b =
-    let one = (Decides-int_eq ((x -ℤ a) *ℤ (b -ℤ a)) ((b -ℤ a) *ℤ (x -ℤ a))).1 (*ℤ_comm (x -ℤ a) (b -ℤ a)) in
-    let test = int_eq ((x -ℤ a) *ℤ (b -ℤ a)) ((b -ℤ a) *ℤ (x -ℤ a)) in
-    and_from test _ one (and_from test _ one one)
-
-thrice_near : (x : ℤ) → nat_le (unsigned_abs x) (2 ^ 30) ≡ true → in_space (thrice x) ≡ true
-thrice_near x near = let test = nat_le (unsigned_abs x) (2 ^ 30) in and_from test _ near (and_from test _ near near)
-
--- the point of one number lies within
-thrice_stays : (a x b : ℤ) → nat_le (unsigned_abs a) (2 ^ 30) ≡ true → nat_le (unsigned_abs b) (2 ^ 30) ≡ true → nat_le (unsigned_abs x) (2 ^ 30) ≡ true
-    → int_le a b ≡ true → int_le a x ≡ true → int_le x b ≡ true → plane_join (Span a a a b b b) (plane_of (thrice x ∷ [])) ≡ Span a a a b b b
-thrice_stays a x b near_a near_b near_x ab ax xb =
-    let span : IsSpan (thrice a, thrice b) = record {
-      first = point_of_limit (thrice a) (thrice_near a near_a);
-      last = point_of_limit (thrice b) (thrice_near b near_b);
-      ordered = before_of (thrice a) (thrice b) (thrice_before a b ab);
-    } in
-    within_stretch (thrice a) (thrice b) (thrice x) span (thrice_near x near_x) (thrice_before a x ax) (thrice_before x b xb) (thrice_aligned a x b)
-
--- what is told of such a stretch
-record IsOwn (ranges : List Range) (u v w : VarId) (s : State) : Type 0 where
-  first : ℤ
-  last : ℤ
-  is : s ≡ Span first first first last last last
-  near_first : nat_le (unsigned_abs first) (2 ^ 30) ≡ true
-  near_last : nat_le (unsigned_abs last) (2 ^ 30) ≡ true
-  ordered : int_le first last ≡ true
-  from : is_above ranges u first ≡ true
-  to : is_below ranges u last ≡ true
-  second : (u.0 == v.0) ≡ true
-  third : (v.0 == w.0) ≡ true
-
-own_stretch : (ranges : List Range) (u v w : VarId) (s : State) → is_own_stretch ranges u v w s ≡ true → IsOwn ranges u v w s
-own_stretch ranges u v w (Span x1 y1 z1 x2 y2 z2) h =
-    let tail5 = is_above ranges u x1 && is_below ranges u x2 in
-    let tail4 = int_le x1 x2 && tail5 in
-    let tail3 = (is_near_number x1 && is_near_number x2) && tail4 in
-    let tail2 = (int_eq x2 y2 && int_eq y2 z2) && tail3 in
-    let tail1 = (int_eq x1 y1 && int_eq y1 z1) && tail2 in
-    let h1 = and_parts (u.0 == v.0 && v.0 == w.0) tail1 h in
-    let h2 = and_parts (int_eq x1 y1 && int_eq y1 z1) tail2 h1.1 in
-    let h3 = and_parts (int_eq x2 y2 && int_eq y2 z2) tail3 h2.1 in
-    let h4 = and_parts (is_near_number x1 && is_near_number x2) tail4 h3.1 in
-    let h5 = and_parts (int_le x1 x2) tail5 h4.1 in
-    let h6 = and_parts (is_above ranges u x1) (is_below ranges u x2) h5.1 in
-    let vars = and_parts (u.0 == v.0) (v.0 == w.0) h1.0 in
-    let firsts = and_parts (int_eq x1 y1) (int_eq y1 z1) h2.0 in
-    let lasts = and_parts (int_eq x2 y2) (int_eq y2 z2) h3.0 in
-    let nears = and_parts (is_near_number x1) (is_near_number x2) h4.0 in
-    let y1_is : x1 ≡ y1 = (Decides-int_eq x1 y1).0 firsts.0 in
-    let z1_is : y1 ≡ z1 = (Decides-int_eq y1 z1).0 firsts.1 in
-    let y2_is : x2 ≡ y2 = (Decides-int_eq x2 y2).0 lasts.0 in
-    let z2_is : y2 ≡ z2 = (Decides-int_eq y2 z2).0 lasts.1 in
-    record {
-      first = x1;
-      last = x2;
-      is = same y1_is z1_is y2_is z2_is;
-      near_first = nears.0;
-      near_last = nears.1;
-      ordered = h5.0;
-      from = h6.0;
-      to = h6.1;
-      second = vars.0;
-      third = vars.1;
-    }
-  where
-    same : x1 ≡ y1 → y1 ≡ z1 → x2 ≡ y2 → y2 ≡ z2 → Span x1 y1 z1 x2 y2 z2 ≡ Span x1 x1 x1 x2 x2 x2
-    same a b c d = cc
-own_stretch ranges u v w _ h = absurd (false≢true h)
-
-pub idle_stretch : (watch : Watch) (slot : Slot) → slot.row.0 ≡ 67 → (u v w : VarId) → slot.leaders ≡ u ∷ v ∷ w ∷ []
-    → is_own_stretch watch.ranges.items u v w slot.state ≡ true → is_among watch.near.items u ≡ true → IsIdle watch slot
-idle_stretch watch slot e u v w over h among sample meeting =
-    let are = (and_parts (are_near watch.near.items sample) (agree sample watch.fixed.items && (are_within sample watch.ranges.items && are_so sample watch.compared.items)) meeting).0 in
-    let own = own_stretch watch.ranges.items u v w slot.state h in
-    let within = all_within watch sample meeting in
-    let low = above watch.ranges.items sample within u own.first own.from in
-    let high = below watch.ranges.items sample within u own.last own.to in
-    let row : slot.row ≡ linear_ternary_row = ap (λ (n : ℕ). (let r : RowId = record { 0 = n } in r)) e in
-    by_near (with_sample slot.row slot.leaders sample slot.state ≡ slot.state) (value_in sample u) (near_among watch.near.items sample are u among)
-    (λ at. slot_of_missing slot sample u (v ∷ w ∷ []) over at)
-    (λ x at.
-    let at_v = same_value sample u v own.second x at in
-    let at_w = same_value sample v w own.third x at_v in
-    let ax = no_less own.first (low.0).least (low.0).greatest x low.2 (subst (λ i. is_between (low.0).least (low.0).greatest i ≡ true) at low.1) in
-    let xb = no_greater own.last (high.0).least (high.0).greatest x high.2 (subst (λ i. is_between (high.0).least (high.0).greatest i ≡ true) at high.1) in
-    let stays = thrice_stays own.first x own.last own.near_first own.near_last (near_number watch.near.items sample are u among x at) own.ordered ax xb in
-    let joined_stays : plane_join slot.state (plane_of (thrice x ∷ [])) ≡ slot.state = subst (λ s. plane_join s (plane_of (thrice x ∷ [])) ≡ s) (sym own.is) stays in
-    ap (λ r. with_sample r slot.leaders sample slot.state) row
-    ∙ (ap (λ vs. with_sample linear_ternary_row vs sample slot.state) over ∙ (sym (planar_sample u v w sample x x x at at_v at_w slot.state) ∙ joined_stays)))
+    (λ x at small. ap (λ r. with_sample r slot.leaders sample slot.state) row
+    ∙ (ap (λ vs. with_sample (record { 0 = 15 }) vs sample slot.state) over ∙ own_line_kept sample u v slot.state h x at small))

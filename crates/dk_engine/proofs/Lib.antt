@@ -1,3 +1,5 @@
+pub mod Ascending
+pub mod Driven
 pub mod KnownNumbers
 pub mod Leading
 pub mod SlotLists

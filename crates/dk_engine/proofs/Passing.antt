@@ -1,5 +1,5 @@
--- Slots that no sample changes in which the variables of planes have near numbers, and some have the numbers that they had, or are
--- missing, and notes of them.
+-- Planes that no sample changes in which their variables have near numbers, and some have the numbers that they had, or are missing; and
+-- notes of slots that aren't changed.
 use Rattle.std.specs.Prelude.{◌≡◌, ◌≢◌, ◌<◌, ◌≤◌, ◌+◌, ◌+ℤ◌, ◌*ℤ◌, ◌^◌, ◌&&◌, ◌||◌, ◌==◌, ℕ, zero, suc, ℤ, pos, negsuc, neg_ℤ, true, false, List, [], ◌∷◌, fold, if◌then◌else◌, length, nat_le, nat_lt, refl, replicate, slice_set, unsigned_abs}
 use Rattle.std.specs.List.{list_all, list_any}
 use Rattle.std.specs.Ordering.{int_eq}
@@ -23,36 +23,17 @@ use Rattle.dk_template.specs.Joins.{joined}
 use Rattle.dk_template.specs.Templates.{form_of}
 use Rattle.dk_template.specs.declared.grammar.RowId.{RowId}
 use Rattle.dk_ternary.specs.Rows.{linear_ternary_row}
+use Rattle.dk_engine.proofs.KnownNumbers.{all_within, listed_number, near_at}
 use Rattle.dk_engine.proofs.Stretches.{planar_sample}
 use Rattle.dk_engine.specs.Feeding.{with_sample}
-use Rattle.dk_engine.specs.Idle.{AreNotes, AreSkips, IsIdle, PassesStill, agree, are_among, are_fixed, are_near, are_same, are_so, are_within, has_number, is_axis, is_diagonal, is_among, is_fixed, is_idle_over, is_listed, is_near, is_number, is_passed, later, meets, skip_in}
+use Rattle.dk_engine.specs.Idle.{AreNotes, AreSkips, IsIdle, PassesStill, are_fixed, are_near_each, are_same, are_within, is_axis, is_diagonal, is_fixed, is_idle_over, is_listed, is_near, is_passed, later, meets, skip_in}
 use Rattle.dk_engine.specs.Narrow.{change_by, with_change, with_growth, with_state}
 use Rattle.dk_engine.specs.Parts.{no_slot, slot_in}
 use Rattle.dk_engine.specs.declared.changes.Change.{Change}
+use Rattle.dk_engine.specs.declared.facts.Range.{Range}
 use Rattle.dk_engine.specs.declared.growing.Growth.{Growth}
-use Rattle.dk_engine.specs.declared.idle.Fixed.{Fixed}
 use Rattle.dk_engine.specs.declared.idle.Watch.{Watch}
 use Rattle.dk_engine.specs.declared.slot.Slot.{Slot}
-
--- ---- samples of near numbers
--- a value there is a near number
-one_near : (x : Value) → is_near x ≡ true → is_present x ≡ true → (z : ℤ) × (x ≡ value.Int z) × (nat_le (unsigned_abs z) (2 ^ 30) ≡ true)
-one_near (value.Int z) h there = (z, refl, h)
-one_near value.Missing h there = absurd (false≢true there)
-one_near _ h there = absurd (false≢true h)
-
-pub near_among : (near : List VarId) (sample : List Value) → are_near near sample ≡ true → (v : VarId) → is_among near v ≡ true → is_near (value_in sample v) ≡ true
-near_among [] sample are v h = absurd (false≢true h)
-near_among (n ∷ near) sample are v h =
-    let told = and_parts (is_near (value_in sample n)) (are_near near sample) are in
-    elim (cases_Bool (n.0 == v.0)) as (λ _. is_near (value_in sample v) ≡ true) [
-      | inl e ↦ subst (λ i. is_near (value_at sample i) ≡ true) (eqb-true n.0 v.0 e) told.0
-      | inr e ↦ near_among near sample told.1 v (sym (ap (λ t. t || is_among near v) e) ∙ h)
-    ]
-
-near_at : (near : List VarId) (sample : List Value) → are_near near sample ≡ true → (v : VarId) → is_among near v ≡ true → is_present (value_in sample v) ≡ true
-    → (z : ℤ) × (value_in sample v ≡ value.Int z) × (nat_le (unsigned_abs z) (2 ^ 30) ≡ true)
-near_at near sample are v among there = one_near (value_in sample v) (near_among near sample are v among) there
 
 -- ---- planes that are idle
 diagonal : (x z : ℤ) → pos 1 *ℤ x +ℤ negsuc 0 *ℤ x +ℤ pos 0 *ℤ z ≡ neg_ℤ (pos 0)
@@ -146,53 +127,36 @@ on_third a b c d x y z h e =
     (Decides-int_eq (a *ℤ x +ℤ b *ℤ y +ℤ c *ℤ z) (neg_ℤ d)).1
     (with_factors a b c (pos 0) (pos 0) (pos 1) x y z f.1 f.2 f.0 ∙ (axis_third x y z ∙ ap neg_ℤ (sym e)))
 
--- the variable's number in a sample in which it has its number
-own_number : (sample : List Value) (f : Fixed) (v : VarId) (x : ℤ) → has_number sample f ≡ true → (f.var.0 == v.0) ≡ true → value_in sample v ≡ value.Int x → x ≡ f.number
-own_number sample f v x has e at =
-    let is : value_in sample f.var ≡ value.Int x = ap (value_at sample) (eqb-true f.var.0 v.0 e) ∙ at in
-    (Decides-int_eq x f.number).0 (subst (λ i. is_number f.number i ≡ true) is has)
-
-listed_number : (fixed : List Fixed) (sample : List Value) → agree sample fixed ≡ true → (v : VarId) (d x : ℤ) → is_listed fixed v d ≡ true → value_in sample v ≡ value.Int x → d ≡ neg_ℤ x
-listed_number [] sample agrees v d x h at = absurd (false≢true h)
-listed_number (f ∷ fixed) sample agrees v d x h at =
-    let told = and_parts (has_number sample f) (list_all (has_number sample) fixed) agrees in
-    elim (cases_Bool (f.var.0 == v.0 && int_eq d (neg_ℤ f.number))) as (λ _. d ≡ neg_ℤ x) [
-      | inl l ↦
-          let p = and_parts (f.var.0 == v.0) (int_eq d (neg_ℤ f.number)) l in
-          (Decides-int_eq d (neg_ℤ f.number)).0 p.1 ∙ ap neg_ℤ (sym (own_number sample f v x told.0 p.0 at))
-      | inr n ↦ listed_number fixed sample told.1 v d x (sym (ap (λ t. t || is_listed fixed v d) n) ∙ h) at
-    ]
-
-fixed_lies_in : (fixed : List Fixed) (u v w : VarId) (a b c d : ℤ) → are_fixed fixed u v w a b c d ≡ true → (sample : List Value) → agree sample fixed ≡ true → (x y z : ℤ)
+fixed_lies_in : (ranges : List Range) (u v w : VarId) (a b c d : ℤ) → are_fixed ranges u v w a b c d ≡ true → (sample : List Value) → are_within sample ranges ≡ true → (x y z : ℤ)
     → value_in sample u ≡ value.Int x → value_in sample v ≡ value.Int y → value_in sample w ≡ value.Int z → is_in_plane (a, b, c, d) (x, y, z) ≡ true
-fixed_lies_in fixed u v w a b c d h sample agrees x y z at_u at_v at_w = elim (cases_Bool (is_fixed fixed u a b c d)) as (λ _. is_in_plane (a, b, c, d) (x, y, z) ≡ true) [
+fixed_lies_in ranges u v w a b c d h sample within x y z at_u at_v at_w = elim (cases_Bool (is_fixed ranges u a b c d)) as (λ _. is_in_plane (a, b, c, d) (x, y, z) ≡ true) [
   | inl l ↦
-      let p = and_parts (is_axis a b c) (is_listed fixed u d) l in
-      on_first a b c d x y z p.0 (listed_number fixed sample agrees u d x p.1 at_u)
+      let p = and_parts (is_axis a b c) (is_listed ranges u d) l in
+      on_first a b c d x y z p.0 (listed_number ranges sample within u d x p.1 at_u)
   | inr n ↦
-      let q : (is_fixed fixed v b c a d || is_fixed fixed w c a b d) ≡ true = sym (ap (λ t. t || (is_fixed fixed v b c a d || is_fixed fixed w c a b d)) n) ∙ h in
-      elim (cases_Bool (is_fixed fixed v b c a d)) as (λ _. is_in_plane (a, b, c, d) (x, y, z) ≡ true) [
+      let q : (is_fixed ranges v b c a d || is_fixed ranges w c a b d) ≡ true = sym (ap (λ t. t || (is_fixed ranges v b c a d || is_fixed ranges w c a b d)) n) ∙ h in
+      elim (cases_Bool (is_fixed ranges v b c a d)) as (λ _. is_in_plane (a, b, c, d) (x, y, z) ≡ true) [
         | inl l ↦
-            let p = and_parts (is_axis b c a) (is_listed fixed v d) l in
-            on_second a b c d x y z p.0 (listed_number fixed sample agrees v d y p.1 at_v)
+            let p = and_parts (is_axis b c a) (is_listed ranges v d) l in
+            on_second a b c d x y z p.0 (listed_number ranges sample within v d y p.1 at_v)
         | inr m ↦
-            let p = and_parts (is_axis c a b) (is_listed fixed w d) (sym (ap (λ t. t || is_fixed fixed w c a b d) m) ∙ q) in
-            on_third a b c d x y z p.0 (listed_number fixed sample agrees w d z p.1 at_w)
+            let p = and_parts (is_axis c a b) (is_listed ranges w d) (sym (ap (λ t. t || is_fixed ranges w c a b d) m) ∙ q) in
+            on_third a b c d x y z p.0 (listed_number ranges sample within w d z p.1 at_w)
       ]
 ]
 
-lies_in : (fixed : List Fixed) (u v w : VarId) (a b c d : ℤ) → is_idle_over fixed u v w (Plane a b c d) ≡ true → (sample : List Value) → agree sample fixed ≡ true → (x y z : ℤ)
+lies_in : (ranges : List Range) (u v w : VarId) (a b c d : ℤ) → is_idle_over ranges u v w (Plane a b c d) ≡ true → (sample : List Value) → are_within sample ranges ≡ true → (x y z : ℤ)
     → value_in sample u ≡ value.Int x → value_in sample v ≡ value.Int y → value_in sample w ≡ value.Int z → is_in_plane (a, b, c, d) (x, y, z) ≡ true
-lies_in fixed u v w a b c d h sample agrees x y z at_u at_v at_w = elim (cases_Bool (are_same u v w a b c d)) as (λ _. is_in_plane (a, b, c, d) (x, y, z) ≡ true) [
+lies_in ranges u v w a b c d h sample within x y z at_u at_v at_w = elim (cases_Bool (are_same u v w a b c d)) as (λ _. is_in_plane (a, b, c, d) (x, y, z) ≡ true) [
   | inl l ↦ same_lies_in u v w a b c d l sample x y z at_u at_v at_w
-  | inr n ↦ fixed_lies_in fixed u v w a b c d (sym (ap (λ t. t || are_fixed fixed u v w a b c d) n) ∙ h) sample agrees x y z at_u at_v at_w
+  | inr n ↦ fixed_lies_in ranges u v w a b c d (sym (ap (λ t. t || are_fixed ranges u v w a b c d) n) ∙ h) sample within x y z at_u at_v at_w
 ]
 
-idle_plane : (near : List VarId) (fixed : List Fixed) (u v w : VarId) (state : State) → is_idle_over fixed u v w state ≡ true → are_among near u v w ≡ true
-    → (sample : List Value) → are_near near sample ≡ true → agree sample fixed ≡ true → with_sample linear_ternary_row (u ∷ v ∷ w ∷ []) sample state ≡ state
-idle_plane near fixed u v w (Plane a b c d) h among sample are agrees =
-    let among1 = and_parts (is_among near u) (is_among near v && is_among near w) among in
-    let among2 = and_parts (is_among near v) (is_among near w) among1.1 in
+idle_plane : (ranges : List Range) (u v w : VarId) (state : State) → is_idle_over ranges u v w state ≡ true → are_near_each ranges u v w ≡ true
+    → (sample : List Value) → are_within sample ranges ≡ true → with_sample linear_ternary_row (u ∷ v ∷ w ∷ []) sample state ≡ state
+idle_plane ranges u v w (Plane a b c d) h near sample within =
+    let near1 = and_parts (is_near ranges u) (is_near ranges v && is_near ranges w) near in
+    let near2 = and_parts (is_near ranges v) (is_near ranges w) near1.1 in
     let row = linear_ternary_row in
     let s = Plane a b c d in
     let t = tuple_in (u ∷ v ∷ w ∷ []) sample in
@@ -202,24 +166,23 @@ idle_plane near fixed u v w (Plane a b c d) h among sample are agrees =
           let p1 = and_parts (is_present (value_in sample u)) (list_all is_present (value_in sample v ∷ value_in sample w ∷ [])) whole in
           let p2 = and_parts (is_present (value_in sample v)) (list_all is_present (value_in sample w ∷ [])) p1.1 in
           let p3 = and_parts (is_present (value_in sample w)) true p2.1 in
-          let x = near_at near sample are u among1.0 p1.0 in
-          let y = near_at near sample are v among2.0 p2.0 in
-          let z = near_at near sample are w among2.1 p3.0 in
+          let x = near_at ranges sample within u near1.0 p1.0 in
+          let y = near_at ranges sample within v near2.0 p2.0 in
+          let z = near_at ranges sample within w near2.1 p3.0 in
           let space : in_space (x.0, y.0, z.0) ≡ true =
           and_from (nat_le (unsigned_abs x.0) (2 ^ 30)) _ x.2 (and_from (nat_le (unsigned_abs y.0) (2 ^ 30)) _ y.2 z.2) in
           let stays = (plane_stays (a, b, c, d) (x.0, y.0, z.0)).0
-          (and_from (in_space (x.0, y.0, z.0)) _ space (lies_in fixed u v w a b c d h sample agrees x.0 y.0 z.0 x.1 y.1 z.1)) in
+          (and_from (in_space (x.0, y.0, z.0)) _ space (lies_in ranges u v w a b c d h sample within x.0 y.0 z.0 x.1 y.1 z.1)) in
           sym (planar_sample u v w sample x.0 y.0 z.0 x.1 y.1 z.1 s) ∙ stays
     ]
-idle_plane near fixed u v w _ h among sample are agrees = absurd (false≢true h)
+idle_plane ranges u v w _ h near sample within = absurd (false≢true h)
 
 pub idle_slot : (watch : Watch) (slot : Slot) → slot.row.0 ≡ 67 → (u v w : VarId) → slot.leaders ≡ u ∷ v ∷ w ∷ []
-    → is_idle_over watch.fixed.items u v w slot.state ≡ true → are_among watch.near.items u v w ≡ true → IsIdle watch slot
-idle_slot watch slot e u v w over h among sample meeting =
-    let near = and_parts (are_near watch.near.items sample) (agree sample watch.fixed.items && (are_within sample watch.ranges.items && are_so sample watch.compared.items)) meeting in
-    let told = and_parts (agree sample watch.fixed.items) (are_within sample watch.ranges.items && are_so sample watch.compared.items) near.1 in
+    → is_idle_over watch.ranges.items u v w slot.state ≡ true → are_near_each watch.ranges.items u v w ≡ true → IsIdle watch slot
+idle_slot watch slot e u v w over h near sample meeting =
     let row : slot.row ≡ linear_ternary_row = ap (λ (n : ℕ). (let r : RowId = record { 0 = n } in r)) e in
-    ap (λ r. with_sample r slot.leaders sample slot.state) row ∙ (ap (λ vs. with_sample linear_ternary_row vs sample slot.state) over ∙ idle_plane watch.near.items watch.fixed.items u v w slot.state h among sample near.0 told.0)
+    ap (λ r. with_sample r slot.leaders sample slot.state) row
+    ∙ (ap (λ vs. with_sample linear_ternary_row vs sample slot.state) over ∙ idle_plane watch.ranges.items u v w slot.state h near sample (all_within watch sample meeting))
 
 -- ---- notes
 none_in : (n k : ℕ) → skip_in (replicate n 0) k ≡ 0

@@ -28,9 +28,9 @@ pub struct Growth {
     pub z: i64,
 }
 
-// Whether a coordinate is within the limit.
+/// Whether a coordinate is within the limit.
 #[inline(always)]
-fn is_near(x: i64) -> bool
+pub(crate) fn is_near(x: i64) -> bool
     ensures { result ≡ nat_le (unsigned_abs x) (2 ^ 30) }
 {
     -(1 << 30) <= x && x <= 1 << 30

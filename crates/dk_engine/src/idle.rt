@@ -1,40 +1,34 @@
 // Slots that no sample changes of which some facts are true. Planes that say of a variable, which stands at two roles, that it is itself,
 // and such that say of a variable that it has the number that it had, as a constant has: the facts are that their variables' numbers are
-// near, and that number. Bounds that rest, and comparisons: the facts are what they say. A search for changed slots passes over them where
-// all facts are true; a fact is true of a variable that is missing. Other variables aren't asked, so that truth values, codes, strings and
-// sequences at a point don't matter.
-ghost use Rattle.std.specs.Prelude.{◌≡◌, ◌<◌, ◌≤◌, ◌+◌, ◌==◌, ◌&&◌, ◌∷◌, [], neg_ℤ, true, IfOk, IsTrue, int_le, length, replicate, slice_set};
+// near, and that number. Bounds that rest, and comparisons: the facts are what they say. All that is known of one variable are its bounds.
+// A search for changed slots passes over them where all facts are true; a fact is true of a variable that is missing. Other variables
+// aren't asked, so that truth values, codes, strings and sequences at a point don't matter.
+ghost use Rattle.std.specs.Prelude.{◌≡◌, ◌<◌, ◌≤◌, ◌+◌, ◌==◌, ◌&&◌, ◌||◌, ◌∷◌, [], true, IfOk, IsTrue, length, replicate, slice_set};
 ghost use Rattle.std.specs.Ordering.{int_eq};
-ghost use Rattle.dk_base.specs.Values.{value_of, values_of};
-ghost use Rattle.dk_engine.specs.Idle.{AreNotes, AreSkips, IsIdle, agree, are_among, are_fixed, are_near, are_same, has_number, is_axis, is_compared, is_diagonal, is_fixed, is_idle_greatest, is_idle_least, is_idle_over, is_listed, is_near, is_near_number, is_own_line, is_own_stretch, is_passed, later, meets, skip_in};
+ghost use Rattle.dk_base.specs.Values.{values_of};
+ghost use Rattle.dk_engine.specs.Idle.{AreNotes, AreSkips, IsIdle, are_fixed, are_near_each, are_same, is_above, is_axis, is_below, is_compared, is_diagonal, is_driven, is_driven_stretch, is_fixed, is_idle_greatest, is_idle_least, is_idle_over, is_near, is_near_number, is_own_line, is_passed, is_told, later, meets, skip_in};
 
 use crate::Slot;
+use crate::chain::{Chain, are_rising};
 use crate::ends::ends_of;
 use crate::facts::{
-    Compared, Range, Ranges, are_so, are_within, compared_by, is_above, is_below, is_compared,
+    Compared, Range, Ranges, are_known_near, are_so, are_within, compared_by, is_above, is_below,
+    is_compared, is_listed, is_numeric, is_told,
 };
+use crate::growing::is_near;
 use crate::moves::Moves;
-use crate::near::{Near, is_among, place_of};
+use crate::noted::place_of;
 use crate::staying::holds;
 use dk_base::{NoMemory, VarId, View};
-use dk_samples::value_at;
 use dk_template::{RowId, State};
 use std::alloc::Global;
 
-/// A variable with the number that it had in all samples, as a plane says.
-#[derive(Clone, Copy, Debug)]
-pub(crate) struct Fixed {
-    pub(crate) var: VarId,
-    pub(crate) number: i64,
-}
-
-/// What a sample is asked before slots are passed over: whether these variables have near numbers, these the numbers that they had, these
-/// such within their bounds, and these two compare so, or are missing.
+/// What a sample is asked before slots are passed over: whether these variables have numbers within their bounds, the numbers of these rise,
+/// and these two compare so, or are missing.
 #[derive(Drop)]
 pub(crate) struct Watch {
-    pub(crate) near: Vec<VarId>,
-    pub(crate) fixed: Vec<Fixed>,
     pub(crate) ranges: Vec<Range>,
+    pub(crate) rising: Vec<VarId>,
     pub(crate) compared: Vec<Compared>,
 }
 
@@ -42,8 +36,8 @@ pub(crate) struct Watch {
 // Nothing is said of it: who uses one looks whether it is right.
 #[derive(Drop)]
 struct Places {
-    near: Vec<usize>,
     ranges: Vec<usize>,
+    rising: Vec<usize>,
     left: usize,
 }
 
@@ -56,28 +50,6 @@ pub(crate) struct Notes {
     pub(crate) ends: Vec<usize>,
 }
 
-// Whether a value is a whole number of at most 2^30 in size, or missing.
-fn is_near(value: View<'_>) -> bool
-    ensures { result ≡ is_near (value_of value.entry) }
-{
-    if let View::Int(number) = value {
-        return -(1 << 30) <= number && number <= 1 << 30;
-    }
-    matches!(value, View::Missing)
-}
-
-// Whether the values of these variables in a sample are all such numbers or missing.
-fn are_near(sample: &[View<'_>], near: &[VarId]) -> bool
-    ensures { result ≡ are_near near.now (values_of sample.now) }
-{
-    for v in near {
-        if !is_near(value_at(sample, *v)) {
-            return false;
-        }
-    }
-    true
-}
-
 // Whether a plane is that of the points whose first two coordinates are one.
 fn is_diagonal(a: i128, b: i128, c: i128, d: i128) -> bool
     ensures { result ≡ is_diagonal a b c d }
@@ -85,56 +57,13 @@ fn is_diagonal(a: i128, b: i128, c: i128, d: i128) -> bool
     a == 1 && (b == -1 && (c == 0 && d == 0))
 }
 
-// Whether a variable has this number in a sample, or none.
-fn has_number(sample: &[View<'_>], fixed: Fixed) -> bool
-    ensures { result ≡ has_number (values_of sample.now) fixed }
-{
-    let value = value_at(sample, fixed.var);
-    if let View::Int(number) = value {
-        return number == fixed.number;
-    }
-    matches!(value, View::Missing)
-}
-
-// Whether all these variables have their numbers in a sample, or none.
-fn agree(sample: &[View<'_>], fixed: &[Fixed]) -> bool
-    ensures { result ≡ agree (values_of sample.now) fixed.now }
-{
-    for one in fixed {
-        if !has_number(sample, *one) {
-            return false;
-        }
-    }
-    true
-}
-
 /// Whether a sample meets the watch: all its facts are true of the sample.
 pub(crate) fn meets(watch: &Watch, sample: &[View<'_>]) -> bool
     ensures { result ≡ meets watch.now (values_of sample.now) }
 {
-    are_near(sample, watch.near.as_slice())
-        && (agree(sample, watch.fixed.as_slice())
-            && (are_within(sample, watch.ranges.as_slice())
-                && are_so(sample, watch.compared.as_slice())))
-}
-
-// Whether one number is the opposite of another.
-fn is_opposite(d: i128, number: i64) -> bool
-    ensures { result ≡ int_eq d (neg_ℤ number) }
-{
-    d == -(number as i128)
-}
-
-// Whether the variable is listed with the number of which this is the opposite.
-fn is_listed(fixed: &[Fixed], v: VarId, d: i128) -> bool
-    ensures { result ≡ is_listed fixed.now v d }
-{
-    for one in fixed {
-        if one.var.0 == v.0 && is_opposite(d, one.number) {
-            return true;
-        }
-    }
-    false
+    are_within(sample, watch.ranges.as_slice())
+        && (are_rising(sample, watch.rising.as_slice())
+            && are_so(sample, watch.compared.as_slice()))
 }
 
 // Whether a plane says of its first coordinate alone which number it is.
@@ -144,16 +73,25 @@ fn is_axis(a: i128, b: i128, c: i128) -> bool
     a == 1 && (b == 0 && c == 0)
 }
 
-// Whether it says of a variable at its first coordinate that it has its number.
-fn is_fixed(fixed: &[Fixed], u: VarId, a: i128, b: i128, c: i128, d: i128) -> bool
-    ensures { result ≡ is_fixed fixed.now u a b c d }
+// Whether it is seen to say of a variable at its first coordinate the number that it has.
+fn is_fixed(
+    ranges: &[Range],
+    places: &[usize],
+    u: VarId,
+    a: i128,
+    b: i128,
+    c: i128,
+    d: i128,
+) -> bool
+    ensures { IsTrue result → is_fixed ranges.now u a b c d ≡ true }
 {
-    is_axis(a, b, c) && is_listed(fixed, u, d)
+    is_axis(a, b, c) && is_listed(ranges, place_of(places, u), u, d)
 }
 
-// Whether it says so of one of three variables.
+// Whether it is seen to say so of one of three variables.
 fn are_fixed(
-    fixed: &[Fixed],
+    ranges: &[Range],
+    places: &[usize],
     u: VarId,
     v: VarId,
     w: VarId,
@@ -162,10 +100,10 @@ fn are_fixed(
     c: i128,
     d: i128,
 ) -> bool
-    ensures { result ≡ are_fixed fixed.now u v w a b c d }
+    ensures { IsTrue result → are_fixed ranges.now u v w a b c d ≡ true }
 {
-    is_fixed(fixed, u, a, b, c, d)
-        || (is_fixed(fixed, v, b, c, a, d) || is_fixed(fixed, w, c, a, b, d))
+    is_fixed(ranges, places, u, a, b, c, d)
+        || (is_fixed(ranges, places, v, b, c, a, d) || is_fixed(ranges, places, w, c, a, b, d))
 }
 
 // Whether two variables are one, and the plane says that of their values.
@@ -182,23 +120,53 @@ fn are_same(u: VarId, v: VarId, w: VarId, a: i128, b: i128, c: i128, d: i128) ->
     is_itself(u, v, a, b, c, d) || is_itself(v, w, b, c, a, d)
 }
 
-// Whether it says no more than that, or than that one of the variables has its number.
-fn is_idle_over(fixed: &[Fixed], u: VarId, v: VarId, w: VarId, state: &State) -> bool
-    ensures { result ≡ is_idle_over fixed.now u v w state.now }
+// Whether it is seen to say no more than that, or than that one of the variables has its number.
+fn is_idle_plane(
+    ranges: &[Range],
+    places: &[usize],
+    u: VarId,
+    v: VarId,
+    w: VarId,
+    a: i128,
+    b: i128,
+    c: i128,
+    d: i128,
+) -> bool
+    ensures { IsTrue result → (are_same u v w a b c d || are_fixed ranges.now u v w a b c d) ≡ true }
+{
+    are_same(u, v, w, a, b, c, d) || are_fixed(ranges, places, u, v, w, a, b, c, d)
+}
+
+// The same of a state, if it is a plane.
+fn is_idle_over(
+    ranges: &[Range],
+    places: &[usize],
+    u: VarId,
+    v: VarId,
+    w: VarId,
+    state: &State,
+) -> bool
+    ensures { IsTrue result → is_idle_over ranges.now u v w state.now ≡ true }
 {
     match state {
-        State::Plane { a, b, c, d } => {
-            are_same(u, v, w, *a, *b, *c, *d) || are_fixed(fixed, u, v, w, *a, *b, *c, *d)
-        }
+        State::Plane { a, b, c, d } => { is_idle_plane(ranges, places, u, v, w, *a, *b, *c, *d) }
         _ => false,
     }
 }
 
-// Whether three variables are seen to be among these.
-fn are_among(near: &[VarId], places: &[usize], u: VarId, v: VarId, w: VarId) -> bool
-    ensures { IsTrue result → are_among near.now u v w ≡ true }
+// Whether a variable's numbers are seen to be near.
+fn is_known_near(ranges: &[Range], places: &[usize], v: VarId) -> bool
+    ensures { IsTrue result → is_near ranges.now v ≡ true }
 {
-    is_among(near, places, u) && (is_among(near, places, v) && is_among(near, places, w))
+    are_known_near(ranges, place_of(places, v), v)
+}
+
+// Whether those of three variables are.
+fn are_near_each(ranges: &[Range], places: &[usize], u: VarId, v: VarId, w: VarId) -> bool
+    ensures { IsTrue result → are_near_each ranges.now u v w ≡ true }
+{
+    is_known_near(ranges, places, u)
+        && (is_known_near(ranges, places, v) && is_known_near(ranges, places, w))
 }
 
 // Whether a slot of row 67 over three leaders, a plane, is seen to be idle.
@@ -207,27 +175,98 @@ fn is_idle_by(watch: &Watch, places: &[usize], slot: &Slot, u: VarId, v: VarId, 
     requires leaders { slot.now.leaders ≡ u ∷ v ∷ w ∷ [] }
     ensures { IsTrue result → IsIdle watch.now slot.now }
 {
-    is_idle_over(watch.fixed.as_slice(), u, v, w, &slot.state)
-        && are_among(watch.near.as_slice(), places, u, v, w)
+    is_idle_over(watch.ranges.as_slice(), places, u, v, w, &slot.state)
+        && are_near_each(watch.ranges.as_slice(), places, u, v, w)
 }
 
-// Whether a number is at most 2^30 in size.
-fn is_near_number(number: i64) -> bool
-    ensures { result ≡ is_near_number number }
+// The variable that drives a stretch, with its first and its last number: the one at the first coordinate that moves.
+#[derive(Clone, Copy, Debug)]
+struct Driver {
+    var: VarId,
+    first: i64,
+    last: i64,
+}
+
+fn driver_of(u: VarId, v: VarId, w: VarId, state: &State) -> Option<Driver> {
+    match state {
+        State::Span {
+            x1,
+            y1,
+            z1,
+            x2,
+            y2,
+            z2,
+        } => {
+            let (var, first, last) = if *x1 != *x2 {
+                (u, *x1, *x2)
+            } else if *y1 != *y2 {
+                (v, *y1, *y2)
+            } else {
+                (w, *z1, *z2)
+            };
+            Some(Driver { var, first, last })
+        }
+        _ => None,
+    }
+}
+
+// Whether a coordinate of a stretch is the driving variable's number.
+fn is_driver(driver: Driver, v: VarId, a: i64, b: i64) -> bool
+    ensures { result ≡ (v.0 == driver.var.0 && (int_eq a driver.first && int_eq b driver.last)) }
 {
-    -(1 << 30) <= number && number <= 1 << 30
+    v.0 == driver.var.0 && (a == driver.first && b == driver.last)
 }
 
-// Whether the ends of a stretch are near, and one after the other.
-fn are_ends(first: i64, last: i64) -> bool
-    ensures { result ≡ ((is_near_number first && is_near_number last) && int_le first last) }
+// Whether it is seen to be that of a variable that has no other.
+fn is_still(ranges: &[Range], place: usize, v: VarId, a: i64, b: i64) -> bool
+    ensures { IsTrue result → (int_eq a b && (is_above ranges.now v a && is_below ranges.now v a)) ≡ true }
 {
-    (is_near_number(first) && is_near_number(last)) && first <= last
+    a == b && (is_above(ranges, place, v, a) && is_below(ranges, place, v, a))
 }
 
-// Whether a state is a stretch of the line of equal numbers, and a variable's numbers are seen to be within it.
-fn is_own_stretch(watch: &Watch, place: usize, u: VarId, v: VarId, w: VarId, state: &State) -> bool
-    ensures { IsTrue result → is_own_stretch watch.now.ranges.items u v w state.now ≡ true }
+// Whether it is seen to be one of the two.
+fn is_driven_by(ranges: &[Range], place: usize, driver: Driver, v: VarId, a: i64, b: i64) -> bool
+    ensures { IsTrue result → ((v.0 == driver.var.0 && (int_eq a driver.first && int_eq b driver.last)) || (int_eq a b && (is_above ranges.now v a && is_below ranges.now v a))) ≡ true }
+{
+    is_driver(driver, v, a, b) || is_still(ranges, place, v, a, b)
+}
+
+// Whether both ends of a coordinate are near.
+fn are_near_ends(a: i64, b: i64) -> bool
+    ensures { result ≡ (is_near_number a && is_near_number b) }
+{
+    is_near(a) && is_near(b)
+}
+
+// Whether a variable's coordinate of a stretch is seen to be driven.
+fn is_driven(ranges: &[Range], places: &[usize], driver: Driver, v: VarId, a: i64, b: i64) -> bool
+    ensures { IsTrue result → is_driven ranges.now driver.var driver.first driver.last v a b ≡ true }
+{
+    let place = place_of(places, v);
+    (is_numeric(ranges, place, v) && are_near_ends(a, b))
+        && is_driven_by(ranges, place, driver, v, a, b)
+}
+
+// Whether the driving variable's numbers are seen to be within its ends.
+fn is_within_ends(ranges: &[Range], places: &[usize], driver: Driver) -> bool
+    ensures { IsTrue result → (is_above ranges.now driver.var driver.first && is_below ranges.now driver.var driver.last) ≡ true }
+{
+    let place = place_of(places, driver.var);
+    is_above(ranges, place, driver.var, driver.first)
+        && is_below(ranges, place, driver.var, driver.last)
+}
+
+// Whether a state is a stretch that is seen to be driven so, over three variables.
+fn is_driven_stretch(
+    ranges: &[Range],
+    places: &[usize],
+    driver: Driver,
+    u: VarId,
+    v: VarId,
+    w: VarId,
+    state: &State,
+) -> bool
+    ensures { IsTrue result → is_driven_stretch ranges.now driver.var driver.first driver.last u v w state.now ≡ true }
 {
     match state {
         State::Span {
@@ -238,12 +277,10 @@ fn is_own_stretch(watch: &Watch, place: usize, u: VarId, v: VarId, w: VarId, sta
             y2,
             z2,
         } => {
-            (u.0 == v.0 && v.0 == w.0)
-                && (*x1 == *y1 && *y1 == *z1)
-                && (*x2 == *y2 && *y2 == *z2)
-                && are_ends(*x1, *x2)
-                && is_above(watch.ranges.as_slice(), place, u, *x1)
-                && is_below(watch.ranges.as_slice(), place, u, *x2)
+            is_driven(ranges, places, driver, u, *x1, *x2)
+                && (is_driven(ranges, places, driver, v, *y1, *y2)
+                    && (is_driven(ranges, places, driver, w, *z1, *z2)
+                        && is_within_ends(ranges, places, driver)))
         }
         _ => false,
     }
@@ -252,7 +289,7 @@ fn is_own_stretch(watch: &Watch, place: usize, u: VarId, v: VarId, w: VarId, sta
 // Whether a slot of row 67 over three leaders, a stretch, is seen to be idle.
 fn is_idle_stretch(
     watch: &Watch,
-    places: &Places,
+    places: &[usize],
     slot: &Slot,
     u: VarId,
     v: VarId,
@@ -262,9 +299,20 @@ fn is_idle_stretch(
     requires leaders { slot.now.leaders ≡ u ∷ v ∷ w ∷ [] }
     ensures { IsTrue result → IsIdle watch.now slot.now }
 {
-    let place = place_of(places.ranges.as_slice(), u);
-    is_own_stretch(watch, place, u, v, w, &slot.state)
-        && is_among(watch.near.as_slice(), places.near.as_slice(), u)
+    match driver_of(u, v, w, &slot.state) {
+        Some(driver) => {
+            is_driven_stretch(
+                watch.ranges.as_slice(),
+                places,
+                driver,
+                u,
+                v,
+                w,
+                &slot.state,
+            )
+        }
+        None => false,
+    }
 }
 
 // Whether a state is the line of equal numbers, over one variable.
@@ -283,7 +331,8 @@ fn is_idle_line(watch: &Watch, places: &Places, slot: &Slot, u: VarId, v: VarId)
     requires leaders { slot.now.leaders ≡ u ∷ v ∷ [] }
     ensures { IsTrue result → IsIdle watch.now slot.now }
 {
-    is_own_line(u, v, &slot.state) && is_among(watch.near.as_slice(), places.near.as_slice(), u)
+    is_own_line(u, v, &slot.state)
+        && is_known_near(watch.ranges.as_slice(), places.ranges.as_slice(), u)
 }
 
 // Whether a slot of row 67 over three leaders is seen to be idle.
@@ -299,10 +348,10 @@ fn is_idle_of_three(
     requires leaders { slot.now.leaders ≡ u ∷ v ∷ w ∷ [] }
     ensures { IsTrue result → IsIdle watch.now slot.now }
 {
-    if is_idle_stretch(watch, places, slot, u, v, w) {
+    if is_idle_stretch(watch, places.ranges.as_slice(), slot, u, v, w) {
         return true;
     }
-    is_idle_by(watch, places.near.as_slice(), slot, u, v, w)
+    is_idle_by(watch, places.ranges.as_slice(), slot, u, v, w)
 }
 
 // Whether a least value is seen to be idle.
@@ -358,6 +407,21 @@ fn is_next(watch: &Watch, places: &mut Places, row: RowId, u: VarId, v: VarId) -
     }
 }
 
+// Whether the comparison of this row of these two is seen to be told by the other facts.
+fn is_known(watch: &Watch, places: &Places, row: RowId, u: VarId, v: VarId) -> bool
+    ensures { IsTrue result → is_told watch.now.ranges.items watch.now.rising.items row.0 u v ≡ true }
+{
+    is_told(
+        watch.ranges.as_slice(),
+        places.ranges.as_slice(),
+        watch.rising.as_slice(),
+        places.rising.as_slice(),
+        row,
+        u,
+        v,
+    )
+}
+
 // Whether a slot of a comparison over two leaders is seen to be idle.
 fn is_idle_comparison(watch: &Watch, places: &mut Places, slot: &Slot, u: VarId, v: VarId) -> bool
     requires from { 11 ≤ slot.now.row.0 }
@@ -365,7 +429,13 @@ fn is_idle_comparison(watch: &Watch, places: &mut Places, slot: &Slot, u: VarId,
     requires leaders { slot.now.leaders ≡ u ∷ v ∷ [] }
     ensures { IsTrue result → IsIdle watch.now slot.now }
 {
-    holds(&slot.state) && is_next(watch, places, slot.row, u, v)
+    if !holds(&slot.state) {
+        return false;
+    }
+    if is_known(watch, places, slot.row, u, v) {
+        return true;
+    }
+    is_next(watch, places, slot.row, u, v)
 }
 
 // Whether the slot is seen to be idle.
@@ -394,110 +464,103 @@ fn is_idle(watch: &Watch, places: &mut Places, slot: &Slot) -> bool
     }
 }
 
-// A variable with a number, by the number's opposite.
-fn with_opposite(var: VarId, d: i128) -> Option<Fixed> {
+// With a variable's number, by its opposite.
+fn add_opposite(ranges: &mut Ranges, v: VarId, d: i128) -> Result<(), NoMemory> {
     match i64::try_from(d) {
-        Ok(opposite) => Some(Fixed {
-            var,
-            number: 0i64.wrapping_sub(opposite),
-        }),
-        Err(_) => None,
+        Ok(opposite) => {
+            let number = 0i64.wrapping_sub(opposite);
+            ranges.narrow(v, number, number)
+        }
+        Err(_) => Ok(()),
     }
 }
 
-// Which of three variables a plane says to have a number, if it says that of one alone.
-fn fixed_over(u: VarId, v: VarId, w: VarId, state: &State) -> Option<Fixed> {
+// With the number that a plane over three variables says one of them to have, if it says that of one alone.
+fn add_fixed_over(
+    ranges: &mut Ranges,
+    u: VarId,
+    v: VarId,
+    w: VarId,
+    state: &State,
+) -> Result<(), NoMemory> {
     match state {
         State::Plane { a, b, c, d } => {
             if is_axis(*a, *b, *c) {
-                with_opposite(u, *d)
+                add_opposite(ranges, u, *d)
             } else if is_axis(*b, *c, *a) {
-                with_opposite(v, *d)
+                add_opposite(ranges, v, *d)
             } else if is_axis(*c, *a, *b) {
-                with_opposite(w, *d)
+                add_opposite(ranges, w, *d)
             } else {
-                None
+                Ok(())
             }
         }
-        _ => None,
+        _ => Ok(()),
     }
 }
 
-// Which variable a slot says to have a number, if it is a plane that says that of one alone.
-fn fixed_in(slot: &Slot) -> Option<Fixed> {
+// With the number that a slot says a variable to have, if it is a plane that says that of one alone.
+fn add_fixed(ranges: &mut Ranges, slot: &Slot) -> Result<(), NoMemory> {
     if slot.row.0 != 67 {
-        return None;
-    }
-    match slot.leaders.as_slice() {
-        [u, v, w] => fixed_over(*u, *v, *w, &slot.state),
-        _ => None,
-    }
-}
-
-// Whether the variable is among them.
-fn has_variable(fixed: &[Fixed], v: VarId) -> bool {
-    for one in fixed {
-        if one.var == v {
-            return true;
-        }
-    }
-    false
-}
-
-// How many variables are kept with their numbers: each sample is compared with all of them.
-const MOST: usize = 16;
-
-// With the variable that a slot says to have a number, if it isn't there and they aren't too many.
-fn add_fixed(fixed: &mut Vec<Fixed>, slot: &Slot) -> Result<(), NoMemory> {
-    if fixed.len() == MOST {
         return Ok(());
     }
-    if let Some(one) = fixed_in(slot) {
-        if !has_variable(fixed.as_slice(), one.var) {
-            fixed.push(one)?;
-        }
+    match slot.leaders.as_slice() {
+        [u, v, w] => add_fixed_over(ranges, *u, *v, *w, &slot.state),
+        _ => Ok(()),
     }
-    Ok(())
-}
-
-// Variables that some slots say to have a number.
-fn fixed_by(alloc: Global, slots: &[Slot]) -> Result<Vec<Fixed>, NoMemory> {
-    let mut fixed = Vec::new(alloc);
-    for slot in slots {
-        add_fixed(&mut fixed, slot)?;
-    }
-    Ok(fixed)
 }
 
 // Whether a plane says no more than what is known of the variables.
-fn is_known_plane(fixed: &[Fixed], slot: &Slot) -> bool {
+fn is_known_plane(ranges: &Ranges, slot: &Slot) -> bool {
     if slot.row.0 != 67 {
         return false;
     }
     match slot.leaders.as_slice() {
-        [u, v, w] => is_idle_over(fixed, *u, *v, *w, &slot.state),
+        [u, v, w] => is_idle_over(
+            ranges.all.as_slice(),
+            ranges.places.as_slice(),
+            *u,
+            *v,
+            *w,
+            &slot.state,
+        ),
         _ => false,
     }
 }
 
-// With the variables of such a plane.
-fn add_known(fixed: &[Fixed], near: &mut Near, slot: &Slot) -> Result<(), NoMemory> {
-    if !is_known_plane(fixed, slot) {
+// With the variables of such a plane, whose numbers are near.
+fn add_near(ranges: &mut Ranges, slot: &Slot) -> Result<(), NoMemory> {
+    if !is_known_plane(ranges, slot) {
         return Ok(());
     }
     for v in slot.leaders.as_slice() {
-        near.add(*v)?;
+        ranges.narrow(*v, -(1 << 30), 1 << 30)?;
     }
     Ok(())
 }
 
-// The variables of all such planes.
-fn near_by(alloc: Global, fixed: &[Fixed], slots: &[Slot]) -> Result<Near, NoMemory> {
-    let mut near = Near::none(alloc);
+// With all numbers that planes say variables to have.
+fn add_all_fixed(ranges: &mut Ranges, slots: &[Slot]) -> Result<(), NoMemory> {
     for slot in slots {
-        add_known(fixed, &mut near, slot)?;
+        add_fixed(ranges, slot)?;
     }
-    Ok(near)
+    Ok(())
+}
+
+// With the variables of all planes that say no more than is known.
+fn add_all_near(ranges: &mut Ranges, slots: &[Slot]) -> Result<(), NoMemory> {
+    for slot in slots {
+        add_near(ranges, slot)?;
+    }
+    Ok(())
+}
+
+// Bounds of variables, by slots.
+fn ranges_of(alloc: Global, moves: &Moves, slots: &[Slot]) -> Result<Ranges, NoMemory> {
+    let mut ranges = Ranges::of(alloc, moves, slots)?;
+    add_all_fixed(&mut ranges, slots)?;
+    add_all_near(&mut ranges, slots)?;
+    Ok(ranges)
 }
 
 /// Up to which place the slots from this one on are passed over.
@@ -580,9 +643,8 @@ impl Watch {
     // Nothing is asked. It takes no memory.
     fn none(alloc: Global) -> Watch {
         Watch {
-            near: Vec::new(alloc),
-            fixed: Vec::new(alloc),
             ranges: Vec::new(alloc),
+            rising: Vec::new(alloc),
             compared: Vec::new(alloc),
         }
     }
@@ -604,19 +666,17 @@ impl Notes {
     fn of(alloc: Global, moves: &Moves, slots: &[Slot]) -> Result<Notes, NoMemory>
         ensures { IfOk result (λ notes. AreSkips notes.watch slots.now notes.skips.items) }
     {
-        let fixed = fixed_by(alloc, slots)?;
-        let near = near_by(alloc, fixed.as_slice(), slots)?;
-        let ranges = Ranges::of(alloc, moves, slots)?;
-        let compared = compared_by(alloc, slots)?;
+        let ranges = ranges_of(alloc, moves, slots)?;
+        let chain = Chain::of(alloc, slots)?;
+        let compared = compared_by(alloc, &ranges, &chain, slots)?;
         let places = Places {
-            near: near.places,
             ranges: ranges.places,
+            rising: chain.places,
             left: compared.len(),
         };
         let watch = Watch {
-            near: near.vars,
-            fixed,
             ranges: ranges.all,
+            rising: chain.vars,
             compared,
         };
         let skips = skips_of(alloc, &watch, places, slots)?;

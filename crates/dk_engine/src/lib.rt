@@ -3,6 +3,7 @@
 
 mod after;
 mod bitmaps;
+mod chain;
 mod changes;
 mod changing;
 mod conditions;
@@ -21,7 +22,7 @@ mod lending;
 mod mapping;
 mod merging;
 mod moves;
-mod near;
+mod noted;
 mod nothing;
 mod now;
 mod operations;

@@ -72,7 +72,7 @@ fn kept_from(alloc: Global, count: usize, parts: Parts) -> Result<Option<Kept>, 
         Some(leaders) => leaders,
         None => return Ok(None),
     };
-    let held = match presence_from(alloc, leaders.leaders(), patterns.as_slice())? {
+    let held = match presence_from(alloc, leaders.leaders(), patterns)? {
         Some(held) => held,
         None => return Ok(None),
     };

@@ -5,3 +5,4 @@ pub mod PatternOrder
 pub mod Weights
 pub mod Leading
 pub mod Restoring
+pub mod Rising

@@ -20,7 +20,7 @@ use Rattle.dk_parts.specs.Sorting.{ascending}
 use Rattle.dk_parts.specs.declared.pattern.Pattern.{Pattern}
 use Rattle.dk_parts.proofs.Sorted.{same_ascending, sorted_is_ascending}
 
-total : IsTotalOrder pattern_cmp
+pub total : IsTotalOrder pattern_cmp
 total = then_total (on_total (λ (p : Pattern). p.present) (lists_total bool_cmp_total)) (on_total (λ (p : Pattern). p.count) nat_cmp_total)
 
 first_equal : (r s : Ordering) → ordering_then r s ≡ Equal → r ≡ Equal
@@ -39,7 +39,7 @@ same_truth false true e = absurd (true≢false (sym (ap is_eq e)))
 same_truth true false e = absurd (true≢false (sym (ap is_eq e)))
 same_truth true true e = refl
 
-same_truths : (xs ys : List Bool) → slice_cmp bool_cmp xs ys ≡ Equal → xs ≡ ys
+pub same_truths : (xs ys : List Bool) → slice_cmp bool_cmp xs ys ≡ Equal → xs ≡ ys
 same_truths [] [] e = refl
 same_truths [] (y ∷ ys) e = absurd (true≢false (sym (ap is_eq e)))
 same_truths (x ∷ xs) [] e = absurd (true≢false (sym (ap is_eq e)))
@@ -47,7 +47,7 @@ same_truths (x ∷ xs) (y ∷ ys) e =
     ap (λ z. z ∷ xs) (same_truth x y (first_equal (bool_cmp x y) (slice_cmp bool_cmp xs ys) e))
     ∙ ap (λ zs. y ∷ zs) (same_truths xs ys (second_equal (bool_cmp x y) (slice_cmp bool_cmp xs ys) e))
 
-alike_are_one : (a b : Pattern) → pattern_cmp a b ≡ Equal → a ≡ b
+pub alike_are_one : (a b : Pattern) → pattern_cmp a b ≡ Equal → a ≡ b
 alike_are_one a b e =
     let truths : a.present ≡ b.present = same_truths a.present b.present (first_equal (slice_cmp bool_cmp a.present b.present) (nat_cmp a.count b.count) e) in
     let counts : a.count ≡ b.count = ranked a.count b.count Equal (sym (second_equal (slice_cmp bool_cmp a.present b.present) (nat_cmp a.count b.count) e)) in

@@ -7,7 +7,7 @@ use Rattle.dk_presence.specs.Patterns.{has}
 use Rattle.dk_samples.specs.Leaders.{VarsAscend}
 use Rattle.dk_parts.specs.Patterns.{from_var, is_first}
 
-apart : (m n : ℕ) → m < n → eqb m n ≡ false
+pub apart : (m n : ℕ) → m < n → eqb m n ≡ false
 apart m n l = elim (cases_Bool (eqb m n)) [ inl e ↦ let same = eqb-true m n e in absurd (omega (arith, same)) | inr e ↦ e ]
 
 rest : (w : VarId) (vars : List VarId) → VarsAscend (w ∷ vars) → VarsAscend vars
@@ -31,7 +31,7 @@ from_keeps v u (w ∷ vars) l = elim (cases_Bool (nat_lt w.0 v.0)) [
 ]
 
 -- a variable before all of them is none of them
-none_before : (v : VarId) (vars : List VarId) → ((k : ℕ) (d : VarId) → k < length vars → v.0 < (get_or vars k d).0) → has vars v ≡ false
+pub none_before : (v : VarId) (vars : List VarId) → ((k : ℕ) (d : VarId) → k < length vars → v.0 < (get_or vars k d).0) → has vars v ≡ false
 none_before v [] before = refl
 none_before v (w ∷ vars) before =
     let at : eqb w.0 v.0 ≡ false = elim (cases_Bool (eqb w.0 v.0)) [ inl e ↦ let same = eqb-true w.0 v.0 e in absurd (omega (arith, same, before 0 w (omega arith))) | inr e ↦ e ] in

@@ -1,24 +1,20 @@
 -- Patterns and constants are read back from what is saved of them.
-use Rattle.std.specs.Prelude.{◌≡◌, ◌≢◌, ◌↔◌, ◌<◌, ◌+◌, ◌++◌, ◌&&◌, ℕ, Bool, suc, true, false, All, Contains, List, [], ◌∷◌, None, Option, Some, filter, if◌then◌else◌, length, map, refl, slice_index_or, take}
-use Rattle.std.specs.Bool.{Decides}
-use Rattle.std.specs.List.{IsDistinct, list_any}
+use Rattle.std.specs.Prelude.{◌≡◌, ◌↔◌, ◌<◌, ◌+◌, ◌++◌, ◌&&◌, ℕ, Bool, suc, true, false, All, Contains, List, [], ◌∷◌, None, Option, Some, filter, if◌then◌else◌, length, map, refl, slice_index_or, take}
 use Rattle.std.specs.List.Sorted.{IsPermutation}
 use Rattle.std.specs.Ordering.{is_gt}
 use Rattle.std.specs.declared.cmp.Ordering.{Ordering}
 use Rattle.std.proofs.Common.{◌∙◌, ap, arith, cond, get_or, inl, inr, subst, sym}
-use Rattle.std.proofs.lemmas.Bool.{cases_Bool, false≢true, or_cases}
-use Rattle.std.proofs.lemmas.List.{get_or-map, get_or-take, get_or_past, length-map, length-take-le, map-append, take_more}
+use Rattle.std.proofs.lemmas.Bool.{cases_Bool}
+use Rattle.std.proofs.lemmas.List.{get_or_past, length-take-le, take_more}
 use Rattle.std.proofs.lemmas.List.Elements.{All-cons, All-head, All-nil, All-tail, Contains-get_or}
 use Rattle.std.proofs.lemmas.List.Kept.{AllPairs-cons, AllPairs-filter}
 use Rattle.std.proofs.lemmas.List.Sorted.{All-permutation, IsPermutation-cons, IsPermutation-map, IsPermutation-middle, IsPermutation-refl, IsPermutation-sym, IsPermutation-trans, sum_by-IsPermutation}
-use Rattle.std.proofs.lemmas.List.Quantifiers.{all_pairs_push}
-use Rattle.std.proofs.lemmas.Map.Made.{AllPairs-from_IsDistinct, IsDistinct-from_AllPairs}
 use Rattle.std.proofs.lemmas.Option.{none-some, same_Some}
 use Rattle.std.proofs.lemmas.Map.Keys.{IsDistinct-IsPermutation}
 use Rattle.dk_base.specs.declared.kinds.VarId.{VarId}
 use Rattle.dk_constants.specs.Known.{Entries, EntriesAscend as KnownAscend}
-use Rattle.dk_presence.proofs.Refining.{any_at, contains-has, has-contains}
-use Rattle.dk_presence.proofs.Sameness.{ascend_rest, same_ascending, same_vars-refl, same_vars-sym, same_vars-true}
+use Rattle.dk_presence.proofs.Refining.{contains-has, has-contains}
+use Rattle.dk_presence.proofs.Sameness.{ascend_rest, same_ascending, same_vars-sym}
 use Rattle.dk_presence.proofs.Sums.{has-filter}
 use Rattle.dk_presence.specs.Patterns.{AreHeld, has, held_patterns, same_vars}
 use Rattle.dk_presence.specs.declared.held.Held.{Held}
@@ -65,7 +61,7 @@ chosen_more leaders truths i d l =
     ap (λ vs. chosen_leaders vs truths) (take_more leaders i d l) ∙ (chosen_push (take i leaders) truths (get_or leaders i d)
     ∙ ap (λ n. chosen_leaders (take i leaders) truths ++ (if slice_index_or truths n false then get_or leaders i d ∷ [] else [])) (length-take-le i leaders (omega arith)))
 
-chosen_all : (P : VarId → Type 0) (leaders : List VarId) (truths : List Bool) → All P leaders → All P (chosen_leaders leaders truths)
+pub chosen_all : (P : VarId → Type 0) (leaders : List VarId) (truths : List Bool) → All P leaders → All P (chosen_leaders leaders truths)
 chosen_all P [] truths all = All-nil P
 chosen_all P (v ∷ leaders) [] all = All-nil P
 chosen_all P (v ∷ leaders) (t ∷ truths) all =
@@ -127,7 +123,7 @@ module _ {X : Type 0} (R : X → X → Ordering) where
     | false ↦ IsPermutation-refl (x ∷ y ∷ ys)
   ]
 
-  ascending_moves : (xs : List X) → IsPermutation xs (ascending R xs)
+  pub ascending_moves : (xs : List X) → IsPermutation xs (ascending R xs)
   ascending_moves [] = IsPermutation-refl []
   ascending_moves (x ∷ xs) = IsPermutation-trans (x ∷ xs) (x ∷ ascending R xs) (put R x (ascending R xs)) (IsPermutation-cons x xs (ascending R xs) (ascending_moves xs)) (put_moves x (ascending R xs))
 
@@ -149,39 +145,6 @@ held_moved held others moved are = record {
 pub patterns_moved : (leaders : List VarId) (held others : List Held) → IsPermutation held others → patterns_of leaders others ≡ patterns_of leaders held
 patterns_moved leaders held others moved = same_patterns leaders others held (λ f. sum_by-IsPermutation f held others moved)
 
--- ---- distinct patterns
-pub vars_decided : (a b : List VarId) → Decides (same_vars a b) (a ≡ b)
-vars_decided a b = (same_vars-true a b, λ e. subst (λ c. same_vars a c ≡ true) e (same_vars-refl a))
-
-pub any_found : (p : List VarId) (ps : List (List VarId)) → list_any (same_vars p) ps ≡ true → Contains ps p
-any_found p [] h = absurd (false≢true h)
-any_found p (q ∷ ps) h = elim (or_cases (same_vars p q) (list_any (same_vars p) ps) h) [
-  | inl here ↦ (0, omega arith, sym (same_vars-true p q here))
-  | inr later ↦ let rest = any_found p ps later in let l = rest.1 in (suc rest.0, omega (arith, l), rest.2)
-]
-
--- no pattern of a list without repeats stands in front of itself
-pub twice : (held : List Held) (i : ℕ) (d : Held) → i < length held → Contains (held_patterns (take i held)) (get_or held i d).leaders → IsDistinct same_vars (held_patterns held) → ⊥
-twice held i d l there once =
-    let long = length-map held (λ (h : Held). h.leaders) in
-    let m = there.1 in
-    let short : there.0 < i = omega (arith, m, length-map (take i held) (λ (h : Held). h.leaders), length-take-le i held (omega arith)) in
-    let here : get_or (held_patterns held) i [] ≡ (get_or held i d).leaders = get_or-map (λ (h : Held). h.leaders) held i d [] l in
-    let other : get_or (held_patterns held) there.0 [] ≡ (get_or held there.0 d).leaders = get_or-map (λ (h : Held). h.leaders) held there.0 d [] (omega (arith, short, l)) in
-    let taken = get_or-map (λ (h : Held). h.leaders) (take i held) there.0 d (get_or held i d).leaders (omega (arith, m, length-map (take i held) (λ (h : Held). h.leaders))) in
-    let same : (get_or (take i held) there.0 d).leaders ≡ (get_or held there.0 d).leaders = ap (λ (h : Held). h.leaders) (get_or-take i held there.0 d short) in
-    AllPairs-from_IsDistinct vars_decided (held_patterns held) once there.0 i [] short (omega (arith, l, long)) (other ∙ (sym same ∙ (sym taken ∙ (there.2 ∙ sym here))))
-
--- one pattern more
-pub distinct_more : (held : List Held) (i : ℕ) (d : Held) → i < length held → IsDistinct same_vars (held_patterns (take i held)) → list_any (same_vars (get_or held i d).leaders) (held_patterns (take i held)) ≡ false
-    → IsDistinct same_vars (held_patterns (take (i + 1) held))
-distinct_more held i d l once off =
-    let front = held_patterns (take i held) in
-    let last = (get_or held i d).leaders in
-    let more : held_patterns (take (i + 1) held) ≡ front ++ last ∷ [] = ap held_patterns (take_more held i d l) ∙ map-append (λ (h : Held). h.leaders) (take i held) (get_or held i d ∷ []) in
-    subst (IsDistinct same_vars) (sym more) (IsDistinct-from_AllPairs vars_decided (front ++ last ∷ []) (all_pairs_push (λ a b. a ≢ b) front last (AllPairs-from_IsDistinct vars_decided front once)
-    (λ k e m same. false≢true (sym off ∙ any_at (same_vars last) front k e m ((vars_decided last (get_or front k e)).1 (sym same))))))
-
 -- ---- what is found of constants
 pub some_entries : (known : List Known) (found : Entries) → found ≡ map entry_of known → KnownAscend found → (r : Option Entries) → r ≡ Some found → (entries : Entries) → (r ≡ Some entries) ↔ HaveEntries known entries
 some_entries known found is up r e entries = (
@@ -200,14 +163,8 @@ module _ (leaders : List VarId) (up : VarsAscend leaders) (patterns : List Patte
   abbrev found_held : List Held
   found_held = map (held_of leaders) patterns
 
-  pub held_form : (found : List Held) → found ≡ found_held → All (λ h. 0 < h.count) found → IsDistinct same_vars (held_patterns found) → AreHeld found
-  held_form found is some once = record { once = once; some = some; ascend = subst (All (λ h. VarsAscend h.leaders)) (sym is) (held_ascend leaders patterns up) }
-
-  pub have_patterns : (found : List Held) → found ≡ found_held → AreHeld found → patterns_of leaders found ≡ patterns → HavePatterns leaders patterns found
-  have_patterns found is form saved = record { form = form; lead = subst (All (λ h. All (Contains leaders) h.leaders)) (sym is) (held_lead leaders patterns); saved = saved }
-
   -- what any patterns that are saved like that say of these
-  pub have_these : (found : List Held) → found ≡ found_held → (held : List Held) → HavePatterns leaders patterns held → IsPermutation held found × AreHeld found × (patterns_of leaders found ≡ patterns)
-  have_these found is held have =
-      let moved : IsPermutation held found = subst (IsPermutation held) (sym is) (patterns_back leaders up patterns held have) in
-      (moved, held_moved held found moved have.form, patterns_moved leaders held found moved ∙ have.saved)
+  pub have_these : (held : List Held) → HavePatterns leaders patterns held → IsPermutation held found_held × AreHeld found_held
+  have_these held have =
+      let moved = patterns_back leaders up patterns held have in
+      (moved, held_moved held found_held moved have.form)

@@ -1,5 +1,5 @@
 -- A list in ascending order is the only one that has the items, each as often, and ascends.
-use Rattle.std.specs.Prelude.{◌≡◌, ◌<◌, ◌≤◌, ◌+◌, ℕ, suc, true, false, All, List, [], ◌∷◌, if◌then◌else◌, length, refl, sum_by}
+use Rattle.std.specs.Prelude.{◌≡◌, ◌<◌, ◌≤◌, ◌+◌, ℕ, zero, suc, true, false, All, List, [], ◌∷◌, if◌then◌else◌, length, refl, sum_by}
 use Rattle.std.specs.Cmp.{IsTotalOrder}
 use Rattle.std.specs.List.Sorted.{IsPermutation, IsSorted}
 use Rattle.std.specs.Ordering.{is_eq, is_gt, is_lt, ordering_reverse}
@@ -57,6 +57,17 @@ module _ {X : Type 0} (R : X → X → Ordering) (o : IsTotalOrder R) where
   ascending_rises : (xs : List X) → Rises (ascending R xs)
   ascending_rises [] = tt
   ascending_rises (x ∷ xs) = put_rises x (ascending R xs) (ascending_rises xs)
+
+  rises_next : (xs : List X) → Rises xs → (i : ℕ) (d : X) → suc i < length xs → is_gt (R (get_or xs i d) (get_or xs (suc i) d)) ≡ false
+  rises_next [] up i d l = absurd (omega (arith, l))
+  rises_next (x ∷ xs) up zero d l = up.0 0 d (omega (arith, l))
+  rises_next (x ∷ xs) up (suc i) d l = rises_next xs up.1 i d (omega (arith, l))
+
+  -- no item is greater than the next one
+  pub ascending_next : (xs ys : List X) → ascending R xs ≡ ys → (i : ℕ) (d : X) → i + 1 < length ys → is_gt (R (get_or ys i d) (get_or ys (i + 1) d)) ≡ false
+  ascending_next xs ys e i d l =
+      let more : suc i ≡ i + 1 = omega arith in
+      subst (λ n. is_gt (R (get_or ys i d) (get_or ys n d)) ≡ false) more (rises_next ys (subst Rises e (ascending_rises xs)) i d (omega (arith, l)))
 
   put_weighs : (f : X → ℕ) (x : X) (ys : List X) → sum_by f (put R x ys) ≡ f x + sum_by f ys
   put_weighs f x [] = sum_by-cons f x []

@@ -1,5 +1,7 @@
 -- Parts that are read back from the order in which they are saved.
-use Rattle.std.specs.Prelude.{◌≡◌, ℕ, Bool, All, Contains, List, [], ◌∷◌, length, slice_set, if◌then◌else◌}
+use Rattle.std.specs.Prelude.{◌≡◌, ◌<◌, ◌+◌, ℕ, Bool, true, All, Contains, List, [], ◌∷◌, length, slice_index_or, slice_set, if◌then◌else◌}
+use Rattle.std.specs.Cmp.Lexicographic.{slice_cmp}
+use Rattle.std.specs.Ordering.{bool_cmp, is_lt}
 use Rattle.dk_base.specs.declared.kinds.VarId.{VarId}
 use Rattle.dk_base.specs.declared.values.Value.{Value}
 use Rattle.dk_classes.specs.Leaders.{AreClasses}
@@ -28,6 +30,20 @@ pub record HavePatterns (leaders : List VarId) (patterns : List Pattern) (held :
 -- entries that ascend, and are saved as these constants
 abbrev pub HaveEntries : List Known → Entries → Type 0
 HaveEntries known entries = EntriesAscend entries × (all_known_of entries ≡ known)
+
+-- its truth values are less than those of the other, by the leaders in order
+abbrev pub is_before : Pattern → Pattern → Bool
+is_before p q = is_lt (slice_cmp bool_cmp p.present q.present)
+
+-- each pattern is before the next one
+abbrev pub Rise : List Pattern → Type 0
+Rise patterns = (i : ℕ) (d : Pattern) → i + 1 < length patterns → is_before (slice_index_or patterns i d) (slice_index_or patterns (i + 1) d) ≡ true
+
+-- patterns of some samples each, over so many leaders, in the order in which they are saved
+pub record AreInOrder (count : ℕ) (patterns : List Pattern) : Type 0 where
+  pub some : All (λ p. 0 < p.count) patterns
+  pub full : All (λ p. length p.present ≡ count) patterns
+  pub rise : Rise patterns
 
 -- ---- how they are read back
 -- these members get this leader

@@ -46,7 +46,7 @@ fn presence_of(alloc: Global, leaders: &[VarId], present: &[VarId]) -> Result<Ve
     requires present { VarsAscend present.now }
     ensures { IfOk result (λ truths. truths.items ≡ map (has present.now) leaders.now) }
 {
-    let mut truths = Vec::new(alloc);
+    let mut truths = Vec::with_capacity(alloc, leaders.len())?;
     let mut left = present;
     for leader in leaders {
         left = from_var(left, *leader);
@@ -65,7 +65,7 @@ fn with_truths(
     requires held { AreHeld held.now }
     ensures { IfOk result (λ all. map seen all.items ≡ map (pattern_of leaders.now) held.now) }
 {
-    let mut all = Vec::new(alloc);
+    let mut all = Vec::with_capacity(alloc, held.len())?;
     for pattern in held {
         let present = presence_of(alloc, leaders, pattern.leaders.as_slice())?;
         all.push((present, pattern.count))?;
@@ -86,7 +86,7 @@ fn sort_patterns(all: Vec<(Vec<bool>, u64)>) -> Result<Vec<(Vec<bool>, u64)>, No
 fn as_patterns(alloc: Global, all: Vec<(Vec<bool>, u64)>) -> Result<List<Pattern>, NoMemory>
     ensures { IfOk result (λ patterns. patterns ≡ map seen all.items) }
 {
-    let mut patterns = List::new(alloc);
+    let mut patterns = List::from_vec(Vec::with_capacity(alloc, all.len())?);
     for (present, count) in all {
         patterns.push(Pattern {
             count,

@@ -1,16 +1,13 @@
 // Patterns that are read back from a truth value for each leader.
-ghost use Rattle.std.specs.Prelude.{◌≡◌, ◌↔◌, ◌<◌, ◌≢◌, All, IfOk, IfSome, IsTrue, List, None, false, map, slice_index_or};
-ghost use Rattle.std.specs.List.{IsDistinct};
+ghost use Rattle.std.specs.Prelude.{◌≡◌, ◌↔◌, ◌<◌, ◌≢◌, All, IfOk, IfSome, IsTrue, List, None, count_by, false, length, map, slice_index_or};
 ghost use Rattle.std.specs.List.Sorted.{IsPermutation};
-ghost use Rattle.dk_presence.specs.Patterns.{held_patterns, same_vars};
 ghost use Rattle.dk_presence.specs.declared.held.Held.{Held};
-ghost use Rattle.dk_parts.specs.Restored.{HavePatterns, chosen_leaders, held_of};
+ghost use Rattle.dk_parts.specs.Restored.{AreInOrder, HavePatterns, Rise, chosen_leaders, held_of, is_before};
 ghost use Rattle.dk_samples.specs.Leaders.{VarsAscend};
 
-use crate::{Pattern, patterns_in_order};
-use dk_base::{List, NoMemory, VarId, same_items};
+use crate::Pattern;
+use dk_base::{List, NoMemory, VarId};
 use dk_presence::{Held, Presence};
-use indexmap::IndexSet;
 use std::alloc::Global;
 
 // Whether the truth value at the place is there and true.
@@ -20,7 +17,20 @@ fn is_true(truths: &[bool], place: usize) -> bool
     place < truths.len() && truths[place]
 }
 
-// The leaders at whose places the truth values are true.
+// How many of the truth values are true.
+fn true_count(truths: &[bool]) -> usize
+    ensures { result ≡ count_by (λ t. t) truths.now }
+{
+    let mut count = 0;
+    for truth in truths {
+        if *truth {
+            count += 1;
+        }
+    }
+    count
+}
+
+// The leaders at whose places the truth values are true. The list has room for these alone.
 fn chosen_leaders(
     alloc: Global,
     leaders: &[VarId],
@@ -28,7 +38,7 @@ fn chosen_leaders(
 ) -> Result<List<VarId>, NoMemory>
     ensures { IfOk result (λ present. present ≡ chosen_leaders leaders.now truths.now) }
 {
-    let mut present = List::new(alloc);
+    let mut present = List::from_vec(Vec::with_capacity(alloc, true_count(truths))?);
     for i in 0..leaders.len() {
         if is_true(truths, i) {
             present.push(leaders[i])?;
@@ -37,12 +47,16 @@ fn chosen_leaders(
     Ok(present)
 }
 
-// Each pattern with its present leaders.
-fn all_held(alloc: Global, leaders: &[VarId], patterns: &[Pattern]) -> Result<List<Held>, NoMemory>
-    ensures { IfOk result (λ held. held ≡ map (held_of leaders.now) patterns.now) }
+// Each pattern with its present leaders. The truth values of a pattern are let go when its leaders are there.
+fn all_held(
+    alloc: Global,
+    leaders: &[VarId],
+    patterns: List<Pattern>,
+) -> Result<List<Held>, NoMemory>
+    ensures { IfOk result (λ held. held ≡ map (held_of leaders.now) patterns) }
 {
-    let mut held = List::new(alloc);
-    for pattern in patterns {
+    let mut held = List::from_vec(Vec::with_capacity(alloc, patterns.len())?);
+    for pattern in patterns.into_vec() {
         let present = chosen_leaders(alloc, leaders, pattern.present.as_slice())?;
         held.push(Held {
             count: pattern.count,
@@ -53,10 +67,10 @@ fn all_held(alloc: Global, leaders: &[VarId], patterns: &[Pattern]) -> Result<Li
 }
 
 // Whether each pattern is of some samples.
-fn are_counted(held: &[Held]) -> bool
-    ensures { IsTrue result ↔ All (λ h. 0 < h.count) held.now }
+fn are_counted(patterns: &[Pattern]) -> bool
+    ensures { IsTrue result ↔ All (λ p. 0 < p.count) patterns.now }
 {
-    for pattern in held {
+    for pattern in patterns {
         if pattern.count == 0 {
             return false;
         }
@@ -64,39 +78,46 @@ fn are_counted(held: &[Held]) -> bool
     true
 }
 
-// Whether no two patterns have the same leaders.
-fn are_distinct(alloc: Global, held: &[Held]) -> Result<bool, NoMemory>
-    ensures { IfOk result (λ are. IsTrue are ↔ IsDistinct same_vars (held_patterns held.now)) }
+// Whether each pattern has so many truth values.
+fn are_full(patterns: &[Pattern], count: usize) -> bool
+    ensures { IsTrue result ↔ All (λ p. length p.present ≡ count) patterns.now }
 {
-    let mut seen = IndexSet::new(alloc);
-    for pattern in held {
-        if !seen.insert(Vec::from_slice(alloc, pattern.leaders.as_slice())?)? {
-            return Ok(false);
-        }
-    }
-    Ok(true)
-}
-
-// Whether the patterns are the same, in the same order.
-fn are_same(patterns: &[Pattern], others: &[Pattern]) -> bool
-    ensures { IsTrue result ↔ (patterns.now ≡ others.now) }
-{
-    if patterns.len() != others.len() {
-        return false;
-    }
-    for i in 0..patterns.len() {
-        if !is_same(&patterns[i], &others[i]) {
+    for pattern in patterns {
+        if pattern.present.len() != count {
             return false;
         }
     }
     true
 }
 
-// Whether the patterns are the same.
-fn is_same(pattern: &Pattern, other: &Pattern) -> bool
-    ensures { IsTrue result ↔ (pattern.now ≡ other.now) }
+// Whether the truth values of the pattern are less than those of the next one.
+fn is_before(pattern: &Pattern, next: &Pattern) -> bool
+    ensures { result ≡ is_before pattern.now next.now }
 {
-    pattern.count == other.count && same_items(pattern.present.as_slice(), other.present.as_slice())
+    pattern
+        .present
+        .as_slice()
+        .cmp(next.present.as_slice())
+        .is_lt()
+}
+
+// Whether the patterns rise by their truth values.
+fn rise(patterns: &[Pattern]) -> bool
+    ensures { IsTrue result ↔ Rise patterns.now }
+{
+    for i in 1..patterns.len() {
+        if !is_before(&patterns[i - 1], &patterns[i]) {
+            return false;
+        }
+    }
+    true
+}
+
+// Whether patterns over so many leaders are as they are saved.
+fn are_in_order(patterns: &[Pattern], count: usize) -> bool
+    ensures { IsTrue result ↔ AreInOrder count patterns.now }
+{
+    are_counted(patterns) && are_full(patterns, count) && rise(patterns)
 }
 
 /// The patterns over these leaders, which ascend, from the order in which they are saved; or None where no patterns are saved like
@@ -104,24 +125,15 @@ fn is_same(pattern: &Pattern, other: &Pattern) -> bool
 pub fn presence_from(
     alloc: Global,
     leaders: &[VarId],
-    patterns: &[Pattern],
+    patterns: List<Pattern>,
 ) -> Result<Option<Presence>, NoMemory>
     requires { VarsAscend leaders.now }
-    ensures saved { IfOk result (λ found. IfSome found (HavePatterns leaders.now patterns.now)) }
-    ensures any { IfOk result (λ found. (held : List Held) → HavePatterns leaders.now patterns.now held → (found ≢ None) × IfSome found (IsPermutation held)) }
+    ensures saved { IfOk result (λ found. IfSome found (HavePatterns leaders.now patterns)) }
+    ensures any { IfOk result (λ found. (held : List Held) → HavePatterns leaders.now patterns held → (found ≢ None) × IfSome found (IsPermutation held)) }
 {
+    if !are_in_order(patterns.as_slice(), leaders.len()) {
+        return Ok(None);
+    }
     let held = all_held(alloc, leaders, patterns)?;
-    if !are_counted(held.as_slice()) {
-        return Ok(None);
-    }
-    if !are_distinct(alloc, held.as_slice())? {
-        return Ok(None);
-    }
-    let presence = Presence::from_held(alloc, held)?;
-    let saved = patterns_in_order(alloc, leaders, presence.held())?;
-    Ok(if are_same(saved.as_slice(), patterns) {
-        Some(presence)
-    } else {
-        None
-    })
+    Ok(Some(Presence::from_held(alloc, held)?))
 }

@@ -5,5 +5,6 @@ pub mod Putting
 pub mod Refining
 pub mod Finding
 pub mod Placing
+pub mod Keying
 pub mod Examples
 pub mod Determined

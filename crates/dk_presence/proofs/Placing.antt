@@ -1,11 +1,11 @@
 -- The patterns by their places.
-use Rattle.std.proofs.Common.{◌≡◌, ℕ, zero, suc, ◌+◌, ◌<◌, ◌≤◌, eqb, inl, inr, List, [], ◌∷◌, ◌++◌, length, get_or, set, take, map, position, Some, None, Bool, true, false, cond, not, ◌&&◌, ◌||◌, refl, ap, sym, ◌∙◌, subst, arith}
+use Rattle.std.proofs.Common.{◌≡◌, ℕ, zero, suc, ◌<◌, ◌≤◌, eqb, inl, inr, List, [], ◌∷◌, ◌++◌, length, get_or, set, map, position, Some, None, Bool, true, false, cond, ◌&&◌, ◌||◌, refl, ap, sym, ◌∙◌, subst, arith}
 use Rattle.std.specs.Prelude.{nat_lt}
 use Rattle.std.specs.Cmp.Lexicographic.{pointwise}
 use Rattle.std.specs.List.{All, AllByRecursion, IsDistinct, list_any, position_or_len}
 use Rattle.std.proofs.lemmas.Bool.{cases_Bool, true≢false}
 use Rattle.std.proofs.lemmas.Bool.Decides.{nat_tests}
-use Rattle.std.proofs.lemmas.List.{get_or-map, get_or-take, length-map, length-take-le, map-append, take_more}
+use Rattle.std.proofs.lemmas.List.{get_or-map, length-map}
 use Rattle.std.proofs.lemmas.List.Sums.{fails_before_first, position_or_len_is}
 use Rattle.std.proofs.lemmas.List.Elements.{All-cons, All-head, All-nil, All-tail}
 use Rattle.std.proofs.lemmas.Map.Keys.{apart_from_distinct, IsDistinct-cons, IsDistinct-head, IsDistinct-tail}
@@ -87,6 +87,13 @@ position_at p ps i l here before =
     let within : nat_lt i (length ps) ≡ true = grind (arith, nat_tests, l) in
     ap (λ n. cond (nat_lt n (length ps)) (Some n) None) first ∙ ap (λ b. cond b (Some i) None) within
 
+-- where none passes, none is found
+pub nowhere : (p : List VarId → Bool) (ps : List (List VarId)) → ((k : ℕ) → k < length ps → p (get_or ps k []) ≡ false) → position p ps ≡ None
+nowhere p ps none =
+    let last : position_or_len p ps ≡ length ps = position_or_len_is p ps (length ps) [] (omega arith) none (λ l. absurd (omega (arith, l))) in
+    let over : nat_lt (length ps) (length ps) ≡ false = grind (arith, nat_tests) in
+    ap (λ n. cond (nat_lt n (length ps)) (Some n) None) last ∙ ap (λ b. cond b (Some (length ps)) None) over
+
 -- by the place that a look-up finds
 pub added_found : (present : List VarId) (held : List Held) (i : ℕ) → position (same_vars present) (held_patterns held) ≡ Some i
     → (i < length held) × ((d : Held) → with_sample_of present held ≡ set held i (counted_once_more (get_or held i d))) × (held_patterns (with_sample_of present held) ≡ held_patterns held)
@@ -141,45 +148,16 @@ module _ {K : Type 0} (items : K → List VarId) (p : List VarId → Bool) (q : 
   any_keys [] = refl
   any_keys (k ∷ ks) = ap (λ b. b || list_any q ks) (same k) ∙ ap (λ b. p (items k) || b) (any_keys ks)
 
-  first_keys : (ks : List K) → position_or_len q ks ≡ position_or_len p (map items ks)
-  first_keys [] = refl
-  first_keys (k ∷ ks) = ap (λ b. cond {A = ℕ} (not b) (1 + position_or_len q ks) 0) (same k) ∙ ap (λ n. cond {A = ℕ} (not (p (items k))) (1 + n) 0) (first_keys ks)
-
-  pub position_keys : (ks : List K) → position q ks ≡ position p (map items ks)
-  position_keys ks =
-      ap (λ n. cond (nat_lt n (length ks)) (Some n) None) (first_keys ks)
-      ∙ ap (λ m. cond (nat_lt (position_or_len p (map items ks)) m) (Some (position_or_len p (map items ks))) None) (sym (length-map ks items))
-
--- ---- the keys of more patterns
-distinct_ahead : (held : List Held) (i : ℕ) (d : Held) → i < length held → IsDistinct same_vars (held_patterns held) → list_any (same_vars (get_or held i d).leaders) (held_patterns (take i held)) ≡ false
-distinct_ahead held i d l once =
-    any_not (same_vars (get_or held i d).leaders) (held_patterns (take i held)) (λ k m.
-    let long = length-map held (λ (h : Held). h.leaders) in
-    let short : k < i = omega (arith, m, length-map (take i held) (λ (h : Held). h.leaders), length-take-le i held (omega arith)) in
-    let apart = apart_from_distinct same_vars (held_patterns held) k i [] once short (omega (arith, l, long)) in
-    let here = get_or-map (λ (h : Held). h.leaders) held i d [] l in
-    let there = get_or-map (λ (h : Held). h.leaders) held k d [] (omega arith) in
-    let taken = get_or-map (λ (h : Held). h.leaders) (take i held) k d [] (omega (arith, m, length-map (take i held) (λ (h : Held). h.leaders))) in
-    let same : (get_or (take i held) k d).leaders ≡ (get_or held k d).leaders = ap (λ (h : Held). h.leaders) (get_or-take i held k d short) in
-    ap (λ xs. same_vars (get_or held i d).leaders xs) (taken ∙ (same ∙ sym there)) ∙ (same_vars-sym (get_or held i d).leaders (get_or (held_patterns held) k [])
-    ∙ (ap (same_vars (get_or (held_patterns held) k [])) (sym here) ∙ apart)))
-
--- one pattern more gets a key of its own
-pub keys_more : {K : Type 0} (items : K → List VarId) (eq : K → K → Bool) → ((a b : K) → eq a b ≡ same_vars (items a) (items b)) → (held : List Held) (i : ℕ) (d : Held) → i < length held → IsDistinct same_vars (held_patterns held)
-    → (ks more : List K) (k : K) → map items ks ≡ held_patterns (take i held) → items k ≡ (get_or held i d).leaders → more ≡ cond (list_any (eq k) ks) ks (ks ++ k ∷ []) → map items more ≡ held_patterns (take (i + 1) held)
-keys_more items eq same held i d l once ks more k keys key is =
-    let off : list_any (eq k) ks ≡ false = any_keys items (same_vars (items k)) (eq k) (same k) ks ∙ (ap (list_any (same_vars (items k))) keys ∙ (ap (λ x. list_any (same_vars x) (held_patterns (take i held))) key ∙ distinct_ahead held i d l once)) in
-    ap (map items) (is ∙ ap (λ b. cond b ks (ks ++ k ∷ [])) off) ∙ (map-append items ks (k ∷ []) ∙ (ap (λ xs. xs ++ items k ∷ []) keys
-    ∙ (ap (λ x. held_patterns (take i held) ++ x ∷ []) key ∙ sym (ap held_patterns (take_more held i d l) ∙ map-append (λ (h : Held). h.leaders) (take i held) (get_or held i d ∷ [])))))
-
--- a key more for the new pattern
-pub keys_new : {K : Type 0} (items : K → List VarId) (eq : K → K → Bool) → ((a b : K) → eq a b ≡ same_vars (items a) (items b)) → (present : List VarId) (held : List Held) → position (same_vars present) (held_patterns held) ≡ None
-    → (ks more : List K) (k : K) → map items ks ≡ held_patterns held → items k ≡ present → more ≡ cond (list_any (eq k) ks) ks (ks ++ k ∷ []) → map items more ≡ held_patterns (with_sample_of present held)
-keys_new items eq same present held none ks more k keys key is =
-    let off : list_any (eq k) ks ≡ false = any_keys items (same_vars (items k)) (eq k) (same k) ks ∙ (ap (list_any (same_vars (items k))) keys ∙ (ap (λ x. list_any (same_vars x) (held_patterns held)) key
-    ∙ any_not (same_vars present) (held_patterns held) (λ j l. fails_before_first (same_vars present) (held_patterns held) j [] (let long = position_none (same_vars present) (held_patterns held) none in omega arith)))) in
-    ap (map items) (is ∙ ap (λ b. cond b ks (ks ++ k ∷ [])) off) ∙ (map-append items ks (k ∷ []) ∙ (ap (λ xs. xs ++ items k ∷ []) keys
-    ∙ (ap (λ x. held_patterns held ++ x ∷ []) key ∙ sym (patterns_new present held none))))
+-- the pattern at a place is found there, since no two are the same
+pub position_here : (present : List VarId) (held : List Held) (i : ℕ) (d : Held) → IsDistinct same_vars (held_patterns held) → i < length held → same_vars present (get_or held i d).leaders ≡ true
+    → position (same_vars present) (held_patterns held) ≡ Some i
+position_here present held i d once l same =
+    let patterns = held_patterns held in
+    let within : i < length patterns = omega (arith, l, length-map held (λ (h : Held). h.leaders)) in
+    let here : same_vars present (get_or patterns i []) ≡ true = ap (same_vars present) (get_or-map (λ (h : Held). h.leaders) held i d [] l) ∙ same in
+    let is : present ≡ get_or patterns i [] = same_vars-true present (get_or patterns i []) here in
+    position_at (same_vars present) patterns i within here (λ k lt.
+    same_vars-sym present (get_or patterns k []) ∙ (ap (same_vars (get_or patterns k [])) is ∙ apart_from_distinct same_vars patterns k i [] once lt within))
 
 -- one pattern alone
 pub held_one : (h : Held) → 0 < h.count → VarsAscend h.leaders → AreHeld (h ∷ [])

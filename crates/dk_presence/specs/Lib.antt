@@ -2,3 +2,4 @@
 pub mod Patterns
 pub mod Steps
 pub mod Laws
+pub mod Hashes

@@ -9,11 +9,11 @@ ghost use Rattle.dk_presence.specs.Steps.{AreUnheld, Differ, refined, with_sampl
 
 use crate::Held;
 use crate::matching::place_among;
-use crate::places::{place_of, places_of};
+use crate::places::{Places, hash_of, place_of, places_of};
 use crate::steps::{count_once_more, refine_all, sum_of, with_one_more, with_pattern};
 use dk_base::{List, NoMemory, VarId, View};
 use dk_samples::{is_present, value_at};
-use indexmap::IndexSet;
+use indexmap::IndexMap;
 use std::alloc::Global;
 use std::marker::Model;
 use std::mem::replace;
@@ -23,11 +23,12 @@ use std::mem::replace;
 pub struct Presence {
     alloc: Global,
     held: Vec<Held>,
-    places: IndexSet<Vec<VarId>>,
+    places: Places,
 }
 
 impl Model for Presence {
-    ghost use Rattle.std.specs.Prelude.{◌≡◌, List, map};
+    ghost use Rattle.std.specs.Prelude.{List};
+    ghost use Rattle.dk_presence.specs.Hashes.{AreKeyed};
     ghost use Rattle.dk_presence.specs.Patterns.{AreHeld, held_patterns};
     ghost use Rattle.dk_presence.specs.declared.held.Held.{Held};
 
@@ -35,7 +36,7 @@ impl Model for Presence {
 
     ghost view = { λ p. p.held.items };
 
-    ghost invariant = { λ p. AreHeld p.held.items × (map (λ k. k.items) p.places.keys ≡ held_patterns p.held.items) };
+    ghost invariant = { λ p. AreHeld p.held.items × AreKeyed p.places (held_patterns p.held.items) };
 }
 
 /// The leaders that are present in a sample. They ascend where the leaders do.
@@ -65,7 +66,7 @@ impl Presence {
         Ok(Presence {
             alloc,
             held: Vec::new(alloc),
-            places: IndexSet::new(alloc),
+            places: IndexMap::new(alloc),
         })
     }
 
@@ -102,7 +103,7 @@ impl Presence {
     pub fn has_pattern(&self, present: &[VarId]) -> bool
         ensures { IsTrue result ↔ (0 < pattern_count self.now present.now) }
     {
-        place_of(&self.places, present).is_some()
+        place_of(&self.places, self.held.as_slice(), present).is_some()
     }
 
     /// Whether the leaders that are present in the sample are a pattern that is held. It takes no memory where the pattern is one of the
@@ -145,14 +146,14 @@ impl Presence {
             held,
             mut places,
         } = self;
-        match place_of(&places, present) {
+        match place_of(&places, held.as_slice(), present) {
             Some(place) => Ok(Presence {
                 alloc,
                 held: with_one_more(held, place),
                 places,
             }),
             None => {
-                places.insert(Vec::from_slice(alloc, present)?)?;
+                places.insert(hash_of(present), held.len())?;
                 Ok(Presence {
                     alloc,
                     held: with_pattern(alloc, held, present)?,

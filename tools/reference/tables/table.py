@@ -169,7 +169,8 @@ def arguments() -> list[Case]:
     files = {"t_csv": b"x\n1\n"}
     refused = ("", "--point P", "--separator ab t.csv", "--separator= t.csv --separator ; t.csv", "--separator \" t.csv", "--types 0 t.csv",
                "--types 1099511627777 t.csv", "--types -1 t.csv", "--types t.csv", "--types 1 --types 1 t.csv",
-               "--no-header --no-header t.csv", "--no-header=1 t.csv", "--point P --point Q t.csv", "--header t.csv", "--type 1 t.csv", "-p P t.csv", "--help=1 t.csv",
+               "--no-header --no-header t.csv", "--no-header=1 t.csv", "--point P --point Q t.csv", "--header t.csv", "--type 1 t.csv",
+               "-p P t.csv", "--help=1 t.csv",
                "--colour --help")
     cases = [run(f"refused: {text or 'no words'}", text, **files) for text in refused]
     cases.append(run("refused: a separator of no byte", "--separator= t.csv", **files))

@@ -1,7 +1,7 @@
 use Rattle.std.specs.Prelude.{◌≡◌, true}
 use Rattle.std.proofs.Common.{rules}
 use Rattle.dk_engine.proofs.Passing.{idle_slot}
-use Rattle.dk_engine.specs.Idle.{are_among, is_idle_over}
+use Rattle.dk_engine.specs.Idle.{are_near_each, is_idle_over}
 use Rattle.dk_engine.proofs.idle.is_idle_by.Goals as goal
 
 pub returns-then-is_idle_over : goal.returns-then-is_idle_over
@@ -11,6 +11,6 @@ returns-then-is_idle_over c h =
     let u = c.args.u in
     let v = c.args.v in
     let w = c.args.w in
-    let over : is_idle_over watch.fixed.items u v w slot.state ≡ true = search rules in
-    let among : are_among watch.near.items u v w ≡ true = search rules in
-    idle_slot watch slot c.requires.row u v w c.requires.leaders over among
+    let over : is_idle_over watch.ranges.items u v w slot.state ≡ true = search rules in
+    let near : are_near_each watch.ranges.items u v w ≡ true = search rules in
+    idle_slot watch slot c.requires.row u v w c.requires.leaders over near

@@ -1,13 +1,12 @@
-use Rattle.std.proofs.Common.{rules}
 use Rattle.std.specs.Prelude.{◌≡◌, true}
-use Rattle.dk_engine.proofs.KnownNumbers.{idle_stretch}
-use Rattle.dk_engine.specs.Idle.{is_among}
+use Rattle.std.proofs.Common.{rules}
+use Rattle.dk_engine.proofs.Driven.{idle_stretch}
+use Rattle.dk_engine.specs.Idle.{is_driven_stretch}
 use Rattle.dk_engine.proofs.idle.is_idle_stretch.Goals as goal
 
-pub returns-then-is_own_stretch : goal.returns-then-is_own_stretch
-returns-then-is_own_stretch c h =
-    let watch = c.args.watch.now in
-    let slot = c.args.slot.now in
-    let u = c.args.u in
-    let among : is_among watch.near.items u ≡ true = search rules in
-    idle_stretch watch slot c.requires.row u c.args.v c.args.w c.requires.leaders (c.is_own_stretch.ensures c.if-is_own_stretch.true) among
+pub returns-in-Some : goal.returns-in-Some
+returns-in-Some c h =
+    let x = c.args in
+    let d = c.in-Some.driver in
+    let driven : is_driven_stretch x.watch.now.ranges.items d.var d.first d.last x.u x.v x.w x.slot.now.state ≡ true = search rules in
+    idle_stretch x.watch.now x.slot.now c.requires.row d.var d.first d.last x.u x.v x.w c.requires.leaders driven

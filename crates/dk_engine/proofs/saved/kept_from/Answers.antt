@@ -16,7 +16,7 @@ returns-in-None-2-clause-any c = λ kept have.
     let found = c.in-Some.leaders in
     let leaders : found ≡ kept.leaders = same_Some found kept.leaders (sym c.in-Some.is ∙ (c.in_ok-leaders.ensures kept.leaders).1 (subst (λ cs. HaveMembers count cs kept.leaders) (sym c.as_slice.ensures) (members_kept count parts kept have))) in
     let own : c.leaders-2.result.now ≡ own_leaders kept.leaders = c.leaders-2.ensures.all ∙ ap own_leaders leaders in
-    let patterns = subst (λ ls. HavePatterns ls c.as_slice-2.result.now kept.held) (sym own) (subst (λ ps. HavePatterns (own_leaders kept.leaders) ps kept.held) (sym c.as_slice-2.ensures) (patterns_kept count parts kept have)) in
+    let patterns = subst (λ ls. HavePatterns ls parts.patterns kept.held) (sym own) (patterns_kept count parts kept have) in
     absurd ((c.in_ok-held.ensures.any kept.held patterns).0 c.in-None-2.is)
 
 pub returns-clause-saved : goal.returns-clause-saved
@@ -28,8 +28,8 @@ returns-clause-saved c =
     let known = c.in-Some-3.known in
     let kept : Kept = record { samples = parts.samples; leaders = leaders; known = known; held = held; slots = c.of.result } in
     let members : HaveMembers count parts.classes leaders = subst (λ cs. HaveMembers count cs leaders) c.as_slice.ensures ((c.in_ok-leaders.ensures leaders).0 c.in-Some.is) in
-    let patterns : HavePatterns c.leaders-2.result.now c.as_slice-2.result.now held = subst (λ r. IfSome r (HavePatterns c.leaders-2.result.now c.as_slice-2.result.now)) c.in-Some-2.is c.in_ok-held.ensures.saved in
-    let over : HavePatterns (own_leaders leaders) parts.patterns held = subst (λ ls. HavePatterns ls parts.patterns held) c.leaders-2.ensures.all (subst (λ ps. HavePatterns c.leaders-2.result.now ps held) c.as_slice-2.ensures patterns) in
+    let patterns : HavePatterns c.leaders-2.result.now parts.patterns held = subst (λ r. IfSome r (HavePatterns c.leaders-2.result.now parts.patterns)) c.in-Some-2.is c.in_ok-held.ensures.saved in
+    let over : HavePatterns (own_leaders leaders) parts.patterns held = subst (λ ls. HavePatterns ls parts.patterns held) c.leaders-2.ensures.all patterns in
     let entries : HaveEntries parts.known known = (c.in_ok-known.ensures known).0 c.in-Some-3.is in
     have_all count parts kept refl members over entries (c.of.ensures ∙ c.into_vec.ensures)
 
@@ -42,7 +42,7 @@ returns-clause-any c = λ kept have.
     let known = c.in-Some-3.known in
     let leaders : found ≡ kept.leaders = same_Some found kept.leaders (sym c.in-Some.is ∙ (c.in_ok-leaders.ensures kept.leaders).1 (subst (λ cs. HaveMembers count cs kept.leaders) (sym c.as_slice.ensures) (members_kept count parts kept have))) in
     let own : c.leaders-2.result.now ≡ own_leaders kept.leaders = c.leaders-2.ensures.all ∙ ap own_leaders leaders in
-    let patterns = subst (λ ls. HavePatterns ls c.as_slice-2.result.now kept.held) (sym own) (subst (λ ps. HavePatterns (own_leaders kept.leaders) ps kept.held) (sym c.as_slice-2.ensures) (patterns_kept count parts kept have)) in
+    let patterns = subst (λ ls. HavePatterns ls parts.patterns kept.held) (sym own) (patterns_kept count parts kept have) in
     let entries : known ≡ kept.known = same_Some known kept.known (sym c.in-Some-3.is ∙ (c.in_ok-known.ensures kept.known).1 (entries_kept count parts kept have)) in
     let slots : c.of.result ≡ kept.slots = c.of.ensures ∙ (c.into_vec.ensures ∙ sym (ap (λ (p : Parts). p.slots) have.saved)) in (
       λ e. none-some _ (sym e),

@@ -1,11 +1,21 @@
-use Rattle.std.proofs.Common.{◌∙◌, ap, Vec, Global}
-use Rattle.dk_base.specs.declared.kinds.VarId.{VarId}
+use Rattle.std.proofs.Common.{◌≡◌, ◌∙◌, ◌+◌, ◌∷◌, ◌++◌, [], List, ap, sym, subst, take, arith, get_or}
+use Rattle.std.proofs.lemmas.List.{map-append, take_all, take_more}
+use Rattle.dk_presence.specs.Hashes.{AreKeyed, hash_of}
+use Rattle.dk_presence.specs.Patterns.{held_patterns}
 use Rattle.dk_presence.specs.declared.held.Held.{Held}
-use Rattle.dk_presence.proofs.Placing.{keys_more, pointwise_same}
+use Rattle.dk_presence.proofs.Keying.{keyed_more}
 use Rattle.dk_presence.proofs.places.places_of.Goals as goal
 
-pub loop-pattern-preserved : goal.loop-pattern-preserved
-loop-pattern-preserved c =
-    keys_more (λ (k : Vec VarId Global). k.items) _ (λ a b. pointwise_same a.items b.items) c.args.held.now c.loop-pattern.pattern-index c.pattern-item.result c.loop-pattern-test.true c.requires
-    c.loop-pattern.places.keys c.insert.new.self.keys c.in_ok-from_slice.field-0 c.loop-pattern.invariant
-    (c.in_ok-from_slice.ensures.items ∙ (c.as_slice.ensures ∙ ap (λ (h : Held). h.leaders) c.pattern-item.is)) c.in_ok-insert.ensures.keys
+pub loop-place-preserved : goal.loop-place-preserved
+loop-place-preserved c =
+    let held = c.args.held.now in
+    let place = c.loop-place.place in
+    let here = c.index-held-place.result in
+    let more : held_patterns (take (place + 1) held) ≡ held_patterns (take place held) ++ (get_or held place here).leaders ∷ [] =
+    ap held_patterns (take_more held place here c.loop-place-test.true) ∙ map-append (λ (h : Held). h.leaders) (take place held) (get_or held place here ∷ []) in
+    subst (AreKeyed c.insert.new.self) (sym more)
+    (keyed_more c.loop-place.places c.insert.new.self c.hash_of.result _ c.in_ok-insert.ensures.updates.0 (held_patterns (take place held)) (get_or held place here).leaders
+    (sym (c.hash_of.ensures ∙ ap hash_of c.as_slice.ensures)) c.loop-place.invariant)
+
+pub returns : goal.returns
+returns c = subst (λ (hs : List Held). AreKeyed c.loop-place.places (held_patterns hs)) (take_all c.loop-place.place c.args.held.now (omega (arith, c.loop-place-test.false))) c.loop-place.invariant

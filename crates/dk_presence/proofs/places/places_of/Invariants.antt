@@ -1,6 +1,7 @@
-use Rattle.std.proofs.Common.{◌≡◌, take, map}
+use Rattle.std.proofs.Common.{take}
+use Rattle.dk_presence.specs.Hashes.{AreKeyed}
 use Rattle.dk_presence.specs.Patterns.{held_patterns}
 use Rattle.dk_presence.proofs.places.places_of.Given as goal
 
-abbrev pub invariant-loop-pattern : goal.invariant-loop-pattern
-invariant-loop-pattern l = map (λ k. k.items) l.places.keys ≡ held_patterns (take l.pattern-index l.held)
+abbrev pub invariant-loop-place : goal.invariant-loop-place
+invariant-loop-place l = AreKeyed l.places (held_patterns (take l.place l.held))

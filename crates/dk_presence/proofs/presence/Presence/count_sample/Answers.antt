@@ -4,6 +4,7 @@ use Rattle.std.proofs.Common.{ap, ◌∙◌, sym, subst}
 use Rattle.dk_base.specs.Values.{values_of}
 use Rattle.dk_presence.proofs.Placing.{added_found, held_added}
 use Rattle.dk_presence.proofs.Refining.{no_held}
+use Rattle.dk_presence.specs.Hashes.{AreKeyed}
 use Rattle.dk_presence.specs.Patterns.{AreHeld, held_patterns, present_in, same_vars}
 use Rattle.dk_presence.specs.Steps.{with_sample_of}
 use Rattle.dk_presence.specs.declared.held.Held.{Held}
@@ -19,7 +20,7 @@ invariant_of-self c =
     let found = added_found present held c.in-Some.place at in
     let is : c.count_once_more.new.held.items ≡ with_sample_of present held = c.count_once_more.ensures no_held ∙ sym (found.1 no_held) in
     let up : VarsAscend present = AllPairs-filter (λ v w. v.0 < w.0) (λ v. is_present (value_in (values_of c.args.sample.now) v)) c.args.leaders.now c.requires in
-    (subst AreHeld (sym is) (held_added present held up c.self.invariant.0), c.self.invariant.1 ∙ sym (ap held_patterns is ∙ found.2))
+    (subst AreHeld (sym is) (held_added present held up c.self.invariant.0), subst (AreKeyed c.self.inside.places) (sym (ap held_patterns is ∙ found.2)) c.self.invariant.1)
 
 pub returns-in-Some : goal.returns-in-Some
 returns-in-Some c =

@@ -1,8 +1,9 @@
-use Rattle.std.proofs.Common.{◌≡◌, ap, sym, subst, ◌∙◌, [], map, arith}
-use Rattle.std.specs.List.{IsDistinct}
+use Rattle.std.proofs.Common.{◌≡◌, ap, sym, subst, ◌∙◌, List, [], map, arith}
 use Rattle.std.proofs.lemmas.Grind.{common_steps}
-use Rattle.dk_presence.specs.Patterns.{AreCounted, AreHeld, held_patterns, patterns_of, same_vars}
+use Rattle.dk_presence.specs.Hashes.{AreKeyed}
+use Rattle.dk_presence.specs.Patterns.{AreCounted, AreHeld, held_patterns, patterns_of}
 use Rattle.dk_presence.specs.Steps.{AreUnheld, refined}
+use Rattle.dk_presence.specs.declared.held.Held.{Held}
 use Rattle.dk_presence.proofs.Refining.{are_refined, counted_now, led_has, refined_none}
 use Rattle.dk_presence.proofs.presence.Presence.refine.Goals as goal
 
@@ -18,17 +19,11 @@ returns-then-is_empty-clause-stands c =
     λ leaders now samples up on lead are. subst (AreCounted (patterns_of now samples)) (sym is)
     (counted_now leaders c.args.new.now now c.requires.differ up on (led_has leaders c.args.new.now samples now lead) samples lead c.args.self (subst AreHeld c.self.view_is c.self.invariant.0) c.requires.unheld are)
 
-pub places_of-requires : goal.places_of-requires
-places_of-requires c =
-    let held = c.self.inside.held.items in
-    let off = subst (AreUnheld c.args.new.now) (sym c.self.view_is) c.requires.unheld in
-    subst (λ hs. IsDistinct same_vars (held_patterns hs)) (sym (c.as_slice.ensures.value ∙ c.in_ok-held.ensures)) (are_refined c.args.new.now c.requires.differ held c.self.invariant.0 off).once
-
 pub invariant_of-result-2 : goal.invariant_of-result-2
 invariant_of-result-2 c =
     let held = c.self.inside.held.items in
     let off = subst (AreUnheld c.args.new.now) (sym c.self.view_is) c.requires.unheld in
-    (subst AreHeld (sym c.in_ok-held.ensures) (are_refined c.args.new.now c.requires.differ held c.self.invariant.0 off), c.in_ok-places.ensures ∙ ap held_patterns c.as_slice.ensures.value)
+    (subst AreHeld (sym c.in_ok-held.ensures) (are_refined c.args.new.now c.requires.differ held c.self.invariant.0 off), subst (λ (hs : List Held). AreKeyed c.in_ok-places.places (held_patterns hs)) c.as_slice.ensures.value c.in_ok-places.ensures)
 
 pub returns-clause-stands : goal.returns-clause-stands
 returns-clause-stands c =
