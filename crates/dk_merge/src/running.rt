@@ -48,6 +48,13 @@ fn command_with(least: u64, save: bool, files: List<Word>) -> Command
     }
 }
 
+// The command that reads no file and asks for the last report alone.
+fn reporting(alloc: Global, least: u64) -> Command
+    ensures { result ≡ plain_command least }
+{
+    command_with(least, false, List::new(alloc))
+}
+
 // The command that reads the file of this name and saves the state.
 fn saving(alloc: Global, least: u64, name: &str) -> Result<Command, NoMemory>
     ensures { IfOk result (λ command. command ≡ record (plain_command least) { save = true; files = name.now ∷ [] }) }
@@ -79,7 +86,7 @@ pub(crate) fn report_states<S: Sinks>(
 ) -> Ended
     ensures { ReportEnds least (text_of states) (S.written sinks.old) (S.written sinks.new) (S.faults sinks.old) (S.faults sinks.new) result }
 {
-    let command = command_with(least, false, List::new(alloc));
+    let command = reporting(alloc, least);
     ended_of(report_loaded(alloc, &command, states.into_loaded(), sinks))
 }
 
