@@ -65,18 +65,6 @@ module _ (least : ℕ) (state : List ℕ) (l : Loaded) (is : IsLoadOf state l) (
 nothing_of_state : (least : ℕ) (state : List ℕ) → IsStateFront least state no_output
 nothing_of_state least state = record { messages = refl; state = refl; report = λ h start is. record { report = refl; messages = refl; state = refl; in_order = inr refl } }
 
-pub report_front : (least : ℕ) (state : List ℕ) (front : Output) → IsReportFront least state front → IsStateFront least state front
-report_front least state front part = record {
-  messages = part.messages;
-  state = subst (λ (l : List ℕ). StartsWith state l) (sym part.state) refl;
-  report = λ h start is. record {
-    report = part.report h start is;
-    messages = subst (λ (l : List ℕ). StartsWith [] l) (sym part.messages) refl;
-    state = subst (λ (l : List ℕ). StartsWith state l) (sym part.state) refl;
-    in_order = inr part.state;
-  };
-}
-
 -- a part of the state behind the whole report
 state_front : (least : ℕ) (state : List ℕ) (output : Output) (n : ℕ) → n ≤ length state → IsReportOf least state output → IsStateFront least state (record { report = output.report; messages = []; state = take n state })
 state_front least state output n few is = record {
@@ -120,11 +108,6 @@ state_ends least state old mid new a b c result output is between calm (inr (inr
       inr (ends, quiet ∙ calm),
       (record { report = output.report; messages = []; state = [] }, state_front least state output 0 (omega arith) is, e ∙ between ∙ ap (texts_followed_by old) (only_report output is.messages is.state)),
     )
-
--- the state is not written where its report was cut short
-pub report_ends_state : (least : ℕ) (state : List ℕ) (old new : Texts) (a c : ℕ) (result : Ended) → (result ≡ ended.Done → ⊥) → ReportEnds least state old new a c result → StateEnds least state old new a c result
-report_ends_state least state old new a c result not (inl (is, told, quiet)) = absurd (not is)
-report_ends_state least state old new a c result not (inr (early, (front, part, e))) = inr (early, (front, report_front least state front part, e))
 
 -- the report of a run that is done
 pub report_done : (least : ℕ) (state : List ℕ) (old new : Texts) (a c : ℕ) (result : Ended) → result ≡ ended.Done → ReportEnds least state old new a c result

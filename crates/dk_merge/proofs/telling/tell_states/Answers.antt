@@ -3,7 +3,7 @@ use Rattle.dk_events.specs.declared.ended.Ended.TheVariants as ended
 use Rattle.dk_io.specs.declared.outside.Stream.TheVariants.{State}
 use Rattle.dk_merging.specs.Loading.{text_of}
 use Rattle.dk_program.specs.Ending.{EndsWith}
-use Rattle.dk_merge.proofs.StateReports.{report_done, report_ends_state, state_early, state_ends}
+use Rattle.dk_merge.proofs.StateReports.{report_done, state_early, state_ends}
 use Rattle.dk_merge.proofs.telling.tell_states.Goals as goal
 
 pub returns-in-Err : goal.returns-in-Err
