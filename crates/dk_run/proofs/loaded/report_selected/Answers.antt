@@ -1,4 +1,4 @@
-use Rattle.std.proofs.Common.{◌≡◌, ◌++◌, [], ap, refl, subst, sym}
+use Rattle.std.proofs.Common.{◌++◌, [], ap}
 use Rattle.std.specs.Option.{option_map_or}
 use Rattle.dk_core.specs.Standing.{SessionStandsFor}
 use Rattle.dk_print.specs.Sections.{end_line}
