@@ -1,5 +1,5 @@
 -- Variables whose numbers rise in a sample, each greater than the one before it.
-use Rattle.std.specs.Prelude.{◌≡◌, ◌<◌, ◌&&◌, ◌||◌, ◌==◌, ℕ, zero, suc, ℤ, true, List, [], ◌∷◌, Option, None, Some, int_lt, length, refl}
+use Rattle.std.specs.Prelude.{◌≡◌, ◌<◌, ◌&&◌, ◌||◌, ◌==◌, ℕ, zero, suc, ℤ, true, List, [], ◌∷◌, Option, Some, int_lt, length, refl}
 use Rattle.std.proofs.Common.{◌∙◌, ap, arith, get_or, inl, inr, subst, sym}
 use Rattle.std.proofs.lemmas.Bool.{and_from, and_parts, cases_Bool, eq-eqb, eqb-true, false≢true, or_left, or_right}
 use Rattle.std.proofs.lemmas.Int.{ints}

@@ -22,6 +22,7 @@ use Rattle.dk_template.specs.Joins.{joined}
 use Rattle.dk_template.specs.Templates.{form_of, rows}
 use Rattle.dk_template.specs.declared.grammar.RowId.{RowId}
 use Rattle.dk_template.specs.declared.templates.StateForm.TheVariants as form
+use Rattle.dk_engine.proofs.OneTuple.{row_by, slot_by, with_tuple}
 use Rattle.dk_engine.specs.Bounding.{compares, is_holds, keeps_greatest, keeps_least}
 use Rattle.dk_engine.specs.Feeding.{with_sample}
 use Rattle.dk_engine.specs.declared.slot.Slot.{Slot}
@@ -72,24 +73,16 @@ lower_point t = refl
 lower_sample : (v : VarId) (sample : List Value) (x : ℤ) → value_in sample v ≡ value.Int x
     → (s : State) → least_join s (least_of (x ∷ [])) ≡ with_sample lower_row (v ∷ []) sample s
 lower_sample v sample x at s =
-    let row = lower_row in
-    let joining : List Value → State = λ t. if is_whole t then joined (form_of row) s (state_of row (t ∷ [])) else s in
     let numbers : List Value = value.Int x ∷ [] in
     let tuple : tuple_in (v ∷ []) sample ≡ numbers = ap (λ (i : Value). (let l : List Value = i ∷ [] in l)) at in
-    sym (ap joining tuple ∙ (ap (joined (form_of row) s) (lower_point numbers) ∙ ap (λ f. joined f s (least_of (x ∷ []))) lower_form))
+    sym (with_tuple lower_row form.Least (v ∷ []) sample numbers (least_of (x ∷ [])) lower_form tuple refl (lower_point numbers) s)
 
 -- a slot of a least value with a number more
 pub lower_slot : (slot : Slot) → slot.row.0 ≡ 2 → (v : VarId) → slot.leaders ≡ v ∷ [] → (sample : List Value) (x : ℤ) → value_in sample v ≡ value.Int x
     → least_join slot.state (least_of (x ∷ [])) ≡ with_sample slot.row slot.leaders sample slot.state
-lower_slot slot e v over sample x at =
-    let row : slot.row ≡ lower_row = ap (λ (n : ℕ). (let r : RowId = record { 0 = n } in r)) e in
-    lower_sample v sample x at slot.state
-    ∙ (ap (λ vs. with_sample lower_row vs sample slot.state) (sym over) ∙ ap (λ r. with_sample r slot.leaders sample slot.state) (sym row))
+lower_slot slot e v over sample x at = lower_sample v sample x at slot.state ∙ sym (slot_by slot 2 e (v ∷ []) over sample)
 
 -- ---- comparisons
-abbrev row_by : ℕ → RowId
-row_by n = record { 0 = n }
-
 equal_says : (x y : ℤ) → relation_of (row_by 11) (value.Int x ∷ value.Int y ∷ []) ≡ int_eq x y
 unfolding relation_of meanings
 equal_says x y = refl
@@ -181,12 +174,11 @@ row_comparison n low high = and_from (nat_le 1 n) (nat_le n 68) (le-leb 1 n (ome
 compared_sample : (row : RowId) → 11 ≤ row.0 → row.0 ≤ 14 → (u v : VarId) (sample : List Value) (x y : ℤ) → value_in sample u ≡ value.Int x → value_in sample v ≡ value.Int y
     → relation_of row (value.Int x ∷ value.Int y ∷ []) ≡ true → with_sample row (u ∷ v ∷ []) sample Holds ≡ Holds
 compared_sample row low high u v sample x y at_u at_v h =
-    let joining : List Value → State = λ t. if is_whole t then joined (form_of row) Holds (state_of row (t ∷ [])) else Holds in
     let numbers : List Value = value.Int x ∷ value.Int y ∷ [] in
     let tuple : tuple_in (u ∷ v ∷ []) sample ≡ numbers = two (value_in sample u) (value_in sample v) at_u at_v in
     let plain : form_of row ≡ form.Plain = plain_comparison row.0 low high in
     let point : state_of row (numbers ∷ []) ≡ Holds = sym (plain_row_of_one row (row_comparison row.0 low high) plain numbers (sym h)) in
-    ap joining tuple ∙ (ap (joined (form_of row) Holds) point ∙ ap (λ f. joined f Holds Holds) plain)
+    with_tuple row form.Plain (u ∷ v ∷ []) sample numbers Holds plain tuple refl point Holds
   where
     two : (i j : Value) → i ≡ value.Int x → j ≡ value.Int y → (let l : List Value = i ∷ j ∷ [] in l) ≡ value.Int x ∷ value.Int y ∷ []
     two i j p q = cc

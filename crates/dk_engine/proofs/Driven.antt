@@ -1,6 +1,6 @@
 -- Stretches of a line of which each coordinate is the number of the variable that drives it, or that of a variable that has no other: no
 -- sample changes them in which the driving variable is within its ends.
-use Rattle.std.specs.Prelude.{◌≡◌, ◌^◌, ◌&&◌, ◌||◌, ◌==◌, ◌⊎◌, ℕ, ℤ, pos, ◌-ℤ◌, ◌*ℤ◌, Bool, true, false, List, [], ◌∷◌, if◌then◌else◌, int_le, int_lt, nat_le, refl, unsigned_abs}
+use Rattle.std.specs.Prelude.{◌≡◌, ◌^◌, ◌&&◌, ◌||◌, ◌==◌, ◌⊎◌, ℤ, pos, ◌-ℤ◌, ◌*ℤ◌, Bool, true, false, List, [], ◌∷◌, if◌then◌else◌, int_le, int_lt, nat_le, refl, unsigned_abs}
 use Rattle.std.specs.List.{list_all}
 use Rattle.std.specs.Ordering.{int_eq}
 use Rattle.std.proofs.Common.{◌∙◌, ap, arith, inl, inr, subst, sym}
@@ -20,10 +20,10 @@ use Rattle.dk_forms.specs.Plane.{IsSpan, are_aligned, in_space, is_before, plane
 use Rattle.dk_forms.specs.declared.states.State.{State}
 use Rattle.dk_forms.specs.declared.states.State.TheVariants.{Span}
 use Rattle.dk_samples.specs.Samples.{is_present, value_in}
-use Rattle.dk_template.specs.declared.grammar.RowId.{RowId}
 use Rattle.dk_ternary.specs.Rows.{linear_ternary_row}
 use Rattle.dk_engine.proofs.Bounding.{of_missing}
 use Rattle.dk_engine.proofs.KnownNumbers.{all_within, alone, by_value, known, near_between, no_greater, no_less, same_value}
+use Rattle.dk_engine.proofs.OneTuple.{slot_by}
 use Rattle.dk_engine.proofs.Stretches.{before_of, planar_sample, within_stretch}
 use Rattle.dk_engine.specs.Feeding.{with_sample}
 use Rattle.dk_engine.specs.Idle.{IsIdle, are_within, is_above, is_below, is_between, is_driven, is_driven_stretch, is_from, is_near_number, is_numeric, is_to}
@@ -213,7 +213,4 @@ driven_kept ranges sample within driver first last u v w _ h = absurd (false≢t
 pub idle_stretch : (watch : Watch) (slot : Slot) → slot.row.0 ≡ 67 → (driver : VarId) (first last : ℤ) (u v w : VarId) → slot.leaders ≡ u ∷ v ∷ w ∷ []
     → is_driven_stretch watch.ranges.items driver first last u v w slot.state ≡ true → IsIdle watch slot
 idle_stretch watch slot e driver first last u v w over h sample meeting =
-    let row : slot.row ≡ linear_ternary_row = ap (λ (n : ℕ). (let r : RowId = record { 0 = n } in r)) e in
-    ap (λ r. with_sample r slot.leaders sample slot.state) row
-    ∙ (ap (λ vs. with_sample linear_ternary_row vs sample slot.state) over
-    ∙ driven_kept watch.ranges.items sample (all_within watch sample meeting) driver first last u v w slot.state h)
+    slot_by slot 67 e (u ∷ v ∷ w ∷ []) over sample ∙ driven_kept watch.ranges.items sample (all_within watch sample meeting) driver first last u v w slot.state h

@@ -10,7 +10,6 @@ use Rattle.dk_template.specs.Admitted.{is_written, suit, suits}
 use Rattle.dk_template.specs.Templates.{roles_of, template_of}
 use Rattle.dk_template.specs.declared.grammar.RowId.{RowId}
 use Rattle.dk_template.specs.declared.templates.Role.{Role}
-use Rattle.dk_template.specs.declared.templates.Takes.{Takes}
 use Rattle.dk_template.specs.declared.templates.Takes.TheVariants.{One, Two, Three}
 use Rattle.dk_suppress.specs.Rules.{is_suppressed}
 use Rattle.dk_engine.proofs.Slotless.{not_considered}
@@ -19,7 +18,6 @@ use Rattle.dk_engine.specs.Feeding.{is_broken, slots_of_row}
 use Rattle.dk_engine.specs.Parts.{all_known}
 use Rattle.dk_engine.specs.Suited.{suited_vars}
 use Rattle.dk_engine.specs.Sweeps.{behind, considered, firsts, pairs, seconds, thirds, triples}
-use Rattle.dk_engine.specs.declared.slot.Slot.{Slot}
 
 -- ---- lists of slots, element by element
 none_each : {A B : Type 0} (f : A → List B) → ((x : A) → f x ≡ []) → (xs : List A) → flat_map f xs ≡ []

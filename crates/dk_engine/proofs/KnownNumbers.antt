@@ -1,5 +1,5 @@
 -- What a sample tells of which the facts are true, and the bounds, comparisons and lines that it doesn't change then.
-use Rattle.std.specs.Prelude.{◌≡◌, ◌≤◌, ◌^◌, ◌&&◌, ◌||◌, ◌==◌, ◌+ℤ◌, ◌-ℤ◌, ◌*ℤ◌, ℕ, ℤ, pos, negsuc, neg_ℤ, Bool, true, false, List, [], ◌∷◌, None, if◌then◌else◌, int_le, int_lt, nat_le, refl, unsigned_abs}
+use Rattle.std.specs.Prelude.{◌≡◌, ◌≤◌, ◌^◌, ◌&&◌, ◌||◌, ◌==◌, ◌+ℤ◌, ◌*ℤ◌, ℕ, ℤ, pos, negsuc, neg_ℤ, Bool, true, false, List, [], ◌∷◌, None, int_le, nat_le, refl, unsigned_abs}
 use Rattle.std.specs.List.{list_all}
 use Rattle.std.proofs.Common.{◌∙◌, ap, arith, inl, inr, subst, sym}
 use Rattle.std.specs.Ordering.{int_eq}
@@ -17,17 +17,16 @@ use Rattle.dk_forms.proofs.LineStays.{straight_stays}
 use Rattle.dk_forms.specs.Line.{in_limit, is_on, line_join, line_of}
 use Rattle.dk_forms.specs.declared.states.State.TheVariants.{Greatest, Holds, Least, Straight}
 use Rattle.dk_rows.specs.Meanings.{meanings, state_of}
-use Rattle.dk_template.specs.Joins.{joined}
 use Rattle.dk_template.specs.Templates.{form_of, rows}
-use Rattle.dk_template.specs.declared.grammar.RowId.{RowId}
 use Rattle.dk_template.specs.declared.templates.StateForm.TheVariants as form
 use Rattle.dk_samples.specs.Samples.{is_present, value_in}
 use Rattle.dk_engine.proofs.Bounding.{compared_slot, compared_so, greatest_kept, least_kept, lower_slot, of_missing, slot_of_missing}
 use Rattle.dk_engine.proofs.Ascending.{ordered_so}
+use Rattle.dk_engine.proofs.OneTuple.{row_by, slot_by, with_tuple}
 use Rattle.dk_engine.proofs.Raising.{upper_slot}
 use Rattle.dk_engine.specs.Bounding.{compares, keeps_greatest, keeps_least}
 use Rattle.dk_engine.specs.Feeding.{with_sample}
-use Rattle.dk_engine.specs.Idle.{IsIdle, are_in_order, are_near, are_rising, are_so, are_within, compares_first, compares_values, is_above, is_below, is_between, is_compared, is_from, is_idle_greatest, is_idle_least, is_known, is_listed, is_near, is_near_number, is_numeric, is_one, is_own, is_own_line, is_so, is_to, is_told, is_within, meets}
+use Rattle.dk_engine.specs.Idle.{IsIdle, are_in_order, are_near, are_rising, are_so, are_within, compares_first, compares_values, is_between, is_compared, is_from, is_idle_greatest, is_idle_least, is_known, is_listed, is_near, is_near_number, is_numeric, is_one, is_own, is_own_line, is_so, is_to, is_told, is_within, meets}
 use Rattle.dk_engine.specs.declared.facts.Compared.{Compared}
 use Rattle.dk_engine.specs.declared.facts.Range.{Range}
 use Rattle.dk_engine.specs.declared.idle.Watch.{Watch}
@@ -238,22 +237,20 @@ idle_told watch slot low high u v over holds h sample meeting =
     ])
 
 -- the line of equal numbers
-line_form : form_of (record { 0 = 15 }) ≡ form.Line
+line_form : form_of (row_by 15) ≡ form.Line
 unfolding rows
 line_form = refl
 
-line_point : (t : List Value) → state_of (record { 0 = 15 }) (t ∷ []) ≡ line_of ((int_of (value_at t 0), int_of (value_at t 1)) ∷ [])
+line_point : (t : List Value) → state_of (row_by 15) (t ∷ []) ≡ line_of ((int_of (value_at t 0), int_of (value_at t 1)) ∷ [])
 unfolding state_of meanings
 line_point t = refl
 
 line_sample : (u v : VarId) (sample : List Value) (x y : ℤ) → value_in sample u ≡ value.Int x → value_in sample v ≡ value.Int y
-    → (s : State) → line_join s (line_of ((x, y) ∷ [])) ≡ with_sample (record { 0 = 15 }) (u ∷ v ∷ []) sample s
+    → (s : State) → line_join s (line_of ((x, y) ∷ [])) ≡ with_sample (row_by 15) (u ∷ v ∷ []) sample s
 line_sample u v sample x y at_u at_v s =
-    let row : RowId = record { 0 = 15 } in
-    let joining : List Value → State = λ t. if is_whole t then joined (form_of row) s (state_of row (t ∷ [])) else s in
     let ints : List Value = value.Int x ∷ value.Int y ∷ [] in
     let tuple : tuple_in (u ∷ v ∷ []) sample ≡ ints = two (value_in sample u) (value_in sample v) at_u at_v in
-    sym (ap joining tuple ∙ (ap (joined (form_of row) s) (line_point ints) ∙ ap (λ f. joined f s (line_of ((x, y) ∷ []))) line_form))
+    sym (with_tuple (row_by 15) form.Line (u ∷ v ∷ []) sample ints (line_of ((x, y) ∷ [])) line_form tuple refl (line_point ints) s)
   where
     two : (i j : Value) → i ≡ value.Int x → j ≡ value.Int y → (let l : List Value = i ∷ j ∷ [] in l) ≡ value.Int x ∷ value.Int y ∷ []
     two i j p q = cc
@@ -262,7 +259,7 @@ own_on : (x : ℤ) → pos 1 *ℤ x +ℤ negsuc 0 *ℤ x ≡ neg_ℤ (pos 0)
 own_on x = same_rep (rep-add (rep-mul (rep (pos 1)) (rep x)) (rep-mul (rep (negsuc 0)) (rep x))) (rep-neg (rep (pos 0))) (omega arith)
 
 own_line_kept : (sample : List Value) (u v : VarId) (s : State) → is_own_line u v s ≡ true → (x : ℤ) → value_in sample u ≡ value.Int x → nat_le (unsigned_abs x) (2 ^ 30) ≡ true
-    → with_sample (record { 0 = 15 }) (u ∷ v ∷ []) sample s ≡ s
+    → with_sample (row_by 15) (u ∷ v ∷ []) sample s ≡ s
 own_line_kept sample u v (Straight a b c) h x at near =
     let p = and_parts (u.0 == v.0) (int_eq a (pos 1) && (int_eq b (negsuc 0) && int_eq c (pos 0))) h in
     let q = and_parts (int_eq a (pos 1)) (int_eq b (negsuc 0) && int_eq c (pos 0)) p.1 in
@@ -279,8 +276,6 @@ own_line_kept sample u v _ h x at near = absurd (false≢true h)
 pub idle_line : (watch : Watch) (slot : Slot) → slot.row.0 ≡ 15 → (u v : VarId) → slot.leaders ≡ u ∷ v ∷ [] → is_own_line u v slot.state ≡ true
     → is_near watch.ranges.items u ≡ true → IsIdle watch slot
 idle_line watch slot e u v over h near sample meeting =
-    let row : slot.row ≡ record { 0 = 15 } = ap (λ (n : ℕ). (let r : RowId = record { 0 = n } in r)) e in
     by_near watch.ranges.items sample (all_within watch sample meeting) u near (with_sample slot.row slot.leaders sample slot.state ≡ slot.state)
     (λ at. slot_of_missing slot sample u (v ∷ []) over at)
-    (λ x at small. ap (λ r. with_sample r slot.leaders sample slot.state) row
-    ∙ (ap (λ vs. with_sample (record { 0 = 15 }) vs sample slot.state) over ∙ own_line_kept sample u v slot.state h x at small))
+    (λ x at small. slot_by slot 15 e (u ∷ v ∷ []) over sample ∙ own_line_kept sample u v slot.state h x at small)

@@ -10,6 +10,7 @@ pub mod Readings
 pub mod Determined
 pub mod DeterminedParts
 pub mod OneMore
+pub mod OneTuple
 pub mod Turned
 pub mod ReadProper
 pub mod StillFed

@@ -21,9 +21,9 @@ use Rattle.dk_rows.specs.Meanings.{state_of}
 use Rattle.dk_samples.specs.Samples.{is_present, value_in}
 use Rattle.dk_template.specs.Joins.{joined}
 use Rattle.dk_template.specs.Templates.{form_of}
-use Rattle.dk_template.specs.declared.grammar.RowId.{RowId}
 use Rattle.dk_ternary.specs.Rows.{linear_ternary_row}
 use Rattle.dk_engine.proofs.KnownNumbers.{all_within, listed_number, near_at}
+use Rattle.dk_engine.proofs.OneTuple.{slot_by}
 use Rattle.dk_engine.proofs.Stretches.{planar_sample}
 use Rattle.dk_engine.specs.Feeding.{with_sample}
 use Rattle.dk_engine.specs.Idle.{AreNotes, AreSkips, IsIdle, PassesStill, are_fixed, are_near_each, are_same, are_within, is_axis, is_diagonal, is_fixed, is_idle_over, is_listed, is_near, is_passed, later, meets, skip_in}
@@ -180,9 +180,7 @@ idle_plane ranges u v w _ h near sample within = absurd (false≢true h)
 pub idle_slot : (watch : Watch) (slot : Slot) → slot.row.0 ≡ 67 → (u v w : VarId) → slot.leaders ≡ u ∷ v ∷ w ∷ []
     → is_idle_over watch.ranges.items u v w slot.state ≡ true → are_near_each watch.ranges.items u v w ≡ true → IsIdle watch slot
 idle_slot watch slot e u v w over h near sample meeting =
-    let row : slot.row ≡ linear_ternary_row = ap (λ (n : ℕ). (let r : RowId = record { 0 = n } in r)) e in
-    ap (λ r. with_sample r slot.leaders sample slot.state) row
-    ∙ (ap (λ vs. with_sample linear_ternary_row vs sample slot.state) over ∙ idle_plane watch.ranges.items u v w slot.state h near sample (all_within watch sample meeting))
+    slot_by slot 67 e (u ∷ v ∷ w ∷ []) over sample ∙ idle_plane watch.ranges.items u v w slot.state h near sample (all_within watch sample meeting)
 
 -- ---- notes
 none_in : (n k : ℕ) → skip_in (replicate n 0) k ≡ 0

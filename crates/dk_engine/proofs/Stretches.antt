@@ -1,5 +1,5 @@
 -- A stretch of a line with a point that lies on the line, within it or beyond it.
-use Rattle.std.specs.Prelude.{◌≡◌, ◌&&◌, ℕ, ℤ, ◌-ℤ◌, ◌*ℤ◌, true, false, ◌∷◌, [], List, if◌then◌else◌, refl}
+use Rattle.std.specs.Prelude.{◌≡◌, ◌&&◌, ℤ, ◌-ℤ◌, ◌*ℤ◌, true, false, ◌∷◌, [], List, if◌then◌else◌, refl}
 use Rattle.std.specs.Ordering.{int_eq}
 use Rattle.std.proofs.Common.{◌∙◌, ap, arith, inl, inr, subst, sym}
 use Rattle.std.proofs.lemmas.Bool.{and_from, and_parts, false≢true}
@@ -10,7 +10,7 @@ use Rattle.dk_base.specs.Tuples.{int_of, value_at}
 use Rattle.dk_base.specs.declared.kinds.VarId.{VarId}
 use Rattle.dk_base.specs.declared.values.Value.{Value}
 use Rattle.dk_base.specs.declared.values.Value.TheVariants as value
-use Rattle.dk_fits.specs.Fits.{is_whole, tuple_in}
+use Rattle.dk_fits.specs.Fits.{tuple_in}
 use Rattle.dk_forms.proofs.PlaneFacts.{plane_of_point}
 use Rattle.dk_forms.proofs.PlaneStays.{span_stays}
 use Rattle.dk_forms.proofs.PointOrder.{before_antisymmetric, before_or, before_transitive}
@@ -20,12 +20,12 @@ use Rattle.dk_forms.specs.declared.states.State.{State}
 use Rattle.dk_forms.specs.declared.states.State.TheVariants.{Span}
 use Rattle.dk_rows.specs.Meanings.{meanings, state_of}
 use Rattle.dk_samples.specs.Samples.{value_in}
-use Rattle.dk_template.specs.Joins.{joined}
 use Rattle.dk_template.specs.Proper.{IsProper}
 use Rattle.dk_template.specs.Templates.{form_of, rows}
 use Rattle.dk_template.specs.declared.grammar.RowId.{RowId}
 use Rattle.dk_template.specs.declared.templates.StateForm.TheVariants as form
 use Rattle.dk_ternary.specs.Rows.{linear_ternary_row}
+use Rattle.dk_engine.proofs.OneTuple.{slot_by, with_tuple}
 use Rattle.dk_engine.specs.Feeding.{with_sample}
 use Rattle.dk_engine.specs.declared.slot.Slot.{Slot}
 
@@ -141,11 +141,9 @@ planar_proper row e state p =
 pub planar_sample : (u v w : VarId) (sample : List Value) (x y z : ℤ) → value_in sample u ≡ value.Int x → value_in sample v ≡ value.Int y → value_in sample w ≡ value.Int z
     → (s : State) → plane_join s (plane_of ((x, y, z) ∷ [])) ≡ with_sample linear_ternary_row (u ∷ v ∷ w ∷ []) sample s
 planar_sample u v w sample x y z at_u at_v at_w s =
-    let row = linear_ternary_row in
-    let joining : List Value → State = λ t. if is_whole t then joined (form_of row) s (state_of row (t ∷ [])) else s in
     let ints : List Value = value.Int x ∷ value.Int y ∷ value.Int z ∷ [] in
     let tuple : tuple_in (u ∷ v ∷ w ∷ []) sample ≡ ints = three (value_in sample u) (value_in sample v) (value_in sample w) at_u at_v at_w in
-    sym (ap joining tuple ∙ (ap (joined (form_of row) s) (planar_point ints) ∙ ap (λ f. joined f s (plane_of ((x, y, z) ∷ []))) planar_form))
+    sym (with_tuple linear_ternary_row form.Plane (u ∷ v ∷ w ∷ []) sample ints (plane_of ((x, y, z) ∷ [])) planar_form tuple refl (planar_point ints) s)
   where
     three : (i j k : Value) → i ≡ value.Int x → j ≡ value.Int y → k ≡ value.Int z → (let l : List Value = i ∷ j ∷ k ∷ [] in l) ≡ value.Int x ∷ value.Int y ∷ value.Int z ∷ []
     three i j k p q r = cc
@@ -155,6 +153,4 @@ pub planar_slot : (slot : Slot) → slot.row.0 ≡ 67 → (u v w : VarId) → sl
     → value_in sample u ≡ value.Int x → value_in sample v ≡ value.Int y → value_in sample w ≡ value.Int z
     → plane_join slot.state (plane_of ((x, y, z) ∷ [])) ≡ with_sample slot.row slot.leaders sample slot.state
 planar_slot slot e u v w over sample x y z at_u at_v at_w =
-    let row : slot.row ≡ linear_ternary_row = ap (λ (n : ℕ). (let r : RowId = record { 0 = n } in r)) e in
-    planar_sample u v w sample x y z at_u at_v at_w slot.state
-    ∙ (ap (λ vs. with_sample linear_ternary_row vs sample slot.state) (sym over) ∙ ap (λ r. with_sample r slot.leaders sample slot.state) (sym row))
+    planar_sample u v w sample x y z at_u at_v at_w slot.state ∙ sym (slot_by slot 67 e (u ∷ v ∷ w ∷ []) over sample)

@@ -90,6 +90,17 @@ module _ (patterns : List Pattern) (rise : Rise patterns) where
       let far : is_before (get_or patterns j d) next ≡ false = sorted_far is_before (ranks_by by_truths (λ p. p)) patterns truths_sorted (i + 1) j d (omega (arith, l)) m in
       true≢false (sym (rise i d (omega (arith, l, m))) ∙ (ap (λ ts. is_lt (slice_cmp bool_cmp ts next.present)) same ∙ far))
 
+-- patterns that rise as they are held are saved as they are held
+pub saved_as_held : (leaders : List VarId) (held : List Held) → ((i : ℕ) (d : Held) → i + 1 < length held → is_before (pattern_of leaders (get_or held i d)) (pattern_of leaders (get_or held (i + 1) d)) ≡ true)
+    → patterns_of leaders held ≡ map (pattern_of leaders) held
+saved_as_held leaders held rise = in_order (map (pattern_of leaders) held) (λ i d l.
+    let long = length-map held (pattern_of leaders) in
+    let none : Held = record { count = 0; leaders = [] } in
+    let within : i + 1 < length held = omega (arith, l, long) in
+    let here : get_or (map (pattern_of leaders) held) i d ≡ pattern_of leaders (get_or held i none) = get_or-map (pattern_of leaders) held i none d (omega (arith, within)) in
+    let next : get_or (map (pattern_of leaders) held) (i + 1) d ≡ pattern_of leaders (get_or held (i + 1) none) = get_or-map (pattern_of leaders) held (i + 1) none d within in
+    ap (λ p. is_before p (get_or (map (pattern_of leaders) held) (i + 1) d)) here ∙ (ap (is_before (pattern_of leaders (get_or held i none))) next ∙ rise i none within))
+
 -- ---- what is read back
 module _ (leaders : List VarId) (up : VarsAscend leaders) (patterns : List Pattern) where
   abbrev chosen : Pattern → List VarId

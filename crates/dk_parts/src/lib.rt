@@ -13,5 +13,5 @@ pub use classes::classes_in_order;
 pub use entries::constants_from;
 pub use known::{Known, known_in_order};
 pub use members::classes_from;
-pub use pattern::{Pattern, patterns_in_order};
-pub use presence::presence_from;
+pub use pattern::{Pattern, pattern_of, patterns_in_order};
+pub use presence::{held_in_order, presence_from};

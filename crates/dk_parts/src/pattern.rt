@@ -55,6 +55,19 @@ fn presence_of(alloc: Global, leaders: &[VarId], present: &[VarId]) -> Result<Ve
     Ok(truths)
 }
 
+/// The pattern over these leaders, which ascend.
+pub fn pattern_of(alloc: Global, leaders: &[VarId], pattern: &Held) -> Result<Pattern, NoMemory>
+    requires leaders { VarsAscend leaders.now }
+    requires held { VarsAscend pattern.now.leaders }
+    ensures { IfOk result (λ own. own ≡ pattern_of leaders.now pattern.now) }
+{
+    let present = presence_of(alloc, leaders, pattern.leaders.as_slice())?;
+    Ok(Pattern {
+        count: pattern.count,
+        present: List::from_vec(present),
+    })
+}
+
 // For each pattern whether each leader is present, and its count.
 fn with_truths(
     alloc: Global,

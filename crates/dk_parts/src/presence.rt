@@ -1,11 +1,13 @@
 // Patterns that are read back from a truth value for each leader.
 ghost use Rattle.std.specs.Prelude.{◌≡◌, ◌↔◌, ◌<◌, ◌≢◌, All, IfOk, IfSome, IsTrue, List, None, count_by, false, length, map, slice_index_or};
 ghost use Rattle.std.specs.List.Sorted.{IsPermutation};
+ghost use Rattle.dk_presence.specs.Patterns.{AreHeld};
 ghost use Rattle.dk_presence.specs.declared.held.Held.{Held};
+ghost use Rattle.dk_parts.specs.Patterns.{pattern_of, patterns_of};
 ghost use Rattle.dk_parts.specs.Restored.{AreInOrder, HavePatterns, Rise, chosen_leaders, held_of, is_before};
 ghost use Rattle.dk_samples.specs.Leaders.{VarsAscend};
 
-use crate::Pattern;
+use crate::pattern::{Pattern, pattern_of};
 use dk_base::{List, NoMemory, VarId};
 use dk_presence::{Held, Presence};
 use std::alloc::Global;
@@ -136,4 +138,20 @@ pub fn presence_from(
     }
     let held = all_held(alloc, leaders, patterns)?;
     Ok(Some(Presence::from_held(alloc, held)?))
+}
+
+/// Whether the patterns over these leaders, which ascend, are held in the order in which they are saved.
+pub fn held_in_order(alloc: Global, leaders: &[VarId], held: &[Held]) -> Result<bool, NoMemory>
+    requires leaders { VarsAscend leaders.now }
+    requires held { AreHeld held.now }
+    ensures { IfOk result (λ are. IsTrue are → patterns_of leaders.now held.now ≡ map (pattern_of leaders.now) held.now) }
+{
+    for i in 1..held.len() {
+        let pattern = pattern_of(alloc, leaders, &held[i - 1])?;
+        let next = pattern_of(alloc, leaders, &held[i])?;
+        if !is_before(&pattern, &next) {
+            return Ok(false);
+        }
+    }
+    Ok(true)
 }

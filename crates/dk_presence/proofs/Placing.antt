@@ -1,5 +1,5 @@
 -- The patterns by their places.
-use Rattle.std.proofs.Common.{◌≡◌, ℕ, zero, suc, ◌<◌, ◌≤◌, eqb, inl, inr, List, [], ◌∷◌, ◌++◌, length, get_or, set, map, position, Some, None, Bool, true, false, cond, ◌&&◌, ◌||◌, refl, ap, sym, ◌∙◌, subst, arith}
+use Rattle.std.proofs.Common.{◌≡◌, ℕ, zero, suc, ◌<◌, ◌≤◌, eqb, inl, inr, List, [], ◌∷◌, ◌++◌, length, get_or, set, position, Some, None, Bool, true, false, cond, ◌&&◌, ◌||◌, refl, ap, sym, ◌∙◌, subst, arith}
 use Rattle.std.specs.Prelude.{nat_lt}
 use Rattle.std.specs.Cmp.Lexicographic.{pointwise}
 use Rattle.std.specs.List.{All, AllByRecursion, IsDistinct, list_any, position_or_len}
@@ -142,11 +142,6 @@ pointwise_same [] [] = refl
 pointwise_same [] (w ∷ b) = refl
 pointwise_same (v ∷ a) [] = refl
 pointwise_same (v ∷ a) (w ∷ b) = ap (λ s. eqb v.0 w.0 && s) (pointwise_same a b)
-
-module _ {K : Type 0} (items : K → List VarId) (p : List VarId → Bool) (q : K → Bool) (same : (k : K) → q k ≡ p (items k)) where
-  pub any_keys : (ks : List K) → list_any q ks ≡ list_any p (map items ks)
-  any_keys [] = refl
-  any_keys (k ∷ ks) = ap (λ b. b || list_any q ks) (same k) ∙ ap (λ b. p (items k) || b) (any_keys ks)
 
 -- the pattern at a place is found there, since no two are the same
 pub position_here : (present : List VarId) (held : List Held) (i : ℕ) (d : Held) → IsDistinct same_vars (held_patterns held) → i < length held → same_vars present (get_or held i d).leaders ≡ true

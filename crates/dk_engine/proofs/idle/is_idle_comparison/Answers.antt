@@ -1,8 +1,6 @@
-use Rattle.std.specs.Prelude.{◌≡◌}
 use Rattle.std.proofs.Common.{◌∙◌, sym}
 use Rattle.dk_engine.proofs.Bounding.{holds_of}
 use Rattle.dk_engine.proofs.KnownNumbers.{idle_comparison, idle_told}
-use Rattle.dk_engine.specs.Bounding.{is_holds}
 use Rattle.dk_engine.proofs.idle.is_idle_comparison.Goals as goal
 
 pub returns-then-is_known : goal.returns-then-is_known
