@@ -1,5 +1,5 @@
 -- Leaders that have no slot, since by what one engine keeps the first may stand beside neither of the others.
-use Rattle.std.specs.Prelude.{◌≡◌, ◌<◌, ◌&&◌, ◌||◌, Bool, true, false, not, IsTrue, List, [], ◌∷◌, cond, filter, is_some, map, refl}
+use Rattle.std.specs.Prelude.{◌≡◌, ◌<◌, ◌&&◌, ◌||◌, Bool, true, false, nat_le, not, IsTrue, List, [], ◌∷◌, cond, filter, is_some, map, refl}
 use Rattle.std.specs.Borrow.{Bor}
 use Rattle.std.specs.List.{list_any}
 use Rattle.std.proofs.Common.{◌∙◌, ap, arith, inl, inr, sym}
@@ -32,16 +32,18 @@ use Rattle.dk_forms.specs.declared.states.State.TheVariants.{Broken}
 use Rattle.dk_presence.specs.Patterns.{has}
 use Rattle.dk_suppress.specs.Rules.{is_suppressed}
 use Rattle.dk_template.proofs.Absorbing.{broken_absorbs}
-use Rattle.dk_template.specs.Admitted.{admits, is_written}
+use Rattle.dk_template.specs.Admitted.{admits, ascend, exchangeable, is_written}
 use Rattle.dk_template.specs.Joins.{joined}
-use Rattle.dk_template.specs.Templates.{IsRow, arity_of, form_of}
+use Rattle.dk_template.specs.Templates.{IsRow, arity_of, form_of, template_of}
 use Rattle.dk_template.specs.declared.grammar.RowId.{RowId}
 use Rattle.dk_template.specs.declared.templates.StateForm.{StateForm}
 use Rattle.dk_template.specs.declared.templates.StateForm.TheVariants as form
+use Rattle.dk_template.specs.declared.templates.Symmetry.{Symmetry}
+use Rattle.dk_template.specs.declared.templates.Symmetry.TheVariants as exchange
 use Rattle.dk_join.proofs.Apart.{three_broken}
 use Rattle.dk_join.proofs.Breaking.{broken_by_numbers}
 use Rattle.dk_join.proofs.Lists.{any_lent, filter_lent}
-use Rattle.dk_join.specs.Beside.{AreAround, HaveSamples, IsCompanion, LeavesNoneOut, has_room, is_alone, is_beside, is_free, may_stand, slots_around, slots_at_hand, stands_beside}
+use Rattle.dk_join.specs.Beside.{AreAround, HaveSamples, IsCompanion, LeavesNoneOut, has_room, is_alone, is_beside, is_free, may_follow, may_stand, slots_around, slots_at_hand, stands_beside}
 use Rattle.dk_join.specs.Joining.{Pair, answer_of, read_joined}
 use Rattle.dk_join.specs.Numbers.{are_broken, break_row, number_for, numbers_for}
 use Rattle.dk_join.specs.declared.beside.Around.{Around}
@@ -94,6 +96,24 @@ broken_out infos known answered row vars gone =
     fourth_false (admits row infos vars) (is_written row vars) (not (all_known known vars)) (not (is_broken (answered row vars))) (not (is_suppressed answered row vars)) (ap (λ s. not (is_broken s)) gone) in
     ap (λ b. map (λ (vs : List VarId). (let s : Slot = record { row = row; leaders = vs; state = answered row vs } in s)) (cond b (vars ∷ []) [])) out
 
+-- leaders that aren't in written order have none either
+second_false : (a b c : Bool) → b ≡ false → (a && (b && c)) ≡ false
+second_false true b c e = ap (λ x. x && c) e
+second_false false b c e = refl
+
+not_ascending : (s : Symmetry) (v w x : VarId) → may_follow s w x ≡ false → ascend (exchangeable s (v ∷ w ∷ x ∷ [])) ≡ false
+not_ascending exchange.Fixed v w x e = absurd (true≢false e)
+not_ascending exchange.All v w x e = second_false (nat_le v.0 w.0) (nat_le w.0 x.0) true e
+not_ascending exchange.Arguments v w x e = ap (λ b. b && true) e
+
+unwritten_out : (infos : List VarInfo) (known : Entries) (answered : RowId → List VarId → State) (row : RowId) (v w x : VarId) → may_follow (template_of row).symmetry w x ≡ false
+    → considered infos known answered row (v ∷ w ∷ x ∷ []) ≡ []
+unwritten_out infos known answered row v w x e =
+    let vars = v ∷ w ∷ x ∷ [] in
+    let out : has_slot infos known answered row vars ≡ false =
+    second_false (admits row infos vars) (is_written row vars) (not (all_known known vars) && (not (is_broken (answered row vars)) && not (is_suppressed answered row vars))) (not_ascending (template_of row).symmetry v w x e) in
+    ap (λ b. map (λ (vs : List VarId). (let s : Slot = record { row = row; leaders = vs; state = answered row vs } in s)) (cond b (vars ∷ []) [])) out
+
 -- what isn't told isn't so
 untold : (so told : Bool) → (IsTrue so → IsTrue told) → told ≡ false → so ≡ false
 untold so told implies e = false_from_ne_true so (λ h. true≢false (sym (implies h) ∙ e))
@@ -138,12 +158,17 @@ numbers_broken pair row is three some v numbers at w x c d h =
 pub none_considered : (pair : Pair) (infos : List VarInfo) (known : Entries) (row : RowId) → IsRow row → arity_of row ≡ 3 → HaveSamples pair → (v : VarId) (numbers : Numbers) → numbers ≡ numbers_for row pair v
     → (w x : Companion) → IsCompanion pair row v w → IsCompanion pair row v x → has_room row numbers w x ≡ false → considered infos known (answer_of pair) row (v ∷ w.leader ∷ x.leader ∷ []) ≡ []
 none_considered pair infos known row is three some v numbers at w x c d none =
-    let gone : answer_of pair row (v ∷ w.leader ∷ x.leader ∷ []) ≡ Broken =
-    elim (and_cases (may_stand w x) (not (are_broken row numbers w.numbers x.numbers)) none) as (λ _. answer_of pair row (v ∷ w.leader ∷ x.leader ∷ []) ≡ Broken) [
-      | inl apart ↦ joint_broken pair row three some v w x c d apart
-      | inr break ↦ numbers_broken pair row is three some v numbers at w x c d (not-false (are_broken row numbers w.numbers x.numbers) break)
-    ] in
-    broken_out infos known (answer_of pair) row (v ∷ w.leader ∷ x.leader ∷ []) gone
+    let vars = v ∷ w.leader ∷ x.leader ∷ [] in
+    let slots = considered infos known (answer_of pair) row vars in
+    let follows = may_follow (template_of row).symmetry w.leader x.leader in
+    elim (and_cases (follows && may_stand w x) (not (are_broken row numbers w.numbers x.numbers)) none) as (λ _. slots ≡ []) [
+      | inl early ↦
+          elim (and_cases follows (may_stand w x) early) as (λ _. slots ≡ []) [
+            | inl descends ↦ unwritten_out infos known (answer_of pair) row v w.leader x.leader descends
+            | inr apart ↦ broken_out infos known (answer_of pair) row vars (joint_broken pair row three some v w x c d apart)
+          ]
+      | inr break ↦ broken_out infos known (answer_of pair) row vars (numbers_broken pair row is three some v numbers at w x c d (not-false (are_broken row numbers w.numbers x.numbers) break))
+    ]
 
 -- ---- as the code tells it
 module _ (engine : Whole) (row : RowId) (v : VarId) (hand : List (Bor Slot)) (hand_is : map (λ slot. slot.now) hand ≡ slots_at_hand row engine.kept.slots) (around : Around) (is : AreAround engine hand v around) where

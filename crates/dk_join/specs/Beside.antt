@@ -1,5 +1,5 @@
 -- Which leaders may stand beside another in a slot of three, by what is kept of two lists of samples.
-use Rattle.std.specs.Prelude.{◌≡◌, ◌<◌, ◌&&◌, ◌||◌, ◌==◌, Bool, true, false, All, IsTrue, List, filter, is_some, length, map, not}
+use Rattle.std.specs.Prelude.{◌≡◌, ◌<◌, ◌&&◌, ◌||◌, ◌==◌, Bool, true, false, All, IsTrue, List, filter, is_some, length, map, nat_le, not}
 use Rattle.std.specs.Borrow.{Bor}
 use Rattle.std.specs.List.{list_any}
 use Rattle.dk_base.specs.declared.kinds.VarId.{VarId}
@@ -9,6 +9,9 @@ use Rattle.dk_template.specs.Premises.{row_of, suffices}
 use Rattle.dk_template.specs.declared.answers.Premise.{Premise}
 use Rattle.dk_template.specs.declared.answers.Premise.TheVariants.{Holds, LeastAtLeast, GreatestAtMost, Only}
 use Rattle.dk_template.specs.declared.grammar.RowId.{RowId}
+use Rattle.dk_template.specs.declared.templates.Symmetry.{Symmetry}
+use Rattle.dk_template.specs.declared.templates.Symmetry.TheVariants as exchange
+use Rattle.dk_template.specs.Templates.{template_of}
 use Rattle.dk_engine.specs.Levels.{Whole}
 use Rattle.dk_engine.specs.Parts.{leader_of}
 use Rattle.dk_engine.specs.declared.kept.Kept.{Kept}
@@ -93,9 +96,16 @@ pub record IsCompanion (pair : Pair) (row : RowId) (v : VarId) (w : Companion) :
 abbrev pub may_stand : Companion → Companion → Bool
 may_stand w x = (w.by_first || x.by_first) && (w.by_second || x.by_second)
 
--- and so the row may have a slot over the three, unless their numbers break its relation
+-- two leaders may stand at the last two of three roles in this order: where these may be exchanged, the leaders don't descend
+abbrev pub may_follow : Symmetry → VarId → VarId → Bool
+may_follow exchange.Fixed w x = true
+may_follow exchange.All w x = nat_le w.0 x.0
+may_follow exchange.Arguments w x = nat_le w.0 x.0
+
+-- and so the row may have a slot over the three, where the last two may follow each other and the numbers don't break its relation
 abbrev pub has_room : RowId → Numbers → Companion → Companion → Bool
-has_room row numbers w x = may_stand w x && not (are_broken row numbers w.numbers x.numbers)
+has_room row numbers w x =
+    may_follow (template_of row).symmetry w.leader x.leader && may_stand w x && not (are_broken row numbers w.numbers x.numbers)
 
 -- ---- two lists of samples
 pub record HaveSamples (pair : Pair) : Type 0 where

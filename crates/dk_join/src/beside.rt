@@ -3,17 +3,17 @@ ghost use Rattle.std.specs.Prelude.{◌≡◌, ◌<◌, ◌==◌, ◌||◌, All,
 ghost use Rattle.std.specs.List.{list_any};
 ghost use Rattle.dk_base.specs.declared.kinds.VarId.{VarId};
 ghost use Rattle.dk_constants.specs.Known.{known_at};
-ghost use Rattle.dk_join.specs.Beside.{AreAround, AreAtHand, LeavesNoneOut, has_room, is_alone, is_at_hand, is_beside, may_meet, may_stand};
+ghost use Rattle.dk_join.specs.Beside.{AreAround, AreAtHand, LeavesNoneOut, has_room, is_alone, is_at_hand, is_beside, may_follow, may_meet, may_stand};
 ghost use Rattle.dk_join.specs.Numbers.{number_for};
 ghost use Rattle.dk_presence.specs.Patterns.{has};
-ghost use Rattle.dk_template.specs.Templates.{IsRow, arity_of, form_of};
+ghost use Rattle.dk_template.specs.Templates.{IsRow, arity_of, form_of, template_of};
 ghost use Rattle.dk_template.specs.declared.templates.StateForm.{StateForm};
 
 use crate::numbers::{Numbers, are_broken};
 use crate::watching::watched;
 use dk_base::{NoMemory, VarId};
 use dk_engine::{Engine, Slot};
-use dk_template::{Premise, RowId, asked_row, suffices_for};
+use dk_template::{Premise, RowId, Symmetry, asked_row, suffices_for, template_at};
 use std::alloc::Global;
 
 // ---- slots at hand
@@ -253,7 +253,19 @@ fn may_stand(w: Companion, x: Companion) -> bool
     (w.by_first || x.by_first) && (w.by_second || x.by_second)
 }
 
-/// Whether the row may have a slot over three leaders, by these numbers of the first and by what each engine keeps around it.
+// Whether two leaders may stand at the row's last two roles in this order: where these roles may be exchanged, the leaders don't descend.
+fn may_follow(row: RowId, w: VarId, x: VarId) -> bool
+    requires { IsRow row }
+    ensures { result ≡ may_follow (template_of row).symmetry w x }
+{
+    match template_at(row).symmetry {
+        Symmetry::Fixed => true,
+        Symmetry::All | Symmetry::Arguments => w.0 <= x.0,
+    }
+}
+
+/// Whether the row may have a slot over three leaders, by the order of the last two, by these numbers of the first and by what each engine
+/// keeps around it.
 pub(crate) fn has_room(row: RowId, numbers: Numbers, w: Companion, x: Companion) -> bool
     requires row { IsRow row }
     requires three { arity_of row ≡ 3 }
@@ -261,5 +273,7 @@ pub(crate) fn has_room(row: RowId, numbers: Numbers, w: Companion, x: Companion)
     requires second { IsSome numbers.second → form_of row ≡ StateForm.Plain }
     ensures { result ≡ has_room row numbers w x }
 {
-    may_stand(w, x) && !are_broken(row, numbers, w.numbers, x.numbers)
+    may_follow(row, w.leader, x.leader)
+        && may_stand(w, x)
+        && !are_broken(row, numbers, w.numbers, x.numbers)
 }

@@ -99,8 +99,9 @@ impl<'a> Sweep<'a> {
         Ok(slots)
     }
 
-    // Those of two leaders and one of these. Where by what an engine keeps neither the second nor the third may stand beside the first,
-    // or all three are constant and their numbers break the row's relation, the row is Broken there, and so in both.
+    // Those of two leaders and one of these. Where the second and the third descend, and their roles may be exchanged, they aren't in the
+    // row's written order. Where by what an engine keeps neither may stand beside the first, or all three are constant and their numbers
+    // break the row's relation, the row is Broken there, and so in both.
     fn thirds(
         &self,
         row: RowId,
