@@ -6,6 +6,7 @@ pub mod Refusals
 pub mod Laws
 -- what those are made of
 pub mod Cells
+pub mod Chunks
 pub mod Columns
 pub mod Contents
 pub mod Cursors

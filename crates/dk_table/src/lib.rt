@@ -5,6 +5,7 @@
 #![tactic(auto)]
 
 mod cells;
+mod chunks;
 mod columns;
 mod command;
 mod faults;
