@@ -18,5 +18,8 @@ pub mod Messages
 pub mod Outcomes
 pub mod Placed
 pub mod Sources
+pub mod Stages
+pub mod Stops
+pub mod Streams
 pub mod Tables
 pub mod Writing

@@ -35,9 +35,9 @@ impl<'a> Model for Rows<'a> {
     ghost view = { λ r. cursor_of r.source };
 }
 
-// The bytes behind the byte order mark, where there is one.
+/// The bytes behind the byte order mark, where there is one.
 #[tactic(auto, unfolding(csv::specs::Reading::strip_bom))]
-fn behind_mark(bytes: &[u8]) -> &[u8]
+pub(crate) fn behind_mark(bytes: &[u8]) -> &[u8]
     ensures { result.now ≡ strip_bom bytes.now }
 {
     match bytes {

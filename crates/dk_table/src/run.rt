@@ -1,4 +1,4 @@
-// A run: the files are read whole, and then the trace of their tables is written by pieces.
+// A run: the files are read whole, and then the trace of their tables is written by pieces; or rows are written as they come.
 ghost use Rattle.std.specs.Prelude.{◌≡◌, IfOk, Some, string_bytes, unwrap_or};
 ghost use Rattle.dk_arguments.specs.declared.request.Request.TheVariants as request;
 ghost use Rattle.dk_driver.specs.Files.{file_name_at};
@@ -13,6 +13,8 @@ use crate::command::Command;
 use crate::faults::{Refusal, TableFault, TableWhy};
 use crate::file_bytes::FileBytes;
 use crate::reading::{name_at, read_texts};
+use crate::stops::Stop;
+use crate::streaming::{Task, tell_stream};
 use crate::traces::plan_of;
 use crate::words::TableArguments;
 use crate::writing::tell_trace;
@@ -87,6 +89,54 @@ pub(crate) fn run_over<I: Inputs, S: Sinks>(
         Completes (Some (request.Run arguments.now)) before after result }
     ensures files { I.file inputs.new ≡ I.file inputs.old }
 {
+    match arguments.command.types {
+        None | Some(0) => run_held(alloc, arguments, inputs, sinks),
+        Some(types) => run_stream(alloc, arguments, types, inputs, sinks),
+    }
+}
+
+// Ends a run in which rows are written as they come.
+fn end_stream<S: Sinks>(
+    alloc: Global,
+    names: &[Word],
+    told: Result<(), Stop>,
+    sinks: &mut S,
+) -> Ended {
+    match told {
+        Ok(()) => Ended::Done,
+        Err(Stop::Refused(refusal)) => tell_refused(alloc, names, refusal, sinks),
+        Err(Stop::Unread(fault)) => tell_fault(alloc, names, fault, sinks),
+        Err(Stop::Write) => Ended::Write,
+        Err(Stop::NoMemory) => Ended::NoMemory,
+    }
+}
+
+// The files are read piece by piece, and rows are written as they come.
+fn run_stream<I: Inputs, S: Sinks>(
+    alloc: Global,
+    arguments: &TableArguments,
+    types: u64,
+    inputs: &mut I,
+    sinks: &mut S,
+) -> Ended {
+    let names = arguments.files.as_slice();
+    let command = &arguments.command;
+    let task = Task {
+        command,
+        point: point_of(command, name_at(names, 0)),
+        types,
+    };
+    let told = tell_stream(alloc, &task, names, inputs, sinks);
+    end_stream(alloc, names, told, sinks)
+}
+
+// The files are read whole, and then the trace of their tables is written.
+fn run_held<I: Inputs, S: Sinks>(
+    alloc: Global,
+    arguments: &TableArguments,
+    inputs: &mut I,
+    sinks: &mut S,
+) -> Ended {
     let names = arguments.files.as_slice();
     match read_texts(alloc, names, inputs) {
         Ok(texts) => tell_texts(alloc, arguments, texts.as_slice(), sinks),
