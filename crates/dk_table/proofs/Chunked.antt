@@ -115,7 +115,7 @@ in_field_waits cfg s c =
     (if ends_with cfg.terminator c then (after_end cfg.terminator c, act.EndRecord) else (st.InField, act.Copy))
     (begun s st.StartField act.EndField refl)
     (either s (ends_with cfg.terminator c) (after_end cfg.terminator c, act.EndRecord) (st.InField, act.Copy)
-        (ended s (after_end cfg.terminator c)) (begun s st.InField act.Copy refl))
+    (ended s (after_end cfg.terminator c)) (begun s st.InField act.Copy refl))
 
 start_field_waits : (cfg : Config) (s : State) (c : ℕ) → Waits s (start_field cfg c)
 unfolding is_unbegun
@@ -141,7 +141,7 @@ step_waits cfg st.InQuoted c =
     (if cfg.quoting && is_byte cfg.escape c then (st.InEscape, act.Skip) else (st.InQuoted, act.Copy))
     (begun st.InQuoted st.AfterQuote act.Skip refl)
     (either st.InQuoted (cfg.quoting && is_byte cfg.escape c) (st.InEscape, act.Skip) (st.InQuoted, act.Copy)
-        (begun st.InQuoted st.InEscape act.Skip refl) (begun st.InQuoted st.InQuoted act.Copy refl))
+    (begun st.InQuoted st.InEscape act.Skip refl) (begun st.InQuoted st.InQuoted act.Copy refl))
 step_waits cfg st.InEscape c = begun st.InEscape st.InQuoted act.Copy refl
 step_waits cfg st.AfterQuote c =
     either st.AfterQuote (cfg.quoting && cfg.double_quote && (c == cfg.quote)) (st.InQuoted, act.Copy) (in_field cfg c)
@@ -572,14 +572,17 @@ quotes_append front rest = sum_by-append (λ (b : ℕ). if b == 34 then 1 else 0
 
 -- ---- bytes further on in a file
 
--- behind a line end no byte order mark is looked for
-pub line_in_front : (xs : List ℕ) → strip_bom (10 ∷ xs) ≡ 10 ∷ xs
+-- Behind a line end no byte order mark is looked for.
+line_in_front : (xs : List ℕ) → strip_bom (10 ∷ xs) ≡ 10 ∷ xs
 unfolding strip_bom
 line_in_front [] = refl
 line_in_front (a ∷ []) = refl
 line_in_front (a ∷ b ∷ xs) = refl
 
--- and it begins no row
-pub line_passed : (separator : ℕ) (xs : List ℕ) → records (config_by separator) (10 ∷ xs) ≡ records (config_by separator) xs
+-- it begins no row
+line_passed : (separator : ℕ) (xs : List ℕ) → records (config_by separator) (10 ∷ xs) ≡ records (config_by separator) xs
 unfolding read_all
 line_passed separator xs = records_all (config_by separator) (10 ∷ xs) ∙ sym (records_all (config_by separator) xs)
+
+pub line_records : (separator : ℕ) (xs : List ℕ) → records (config_by separator) (strip_bom (10 ∷ xs)) ≡ records (config_by separator) xs
+line_records separator xs = ap (records (config_by separator)) (line_in_front xs) ∙ line_passed separator xs
