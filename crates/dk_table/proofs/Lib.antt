@@ -25,3 +25,4 @@ pub mod Fitting
 pub mod Begun
 pub mod Sampled
 pub mod Counted
+pub mod Chunked

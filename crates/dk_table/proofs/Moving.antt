@@ -138,8 +138,11 @@ strip_short (a ∷ b ∷ c ∷ more) = go (is_bom a b c)
     go false = omega arith
 
 -- there are at most as many rows as bytes
+pub all_few : (cfg : Config) (bytes : List ℕ) → length (records cfg bytes) ≤ length bytes
+all_few cfg bytes = few_records cfg (length bytes + 1) st.StartRecord bytes refl
+
 pub few_rows : (cfg : Config) (bytes : List ℕ) → length (records cfg (strip_bom bytes)) ≤ length bytes
-few_rows cfg bytes = let xs : List ℕ = strip_bom bytes in omega (arith, few_records cfg (length xs + 1) st.StartRecord xs refl, strip_short bytes)
+few_rows cfg bytes = omega (arith, all_few cfg (strip_bom bytes), strip_short bytes)
 
 module _ (row : Placed) (r : Reader Bytes) (cfg : Config) (bytes : List ℕ) (left : bytes_left r ≡ Some bytes) (start : reader_state r ≡ st.StartRecord)
     (is : reader_config r ≡ cfg) where

@@ -58,12 +58,11 @@ impl<'a> Rows<'a> {
         ensures few { IfOk result (λ rows. length rows.left < 2 ^ 64) }
     {
         if bytes.is_unquoted() {
-            let marked = bytes.as_slice();
-            let bytes = behind_mark(marked);
             // There are no more rows than bytes, so the number of each has 64 bits.
+            let marked = bytes.as_slice();
             let size = marked.len();
             prove!(size <= usize::MAX);
-            let lines = Lines::new(alloc, separator, file, 0, bytes);
+            let lines = Lines::new(alloc, separator, file, 0, behind_mark(marked));
             return Ok(Rows {
                 source: Source::Lines(lines),
             });
