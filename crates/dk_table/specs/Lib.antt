@@ -16,6 +16,7 @@ pub mod Judging
 pub mod Marks
 pub mod Messages
 pub mod Outcomes
+pub mod Pieces
 pub mod Placed
 pub mod Sources
 pub mod Stages

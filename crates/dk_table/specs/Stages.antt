@@ -1,17 +1,17 @@
 -- Rows that are written as they come: what is known at each stage.
 use Rattle.std.specs.Prelude.{◌≡◌, ◌≤◌, ◌<◌, ◌+◌, ◌++◌, ◌∷◌, [], ◌⊎◌, ⊤, ℕ, zero, suc, Bool, true, false, not, IfOk, List, Option, Some, None, Result, Ok, Err, flat_map, length, map, nat_lt, take, if◌then◌else◌}
-use Rattle.std.specs.Io.KnownBytes.{IsAtEnd, prepend_known}
-use Rattle.csv.specs.Reading.{records, strip_bom}
+use Rattle.csv.specs.Reading.{records}
 use Rattle.dk_driver.specs.Reads.{AtStart, Break, HasBroken, Within, held_file_at}
 use Rattle.dk_driver.specs.declared.fault.FilesFault.{FilesFault}
 use Rattle.dk_driver.specs.declared.fault.FilesFault.TheVariants as f
-use Rattle.dk_io.specs.Outside.{HeldFile, Untold, Absent, Holds, Rose}
+use Rattle.dk_io.specs.Outside.{HeldFile, Rose}
 use Rattle.dk_io.specs.Streams.{AddsFront, Texts, with_bytes}
 use Rattle.dk_io.specs.declared.outside.Stream.TheVariants.{Report}
 use Rattle.dk_write.specs.Texts.{trace_text}
 use Rattle.dk_table.specs.Chunks.{EndsRow}
 use Rattle.dk_table.specs.Contents.{AreReadAs, ReadAs, Reached, helds_of}
 use Rattle.dk_table.specs.Judging.{Judged, fresh, judging, kind_by}
+use Rattle.dk_table.specs.Pieces.{IsGathered, held_rows}
 use Rattle.dk_table.specs.Placed.{Placed}
 use Rattle.dk_table.specs.Stops.{Writes}
 use Rattle.dk_table.specs.Streams.{Step, Stream, all_steps, first_cells, first_refusal, first_rows, next_rows, rows_steps, rows_stream, stream_at, stream_by, stream_in, stream_with, text_rows, told_steps}
@@ -19,11 +19,6 @@ use Rattle.dk_table.specs.Tables.{◌>>=◌, are_paired, config_by, names_by, pl
 use Rattle.dk_table.specs.Traces.{are_named, declaration_of}
 use Rattle.dk_table.specs.declared.command.Command.{Command}
 use Rattle.dk_table.specs.declared.faults.Refusal.{Refusal}
-use Rattle.dk_table.specs.declared.pieces.Chunk.{Chunk}
-use Rattle.dk_table.specs.declared.pieces.Cut.{Cut}
-use Rattle.dk_table.specs.declared.pieces.Filled.{Filled}
-use Rattle.dk_table.specs.declared.pieces.Filled.TheVariants.{Full, Ended, Failed}
-use Rattle.dk_table.specs.declared.pieces.Piece.{Piece}
 use Rattle.dk_table.specs.declared.pieces.OpenFault.{OpenFault}
 use Rattle.dk_table.specs.declared.pieces.OpenFault.TheVariants as opening
 use Rattle.dk_table.specs.declared.stages.Body.{Body}
@@ -65,50 +60,6 @@ judging_steps judged (step ∷ steps) = judging_step judged step >>= λ next. ju
 abbrev pub first_names : Bool → List Placed → Option (List (List ℕ))
 first_names header [] = None
 first_names header (row ∷ rows) = Some (names_by header row.cells)
-
--- ---- chunks
-abbrev pub chunk_rows : ℕ → Chunk → List Placed
-chunk_rows separator chunk = placed_from chunk.file (chunk.front + 1) (records (config_by separator) chunk.bytes)
-
-abbrev pub held_rows : ℕ → List Chunk → List Placed
-held_rows separator chunks = flat_map (chunk_rows separator) chunks
-
--- Whole rows of the text, and what stands behind them. At a file's end all of it is whole rows.
-abbrev pub CutsOf : ℕ → List ℕ → Bool → Cut → Type 0
-CutsOf separator text true cut = (cut.rows ≡ text) × (cut.rest ≡ [])
-CutsOf separator text false cut = (text ≡ cut.rows ++ cut.rest) × EndsRow (config_by separator) cut.rows
-
--- ---- reading
--- Bytes were put behind the text: enough, or up to the file's end, or until a read failed.
-abbrev pub FilledSays : Filled → List ℕ → Option (List ℕ) → Type 0 → Type 0
-FilledSays Full text rest rose = 3 ≤ length text
-FilledSays Ended text rest rose = IsAtEnd rest
-FilledSays Failed text rest rose = rose
-
-abbrev pub FillsSays : List ℕ → List ℕ → Option (List ℕ) → Option (List ℕ) → Type 0 → Filled → Type 0
-FillsSays old new before after rose filled = (got : List ℕ) × (new ≡ old ++ got) × (before ≡ prepend_known got after) × FilledSays filled new after rose
-
--- Of a file of which this is told the text was gathered, behind the byte order mark, and this is left.
-abbrev pub IsGathered : Filled → HeldFile → List ℕ → Option (List ℕ) → Type 0 → Type 0
-IsGathered Full Untold text rest rose = ⊤
-IsGathered Full Absent text rest rose = ⊥
-IsGathered Full (Holds bytes) text rest rose = (left : List ℕ) × (rest ≡ Some left) × (strip_bom bytes ≡ text ++ left)
-IsGathered Ended Untold text rest rose = ⊤
-IsGathered Ended Absent text rest rose = ⊥
-IsGathered Ended (Holds bytes) text rest rose = strip_bom bytes ≡ text
-IsGathered Failed Untold text rest rose = rose
-IsGathered Failed Absent text rest rose = ⊥
-IsGathered Failed (Holds bytes) text rest rose = rose × ((left : List ℕ) × (strip_bom bytes ≡ text ++ left))
-
--- The text behind the byte order mark. Where a read failed so early that the mark may be cut off, nothing is left.
-abbrev pub without_mark : Filled → List ℕ → List ℕ
-without_mark Failed text = if nat_lt (length text) 3 then [] else strip_bom text
-without_mark filled text = strip_bom text
-
-abbrev pub OpenSays : HeldFile → Option (List ℕ) → Type 0 → Result Piece OpenFault → Type 0
-OpenSays held rest rose (Ok piece) = IsGathered piece.filled held piece.text rest rose
-OpenSays held rest rose (Err opening.Start) = HasBroken AtStart held rose
-OpenSays held rest rose (Err opening.NoMemory) = ⊤
 
 -- ---- what is known of the columns, behind these rows
 -- Rows by which kinds are found are held, and more are to be looked at.

@@ -10,6 +10,7 @@ mod columns;
 mod command;
 mod faults;
 mod file_bytes;
+mod held;
 mod judging;
 pub mod laws;
 mod lines;

@@ -1,12 +1,11 @@
 // Files that are read piece by piece, and cut into chunks of whole rows.
-ghost use Rattle.std.specs.Prelude.{◌≡◌, ◌≢◌, ◌≤◌, ◌<◌, ◌+◌, ◌^◌, ◌++◌, IfOk, OnOk, [], length};
-ghost use Rattle.dk_io.specs.Outside.{Rose, HeldFile};
-ghost use Rattle.dk_table.specs.Chunks.{EndsRow};
-ghost use Rattle.dk_table.specs.Stages.{CutsOf, FillsSays, OpenSays, chunk_rows, without_mark};
-ghost use Rattle.dk_table.specs.Tables.{config_by};
+ghost use Rattle.std.specs.Prelude.{◌≡◌, ◌≤◌, ◌<◌, ◌+◌, ◌^◌, IfOk, length};
+ghost use Rattle.dk_io.specs.Outside.{Rose};
+ghost use Rattle.dk_table.specs.Pieces.{CutsOf, FillsSays, OpenSays, chunk_rows, may_cut_mark, without_mark};
 
 use crate::chunks::whole_rows;
 use crate::file_bytes::FileBytes;
+use crate::held::Chunk;
 use crate::rows::{Rows, behind_mark};
 use dk_base::{NoMemory, Text};
 use dk_io::{Failed, Inputs};
@@ -18,27 +17,7 @@ const PIECE: usize = 65_536;
 /// How many bytes are gathered before rows are cut off them.
 const CHUNK: usize = 1_048_576;
 
-/// Whole rows of the file at a place, in front of which so many rows of it stand.
-#[derive(Drop)]
-pub(crate) struct Chunk {
-    pub(crate) file: usize,
-    pub(crate) front: u64,
-    pub(crate) bytes: FileBytes,
-    ghost numbered: { front + length bytes < 2 ^ 64 },
-}
-
 impl Chunk {
-    /// These bytes, in front of which so many rows stand. That the number of a row passes 64 bits is answered as want of memory.
-    pub(crate) fn new(file: usize, front: u64, bytes: FileBytes) -> Result<Chunk, NoMemory>
-        ensures { IfOk result (λ chunk. (chunk.file ≡ file) × (chunk.front ≡ front) × (chunk.bytes ≡ bytes)) }
-    {
-        let size = bytes.as_slice().len() as u64;
-        if size > u64::MAX - front {
-            return Err(NoMemory);
-        }
-        Ok(Chunk { file, front, bytes })
-    }
-
     /// All rows are left.
     pub(crate) fn rows(&self, alloc: Global, separator: u8) -> Result<Rows<'_>, NoMemory>
         ensures left { IfOk result (λ rows. rows.left ≡ chunk_rows separator self.now) }
@@ -113,11 +92,23 @@ impl From<NoMemory> for OpenFault {
     }
 }
 
-// The text behind the byte order mark, where there is one. Where no more could be read, of a mark that is cut off nothing is left.
+// Whether a read failed so early that a byte order mark may be cut off.
+fn may_cut_mark(filled: Filled, count: usize) -> bool
+    ensures { result ≡ may_cut_mark filled count }
+{
+    match filled {
+        Filled::Full => false,
+        Filled::Ended => false,
+        Filled::Failed => count < 3,
+    }
+}
+
+// The text behind the byte order mark, where there is one. Nothing is left where a mark may be cut off.
 fn without_mark(alloc: Global, text: Text, filled: Filled) -> Result<Text, NoMemory>
     ensures { IfOk result (λ bare. bare ≡ without_mark filled text) }
 {
-    if filled == Filled::Failed && text.len() < 3 {
+    let count = text.len();
+    if may_cut_mark(filled, count) {
         return Ok(Text::new(alloc));
     }
     let bare = behind_mark(text.as_slice());

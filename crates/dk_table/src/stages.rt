@@ -4,7 +4,7 @@ ghost use Rattle.dk_table.specs.Forms.{form_of};
 
 use crate::columns::ColumnKind;
 use crate::judging::Judge;
-use crate::pieces::Chunk;
+use crate::held::Chunk;
 use crate::traces::Plan;
 use crate::writing::Form;
 use dk_base::{List, Text};

@@ -1,13 +1,13 @@
 // Writing rows as they come.
 ghost use Rattle.std.specs.Prelude.{◌≡◌, ◌++◌, ◌+◌, ◌<◌, ◌^◌, IfOk, [], length};
 ghost use Rattle.dk_table.specs.Forms.{rows_text};
-ghost use Rattle.dk_table.specs.Stages.{chunk_rows, held_rows};
+ghost use Rattle.dk_table.specs.Pieces.{chunk_rows, held_rows};
 ghost use Rattle.dk_table.specs.Stops.{Gathers, Writes};
 ghost use Rattle.dk_table.specs.Streams.{first_refusal, row_steps, rows_before, rows_steps, told_steps};
 
 use crate::command::Command;
 use crate::faults::{Refusal, TableWhy};
-use crate::pieces::Chunk;
+use crate::held::Chunk;
 use crate::rows::Rows;
 use crate::stages::Body;
 use crate::steps::is_body;
