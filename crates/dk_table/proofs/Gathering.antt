@@ -7,8 +7,8 @@ use Rattle.csv.specs.Reading.{is_bom, strip_bom}
 use Rattle.dk_io.specs.Outside.{HeldFile, Untold, Absent, Holds, Rose, Starts}
 use Rattle.dk_table.specs.Pieces.{FilledSays, FillsSays, IsGathered, without_mark}
 use Rattle.dk_table.specs.Placed.{Placed}
-use Rattle.dk_table.specs.declared.pieces.Filled.{Filled}
-use Rattle.dk_table.specs.declared.pieces.Filled.TheVariants.{Full, Ended, Failed}
+use Rattle.dk_table.specs.declared.filling.Filled.{Filled}
+use Rattle.dk_table.specs.declared.filling.Filled.TheVariants.{Full, Ended, Failed}
 
 -- ---- what is left of a file that is told
 left_of : (bytes got : List ℕ) (before after : Option (List ℕ)) → before ≡ Some bytes → before ≡ prepend_known got after

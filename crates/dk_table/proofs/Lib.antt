@@ -27,3 +27,7 @@ pub mod Sampled
 pub mod Counted
 pub mod Chunked
 pub mod Gathering
+pub mod Streamed
+pub mod Sent
+pub mod Told
+pub mod Staged

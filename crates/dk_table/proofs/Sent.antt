@@ -10,7 +10,7 @@ use Rattle.dk_table.specs.Stops.{Gathers, Writes, stop_of_halt}
 use Rattle.dk_table.specs.Writing.{HaltHasCause, IsTold, Tells}
 use Rattle.dk_table.specs.declared.faults.Refusal.{Refusal}
 use Rattle.dk_table.specs.declared.stops.Stop.{Stop}
-use Rattle.dk_table.specs.declared.stops.Stop.TheVariants.{NoMemory, Refused, Unread, Write}
+use Rattle.dk_table.specs.declared.stops.Stop.TheVariants.{NoMemory, Refused, Unread, Unstarted, Write}
 use Rattle.dk_table.specs.declared.writing.Halt.{Halt}
 use Rattle.dk_table.specs.declared.writing.Halt.TheVariants as halt
 use Rattle.dk_table.proofs.Pieces.{cut_here, cut_then, told_all, told_as, told_nothing, told_then}
@@ -38,7 +38,8 @@ writes_after (Ok u) due more refusal base mid new start between after so_far cal
     (none, is ∙ ap (λ (t : Texts). with_bytes t Report more) so_far ∙ added_twice base Report due more, still ∙ calm)
 writes_after (Err (Refused r)) due more refusal base mid new start between after so_far calm (some, is, still) =
     (some, is ∙ ap (λ (t : Texts). with_bytes t Report more) so_far ∙ added_twice base Report due more, still ∙ calm)
-writes_after (Err (Unread why)) due more refusal base mid new start between after so_far calm h = h
+writes_after (Err (Unstarted place)) due more refusal base mid new start between after so_far calm h = h
+writes_after (Err (Unread place)) due more refusal base mid new start between after so_far calm h = h
 writes_after (Err Write) due more refusal base mid new start between after so_far calm (front, rose) =
     (adds_after due more base mid new so_far front, subst (λ (n : ℕ). Rose n after) calm rose)
 writes_after (Err NoMemory) due more refusal base mid new start between after so_far calm (front, still) =
@@ -50,7 +51,8 @@ pub stop_writes : {A B : Type 0} (stop : Stop) (due more : List ℕ) (refusal wh
     → Writes {A = A} due refusal old new before after (Err stop) → Writes {A = B} (due ++ more) whole old new before after (Err stop)
 stop_writes (Refused r) due more refusal whole old new before after known (some, is, still) =
     let (all, none) = known r some in (all, is ∙ ap (with_bytes old Report) (sym (append-nil due) ∙ ap (λ (l : List ℕ). due ++ l) (sym none)), still)
-stop_writes (Unread why) due more refusal whole old new before after known h = h
+stop_writes (Unstarted place) due more refusal whole old new before after known h = h
+stop_writes (Unread place) due more refusal whole old new before after known h = h
 stop_writes Write due more refusal whole old new before after known (front, rose) = (adds_more old new due more front, rose)
 stop_writes NoMemory due more refusal whole old new before after known (front, still) = (adds_more old new due more front, still)
 
@@ -83,7 +85,8 @@ module _ (whole pending own more all : List ℕ) (refusal whole_refusal : Option
   gathered_stop (Refused r) left known (some, told) =
       let (all_some, none) = known r some in
       (all_some, told_as whole (left ++ more) left old new before after (ap (λ (l : List ℕ). left ++ l) none ∙ append-nil left) (gathered_next left told))
-  gathered_stop (Unread why) left known h = h
+  gathered_stop (Unstarted place) left known h = h
+  gathered_stop (Unread place) left known h = h
   gathered_stop Write left known h = cut_then whole (pending ++ own) more old mid new before between after apart halt.Write h
   gathered_stop NoMemory left known h = cut_then whole (pending ++ own) more old mid new before between after apart halt.NoMemory h
 

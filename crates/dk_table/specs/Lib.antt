@@ -18,6 +18,7 @@ pub mod Messages
 pub mod Outcomes
 pub mod Pieces
 pub mod Placed
+pub mod Progress
 pub mod Sources
 pub mod Stages
 pub mod Stops

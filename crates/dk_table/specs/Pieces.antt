@@ -7,12 +7,12 @@ use Rattle.dk_table.specs.Chunks.{EndsRow}
 use Rattle.dk_table.specs.Placed.{Placed}
 use Rattle.dk_table.specs.Tables.{config_by, placed_from}
 use Rattle.dk_table.specs.declared.held.Chunk.{Chunk}
-use Rattle.dk_table.specs.declared.pieces.Cut.{Cut}
-use Rattle.dk_table.specs.declared.pieces.Filled.{Filled}
-use Rattle.dk_table.specs.declared.pieces.Filled.TheVariants.{Full, Ended, Failed}
-use Rattle.dk_table.specs.declared.pieces.OpenFault.{OpenFault}
-use Rattle.dk_table.specs.declared.pieces.OpenFault.TheVariants as opening
-use Rattle.dk_table.specs.declared.pieces.Piece.{Piece}
+use Rattle.dk_table.specs.declared.filling.Cut.{Cut}
+use Rattle.dk_table.specs.declared.filling.Filled.{Filled}
+use Rattle.dk_table.specs.declared.filling.Filled.TheVariants.{Full, Ended, Failed}
+use Rattle.dk_table.specs.declared.filling.OpenFault.{OpenFault}
+use Rattle.dk_table.specs.declared.filling.OpenFault.TheVariants as opening
+use Rattle.dk_table.specs.declared.filling.Piece.{Piece}
 
 -- ---- chunks
 abbrev pub chunk_rows : ℕ → Chunk → List Placed

@@ -8,7 +8,7 @@ use Rattle.dk_table.specs.declared.faults.Refusal.{Refusal}
 use Rattle.dk_table.specs.declared.faults.TableFault.{TableFault}
 use Rattle.dk_table.specs.declared.faults.TableFault.TheVariants as fault
 use Rattle.dk_table.specs.declared.stops.Stop.{Stop}
-use Rattle.dk_table.specs.declared.stops.Stop.TheVariants.{NoMemory, Refused, Unread, Write}
+use Rattle.dk_table.specs.declared.stops.Stop.TheVariants.{NoMemory, Refused, Unread, Unstarted, Write}
 use Rattle.dk_table.specs.declared.writing.Halt.{Halt}
 use Rattle.dk_table.specs.declared.writing.Halt.TheVariants as halt
 
@@ -25,7 +25,8 @@ stop_of_halt halt.NoMemory = NoMemory
 abbrev pub Gathers : {A : Type 0} → List ℕ → Option Refusal → List ℕ → Texts → Texts → ℕ → ℕ → Result A Stop → Type 0
 Gathers due refusal left old new before after (Ok u) = (refusal ≡ None) × IsTold due left old new before after
 Gathers due refusal left old new before after (Err (Refused r)) = (refusal ≡ Some r) × IsTold due left old new before after
-Gathers due refusal left old new before after (Err (Unread why)) = ⊥
+Gathers due refusal left old new before after (Err (Unstarted place)) = ⊥
+Gathers due refusal left old new before after (Err (Unread place)) = ⊥
 Gathers due refusal left old new before after (Err Write) = AddsFront old new Report due × Rose before after
 Gathers due refusal left old new before after (Err NoMemory) = AddsFront old new Report due × (after ≡ before)
 
@@ -33,6 +34,7 @@ Gathers due refusal left old new before after (Err NoMemory) = AddsFront old new
 abbrev pub Writes : {A : Type 0} → List ℕ → Option Refusal → Texts → Texts → ℕ → ℕ → Result A Stop → Type 0
 Writes due refusal old new before after (Ok u) = (refusal ≡ None) × (new ≡ with_bytes old Report due) × (after ≡ before)
 Writes due refusal old new before after (Err (Refused r)) = (refusal ≡ Some r) × (new ≡ with_bytes old Report due) × (after ≡ before)
-Writes due refusal old new before after (Err (Unread why)) = ⊥
+Writes due refusal old new before after (Err (Unstarted place)) = ⊥
+Writes due refusal old new before after (Err (Unread place)) = ⊥
 Writes due refusal old new before after (Err Write) = AddsFront old new Report due × Rose before after
 Writes due refusal old new before after (Err NoMemory) = AddsFront old new Report due × (after ≡ before)

@@ -14,11 +14,13 @@ use crate::faults::{Refusal, TableFault, TableWhy};
 use crate::file_bytes::FileBytes;
 use crate::reading::{name_at, read_texts};
 use crate::stops::Stop;
-use crate::streaming::{Task, tell_stream};
+use crate::streaming::tell_stream;
+use crate::advancing::Task;
 use crate::traces::plan_of;
 use crate::words::TableArguments;
 use crate::writing::tell_trace;
 use dk_arguments::Word;
+use dk_driver::FilesFault;
 use dk_events::Ended;
 use dk_io::{Inputs, Sinks, Stream};
 use dk_program::{end_with, tell_fault};
@@ -105,7 +107,8 @@ fn end_stream<S: Sinks>(
     match told {
         Ok(()) => Ended::Done,
         Err(Stop::Refused(refusal)) => tell_refused(alloc, names, refusal, sinks),
-        Err(Stop::Unread(fault)) => tell_fault(alloc, names, fault, sinks),
+        Err(Stop::Unstarted(place)) => tell_fault(alloc, names, FilesFault::Start { place }, sinks),
+        Err(Stop::Unread(place)) => tell_fault(alloc, names, FilesFault::Read { place }, sinks),
         Err(Stop::Write) => Ended::Write,
         Err(Stop::NoMemory) => Ended::NoMemory,
     }

@@ -6,15 +6,16 @@ ghost use Rattle.dk_table.specs.declared.stops.Stop.TheVariants.{NoMemory as Out
 use crate::faults::{Refusal, TableFault};
 use crate::writing::Halt;
 use dk_base::NoMemory;
-use dk_driver::FilesFault;
 
 /// Why rows that are written as they come end before the files do.
 #[derive(Clone, Copy, Debug, PartialEq, Eq)]
 pub(crate) enum Stop {
     /// The table is refused.
     Refused(Refusal),
-    /// A file can't be read.
-    Unread(FilesFault),
+    /// The file at this place can't be started.
+    Unstarted(usize),
+    /// The file at this place was started, and then a read failed.
+    Unread(usize),
     Write,
     NoMemory,
 }

@@ -2,7 +2,7 @@ use Rattle.std.proofs.Common.{ap, List, subst, sym, ℕ}
 use Rattle.dk_io.specs.Outside.{HeldFile, Rose}
 use Rattle.dk_table.proofs.Gathering.{gathered_since, opened, rose_before}
 use Rattle.dk_table.specs.Pieces.{IsGathered, without_mark}
-use Rattle.dk_table.proofs.pieces.open.Goals as goal
+use Rattle.dk_table.proofs.filling.open.Goals as goal
 
 pub returns-in_ok-text-in-Ok-clause-opened : goal.returns-in_ok-text-in-Ok-clause-opened
 returns-in_ok-text-in-Ok-clause-opened g c =

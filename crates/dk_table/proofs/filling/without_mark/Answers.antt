@@ -2,7 +2,7 @@ use Rattle.std.proofs.Common.{◌≡◌, ◌∙◌, [], ap, arith, Bool, false, 
 use Rattle.csv.specs.Reading.{strip_bom}
 use Rattle.dk_table.proofs.Gathering.{unmarked}
 use Rattle.dk_table.specs.Pieces.{may_cut_mark}
-use Rattle.dk_table.proofs.pieces.without_mark.Goals as goal
+use Rattle.dk_table.proofs.filling.without_mark.Goals as goal
 
 pub returns-then-bare-len : goal.returns-then-bare-len
 returns-then-bare-len c =

@@ -1,6 +1,6 @@
 use Rattle.std.proofs.Common.{◌≡◌, ◌≤◌, ◌<◌, ◌-◌, ◌++◌, List, ℕ, length}
 use Rattle.std.specs.Io.KnownBytes.{prepend_known}
-use Rattle.dk_table.proofs.pieces.fill.Given as goal
+use Rattle.dk_table.proofs.filling.fill.Given as goal
 
 abbrev pub invariant-reading : goal.invariant-reading
 invariant-reading g l = record {

@@ -83,7 +83,7 @@ pub(crate) enum OpenFault {
 
 impl From<NoMemory> for OpenFault {
     ghost use Rattle.std.specs.Prelude.{◌≡◌};
-    ghost use Rattle.dk_table.specs.declared.pieces.OpenFault.TheVariants.{NoMemory as OutOfMemory};
+    ghost use Rattle.dk_table.specs.declared.filling.OpenFault.TheVariants.{NoMemory as OutOfMemory};
 
     ghost from_gives = { λ _ e. e ≡ OutOfMemory };
 

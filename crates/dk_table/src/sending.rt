@@ -1,5 +1,5 @@
 // Writing rows as they come.
-ghost use Rattle.std.specs.Prelude.{◌≡◌, ◌++◌, ◌+◌, ◌<◌, ◌^◌, IfOk, [], length};
+ghost use Rattle.std.specs.Prelude.{◌≡◌, ◌++◌, ◌∷◌, ◌<◌, ◌^◌, IfOk, Ok, [], length};
 ghost use Rattle.dk_table.specs.Forms.{rows_text};
 ghost use Rattle.dk_table.specs.Pieces.{chunk_rows, held_rows};
 ghost use Rattle.dk_table.specs.Stops.{Gathers, Writes};
@@ -10,7 +10,7 @@ use crate::faults::{Refusal, TableWhy};
 use crate::held::Chunk;
 use crate::rows::Rows;
 use crate::stages::Body;
-use crate::steps::is_body;
+use crate::checked::is_body;
 use crate::stops::Stop;
 use crate::traces::is_told;
 use crate::writing::{Gathered, tell_row, write_gathered};
@@ -23,7 +23,10 @@ fn tell_fitting<S: Sinks>(
     body: &Body,
     rows: &Rows<'_>,
     sinks: &mut S,
-) -> Result<(), Stop> {
+) -> Result<(), Stop>
+    ensures { let steps = told_steps body.now.plan.kinds (Ok rows.now.row ∷ []) in
+        Gathers (gathered.old.text.items ++ rows_text body.now.form (rows_before steps)) (first_refusal steps) gathered.new.text.items (S.written sinks.old) (S.written sinks.new) (S.faults sinks.old) (S.faults sinks.new) result }
+{
     if !is_told(body.plan.kinds.as_slice(), rows, &mut gathered.digits)? {
         return Err(Stop::Refused(Refusal {
             file: rows.file(),
