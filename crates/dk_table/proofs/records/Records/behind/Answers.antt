@@ -1,8 +1,6 @@
-use Rattle.std.proofs.Common.{◌+◌, ◌∙◌, ◌∷◌, ap, arith, length, List, ℕ}
-use Rattle.csv.specs.Reading.{records}
+use Rattle.std.proofs.Common.{◌+◌, ◌∙◌, ap, arith, length, List, ℕ}
 use Rattle.dk_table.specs.Tables.{config_by, placed_from}
 use Rattle.dk_table.proofs.Chunked.{line_records}
-use Rattle.dk_table.proofs.AllRecords.{few_records}
 use Rattle.dk_table.proofs.Moving.{all_few}
 use Rattle.dk_table.proofs.records.Records.behind.Goals as goal
 
