@@ -26,3 +26,4 @@ pub mod Begun
 pub mod Sampled
 pub mod Counted
 pub mod Chunked
+pub mod Parts
