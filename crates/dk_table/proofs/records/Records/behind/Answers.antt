@@ -1,5 +1,5 @@
 use Rattle.std.proofs.Common.{◌+◌, ◌∙◌, ap, arith, length, List, ℕ}
-use Rattle.csv.specs.Reading.{records, strip_bom}
+use Rattle.csv.specs.Reading.{records}
 use Rattle.dk_table.specs.Tables.{config_by, placed_from}
 use Rattle.dk_table.proofs.AllRecords.{placed_length}
 use Rattle.dk_table.proofs.Chunked.{line_records}
