@@ -1,18 +1,18 @@
 -- Chunks of whole rows.
-use Rattle.std.proofs.Common.{◌≡◌, ◌≢◌, ◌≤◌, ◌<◌, ◌+◌, ◌∙◌, ◌==◌, ◌&&◌, ◌||◌, ◌⊎◌, inl, inr, ◌∷◌, ◌++◌, [], ℕ, zero, suc, Bool, true, false, List, Option, Some, None, get_or, length, length-append, take, refl, sym, ap, subst, arith, if◌then◌else◌}
+use Rattle.std.proofs.Common.{◌≡◌, ◌≢◌, ◌≤◌, ◌<◌, ◌+◌, ◌∙◌, ◌==◌, ◌&&◌, ◌⊎◌, inl, inr, ◌∷◌, ◌++◌, [], ℕ, zero, suc, Bool, true, false, List, Some, None, get_or, length, length-append, take, refl, sym, ap, subst, arith, if◌then◌else◌}
 use Rattle.std.specs.Prelude.{count_by}
 use Rattle.std.proofs.lemmas.Bool.{cases_lt, false≢true, ne_eqb}
 use Rattle.std.proofs.lemmas.List.Sums.{sum_by-append}
 use Rattle.std.proofs.lemmas.List.{get_or-take, length-take, take_more}
-use Rattle.csv.specs.Machine.{Read, after_end, ends_at_end, ends_with, field_after, fields_after, in_field, is_byte, is_end, next_record, start_field, start_record, step}
-use Rattle.csv.specs.Reading.{is_bom, records, records_from, records_next, strip_bom}
+use Rattle.csv.specs.Machine.{after_end, ends_at_end, ends_with, field_after, fields_after, in_field, is_byte, is_end, next_record, start_field, start_record, step}
+use Rattle.csv.specs.Reading.{records, records_from, records_next, strip_bom}
 use Rattle.csv.specs.declared.parser.Action.{Action}
 use Rattle.csv.specs.declared.parser.Action.TheVariants as act
 use Rattle.csv.specs.declared.parser.Config.{Config}
 use Rattle.csv.specs.declared.parser.State.{State}
 use Rattle.csv.specs.declared.parser.State.TheVariants as st
 use Rattle.csv.specs.declared.parser.Terminator.TheVariants as term
-use Rattle.dk_table.specs.Chunks.{AreWholeRows, EndsRow, IsBehindLines, stand_behind, stand_of, state_of}
+use Rattle.dk_table.specs.Chunks.{AreWholeRows, EndsRow, IsBehindLines, stand_behind, stand_of}
 use Rattle.dk_table.specs.Cutting.{IsUnquoted}
 use Rattle.dk_table.specs.Tables.{config_by}
 use Rattle.dk_table.specs.declared.chunks.Stand.{Stand}

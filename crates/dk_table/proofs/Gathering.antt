@@ -1,12 +1,11 @@
 -- What is gathered of a file.
 use Rattle.std.proofs.Common.{◌≡◌, ◌≤◌, ◌<◌, ◌+◌, ◌∙◌, ◌==◌, ◌&&◌, ◌∷◌, ◌++◌, [], ℕ, Bool, true, false, List, Option, Some, None, append_assoc, append-nil, length, refl, sym, ap, subst, arith, inl, inr, if◌then◌else◌}
-use Rattle.std.specs.Prelude.{⊤, ◌^◌, IfOk, Result, Ok, Err, nat_lt}
+use Rattle.std.specs.Prelude.{⊤, nat_lt}
 use Rattle.std.specs.Io.KnownBytes.{IsAtEnd, prepend_known}
 use Rattle.std.proofs.lemmas.Bool.{ltb-false}
 use Rattle.csv.specs.Reading.{is_bom, strip_bom}
 use Rattle.dk_io.specs.Outside.{HeldFile, Untold, Absent, Holds, Rose, Starts}
 use Rattle.dk_table.specs.Pieces.{FilledSays, FillsSays, IsGathered, without_mark}
-use Rattle.dk_table.specs.Placed.{Placed}
 use Rattle.dk_table.specs.declared.filling.Filled.{Filled}
 use Rattle.dk_table.specs.declared.filling.Filled.TheVariants.{Full, Ended, Failed}
 
@@ -88,11 +87,6 @@ gathered_since Failed (Holds bytes) text rest early late since h = (since h.0, h
 
 pub rose_before : (a b c : ℕ) → a ≤ b → Rose b c → Rose a c
 rose_before a b c before rose = omega (arith, before, rose)
-
-pub few_of : {T E : Type 0} (r : Result T E) (left : T → List Placed) (rows : List Placed) (n : ℕ) → IfOk r (λ x. left x ≡ rows) → n + length rows < 2 ^ 64
-    → IfOk r (λ x. n + length (left x) < 2 ^ 64)
-few_of (Ok x) left rows n is few = subst (λ (l : List Placed). n + length l < 2 ^ 64) (sym is) few
-few_of (Err e) left rows n is few = tt
 
 -- ---- more of it
 pub gathered_more : (filled : Filled) (held : HeldFile) (gone text new : List ℕ) (before after : Option (List ℕ)) (early late : Type 0)

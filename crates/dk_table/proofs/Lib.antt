@@ -31,3 +31,4 @@ pub mod Streamed
 pub mod Sent
 pub mod Told
 pub mod Staged
+pub mod Parts

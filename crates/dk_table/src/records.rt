@@ -124,7 +124,8 @@ impl<'a> Records<'a> {
         bytes: &'a [u8],
     ) -> Records<'a>
         requires { front + length bytes.now < 2 ^ 64 }
-        ensures { result.left ≡ placed_from file (front + 1) (records (config_by separator) bytes.entry.now) }
+        ensures left { result.left ≡ placed_from file (front + 1) (records (config_by separator) bytes.entry.now) }
+        ensures few { front + length result.left < 2 ^ 64 }
     {
         // Behind a line end, which is read past, no byte order mark is looked for.
         Records::begun(alloc, separator, file, front, b"\n", bytes)

@@ -79,7 +79,8 @@ impl<'a> Rows<'a> {
         bytes: &'a FileBytes,
     ) -> Result<Rows<'a>, NoMemory>
         requires { front + length bytes.now < 2 ^ 64 }
-        ensures { IfOk result (λ rows. rows.left ≡ placed_from file (front + 1) (records (config_by separator) bytes.entry.now)) }
+        ensures left { IfOk result (λ rows. rows.left ≡ placed_from file (front + 1) (records (config_by separator) bytes.entry.now)) }
+        ensures few { IfOk result (λ rows. front + length rows.left < 2 ^ 64) }
     {
         if bytes.is_unquoted() {
             let lines = Lines::new(alloc, separator, file, front, bytes.as_slice());

@@ -1,4 +1,4 @@
-use Rattle.std.proofs.Common.{◌<◌, ◌+◌, ◌∙◌, ap, arith, length, rules, subst, sym}
+use Rattle.std.proofs.Common.{◌<◌, ◌∙◌, ap, arith, length, rules, subst, sym}
 use Rattle.csv.specs.Reading.{strip_bom}
 use Rattle.dk_table.specs.Cutting.{IsUnquoted}
 use Rattle.dk_table.specs.Tables.{config_by}
