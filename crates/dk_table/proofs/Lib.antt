@@ -32,3 +32,7 @@ pub mod Sent
 pub mod Told
 pub mod Staged
 pub mod Parts
+pub mod Grown
+pub mod Progressed
+pub mod Chosen
+pub mod Agreed

@@ -12,9 +12,10 @@ use Rattle.dk_table.specs.Pieces.{chunk_rows, held_rows}
 use Rattle.dk_table.specs.Placed.{Placed}
 use Rattle.dk_table.specs.Stages.{IsAt, IsBegun, IsBody, IsFront, IsReady, IsTaken, is_done, judging_steps}
 use Rattle.dk_table.specs.Stops.{Writes}
-use Rattle.dk_table.specs.Streams.{Step, Stream, first_cells, first_refusal, nothing, nothing_but, rows_steps, rows_stream, stream_by, stream_with, told_steps}
+use Rattle.dk_table.specs.Forms.{form_of, rows_text}
+use Rattle.dk_table.specs.Streams.{Step, Stream, first_cells, first_refusal, nothing, nothing_but, rows_before, rows_steps, rows_stream, stream_by, stream_with, told_steps, trace_before}
 use Rattle.dk_table.specs.Tables.{◌>>=◌, names_by}
-use Rattle.dk_table.specs.Traces.{declaration_of}
+use Rattle.dk_table.specs.Traces.{declaration_of, writes_of}
 use Rattle.dk_table.specs.declared.columns.ColumnKind.{ColumnKind}
 use Rattle.dk_table.specs.declared.command.Command.{Command}
 use Rattle.dk_table.specs.declared.faults.Refusal.{Refusal}
@@ -26,8 +27,10 @@ use Rattle.dk_table.specs.declared.stages.Stage.TheVariants as stage
 use Rattle.dk_table.specs.declared.stops.Stop.{Stop}
 use Rattle.dk_table.specs.declared.stops.Stop.TheVariants.{NoMemory, Refused}
 use Rattle.dk_table.specs.declared.advancing.Taken.{Taken}
+use Rattle.dk_table.specs.declared.writing.Form.{Form}
+use Rattle.dk_table.proofs.Formed.{text_more}
 use Rattle.dk_table.proofs.Sent.{adds_none, writes_after}
-use Rattle.dk_table.proofs.Streamed.{Looked, by_named, done_stays, enough, few, first_stays, judged_apart, looked, looked_refused, refused_early, steps_apart, written_ended, written_known, written_nothing}
+use Rattle.dk_table.proofs.Streamed.{Looked, before_none, by_named, done_stays, enough, few, first_stays, judged_apart, looked, looked_refused, refused_behind, refused_early, steps_apart, told_apart, written_ended, written_known, written_nothing}
 
 -- ---- rows by which kinds are found
 module _ (c : Command) (point : List ℕ) (types : ℕ) (front : Front) (rows own : List Placed) (at : IsReady c types front rows own) where
@@ -155,3 +158,70 @@ front_ended c point types front rows at =
     let kinds : List ColumnKind = map kind_by front.judge.columns in
     ap (λ (held : List Placed). stream_by (declaration_of point front.names kinds) kinds (rows_steps c.has_header front.names held)) at.ready.held
     ∙ sym (written_ended point front.names types steps kinds l.none l.kinds)
+
+-- ---- rows that are written as they come
+module _ (c : Command) (point : List ℕ) (types : ℕ) (body : Body) (rows own : List Placed) (at : IsBody c point types body rows) where
+  abbrev d : PointDecl
+  d = body.plan.decl
+
+  abbrev ks : List ColumnKind
+  ks = body.plan.kinds
+
+  abbrev A : List Step
+  A = rows_steps c.has_header body.names rows
+
+  abbrev B : List Step
+  B = rows_steps c.has_header body.names own
+
+  abbrev T : List Step → List Step
+  T steps = told_steps ks steps
+
+  same_names : body.names ≡ names_by c.has_header (first_cells (rows ++ own))
+  same_names = at.names ∙ ap (names_by c.has_header) (sym (first_stays rows own at.some))
+
+  now_is : rows_stream c point types (rows ++ own) ≡ trace_before d ks (T A ++ T B)
+  now_is =
+      ap (λ (ns : List (List ℕ)). stream_with point ns types false (rows_steps c.has_header ns (rows ++ own))) (sym same_names)
+      ∙ ap (stream_with point body.names types false) (steps_apart c.has_header body.names rows own)
+      ∙ at.known false B ∙ by_named d ks (A ++ B) at.named ∙ ap (trace_before d ks) (told_apart ks A B)
+
+  was : rows_stream c point types rows ≡ trace_before d ks (T A)
+  was =
+      ap (λ (ns : List (List ℕ)). stream_with point ns types false (rows_steps c.has_header ns rows)) (sym at.names)
+      ∙ ap (stream_with point body.names types false) (sym (append-nil A)) ∙ at.known false [] ∙ ap (stream_by d ks) (append-nil A) ∙ by_named d ks A at.named
+
+  text_now : trace_text (rows_stream c point types rows).written ++ rows_text body.form (rows_before (T B)) ≡ trace_text (rows_stream c point types (rows ++ own)).written
+  text_now =
+      let e : PointDecl = declaration_of point body.names ks in
+      ap (λ (s : Stream). trace_text s.written ++ rows_text body.form (rows_before (T B))) was
+      ∙ ap (λ (f : Form). trace_text (writes_of d ks (rows_before (T A))) ++ rows_text f (rows_before (T B))) body.formed
+      ∙ ap (λ (x : PointDecl). trace_text (writes_of x ks (rows_before (T A))) ++ rows_text (form_of x ks) (rows_before (T B))) at.declared
+      ∙ sym (text_more point body.names ks (rows_before (T A)) (rows_before (T B)))
+      ∙ ap (λ (x : PointDecl). trace_text (writes_of x ks (rows_before (T A) ++ rows_before (T B)))) (sym at.declared)
+      ∙ ap (λ (l : List Placed). trace_text (writes_of d ks l)) (sym (before_none (T A) (T B) at.told))
+      ∙ ap (λ (s : Stream). trace_text s.written) (sym now_is)
+
+  refusal_now : first_refusal (T B) ≡ (rows_stream c point types (rows ++ own)).refusal
+  refusal_now = sym (refused_behind (T A) (T B) at.told) ∙ ap (λ (s : Stream). s.refusal) (sym now_is)
+
+  pub body_goes : {X : Type 0} (r : Result X Stop) (base old new : Texts) (start before after : ℕ)
+      → old ≡ with_bytes base Report (trace_text (rows_stream c point types rows).written) → before ≡ start
+      → Writes (rows_text body.form (rows_before (T B))) (first_refusal (T B)) old new before after r
+      → Writes (trace_text (rows_stream c point types (rows ++ own)).written) (rows_stream c point types (rows ++ own)).refusal base new start after r
+  body_goes r base old new start before after is calm h =
+      subst (λ (text : List ℕ). Writes text (rows_stream c point types (rows ++ own)).refusal base new start after r) text_now
+      (subst (λ (o : Option Refusal). Writes (trace_text (rows_stream c point types rows).written ++ rows_text body.form (rows_before (T B))) o base new start after r) refusal_now
+      (writes_after r (trace_text (rows_stream c point types rows).written) (rows_text body.form (rows_before (T B))) (first_refusal (T B)) base old new start before after is calm h))
+
+  pub body_stays : first_refusal (T B) ≡ None → IsBody c point types body (rows ++ own)
+  body_stays none = record {
+    some = omega (arith, at.some, length-append rows own);
+    names = same_names;
+    known = λ ended more.
+        let apart : rows_steps c.has_header body.names (rows ++ own) ++ more ≡ A ++ (B ++ more) =
+        ap (λ (l : List Step). l ++ more) (steps_apart c.has_header body.names rows own) ∙ append_assoc A B more in
+        ap (stream_with point body.names types ended) apart ∙ at.known ended (B ++ more) ∙ ap (stream_by d ks) (sym apart);
+    declared = at.declared;
+    named = at.named;
+    told = ap (λ (l : List Step). first_refusal (T l)) (steps_apart c.has_header body.names rows own) ∙ ap first_refusal (told_apart ks A B) ∙ refused_behind (T A) (T B) at.told ∙ none;
+  }

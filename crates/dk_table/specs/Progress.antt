@@ -1,5 +1,5 @@
 -- Rows that are written as they come: what is known behind each file.
-use Rattle.std.specs.Prelude.{◌≡◌, ◌<◌, ◌+◌, ◌++◌, ◌∷◌, [], ◌⊎◌, ℕ, List, Option, Some, None, Result, Ok, Err, length, take}
+use Rattle.std.specs.Prelude.{◌≡◌, ◌<◌, ◌+◌, ◌++◌, ◌∷◌, [], ◌⊎◌, ⊤, ℕ, List, Option, Some, None, Result, Ok, Err, length, take}
 use Rattle.dk_driver.specs.Reads.{AtStart, Break, HasBroken, Within, held_file_at}
 use Rattle.dk_io.specs.Outside.{HeldFile, Rose}
 use Rattle.dk_io.specs.Streams.{AddsFront, Texts, with_bytes}
@@ -11,7 +11,7 @@ use Rattle.dk_table.specs.Pieces.{IsGathered}
 use Rattle.dk_table.specs.Placed.{Placed}
 use Rattle.dk_table.specs.Stages.{IsAt}
 use Rattle.dk_table.specs.Stops.{Writes}
-use Rattle.dk_table.specs.Streams.{Stream, all_steps, first_cells, first_rows, next_rows, rows_steps, rows_stream, stream_at, stream_in, text_rows}
+use Rattle.dk_table.specs.Streams.{Stream, all_steps, rows_steps, rows_stream, stream_at, stream_in, text_rows}
 use Rattle.dk_table.specs.Tables.{are_paired, config_by, rows_in}
 use Rattle.dk_table.specs.declared.command.Command.{Command}
 use Rattle.dk_table.specs.declared.filling.OpenFault.{OpenFault}
@@ -28,11 +28,15 @@ abbrev pub all_rows : ℕ → ℕ → List (List ℕ) → List Placed
 all_rows separator file [] = []
 all_rows separator file (bytes ∷ more) = rows_in separator file bytes ++ all_rows separator (file + 1) more
 
+-- the first file has a row
+abbrev pub HasFirst : ℕ → List (List ℕ) → Type 0
+HasFirst separator [] = ⊤
+HasFirst separator (bytes ∷ more) = 0 < length (rows_in separator 0 bytes)
+
 -- Each file could end as it does, and the first has a row.
 pub record AreWhole (c : Command) (contents : List (List ℕ)) : Type 0 where
   pub steps : (names : List (List ℕ)) → all_steps c names 0 contents ≡ rows_steps c.has_header names (all_rows c.separator 0 contents)
-  pub first : (next : Option (List ℕ)) → first_cells (first_rows c.separator contents next)
-      ≡ first_cells (all_rows c.separator 0 contents ++ next_rows c.separator (length contents) next)
+  pub first : HasFirst c.separator contents
 
 -- What was gone through of a file behind others, and what is known there.
 pub record IsWithin (c : Command) (point : List ℕ) (types : ℕ) (contents : List (List ℕ)) (gone : List ℕ) (place : Place) : Type 0 where
@@ -79,6 +83,7 @@ pub record AreBehind (c : Command) (point : List ℕ) (types : ℕ) (names : Lis
   pub many : length contents ≡ place
   pub read : AreReadAs (take place (helds_of names file)) contents
   pub whole : AreWhole c contents
+  pub none : (rows_stream c point types (all_rows c.separator 0 contents)).refusal ≡ None
   pub at : IsAt c point types stage (all_rows c.separator 0 contents)
   pub written : new ≡ with_bytes base Report (trace_text (rows_stream c point types (all_rows c.separator 0 contents)).written)
   pub calm : after ≡ start
@@ -92,6 +97,7 @@ pub record IsGoing (c : Command) (point : List ℕ) (types : ℕ) (names : List 
   pub read : AreReadAs (take place (helds_of names file)) contents
   pub complete : AreWhole c contents
   pub within : IsWithin c point types contents gone going.place
+  pub none : (rows_stream c point types (all_rows c.separator 0 contents ++ text_rows c.separator place gone)).refusal ≡ None
   pub gathered : IsGathered going.filled (held_file_at (helds_of names file) place) (gone ++ going.text) rest rose
   pub written : new ≡ with_bytes base Report (trace_text (rows_stream c point types (all_rows c.separator 0 contents ++ text_rows c.separator place gone)).written)
   pub calm : after ≡ start

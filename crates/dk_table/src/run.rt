@@ -6,7 +6,7 @@ ghost use Rattle.dk_io.specs.declared.outside.Stream.TheVariants as stream;
 ghost use Rattle.dk_program.specs.Ending.{EndsWith};
 ghost use Rattle.dk_program.specs.Moments.{Outside, outside};
 ghost use Rattle.dk_table.specs.Messages.{refusal_line};
-ghost use Rattle.dk_table.specs.Statuses.{Completes, Outcome, Says, outcome_of};
+ghost use Rattle.dk_table.specs.Statuses.{Answer, Completes, Says, answer_of};
 ghost use Rattle.dk_table.specs.Writing.{EndsCut};
 
 use crate::command::Command;
@@ -64,8 +64,8 @@ fn tell_texts<S: Sinks>(
     texts: &[FileBytes],
     sinks: &mut S,
 ) -> Ended
-    ensures { let outcome : Outcome = outcome_of arguments.now texts.now in
-        EndsCut outcome.status outcome.stream outcome.text (S.written sinks.old) (S.written sinks.new) (S.faults sinks.old) (S.faults sinks.new) result }
+    ensures { let answer : Answer = answer_of arguments.now texts.now in
+        EndsCut answer.status answer.stream answer.text (S.written sinks.old) (S.written sinks.new) (S.faults sinks.old) (S.faults sinks.new) result }
 {
     let command = &arguments.command;
     let names = arguments.files.as_slice();
