@@ -15,7 +15,7 @@ use Rattle.dk_table.specs.Placed.{Placed}
 use Rattle.dk_table.specs.Progress.{AreBehind, AreWhole, FileGoes, HasFirst, IsGoing, IsStopped, IsWithin, StopSays, all_rows, reached_stream}
 use Rattle.dk_table.specs.Stages.{Goes, IsAt, IsBehind, rows_behind}
 use Rattle.dk_table.specs.Stops.{Writes}
-use Rattle.dk_table.specs.Streams.{Stream, all_steps, end_steps, first_cells, first_rows, names_in, next_rows, rows_steps, rows_stream, stream_in, stream_with, text_rows}
+use Rattle.dk_table.specs.Streams.{Step, Stream, all_steps, end_steps, first_cells, first_rows, names_in, next_rows, rows_steps, rows_stream, stream_in, stream_with, text_rows}
 use Rattle.dk_table.specs.Tables.{are_paired, config_by, names_by, placed_from, rows_in}
 use Rattle.dk_table.specs.declared.command.Command.{Command}
 use Rattle.dk_table.specs.declared.faults.Refusal.{Refusal}
@@ -26,6 +26,7 @@ use Rattle.dk_table.specs.declared.stops.Stop.{Stop}
 use Rattle.dk_table.specs.declared.stops.Stop.TheVariants.{NoMemory, Refused, Unread, Unstarted, Write}
 use Rattle.dk_table.specs.declared.advancing.Place.{Place}
 use Rattle.dk_table.proofs.AllRecords.{placed_length}
+use Rattle.dk_table.proofs.Contents.{helds_length, read_next}
 use Rattle.dk_table.proofs.Grown.{refusal_stays, refused_at_end, written_grows}
 use Rattle.dk_table.proofs.Parts.{both_end, no_records, none_ends, paired_append, rows_append}
 use Rattle.dk_table.proofs.Sent.{adds_more}
@@ -216,3 +217,135 @@ module _ (c : Command) (point : List ℕ) (types : ℕ) (names : List (List ℕ)
   -- memory that is wanting between two chunks
   pub none_says : new ≡ with_bytes base Report (trace_text (reached_stream c point types reached).written) → after ≡ start → StopSays c point types names file rose base new start after NoMemory
   none_says is still = (reached, adds_all base new (trace_text (reached_stream c point types reached).written) is, still)
+
+-- ---- rows of a file that are gone through
+-- streams of several parts
+pub grows_within : (c : Command) (point : List ℕ) (types : ℕ) (rows own : List Placed) (r : Refusal) → (rows_stream c point types rows).refusal ≡ Some r → 0 < length rows
+    → rows_stream c point types (rows ++ own) ≡ rows_stream c point types rows
+grows_within c point types rows own r some first =
+    let h : Bool = c.has_header in
+    let ns : List (List ℕ) = names_by h (first_cells rows) in
+    ap (λ (cells : List (List ℕ)). stream_with point (names_by h cells) types false (rows_steps h (names_by h cells) (rows ++ own))) (first_stays rows own first)
+    ∙ ap (stream_with point ns types false) (steps_apart h ns rows own)
+    ∙ refusal_stays point ns types (rows_steps h ns rows) false (rows_steps h ns own) r some
+
+module _ (c : Command) (point : List ℕ) (types : ℕ) (names : List (List ℕ)) (file : List ℕ → HeldFile) (rose : Type 0) (contents : List (List ℕ))
+    (named : length contents < length names) (read : AreReadAs (take (length contents) (helds_of names file)) contents) (whole : AreWhole c contents)
+    (base : Texts) (start : ℕ) where
+  abbrev held : HeldFile
+  held = held_file_at (helds_of names file) (length contents)
+
+  abbrev behind_all : List ℕ → List Placed
+  behind_all gone = all_rows c.separator 0 contents ++ text_rows c.separator (length contents) gone
+
+  -- what was reached within this file
+  pub reach : (gone : List ℕ) → Begins held gone → EndsRow (config_by c.separator) gone → Reached c (helds_of names file)
+  reach gone begins ends = record { contents = contents; front = gone; read = read; begins = begins; whole = ends }
+
+  module _ (gone : List ℕ) (begins : Begins held gone) (ends : EndsRow (config_by c.separator) gone) where
+    stream_reached : stream_in c point types contents (Some gone) ≡ rows_stream c point types (behind_all gone)
+    stream_reached = stream_within c point types contents whole gone
+
+    -- a stop within it
+    pub stops : {A : Type 0} (stop : Stop) (new : Texts) (after : ℕ)
+        → Writes {A = A} (trace_text (rows_stream c point types (behind_all gone)).written) (rows_stream c point types (behind_all gone)).refusal base new start after (Err stop)
+        → StopSays c point types names file rose base new start after stop
+    unfolding reach
+    stops stop new after h =
+        stop_says c point types names file rose base new start after (reach gone begins ends) stop (rows_stream c point types (behind_all gone)) []
+        (λ r some. stream_reached) (ap (λ (s : Stream). trace_text s.written) stream_reached ∙ sym (append-nil (trace_text (rows_stream c point types (behind_all gone)).written))) h
+
+    pub wants : (new : Texts) (after : ℕ) → new ≡ with_bytes base Report (trace_text (rows_stream c point types (behind_all gone)).written) → after ≡ start
+        → StopSays c point types names file rose base new start after NoMemory
+    unfolding reach
+    wants new after is still =
+        none_says c point types names file rose base new start after (reach gone begins ends) (is ∙ ap (λ (s : Stream). with_bytes base Report (trace_text s.written)) (sym stream_reached)) still
+
+  -- ---- the file's end
+  module _ (gone text bytes : List ℕ) (own_read : ReadAs held bytes) (whole_is : strip_bom bytes ≡ gone ++ text) (ends : EndsRow (config_by c.separator) gone)
+      (count : ℕ) (counted : count ≡ length (text_rows c.separator (length contents) gone)) where
+    abbrev all_now : List Placed
+    all_now = behind_all gone ++ rows_behind c.separator (length contents) count text
+
+    abbrev own_rows : List Placed
+    own_rows = rows_in c.separator (length contents) bytes
+
+    own_is : own_rows ≡ text_rows c.separator (length contents) gone ++ rows_behind c.separator (length contents) count text
+    own_is = ap (text_rows c.separator (length contents)) whole_is ∙ text_more c.separator (length contents) count gone text ends counted
+
+    now_rows : all_now ≡ all_rows c.separator 0 contents ++ own_rows
+    now_rows =
+        append_assoc (all_rows c.separator 0 contents) (text_rows c.separator (length contents) gone) (rows_behind c.separator (length contents) count text)
+        ∙ ap (λ (l : List Placed). all_rows c.separator 0 contents ++ l) (sym own_is)
+
+    now_all : all_now ≡ all_rows c.separator 0 (contents ++ bytes ∷ [])
+    now_all = now_rows ∙ sym (all_more c.separator 0 contents bytes)
+
+    abbrev names_now : List (List ℕ)
+    names_now = names_by c.has_header (first_cells (all_rows c.separator 0 contents ++ own_rows))
+
+    abbrev steps_now : List Step
+    steps_now = rows_steps c.has_header names_now (all_rows c.separator 0 contents ++ own_rows)
+
+    abbrev last : List Step
+    last = end_steps (length contents) (length own_rows) (are_paired bytes)
+
+    read_all : AreReadAs (take (length (contents ++ bytes ∷ [])) (helds_of names file)) (contents ++ bytes ∷ [])
+    read_all =
+        let one : suc (length contents) ≡ length (contents ++ bytes ∷ []) = omega (arith, length-append contents (bytes ∷ [])) in
+        subst (λ (n : ℕ). AreReadAs (take n (helds_of names file)) (contents ++ bytes ∷ [])) one
+        (read_next (helds_of names file) contents (length contents) bytes (omega (arith, named, helds_length names file)) read own_read)
+
+    last_reached : Reached c (helds_of names file)
+    last_reached = record {
+      contents = contents ++ bytes ∷ [];
+      front = [];
+      read = read_all;
+      begins = begins_none (held_file_at (helds_of names file) (length (contents ++ bytes ∷ [])));
+      whole = none_ends (config_by c.separator);
+    }
+
+    stream_now : rows_stream c point types all_now ≡ stream_with point names_now types false steps_now
+    stream_now = ap (rows_stream c point types) now_rows
+
+    pub stops_last : {A : Type 0} (stop : Stop) (new : Texts) (after : ℕ)
+        → Writes {A = A} (trace_text (rows_stream c point types all_now).written) (rows_stream c point types all_now).refusal base new start after (Err stop)
+        → StopSays c point types names file rose base new start after stop
+    unfolding last_reached
+    stops_last stop new after h =
+        let grown = written_grows point names_now types steps_now false last in
+        stop_says c point types names file rose base new start after last_reached stop (rows_stream c point types all_now) grown.0
+        (λ r some.
+        stream_last c point types contents whole bytes
+        ∙ refusal_stays point names_now types steps_now false last r (ap (λ (s : Stream). s.refusal) (sym stream_now) ∙ some) ∙ sym stream_now)
+        (ap (λ (s : Stream). trace_text s.written) (stream_last c point types contents whole bytes) ∙ grown.1 ∙ ap (λ (s : Stream). trace_text s.written ++ grown.0) (sym stream_now))
+        h
+
+    pub wants_last : (new : Texts) (after : ℕ) → AddsFront base new Report (trace_text (rows_stream c point types all_now).written) → after ≡ start
+        → StopSays c point types names file rose base new start after NoMemory
+    wants_last new after front still = stops_last {A = Unit {0}} NoMemory new after (front, still)
+
+    pub refused_last : (refusal : Refusal) (new : Texts) (after : ℕ) → last ≡ Err refusal ∷ [] → (rows_stream c point types all_now).refusal ≡ None
+        → new ≡ with_bytes base Report (trace_text (rows_stream c point types all_now).written) → after ≡ start → StopSays c point types names file rose base new start after (Refused refusal)
+    unfolding last_reached
+    refused_last refusal new after is none written still =
+        let same : stream_in c point types (contents ++ bytes ∷ []) (Some []) ≡ record { written = (rows_stream c point types all_now).written; refusal = Some refusal } =
+        stream_last c point types contents whole bytes
+        ∙ ap (λ (l : List Step). stream_with point names_now types false (steps_now ++ l)) is
+        ∙ refused_at_end point names_now types steps_now refusal (ap (λ (s : Stream). s.refusal) (sym stream_now) ∙ none)
+        ∙ ap (λ (s : Stream). record { written = s.written; refusal = Some refusal }) (sym stream_now) in
+        (last_reached, ap (λ (s : Stream). s.refusal) same, written ∙ ap (λ (s : Stream). with_bytes base Report (trace_text s.written)) (sym same), still)
+
+    pub goes_last : (stage : Stage) (new : Texts) (after place : ℕ) → length contents ≡ place → last ≡ [] → IsAt c point types stage all_now
+        → (rows_stream c point types all_now).refusal ≡ None
+        → new ≡ with_bytes base Report (trace_text (rows_stream c point types all_now).written) → after ≡ start
+        → FileGoes c point types names file rose place contents base new start after (Ok stage)
+    goes_last stage new after place many is at none written still = (bytes, record {
+      many = omega (arith, many, length-append contents (bytes ∷ []));
+      read = read_all;
+      whole = whole_more c point types contents whole bytes is;
+      none = ap (λ (l : List Placed). (rows_stream c point types l).refusal) (sym now_all) ∙ none;
+      at = subst (IsAt c point types stage) now_all at;
+      written = written ∙ ap (λ (l : List Placed). with_bytes base Report (trace_text (rows_stream c point types l).written)) now_all;
+      calm = still;
+    })

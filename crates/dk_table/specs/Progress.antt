@@ -81,7 +81,7 @@ StopSays c point types names file rose base new start after NoMemory =
 pub record AreBehind (c : Command) (point : List ℕ) (types : ℕ) (names : List (List ℕ)) (file : List ℕ → HeldFile) (place : ℕ) (contents : List (List ℕ))
     (stage : Stage) (base new : Texts) (start after : ℕ) : Type 0 where
   pub many : length contents ≡ place
-  pub read : AreReadAs (take place (helds_of names file)) contents
+  pub read : AreReadAs (take (length contents) (helds_of names file)) contents
   pub whole : AreWhole c contents
   pub none : (rows_stream c point types (all_rows c.separator 0 contents)).refusal ≡ None
   pub at : IsAt c point types stage (all_rows c.separator 0 contents)
@@ -93,13 +93,13 @@ pub record IsGoing (c : Command) (point : List ℕ) (types : ℕ) (names : List 
     (going : Going) (rest : Option (List ℕ)) (base new : Texts) (start after : ℕ) : Type 0 where
   pub gone : List ℕ
   pub many : length contents ≡ place
-  pub named : place < length names
-  pub read : AreReadAs (take place (helds_of names file)) contents
+  pub named : length contents < length names
+  pub read : AreReadAs (take (length contents) (helds_of names file)) contents
   pub complete : AreWhole c contents
   pub within : IsWithin c point types contents gone going.place
-  pub none : (rows_stream c point types (all_rows c.separator 0 contents ++ text_rows c.separator place gone)).refusal ≡ None
-  pub gathered : IsGathered going.filled (held_file_at (helds_of names file) place) (gone ++ going.text) rest rose
-  pub written : new ≡ with_bytes base Report (trace_text (rows_stream c point types (all_rows c.separator 0 contents ++ text_rows c.separator place gone)).written)
+  pub none : (rows_stream c point types (all_rows c.separator 0 contents ++ text_rows c.separator (length contents) gone)).refusal ≡ None
+  pub gathered : IsGathered going.filled (held_file_at (helds_of names file) (length contents)) (gone ++ going.text) rest rose
+  pub written : new ≡ with_bytes base Report (trace_text (rows_stream c point types (all_rows c.separator 0 contents ++ text_rows c.separator (length contents) gone)).written)
   pub calm : after ≡ start
 
 abbrev pub PieceGoes : Command → List ℕ → ℕ → List (List ℕ) → (List ℕ → HeldFile) → Type 0 → ℕ → List (List ℕ) → Option (List ℕ) → Texts → Texts → ℕ → ℕ → Result Going Stop → Type 0
