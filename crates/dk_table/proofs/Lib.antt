@@ -36,3 +36,4 @@ pub mod Grown
 pub mod Progressed
 pub mod Chosen
 pub mod Agreed
+pub mod Opened

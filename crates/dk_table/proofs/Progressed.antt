@@ -200,18 +200,18 @@ adds_all base new due is = (length due, omega arith, is ∙ ap (with_bytes base 
 module _ (c : Command) (point : List ℕ) (types : ℕ) (names : List (List ℕ)) (file : List ℕ → HeldFile) (rose : Type 0) (base new : Texts) (start after : ℕ)
     (reached : Reached c (helds_of names file)) where
   -- a stop of rows that all come to what was reached
-  pub stop_says : {A : Type 0} (stop : Stop) (s : Stream) (rest : List ℕ)
+  pub stop_says : (A : Type 0) (stop : Stop) (s : Stream) (rest : List ℕ)
       → ((r : Refusal) → s.refusal ≡ Some r → reached_stream c point types reached ≡ s)
       → trace_text (reached_stream c point types reached).written ≡ trace_text s.written ++ rest
       → Writes {A = A} (trace_text s.written) s.refusal base new start after (Err stop) → StopSays c point types names file rose base new start after stop
-  stop_says (Refused r) s rest known grows (some, is, still) =
+  stop_says A (Refused r) s rest known grows (some, is, still) =
       let same : reached_stream c point types reached ≡ s = known r some in
       (reached, ap (λ (t : Stream). t.refusal) same ∙ some, is ∙ ap (λ (t : Stream). with_bytes base Report (trace_text t.written)) (sym same), still)
-  stop_says (Unstarted place) s rest known grows h = absurd h
-  stop_says (Unread place) s rest known grows h = absurd h
-  stop_says Write s rest known grows (front, rises) =
+  stop_says A (Unstarted place) s rest known grows h = absurd h
+  stop_says A (Unread place) s rest known grows h = absurd h
+  stop_says A Write s rest known grows (front, rises) =
       (reached, subst (AddsFront base new Report) (sym grows) (adds_more base new (trace_text s.written) rest front), rises)
-  stop_says NoMemory s rest known grows (front, still) =
+  stop_says A NoMemory s rest known grows (front, still) =
       (reached, subst (AddsFront base new Report) (sym grows) (adds_more base new (trace_text s.written) rest front), still)
 
   -- memory that is wanting between two chunks
@@ -247,12 +247,12 @@ module _ (c : Command) (point : List ℕ) (types : ℕ) (names : List (List ℕ)
     stream_reached = stream_within c point types contents whole gone
 
     -- a stop within it
-    pub stops : {A : Type 0} (stop : Stop) (new : Texts) (after : ℕ)
+    pub stops : (A : Type 0) (stop : Stop) (new : Texts) (after : ℕ)
         → Writes {A = A} (trace_text (rows_stream c point types (behind_all gone)).written) (rows_stream c point types (behind_all gone)).refusal base new start after (Err stop)
         → StopSays c point types names file rose base new start after stop
     unfolding reach
-    stops stop new after h =
-        stop_says c point types names file rose base new start after (reach gone begins ends) stop (rows_stream c point types (behind_all gone)) []
+    stops A stop new after h =
+        stop_says c point types names file rose base new start after (reach gone begins ends) A stop (rows_stream c point types (behind_all gone)) []
         (λ r some. stream_reached) (ap (λ (s : Stream). trace_text s.written) stream_reached ∙ sym (append-nil (trace_text (rows_stream c point types (behind_all gone)).written))) h
 
     pub wants : (new : Texts) (after : ℕ) → new ≡ with_bytes base Report (trace_text (rows_stream c point types (behind_all gone)).written) → after ≡ start
@@ -308,13 +308,13 @@ module _ (c : Command) (point : List ℕ) (types : ℕ) (names : List (List ℕ)
     stream_now : rows_stream c point types all_now ≡ stream_with point names_now types false steps_now
     stream_now = ap (rows_stream c point types) now_rows
 
-    pub stops_last : {A : Type 0} (stop : Stop) (new : Texts) (after : ℕ)
+    pub stops_last : (A : Type 0) (stop : Stop) (new : Texts) (after : ℕ)
         → Writes {A = A} (trace_text (rows_stream c point types all_now).written) (rows_stream c point types all_now).refusal base new start after (Err stop)
         → StopSays c point types names file rose base new start after stop
     unfolding last_reached
-    stops_last stop new after h =
+    stops_last A stop new after h =
         let grown = written_grows point names_now types steps_now false last in
-        stop_says c point types names file rose base new start after last_reached stop (rows_stream c point types all_now) grown.0
+        stop_says c point types names file rose base new start after last_reached A stop (rows_stream c point types all_now) grown.0
         (λ r some.
         stream_last c point types contents whole bytes
         ∙ refusal_stays point names_now types steps_now false last r (ap (λ (s : Stream). s.refusal) (sym stream_now) ∙ some) ∙ sym stream_now)
@@ -323,7 +323,7 @@ module _ (c : Command) (point : List ℕ) (types : ℕ) (names : List (List ℕ)
 
     pub wants_last : (new : Texts) (after : ℕ) → AddsFront base new Report (trace_text (rows_stream c point types all_now).written) → after ≡ start
         → StopSays c point types names file rose base new start after NoMemory
-    wants_last new after front still = stops_last {A = Unit {0}} NoMemory new after (front, still)
+    wants_last new after front still = stops_last (Unit {0}) NoMemory new after (front, still)
 
     pub refused_last : (refusal : Refusal) (new : Texts) (after : ℕ) → last ≡ Err refusal ∷ [] → (rows_stream c point types all_now).refusal ≡ None
         → new ≡ with_bytes base Report (trace_text (rows_stream c point types all_now).written) → after ≡ start → StopSays c point types names file rose base new start after (Refused refusal)

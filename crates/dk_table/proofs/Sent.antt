@@ -45,25 +45,14 @@ writes_after (Err Write) due more refusal base mid new start between after so_fa
 writes_after (Err NoMemory) due more refusal base mid new start between after so_far calm (front, still) =
     (adds_after due more base mid new so_far front, still ∙ calm)
 
--- a stop says the same of another answer, of more text where nothing was refused
-pub stop_writes : {A B : Type 0} (stop : Stop) (due more : List ℕ) (refusal whole : Option Refusal) (old new : Texts) (before after : ℕ)
-    → ((r : Refusal) → refusal ≡ Some r → (whole ≡ Some r) × (more ≡ []))
-    → Writes {A = A} due refusal old new before after (Err stop) → Writes {A = B} (due ++ more) whole old new before after (Err stop)
-stop_writes (Refused r) due more refusal whole old new before after known (some, is, still) =
-    let (all, none) = known r some in (all, is ∙ ap (with_bytes old Report) (sym (append-nil due) ∙ ap (λ (l : List ℕ). due ++ l) (sym none)), still)
-stop_writes (Unstarted place) due more refusal whole old new before after known h = h
-stop_writes (Unread place) due more refusal whole old new before after known h = h
-stop_writes Write due more refusal whole old new before after known (front, rose) = (adds_more old new due more front, rose)
-stop_writes NoMemory due more refusal whole old new before after known (front, still) = (adds_more old new due more front, still)
-
 -- ---- what is gathered
-pub gathers_none : {A : Type 0} (due left : List ℕ) (refusal : Option Refusal) (old : Texts) (now : ℕ) → Gathers {A = A} due refusal left old old now now (Err NoMemory)
-gathers_none due left refusal old now = (adds_none old due, refl)
+pub gathers_none : (A : Type 0) (due left : List ℕ) (refusal : Option Refusal) (old : Texts) (now : ℕ) → Gathers {A = A} due refusal left old old now now (Err NoMemory)
+gathers_none A due left refusal old now = (adds_none old due, refl)
 
-pub gathers_halt : {A : Type 0} (why : Halt) (due left : List ℕ) (refusal : Option Refusal) (old new : Texts) (before after : ℕ)
+pub gathers_halt : (A : Type 0) (why : Halt) (due left : List ℕ) (refusal : Option Refusal) (old new : Texts) (before after : ℕ)
     → AddsFront old new Report due × HaltHasCause before after why → Gathers {A = A} due refusal left old new before after (Err (stop_of_halt why))
-gathers_halt halt.Write due left refusal old new before after h = h
-gathers_halt halt.NoMemory due left refusal old new before after h = h
+gathers_halt A halt.Write due left refusal old new before after h = h
+gathers_halt A halt.NoMemory due left refusal old new before after h = h
 
 -- a text that is due, as another
 pub gathers_as : {A : Type 0} (r : Result A Stop) (due other left : List ℕ) (refusal : Option Refusal) (old new : Texts) (before after : ℕ) → due ≡ other
@@ -80,15 +69,33 @@ module _ (whole pending own more all : List ℕ) (refusal whole_refusal : Option
   gathered_next left told = told_then whole (pending ++ own) more old mid new before between after apart left told
 
   -- a stop within it
-  pub gathered_stop : {A B : Type 0} (stop : Stop) (left : List ℕ) → ((r : Refusal) → refusal ≡ Some r → (whole_refusal ≡ Some r) × (more ≡ []))
+  pub gathered_stop : (A B : Type 0) (stop : Stop) (left : List ℕ) → ((r : Refusal) → refusal ≡ Some r → (whole_refusal ≡ Some r) × (more ≡ []))
       → Gathers {A = A} (pending ++ own) refusal left mid new between after (Err stop) → Gathers {A = B} whole whole_refusal left old new before after (Err stop)
-  gathered_stop (Refused r) left known (some, told) =
+  gathered_stop A B (Refused r) left known (some, told) =
       let (all_some, none) = known r some in
       (all_some, told_as whole (left ++ more) left old new before after (ap (λ (l : List ℕ). left ++ l) none ∙ append-nil left) (gathered_next left told))
-  gathered_stop (Unstarted place) left known h = h
-  gathered_stop (Unread place) left known h = h
-  gathered_stop Write left known h = cut_then whole (pending ++ own) more old mid new before between after apart halt.Write h
-  gathered_stop NoMemory left known h = cut_then whole (pending ++ own) more old mid new before between after apart halt.NoMemory h
+  gathered_stop A B (Unstarted place) left known h = h
+  gathered_stop A B (Unread place) left known h = h
+  gathered_stop A B Write left known h = cut_then whole (pending ++ own) more old mid new before between after apart halt.Write h
+  gathered_stop A B NoMemory left known h = cut_then whole (pending ++ own) more old mid new before between after apart halt.NoMemory h
+
+-- ---- a part that was written
+module _ (whole own more all : List ℕ) (refusal whole_refusal : Option Refusal) (old mid new : Texts) (before between after : ℕ)
+    (parts : all ≡ own ++ more) (so_far : IsTold whole all old mid before between) where
+  pub written_next : new ≡ with_bytes mid Report own → after ≡ between → IsTold whole more old new before after
+  written_next is calm =
+      told_then whole own more old mid new before between after (told_as whole all (own ++ more) old mid before between parts so_far) [] (own, append-nil own, is, calm)
+
+  pub written_stop : (A B : Type 0) (stop : Stop) → ((r : Refusal) → refusal ≡ Some r → (whole_refusal ≡ Some r) × (more ≡ []))
+      → Writes {A = A} own refusal mid new between after (Err stop) → Writes {A = B} whole whole_refusal old new before after (Err stop)
+  written_stop A B (Refused r) known (some, is, calm) =
+      let (all_some, none) = known r some in
+      let done = told_all whole old new before after (told_as whole more [] old new before after none (written_next is calm)) in
+      (all_some, done.0, done.1)
+  written_stop A B (Unstarted place) known h = h
+  written_stop A B (Unread place) known h = h
+  written_stop A B Write known h = cut_then whole own more old mid new before between after (told_as whole all (own ++ more) old mid before between parts so_far) halt.Write h
+  written_stop A B NoMemory known h = cut_then whole own more old mid new before between after (told_as whole all (own ++ more) old mid before between parts so_far) halt.NoMemory h
 
 -- ---- the last part
 pub sent_last : (whole left last : List ℕ) (old mid new : Texts) (before between after : ℕ) → IsTold whole left old mid before between
@@ -98,9 +105,9 @@ sent_last whole left last old mid new before between after so_far told none =
     let done : IsTold whole (last ++ []) old new before after = told_then whole left [] old mid new before between after all last told in
     told_all whole old new before after (told_as whole (last ++ []) [] old new before after (append-nil last ∙ none) done)
 
-pub halt_last : {A : Type 0} (why : Halt) (whole left : List ℕ) (refusal : Option Refusal) (old mid new : Texts) (before between after : ℕ) → IsTold whole left old mid before between
+pub halt_last : (A : Type 0) (why : Halt) (whole left : List ℕ) (refusal : Option Refusal) (old mid new : Texts) (before between after : ℕ) → IsTold whole left old mid before between
     → AddsFront mid new Report left × HaltHasCause between after why → Writes {A = A} whole refusal old new before after (Err (stop_of_halt why))
-halt_last {A} why whole left refusal old mid new before between after so_far h =
+halt_last A why whole left refusal old mid new before between after so_far h =
     by why (cut_then whole left [] old mid new before between after (told_as whole left (left ++ []) old mid before between (sym (append-nil left)) so_far) why h)
   where
     by : (w : Halt) → AddsFront old new Report whole × HaltHasCause before after w → Writes {A = A} whole refusal old new before after (Err (stop_of_halt w))

@@ -55,16 +55,16 @@ module _ (c : Command) (point : List ℕ) (types : ℕ) (front : Front) (rows ow
   judged_all =
       judged_apart (fresh (Some types) columns) S O ∙ ap (λ (r : Result Judged Refusal). r >>= λ next. judging_steps next O) at.judged
 
-  pub ready_refused : {A : Type 0} (refusal : Refusal) (old : Texts) (now : ℕ) → judging_steps front.judge O ≡ Err refusal
+  pub ready_refused : (A : Type 0) (refusal : Refusal) (old : Texts) (now : ℕ) → judging_steps front.judge O ≡ Err refusal
       → Writes {A = A} (trace_text (rows_stream c point types all).written) (rows_stream c point types all).refusal old old now now (Err (Refused refusal))
-  ready_refused {A} refusal old now e =
+  ready_refused A refusal old now e =
       let is : rows_stream c point types all ≡ nothing_but refusal =
       stream_all ∙ refused_early point front.names types false (S ++ O) refusal (looked_refused types columns (S ++ O) refusal (judged_all ∙ e)) in
       subst (λ (s : Stream). Writes {A = A} (trace_text s.written) s.refusal old old now now (Err (Refused refusal))) (sym is) (refl, sym (added_nil old Report), refl)
 
-  pub ready_none : {A : Type 0} (old : Texts) (now : ℕ)
+  pub ready_none : (A : Type 0) (old : Texts) (now : ℕ)
       → Writes {A = A} (trace_text (rows_stream c point types all).written) (rows_stream c point types all).refusal old old now now (Err NoMemory)
-  ready_none old now = (adds_none old (trace_text (rows_stream c point types all).written), refl)
+  ready_none A old now = (adds_none old (trace_text (rows_stream c point types all).written), refl)
 
   module _ (judge : Judged) (e : judging_steps front.judge O ≡ Ok judge) where
     judged_now : judging_steps (fresh (Some types) columns) (S ++ O) ≡ Ok judge

@@ -16,7 +16,6 @@ use Rattle.dk_table.specs.declared.faults.Refusal.{Refusal}
 use Rattle.dk_table.specs.declared.faults.TableWhy.TheVariants.{BadName}
 use Rattle.dk_table.specs.declared.judging.Column.{Column}
 use Rattle.dk_table.proofs.Judged.{kinds_judged}
-use Rattle.dk_table.proofs.Taking.{either_found}
 
 -- ---- steps one after another
 pub steps_apart : (header : Bool) (names : List (List ℕ)) (front rest : List Placed)
@@ -26,16 +25,20 @@ steps_apart header names front rest = flat_map-append (row_steps header names) f
 pub told_apart : (kinds : List ColumnKind) (front rest : List Step) → told_steps kinds (front ++ rest) ≡ told_steps kinds front ++ told_steps kinds rest
 told_apart kinds front rest = map-append (told_step kinds) front rest
 
-pub refusal_apart : (front rest : List Step) → first_refusal (front ++ rest) ≡ either_found (first_refusal front) (first_refusal rest)
+abbrev either_refusal : Option Refusal → Option Refusal → Option Refusal
+either_refusal (Some refusal) more = Some refusal
+either_refusal None more = more
+
+refusal_apart : (front rest : List Step) → first_refusal (front ++ rest) ≡ either_refusal (first_refusal front) (first_refusal rest)
 refusal_apart [] rest = refl
 refusal_apart (Ok row ∷ front) rest = refusal_apart front rest
 refusal_apart (Err refusal ∷ front) rest = refl
 
 pub refused_in_front : (front rest : List Step) (refusal : Refusal) → first_refusal front ≡ Some refusal → first_refusal (front ++ rest) ≡ Some refusal
-refused_in_front front rest refusal is = refusal_apart front rest ∙ ap (λ (o : Option Refusal). either_found o (first_refusal rest)) is
+refused_in_front front rest refusal is = refusal_apart front rest ∙ ap (λ (o : Option Refusal). either_refusal o (first_refusal rest)) is
 
 pub refused_behind : (front rest : List Step) → first_refusal front ≡ None → first_refusal (front ++ rest) ≡ first_refusal rest
-refused_behind front rest none = refusal_apart front rest ∙ ap (λ (o : Option Refusal). either_found o (first_refusal rest)) none
+refused_behind front rest none = refusal_apart front rest ∙ ap (λ (o : Option Refusal). either_refusal o (first_refusal rest)) none
 
 pub before_none : (front rest : List Step) → first_refusal front ≡ None → rows_before (front ++ rest) ≡ rows_before front ++ rows_before rest
 before_none [] rest none = refl
@@ -94,13 +97,14 @@ going_few (suc n) columns [] h = omega arith
 going_few (suc n) columns (row ∷ rows) h = let more = going_few n (with_row columns row) rows h in omega (arith, more)
 
 -- those of several parts
+apart_by : (r : Result Judged Refusal) (front rest : List Step) → ((next : Judged) → judging_steps next (front ++ rest) ≡ (judging_steps next front >>= λ k. judging_steps k rest))
+    → (r >>= λ next. judging_steps next (front ++ rest)) ≡ ((r >>= λ next. judging_steps next front) >>= λ next. judging_steps next rest)
+apart_by (Ok next) front rest more = more next
+apart_by (Err refusal) front rest more = refl
+
 pub judged_apart : (j : Judged) (front rest : List Step) → judging_steps j (front ++ rest) ≡ (judging_steps j front >>= λ next. judging_steps next rest)
 judged_apart j [] rest = refl
-judged_apart j (step ∷ front) rest = go (judging_step j step)
-  where
-    go : (r : Result Judged Refusal) → (r >>= λ next. judging_steps next (front ++ rest)) ≡ ((r >>= λ next. judging_steps next front) >>= λ next. judging_steps next rest)
-    go (Ok next) = judged_apart next front rest
-    go (Err refusal) = refl
+judged_apart j (step ∷ front) rest = apart_by (judging_step j step) front rest (λ next. judged_apart next front rest)
 
 pub done_stays : (j : Judged) (steps : List Step) → is_done j ≡ true → judging_steps j steps ≡ Ok j
 done_stays j [] done = refl
@@ -177,12 +181,12 @@ written_known point names types ended steps kinds none many are =
     ap (stream_behind point names types ended steps) none ∙ go ended
     ∙ ap (λ (ks : List ColumnKind). stream_by (declaration_of point names ks) ks steps) (sym are)
   where
-    abbrev own : List ColumnKind
-    own = kinds_of (rows_before (take types steps)) (length names)
-
-    go : (ended : Bool) → stream_known point names types ended steps ≡ stream_by (declaration_of point names own) own steps
+    go : (e : Bool) → stream_known point names types e steps
+        ≡ stream_by (declaration_of point names (kinds_of (rows_before (take types steps)) (length names))) (kinds_of (rows_before (take types steps)) (length names)) steps
     go true = refl
-    go false = ap (λ (b : Bool). if b then stream_by (declaration_of point names own) own steps else nothing) (le-leb types (length steps) many)
+    go false =
+        ap (λ (b : Bool). if b then stream_by (declaration_of point names (kinds_of (rows_before (take types steps)) (length names))) (kinds_of (rows_before (take types steps)) (length names)) steps else nothing)
+        (le-leb types (length steps) many)
 
 pub written_ended : (point : List ℕ) (names : List (List ℕ)) (types : ℕ) (steps : List Step) (kinds : List ColumnKind)
     → first_refusal (take types steps) ≡ None → kinds ≡ kinds_of (rows_before (take types steps)) (length names)

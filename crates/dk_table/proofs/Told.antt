@@ -36,9 +36,9 @@ told_no kinds row told = ap (λ (b : Bool). (if b then Ok row else Err (bad_cell
 nothing_told : (text : List ℕ) (old : Texts) (now : ℕ) → IsTold (text ++ []) text old old now now
 nothing_told text old now = subst (λ (due : List ℕ). IsTold due text old old now now) (sym (append-nil text)) (told_nothing text old now)
 
-pub cell_refused : {A : Type 0} (form : Form) (kinds : List ColumnKind) (row : Placed) (text : List ℕ) (old : Texts) (now : ℕ) (refusal : Refusal)
+pub cell_refused : (A : Type 0) (form : Form) (kinds : List ColumnKind) (row : Placed) (text : List ℕ) (old : Texts) (now : ℕ) (refusal : Refusal)
     → is_told kinds row ≡ false → bad_cell row ≡ refusal → Gathered {A = A} form (told_steps kinds (Ok row ∷ [])) text text old old now now (Err (Refused refusal))
-cell_refused {A} form kinds row text old now refusal told is =
+cell_refused A form kinds row text old now refusal told is =
     subst (λ (steps : List Step). Gathered {A = A} form steps text text old old now now (Err (Refused refusal))) (sym (told_no kinds row told))
     (ap (λ (r : Refusal). Some r) is, nothing_told text old now)
 
@@ -52,12 +52,12 @@ row_gathered u form kinds row text left old new before after told gathered =
     subst (λ (steps : List Step). Gathered form steps text left old new before after (Ok u)) (sym (told_yes kinds row told))
     (refl, subst (λ (due : List ℕ). IsTold due left old new before after) (one_row form text row) gathered)
 
-pub row_halted : {A : Type 0} (why : Halt) (form : Form) (kinds : List ColumnKind) (row : Placed) (text left : List ℕ) (old new : Texts) (before after : ℕ)
+pub row_halted : (A : Type 0) (why : Halt) (form : Form) (kinds : List ColumnKind) (row : Placed) (text left : List ℕ) (old new : Texts) (before after : ℕ)
     → is_told kinds row ≡ true → AddsFront old new Report (text ++ row_text form row) × HaltHasCause before after why
     → Gathered {A = A} form (told_steps kinds (Ok row ∷ [])) text left old new before after (Err (stop_of_halt why))
-row_halted {A} why form kinds row text left old new before after told h =
+row_halted A why form kinds row text left old new before after told h =
     subst (λ (steps : List Step). Gathered {A = A} form steps text left old new before after (Err (stop_of_halt why))) (sym (told_yes kinds row told))
-    (gathers_halt why (text ++ rows_text form (row ∷ [])) left None old new before after
+    (gathers_halt A why (text ++ rows_text form (row ∷ [])) left None old new before after
     (subst (λ (due : List ℕ). AddsFront old new Report due × HaltHasCause before after why) (one_row form text row) h))
 
 -- ---- a header, and a row that is refused
@@ -66,9 +66,9 @@ pub header_gathered : {A : Type 0} (u : A) (header : Bool) (names : List (List �
 header_gathered u header names form kinds row text old now is =
     subst (λ (steps : List Step). Gathered form (told_steps kinds steps) text text old old now now (Ok u)) is (refl, nothing_told text old now)
 
-pub row_refused : {A : Type 0} (header : Bool) (names : List (List ℕ)) (form : Form) (kinds : List ColumnKind) (row : Placed) (text : List ℕ) (old : Texts) (now : ℕ) (refusal : Refusal)
+pub row_refused : (A : Type 0) (header : Bool) (names : List (List ℕ)) (form : Form) (kinds : List ColumnKind) (row : Placed) (text : List ℕ) (old : Texts) (now : ℕ) (refusal : Refusal)
     → steps_by row (Err refusal) ≡ row_steps header names row → Gathered {A = A} form (told_steps kinds (row_steps header names row)) text text old old now now (Err (Refused refusal))
-row_refused {A} header names form kinds row text old now refusal is =
+row_refused A header names form kinds row text old now refusal is =
     subst (λ (steps : List Step). Gathered {A = A} form (told_steps kinds steps) text text old old now now (Err (Refused refusal))) is (refl, nothing_told text old now)
 
 -- ---- rows behind it

@@ -97,11 +97,16 @@ pub(crate) fn tell_chunk<S: Sinks>(
             write_gathered(&mut gathered, sinks)?;
             Ok(count)
         }
-        Err(Stop::Refused(refusal)) => {
-            write_gathered(&mut gathered, sinks)?;
-            Err(Stop::Refused(refusal))
-        }
-        Err(stop) => Err(stop),
+        Err(stop) => match stop {
+            Stop::Refused(refusal) => {
+                write_gathered(&mut gathered, sinks)?;
+                Err(Stop::Refused(refusal))
+            }
+            Stop::Unstarted(place) => Err(Stop::Unstarted(place)),
+            Stop::Unread(place) => Err(Stop::Unread(place)),
+            Stop::Write => Err(Stop::Write),
+            Stop::NoMemory => Err(Stop::NoMemory),
+        },
     }
 }
 

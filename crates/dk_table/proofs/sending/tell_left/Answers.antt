@@ -14,7 +14,7 @@ use Rattle.dk_table.proofs.sending.tell_left.Goals as goal
 pub returns-in_err-next : goal.returns-in_err-next
 returns-in_err-next g c =
     let p = err_from_is_err_and c.from_residual.result c.from_residual.ensures.1 in
-    rw (p.1, p.2) (cut_here _ _ _ _ _ _ c.rows.invariant.told)
+    rw (p.1, p.2) (record { told = cut_here _ _ _ _ _ _ c.rows.invariant.told; counted = tt })
 
 pub overflow_add-count : goal.overflow_add-count
 overflow_add-count g c =
@@ -59,6 +59,6 @@ returns-in_err-tell_next g c =
     let whole : Option Refusal = first_refusal (told_steps kinds (rows_steps header body.names c.args.rows.now.left)) in
     let p = err_from_is_err_and c.from_residual-in_err-tell_next.result c.from_residual-in_err-tell_next.ensures.1 in
     rw (p.1, p.2)
-    (gathered_stop _ text (rows_text body.form (rows_before (told_steps kinds own))) (behind body.form kinds all own rest is text) (rows_text body.form (rows_before (told_steps kinds all)))
-    (first_refusal (told_steps kinds own)) whole _ _ _ _ _ _ (parts_told body.form kinds all own rest is text) c.rows.invariant.told {A = Unit {0}} {B = ℕ} c.in_err-tell_next.field-0.0 _
-    (refused_ahead body.form kinds all own rest is text whole c.rows.invariant.refused) c.in_err-tell_next.ensures)
+    (record { told = gathered_stop _ text (rows_text body.form (rows_before (told_steps kinds own))) (behind body.form kinds all own rest is text) (rows_text body.form (rows_before (told_steps kinds all)))
+    (first_refusal (told_steps kinds own)) whole _ _ _ _ _ _ (parts_told body.form kinds all own rest is text) c.rows.invariant.told (Unit {0}) ℕ c.in_err-tell_next.field-0.0 _
+    (refused_ahead body.form kinds all own rest is text whole c.rows.invariant.refused) c.in_err-tell_next.ensures; counted = tt })
