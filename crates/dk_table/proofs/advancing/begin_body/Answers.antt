@@ -5,13 +5,14 @@ use Rattle.dk_io.specs.Streams.{with_bytes}
 use Rattle.dk_io.specs.declared.outside.Stream.TheVariants.{Report}
 use Rattle.dk_write.specs.Texts.{Begins, Declares, block_text, trace_text}
 use Rattle.dk_table.proofs.Opened.{head_stops, none_ends, rows_end, stop_recast, unnamed_ends}
-use Rattle.dk_table.specs.Forms.{form_of}
+use Rattle.dk_table.specs.Forms.{form_of, rows_text}
 use Rattle.dk_table.specs.Judging.{kind_by}
 use Rattle.dk_table.specs.Pieces.{held_rows}
 use Rattle.dk_table.specs.Stops.{Writes}
-use Rattle.dk_table.specs.Streams.{Step, Stream, rows_steps, stream_by}
+use Rattle.dk_table.specs.Streams.{Step, Stream, first_refusal, rows_before, rows_steps, stream_by, told_steps}
 use Rattle.dk_table.specs.Traces.{are_named, declaration_of}
 use Rattle.dk_table.specs.declared.columns.ColumnKind.{ColumnKind}
+use Rattle.dk_table.specs.declared.held.Chunk.{Chunk}
 use Rattle.dk_table.specs.declared.stages.Body.{Body}
 use Rattle.dk_table.specs.declared.stops.Stop.{Stop}
 use Rattle.dk_table.proofs.advancing.begin_body.Goals as goal
@@ -74,7 +75,10 @@ returns-in_err-tell_held-clause-written g c =
     (stop_recast (Unit {0}) Body stop _ _ _ _ _ _
     (subst (λ (l : List ColumnKind). Writes {A = Unit {0}} (trace_text (stream_by (declaration_of point front.names l) l steps).written) (stream_by (declaration_of point front.names l) l steps).refusal
     (g.S.Sinks.written c.args.sinks.now) (g.S.Sinks.written c.tell_held.new.sinks) (g.S.Sinks.faults c.args.sinks.now) (g.S.Sinks.faults c.tell_held.new.sinks) (Err stop)) c.in_ok-kinds.ensures
-    (rows_end point front.names ks steps named c.in_ok-form.form form {A = Unit {0}} (Err stop) _ _ _ _ _ _ head c.in_ok-write_begun.ensures.2 c.in_err-tell_held.ensures)))
+    (rows_end point front.names ks steps named c.in_ok-form.form form {A = Unit {0}} (Err stop) _ _ _ _ _ _ head c.in_ok-write_begun.ensures.2
+    (subst (λ (hs : List Chunk). Writes {A = Unit {0}} (rows_text c.in_ok-form.form (rows_before (told_steps ks (rows_steps c.args.task.now.command.now.has_header front.names (held_rows c.args.task.now.command.now.separator hs)))))
+    (first_refusal (told_steps ks (rows_steps c.args.task.now.command.now.has_header front.names (held_rows c.args.task.now.command.now.separator hs)))) (g.S.Sinks.written c.write_begun.new.sinks) (g.S.Sinks.written c.tell_held.new.sinks)
+    (g.S.Sinks.faults c.write_begun.new.sinks) (g.S.Sinks.faults c.tell_held.new.sinks) (Err stop)) c.as_slice-4.ensures c.in_err-tell_held.ensures))))
 
 pub returns-clause-written : goal.returns-clause-written
 returns-clause-written g c =
@@ -91,4 +95,7 @@ returns-clause-written g c =
     c.in_ok-write_begun.ensures.1 ∙ ap (λ (d : PointDecl). with_bytes (g.S.Sinks.written c.args.sinks.now) Report (block_text Begins ++ block_text (Declares d))) decl in
     subst (λ (l : List ColumnKind). Writes {A = Unit {0}} (trace_text (stream_by (declaration_of point front.names l) l steps).written) (stream_by (declaration_of point front.names l) l steps).refusal
     (g.S.Sinks.written c.args.sinks.now) (g.S.Sinks.written c.tell_held.new.sinks) (g.S.Sinks.faults c.args.sinks.now) (g.S.Sinks.faults c.tell_held.new.sinks) (Ok tt)) c.in_ok-kinds.ensures
-    (rows_end point front.names ks steps named c.in_ok-form.form form {A = Unit {0}} (Ok tt) _ _ _ _ _ _ head c.in_ok-write_begun.ensures.2 c.in_ok-tell_held.ensures)
+    (rows_end point front.names ks steps named c.in_ok-form.form form {A = Unit {0}} (Ok tt) _ _ _ _ _ _ head c.in_ok-write_begun.ensures.2
+    (subst (λ (hs : List Chunk). Writes {A = Unit {0}} (rows_text c.in_ok-form.form (rows_before (told_steps ks (rows_steps c.args.task.now.command.now.has_header front.names (held_rows c.args.task.now.command.now.separator hs)))))
+    (first_refusal (told_steps ks (rows_steps c.args.task.now.command.now.has_header front.names (held_rows c.args.task.now.command.now.separator hs)))) (g.S.Sinks.written c.write_begun.new.sinks) (g.S.Sinks.written c.tell_held.new.sinks)
+    (g.S.Sinks.faults c.write_begun.new.sinks) (g.S.Sinks.faults c.tell_held.new.sinks) (Ok tt)) c.as_slice-4.ensures c.in_ok-tell_held.ensures))
