@@ -1,24 +1,28 @@
 -- What is known behind a chunk.
-use Rattle.std.proofs.Common.{◌≡◌, ◌≤◌, ◌<◌, ◌+◌, ◌∙◌, ◌∷◌, ◌++◌, [], ℕ, Bool, true, false, List, Option, Some, None, Result, Ok, Err, append_assoc, append-nil, length, length-append, map, take, refl, sym, ap, subst, arith}
-use Rattle.std.specs.Prelude.{IfOk, nat_lt}
+use Rattle.std.proofs.Common.{◌≡◌, ◌≤◌, ◌<◌, ◌+◌, ◌∙◌, ◌∷◌, ◌++◌, [], ℕ, zero, suc, Bool, true, false, List, Option, Some, None, Result, Ok, Err, append_assoc, append-nil, length, length-append, map, take, refl, sym, ap, subst, arith}
+use Rattle.std.specs.Prelude.{IfOk, ⊤, nat_lt, not, if◌then◌else◌}
 use Rattle.std.proofs.lemmas.Grind.{flat_map-append}
+use Rattle.csv.specs.Reading.{records}
 use Rattle.dk_decl.specs.declared.decls.PointDecl.{PointDecl}
 use Rattle.dk_io.specs.Streams.{AddsFront, Texts, with_bytes}
 use Rattle.dk_io.specs.declared.outside.Stream.TheVariants.{Report}
 use Rattle.dk_io.proofs.Writing.{added_nil}
 use Rattle.dk_write.specs.Texts.{trace_text}
 use Rattle.dk_table.specs.Judging.{Judged, fresh, kind_by}
+use Rattle.dk_table.specs.Outcomes.{Answers}
 use Rattle.dk_table.specs.Pieces.{chunk_rows, held_rows}
 use Rattle.dk_table.specs.Placed.{Placed}
-use Rattle.dk_table.specs.Stages.{IsAt, IsBegun, IsBody, IsFront, IsReady, IsTaken, is_done, judging_steps}
-use Rattle.dk_table.specs.Stops.{Writes}
+use Rattle.dk_table.specs.Stages.{Goes, IsAt, IsBegun, IsBody, IsFront, IsReady, IsBehind, IsTaken, first_names, is_done, judging_steps, rows_behind}
+use Rattle.dk_table.specs.Stops.{Writes, stop_of_fault}
 use Rattle.dk_table.specs.Forms.{form_of, rows_text}
 use Rattle.dk_table.specs.Streams.{Step, Stream, first_cells, first_refusal, nothing, nothing_but, rows_before, rows_steps, rows_stream, stream_by, stream_with, told_steps, trace_before}
-use Rattle.dk_table.specs.Tables.{◌>>=◌, names_by}
+use Rattle.dk_table.specs.Tables.{◌>>=◌, are_paired, config_by, names_by, placed_from}
 use Rattle.dk_table.specs.Traces.{declaration_of, writes_of}
 use Rattle.dk_table.specs.declared.columns.ColumnKind.{ColumnKind}
 use Rattle.dk_table.specs.declared.command.Command.{Command}
 use Rattle.dk_table.specs.declared.faults.Refusal.{Refusal}
+use Rattle.dk_table.specs.declared.faults.TableFault.{TableFault}
+use Rattle.dk_table.specs.declared.faults.TableFault.TheVariants as fault
 use Rattle.dk_table.specs.declared.held.Chunk.{Chunk}
 use Rattle.dk_table.specs.declared.stages.Body.{Body}
 use Rattle.dk_table.specs.declared.stages.Front.{Front}
@@ -26,9 +30,11 @@ use Rattle.dk_table.specs.declared.stages.Stage.{Stage}
 use Rattle.dk_table.specs.declared.stages.Stage.TheVariants as stage
 use Rattle.dk_table.specs.declared.stops.Stop.{Stop}
 use Rattle.dk_table.specs.declared.stops.Stop.TheVariants.{NoMemory, Refused}
+use Rattle.dk_table.specs.declared.advancing.Place.{Place}
 use Rattle.dk_table.specs.declared.advancing.Taken.{Taken}
 use Rattle.dk_table.specs.declared.writing.Form.{Form}
 use Rattle.dk_table.proofs.Formed.{text_more}
+use Rattle.dk_table.proofs.Opened.{stop_recast}
 use Rattle.dk_table.proofs.Sent.{adds_none, writes_after}
 use Rattle.dk_table.proofs.Streamed.{Looked, before_none, by_named, done_stays, enough, few, first_stays, judged_apart, looked, looked_refused, refused_behind, refused_early, steps_apart, told_apart, written_ended, written_known, written_nothing}
 
@@ -225,3 +231,206 @@ module _ (c : Command) (point : List ℕ) (types : ℕ) (body : Body) (rows own 
     named = at.named;
     told = ap (λ (l : List Step). first_refusal (T l)) (steps_apart c.has_header body.names rows own) ∙ ap first_refusal (told_apart ks A B) ∙ refused_behind (T A) (T B) at.told ∙ none;
   }
+
+-- ---- what the rows so far came to
+-- rows behind those that are held
+pub front_ready : (c : Command) (types : ℕ) (front : Front) (rows own : List Placed) → IsFront c types front rows → IsReady c types front rows own
+front_ready c types front rows own at = record {
+  some = omega (arith, at.some, length-append rows own);
+  names =
+      at.ready.names ∙ ap (λ (l : List Placed). names_by c.has_header (first_cells l)) (append-nil rows)
+      ∙ ap (names_by c.has_header) (sym (first_stays rows own at.some));
+  held = at.ready.held;
+  judged = at.ready.judged;
+  going = at.ready.going;
+}
+
+pub front_nothing : (c : Command) (point : List ℕ) (types : ℕ) (front : Front) (rows : List Placed) → IsFront c types front rows
+    → rows_stream c point types rows ≡ nothing
+front_nothing c point types front rows at =
+    ap (rows_stream c point types) (sym (append-nil rows)) ∙ still_nothing c point types front rows [] at.ready front.judge refl at.ready.going
+
+none_taken : (types : ℕ) → 0 < types → first_refusal (take {A = Step} types []) ≡ None
+none_taken zero some = absurd (omega (arith, some))
+none_taken (suc n) some = refl
+
+pub start_nothing : (c : Command) (point : List ℕ) (types : ℕ) → 0 < types → rows_stream c point types [] ≡ nothing
+start_nothing c point types some = written_nothing point (names_by c.has_header []) types [] (none_taken types some) some
+
+still_going : (types columns : ℕ) → 0 < types → is_done (fresh (Some types) columns) ≡ false
+still_going zero columns some = absurd (omega (arith, some))
+still_going (suc n) columns some = refl
+
+-- the first rows, whose first gives the names
+pub first_ready : (c : Command) (types : ℕ) (front : Front) (names : List (List ℕ)) (own : List Placed) → 0 < types → first_names c.has_header own ≡ Some names
+    → front ≡ record { names = names; judge = fresh (Some types) (length names); held = [] } → IsReady c types front [] own
+first_ready c types front names [] some e is = absurd (cc e)
+first_ready c types front names (row ∷ rows) some e is =
+    let same : names_by c.has_header row.cells ≡ names = cc e in
+    let fresh_front : Front = record { names = names; judge = fresh (Some types) (length names); held = [] } in
+    subst (λ (f : Front). IsReady c types f [] (row ∷ rows)) (sym is)
+    (record { some = omega arith; names = sym same; held = refl; judged = refl; going = still_going types (length names) some })
+
+pub no_first : (header : Bool) (own : List Placed) → first_names header own ≡ None → own ≡ []
+no_first header [] e = refl
+no_first header (row ∷ rows) e = absurd (cc e)
+
+-- nothing was written before
+pub from_nothing : {X : Type 0} (r : Result X Stop) (stream : Stream) (due : List ℕ) (refusal : Option Refusal) (base old new : Texts) (start before after : ℕ)
+    → stream ≡ nothing → old ≡ with_bytes base Report (trace_text stream.written) → before ≡ start
+    → Writes due refusal old new before after r → Writes due refusal base new start after r
+from_nothing r stream due refusal base old new start before after none is calm h =
+    let same : old ≡ base = is ∙ ap (λ (s : Stream). with_bytes base Report (trace_text s.written)) none ∙ added_nil base Report in
+    subst (λ (n : ℕ). Writes due refusal base new n after r) calm (subst (λ (t : Texts). Writes due refusal t new before after r) same h)
+
+-- ---- memory ran out before anything was written
+pub goes_none : {X : Type 0} (c : Command) (point : List ℕ) (types : ℕ) (at : Stage) (own : List Placed) (old : Texts) (now : ℕ) (Stands : X → List Placed → Type 0)
+    → Goes {A = X} c point types at own old old now now Stands (Err NoMemory)
+goes_none {X} c point types stage.Start own old now Stands rows base start (none, some) is calm =
+    let due : List ℕ = trace_text (rows_stream c point types (rows ++ own)).written in
+    let refusal : Option Refusal = (rows_stream c point types (rows ++ own)).refusal in
+    let nothing_yet : rows_stream c point types rows ≡ nothing = ap (rows_stream c point types) none ∙ start_nothing c point types some in
+    (from_nothing {X = X} (Err NoMemory) (rows_stream c point types rows) due refusal base old old start now now nothing_yet is calm (adds_none old due, refl), tt)
+goes_none {X} c point types (stage.Front front) own old now Stands rows base start at is calm =
+    let due : List ℕ = trace_text (rows_stream c point types (rows ++ own)).written in
+    let refusal : Option Refusal = (rows_stream c point types (rows ++ own)).refusal in
+    (from_nothing {X = X} (Err NoMemory) (rows_stream c point types rows) due refusal base old old start now now (front_nothing c point types front rows at) is calm (adds_none old due, refl), tt)
+goes_none {X} c point types (stage.Body body) own old now Stands rows base start at is calm =
+    (body_goes c point types body rows own at {X = X} (Err NoMemory) base old old start now now is calm
+    (adds_none old (rows_text body.form (rows_before (told_steps body.plan.kinds (rows_steps c.has_header body.names own)))), refl), tt)
+
+-- ---- one stage behind another
+-- rows behind those that are held
+pub goes_front : {X : Type 0} (r : Result X Stop) (c : Command) (point : List ℕ) (types : ℕ) (front : Front) (own : List Placed) (old new : Texts) (before after : ℕ)
+    (Stands : X → List Placed → Type 0)
+    → ((rows : List Placed) → IsReady c types front rows own
+        → Writes (trace_text (rows_stream c point types (rows ++ own)).written) (rows_stream c point types (rows ++ own)).refusal old new before after r
+        × IfOk r (λ a. Stands a (rows ++ own)))
+    → Goes c point types (stage.Front front) own old new before after Stands r
+goes_front r c point types front own old new before after Stands h rows base start at is calm =
+    let own_h = h rows (front_ready c types front rows own at) in
+    (from_nothing r (rows_stream c point types rows) (trace_text (rows_stream c point types (rows ++ own)).written) (rows_stream c point types (rows ++ own)).refusal base old new start before after
+    (front_nothing c point types front rows at) is calm own_h.0, own_h.1)
+
+-- the first rows
+pub goes_first : {X : Type 0} (r : Result X Stop) (c : Command) (point : List ℕ) (types : ℕ) (front : Front) (names : List (List ℕ)) (own : List Placed) (old new : Texts) (before after : ℕ)
+    (Stands : X → List Placed → Type 0)
+    → first_names c.has_header own ≡ Some names → front ≡ record { names = names; judge = fresh (Some types) (length names); held = [] }
+    → ((rows : List Placed) → IsReady c types front rows own
+        → Writes (trace_text (rows_stream c point types (rows ++ own)).written) (rows_stream c point types (rows ++ own)).refusal old new before after r
+        × IfOk r (λ a. Stands a (rows ++ own)))
+    → Goes c point types stage.Start own old new before after Stands r
+goes_first {X} r c point types front names own old new before after Stands named is_fresh h rows base start (none, some) is calm =
+    let own_h = h [] (first_ready c types front names own some named is_fresh) in
+    let so_far : rows_stream c point types rows ≡ nothing = ap (rows_stream c point types) none ∙ start_nothing c point types some in
+    let both : Writes (trace_text (rows_stream c point types own).written) (rows_stream c point types own).refusal base new start after r × IfOk r (λ a. Stands a own) =
+    (from_nothing r (rows_stream c point types rows) (trace_text (rows_stream c point types own).written) (rows_stream c point types own).refusal base old new start before after so_far is calm own_h.0, own_h.1) in
+    subst (λ (l : List Placed). Writes (trace_text (rows_stream c point types (l ++ own)).written) (rows_stream c point types (l ++ own)).refusal base new start after r × IfOk r (λ a. Stands a (l ++ own)))
+    (sym none) both
+
+-- no row came
+pub goes_unnamed : (c : Command) (point : List ℕ) (types : ℕ) (own : List Placed) (old : Texts) (now : ℕ) (taken : Taken)
+    → first_names c.has_header own ≡ None → taken.stage ≡ stage.Start
+    → Goes c point types stage.Start own old old now now (IsTaken c point types) (Ok taken)
+goes_unnamed c point types own old now taken e at_start rows base start (none, some) is calm =
+    let all : rows ++ own ≡ [] = ap (λ (l : List Placed). l ++ own) none ∙ no_first c.has_header own e in
+    let empty : rows_stream c point types (rows ++ own) ≡ nothing = ap (rows_stream c point types) all ∙ start_nothing c point types some in
+    let so_far : rows_stream c point types rows ≡ nothing = ap (rows_stream c point types) none ∙ start_nothing c point types some in (
+      (
+        ap (λ (s : Stream). s.refusal) empty,
+        is ∙ ap (λ (s : Stream). with_bytes base Report (trace_text s.written)) (so_far ∙ sym empty),
+        calm,
+      ),
+      subst (λ (s : Stage). IsAt c point types s (rows ++ own)) (sym at_start) (all, some),
+    )
+
+-- ---- a chunk behind those that are held
+pub held_more : (separator : ℕ) (held : List Chunk) (chunk : Chunk) (rows : List Placed) → held_rows separator held ≡ rows
+    → held_rows separator (held ++ chunk ∷ []) ≡ rows ++ chunk_rows separator chunk
+held_more separator held chunk rows is =
+    flat_map-append (chunk_rows separator) held (chunk ∷ []) ∙ ap (λ (l : List Placed). l ++ (chunk_rows separator chunk ++ [])) is
+    ∙ ap (λ (l : List Placed). rows ++ l) (append-nil (chunk_rows separator chunk))
+
+module _ (c : Command) (point : List ℕ) (types : ℕ) (front : Front) (rows own : List Placed) (at : IsReady c types front rows own) where
+  abbrev now_all : Stream
+  now_all = rows_stream c point types (rows ++ own)
+
+  -- why kinds weren't found
+  pub take_fault : {B : Type 0} (A : Type 0) (shown : B → Judged) (f : TableFault) (ns : List (List ℕ)) (old : Texts) (now : ℕ) → ns ≡ front.names
+      → Answers shown (judging_steps front.judge (rows_steps c.has_header ns own)) (Err f)
+      → Writes {A = A} (trace_text now_all.written) now_all.refusal old old now now (Err (stop_of_fault f))
+  take_fault A shown (fault.Refused refusal) ns old now same e =
+      ready_refused c point types front rows own at A refusal old now (ap (λ (l : List (List ℕ)). judging_steps front.judge (rows_steps c.has_header l own)) (sym same) ∙ e)
+  take_fault A shown fault.NoMemory ns old now same e = ready_none c point types front rows own at A old now
+
+  module _ (judge : Judged) (ns : List (List ℕ)) (same : ns ≡ front.names) (e : judging_steps front.judge (rows_steps c.has_header ns own) ≡ Ok judge)
+      (next : Front) (names : next.names ≡ front.names) (is : next.judge ≡ judge) (held : held_rows c.separator next.held ≡ rows ++ own) where
+    found : judging_steps front.judge (rows_steps c.has_header front.names own) ≡ Ok judge
+    found = ap (λ (l : List (List ℕ)). judging_steps front.judge (rows_steps c.has_header l own)) (sym same) ∙ e
+
+    abbrev begun_stream : Stream
+    begun_stream =
+        stream_by (declaration_of point next.names (map kind_by next.judge.columns)) (map kind_by next.judge.columns) (rows_steps c.has_header next.names (held_rows c.separator next.held))
+
+    -- more rows are to be looked at
+    pub take_still : is_done judge ≡ false → (old : Texts) (now : ℕ) (taken : Taken) → taken.stage ≡ stage.Front next
+        → Writes (trace_text now_all.written) now_all.refusal old old now now (Ok taken) × IsTaken c point types taken (rows ++ own)
+    take_still going old now taken here =
+        let none : now_all ≡ nothing = still_nothing c point types front rows own at judge found going in (
+          (ap (λ (s : Stream). s.refusal) none, sym (ap (λ (s : Stream). with_bytes old Report (trace_text s.written)) none ∙ added_nil old Report), refl),
+          subst (λ (s : Stage). IsAt c point types s (rows ++ own)) (sym here) (still_front c point types front rows own at judge found next names is held going),
+        )
+
+    -- those that are held were written, or a front of them
+    pub take_stop : is_done judge ≡ true → (A B : Type 0) (stop : Stop) (old new : Texts) (before after : ℕ)
+        → Writes {A = A} (trace_text begun_stream.written) begun_stream.refusal old new before after (Err stop)
+        → Writes {A = B} (trace_text now_all.written) now_all.refusal old new before after (Err stop)
+    take_stop done A B stop old new before after h =
+        subst (λ (s : Stream). Writes {A = B} (trace_text s.written) s.refusal old new before after (Err stop))
+        (held_begun c point types front rows own at judge found done next names is held) (stop_recast A B stop (trace_text begun_stream.written) begun_stream.refusal old new before after h)
+
+    pub take_begun : is_done judge ≡ true → (body : Body) (old new : Texts) (before after : ℕ) (taken : Taken) → IsBegun c point next body → taken.stage ≡ stage.Body body
+        → Writes (trace_text begun_stream.written) begun_stream.refusal old new before after (Ok body)
+        → Writes (trace_text now_all.written) now_all.refusal old new before after (Ok taken) × IsTaken c point types taken (rows ++ own)
+    take_begun done body old new before after taken begun here h =
+        let written : Writes (trace_text now_all.written) now_all.refusal old new before after (Ok body) =
+        subst (λ (s : Stream). Writes (trace_text s.written) s.refusal old new before after (Ok body)) (held_begun c point types front rows own at judge found done next names is held) h in (
+          (written.0, written.1, written.2),
+          subst (λ (s : Stage). IsAt c point types s (rows ++ own)) (sym here) (body_begun c point types front rows own at judge found done next body names is begun written.0),
+        )
+
+-- ---- the same with another name
+pub goes_as : {X : Type 0} (r : Result X Stop) (c : Command) (point : List ℕ) (types : ℕ) (at other : Stage) (own : List Placed) (old new : Texts) (before after : ℕ)
+    (Stands : X → List Placed → Type 0) → at ≡ other → Goes c point types other own old new before after Stands r → Goes c point types at own old new before after Stands r
+goes_as r c point types at other own old new before after Stands same h = subst (λ (s : Stage). Goes c point types s own old new before after Stands r) (sym same) h
+
+-- the rows of a chunk
+pub chunk_own : (separator file count : ℕ) (bytes : List ℕ) (chunk : Chunk) → chunk.file ≡ file → chunk.front ≡ count → chunk.bytes ≡ bytes
+    → chunk_rows separator chunk ≡ rows_behind separator file count bytes
+chunk_own separator file count bytes chunk here front same =
+    ap (λ (f : ℕ). placed_from f (chunk.front + 1) (records (config_by separator) chunk.bytes)) here
+    ∙ ap (λ (n : ℕ). placed_from file (n + 1) (records (config_by separator) chunk.bytes)) front
+    ∙ ap (λ (bs : List ℕ). placed_from file (count + 1) (records (config_by separator) bs)) same
+
+module _ (c : Command) (point : List ℕ) (types : ℕ) (at : Stage) (file : ℕ) (before : Place) (bytes : List ℕ) (own : List Placed) (old new : Texts) (start after : ℕ)
+    (is : own ≡ rows_behind c.separator file before.count bytes) where
+  abbrev behind_rows : List Placed
+  behind_rows = rows_behind c.separator file before.count bytes
+
+  pub rows_stop : (stop : Stop) → Goes {A = Taken} c point types at own old new start after (IsTaken c point types) (Err stop)
+      → Goes {A = Place} c point types at behind_rows old new start after (IsBehind c point types file before bytes) (Err stop)
+  rows_stop stop h rows base first stands so_far calm =
+      subst (λ (l : List Placed). Writes {A = Place} (trace_text (rows_stream c point types (rows ++ l)).written) (rows_stream c point types (rows ++ l)).refusal base new first after (Err stop) × ⊤) is
+      (stop_recast Taken Place stop (trace_text (rows_stream c point types (rows ++ own)).written) (rows_stream c point types (rows ++ own)).refusal base new first after (h rows base first stands so_far calm).0, tt)
+
+  pub rows_taken : (taken : Taken) (place : Place) → place.stage ≡ taken.stage → place.count ≡ before.count + taken.count → taken.count ≡ length own
+      → place.is_paired ≡ (if are_paired bytes then before.is_paired else not before.is_paired)
+      → Goes {A = Taken} c point types at own old new start after (IsTaken c point types) (Ok taken)
+      → Goes {A = Place} c point types at behind_rows old new start after (IsBehind c point types file before bytes) (Ok place)
+  rows_taken taken place here sum counted paired h rows base first stands so_far calm =
+      let own_h = h rows base first stands so_far calm in
+      let count : place.count ≡ before.count + length behind_rows = sum ∙ ap (λ (n : ℕ). before.count + n) (counted ∙ ap length is) in
+      let at_here : IsAt c point types place.stage (rows ++ own) = subst (λ (s : Stage). IsAt c point types s (rows ++ own)) (sym here) own_h.1 in
+      subst (λ (l : List Placed). Writes {A = Place} (trace_text (rows_stream c point types (rows ++ l)).written) (rows_stream c point types (rows ++ l)).refusal base new first after (Ok place)
+      × (IsAt c point types place.stage (rows ++ l) × (place.count ≡ before.count + length behind_rows) × (place.is_paired ≡ (if are_paired bytes then before.is_paired else not before.is_paired)))) is
+      ((own_h.0.0, own_h.0.1, own_h.0.2), (at_here, count, paired))

@@ -96,8 +96,8 @@ Goes c point types stage own old new before after Stands result =
     → let stream = rows_stream c point types (rows ++ own) in
     Writes (trace_text stream.written) stream.refusal base new start after result × IfOk result (λ a. Stands a (rows ++ own))
 
-abbrev pub IsTaken : Command → List ℕ → ℕ → List Placed → Taken → List Placed → Type 0
-IsTaken c point types own taken rows = IsAt c point types taken.stage rows × (taken.count ≡ length own)
+abbrev pub IsTaken : Command → List ℕ → ℕ → Taken → List Placed → Type 0
+IsTaken c point types taken rows = IsAt c point types taken.stage rows
 
 -- the rows of the next bytes of the file at this place
 abbrev pub rows_behind : ℕ → ℕ → ℕ → List ℕ → List Placed

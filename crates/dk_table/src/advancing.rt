@@ -1,5 +1,5 @@
 // Going on with rows: finding kinds by those in front, and writing the others as they come.
-ghost use Rattle.std.specs.Prelude.{◌≡◌, ◌<◌, ◌^◌, ◌++◌, ◌∷◌, [], IfOk, List, MatchResult, Err, None, Some, length, map};
+ghost use Rattle.std.specs.Prelude.{◌≡◌, ◌<◌, ◌^◌, ◌++◌, ◌∷◌, [], IfOk, List, MatchResult, Err, None, Some, if◌then◌else◌, length, map, not};
 ghost use Rattle.dk_write.specs.Texts.{Begins, Declares, block_text, trace_text};
 ghost use Rattle.dk_table.specs.Judging.{fresh, kind_by};
 ghost use Rattle.dk_table.specs.Outcomes.{Answers};
@@ -8,6 +8,7 @@ ghost use Rattle.dk_table.specs.Placed.{Placed};
 ghost use Rattle.dk_table.specs.Stages.{Goes, IsBegun, IsBehind, IsReady, IsTaken, first_names, judging_steps, rows_behind};
 ghost use Rattle.dk_table.specs.Stops.{Writes};
 ghost use Rattle.dk_table.specs.Streams.{end_steps, row_steps, rows_steps, rows_stream, stream_by};
+ghost use Rattle.dk_table.specs.Tables.{are_paired};
 ghost use Rattle.dk_table.specs.Traces.{declaration_of};
 ghost use Rattle.dk_table.specs.declared.stages.Stage.TheVariants as stages;
 
@@ -144,10 +145,11 @@ fn take_front<S: Sinks>(
     chunk: Chunk,
     sinks: &mut S,
 ) -> Result<Taken, Stop>
-    ensures { (rows : List Placed) → let own = chunk_rows task.now.command.now.separator chunk in IsReady task.now.command.now task.now.types front rows own
+    ensures goes { (rows : List Placed) → let own = chunk_rows task.now.command.now.separator chunk in IsReady task.now.command.now task.now.types front rows own
         → let stream = rows_stream task.now.command.now task.now.point.now task.now.types (rows ++ own) in
         Writes (trace_text stream.written) stream.refusal (S.written sinks.old) (S.written sinks.new) (S.faults sinks.old) (S.faults sinks.new) result
-        × IfOk result (λ taken. IsTaken task.now.command.now task.now.point.now task.now.types own taken (rows ++ own)) }
+        × IfOk result (λ taken. IsTaken task.now.command.now task.now.point.now task.now.types taken (rows ++ own)) }
+    ensures counted { IfOk result (λ taken. taken.count ≡ length (chunk_rows task.now.command.now.separator chunk)) }
 {
     let mut front = front;
     let count = judge_chunk(
@@ -204,7 +206,8 @@ fn take_first<S: Sinks>(
     chunk: Chunk,
     sinks: &mut S,
 ) -> Result<Taken, Stop>
-    ensures { let own = chunk_rows task.now.command.now.separator chunk in Goes task.now.command.now task.now.point.now task.now.types stages.Start own (S.written sinks.old) (S.written sinks.new) (S.faults sinks.old) (S.faults sinks.new) (IsTaken task.now.command.now task.now.point.now task.now.types own) result }
+    ensures goes { let own = chunk_rows task.now.command.now.separator chunk in Goes task.now.command.now task.now.point.now task.now.types stages.Start own (S.written sinks.old) (S.written sinks.new) (S.faults sinks.old) (S.faults sinks.new) (IsTaken task.now.command.now task.now.point.now task.now.types) result }
+    ensures counted { IfOk result (λ taken. taken.count ≡ length (chunk_rows task.now.command.now.separator chunk)) }
 {
     match first_names(alloc, task.command, &chunk)? {
         None => Ok(Taken {
@@ -225,7 +228,8 @@ fn take_body<S: Sinks>(
     chunk: &Chunk,
     sinks: &mut S,
 ) -> Result<Taken, Stop>
-    ensures { let own = chunk_rows task.now.command.now.separator chunk.now in Goes task.now.command.now task.now.point.now task.now.types (stages.Body body) own (S.written sinks.old) (S.written sinks.new) (S.faults sinks.old) (S.faults sinks.new) (IsTaken task.now.command.now task.now.point.now task.now.types own) result }
+    ensures goes { let own = chunk_rows task.now.command.now.separator chunk.now in Goes task.now.command.now task.now.point.now task.now.types (stages.Body body) own (S.written sinks.old) (S.written sinks.new) (S.faults sinks.old) (S.faults sinks.new) (IsTaken task.now.command.now task.now.point.now task.now.types) result }
+    ensures counted { IfOk result (λ taken. taken.count ≡ length (chunk_rows task.now.command.now.separator chunk.now)) }
 {
     let count = tell_chunk(alloc, task.command, &body, chunk, sinks)?;
     Ok(Taken {
@@ -242,7 +246,8 @@ fn take_chunk<S: Sinks>(
     chunk: Chunk,
     sinks: &mut S,
 ) -> Result<Taken, Stop>
-    ensures { let own = chunk_rows task.now.command.now.separator chunk in Goes task.now.command.now task.now.point.now task.now.types stage own (S.written sinks.old) (S.written sinks.new) (S.faults sinks.old) (S.faults sinks.new) (IsTaken task.now.command.now task.now.point.now task.now.types own) result }
+    ensures goes { let own = chunk_rows task.now.command.now.separator chunk in Goes task.now.command.now task.now.point.now task.now.types stage own (S.written sinks.old) (S.written sinks.new) (S.faults sinks.old) (S.faults sinks.new) (IsTaken task.now.command.now task.now.point.now task.now.types) result }
+    ensures counted { IfOk result (λ taken. taken.count ≡ length (chunk_rows task.now.command.now.separator chunk)) }
 {
     match stage {
         Stage::Start => take_first(alloc, task, chunk, sinks),
@@ -280,6 +285,17 @@ pub(crate) struct Place {
     pub(crate) is_paired: bool,
 }
 
+// Whether quotes go in pairs with those of the next bytes, where they did so far or didn't.
+fn still_paired(is_paired: bool, next: &FileBytes) -> bool
+    ensures { result ≡ (if are_paired next.now then is_paired else not is_paired) }
+{
+    if are_paired(next) {
+        is_paired
+    } else {
+        !is_paired
+    }
+}
+
 /// Goes on with a file's next whole rows.
 pub(crate) fn take_rows<S: Sinks>(
     alloc: Global,
@@ -291,11 +307,7 @@ pub(crate) fn take_rows<S: Sinks>(
 ) -> Result<Place, Stop>
     ensures { let own = rows_behind task.now.command.now.separator file place.count cut in Goes task.now.command.now task.now.point.now task.now.types place.stage own (S.written sinks.old) (S.written sinks.new) (S.faults sinks.old) (S.faults sinks.new) (IsBehind task.now.command.now task.now.point.now task.now.types file place cut) result }
 {
-    let is_paired = if are_paired(&cut) {
-        place.is_paired
-    } else {
-        !place.is_paired
-    };
+    let is_paired = still_paired(place.is_paired, &cut);
     let chunk = Chunk::new(file, place.count, cut)?;
     let taken = take_chunk(alloc, task, place.stage, chunk, sinks)?;
     Ok(Place {
