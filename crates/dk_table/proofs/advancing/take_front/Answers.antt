@@ -16,7 +16,7 @@ returns-in_err-count-clause-goes g c = λ rows at.
     let own : List Placed = chunk_rows c.args.task.now.command.now.separator c.args.chunk in
     let p = err_from_is_err_and c.from_residual.result c.from_residual.ensures.1 in
     rw (p.1, p.2)
-    (take_fault c.args.task.now.command.now c.args.task.now.point.now c.args.task.now.types c.args.front rows own at {B = ℕ} Taken _ c.in_err-count.field-0.0 c.as_slice.result.now _ _ c.as_slice.ensures c.in_err-count.ensures.judged, tt)
+    (take_fault c.args.task.now.command.now c.args.task.now.point.now c.args.task.now.types c.args.front rows own at {B = ℕ} Taken (λ (n : ℕ). c.judge_chunk.new.judge) c.in_err-count.field-0.0 c.as_slice.result.now _ _ c.as_slice.ensures c.in_err-count.ensures.judged, tt)
 
 pub returns-in_err-push-clause-goes : goal.returns-in_err-push-clause-goes
 returns-in_err-push-clause-goes g c = λ rows at.
