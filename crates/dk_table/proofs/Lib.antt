@@ -34,6 +34,7 @@ pub mod Staged
 pub mod Parts
 pub mod Grown
 pub mod Progressed
+pub mod Onward
 pub mod Chosen
 pub mod Agreed
 pub mod Opened

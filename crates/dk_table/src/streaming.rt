@@ -1,5 +1,5 @@
 // Tables whose rows are written as they come: their files are read piece by piece.
-ghost use Rattle.std.specs.Prelude.{◌≡◌, ◌≤◌, ◌<◌, ℕ, List, Option, length};
+ghost use Rattle.std.specs.Prelude.{◌≡◌, ◌≤◌, ◌<◌, ℕ, IfOk, List, Option, length};
 ghost use Rattle.dk_io.specs.Outside.{HeldFile, Rose};
 ghost use Rattle.dk_io.specs.Streams.{Texts, with_bytes};
 ghost use Rattle.dk_io.specs.declared.outside.Stream.TheVariants as stream;
@@ -37,8 +37,9 @@ fn take_whole<S: Sinks>(
     going: Going,
     sinks: &mut S,
 ) -> Result<Going, Stop>
-    ensures { (names : List (List ℕ)) (held : List ℕ → HeldFile) (rest : Option (List ℕ)) (contents : List (List ℕ)) (base : Texts) (start since now : ℕ) → IsGoing task.now.command.now task.now.point.now task.now.types names held (Rose since now) file contents going rest base (S.written sinks.old) start (S.faults sinks.old)
+    ensures goes { (names : List (List ℕ)) (held : List ℕ → HeldFile) (rest : Option (List ℕ)) (contents : List (List ℕ)) (base : Texts) (start since now : ℕ) → IsGoing task.now.command.now task.now.point.now task.now.types names held (Rose since now) file contents going rest base (S.written sinks.old) start (S.faults sinks.old)
         → PieceGoes task.now.command.now task.now.point.now task.now.types names held (Rose since now) file contents rest base (S.written sinks.new) start (S.faults sinks.new) result }
+    ensures filled { IfOk result (λ next. next.filled ≡ going.filled) }
 {
     let cut = cut_rows(alloc, task.command.separator, going.text, false)?;
     let place = take_rows(alloc, task, file, going.place, cut.rows, sinks)?;
@@ -59,7 +60,7 @@ fn take_piece<I: Inputs, S: Sinks>(
     sinks: &mut S,
 ) -> Result<Going, Stop>
     requires { going.filled ≡ Filled.Full }
-    ensures goes { (names : List (List ℕ)) (contents : List (List ℕ)) (base : Texts) (start since : ℕ) → IsGoing task.now.command.now task.now.point.now task.now.types names (I.file inputs.old) (Rose since (I.faults inputs.old)) file contents going (I.rest inputs.old) base (S.written sinks.old) start (S.faults sinks.old)
+    ensures goes { (names : List (List ℕ)) (contents : List (List ℕ)) (base : Texts) (start since : ℕ) → since ≤ I.faults inputs.old → IsGoing task.now.command.now task.now.point.now task.now.types names (I.file inputs.old) (Rose since (I.faults inputs.old)) file contents going (I.rest inputs.old) base (S.written sinks.old) start (S.faults sinks.old)
         → PieceGoes task.now.command.now task.now.point.now task.now.types names (I.file inputs.old) (Rose since (I.faults inputs.new)) file contents (I.rest inputs.new) base (S.written sinks.new) start (S.faults sinks.new) result }
     ensures files { I.file inputs.new ≡ I.file inputs.old }
     ensures later { I.faults inputs.old ≤ I.faults inputs.new }
@@ -121,7 +122,7 @@ fn take_file<I: Inputs, S: Sinks>(
     inputs: &mut I,
     sinks: &mut S,
 ) -> Result<Stage, Stop>
-    ensures goes { (names : List (List ℕ)) (contents : List (List ℕ)) (base : Texts) (start since : ℕ) → IsGoing task.now.command.now task.now.point.now task.now.types names (I.file inputs.old) (Rose since (I.faults inputs.old)) file contents going (I.rest inputs.old) base (S.written sinks.old) start (S.faults sinks.old)
+    ensures goes { (names : List (List ℕ)) (contents : List (List ℕ)) (base : Texts) (start since : ℕ) → since ≤ I.faults inputs.old → IsGoing task.now.command.now task.now.point.now task.now.types names (I.file inputs.old) (Rose since (I.faults inputs.old)) file contents going (I.rest inputs.old) base (S.written sinks.old) start (S.faults sinks.old)
         → FileGoes task.now.command.now task.now.point.now task.now.types names (I.file inputs.old) (Rose since (I.faults inputs.new)) file contents base (S.written sinks.new) start (S.faults sinks.new) result }
     ensures files { I.file inputs.new ≡ I.file inputs.old }
     ensures later { I.faults inputs.old ≤ I.faults inputs.new }
@@ -213,6 +214,7 @@ pub(crate) fn tell_stream<I: Inputs, S: Sinks>(
     inputs: &mut I,
     sinks: &mut S,
 ) -> Result<(), Stop>
+    requires { 0 < task.now.types }
     ensures goes { StreamSays task.now.command.now task.now.point.now task.now.types names.now (I.file inputs.old) (Rose (I.faults inputs.old) (I.faults inputs.new)) (S.written sinks.old) (S.written sinks.new) (S.faults sinks.old) (S.faults sinks.new) result }
     ensures files { I.file inputs.new ≡ I.file inputs.old }
 {
