@@ -18,19 +18,19 @@ use Rattle.dk_table.proofs.Streamed.{Apart, before_apart, before_none, before_so
 take_split : (n : ℕ) (front rest : List Step) → (more : List Step) × (take n (front ++ rest) ≡ take n front ++ more)
 take_split n front rest = go (nat_le n (length front)) refl
   where
-    go : (b : Bool) → nat_le n (length front) ≡ b → (more : List Step) × (take n (front ++ rest) ≡ take n front ++ more)
-    go true is = ([], take-append-le n front rest (leb-true n (length front) is) ∙ sym (append-nil (take n front)))
-    go false is =
-        let short : length front < n = leb-false n (length front) is in
-        let whole : take n front ≡ front = take_all n front (omega (arith, short)) in
-        (take (n - length front) rest, behind n front rest short ∙ ap (λ (l : List Step). l ++ take (n - length front) rest) (sym whole))
-
     behind : (n : ℕ) (front rest : List Step) → length front < n → take n (front ++ rest) ≡ front ++ take (n - length front) rest
     behind n [] rest short = let same : n ≡ n - 0 = omega arith in ap (λ (k : ℕ). take k rest) same
     behind zero (x ∷ front) rest short = absurd (omega arith)
     behind (suc n) (x ∷ front) rest short =
         let same : n - length front ≡ suc n - length (x ∷ front) = omega arith in
         ap (λ (l : List Step). x ∷ l) (behind n front rest (omega (arith, short)) ∙ ap (λ (k : ℕ). front ++ take k rest) same)
+
+    go : (b : Bool) → nat_le n (length front) ≡ b → (more : List Step) × (take n (front ++ rest) ≡ take n front ++ more)
+    go true is = ([], take-append-le n front rest (leb-true n (length front) is) ∙ sym (append-nil (take n front)))
+    go false is =
+        let short : length front < n = leb-false n (length front) is in
+        let whole : take n front ≡ front = take_all n front (omega (arith, short)) in
+        (take (n - length front) rest, behind n front rest short ∙ ap (λ (l : List Step). l ++ take (n - length front) rest) (sym whole))
 
 records_more : (d : PointDecl) (kinds : List ColumnKind) (front more : List Placed)
     → trace_text (writes_of d kinds (front ++ more)) ≡ trace_text (writes_of d kinds front) ++ trace_text (map (λ row. Records (record_of d kinds row)) more)

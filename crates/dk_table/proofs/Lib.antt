@@ -35,6 +35,7 @@ pub mod Parts
 pub mod Grown
 pub mod Progressed
 pub mod Onward
+pub mod Closing
 pub mod Chosen
 pub mod Agreed
 pub mod Opened

@@ -25,6 +25,7 @@ use Rattle.dk_table.specs.declared.filling.Filled.{Filled}
 use Rattle.dk_table.specs.declared.filling.Filled.TheVariants.{Full, Ended, Failed}
 use Rattle.dk_table.specs.declared.filling.OpenFault.{OpenFault}
 use Rattle.dk_table.specs.declared.filling.OpenFault.TheVariants as opening
+use Rattle.dk_table.specs.declared.filling.Piece.{Piece}
 use Rattle.dk_table.specs.declared.stages.Stage.{Stage}
 use Rattle.dk_table.specs.declared.stops.Stop.{Stop}
 use Rattle.dk_table.specs.declared.stops.Stop.TheVariants.{NoMemory, Refused, Unread}
@@ -62,6 +63,15 @@ bare_paired (a ∷ b ∷ c ∷ rest) = by (is_bom a b c) refl
 pub paired_behind : (bytes gone text : List ℕ) → strip_bom bytes ≡ gone ++ text
     → are_paired bytes ≡ (if are_paired text then are_paired gone else not (are_paired gone))
 paired_behind bytes gone text is = sym (bare_paired bytes) ∙ ap are_paired is ∙ paired_append gone text
+
+-- ---- a file that was started, or couldn't be
+pub opened_at : (held other : HeldFile) (rest : Option (List ℕ)) (early late : Type 0) (r : Result Piece OpenFault) → other ≡ held → (late → early)
+    → OpenSays other rest late r → OpenSays held rest early r
+opened_at held other rest early late (Ok piece) same since h =
+    gathered_since piece.filled held piece.text rest early late since (subst (λ (x : HeldFile). IsGathered piece.filled x piece.text rest late) same h)
+opened_at held other rest early late (Err opening.Start) same since (inl absent) = inl (sym same ∙ absent)
+opened_at held other rest early late (Err opening.Start) same since (inr rose) = inr (since rose)
+opened_at held other rest early late (Err opening.NoMemory) same since h = h
 
 -- ---- behind files that were read
 module _ (c : Command) (point : List ℕ) (types : ℕ) (names : List (List ℕ)) (file : List ℕ → HeldFile) (place : ℕ) (contents : List (List ℕ))

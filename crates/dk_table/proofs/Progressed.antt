@@ -72,6 +72,20 @@ module _ (c : Command) (names : List (List ℕ)) where
       ∙ sym (append_assoc own (all_steps c names (n + 1) contents)
       (rows_steps c.has_header names (rows_in c.separator (n + length (b ∷ contents)) bytes) ++ end_steps (n + length (b ∷ contents)) (length (rows_in c.separator (n + length (b ∷ contents)) bytes)) (are_paired bytes)))
 
+pub all_last : (separator : ℕ) (contents : List (List ℕ)) (bytes : List ℕ)
+    → all_rows separator 0 (contents ++ bytes ∷ []) ≡ all_rows separator 0 contents ++ rows_in separator (length contents) bytes
+all_last separator contents bytes =
+    let same : 0 + length contents ≡ length contents = omega arith in
+    all_more separator 0 contents bytes ∙ ap (λ (k : ℕ). all_rows separator 0 contents ++ rows_in separator k bytes) same
+
+steps_last : (c : Command) (names : List (List ℕ)) (contents : List (List ℕ)) (bytes : List ℕ)
+    → all_steps c names 0 (contents ++ bytes ∷ []) ≡ all_steps c names 0 contents
+    ++ (rows_steps c.has_header names (rows_in c.separator (length contents) bytes) ++ end_steps (length contents) (length (rows_in c.separator (length contents) bytes)) (are_paired bytes))
+steps_last c names contents bytes =
+    let same : 0 + length contents ≡ length contents = omega arith in
+    steps_more c names 0 contents bytes
+    ∙ ap (λ (k : ℕ). all_steps c names 0 contents ++ (rows_steps c.has_header names (rows_in c.separator k bytes) ++ end_steps k (length (rows_in c.separator k bytes)) (are_paired bytes))) same
+
 -- ---- names
 cells_first : (separator : ℕ) (contents : List (List ℕ)) (next : Option (List ℕ)) → HasFirst separator contents
     → first_cells (first_rows separator contents next) ≡ first_cells (all_rows separator 0 contents ++ next_rows separator (length contents) next)
@@ -116,7 +130,7 @@ module _ (c : Command) (point : List ℕ) (types : ℕ) (contents : List (List �
       let next : List Placed = text_rows c.separator (length (contents ++ bytes ∷ [])) [] in
       ap (λ (l : List (List ℕ)). stream_with point l types false (all_steps c l 0 (contents ++ bytes ∷ []) ++ rows_steps h l next)) (ap (names_by h) (cells_last c.separator contents bytes (Some []) whole.first))
       ∙ ap (λ (l : List Placed). stream_with point ns types false (all_steps c ns 0 (contents ++ bytes ∷ []) ++ rows_steps h ns l)) (none_rows c.separator (length (contents ++ bytes ∷ [])))
-      ∙ ap (stream_with point ns types false) (append-nil (all_steps c ns 0 (contents ++ bytes ∷ [])) ∙ steps_more c ns 0 contents bytes
+      ∙ ap (stream_with point ns types false) (append-nil (all_steps c ns 0 (contents ++ bytes ∷ [])) ∙ steps_last c ns contents bytes
       ∙ ap (λ l. l ++ (rows_steps h ns own ++ last)) (whole.steps ns)
       ∙ sym (append_assoc (rows_steps h ns rows) (rows_steps h ns own) last) ∙ ap (λ l. l ++ last) (sym (steps_apart h ns rows own)))
 
@@ -124,11 +138,11 @@ module _ (c : Command) (point : List ℕ) (types : ℕ) (contents : List (List �
   pub whole_more : (bytes : List ℕ) → end_steps (length contents) (length (rows_in c.separator (length contents) bytes)) (are_paired bytes) ≡ [] → AreWhole c (contents ++ bytes ∷ [])
   whole_more bytes ends = record {
     steps = λ names.
-        steps_more c names 0 contents bytes
+        steps_last c names contents bytes
         ∙ ap (λ l. l ++ (rows_steps c.has_header names own ++ end_steps (length contents) (length own) (are_paired bytes))) (whole.steps names)
         ∙ ap (λ l. rows_steps c.has_header names rows ++ (rows_steps c.has_header names own ++ l)) ends
         ∙ ap (λ l. rows_steps c.has_header names rows ++ l) (append-nil (rows_steps c.has_header names own))
-        ∙ sym (steps_apart c.has_header names rows own) ∙ ap (rows_steps c.has_header names) (sym (all_more c.separator 0 contents bytes));
+        ∙ sym (steps_apart c.has_header names rows own) ∙ ap (rows_steps c.has_header names) (sym (all_last c.separator contents bytes));
     first = first_more contents whole.first ends;
   }
     where
@@ -279,7 +293,7 @@ module _ (c : Command) (point : List ℕ) (types : ℕ) (names : List (List ℕ)
         ∙ ap (λ (l : List Placed). all_rows c.separator 0 contents ++ l) (sym own_is)
 
     now_all : all_now ≡ all_rows c.separator 0 (contents ++ bytes ∷ [])
-    now_all = now_rows ∙ sym (all_more c.separator 0 contents bytes)
+    now_all = now_rows ∙ sym (all_last c.separator contents bytes)
 
     abbrev names_now : List (List ℕ)
     names_now = names_by c.has_header (first_cells (all_rows c.separator 0 contents ++ own_rows))
