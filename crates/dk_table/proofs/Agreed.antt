@@ -69,8 +69,8 @@ body_rows header names file n (r ∷ cells) later none =
     let more = body_rows header names file (n + 1) cells (omega (arith, later)) (rest_clean (row_steps header names row) (rows_steps header names rest) none) in (
       none_found (length names) row rest even.0 more.0,
       before_none (row_steps header names row) (rows_steps header names rest) (front_clean (row_steps header names row) (rows_steps header names rest) none)
-      ∙ ap (λ (l : List Step). rows_before l ++ rows_before (rows_steps header names rest)) own ∙ ap (λ (l : List Placed). l ++ rows_before (rows_steps header names rest)) even.1
-      ∙ ap (λ (l : List Placed). row ∷ l) more.1,
+          ∙ ap (λ (l : List Step). rows_before l ++ rows_before (rows_steps header names rest)) own ∙ ap (λ (l : List Placed). l ++ rows_before (rows_steps header names rest)) even.1
+          ∙ ap (λ (l : List Placed). row ∷ l) more.1,
     )
   where
     no_header : (h : Bool) → (n == 1) ≡ false

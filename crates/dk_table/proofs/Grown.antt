@@ -115,8 +115,8 @@ module _ (point : List ℕ) (names : List (List ℕ)) (types : ℕ) (steps : Lis
             let a : Apart front rest = before_apart front rest in (
               trace_text (map (λ row. Records (record_of d kinds row)) a.more),
               ap (λ (s : Stream). trace_text s.written) (then ∙ by_named d kinds (steps ++ more) named ∙ ap (trace_before d kinds) (told_apart kinds steps more))
-              ∙ ap (λ (rows : List Placed). trace_text (writes_of d kinds rows)) a.is ∙ records_more d kinds (rows_before front) a.more
-              ∙ ap (λ (s : Stream). trace_text s.written ++ trace_text (map (λ row. Records (record_of d kinds row)) a.more)) (sym (is ∙ by_named d kinds steps named)),
+                  ∙ ap (λ (rows : List Placed). trace_text (writes_of d kinds rows)) a.is ∙ records_more d kinds (rows_before front) a.more
+                  ∙ ap (λ (s : Stream). trace_text s.written ++ trace_text (map (λ row. Records (record_of d kinds row)) a.more)) (sym (is ∙ by_named d kinds steps named)),
             )
 
         nothing_before : so_far.written ≡ [] → (rest : List ℕ) × (trace_text grown.written ≡ trace_text so_far.written ++ rest)

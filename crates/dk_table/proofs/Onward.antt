@@ -134,6 +134,13 @@ module _ (c : Command) (point : List ℕ) (types : ℕ) (names : List (List ℕ)
       old before written_here b.calm
 
 -- ---- within a file
+-- the same files
+pub going_as : (c : Command) (point : List ℕ) (types : ℕ) (names : List (List ℕ)) (file other : List ℕ → HeldFile) (rose : Type 0) (place : ℕ) (contents : List (List ℕ))
+    (going : Going) (rest : Option (List ℕ)) (base old : Texts) (start before : ℕ) → file ≡ other
+    → IsGoing c point types names file rose place contents going rest base old start before → IsGoing c point types names other rose place contents going rest base old start before
+going_as c point types names file other rose place contents going rest base old start before same g =
+    subst (λ (f : List ℕ → HeldFile). IsGoing c point types names f rose place contents going rest base old start before) same g
+
 module _ (c : Command) (point : List ℕ) (types : ℕ) (names : List (List ℕ)) (file : List ℕ → HeldFile) (rose : Type 0) (place : ℕ) (contents : List (List ℕ))
     (going : Going) (rest : Option (List ℕ)) (base old : Texts) (start before : ℕ)
     (g : IsGoing c point types names file rose place contents going rest base old start before) where
@@ -246,8 +253,14 @@ module _ (c : Command) (point : List ℕ) (types : ℕ) (names : List (List ℕ)
         let own : rows_in c.separator (length contents) bytes ≡ text_rows c.separator (length contents) g.gone ++ rows_behind c.separator (length contents) going.place.count going.text =
         ap (text_rows c.separator (length contents)) whole_is ∙ text_more c.separator (length contents) going.place.count g.gone going.text g.within.whole g.within.count in
         let many : length (rows_in c.separator (length contents) bytes) ≡ next.count =
-        omega (arith, count, g.within.count, ap length own, ap length same_next,
-        length-append (text_rows c.separator (length contents) g.gone) (rows_behind c.separator (length contents) going.place.count going.text)) in
+        omega (
+          arith,
+          count,
+          g.within.count,
+          ap length own,
+          ap length same_next,
+          length-append (text_rows c.separator (length contents) g.gone) (rows_behind c.separator (length contents) going.place.count going.text),
+        ) in
         let quotes : are_paired bytes ≡ next.is_paired =
         paired_behind bytes g.gone going.text whole_is ∙ ap (λ (t : List ℕ). if are_paired t then are_paired g.gone else not (are_paired g.gone)) (sym all)
         ∙ ap (λ (b : Bool). if are_paired chunk then b else not b) (sym g.within.paired) ∙ sym paired in

@@ -354,12 +354,15 @@ module _ (c : Command) (point : List ℕ) (types : ℕ) (names : List (List ℕ)
         → (rows_stream c point types all_now).refusal ≡ None
         → new ≡ with_bytes base Report (trace_text (rows_stream c point types all_now).written) → after ≡ start
         → FileGoes c point types names file rose place contents base new start after (Ok stage)
-    goes_last stage new after place many is at none written still = (bytes, record {
-      many = omega (arith, many, length-append contents (bytes ∷ []));
-      read = read_all;
-      whole = whole_more c point types contents whole bytes is;
-      none = ap (λ (l : List Placed). (rows_stream c point types l).refusal) (sym now_all) ∙ none;
-      at = subst (IsAt c point types stage) now_all at;
-      written = written ∙ ap (λ (l : List Placed). with_bytes base Report (trace_text (rows_stream c point types l).written)) now_all;
-      calm = still;
-    })
+    goes_last stage new after place many is at none written still = (
+      bytes,
+      record {
+        many = omega (arith, many, length-append contents (bytes ∷ []));
+        read = read_all;
+        whole = whole_more c point types contents whole bytes is;
+        none = ap (λ (l : List Placed). (rows_stream c point types l).refusal) (sym now_all) ∙ none;
+        at = subst (IsAt c point types stage) now_all at;
+        written = written ∙ ap (λ (l : List Placed). with_bytes base Report (trace_text (rows_stream c point types l).written)) now_all;
+        calm = still;
+      },
+    )

@@ -28,7 +28,7 @@ adds_after due more base mid new so_far (n, within, is) = (
   length due + n,
   omega (arith, within, length-append due more),
   is ∙ ap (λ (t : Texts). with_bytes t Report (take n more)) so_far ∙ added_twice base Report due (take n more)
-  ∙ ap (with_bytes base Report) (sym (take-append-add due more n)),
+      ∙ ap (with_bytes base Report) (sym (take-append-add due more n)),
 )
 
 -- ---- behind what was written before

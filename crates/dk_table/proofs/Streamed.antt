@@ -172,7 +172,6 @@ written_nothing point names types steps none short =
     ∙ ap (λ (b : Bool). if b then (let kinds = kinds_of (rows_before (take types steps)) (length names) in stream_by (declaration_of point names kinds) kinds steps) else nothing)
     (lt-leb types (length steps) short)
 
-
 pub written_known : (point : List ℕ) (names : List (List ℕ)) (types : ℕ) (ended : Bool) (steps : List Step) (kinds : List ColumnKind)
     → first_refusal (take types steps) ≡ None → types ≤ length steps → kinds ≡ kinds_of (rows_before (take types steps)) (length names)
     → stream_with point names types ended steps ≡ stream_by (declaration_of point names kinds) kinds steps

@@ -9,11 +9,7 @@ use crate::tables::are_cells;
 use dk_base::Text;
 
 /// Whether the row that was read last is one of the table's body. The first row of a file is its header, where there is one.
-pub(crate) fn is_body(
-    has_header: bool,
-    names: &[Text],
-    rows: &Rows<'_>,
-) -> Result<bool, Refusal>
+pub(crate) fn is_body(has_header: bool, names: &[Text], rows: &Rows<'_>) -> Result<bool, Refusal>
     ensures { steps_by rows.now.row result ≡ row_steps has_header names.now rows.now.row }
 {
     if has_header && rows.number() == 1 {

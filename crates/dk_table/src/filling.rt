@@ -119,11 +119,7 @@ fn without_mark(alloc: Global, text: Text, filled: Filled) -> Result<Text, NoMem
 }
 
 /// Starts the file of a name, and gathers the first of its bytes.
-pub(crate) fn open<I: Inputs>(
-    alloc: Global,
-    name: &str,
-    inputs: &mut I,
-) -> Result<Piece, OpenFault>
+pub(crate) fn open<I: Inputs>(alloc: Global, name: &str, inputs: &mut I) -> Result<Piece, OpenFault>
     ensures opened { OpenSays (I.file inputs.old name.now) (I.rest inputs.new) (Rose (I.faults inputs.old) (I.faults inputs.new)) result }
     ensures files { I.file inputs.new ≡ I.file inputs.old }
     ensures later { I.faults inputs.old ≤ I.faults inputs.new }

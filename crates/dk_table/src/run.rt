@@ -9,13 +9,13 @@ ghost use Rattle.dk_table.specs.Messages.{refusal_line};
 ghost use Rattle.dk_table.specs.Statuses.{Answer, Completes, Says, answer_of};
 ghost use Rattle.dk_table.specs.Writing.{EndsCut};
 
+use crate::advancing::Task;
 use crate::command::Command;
 use crate::faults::{Refusal, TableFault, TableWhy};
 use crate::file_bytes::FileBytes;
 use crate::reading::{name_at, read_texts};
 use crate::stops::Stop;
 use crate::streaming::tell_stream;
-use crate::advancing::Task;
 use crate::traces::plan_of;
 use crate::words::TableArguments;
 use crate::writing::tell_trace;

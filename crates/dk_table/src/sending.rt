@@ -5,12 +5,12 @@ ghost use Rattle.dk_table.specs.Pieces.{chunk_rows, held_rows};
 ghost use Rattle.dk_table.specs.Stops.{Gathers, Writes};
 ghost use Rattle.dk_table.specs.Streams.{first_refusal, row_steps, rows_before, rows_steps, told_steps};
 
+use crate::checked::is_body;
 use crate::command::Command;
 use crate::faults::{Refusal, TableWhy};
 use crate::held::Chunk;
 use crate::rows::Rows;
 use crate::stages::Body;
-use crate::checked::is_body;
 use crate::stops::Stop;
 use crate::traces::is_told;
 use crate::writing::{Gathered, tell_row, write_gathered};

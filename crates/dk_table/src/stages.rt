@@ -3,8 +3,8 @@ ghost use Rattle.std.specs.Prelude.{◌≡◌};
 ghost use Rattle.dk_table.specs.Forms.{form_of};
 
 use crate::columns::ColumnKind;
-use crate::judging::Judge;
 use crate::held::Chunk;
+use crate::judging::Judge;
 use crate::traces::Plan;
 use crate::writing::Form;
 use dk_base::{List, Text};

@@ -10,12 +10,12 @@ ghost use Rattle.dk_table.specs.Stages.{IsAt};
 ghost use Rattle.dk_table.specs.Stops.{Writes};
 ghost use Rattle.dk_table.specs.Streams.{ended_stream, rows_stream};
 
+use crate::advancing::{Place, Task, begin_body, end_file, take_rows};
 use crate::faults::{Refusal, TableWhy};
 use crate::filling::{Filled, OpenFault, cut_rows, fill, open};
 use crate::reading::name_at;
 use crate::stages::Stage;
 use crate::stops::Stop;
-use crate::advancing::{Place, Task, begin_body, end_file, take_rows};
 use dk_arguments::Word;
 use dk_base::Text;
 use dk_io::{Inputs, Sinks};

@@ -170,7 +170,11 @@ fn made_names(alloc: Global, count: usize) -> Result<List<Text>, NoMemory>
 }
 
 /// The names of the columns by the first row.
-pub(crate) fn names_by(alloc: Global, has_header: bool, rows: &Rows<'_>) -> Result<List<Text>, NoMemory>
+pub(crate) fn names_by(
+    alloc: Global,
+    has_header: bool,
+    rows: &Rows<'_>,
+) -> Result<List<Text>, NoMemory>
     ensures { IfOk result (λ names. names ≡ names_by has_header rows.now.row.cells) }
 {
     if has_header {

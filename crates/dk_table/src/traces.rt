@@ -121,7 +121,11 @@ pub(crate) fn are_named(alloc: Global, decl: &PointDecl) -> Result<bool, NoMemor
 }
 
 // Whether each cell writes a value of its column's kind. Digits of decimals are put into `digits`.
-pub(crate) fn is_told(kinds: &[ColumnKind], rows: &Rows<'_>, digits: &mut Vec<u8>) -> Result<bool, NoMemory>
+pub(crate) fn is_told(
+    kinds: &[ColumnKind],
+    rows: &Rows<'_>,
+    digits: &mut Vec<u8>,
+) -> Result<bool, NoMemory>
     ensures { IfOk result (λ is. is ≡ is_told kinds.now rows.now.row) }
 {
     for i in 0..kinds.len().min(rows.len()) {

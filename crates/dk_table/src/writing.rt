@@ -102,7 +102,11 @@ fn headings_of(
     Ok(headings)
 }
 
-pub(crate) fn form_of(alloc: Global, decl: &PointDecl, kinds: &[ColumnKind]) -> Result<Form, NoMemory>
+pub(crate) fn form_of(
+    alloc: Global,
+    decl: &PointDecl,
+    kinds: &[ColumnKind],
+) -> Result<Form, NoMemory>
     ensures { IfOk result (λ form. form ≡ form_of decl.now kinds.now) }
 {
     Ok(Form {

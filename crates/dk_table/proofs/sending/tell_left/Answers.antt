@@ -59,6 +59,9 @@ returns-in_err-tell_next g c =
     let whole : Option Refusal = first_refusal (told_steps kinds (rows_steps header body.names c.args.rows.now.left)) in
     let p = err_from_is_err_and c.from_residual-in_err-tell_next.result c.from_residual-in_err-tell_next.ensures.1 in
     rw (p.1, p.2)
-    (record { told = gathered_stop _ text (rows_text body.form (rows_before (told_steps kinds own))) (behind body.form kinds all own rest is text) (rows_text body.form (rows_before (told_steps kinds all)))
-    (first_refusal (told_steps kinds own)) whole _ _ _ _ _ _ (parts_told body.form kinds all own rest is text) c.rows.invariant.told (Unit {0}) ℕ c.in_err-tell_next.field-0.0 _
-    (refused_ahead body.form kinds all own rest is text whole c.rows.invariant.refused) c.in_err-tell_next.ensures; counted = tt })
+    (record {
+      told = gathered_stop _ text (rows_text body.form (rows_before (told_steps kinds own))) (behind body.form kinds all own rest is text) (rows_text body.form (rows_before (told_steps kinds all)))
+          (first_refusal (told_steps kinds own)) whole _ _ _ _ _ _ (parts_told body.form kinds all own rest is text) c.rows.invariant.told (Unit {0}) ℕ c.in_err-tell_next.field-0.0 _
+          (refused_ahead body.form kinds all own rest is text whole c.rows.invariant.refused) c.in_err-tell_next.ensures;
+      counted = tt;
+    })

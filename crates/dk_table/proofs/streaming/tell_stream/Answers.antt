@@ -17,8 +17,11 @@ loop-file-preserved g c =
     (g.S.Sinks.written c.args.sinks.now) (g.S.Sinks.written c.loop-file.sinks) (g.S.Sinks.faults c.args.sinks.now) (g.S.Sinks.faults c.loop-file.sinks)) (sym files) b in
     let (bytes, next) = c.in_ok-stage.ensures.goes contents (g.S.Sinks.written c.args.sinks.now) (g.S.Sinks.faults c.args.sinks.now) since c.loop-file.invariant.later on in
     record {
-      behind = (contents ++ bytes ∷ [], subst (λ (f : List ℕ → HeldFile). AreBehind c.args.task.now.command.now c.args.task.now.point.now c.args.task.now.types c.args.names.now f (c.loop-file.file + 1) (contents ++ bytes ∷ []) c.in_ok-stage.stage
-          (g.S.Sinks.written c.args.sinks.now) (g.S.Sinks.written c.read_file.new.sinks) (g.S.Sinks.faults c.args.sinks.now) (g.S.Sinks.faults c.read_file.new.sinks)) files next);
+      behind = (
+        contents ++ bytes ∷ [],
+        subst (λ (f : List ℕ → HeldFile). AreBehind c.args.task.now.command.now c.args.task.now.point.now c.args.task.now.types c.args.names.now f (c.loop-file.file + 1) (contents ++ bytes ∷ []) c.in_ok-stage.stage
+            (g.S.Sinks.written c.args.sinks.now) (g.S.Sinks.written c.read_file.new.sinks) (g.S.Sinks.faults c.args.sinks.now) (g.S.Sinks.faults c.read_file.new.sinks)) files next,
+      );
       files = c.in_ok-stage.ensures.files ∙ files;
       later = omega (arith, c.loop-file.invariant.later, c.in_ok-stage.ensures.later);
     }
