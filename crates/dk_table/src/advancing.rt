@@ -11,17 +11,17 @@ ghost use Rattle.dk_table.specs.Streams.{end_steps, row_steps, rows_steps, rows_
 ghost use Rattle.dk_table.specs.Traces.{declaration_of};
 ghost use Rattle.dk_table.specs.declared.stages.Stage.TheVariants as stages;
 
-use crate::checked::is_body;
 use crate::command::Command;
 use crate::faults::{Refusal, TableFault, TableWhy};
 use crate::file_bytes::FileBytes;
 use crate::held::Chunk;
 use crate::judging::Judge;
 use crate::rows::Rows;
-use crate::sending::{tell_chunk, tell_held};
 use crate::stages::{Body, Front, Stage};
+use crate::checked::is_body;
 use crate::stops::Stop;
 use crate::tables::{are_paired, names_by};
+use crate::sending::{tell_chunk, tell_held};
 use crate::traces::{Plan, are_named, declaration_of};
 use crate::writing::{begun, form_of, write_gathered};
 use dk_base::{List, NoMemory, Text};
