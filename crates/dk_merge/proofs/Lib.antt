@@ -3,7 +3,7 @@ pub mod Held
 pub mod Taking
 pub mod Ending
 pub mod TurnsRuns
-pub mod StateRuns
+pub mod StateReports
 pub mod Saying
 pub mod Complete
 pub mod Histories

@@ -24,7 +24,7 @@ use Rattle.dk_merge.proofs.Held.{held_whole}
 use Rattle.dk_merge.proofs.Taking.{helds_length}
 use Rattle.dk_merge.proofs.TurnsRuns.{no_message, one_message}
 use Rattle.dk_merge.specs.Ending.{EndsAmong}
-use Rattle.dk_merge.specs.Gathering.{AreReadTo, FaultAtGives, HoldsAll, IsRefusedAt, IsUnreadAt, turns_by}
+use Rattle.dk_merge.specs.Gathering.{AreReadTo, FaultAtGives, HoldsAll, IsRefusedAt, IsUnreadAt, state_of, turns_by}
 use Rattle.dk_merge.specs.Merged.{AreMergedTo}
 use Rattle.dk_merge.specs.Outputs.{IsDoneFront, IsDoneOutput, IsMergedFront, IsMergedOutput, IsStateFront, IsStateOutput, turns_fault, turns_output}
 use Rattle.dk_merge.specs.Running.{GatheredEnds, TurnsEnd}
@@ -133,7 +133,7 @@ module _ (command : Command) (before after : Outside) (result : Ended) (read : A
 
   gathered_says_of : (k : Gathered) → turns_by k ≡ command.turns → ((contents : List (List ℕ)) → AreHeldFiles (helds_of command before.file) contents → HoldsAll contents k)
       → GatheredEnds command.least k before.written after.written before.write_faults after.write_faults result → Says result (Some (Run command)) before after
-  gathered_says_of (State state) turns holds ends = state_says state (sym turns) holds ends
+  gathered_says_of (State states) turns holds ends = state_says (state_of states) (sym turns) holds ends
   gathered_says_of (Traces n files) turns holds ends = turns_says n files (sym turns) holds ends
 
 pub gathered_says : (command : Command) (before after : Outside) (g : Gathering) (result : Ended) → AreReadTo command before.file before.rest after.rest g (length command.files)

@@ -11,8 +11,8 @@ use Rattle.dk_driver.specs.declared.fault.FileFault.{FileFault}
 use Rattle.dk_driver.specs.declared.fault.FileFault.TheVariants.{Refused, Start, Read, NoMemory}
 use Rattle.dk_driver.proofs.Running.{rose_since}
 use Rattle.dk_merge.proofs.Held.{held_map, none_held, one_more, there_more}
-use Rattle.dk_merge.proofs.Merging.{holds_more, not_start, not_unread, refused_reason, sound_more, taken_of, turns_kept}
-use Rattle.dk_merge.specs.Gathering.{AreReadTo, HasTaken, HoldsAll, IsRefusedAt, IsSound, NotTaken, TakesFile, FaultAtGives, turns_by}
+use Rattle.dk_merge.proofs.Merging.{holds_more, not_start, not_unread, refused_reason, taken_of, turns_kept}
+use Rattle.dk_merge.specs.Gathering.{AreReadTo, HasTaken, HoldsAll, IsRefusedAt, NotTaken, TakesFile, FaultAtGives, state_of, turns_by}
 use Rattle.dk_merge.specs.Merged.{AreTaken, IsNoStateOf, IsReason, IsRefusedBehind, bytes_in, whole_limit}
 use Rattle.dk_merge.specs.Statuses.{helds_of}
 use Rattle.dk_merge.specs.declared.gathered.Gathered.{Gathered}
@@ -24,11 +24,10 @@ pub helds_length : (command : Command) (file : List ℕ → HeldFile) → length
 helds_length command file = length-map command.files file
 
 -- ---- no file
-pub read_none : (command : Command) (file : List ℕ → HeldFile) (rest : Option (List ℕ)) (g : Gathering) → turns_by g.gathered ≡ command.turns → IsSound g.gathered → HoldsAll [] g.gathered → g.room ≡ whole_limit
+pub read_none : (command : Command) (file : List ℕ → HeldFile) (rest : Option (List ℕ)) (g : Gathering) → turns_by g.gathered ≡ command.turns → HoldsAll [] g.gathered → g.room ≡ whole_limit
     → AreReadTo command file rest rest g 0
-read_none command file rest g turns sound nothing room = record {
+read_none command file rest g turns nothing room = record {
   turns = turns;
-  sound = sound;
   there = λ k h. absurd (omega (arith, h));
   clean = λ k contents h held.
       let first : k ≡ 0 = omega (arith, h) in
@@ -65,7 +64,6 @@ module _ (command : Command) (file : List ℕ → HeldFile) (before mid after : 
       let turns = turns_kept g.gathered next.gathered taken.text taken.taken ∙ read.turns in
       record {
         turns = turns;
-        sound = sound_more g.gathered next.gathered taken.text taken.taken;
         there = there_more (helds_of command file) place read.there (λ absent. taken.whole.there (sym here ∙ absent));
         clean = λ k contents h held. elim (cases_lt place k) [
           | inl more ↦
@@ -90,8 +88,8 @@ module _ (command : Command) (file : List ℕ → HeldFile) (before mid after : 
   }
 
   no_state : (turns : Option ℕ) (contents : List (List ℕ)) (own : List ℕ) (line : ℕ) (why : Why) (k : Gathered) → turns_by k ≡ turns → HoldsAll contents k → TakesFile k own (Err (Refused line why)) → IsNoStateOf turns contents own why
-  no_state None contents own line why (State state) turns holds none = (state, holds, none.1)
-  no_state (Some n) contents own line why (State state) turns holds none = absurd (cc turns)
+  no_state None contents own line why (State states) turns holds none = (state_of states, holds, none.1)
+  no_state (Some n) contents own line why (State states) turns holds none = absurd (cc turns)
   no_state None contents own line why (Traces n files) turns holds none = absurd none
   no_state (Some m) contents own line why (Traces n files) turns holds none = absurd none
 

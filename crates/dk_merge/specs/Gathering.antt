@@ -1,5 +1,5 @@
 -- What is kept of the files that were read.
-use Rattle.std.specs.Prelude.{◌≡◌, ◌≢◌, ◌<◌, ◌⊎◌, ◌+◌, ◌-◌, ◌++◌, ℕ, List, [], ◌∷◌, take, length, IfSome, Option, Some, None, Result, Ok, Err}
+use Rattle.std.specs.Prelude.{◌≡◌, ◌≢◌, ◌<◌, ◌⊎◌, ◌+◌, ◌-◌, ◌++◌, ℕ, List, [], ◌∷◌, take, length, Option, Some, None, option_map, Result, Ok, Err}
 use Rattle.dk_base.specs.declared.why.Why.{Why}
 use Rattle.dk_base.specs.declared.why.Why.TheVariants.{BadState, DifferentState, JoinedState}
 use Rattle.dk_io.specs.Outside.{HeldFile, Absent, Holds}
@@ -9,7 +9,8 @@ use Rattle.dk_driver.specs.Files.{AreHeldFiles}
 use Rattle.dk_driver.specs.Reads.{AtStart, Break, HasBroken, Within, held_file_at, rest_behind}
 use Rattle.dk_driver.specs.declared.fault.FileFault.{FileFault}
 use Rattle.dk_driver.specs.declared.fault.FileFault.TheVariants.{Refused, Start, Read, NoMemory}
-use Rattle.dk_state.specs.Spelling.{IsSpelling}
+use Rattle.dk_merging.specs.Loading.{text_of}
+use Rattle.dk_state.specs.declared.loading.Loaded.{Loaded}
 use Rattle.dk_merge.specs.Merged.{AreMergedTo, IsNoState, IsReason, IsRefusedBehind, IsStateBehind, bytes_in, whole_limit}
 use Rattle.dk_merge.specs.Reading.{IsWhole, UnreadGives, refused_whole}
 use Rattle.dk_merge.specs.Statuses.{AreClean, UnreadLeaves, helds_of}
@@ -20,19 +21,18 @@ use Rattle.dk_merge.specs.declared.gathering.Untaken.{Untaken}
 use Rattle.dk_merge_words.specs.declared.command.Command.{Command}
 
 -- ---- one file more
+-- the state file of what states say together, if there are any
+abbrev pub state_of : Option Loaded → Option (List ℕ)
+state_of states = option_map text_of states
+
 -- how many blocks are taken in turn, of traces
 abbrev pub turns_by : Gathered → Option ℕ
 turns_by (State state) = None
 turns_by (Traces n files) = Some n
 
--- the state is one
-abbrev pub IsSound : Gathered → Type 0
-IsSound (State state) = IfSome state IsSpelling
-IsSound (Traces n files) = Unit {0}
-
 -- it is that of files of these contents
 abbrev pub HoldsAll : List (List ℕ) → Gathered → Type 0
-HoldsAll contents (State state) = AreMergedTo contents state
+HoldsAll contents (State states) = AreMergedTo contents (state_of states)
 HoldsAll contents (Traces n files) = files ≡ contents
 
 abbrev pub fault_of_merge : MergeFault → FileFault
@@ -42,20 +42,25 @@ fault_of_merge merge.Different = refused_whole DifferentState
 fault_of_merge merge.Joined = refused_whole JoinedState
 fault_of_merge merge.NoMemory = NoMemory
 
--- the state behind one more file, or why there is none
-abbrev pub StateGives : Option (List ℕ) → List ℕ → Result (List ℕ) FileFault → Type 0
-StateGives before file (Ok state) = IsStateBehind before file state
-StateGives before file (Err (Refused line why)) = (line ≡ 0) × IsNoState before file why
-StateGives before file (Err NoMemory) = Unit {0}
-StateGives before file (Err fault) = ⊥
+-- why there is no state behind one more file
+abbrev pub FaultGives : Option (List ℕ) → List ℕ → FileFault → Type 0
+FaultGives before file (Refused line why) = (line ≡ 0) × IsNoState before file why
+FaultGives before file NoMemory = Unit {0}
+FaultGives before file fault = ⊥
 
--- what is kept behind one more file
+-- what states say together behind one more file, or the fault of that
+abbrev pub StatesGive : Option Loaded → List ℕ → Result Loaded MergeFault → Type 0
+StatesGive before file (Ok states) = IsStateBehind (state_of before) file (text_of states)
+StatesGive before file (Err fault) = FaultGives (state_of before) file (fault_of_merge fault)
+
+-- what is kept behind one more file, or why there is no state
 abbrev pub TakesFile : Gathered → List ℕ → Result Gathered FileFault → Type 0
-TakesFile (State before) file (Ok next) = (state : List ℕ) × IsStateBehind before file state × (next ≡ State (Some state))
+TakesFile (State before) file (Ok next) =
+    (states : Loaded) × IsStateBehind (state_of before) file (text_of states) × (next ≡ State (Some states))
 TakesFile (Traces n files) file (Ok next) = next ≡ Traces n (files ++ file ∷ [])
-TakesFile (State before) file (Err (Refused line why)) = (line ≡ 0) × IsNoState before file why
-TakesFile gathered file (Err NoMemory) = Unit {0}
-TakesFile gathered file (Err fault) = ⊥
+TakesFile (State before) file (Err fault) = FaultGives (state_of before) file fault
+TakesFile (Traces n files) file (Err NoMemory) = Unit {0}
+TakesFile (Traces n files) file (Err fault) = ⊥
 
 -- A file was read whole and taken.
 pub record HasTaken (old new : Gathering) (held : HeldFile) (rest : Option (List ℕ)) : Type 0 where
@@ -75,7 +80,6 @@ NotTaken old held rose before rest fault =
 pub record AreReadTo (command : Command) (file : List ℕ → HeldFile) (before rest : Option (List ℕ)) (g : Gathering) (place : ℕ)
     : Type 0 where
   pub turns : turns_by g.gathered ≡ command.turns
-  pub sound : IsSound g.gathered
   pub there : (k : ℕ) → k < place → held_file_at (helds_of command file) k ≢ Absent
   pub clean : AreClean command file place
   pub holds : (contents : List (List ℕ)) → AreHeldFiles (take place (helds_of command file)) contents

@@ -1,4 +1,4 @@
--- What follows when all files were read: a run of daikon over one text.
+-- What follows when all files were read: the report of states that are joined, or a run of daikon over one text.
 use Rattle.std.specs.Prelude.{◌≡◌, ℕ, List, [], ◌∷◌}
 use Rattle.std.specs.Io.{StartsWith}
 use Rattle.std.specs.Option.{option_map_or}
@@ -14,6 +14,7 @@ use Rattle.dk_run.specs.declared.status.Status.{Status}
 use Rattle.dk_run.specs.declared.status.Status.TheVariants as status
 use Rattle.dk_turns.specs.Turns.{turns_of}
 use Rattle.dk_merge.specs.Ending.{EndsAmong}
+use Rattle.dk_merge.specs.Gathering.{state_of}
 use Rattle.dk_merge.specs.Outputs.{IsMergedFront, IsMergedOutput, IsStateFront, IsStateOutput, plain_command, turns_fault, turns_output}
 use Rattle.dk_merge.specs.declared.gathered.Gathered.{Gathered}
 use Rattle.dk_merge.specs.declared.gathered.Gathered.TheVariants.{State, Traces}
@@ -61,5 +62,5 @@ TurnsEnd least text =
 
 -- ---- what was gathered
 abbrev pub GatheredEnds : ℕ → Gathered → Texts → Texts → ℕ → ℕ → Ended → Type 0
-GatheredEnds least (State state) = EndsAmong ended.Done (IsMergedOutput least state) (IsMergedFront least state)
+GatheredEnds least (State states) = EndsAmong ended.Done (IsMergedOutput least (state_of states)) (IsMergedFront least (state_of states))
 GatheredEnds least (Traces n files) = TurnsEnd least (turns_of n files)

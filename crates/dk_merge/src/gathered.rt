@@ -1,20 +1,18 @@
 // What is kept of files that were read: the state that they come to, or they themselves.
-ghost use Rattle.std.specs.Prelude.{◌≡◌, [], IfOk, IfSome, None, Some};
-ghost use Rattle.dk_merge.specs.Gathering.{HoldsAll, IsSound, StateGives, TakesFile, fault_of_merge, turns_by};
-ghost use Rattle.dk_state.specs.Spelling.{IsSpelling};
+ghost use Rattle.std.specs.Prelude.{◌≡◌, [], None, Some};
+ghost use Rattle.dk_merge.specs.Gathering.{HoldsAll, StatesGive, TakesFile, fault_of_merge, turns_by};
 
 use crate::reading::refused_whole;
 use dk_base::{List, NoMemory, Text, Why};
 use dk_driver::FileFault;
-use dk_merging::{MergeFault, merge_two};
-use dk_state::{LoadFault, load};
+use dk_merging::{JoinedStates, MergeFault};
 use std::alloc::Global;
 
 /// What is kept of files.
 #[derive(Drop)]
 pub(crate) enum Gathered {
-    /// Of states the one that they come to, merged from the left; none of no files.
-    State(Option<Text>),
+    /// Of states what they say together, merged from the left; nothing of no files.
+    State(Option<JoinedStates>),
     /// Of traces all, and how many blocks of each are taken in turn.
     Traces(u64, List<Text>),
 }
@@ -31,36 +29,31 @@ fn fault_of_merge(fault: MergeFault) -> FileFault
     }
 }
 
-// The first state, which is the file's own.
-fn first_state(alloc: Global, file: Text) -> Result<Text, FileFault>
-    ensures { StateGives None file result }
-{
-    match load(alloc, file.as_slice()) {
-        Ok(_) => Ok(file),
-        Err(LoadFault::BadState) => Err(refused_whole(Why::BadState)),
-        Err(LoadFault::NoMemory) => Err(FileFault::NoMemory),
-    }
-}
-
-// The state of those in front and of one more.
-fn merged_state(alloc: Global, before: &[u8], file: &[u8]) -> Result<Text, FileFault>
-    requires { IsSpelling before.now }
-    ensures { StateGives (Some before.now) file.now result }
-{
-    match merge_two(alloc, before, file) {
-        Ok(state) => Ok(state),
-        Err(fault) => Err(fault_of_merge(fault)),
-    }
-}
-
-// The state behind one more file.
-fn state_behind(alloc: Global, before: Option<Text>, file: Text) -> Result<Text, FileFault>
-    requires { IfSome before IsSpelling }
-    ensures { StateGives before file result }
+// What the states in front and one more say together.
+fn states_behind(
+    alloc: Global,
+    before: Option<JoinedStates>,
+    file: &[u8],
+) -> Result<JoinedStates, MergeFault>
+    ensures { StatesGive before file.now result }
 {
     match before {
-        None => first_state(alloc, file),
-        Some(before) => merged_state(alloc, before.as_slice(), file.as_slice()),
+        None => JoinedStates::of(alloc, file),
+        Some(before) => before.with(alloc, file),
+    }
+}
+
+// The same, with the fault of the file.
+fn with_state(
+    alloc: Global,
+    before: Option<JoinedStates>,
+    file: &[u8],
+) -> Result<Gathered, FileFault>
+    ensures { TakesFile (Gathered.State before) file.now result }
+{
+    match states_behind(alloc, before, file) {
+        Ok(states) => Ok(Gathered::State(Some(states))),
+        Err(fault) => Err(fault_of_merge(fault)),
     }
 }
 
@@ -79,7 +72,6 @@ impl Gathered {
     /// Of no files: of states, or of traces, so many blocks of each of which are taken in turn.
     pub(crate) fn nothing(alloc: Global, turns: Option<u64>) -> Gathered
         ensures turns { turns_by result ≡ turns }
-        ensures sound { IsSound result }
         ensures nothing { HoldsAll [] result }
     {
         match turns {
@@ -90,14 +82,10 @@ impl Gathered {
 
     /// With one more file.
     pub(crate) fn with(self, alloc: Global, file: Text) -> Result<Gathered, FileFault>
-        requires { IsSound self }
         ensures { TakesFile self file result }
     {
         match self {
-            Gathered::State(before) => {
-                let state = state_behind(alloc, before, file)?;
-                Ok(Gathered::State(Some(state)))
-            }
+            Gathered::State(before) => with_state(alloc, before, file.as_slice()),
             Gathered::Traces(n, files) => with_trace(n, files, file),
         }
     }

@@ -2,7 +2,7 @@
 ghost use Rattle.std.specs.Prelude.{◌≡◌, ◌≤◌, ◌<◌, IfErr, IfOk, length};
 ghost use Rattle.dk_io.specs.Outside.{Rose};
 ghost use Rattle.dk_driver.specs.Files.{file_name_at};
-ghost use Rattle.dk_merge.specs.Gathering.{FilesGive, HasTaken, IsSound, NotTaken};
+ghost use Rattle.dk_merge.specs.Gathering.{FilesGive, HasTaken, NotTaken};
 
 use crate::gathered::Gathered;
 use crate::reading::read_whole;
@@ -36,7 +36,6 @@ fn take_file<I: Inputs>(
     name: &str,
     inputs: &mut I,
 ) -> Result<Gathering, FileFault>
-    requires { IsSound gathering.gathered }
     ensures taken { IfOk result (λ next. HasTaken gathering next (I.file inputs.old name.now) (I.rest inputs.new)) }
     ensures fault { IfErr result (NotTaken gathering (I.file inputs.old name.now) (Rose (I.faults inputs.old) (I.faults inputs.new)) (I.rest inputs.old) (I.rest inputs.new)) }
     ensures files { I.file inputs.new ≡ I.file inputs.old }

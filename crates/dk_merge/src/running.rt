@@ -1,7 +1,6 @@
-// Runs of daikon over one text in memory.
-ghost use Rattle.std.specs.Prelude.{◌≡◌, ◌≤◌, ◌∷◌, [], IfOk, None, Some, false, true, length};
-ghost use Rattle.dk_run.specs.Courses.{total_limit};
-ghost use Rattle.dk_state.specs.Spelling.{IsSpelling};
+// Reports of states that are joined, and runs of daikon over one text in memory.
+ghost use Rattle.std.specs.Prelude.{◌≡◌, ◌∷◌, [], IfOk, true};
+ghost use Rattle.dk_merging.specs.Loading.{text_of};
 ghost use Rattle.dk_merge.specs.Outputs.{plain_command};
 ghost use Rattle.dk_merge.specs.Running.{ReportEnds, TurnsEnd, ended_of, holding};
 
@@ -9,7 +8,8 @@ use dk_arguments::Word;
 use dk_base::{List, NoMemory, Text};
 use dk_events::Ended;
 use dk_io::{Sinks, SteadyInputs};
-use dk_run::{Status, run_command};
+use dk_merging::JoinedStates;
+use dk_run::{Status, report_loaded, run_command};
 use dk_words::Command;
 use std::alloc::Global;
 
@@ -27,8 +27,8 @@ fn holding(alloc: Global, name: &str, text: Text) -> Result<SteadyInputs, NoMemo
 }
 
 // The command with this least number that asks for this, and for nothing else.
-fn command_with(least: u64, save: bool, resume: Option<Word>, files: List<Word>) -> Command
-    ensures { result ≡ record (plain_command least) { save = save; resume = resume; files = files } }
+fn command_with(least: u64, save: bool, files: List<Word>) -> Command
+    ensures { result ≡ record (plain_command least) { save = save; files = files } }
 {
     Command {
         least,
@@ -42,18 +42,17 @@ fn command_with(least: u64, save: bool, resume: Option<Word>, files: List<Word>)
         ignore_missing_entry: false,
         stats: false,
         save,
-        resume,
+        resume: None,
         generate: None,
         files,
     }
 }
 
-// The command that goes on from the state of this name.
-fn resuming(alloc: Global, least: u64, name: &str) -> Result<Command, NoMemory>
-    ensures { IfOk result (λ command. command ≡ record (plain_command least) { resume = Some name.now }) }
+// The command that reads no file and asks for the last report alone.
+fn reporting(alloc: Global, least: u64) -> Command
+    ensures { result ≡ plain_command least }
 {
-    let name = Word::from_str(alloc, name)?;
-    Ok(command_with(least, false, Some(name), List::new(alloc)))
+    command_with(least, false, List::new(alloc))
 }
 
 // The command that reads the file of this name and saves the state.
@@ -62,7 +61,7 @@ fn saving(alloc: Global, least: u64, name: &str) -> Result<Command, NoMemory>
 {
     let mut files = List::new(alloc);
     files.push(Word::from_str(alloc, name)?)?;
-    Ok(command_with(least, true, None, files))
+    Ok(command_with(least, true, files))
 }
 
 fn ended_of(status: Status) -> Ended
@@ -78,21 +77,17 @@ fn ended_of(status: Status) -> Ended
     }
 }
 
-/// Writes the last report of a state.
-pub(crate) fn report_state<S: Sinks>(alloc: Global, least: u64, state: Text, sinks: &mut S) -> Ended
-    requires spelled { IsSpelling state }
-    requires short { length state ≤ total_limit }
-    ensures { ReportEnds least state (S.written sinks.old) (S.written sinks.new) (S.faults sinks.old) (S.faults sinks.new) result }
+/// Writes the last report of what states say together.
+pub(crate) fn report_states<S: Sinks>(
+    alloc: Global,
+    least: u64,
+    states: JoinedStates,
+    sinks: &mut S,
+) -> Ended
+    ensures { ReportEnds least (text_of states) (S.written sinks.old) (S.written sinks.new) (S.faults sinks.old) (S.faults sinks.new) result }
 {
-    let command = match resuming(alloc, least, "state") {
-        Ok(command) => command,
-        Err(NoMemory) => return Ended::NoMemory,
-    };
-    let mut inputs = match holding(alloc, "state", state) {
-        Ok(inputs) => inputs,
-        Err(NoMemory) => return Ended::NoMemory,
-    };
-    ended_of(run_command(alloc, &command, &mut inputs, sinks))
+    let command = reporting(alloc, least);
+    ended_of(report_loaded(alloc, &command, states.into_loaded(), sinks))
 }
 
 /// Runs over the text as the one file `turns`: writes its report and its state, or its first fault.

@@ -1,34 +1,30 @@
 // Writing what a run comes to.
 ghost use Rattle.std.specs.Prelude.{◌≡◌, ◌≤◌, IfSome};
-ghost use Rattle.dk_state.specs.Spelling.{IsSpelling};
+ghost use Rattle.dk_merging.specs.Loading.{text_of};
 ghost use Rattle.dk_turns.specs.Turns.{turns_of};
-ghost use Rattle.dk_merge.specs.Gathering.{IsSound, turns_by};
+ghost use Rattle.dk_merge.specs.Gathering.{turns_by};
 ghost use Rattle.dk_merge.specs.Running.{GatheredEnds, StateEnds, TurnsEnd};
 
 use crate::gathered::Gathered;
-use crate::running::{report_state, run_over};
+use crate::running::{report_states, run_over};
 use dk_base::{List, NoMemory, Text};
 use dk_events::Ended;
 use dk_io::{Sinks, Stream};
-use dk_lines::Limits;
+use dk_merging::JoinedStates;
 use dk_program::end_with;
 use dk_turns::in_turns;
 use std::alloc::Global;
 
-// Writes the last report of a state, and behind it the state. One of more bytes than a run of daikon reads is answered as want of memory,
-// which would not hold it.
-fn tell_state<S: Sinks>(alloc: Global, least: u64, state: &[u8], sinks: &mut S) -> Ended
-    requires { IsSpelling state.now }
-    ensures { StateEnds least state.now (S.written sinks.old) (S.written sinks.new) (S.faults sinks.old) (S.faults sinks.new) result }
+// Writes the last report of what states say together, and behind it their state file.
+fn tell_states<S: Sinks>(alloc: Global, least: u64, states: JoinedStates, sinks: &mut S) -> Ended
+    ensures { StateEnds least (text_of states) (S.written sinks.old) (S.written sinks.new) (S.faults sinks.old) (S.faults sinks.new) result }
 {
-    if state.len() as u64 > Limits::STANDARD.total {
-        return Ended::NoMemory;
-    }
-    let copy = match Text::from_slice(alloc, state) {
-        Ok(copy) => copy,
+    let text = match states.text(alloc) {
+        Ok(text) => text,
         Err(NoMemory) => return Ended::NoMemory,
     };
-    match report_state(alloc, least, copy, sinks) {
+    let state = text.as_slice();
+    match report_states(alloc, least, states, sinks) {
         Ended::Done => end_with(sinks, Stream::State, state, Ended::Done),
         ended => ended,
     }
@@ -55,16 +51,15 @@ fn tell_turns<S: Sinks>(
 pub(crate) fn tell_gathered<S: Sinks>(
     alloc: Global,
     least: u64,
-    gathered: &Gathered,
+    gathered: Gathered,
     sinks: &mut S,
 ) -> Ended
-    requires sound { IsSound gathered.now }
-    requires turns { IfSome (turns_by gathered.now) (λ n. 1 ≤ n) }
-    ensures { GatheredEnds least gathered.now (S.written sinks.old) (S.written sinks.new) (S.faults sinks.old) (S.faults sinks.new) result }
+    requires { IfSome (turns_by gathered) (λ n. 1 ≤ n) }
+    ensures { GatheredEnds least gathered (S.written sinks.old) (S.written sinks.new) (S.faults sinks.old) (S.faults sinks.new) result }
 {
     match gathered {
         Gathered::State(None) => Ended::Done,
-        Gathered::State(Some(state)) => tell_state(alloc, least, state.as_slice(), sinks),
-        Gathered::Traces(n, traces) => tell_turns(alloc, least, *n, traces, sinks),
+        Gathered::State(Some(states)) => tell_states(alloc, least, states, sinks),
+        Gathered::Traces(n, traces) => tell_turns(alloc, least, n, &traces, sinks),
     }
 }

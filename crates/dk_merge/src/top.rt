@@ -40,7 +40,7 @@ fn run_command<I: Inputs, S: Sinks>(
     ensures files { I.file inputs.new ≡ I.file inputs.old }
 {
     match gather(alloc, command, inputs) {
-        Ok(gathering) => tell_gathered(alloc, command.least, &gathering.gathered, sinks),
+        Ok(gathering) => tell_gathered(alloc, command.least, gathering.gathered, sinks),
         Err(Untaken { place, fault }) => {
             let name = name_at(command.files.as_slice(), place);
             tell_file_fault(alloc, name, fault, sinks)

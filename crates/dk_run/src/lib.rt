@@ -4,6 +4,7 @@
 
 mod choosing;
 pub mod laws;
+mod loaded;
 mod messages;
 mod reading;
 mod reporting;
@@ -12,6 +13,7 @@ mod status;
 mod top;
 mod words;
 
+pub use loaded::report_loaded;
 pub use status::Status;
 pub use top::{run, run_command, tell_usage};
 pub use words::words_of;

@@ -7,11 +7,13 @@ ghost use Rattle.dk_core.specs.Sections.{all_stats_of, report_of, section_of, st
 ghost use Rattle.dk_core.specs.Selecting.{SelectsBy};
 ghost use Rattle.dk_core.specs.Standing.{SessionStandsFor, blocks_of, points_of, select_of};
 ghost use Rattle.dk_run.specs.Commands.{is_selected, report_options};
+ghost use Rattle.dk_run.specs.Ending.{status_of};
 ghost use Rattle.dk_print.specs.Sections.{after_blocks_line as blocks_text, end_line as end_text};
 ghost use Rattle.dk_run.specs.Reports.{is_due, whole_report};
 ghost use Rattle.dk_run.specs.Telling.{ReportsBy, StateTells, TellsOutcome, WritesText};
 
 use crate::messages::{after_blocks_line, end_line};
+use crate::status::Status;
 use dk_base::{PointId, Text};
 use dk_core::Session;
 use dk_io::{Failed, Sinks, Stream, write_all};
@@ -23,6 +25,16 @@ use std::alloc::Global;
 pub(crate) enum Halt {
     Write,
     NoMemory,
+}
+
+/// The status of a run that halts so.
+pub(crate) fn status_of(halt: Halt) -> Status
+    ensures { result ≡ status_of halt }
+{
+    match halt {
+        Halt::Write => Status::Write,
+        Halt::NoMemory => Status::NoMemory,
+    }
 }
 
 /// Writes a text.

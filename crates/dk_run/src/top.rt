@@ -11,7 +11,7 @@ ghost use Rattle.dk_arguments.specs.declared.request.Request.TheVariants as requ
 ghost use Rattle.dk_run.specs.AllFiles.{AreCalmBut, IsCaused, IsTroubleOf, RunGives};
 ghost use Rattle.dk_run.specs.Commands.{file_names, helds_of, is_selected as selects_name};
 ghost use Rattle.dk_run.specs.Beginning.{HasCome, IsBegun};
-ghost use Rattle.dk_run.specs.Ending.{EndsBy, EndsUnbegun, EndsWith, status_of as status_by};
+ghost use Rattle.dk_run.specs.Ending.{EndsBy, EndsUnbegun, EndsWith};
 ghost use Rattle.dk_print.specs.Sections.{fault_line as fault_text};
 ghost use Rattle.dk_run.specs.Messages.{unread_line as unread_text};
 ghost use Rattle.dk_run.specs.Outputs.{first_line};
@@ -21,7 +21,7 @@ ghost use Rattle.dk_run.specs.Telling.{Added, ReportsBy, WritesText};
 use crate::choosing::{is_selected, name_at, state_name};
 use crate::messages::unread_line;
 use crate::reading::{FilesTrouble, read_files, read_generated};
-use crate::reporting::{Halt, tell_last, tell_state, write};
+use crate::reporting::{Halt, status_of, tell_last, tell_state, write};
 use crate::starting::{Beginning, StartTrouble, begin};
 use crate::status::Status;
 use dk_arguments::{ArgumentsFault, Request};
@@ -115,15 +115,6 @@ fn tell_unbegun<S: Sinks>(
         StartTrouble::Start => tell_unread(alloc, state_name(command), sinks),
         StartTrouble::Read => tell_unread(alloc, state_name(command), sinks),
         StartTrouble::NoMemory => Status::NoMemory,
-    }
-}
-
-fn status_of(halt: Halt) -> Status
-    ensures { result ≡ status_by halt }
-{
-    match halt {
-        Halt::Write => Status::Write,
-        Halt::NoMemory => Status::NoMemory,
     }
 }
 

@@ -9,7 +9,7 @@ pub loop-place-init : goal.loop-place-init
 loop-place-init g c = record {
   files = refl;
   later = omega arith;
-  goes = read_none c.args.command.now (g.I.Inputs.file c.args.inputs.now) (g.I.Inputs.rest c.args.inputs.now) (record { gathered = c.nothing.result; room = 1073741824 }) c.nothing.ensures.turns c.nothing.ensures.sound c.nothing.ensures.nothing refl;
+  goes = read_none c.args.command.now (g.I.Inputs.file c.args.inputs.now) (g.I.Inputs.rest c.args.inputs.now) (record { gathered = c.nothing.result; room = 1073741824 }) c.nothing.ensures.turns c.nothing.ensures.nothing refl;
 }
 
 pub loop-place-preserved : goal.loop-place-preserved

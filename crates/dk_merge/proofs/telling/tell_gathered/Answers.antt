@@ -14,5 +14,5 @@ no_files least g old faults is = subst (λ (k : Gathered). GatheredEnds least k 
 
 pub returns-in-State-None : goal.returns-in-State-None
 returns-in-State-None g c =
-    let is : c.args.gathered.now ≡ State None = search rules in
-    no_files c.args.least c.args.gathered.now _ _ is
+    let is : c.args.gathered ≡ State None = search rules in
+    no_files c.args.least c.args.gathered _ _ is
