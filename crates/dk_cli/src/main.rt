@@ -1,18 +1,30 @@
 //! The command `daikon`: it reads a file of declarations and records, and reports what holds of the variables of its points.
 #![tactic(auto)]
 
-use dk_host::{FileInputs, HostSinks};
-use dk_run::{Status, run, tell_usage, words_of};
-use std::io::ErrorKind;
+use dk_events::Ended;
+use dk_io::{Inputs, Sinks};
+use dk_main::{Main, run_main};
+use dk_run::{run, tell_usage};
+use std::alloc::Global;
 use std::process::ExitCode;
 
+struct Daikon;
+
+impl Main for Daikon {
+    fn run<I: Inputs, S: Sinks>(
+        alloc: Global,
+        words: &[String],
+        inputs: &mut I,
+        sinks: &mut S,
+    ) -> Ended {
+        run(alloc, words, inputs, sinks)
+    }
+
+    fn refuse<S: Sinks>(sinks: &mut S) -> Ended {
+        tell_usage(sinks)
+    }
+}
+
 fn main(rt: HostRuntime) -> ExitCode {
-    let mut inputs = FileInputs::new(&rt);
-    let mut sinks = HostSinks::new(&rt, rt.stdout(), rt.stderr());
-    let status = match words_of(&rt) {
-        Ok(words) => run(rt.alloc(), words.as_slice(), &mut inputs, &mut sinks),
-        Err(error) if error.kind() == ErrorKind::InvalidData => tell_usage(&mut sinks),
-        Err(_) => Status::NoMemory,
-    };
-    ExitCode::from(sinks.finish(status.code()))
+    run_main::<Daikon, _, _, _>(&rt, rt.stdout(), rt.stderr())
 }

@@ -1,15 +1,14 @@
 -- The end of files is that of their course.
-use Rattle.std.proofs.Common.{◌≡◌, ◌∙◌, ◌+◌, ◌-◌, ℕ, Bool, List, [], ◌∷◌, Some, length, map, Result, Ok, Err, ap, refl}
+use Rattle.std.proofs.Common.{◌≡◌, ◌∙◌, ◌+◌, ◌-◌, ℕ, Bool, List, [], ◌∷◌, Some, length, Result, Ok, Err, ap, refl}
 use Rattle.dk_base.specs.Reading.{LineFault, Reads}
 use Rattle.dk_blocks.specs.Blocks.{Group, Groups, Last, groups_of}
 use Rattle.dk_blocks.specs.History.{History, Taken, effect_of, file_ended, no_history}
 use Rattle.dk_blocks.specs.Reading.{after_last}
 use Rattle.dk_lines.specs.Left.{lined}
-use Rattle.dk_driver.specs.Files.{FaultAt}
+use Rattle.dk_driver.specs.Files.{FaultAt, File}
 use Rattle.dk_driver.specs.Walks.{Walk, goes_on as walks_on, line_limit, then_files as then_walk, walk_end, walk_of, walk_of_files, walk_of_groups}
 use Rattle.dk_run.specs.Courses.{Course, course_of, course_of_file, course_of_files, course_of_groups, goes_on, then_files}
-use Rattle.dk_run.specs.Files.{File as CourseFile, FileFault}
-use Rattle.dk_ends.specs.Laws.{EndsAreOfCourses, as_end, as_file}
+use Rattle.dk_ends.specs.Laws.{EndsAreOfCourses}
 
 -- ---- within a file
 after_group : (ignores : Bool) (place : ℕ) (rest : Groups) (r : Result Taken LineFault)
@@ -27,19 +26,19 @@ same_groups ignores place read (Group ls close rest) = after_group ignores place
 same_groups ignores place read (Last ls end) = at_last place (after_last read ls end)
 
 -- ---- file after file
-after_file : (place : ℕ) (r : Result History LineFault) (more : History → Walk FaultAt) (other : History → Course FileFault)
-    → ((h : History) → (more h).end ≡ as_end (other h).end) → (then_walk place r more).end ≡ as_end (then_files place r other).end
+after_file : (place : ℕ) (r : Result History LineFault) (more : History → Walk FaultAt) (other : History → Course FaultAt)
+    → ((h : History) → (more h).end ≡ (other h).end) → (then_walk place r more).end ≡ (then_files place r other).end
 after_file place (Ok h) more other same = same h
 after_file place (Err fault) more other same = refl
 
-same_files : (ignores : Bool) (room : ℕ) (h : History) (place : ℕ) (files : List CourseFile)
-    → (walk_of_files ignores room h place (map as_file files)).end ≡ as_end (course_of_files ignores room h place files).end
+same_files : (ignores : Bool) (room : ℕ) (h : History) (place : ℕ) (files : List File)
+    → (walk_of_files ignores room h place files).end ≡ (course_of_files ignores room h place files).end
 same_files ignores room h place [] = refl
 same_files ignores room h place (file ∷ files) =
-    ap (λ (r : Result History LineFault). (then_walk place r (λ next. walk_of_files ignores (room - length file.bytes) (file_ended next) (place + 1) (map as_file files))).end)
+    ap (λ (r : Result History LineFault). (then_walk place r (λ next. walk_of_files ignores (room - length file.bytes) (file_ended next) (place + 1) files)).end)
     (same_groups ignores place (effect_of ignores h) (groups_of (lined line_limit room 0 file.is_ended file.bytes)))
     ∙ after_file place (course_of_file ignores room h file).end
-    (λ next. walk_of_files ignores (room - length file.bytes) (file_ended next) (place + 1) (map as_file files))
+    (λ next. walk_of_files ignores (room - length file.bytes) (file_ended next) (place + 1) files)
     (λ next. course_of_files ignores (room - length file.bytes) (file_ended next) (place + 1) files)
     (λ next. same_files ignores (room - length file.bytes) (file_ended next) (place + 1) files)
 

@@ -9,8 +9,7 @@ use Rattle.dk_io.specs.declared.outside.Stream.TheVariants.{State}
 use Rattle.dk_program.proofs.Writing.{known_nothing}
 use Rattle.dk_program.specs.Outputs.{IsFront, Output, texts_followed_by}
 use Rattle.dk_merge.specs.Ending.{EndsAmong}
-use Rattle.dk_run.specs.Outputs.{IsFront as RunIsFront, Output as RunOutput}
-use Rattle.dk_merge.specs.Outputs.{no_output, texts_of}
+use Rattle.dk_merge.specs.Outputs.{no_output}
 
 -- nothing was written
 pub followed_nothing : (old : Texts) → old ≡ texts_followed_by old no_output
@@ -38,7 +37,3 @@ followed_state old report text =
 
 pub only_report : (output : Output) → output.messages ≡ [] → output.state ≡ [] → output ≡ record { report = output.report; messages = []; state = [] }
 only_report output m s = λ i. record { report = output.report; messages = m i; state = s i }
-
--- ---- the texts of a run of daikon
-pub front_texts : (front output : RunOutput) → RunIsFront front output → IsFront (texts_of front) (texts_of output)
-front_texts front output is = record { report = is.report; messages = is.messages; state = is.state; in_order = is.in_order }

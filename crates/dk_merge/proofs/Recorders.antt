@@ -7,15 +7,15 @@ use Rattle.dk_recorders.proofs.Courses.{turns_do_not_matter}
 use Rattle.dk_recorders.proofs.Outputs.{turns_write_the_same}
 use Rattle.dk_recorders.specs.Laws.{TellsAtTheEnd, history_of}
 use Rattle.dk_recorders.specs.Recorders.{AreRecorders, text_by_file}
+use Rattle.dk_driver.specs.Files.{FaultAt}
 use Rattle.dk_run.specs.Courses.{fault_in}
-use Rattle.dk_run.specs.Files.{FileFault}
 use Rattle.dk_program.specs.Ending.{EndsWithoutRun}
 use Rattle.dk_program.specs.Moments.{IsCalm, Outside}
 use Rattle.dk_program.specs.Outputs.{Output, texts_followed_by}
 use Rattle.dk_turns.specs.Turns.{turns_of}
 use Rattle.dk_merge.proofs.Histories.{bytes_of_front}
 use Rattle.dk_merge.specs.Merged.{IsRefusedBehind, bytes_in, whole_limit}
-use Rattle.dk_merge.specs.Outputs.{IsDoneOutput, IsRefusedInTurns, IsRefusedOutput, texts_of, turns_command, turns_fault, turns_output}
+use Rattle.dk_merge.specs.Outputs.{IsDoneOutput, IsRefusedInTurns, IsRefusedOutput, turns_command, turns_fault, turns_output}
 use Rattle.dk_merge.specs.Recorders.{WritesAsWithoutTurns}
 use Rattle.dk_merge.specs.Statuses.{EndsAs, IsComplete}
 use Rattle.dk_merge_words.specs.Requests.{dk_merge}
@@ -36,7 +36,7 @@ none_refused command n contents output turns short refused = by (subst (λ (o : 
   by (inr (fits, none)) = none
 
 -- a text that is accepted has no fault
-no_fault : (text : List ℕ) (h : History) (fault : FileFault) → history_of text ≡ Ok h → turns_fault text ≡ Some fault → ⊥
+no_fault : (text : List ℕ) (h : History) (fault : FaultAt) → history_of text ≡ Ok h → turns_fault text ≡ Some fault → ⊥
 no_fault text h fault accepted first =
     let none : None ≡ Some fault = sym (ap fault_in accepted) ∙ first in
     absurd (cc none)
@@ -53,7 +53,7 @@ module _ (command : Command) (n : ℕ) (contents : List (List ℕ)) (h : History
   done_as_without : (output : Output) → IsDoneOutput command.turns command.least contents output → output ≡ turns_output command.least (text_by_file contents)
   done_as_without output done =
       let own : IsDoneOutput (Some n) command.least contents output = subst (λ (o : Option ℕ). IsDoneOutput o command.least contents output) turns done in
-      own.1 ∙ ap texts_of (turns_write_the_same (turns_command command.least) n contents h (tells_at_the_end command.least) some accepted are)
+      own.1 ∙ turns_write_the_same (turns_command command.least) n contents h (tells_at_the_end command.least) some accepted are
 
 written_of : (command : Command) (before after : Outside) (result : Ended) → IfSome command.turns (λ n. 1 ≤ n) → (IsCalm before after → IsComplete command before after result)
     → WritesAsWithoutTurns (Some (Run command)) before after result

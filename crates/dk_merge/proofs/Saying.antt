@@ -8,7 +8,7 @@ use Rattle.dk_io.specs.Outside.{Rose}
 use Rattle.dk_io.specs.declared.outside.Stream.TheVariants.{Messages}
 use Rattle.dk_arguments.specs.declared.request.Request.{Request}
 use Rattle.dk_arguments.specs.declared.request.Request.TheVariants.{Run}
-use Rattle.dk_driver.specs.Files.{AreHeldFiles, file_name_at}
+use Rattle.dk_driver.specs.Files.{AreHeldFiles, FaultAt as LineOfFile, file_name_at}
 use Rattle.dk_driver.specs.Reads.{AtStart, Break, Within}
 use Rattle.dk_driver.specs.declared.fault.FileFault.{FileFault}
 use Rattle.dk_driver.specs.declared.fault.FileFault.TheVariants as f
@@ -18,7 +18,6 @@ use Rattle.dk_program.specs.Messages.{fault_line, unread_line}
 use Rattle.dk_program.specs.Moments.{Outside}
 use Rattle.dk_program.specs.Outputs.{IsFront, Output, only_on}
 use Rattle.dk_program.specs.Statuses.{OutputIsWritten, StatusSays}
-use Rattle.dk_run.specs.Files.{FileFault as LineOfFile}
 use Rattle.dk_turns.specs.Turns.{turns_of}
 use Rattle.dk_merge.proofs.Held.{held_whole}
 use Rattle.dk_merge.proofs.Taking.{helds_length}

@@ -7,6 +7,7 @@ use Rattle.dk_core.specs.Resuming.{IsOfLoaded, IsStart, state_file}
 use Rattle.dk_decl.specs.Headers.{is_implicit}
 use Rattle.dk_events.specs.declared.ended.Ended.{Ended}
 use Rattle.dk_events.specs.declared.ended.Ended.TheVariants as ended
+use Rattle.dk_events.specs.declared.ended.Ended.TheVariants.{Done, Refused, Usage, Read, Write, NoMemory}
 use Rattle.dk_io.specs.Outside.{Rose}
 use Rattle.dk_io.specs.Streams.{Texts, with_bytes}
 use Rattle.dk_io.specs.declared.outside.Stream.TheVariants.{Report, State}
@@ -18,12 +19,10 @@ use Rattle.dk_program.specs.Outputs.{Output, texts_followed_by}
 use Rattle.dk_run.specs.Loaded.{IsFrontOfLoaded, ReportsLoaded}
 use Rattle.dk_run.specs.Reports.{last_report, whole_report}
 use Rattle.dk_run.specs.Telling.{Added}
-use Rattle.dk_run.specs.declared.status.Status.{Status}
-use Rattle.dk_run.specs.declared.status.Status.TheVariants.{Done, Refused, Usage, Read, Write, NoMemory}
 use Rattle.dk_state.specs.declared.loading.Loaded.{Loaded}
 use Rattle.dk_merge.proofs.Ending.{ends_early, followed_state, only_report}
 use Rattle.dk_merge.specs.Outputs.{IsStateFront, IsStateOutput, no_output, plain_command}
-use Rattle.dk_merge.specs.Running.{IsReportFront, IsReportOf, ReportEnds, StateEnds, ended_of}
+use Rattle.dk_merge.specs.Running.{IsReportFront, IsReportOf, ReportEnds, StateEnds}
 
 -- the output that is a report alone
 abbrev reported : List ℕ → Output
@@ -48,7 +47,7 @@ module _ (least : ℕ) (state : List ℕ) (l : Loaded) (is : IsLoadOf state l) (
     told.written ∙ followed_only old Report told.text,
   )
 
-  pub report_ends : (status : Status) → ReportsLoaded (plain_command least) l old new before after status → ReportEnds least state old new before after (ended_of status)
+  pub report_ends : (status : Ended) → ReportsLoaded (plain_command least) l old new before after status → ReportEnds least state old new before after status
   report_ends Done (told, calm) =
       inl (
         refl,

@@ -5,12 +5,11 @@ use Rattle.dk_base.specs.declared.why.Why.{Why}
 use Rattle.dk_blocks.specs.History.{History}
 use Rattle.dk_core.specs.Resuming.{IsStart, state_file}
 use Rattle.dk_io.specs.declared.outside.Stream.TheVariants.{Messages}
-use Rattle.dk_driver.specs.Files.{file_name_at}
+use Rattle.dk_driver.specs.Files.{FaultAt, ended_file, file_name_at}
 use Rattle.dk_program.specs.Messages.{fault_line}
 use Rattle.dk_program.specs.Outputs.{IsFront, Output, only_on}
 use Rattle.dk_run.specs.Courses.{first_fault, first_start}
-use Rattle.dk_run.specs.Files.{FileFault, ended_file}
-use Rattle.dk_run.specs.Outputs.{Output as RunOutput, output_of}
+use Rattle.dk_run.specs.Outputs.{output_of}
 use Rattle.dk_run.specs.Reports.{whole_report}
 use Rattle.dk_turns.specs.Turns.{turns_of}
 use Rattle.dk_words.specs.declared.command.Command.{Command as PlainCommand}
@@ -20,10 +19,6 @@ use Rattle.dk_merge_words.specs.declared.command.Command.{Command}
 -- nothing is written
 abbrev pub no_output : Output
 no_output = record { report = []; messages = []; state = [] }
-
--- the three texts that a run of daikon writes
-abbrev pub texts_of : RunOutput → Output
-texts_of output = record { report = output.report; messages = output.messages; state = output.state }
 
 -- ---- daikon's commands
 -- over no files, with this least number; nothing else is asked for
@@ -81,9 +76,9 @@ IsMergedFront least (Some state) front = IsStateFront least state front
 -- ---- turns
 -- the output of daikon over the one file, from no samples on, and its first fault
 abbrev pub turns_output : ℕ → List ℕ → Output
-turns_output least text = texts_of (output_of first_start (turns_command least) (ended_file text ∷ []))
+turns_output least text = output_of first_start (turns_command least) (ended_file text ∷ [])
 
-abbrev pub turns_fault : List ℕ → Option FileFault
+abbrev pub turns_fault : List ℕ → Option FaultAt
 turns_fault text = first_fault first_start false (ended_file text ∷ [])
 
 -- ---- files of these contents
@@ -109,7 +104,7 @@ pub record IsRefusedInTurns (command : Command) (contents : List (List ℕ)) (ou
   pub n : ℕ
   pub turns : command.turns ≡ Some n
   pub taken : AreTaken command.turns contents
-  pub fault : FileFault
+  pub fault : FaultAt
   pub first : turns_fault (turns_of n contents) ≡ Some fault
   pub message : output ≡ turns_output command.least (turns_of n contents)
 

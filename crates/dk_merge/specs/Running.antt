@@ -10,8 +10,6 @@ use Rattle.dk_io.specs.NamedFiles.{Files}
 use Rattle.dk_io.specs.Streams.{Texts}
 use Rattle.dk_program.specs.Outputs.{IsFront, Output}
 use Rattle.dk_run.specs.Reports.{whole_report}
-use Rattle.dk_run.specs.declared.status.Status.{Status}
-use Rattle.dk_run.specs.declared.status.Status.TheVariants as status
 use Rattle.dk_turns.specs.Turns.{turns_of}
 use Rattle.dk_merge.specs.Ending.{EndsAmong}
 use Rattle.dk_merge.specs.Gathering.{state_of}
@@ -22,15 +20,6 @@ use Rattle.dk_merge.specs.declared.gathered.Gathered.TheVariants.{State, Traces}
 -- inputs that hold the text as a file of this name, and nothing else
 abbrev pub holding : List ℕ → List ℕ → Files
 holding name text = record { named = (name, text) ∷ []; piece = 65536; rest = [] }
-
--- the status of the program by that of the run
-abbrev pub ended_of : Status → Ended
-ended_of status.Done = ended.Done
-ended_of status.Refused = ended.Refused
-ended_of status.Usage = ended.Usage
-ended_of status.Read = ended.Read
-ended_of status.Write = ended.Write
-ended_of status.NoMemory = ended.NoMemory
 
 -- ---- a state
 -- The last report of every history of which it is the state file.

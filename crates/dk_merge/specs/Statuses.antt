@@ -7,13 +7,12 @@ use Rattle.dk_io.specs.Outside.{DeliversUpTo, HeldFile, Absent, Holds, Rose}
 use Rattle.dk_io.specs.declared.outside.Stream.TheVariants as stream
 use Rattle.dk_arguments.specs.declared.request.Request.{Request}
 use Rattle.dk_arguments.specs.declared.request.Request.TheVariants.{Run}
-use Rattle.dk_driver.specs.Files.{AreHeldFiles, file_name_at}
+use Rattle.dk_driver.specs.Files.{AreHeldFiles, FaultAt, file_name_at}
 use Rattle.dk_driver.specs.Reads.{AtStart, Break, HasBroken, Within, held_file_at, rest_behind}
 use Rattle.dk_program.specs.Messages.{fault_line, unread_line}
 use Rattle.dk_program.specs.Moments.{IsCalm, Outside}
 use Rattle.dk_program.specs.Outputs.{Output, only_on, texts_followed_by}
 use Rattle.dk_program.specs.Statuses.{Coming, Completes, GivesOutput, ComesTo as ProgramComesTo, IsCutShort as IsCutBefore, StatusSaysBy}
-use Rattle.dk_run.specs.Files.{FileFault}
 use Rattle.dk_turns.specs.Turns.{turns_of}
 use Rattle.dk_merge.specs.Merged.{AreTaken, IsReason, IsRefusedBehind, bytes_in, whole_limit}
 use Rattle.dk_merge.specs.Outputs.{IsDoneFront, IsDoneOutput, IsRefusedInTurns, IsRefusedOutput, turns_fault, turns_name, turns_output}
@@ -62,7 +61,7 @@ pub record IsRefusedLater (command : Command) (before after : Outside) (output :
   pub n : ℕ
   pub turns : command.turns ≡ Some n
   pub read : AreRead command before after
-  pub fault : FileFault
+  pub fault : FaultAt
   pub first : (contents : List (List ℕ)) → AreHeldFiles (helds_of command before.file) contents
       → turns_fault (turns_of n contents) ≡ Some fault
   pub message : output ≡ only_on stream.Messages (fault_line turns_name fault.line fault.why)

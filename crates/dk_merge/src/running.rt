@@ -2,14 +2,14 @@
 ghost use Rattle.std.specs.Prelude.{◌≡◌, ◌∷◌, [], IfOk, true};
 ghost use Rattle.dk_merging.specs.Loading.{text_of};
 ghost use Rattle.dk_merge.specs.Outputs.{plain_command};
-ghost use Rattle.dk_merge.specs.Running.{ReportEnds, TurnsEnd, ended_of, holding};
+ghost use Rattle.dk_merge.specs.Running.{ReportEnds, TurnsEnd, holding};
 
 use dk_arguments::Word;
 use dk_base::{List, NoMemory, Text};
 use dk_events::Ended;
 use dk_io::{Sinks, SteadyInputs};
 use dk_merging::JoinedStates;
-use dk_run::{Status, report_loaded, run_command};
+use dk_run::{report_loaded, run_command};
 use dk_words::Command;
 use std::alloc::Global;
 
@@ -64,19 +64,6 @@ fn saving(alloc: Global, least: u64, name: &str) -> Result<Command, NoMemory>
     Ok(command_with(least, true, files))
 }
 
-fn ended_of(status: Status) -> Ended
-    ensures { result ≡ ended_of status }
-{
-    match status {
-        Status::Done => Ended::Done,
-        Status::Refused => Ended::Refused,
-        Status::Usage => Ended::Usage,
-        Status::Read => Ended::Read,
-        Status::Write => Ended::Write,
-        Status::NoMemory => Ended::NoMemory,
-    }
-}
-
 /// Writes the last report of what states say together.
 pub(crate) fn report_states<S: Sinks>(
     alloc: Global,
@@ -87,7 +74,7 @@ pub(crate) fn report_states<S: Sinks>(
     ensures { ReportEnds least (text_of states) (S.written sinks.old) (S.written sinks.new) (S.faults sinks.old) (S.faults sinks.new) result }
 {
     let command = reporting(alloc, least);
-    ended_of(report_loaded(alloc, &command, states.into_loaded(), sinks))
+    report_loaded(alloc, &command, states.into_loaded(), sinks)
 }
 
 /// Runs over the text as the one file `turns`: writes its report and its state, or its first fault.
@@ -102,5 +89,5 @@ pub(crate) fn run_over<S: Sinks>(alloc: Global, least: u64, text: Text, sinks: &
         Ok(inputs) => inputs,
         Err(NoMemory) => return Ended::NoMemory,
     };
-    ended_of(run_command(alloc, &command, &mut inputs, sinks))
+    run_command(alloc, &command, &mut inputs, sinks)
 }

@@ -7,8 +7,8 @@ use Rattle.dk_points.specs.Table.{Point}
 use Rattle.dk_blocks.specs.Blocks.{Group, Groups, Last, groups_of}
 use Rattle.dk_blocks.specs.History.{History, Taken, effect_of, file_ended, no_history}
 use Rattle.dk_blocks.specs.Reading.{after_all, after_last}
+use Rattle.dk_driver.specs.Files.{FaultAt}
 use Rattle.dk_run.specs.Courses.{Course, Outset, course_end, course_of, course_of_files, course_of_groups, first_start, goes_on, line_limit, then_files}
-use Rattle.dk_run.specs.Files.{FileFault}
 use Rattle.dk_turns.specs.Blocks.{Block, sample_blocks}
 use Rattle.dk_turns.specs.Turns.{in_rounds, turns_of}
 use Rattle.dk_recorders.specs.Laws.{AreAlike, ComesToAlike, OrderOfBlocksDoesNotMatter, OrderOfRecordsDoesNotMatter, TurnsDoNotMatter, history_behind, history_of}
@@ -33,7 +33,7 @@ course_ends ignores read (Last ls end) = by (after_last read ls end)
     by (Err fault) = refl
 
 -- what a run over one file comes to
-abbrev of_file : Result History LineFault → Result History FileFault
+abbrev of_file : Result History LineFault → Result History FaultAt
 of_file (Ok h) = Ok (file_ended h)
 of_file (Err fault) = Err (record { file = 0; line = fault.line; why = fault.why })
 
@@ -45,7 +45,7 @@ history_is start ignores text =
     (course_ends ignores (effect_of ignores start.history) (groups_of (lined line_limit start.room 0 true text)))
     ∙ by (read_text ignores line_limit start.room start.history text)
   where
-    after : History → Course FileFault
+    after : History → Course FaultAt
     after next = course_of_files ignores (start.room - length text) (file_ended next) (0 + 1) []
 
     by : (r : Result History LineFault) → (then_files 0 r (λ next. course_of_files ignores (start.room - length text) (file_ended next) (0 + 1) [])).end ≡ of_file r

@@ -6,10 +6,11 @@ use Rattle.dk_blocks.specs.History.{History}
 use Rattle.dk_core.specs.Sections.{all_stats_of, report_of}
 use Rattle.dk_presence.specs.Patterns.{capped}
 use Rattle.dk_print.specs.Sections.{end_line}
+use Rattle.dk_driver.specs.Files.{FaultAt, ended_file}
+use Rattle.dk_program.specs.Outputs.{Output}
 use Rattle.dk_run.specs.Commands.{is_selected, report_options}
 use Rattle.dk_run.specs.Courses.{Course, course_of, first_start}
-use Rattle.dk_run.specs.Files.{FileFault, ended_file}
-use Rattle.dk_run.specs.Outputs.{Output, first_line, output_along, output_at, output_of, saved_state}
+use Rattle.dk_run.specs.Outputs.{first_line, output_along, output_at, output_of, saved_state}
 use Rattle.dk_run.specs.Reports.{due_report, whole_report}
 use Rattle.dk_turns.specs.Turns.{turns_of}
 use Rattle.dk_words.specs.declared.command.Command.{Command}
@@ -35,7 +36,7 @@ last_alone command after h none =
 over : (command : Command) (text : List ℕ) (h : History) → TellsAtTheEnd command → history_of text ≡ Ok h → output_over command text ≡ at_end command h
 unfolding output_of
 over command text h tells e =
-    let course : Course FileFault = course_of first_start false (ended_file text ∷ []) in
+    let course : Course FaultAt = course_of first_start false (ended_file text ∷ []) in
     ap (λ (ignores : Bool). output_along command (course_of first_start ignores (ended_file text ∷ []))) tells.ignores
     ∙ ap (output_at command course.after) e
     ∙ last_alone command course.after h tells.every

@@ -9,9 +9,10 @@ use Rattle.dk_core.specs.Sections.{report_of}
 use Rattle.dk_decl.specs.Headers.{awaits_word, is_implicit}
 use Rattle.dk_lines.specs.Left.{numbered}
 use Rattle.dk_report.specs.declared.options.Options.{Options}
+use Rattle.dk_driver.specs.Files.{FaultAt, ended_file}
+use Rattle.dk_program.specs.Outputs.{Output}
 use Rattle.dk_run.specs.Courses.{Outset, course_of, first_start}
-use Rattle.dk_run.specs.Files.{FileFault, ended_file}
-use Rattle.dk_run.specs.Outputs.{Output, output_of}
+use Rattle.dk_run.specs.Outputs.{output_of}
 use Rattle.dk_turns.specs.Blocks.{Block, sample_blocks}
 use Rattle.dk_turns.specs.Turns.{turns_of}
 use Rattle.dk_words.specs.declared.command.Command.{Command}
@@ -57,11 +58,11 @@ OrderOfBlocksDoesNotMatter =
 
 -- ---- texts
 -- what a text comes to as the only file of a run, behind a start; exits without an entry are left out or refused
-abbrev pub history_behind : Outset → Bool → List ℕ → Result History FileFault
+abbrev pub history_behind : Outset → Bool → List ℕ → Result History FaultAt
 history_behind start ignores text = (course_of start ignores (ended_file text ∷ [])).end
 
 -- the same from no samples on, where exits without an entry are refused
-abbrev pub history_of : List ℕ → Result History FileFault
+abbrev pub history_of : List ℕ → Result History FaultAt
 history_of text = history_behind first_start false text
 
 -- Let the sample blocks of recorders stand in two orders, both of which keep the order of each file. If the text in the first order is

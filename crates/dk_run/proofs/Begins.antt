@@ -9,15 +9,16 @@ use Rattle.dk_blocks.specs.History.{History, no_history}
 use Rattle.dk_core.specs.Resuming.{HasTableOfState, IsStart, state_file}
 use Rattle.dk_core.specs.Standing.{SessionReadsFor, SessionStandsFor, blocks_of, over_of}
 use Rattle.dk_words.specs.declared.command.Command.{Command}
-use Rattle.dk_run.specs.Beginning.{IsBegun, IsLeft, IsResumed, IsUnloaded, IsWhole, StartTroubleGives, StateTroubleGives, trouble_of_read}
+use Rattle.dk_driver.specs.Reads.{AtStart, HasBroken, Within}
+use Rattle.dk_run.specs.Beginning.{IsBegun, IsLeft, IsResumed, IsUnloaded, IsWhole, StartFaultGives, StateFaultGives, fault_of_read}
 use Rattle.dk_run.specs.Courses.{Outset, first_start, total_limit}
 use Rattle.dk_run.specs.Starts.{Begins, BeginsLike, HasBegun, IsRefusedAs}
-use Rattle.dk_run.specs.Statuses.{AtStart, HasBroken, StateUnreadGives, Within}
+use Rattle.dk_run.specs.Statuses.{StateUnreadGives}
 use Rattle.dk_run.specs.Telling.{ReportsBy}
 use Rattle.dk_run.specs.WholeFile.{GoesOnFrom}
 use Rattle.dk_run.specs.declared.starting.Beginning.{Beginning}
-use Rattle.dk_run.specs.declared.starting.StartTrouble.{StartTrouble}
-use Rattle.dk_run.specs.declared.starting.StartTrouble.TheVariants as b
+use Rattle.dk_driver.specs.declared.fault.FileFault.{FileFault}
+use Rattle.dk_driver.specs.declared.fault.FileFault.TheVariants as b
 use Rattle.dk_run.proofs.Placing.{rose_since}
 
 -- ---- reading the state file
@@ -43,17 +44,18 @@ whole_read held text mid rest starts short is delivered = record {
       (same, nothing_behind xs rest (sym told ∙ delivered ∙ ap (λ (l : List ℕ). prepend_known l rest) same));
 }
 
-pub unread_trouble : {A : Type 0} (held : HeldFile) (mid rest before : Option (List ℕ)) (a b c : ℕ) (result : Result A AllFault) (fault : AllFault) → result ≡ Err fault → Starts held mid → a ≤ b
+pub unread_fault : {A : Type 0} (held : HeldFile) (mid rest before : Option (List ℕ)) (a b c : ℕ) (result : Result A AllFault) (fault : AllFault) → result ≡ Err fault → Starts held mid → a ≤ b
     → (IsErrOf result all.TooLong → IfSome mid (λ bytes. total_limit < length bytes)) → (IsErrOf result all.Read → DeliversUpTo total_limit mid rest) → (IsErrOf result all.Read → Rose b c)
-    → StateTroubleGives held (Rose a c) before rest (trouble_of_read fault)
-unread_trouble held mid rest before a b c result all.Read is starts later long delivers rose =
+    → StateFaultGives held (Rose a c) before rest (fault_of_read fault)
+unread_fault held mid rest before a b c result all.Read is starts later long delivers rose =
     ((there_started held mid starts, rose_since a b c later (rose is)), λ xs holds. subst (λ (o : Option (List ℕ)). DeliversUpTo total_limit o rest) (told_started held mid xs starts holds) (delivers is))
-unread_trouble held mid rest before a b c result all.TooLong is starts later long delivers rose = (
+unread_fault held mid rest before a b c result all.TooLong is starts later long delivers rose = (
+  refl,
   there_started held mid starts,
   inl refl,
   λ xs holds. inl (refl, subst (λ (o : Option (List ℕ)). IfSome o (λ bytes. total_limit < length bytes)) (told_started held mid xs starts holds) (long is)),
 )
-unread_trouble held mid rest before a b c result all.NoMemory is starts later long delivers rose = tt
+unread_fault held mid rest before a b c result all.NoMemory is starts later long delivers rose = tt
 
 -- ---- beginning
 begins_new : (resume : Option (List ℕ)) (file : List ℕ → HeldFile) (start : Outset) → resume ≡ None → BeginsLike resume file start → start ≡ first_start
@@ -86,10 +88,10 @@ pub new_left : (resume : Option (List ℕ)) (file : List ℕ → HeldFile) (befo
 new_left None file before rest none same start begins = same
 new_left (Some name) file before rest none same start begins = absurd (cc (none))
 
-pub new_trouble : (resume : Option (List ℕ)) (file : List ℕ → HeldFile) (rose : Type 0) (before rest : Option (List ℕ)) (trouble : StartTrouble) → resume ≡ None → trouble ≡ b.NoMemory
-    → StartTroubleGives resume file rose before rest trouble
-new_trouble None file rose before rest trouble none is = is
-new_trouble (Some name) file rose before rest trouble none is = absurd (cc (none))
+pub new_fault : (resume : Option (List ℕ)) (file : List ℕ → HeldFile) (rose : Type 0) (before rest : Option (List ℕ)) (fault : FileFault) → resume ≡ None → fault ≡ b.NoMemory
+    → StartFaultGives resume file rose before rest fault
+new_fault None file rose before rest fault none is = is
+new_fault (Some name) file rose before rest fault none is = absurd (cc (none))
 
 -- the state of the start is the file's bytes
 same_state : (name : List ℕ) (file : List ℕ → HeldFile) (state : List ℕ) (rest : Option (List ℕ)) (h : History) → IsWhole (file name) state rest → file name ≡ Holds (state_file h) → state_file h ≡ state
@@ -146,28 +148,29 @@ resumed_left (Some other) name file state before rest is whole start (xs, holds,
     let here : other ≡ name = cc (is) in
     (whole.all xs (ap file (sym here) ∙ holds)).1
 
-unloaded_gives : (held : HeldFile) (rose : Type 0) (state : List ℕ) (before rest : Option (List ℕ)) (trouble : StartTrouble) → IsWhole held state rest → IsUnloaded state trouble
-    → StateTroubleGives held rose before rest trouble
-unloaded_gives held rose state before rest (b.Refused why) whole bad = (
+unloaded_gives : (held : HeldFile) (rose : Type 0) (state : List ℕ) (before rest : Option (List ℕ)) (fault : FileFault) → IsWhole held state rest → IsUnloaded state fault
+    → StateFaultGives held rose before rest fault
+unloaded_gives held rose state before rest (b.Refused line why) whole bad = (
+  bad.0,
   whole.there,
-  inr bad.0,
+  inr bad.1.0,
   λ xs holds. let same = (whole.all xs holds).0 in
-      inr (bad.0, subst (λ (l : List ℕ). length l ≤ total_limit) same whole.short, λ spelling. bad.1 (subst IsSpelling (sym same) spelling)),
+      inr (bad.1.0, subst (λ (l : List ℕ). length l ≤ total_limit) same whole.short, λ spelling. bad.1.1 (subst IsSpelling (sym same) spelling)),
 )
 unloaded_gives held rose state before rest b.Start whole bad = absurd bad
 unloaded_gives held rose state before rest b.Read whole bad = absurd bad
 unloaded_gives held rose state before rest b.NoMemory whole bad = tt
 
-pub state_trouble : (resume : Option (List ℕ)) (name : List ℕ) (file : List ℕ → HeldFile) (rose : Type 0) (before rest : Option (List ℕ)) (trouble : StartTrouble) → resume ≡ Some name
-    → StateTroubleGives (file name) rose before rest trouble → StartTroubleGives resume file rose before rest trouble
-state_trouble None name file rose before rest trouble is gives = absurd (cc (is))
-state_trouble (Some other) name file rose before rest trouble is gives =
-    let here : other ≡ name = cc (is) in subst (λ (n : List ℕ). StateTroubleGives (file n) rose before rest trouble) (sym here) gives
+pub state_fault : (resume : Option (List ℕ)) (name : List ℕ) (file : List ℕ → HeldFile) (rose : Type 0) (before rest : Option (List ℕ)) (fault : FileFault) → resume ≡ Some name
+    → StateFaultGives (file name) rose before rest fault → StartFaultGives resume file rose before rest fault
+state_fault None name file rose before rest fault is gives = absurd (cc (is))
+state_fault (Some other) name file rose before rest fault is gives =
+    let here : other ≡ name = cc (is) in subst (λ (n : List ℕ). StateFaultGives (file n) rose before rest fault) (sym here) gives
 
-pub load_trouble : (resume : Option (List ℕ)) (name : List ℕ) (file : List ℕ → HeldFile) (rose : Type 0) (state : List ℕ) (before rest : Option (List ℕ)) (trouble : StartTrouble) → resume ≡ Some name
-    → IsWhole (file name) state rest → IsUnloaded state trouble → StartTroubleGives resume file rose before rest trouble
-load_trouble resume name file rose state before rest trouble is whole bad =
-    state_trouble resume name file rose before rest trouble is (unloaded_gives (file name) rose state before rest trouble whole bad)
+pub load_fault : (resume : Option (List ℕ)) (name : List ℕ) (file : List ℕ → HeldFile) (rose : Type 0) (state : List ℕ) (before rest : Option (List ℕ)) (fault : FileFault) → resume ≡ Some name
+    → IsWhole (file name) state rest → IsUnloaded state fault → StartFaultGives resume file rose before rest fault
+load_fault resume name file rose state before rest fault is whole bad =
+    state_fault resume name file rose before rest fault is (unloaded_gives (file name) rose state before rest fault whole bad)
 
 pub if_err : {A E : Type 0} (r : Result A E) (P Q : E → Type 0) → IfErr r P → ((e : E) → P e → Q e) → IfErr r Q
 if_err (Ok x) P Q p f = p

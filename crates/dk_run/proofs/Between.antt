@@ -11,8 +11,8 @@ use Rattle.dk_blocks.specs.Blocks.{Group, Groups, Last, groups_of}
 use Rattle.dk_blocks.specs.History.{History, Taken, effect_of, file_ended, no_history}
 use Rattle.dk_blocks.specs.Reading.{after_last}
 use Rattle.dk_core.specs.Resuming.{AreFew, IsStart, state_file}
+use Rattle.dk_driver.specs.Files.{FaultAt, File, ended_file}
 use Rattle.dk_run.specs.Courses.{Course, Outset, behind_histories, course_end, course_of, course_of_file, course_of_files, course_of_groups, goes_on, line_limit, then_files, total_limit}
-use Rattle.dk_run.specs.Files.{File, FileFault, ended_file}
 use Rattle.dk_run.specs.Laws.{RunsBeginAtStarts, RunsEndAtStarts}
 use Rattle.dk_state.specs.Saved.{saved_text}
 use Rattle.dk_state.specs.StateFile.{state_file_of}

@@ -11,24 +11,27 @@ use Rattle.dk_core.proofs.Resuming.{table_spelled}
 use Rattle.dk_words.specs.declared.command.Command.{Command}
 use Rattle.dk_arguments.specs.declared.request.Request.{Request}
 use Rattle.dk_arguments.specs.declared.request.Request.TheVariants.{Run, Help, Version}
+use Rattle.dk_driver.specs.Files.{AreHeldFiles, FaultAt, File, ended_file, file_name_at}
+use Rattle.dk_driver.specs.Reads.{AtStart, Break, HasBroken, Within, held_file_at}
+use Rattle.dk_program.specs.Messages.{fault_line}
+use Rattle.dk_program.specs.Moments.{IsCalm, Outside}
+use Rattle.dk_program.specs.Outputs.{Output, only_on, texts_followed_by}
 use Rattle.dk_run.specs.Commands.{file_names, helds_of}
 use Rattle.dk_run.specs.Courses.{Course, Outset, behind_histories, course_end, course_of, course_of_file, course_of_files, fault_in, first_fault, then_files}
 use Rattle.dk_run.specs.Starts.{Begins, BeginsLike, HasBegun, IsRefusedAs, IsState}
-use Rattle.dk_run.specs.Files.{AreHeldFiles, File, FileFault, ended_file, file_name_at}
-use Rattle.dk_print.specs.Sections.{fault_line}
-use Rattle.dk_run.specs.Outputs.{Output, first_line, only_on, output_along, output_at, output_of, texts_followed_by}
-use Rattle.dk_run.specs.Statuses.{AreCleanBehind, AtStart, Break, CompletesCalmly, HasBroken, IsCalm, IsComplete, IsDone, IsRefused, IsStateRefused, IsStateUnread, IsUnread, OutputIsWritten, Outside, Says, Within, held_file_at}
-use Rattle.dk_run.specs.declared.status.Status.{Status}
-use Rattle.dk_run.specs.declared.status.Status.TheVariants.{Done, Refused, Usage, Read, Write, NoMemory}
+use Rattle.dk_run.specs.Outputs.{first_line, output_along, output_at, output_of}
+use Rattle.dk_run.specs.Statuses.{AreCleanBehind, CompletesCalmly, IsComplete, IsDone, IsRefused, IsStateRefused, IsStateUnread, IsUnread, OutputIsWritten, Says}
+use Rattle.dk_events.specs.declared.ended.Ended.{Ended}
+use Rattle.dk_events.specs.declared.ended.Ended.TheVariants.{Done, Refused, Usage, Read, Write, NoMemory}
 use Rattle.dk_run.proofs.Saying.{held-take, same_length}
 
 -- ---- later files don't change a course that has ended with a fault
-then_same : (place : ℕ) (r : Result History LineFault) (more other : History → Course FileFault) (f : FileFault)
+then_same : (place : ℕ) (r : Result History LineFault) (more other : History → Course FaultAt) (f : FaultAt)
     → ((h : History) → (more h).end ≡ Err f → more h ≡ other h) → (then_files place r more).end ≡ Err f → then_files place r more ≡ then_files place r other
 then_same place (Ok h) more other f same e = same h e
 then_same place (Err l) more other f same e = refl
 
-course_front : (ignores : Bool) (room : ℕ) (h : History) (place : ℕ) (k : ℕ) (fs : List File) (f : FileFault) → (course_of_files ignores room h place (take k fs)).end ≡ Err f
+course_front : (ignores : Bool) (room : ℕ) (h : History) (place : ℕ) (k : ℕ) (fs : List File) (f : FaultAt) → (course_of_files ignores room h place (take k fs)).end ≡ Err f
     → course_of_files ignores room h place (take k fs) ≡ course_of_files ignores room h place fs
 course_front ignores room h place zero fs f e = absurd (cc (e))
 course_front ignores room h place (suc k) [] f e = refl
@@ -37,12 +40,12 @@ course_front ignores room h place (suc k) (x ∷ xs) f e =
     (λ next. course_of_files ignores (room - length x.bytes) (file_ended next) (place + 1) (take k xs)) (λ next. course_of_files ignores (room - length x.bytes) (file_ended next) (place + 1) xs) f
     (λ next. course_front ignores (room - length x.bytes) (file_ended next) (place + 1) k xs f) e)
 
-fault_is : (r : Result History FileFault) (f : FileFault) → fault_in r ≡ Some f → r ≡ Err f
+fault_is : (r : Result History FaultAt) (f : FaultAt) → fault_in r ≡ Some f → r ≡ Err f
 fault_is (Ok h) f e = absurd (cc (e))
 fault_is (Err g) f e = cc (e)
 
 -- the course over a front of the files that ends with a fault is that over all of them
-first_front : (start : Outset) (ignores : Bool) (k : ℕ) (fs : List File) (f : FileFault) → first_fault start ignores (take k fs) ≡ Some f → course_of start ignores (take k fs) ≡ course_of start ignores fs
+first_front : (start : Outset) (ignores : Bool) (k : ℕ) (fs : List File) (f : FaultAt) → first_fault start ignores (take k fs) ≡ Some f → course_of start ignores (take k fs) ≡ course_of start ignores fs
 unfolding course_of
 first_front start ignores k fs f e = course_front ignores start.room start.history 0 k fs f (fault_is (course_of_files ignores start.room start.history 0 (take k fs)).end f e)
 
@@ -70,7 +73,7 @@ not_unread command before after AtStart place n contents calm held below named (
     cc (absent, same, there.1)
 
 -- of the first n files the contents are held, and they have a first fault: so the faulty one stands behind the clean ones
-not_clean : (start : Outset) (ignores : Bool) (helds : List HeldFile) (k n : ℕ) (contents : List (List ℕ)) (fault : FileFault) → AreCleanBehind start ignores helds k
+not_clean : (start : Outset) (ignores : Bool) (helds : List HeldFile) (k n : ℕ) (contents : List (List ℕ)) (fault : FaultAt) → AreCleanBehind start ignores helds k
     → AreHeldFiles (take n helds) contents → first_fault start ignores (map ended_file contents) ≡ Some fault → n ≤ k → ⊥
 not_clean start ignores helds k n contents fault clean held first h = let none = clean n contents h held in cc (none, first)
 
@@ -79,21 +82,21 @@ not_clean start ignores helds k n contents fault clean held first h = let none =
 clean_messages : (start : Outset) (command : Command) (files : List File) → first_fault start command.ignore_missing_entry files ≡ None → (output_of start command files).messages ≡ first_line command
 unfolding output_of
 clean_messages start command files none = by (course_of start command.ignore_missing_entry files).after (course_of start command.ignore_missing_entry files).end none where
-  by : (after : List History) (end : Result History FileFault) → fault_in end ≡ None → (output_at command after end).messages ≡ first_line command
+  by : (after : List History) (end : Result History FaultAt) → fault_in end ≡ None → (output_at command after end).messages ≡ first_line command
   by after (Ok h) none = refl
   by after (Err fault) none = absurd (cc (none))
 
 -- and those with one the fault's line behind it
-fault_messages : (start : Outset) (command : Command) (files : List File) (fault : FileFault) → first_fault start command.ignore_missing_entry files ≡ Some fault
+fault_messages : (start : Outset) (command : Command) (files : List File) (fault : FaultAt) → first_fault start command.ignore_missing_entry files ≡ Some fault
     → (output_of start command files).messages ≡ first_line command ++ fault_line (file_name_at (file_names command) fault.file) fault.line fault.why
 unfolding output_of
 fault_messages start command files fault first = by (course_of start command.ignore_missing_entry files).after (course_of start command.ignore_missing_entry files).end first where
-  by : (after : List History) (end : Result History FileFault) → fault_in end ≡ Some fault
+  by : (after : List History) (end : Result History FaultAt) → fault_in end ≡ Some fault
       → (output_at command after end).messages ≡ first_line command ++ fault_line (file_name_at (file_names command) fault.file) fault.line fault.why
   by after (Ok h) first = absurd (cc (first))
   by after (Err other) first =
       let same : other ≡ fault = cc (first) in
-      ap (λ (f : FileFault). first_line command ++ fault_line (file_name_at (file_names command) f.file) f.line f.why) same
+      ap (λ (f : FaultAt). first_line command ++ fault_line (file_name_at (file_names command) f.file) f.line f.why) same
 
 -- what was told of a refused file holds of all files that are held
 told_refused : (command : Command) (before after : Outside) (output : Output) (comes : IsRefused command before after output) (start : Outset) → BeginsLike command.resume before.file start
@@ -108,7 +111,7 @@ told_refused command before after output comes start begins n contents h held =
     let same : course_of start command.ignore_missing_entry (map ended_file (take (k + 1) contents)) ≡ course_of start command.ignore_missing_entry (map ended_file contents) =
     ap (course_of start command.ignore_missing_entry) (sym (take-map ended_file (k + 1) contents))
     ∙ first_front start command.ignore_missing_entry (k + 1) (map ended_file contents) comes.fault (ap (first_fault start command.ignore_missing_entry) (take-map ended_file (k + 1) contents) ∙ first) in
-    (ap (λ (c : Course FileFault). fault_in c.end) (sym same) ∙ first, λ begun. comes.defined start begun (take (k + 1) contents) front ∙ ap (output_along command) same)
+    (ap (λ (c : Course FaultAt). fault_in c.end) (sym same) ∙ first, λ begun. comes.defined start begun (take (k + 1) contents) front ∙ ap (output_along command) same)
 
 -- ---- the state file
 -- what is a state is not refused as one
@@ -223,7 +226,7 @@ state_unread_of command before after output comes calm = record {
       absurd (not_held_unread comes.by before after (before.file comes.name) xs calm (ap before.file here ∙ holds) comes.cause);
 }
 
-pub complete_of : (command : Command) (before after : Outside) (result : Status) → Says result (Some (Run command)) before after → IsCalm before after → IsComplete command before after result
+pub complete_of : (command : Command) (before after : Outside) (result : Ended) → Says result (Some (Run command)) before after → IsCalm before after → IsComplete command before after result
 complete_of command before after Done (output, comes, written) calm = done_of command before after output comes written
 complete_of command before after Refused (output, inl comes, written) calm = state_refused_of command before after output comes written
 complete_of command before after Refused (output, inr comes, written) calm = refused_of command before after output comes written
@@ -237,6 +240,13 @@ complete_of command before after NoMemory cut calm = record {
   state_refused = λ name xs why named holds bad. inr refl;
 }
 
-pub complete_says : (asked : Option (Request Command)) (command : Command) (before after : Outside) (result : Status) → asked ≡ Some (Run command) → Says result (Some (Run command)) before after
+pub complete_says : (asked : Option (Request Command)) (command : Command) (before after : Outside) (result : Ended) → asked ≡ Some (Run command) → Says result (Some (Run command)) before after
     → CompletesCalmly asked before after result
 complete_says asked command before after result is says = subst (λ (r : Option (Request Command)). CompletesCalmly r before after result) (sym is) (complete_of command before after result says)
+
+-- what is asked for is done or refused; of a run that does not begin this is all
+pub without_run_completes : (asked : Option (Request Command)) (before after : Outside) (result : Ended) → Says result asked before after → CompletesCalmly asked before after result
+without_run_completes (Some (Run command)) before after result says = complete_of command before after result says
+without_run_completes (Some Help) before after result says = tt
+without_run_completes (Some Version) before after result says = tt
+without_run_completes None before after result says = tt

@@ -14,7 +14,7 @@ use Rattle.dk_run.specs.Reports.{last_report}
 use Rattle.dk_run.specs.Telling.{Added, CutOff, ToldWhole}
 use Rattle.dk_run.specs.declared.reporting.Halt.{Halt}
 use Rattle.dk_run.specs.declared.reporting.Halt.TheVariants.{Write, NoMemory}
-use Rattle.dk_run.specs.declared.status.Status.TheVariants as status
+use Rattle.dk_events.specs.declared.ended.Ended.TheVariants as status
 use Rattle.dk_run.proofs.Writing.{added_nothing}
 
 module _ (command : Command) (l : Loaded) (Stands : History → Type 0) (due : History → List ℕ) (all : (h : History) → IsOfLoaded l h → Stands h) (same : (h : History) → due h ≡ last_report command 0 h)

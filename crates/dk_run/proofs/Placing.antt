@@ -13,14 +13,14 @@ use Rattle.dk_blocks.specs.History.{History}
 use Rattle.dk_core.specs.Standing.{SessionReadsFor, SessionStandsFor, blocks_of}
 use Rattle.dk_core.specs.declared.session.Session.{Session}
 use Rattle.dk_words.specs.declared.command.Command.{Command}
+use Rattle.dk_driver.specs.Files.{file_name_at}
+use Rattle.dk_driver.specs.Reads.{held_file_at, rest_behind}
 use Rattle.dk_run.specs.AllFiles.{AreReadTo, FilesTroubleGives, HasBrokenAt, files_trouble}
 use Rattle.dk_run.specs.Commands.{file_names, generated_count, helds_of}
 use Rattle.dk_run.specs.Courses.{Outset, line_limit}
 use Rattle.dk_run.specs.Beginning.{BeginsFrom}
 use Rattle.dk_run.specs.Starts.{BeginsLike}
-use Rattle.dk_run.specs.Files.{file_name_at}
 use Rattle.dk_presence.specs.Patterns.{capped}
-use Rattle.dk_run.specs.Statuses.{held_file_at, rest_behind}
 use Rattle.dk_run.specs.WholeFile.{ComesToEnd, FileGives, FileTroubleGives, HasFault, IsNoBreak, IsShort, TextGives, fresh_reading}
 use Rattle.dk_run.specs.declared.reading.Trouble.{Trouble}
 use Rattle.dk_run.specs.declared.reading.Trouble.TheVariants as t

@@ -6,8 +6,8 @@ use Rattle.dk_lines.specs.Left.{End, Over, Broken, LongLine, TooLong, Ends, Left
 use Rattle.dk_blocks.specs.Blocks.{Group, Groups, Last, groups_of, is_blank_line, onto_group, trimmed_line}
 use Rattle.dk_blocks.specs.History.{History, Taken, effect_of, file_ended}
 use Rattle.dk_blocks.specs.Reading.{after_last}
+use Rattle.dk_driver.specs.Files.{FaultAt, File}
 use Rattle.dk_run.specs.Courses.{Course, Outset, behind_histories, course_end, course_of, course_of_file, course_of_files, course_of_groups, goes_on, line_limit, then_files}
-use Rattle.dk_run.specs.Files.{File, FileFault}
 use Rattle.dk_run.specs.Laws.{ResumedRunsGoOn}
 
 -- ---- lines that end with too many bytes

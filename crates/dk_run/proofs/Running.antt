@@ -18,15 +18,16 @@ use Rattle.dk_core.specs.Standing.{SessionReadsFor, SessionStandsFor, blocks_of}
 use Rattle.dk_blocks.specs.Steps.{groups_left}
 use Rattle.dk_core.specs.declared.session.Session.{Session}
 use Rattle.dk_words.specs.declared.command.Command.{Command}
+use Rattle.dk_driver.specs.Files.{AreHeldFiles, FaultAt, File, ended_file, file_name_at}
+use Rattle.dk_driver.specs.Reads.{AtStart, Break, HasBroken, IsDelivered, Within, held_file_at, rest_behind}
 use Rattle.dk_run.specs.AllFiles.{AreReadTo, FilesTroubleGives, HasBrokenAt, IsRefusedAt, IsShortTo, IsUnreadAt, RunsOn, files_trouble}
 use Rattle.dk_run.specs.Commands.{file_names, generated_count, helds_of}
 use Rattle.dk_run.specs.Courses.{Course, Outset, behind_histories, course_end, course_of, course_of_file, course_of_files, fault_in, first_fault, goes_on, line_limit, then_files}
 use Rattle.dk_run.specs.Beginning.{BeginsFrom}
 use Rattle.dk_run.specs.Starts.{Begins, BeginsLike}
-use Rattle.dk_run.specs.Files.{AreHeldFiles, File, FileFault, cut_file, ended_file, file_name_at}
 use Rattle.dk_presence.specs.Patterns.{capped}
 use Rattle.dk_run.specs.Reports.{due_from, due_reports}
-use Rattle.dk_run.specs.Statuses.{AreCleanBehind, AtStart, Break, HasBroken, IsDelivered, Within, held_file_at, rest_behind}
+use Rattle.dk_run.specs.Statuses.{AreCleanBehind}
 use Rattle.dk_run.specs.WholeFile.{ComesToEnd, FileTroubleGives, GoesOnFrom, HasFault, IsBroken, IsCalmUnless, IsShort, course_behind, fresh_reading}
 use Rattle.dk_run.specs.declared.reading.Trouble.{Trouble}
 use Rattle.dk_run.specs.declared.reading.Trouble.TheVariants as t
@@ -69,7 +70,7 @@ started_file : (ignores : Bool) (r : Reading) (h : History) (is_ended : Bool) (x
     → course_of_file ignores (room_of r) h (record { bytes = xs; is_ended = is_ended }) ≡ course_behind ignores h (groups_left false (fresh_reading r) is_ended xs)
 started_file ignores r h is_ended xs limits = ap (λ (l : ℕ). course_behind ignores h (groups_of (lined l (room_of r) 0 is_ended xs))) (sym limits)
 
-abbrev then_course : ℕ → Course LineFault → (History → Course FileFault) → Course FileFault
+abbrev then_course : ℕ → Course LineFault → (History → Course FaultAt) → Course FaultAt
 then_course place c more = behind_histories c.after (then_files place c.end more)
 
 -- the run goes on behind a file
@@ -112,7 +113,7 @@ alone start command Begun before rest s room place text contents on =
 pub alone_clean : {F : Type 0} (start : Outset) (command : Command) (Begun : Type 0) (before rest : Option (List ℕ)) (s : Session F) (room place : ℕ) (text : List ℕ) (contents : List (List ℕ))
     → RunsOn start command Begun before rest s room place text contents → first_fault start command.ignore_missing_entry (map ended_file contents) ≡ None
 alone_clean start command Begun before rest s room place text contents on =
-    ap (λ (c : Course FileFault). fault_in c.end) (alone start command Begun before rest s room place text contents on)
+    ap (λ (c : Course FaultAt). fault_in c.end) (alone start command Begun before rest s room place text contents on)
 
 clean_more : (start : Outset) (ignores : Bool) (helds : List HeldFile) (place : ℕ) → AreCleanBehind start ignores helds place
     → ((contents : List (List ℕ)) → AreHeldFiles (take (place + 1) helds) contents → first_fault start ignores (map ended_file contents) ≡ None) → AreCleanBehind start ignores helds (place + 1)
@@ -203,10 +204,10 @@ part_fine : {F : Type 0} (start : Outset) (command : Command) (Begun : Type 0) (
 part_fine start command Begun before mid s place r told text contents is_ended xs after next limits on due all =
     let course = on.goes (record { bytes = xs; is_ended = is_ended } ∷ []) ∙ ap (behind_histories on.after) (course_part command.ignore_missing_entry r on.history next after place is_ended xs limits all) in
     let number : length on.after + 1 ≡ 1 + length on.after = omega arith in (
-      ap (λ (c : Course FileFault). fault_in c.end) course,
+      ap (λ (c : Course FaultAt). fault_in c.end) course,
       λ begun. ap (λ (l : List ℕ). l ++ text) (on.told begun)
           ∙ ap (λ (l : List ℕ). due_reports command on.after ++ l) (due begun ∙ ap (λ (n : ℕ). due_from command n after) number) ∙ sym (due_append command 1 on.after after)
-          ∙ ap (λ (c : Course FileFault). due_reports command c.after) (sym course),
+          ∙ ap (λ (c : Course FaultAt). due_reports command c.after) (sym course),
     )
 
 -- a file could not be started
@@ -224,7 +225,7 @@ unstarted_on command file before mid rest s place r told text behind within read
       let on = read.runs start begins contents held in (
         same ∙ on.rest_is,
         λ begun. ap (λ (l : List ℕ). told ++ l) nothing ∙ append-nil told ∙ on.told begun
-            ∙ ap (λ (c : Course FileFault). due_reports command c.after) (sym (alone start command (Begins command.resume file start) before mid s (room_of r) place told contents on)),
+            ∙ ap (λ (c : Course FaultAt). due_reports command c.after) (sym (alone start command (Begins command.resume file start) before mid s (room_of r) place told contents on)),
       );
 }
 
@@ -266,7 +267,7 @@ short_on command file before mid s place r told text limits within there read gi
       let course : (course_of start ignores (map ended_file contents ++ fs)).after ≡ on.after ++ (e.after ++ (e.more ++ behind)) =
       ap (λ (cs : List (List ℕ)). (course_of start ignores (map ended_file cs ++ fs)).after) m.split
       ∙ ap (λ (l : List File). (course_of start ignores l).after) (files_of m.front m.bytes fs)
-      ∙ ap (λ (c : Course FileFault). c.after) (on.goes (ended_file m.bytes ∷ fs))
+      ∙ ap (λ (c : Course FaultAt). c.after) (on.goes (ended_file m.bytes ∷ fs))
       ∙ ap (λ (l : List History). on.after ++ (l ++ behind)) here
       ∙ ap (λ (l : List History). on.after ++ l) (append_assoc e.after e.more behind) in
       let due : due_reports command (course_of start ignores (map ended_file contents ++ fs)).after

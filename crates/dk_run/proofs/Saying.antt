@@ -14,32 +14,37 @@ use Rattle.dk_lines.specs.Reading.{Reading, room_of}
 use Rattle.dk_blocks.specs.History.{History}
 use Rattle.dk_core.specs.Standing.{SessionStandsFor, blocks_of}
 use Rattle.dk_core.specs.declared.session.Session.{Session}
+use Rattle.dk_words.specs.Requests.{daikon}
 use Rattle.dk_words.specs.Texts.{help_text, usage_line, version_text}
 use Rattle.dk_words.specs.declared.command.Command.{Command}
 use Rattle.dk_arguments.specs.declared.request.Request.{Request}
 use Rattle.dk_arguments.specs.declared.request.Request.TheVariants.{Run, Help, Version}
+use Rattle.dk_driver.specs.Files.{AreHeldFiles, FaultAt, File, ended_file, file_name_at}
+use Rattle.dk_driver.specs.declared.fault.FileFault.{FileFault}
+use Rattle.dk_driver.specs.declared.fault.FileFault.TheVariants as one
+use Rattle.dk_driver.specs.Reads.{AtStart, Break, HasBroken, Within, held_file_at, rest_behind}
+use Rattle.dk_program.specs.Ending.{EndsByFault, EndsWith, EndsWithoutRun}
+use Rattle.dk_program.specs.Messages.{fault_line, unread_line}
+use Rattle.dk_program.specs.Moments.{Outside}
+use Rattle.dk_program.specs.Outputs.{FollowedByFront, IsFront, Output, only_on, texts_followed_by}
 use Rattle.dk_run.specs.AllFiles.{AreCalmUnless, AreReadTo, FilesGive, FilesTroubleGives, HasBrokenAt, IsRefusedAt, IsShortTo, IsTroubleOf, IsUnreadAt, RunGives}
 use Rattle.dk_run.specs.Commands.{file_names, generated_count, helds_of}
 use Rattle.dk_run.specs.declared.starting.Beginning.{Beginning}
-use Rattle.dk_run.specs.Beginning.{HasCome, IsLeft, StartTroubleGives, StateTroubleGives, state_name}
+use Rattle.dk_run.specs.Beginning.{HasCome, IsLeft, IsRefusedState, StartFaultGives, state_name}
 use Rattle.dk_run.specs.Courses.{Course, Outset, course_of, fault_in}
 use Rattle.dk_run.specs.Starts.{Begins, HasBegun}
-use Rattle.dk_run.specs.Ending.{EndsBy, EndsUnbegun, EndsWith, status_of}
-use Rattle.dk_run.specs.Files.{AreHeldFiles, File, FileFault, ended_file, file_name_at}
-use Rattle.dk_print.specs.Sections.{end_line, fault_line}
-use Rattle.dk_run.specs.Messages.{unread_line}
-use Rattle.dk_run.specs.Outputs.{IsFront, Output, first_line, only_on, output_along, output_of, saved_state, texts_followed_by, unread_output, usage_output}
+use Rattle.dk_run.specs.Ending.{EndsBy, status_of}
+use Rattle.dk_print.specs.Sections.{end_line}
+use Rattle.dk_run.specs.Outputs.{first_line, output_along, output_of, saved_state, unread_output, usage_output}
 use Rattle.dk_run.specs.Reports.{due_reports, whole_report}
-use Rattle.dk_run.specs.Statuses.{AreRead, AtStart, Break, ComesTo, FollowedByFront, HasBroken, IsCutShort, IsDone, IsRefused, IsStateRefused, IsStateUnread, IsUnread, OutputIsWritten, Outside, Says, StateUnreadGives, Within, held_file_at, rest_behind}
+use Rattle.dk_run.specs.Statuses.{AreRead, ComesTo, IsCutShort, IsDone, IsRefused, IsStateRefused, IsStateUnread, IsUnread, OutputIsWritten, Says, StateUnreadGives}
 use Rattle.dk_run.specs.Telling.{Added, CutOff, CutsText, HaltHasCause, StateCut, StateTold, ToldWhole}
 use Rattle.dk_run.specs.declared.reading.FilesTrouble.{FilesTrouble}
 use Rattle.dk_run.specs.declared.reading.FilesTrouble.TheVariants as t
 use Rattle.dk_run.specs.declared.reporting.Halt.{Halt}
 use Rattle.dk_run.specs.declared.reporting.Halt.TheVariants as w
-use Rattle.dk_run.specs.declared.starting.StartTrouble.{StartTrouble}
-use Rattle.dk_run.specs.declared.starting.StartTrouble.TheVariants as b
-use Rattle.dk_run.specs.declared.status.Status.{Status}
-use Rattle.dk_run.specs.declared.status.Status.TheVariants.{Done, Refused, Usage, Read, Write, NoMemory}
+use Rattle.dk_events.specs.declared.ended.Ended.{Ended}
+use Rattle.dk_events.specs.declared.ended.Ended.TheVariants.{Done, Refused, Usage, Read, Write, NoMemory}
 use Rattle.dk_run.proofs.Placing.{helds_length, names_length, rose_since}
 use Rattle.dk_run.proofs.Running.{alone}
 use Rattle.dk_run.proofs.Starts.{starts_begin_alike}
@@ -76,7 +81,7 @@ only_front State n text h = record { report = refl; messages = refl; state = fro
 
 -- ---- ends with a text
 -- a run that comes to an end and told its output says so
-comes_to_says : (status : Status) (request : Option (Request Command)) (before after : Outside) (output : Output)
+comes_to_says : (status : Ended) (request : Option (Request Command)) (before after : Outside) (output : Output)
     → ComesTo status request before after output → OutputIsWritten before after output → Says status request before after
 comes_to_says Done request before after output comes e = (output, comes, e)
 comes_to_says Refused request before after output comes e = (output, comes, e)
@@ -92,24 +97,24 @@ comes_to_says NoMemory (Some Version) before after output comes e = absurd comes
 comes_to_says NoMemory None before after output comes e = absurd comes
 
 -- a text alone
-pub only_says : (status : Status) (request : Option (Request Command)) (before after : Outside) (stream : Stream) (text : List ℕ) (result : Status) → ComesTo status request before after (only_on stream text)
+pub only_says : (status : Ended) (request : Option (Request Command)) (before after : Outside) (stream : Stream) (text : List ℕ) (result : Ended) → ComesTo status request before after (only_on stream text)
     → EndsWith status stream text before.written after.written before.write_faults after.write_faults result → Says result request before after
 only_says status request before after stream text result comes (inl (is, e, calm)) =
-    subst (λ (s : Status). Says s request before after) (sym is) (comes_to_says status request before after (only_on stream text) comes (e ∙ followed_only before.written stream text, calm))
+    subst (λ (s : Ended). Says s request before after) (sym is) (comes_to_says status request before after (only_on stream text) comes (e ∙ followed_only before.written stream text, calm))
 only_says status request before after stream text result comes (inr (inl (is, rose, (n, short, e)))) =
-    subst (λ (s : Status). Says s request before after) (sym is)
+    subst (λ (s : Ended). Says s request before after) (sym is)
     (rose, inr (inr (status, only_on stream text, comes, record { front = only_on stream (take n text); is_front = only_front stream n text short; written = e ∙ followed_only before.written stream (take n text) })))
-only_says status request before after stream text result comes (inr (inr (is, e, calm))) = subst (λ (s : Status). Says s request before after) (sym is) (calm, inl e)
+only_says status request before after stream text result comes (inr (inr (is, e, calm))) = subst (λ (s : Ended). Says s request before after) (sym is) (calm, inl e)
 
 -- a message behind the first line and a report
-message_says : (status : Status) (request : Option (Request Command)) (before after : Outside) (line report text : List ℕ) (mid : Texts) (between : ℕ) (result : Status)
+message_says : (status : Ended) (request : Option (Request Command)) (before after : Outside) (line report text : List ℕ) (mid : Texts) (between : ℕ) (result : Ended)
     → ComesTo status request before after (so_far (line ++ text) report) → mid ≡ with_bytes (with_bytes before.written Messages line) Report report → between ≡ before.write_faults
     → EndsWith status Messages text mid after.written between after.write_faults result → Says result request before after
 message_says status request before after line report text mid between result comes is calm (inl (same, e, unfailed)) =
-    subst (λ (s : Status). Says s request before after) (sym same) (comes_to_says status request before after (so_far (line ++ text) report) comes
+    subst (λ (s : Ended). Says s request before after) (sym same) (comes_to_says status request before after (so_far (line ++ text) report) comes
     (e ∙ ap (λ (t : Texts). with_bytes t Messages text) is ∙ messages_behind before.written line report text, unfailed ∙ calm))
 message_says status request before after line report text mid between result comes is calm (inr (inl (same, rose, (n, short, e)))) =
-    subst (λ (s : Status). Says s request before after) (sym same) (
+    subst (λ (s : Ended). Says s request before after) (sym same) (
       subst (λ (k : ℕ). Rose k after.write_faults) calm rose,
       inr (inr (
         status,
@@ -123,7 +128,7 @@ message_says status request before after line report text mid between result com
       )),
     )
 message_says status request before after line report text mid between result comes is calm (inr (inr (same, e, unfailed))) =
-    subst (λ (s : Status). Says s request before after) (sym same) (
+    subst (λ (s : Ended). Says s request before after) (sym same) (
       unfailed ∙ calm,
       inr (inr (
         status,
@@ -300,7 +305,7 @@ refused_comes command before after text place line why begun at = record {
   messages = refl;
   no_state = refl;
   clean_before = at.clean;
-  first = λ start begins contents held. let (after, told, e) = at.gives start begins contents held in ap (λ (c : Course FileFault). fault_in c.end) e;
+  first = λ start begins contents held. let (after, told, e) = at.gives start begins contents held in ap (λ (c : Course FaultAt). fault_in c.end) e;
   defined = λ start begins contents held. let (after, told, e) = at.gives start (starts_begin_alike command.resume before.file start begins) contents held in
       ap (λ (l : List ℕ). so_far (first_line command ++ fault_line (file_name_at (file_names command) place) line why) l) (told begins) ∙ ap (output_along command) (sym e);
 }
@@ -351,7 +356,7 @@ broken_since helds a b c (t.Read place) h (there, rose) = (there, rose_since a b
 broken_since helds a b c t.Write h cause = tt
 broken_since helds a b c t.NoMemory h cause = tt
 
-says_of_trouble : (command : Command) (before after : Outside) (rest : Option (List ℕ)) (mid mid2 : Texts) (between : ℕ) (text : List ℕ) (trouble : FilesTrouble) (result : Status)
+says_of_trouble : (command : Command) (before after : Outside) (rest : Option (List ℕ)) (mid mid2 : Texts) (between : ℕ) (text : List ℕ) (trouble : FilesTrouble) (result : Ended)
     → Begun command before rest → mid ≡ with_bytes before.written Messages (first_line command) → mid2 ≡ with_bytes mid Report text
     → FilesTroubleGives command before.file rest text trouble after.rest → AreCalmUnless before.write_faults between trouble
     → HasBrokenAt (helds_of command before.file) (Rose before.read_faults after.read_faults) trouble
@@ -367,15 +372,15 @@ says_of_trouble command before after rest mid mid2 between text (t.Read place) r
     message_says Read (Some (Run command)) before after (first_line command) text (unread_line (file_name_at (file_names command) place)) mid2 between result
     (inr (unread_comes command before after rest text place behind gives cause)) (reported ∙ ap (λ (t : Texts). with_bytes t Report text) first) calm ended
 says_of_trouble command before after rest mid mid2 between text t.Write result behind first reported gives rose cause (is, e, same) =
-    subst (λ (s : Status). Says s (Some (Run command)) before after) (sym is)
+    subst (λ (s : Ended). Says s (Some (Run command)) before after) (sym is)
     (subst (λ (k : ℕ). Rose before.write_faults k) (sym same) rose, short_within command before after text behind.begun (e ∙ reported ∙ ap (λ (t : Texts). with_bytes t Report text) first) gives)
 says_of_trouble command before after rest mid mid2 between text t.NoMemory result behind first reported gives calm cause (is, e, same) =
-    subst (λ (s : Status). Says s (Some (Run command)) before after) (sym is) (same ∙ calm, short_within command before after text behind.begun (e ∙ reported ∙ ap (λ (t : Texts). with_bytes t Report text) first) gives)
+    subst (λ (s : Ended). Says s (Some (Run command)) before after) (sym is) (same ∙ calm, short_within command before after text behind.begun (e ∙ reported ∙ ap (λ (t : Texts). with_bytes t Report text) first) gives)
 
 calm_before : (a b c : ℕ) (trouble : FilesTrouble) → b ≡ a → AreCalmUnless b c trouble → AreCalmUnless a c trouble
 calm_before a b c trouble same calm = subst (λ (k : ℕ). AreCalmUnless k c trouble) same calm
 
-pub trouble_says : (command : Command) (before after : Outside) (rest : Option (List ℕ)) (mid mid2 : Texts) (began unread between : ℕ) (text : List ℕ) (trouble : FilesTrouble) (result : Status)
+pub trouble_says : (command : Command) (before after : Outside) (rest : Option (List ℕ)) (mid mid2 : Texts) (began unread between : ℕ) (text : List ℕ) (trouble : FilesTrouble) (result : Ended)
     → Begun command before rest → before.read_faults ≤ unread → began ≡ before.write_faults → mid ≡ with_bytes before.written Messages (first_line command) → mid2 ≡ with_bytes mid Report text
     → FilesTroubleGives command before.file rest text trouble after.rest → AreCalmUnless began between trouble
     → HasBrokenAt (helds_of command before.file) (Rose unread after.read_faults) trouble
@@ -418,34 +423,40 @@ run_gives command file before rest text (Ok session) new gives = (room_of new, g
 run_gives command file before rest text (Err trouble) new gives = gives
 
 -- ---- words that ask for no run
-pub help_says : (asked : Option (Request Command)) (before after : Outside) (text : List ℕ) (result : Status) → asked ≡ Some Help → text ≡ help_text
-    → EndsWith Done Report text before.written after.written before.write_faults after.write_faults result → Says result asked before after
-help_says asked before after text result is same ended =
-    subst (λ (r : Option (Request Command)). Says result r before after) (sym is) (only_says Done (Some Help) before after Report text result (ap (only_on Report) same) ended)
+-- a run is asked for
+pub run_says : (asked : Option (Request Command)) (command : Command) (before after : Outside) (result : Ended) → asked ≡ Some (Run command) → Says result (Some (Run command)) before after
+    → Says result asked before after
+run_says asked command before after result is says = subst (λ (r : Option (Request Command)). Says result r before after) (sym is) says
 
-pub version_says : (asked : Option (Request Command)) (before after : Outside) (text : List ℕ) (result : Status) → asked ≡ Some Version → text ≡ version_text
-    → EndsWith Done Report text before.written after.written before.write_faults after.write_faults result → Says result asked before after
-version_says asked before after text result is same ended =
-    subst (λ (r : Option (Request Command)). Says result r before after) (sym is) (only_says Done (Some Version) before after Report text result (ap (only_on Report) same) ended)
-
-pub usage_says : (asked : Option (Request Command)) (before after : Outside) (result : Status) → asked ≡ None
-    → EndsWith Usage Messages usage_line before.written after.written before.write_faults after.write_faults result → Says result asked before after
-usage_says asked before after result is ended =
-    subst (λ (r : Option (Request Command)). Says result r before after) (sym is) (only_says Usage None before after Messages usage_line result refl ended)
+-- the run does not begin, by what is asked for
+pub without_run_says : (asked : Option (Request Command)) (before after : Outside) (result : Ended)
+    → EndsWithoutRun daikon asked before.written after.written before.write_faults after.write_faults result → Says result asked before after
+without_run_says (Some (Run command)) before after result (is, e, calm) = subst (λ (s : Ended). Says s (Some (Run command)) before after) (sym is) (calm, inl e)
+without_run_says (Some Help) before after result ended = only_says Done (Some Help) before after Report help_text result refl ended
+without_run_says (Some Version) before after result ended = only_says Done (Some Version) before after Report version_text result refl ended
+without_run_says None before after result ended = only_says Usage None before after Messages usage_line result refl ended
 
 -- ---- ends behind a trouble
-pub unread_ends : (text other : List ℕ) (old new : Texts) (before after : ℕ) (result : Status) → text ≡ other → EndsWith Read Messages text old new before after result → EndsWith Read Messages other old new before after result
-unread_ends text other old new before after result same ended = subst (λ (l : List ℕ). EndsWith Read Messages l old new before after result) same ended
+-- the trouble with the file at a place, by its fault
+abbrev trouble_of : ℕ → FileFault → FilesTrouble
+trouble_of place (one.Refused line why) = t.Refused place line why
+trouble_of place one.Start = t.Start place
+trouble_of place one.Read = t.Read place
+trouble_of place one.NoMemory = t.NoMemory
 
-pub start_ends : (command : Command) (trouble : FilesTrouble) (place : ℕ) (name : List ℕ) (old new : Texts) (before after : ℕ) (result : Status) → trouble ≡ t.Start place → name ≡ file_name_at (file_names command) place
-    → EndsWith Read Messages (unread_line name) old new before after result → EndsBy command trouble old new before after result
-start_ends command trouble place name old new before after result is same ended =
-    subst (λ (t : FilesTrouble). EndsBy command t old new before after result) (sym is) (unread_ends (unread_line name) (unread_line (file_name_at (file_names command) place)) old new before after result (ap unread_line same) ended)
-
-pub read_ends : (command : Command) (trouble : FilesTrouble) (place : ℕ) (name : List ℕ) (old new : Texts) (before after : ℕ) (result : Status) → trouble ≡ t.Read place → name ≡ file_name_at (file_names command) place
-    → EndsWith Read Messages (unread_line name) old new before after result → EndsBy command trouble old new before after result
-read_ends command trouble place name old new before after result is same ended =
-    subst (λ (t : FilesTrouble). EndsBy command t old new before after result) (sym is) (unread_ends (unread_line name) (unread_line (file_name_at (file_names command) place)) old new before after result (ap unread_line same) ended)
+pub fault_ends : (command : Command) (place : ℕ) (name : List ℕ) (fault : FileFault) (trouble : FilesTrouble) (old new : Texts) (before after : ℕ) (result : Ended) → name ≡ file_name_at (file_names command) place
+    → trouble ≡ trouble_of place fault → EndsByFault name fault old new before after result → EndsBy command trouble old new before after result
+fault_ends command place name (one.Refused line why) trouble old new before after result same is ended =
+    subst (λ (t : FilesTrouble). EndsBy command t old new before after result) (sym is)
+    (subst (λ (n : List ℕ). EndsByFault n (one.Refused line why) old new before after result) same ended)
+fault_ends command place name one.Start trouble old new before after result same is ended =
+    subst (λ (t : FilesTrouble). EndsBy command t old new before after result) (sym is)
+    (subst (λ (n : List ℕ). EndsByFault n one.Start old new before after result) same ended)
+fault_ends command place name one.Read trouble old new before after result same is ended =
+    subst (λ (t : FilesTrouble). EndsBy command t old new before after result) (sym is)
+    (subst (λ (n : List ℕ). EndsByFault n one.Read old new before after result) same ended)
+fault_ends command place name one.NoMemory trouble old new before after result same is ended =
+    subst (λ (t : FilesTrouble). EndsBy command t old new before after result) (sym is) ended
 
 -- ---- behind the beginning
 pub behind_of : {F : Type 0} (command : Command) (before now : Outside) (beginning : Beginning F) → HasCome command before now beginning → Begun command before now.rest
@@ -459,28 +470,9 @@ first_come command before after halt mid began begun same calm cut =
     (subst (λ (n : ℕ). CutsText Messages (first_line command) before.written after.written n after.write_faults halt) calm
     (subst (λ (t : Texts). CutsText Messages (first_line command) t after.written began after.write_faults halt) same cut))
 
--- ---- behind a trouble with the state file
-pub unstarted_ends : (command : Command) (trouble : StartTrouble) (name : List ℕ) (old new : Texts) (before after : ℕ) (result : Status) → trouble ≡ b.Start → name ≡ state_name command
-    → EndsWith Read Messages (unread_line name) old new before after result → EndsUnbegun command trouble old new before after result
-unstarted_ends command trouble name old new before after result is same ended =
-    subst (λ (t : StartTrouble). EndsUnbegun command t old new before after result) (sym is)
-    (subst (λ (n : List ℕ). EndsWith Read Messages (unread_line n) old new before after result) same ended)
-
-pub unread_state_ends : (command : Command) (trouble : StartTrouble) (name : List ℕ) (old new : Texts) (before after : ℕ) (result : Status) → trouble ≡ b.Read → name ≡ state_name command
-    → EndsWith Read Messages (unread_line name) old new before after result → EndsUnbegun command trouble old new before after result
-unread_state_ends command trouble name old new before after result is same ended =
-    subst (λ (t : StartTrouble). EndsUnbegun command t old new before after result) (sym is)
-    (subst (λ (n : List ℕ). EndsWith Read Messages (unread_line n) old new before after result) same ended)
-
-pub refused_state_ends : (command : Command) (trouble : StartTrouble) (why : Why) (name : List ℕ) (old new : Texts) (before after : ℕ) (result : Status) → trouble ≡ b.Refused why → name ≡ state_name command
-    → EndsWith Refused Messages (fault_line name 0 why) old new before after result → EndsUnbegun command trouble old new before after result
-refused_state_ends command trouble why name old new before after result is same ended =
-    subst (λ (t : StartTrouble). EndsUnbegun command t old new before after result) (sym is)
-    (subst (λ (n : List ℕ). EndsWith Refused Messages (fault_line n 0 why) old new before after result) same ended)
-
 -- ---- a run that does not begin
 refused_begin : (command : Command) (before after : Outside) (name : List ℕ) (why : Why) → command.resume ≡ Some name
-    → StateTroubleGives (before.file name) (Rose before.read_faults after.read_faults) before.rest after.rest (b.Refused why)
+    → IsRefusedState (before.file name) why
     → IsStateRefused command before (only_on Messages (fault_line (state_name command) 0 why))
 refused_begin command before after name why named gives = record {
   name = name;
@@ -504,22 +496,26 @@ unread_begin command before after name by named cause left = record {
   message = ap (λ (o : Option (List ℕ)). only_on Messages (unread_line (unwrap_or o []))) named;
 }
 
-unbegun_of : (command : Command) (before after : Outside) (resume : Option (List ℕ)) (trouble : StartTrouble) (result : Status) → command.resume ≡ resume
-    → StartTroubleGives resume before.file (Rose before.read_faults after.read_faults) before.rest after.rest trouble
-    → EndsUnbegun command trouble before.written after.written before.write_faults after.write_faults result → Says result (Some (Run command)) before after
-unbegun_of command before after None (b.Refused why) result named gives ended = absurd (cc (gives))
-unbegun_of command before after None b.Start result named gives ended = absurd (cc (gives))
-unbegun_of command before after None b.Read result named gives ended = absurd (cc (gives))
-unbegun_of command before after None b.NoMemory result named gives (is, e, calm) = subst (λ (s : Status). Says s (Some (Run command)) before after) (sym is) (calm, inl e)
-unbegun_of command before after (Some name) (b.Refused why) result named gives ended =
-    only_says Refused (Some (Run command)) before after Messages (fault_line (state_name command) 0 why) result (inl (refused_begin command before after name why named gives)) ended
-unbegun_of command before after (Some name) b.Start result named gives ended =
+unbegun_of : (command : Command) (before after : Outside) (resume : Option (List ℕ)) (fault : FileFault) (result : Ended) → command.resume ≡ resume
+    → StartFaultGives resume before.file (Rose before.read_faults after.read_faults) before.rest after.rest fault
+    → EndsByFault (state_name command) fault before.written after.written before.write_faults after.write_faults result → Says result (Some (Run command)) before after
+unbegun_of command before after None (one.Refused line why) result named gives ended = absurd (cc (gives))
+unbegun_of command before after None one.Start result named gives ended = absurd (cc (gives))
+unbegun_of command before after None one.Read result named gives ended = absurd (cc (gives))
+unbegun_of command before after None one.NoMemory result named gives (is, e, calm) = subst (λ (s : Ended). Says s (Some (Run command)) before after) (sym is) (calm, inl e)
+unbegun_of command before after (Some name) (one.Refused line why) result named gives ended =
+    only_says Refused (Some (Run command)) before after Messages (fault_line (state_name command) 0 why) result (inl (refused_begin command before after name why named gives.1))
+    (subst (λ (n : ℕ). EndsWith Refused Messages (fault_line (state_name command) n why) before.written after.written before.write_faults after.write_faults result) gives.0 ended)
+unbegun_of command before after (Some name) one.Start result named gives ended =
     only_says Read (Some (Run command)) before after Messages (unread_line (state_name command)) result (inl (unread_begin command before after name AtStart named gives.0 gives.1)) ended
-unbegun_of command before after (Some name) b.Read result named gives ended =
+unbegun_of command before after (Some name) one.Read result named gives ended =
     only_says Read (Some (Run command)) before after Messages (unread_line (state_name command)) result (inl (unread_begin command before after name Within named gives.0 gives.1)) ended
-unbegun_of command before after (Some name) b.NoMemory result named gives (is, e, calm) = subst (λ (s : Status). Says s (Some (Run command)) before after) (sym is) (calm, inl e)
+unbegun_of command before after (Some name) one.NoMemory result named gives (is, e, calm) = subst (λ (s : Ended). Says s (Some (Run command)) before after) (sym is) (calm, inl e)
 
-pub unbegun_says : (command : Command) (before after : Outside) (trouble : StartTrouble) (result : Status)
-    → StartTroubleGives command.resume before.file (Rose before.read_faults after.read_faults) before.rest after.rest trouble
-    → EndsUnbegun command trouble before.written after.written before.write_faults after.write_faults result → Says result (Some (Run command)) before after
-unbegun_says command before after trouble result gives ended = unbegun_of command before after command.resume trouble result refl gives ended
+-- the name is that of the state file
+pub unbegun_says : (command : Command) (before after : Outside) (name : List ℕ) (fault : FileFault) (result : Ended) → name ≡ state_name command
+    → StartFaultGives command.resume before.file (Rose before.read_faults after.read_faults) before.rest after.rest fault
+    → EndsByFault name fault before.written after.written before.write_faults after.write_faults result → Says result (Some (Run command)) before after
+unbegun_says command before after name fault result same gives ended =
+    unbegun_of command before after command.resume fault result refl gives
+    (subst (λ (n : List ℕ). EndsByFault n fault before.written after.written before.write_faults after.write_faults result) same ended)

@@ -8,13 +8,14 @@ use Rattle.dk_blocks.specs.History.{History}
 use Rattle.dk_core.specs.Standing.{blocks_of}
 use Rattle.dk_core.specs.declared.session.Session.{Session}
 use Rattle.dk_words.specs.declared.command.Command.{Command}
+use Rattle.dk_driver.specs.Files.{AreHeldFiles, File, ended_file}
+use Rattle.dk_driver.specs.Reads.{AtStart, Break, HasBroken, IsDelivered, Within, held_file_at, rest_behind}
 use Rattle.dk_run.specs.Commands.{file_names, generated_count, helds_of}
 use Rattle.dk_run.specs.Courses.{Outset, behind_histories, course_of, course_of_files, first_fault}
-use Rattle.dk_run.specs.Files.{AreHeldFiles, File, ended_file}
 use Rattle.dk_presence.specs.Patterns.{capped}
 use Rattle.dk_run.specs.Reports.{due_reports}
 use Rattle.dk_run.specs.Starts.{Begins, BeginsLike}
-use Rattle.dk_run.specs.Statuses.{Break, AtStart, Within, AreClean, HasBroken, IsDelivered, held_file_at, rest_behind}
+use Rattle.dk_run.specs.Statuses.{AreClean}
 use Rattle.dk_run.specs.WholeFile.{GoesOnFrom}
 use Rattle.dk_run.specs.declared.reading.Trouble.{Trouble}
 use Rattle.dk_run.specs.declared.reading.Trouble.TheVariants as t

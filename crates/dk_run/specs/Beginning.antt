@@ -12,15 +12,17 @@ use Rattle.dk_blocks.specs.History.{History}
 use Rattle.dk_core.specs.Resuming.{HasTableOfState, IsStart, state_file}
 use Rattle.dk_core.specs.Standing.{SessionReadsFor, SessionStandsFor, blocks_of, over_of}
 use Rattle.dk_words.specs.declared.command.Command.{Command}
+use Rattle.dk_driver.specs.Reads.{AtStart, HasBroken, Within}
+use Rattle.dk_program.specs.Moments.{Outside}
 use Rattle.dk_run.specs.Courses.{Outset, total_limit}
 use Rattle.dk_run.specs.Starts.{Begins, BeginsLike, HasBegun, IsRefusedAs, rest_begun}
-use Rattle.dk_run.specs.Statuses.{AtStart, HasBroken, Outside, StateUnreadGives, Within}
+use Rattle.dk_run.specs.Statuses.{StateUnreadGives}
 use Rattle.dk_run.specs.Telling.{ReportsBy}
 use Rattle.dk_run.specs.WholeFile.{GoesOnFrom}
 use Rattle.dk_core.specs.declared.session.Session.{Session}
 use Rattle.dk_run.specs.declared.starting.Beginning.{Beginning}
-use Rattle.dk_run.specs.declared.starting.StartTrouble.{StartTrouble}
-use Rattle.dk_run.specs.declared.starting.StartTrouble.TheVariants.{Refused, Start as Unstarted, Read, NoMemory}
+use Rattle.dk_driver.specs.declared.fault.FileFault.{FileFault}
+use Rattle.dk_driver.specs.declared.fault.FileFault.TheVariants.{Refused, Start as Unstarted, Read, NoMemory}
 
 -- the name of the state file, and an empty one where the run names none
 abbrev pub state_name : Command → List ℕ
@@ -41,18 +43,22 @@ pub record IsBegun {F : Type 0} (command : Command) (file : List ℕ → HeldFil
   pub over : over_of beginning.session ≡ false
   pub reports : ReportsBy command beginning.session
 
--- What a trouble with a state file says, of which this is told.
-abbrev pub StateTroubleGives : HeldFile → Type 0 → Option (List ℕ) → Option (List ℕ) → StartTrouble → Type 0
-StateTroubleGives held rose before rest (Refused why) =
+-- The state file is refused for this reason.
+abbrev pub IsRefusedState : HeldFile → Why → Type 0
+IsRefusedState held why =
     (held ≢ Absent) × ((why ≡ TooLong) ⊎ (why ≡ BadState)) × ((xs : List ℕ) → held ≡ Holds xs → IsRefusedAs why xs)
-StateTroubleGives held rose before rest Unstarted = HasBroken AtStart held rose × StateUnreadGives AtStart held before rest
-StateTroubleGives held rose before rest Read = HasBroken Within held rose × StateUnreadGives Within held before rest
-StateTroubleGives held rose before rest NoMemory = Unit {0}
+
+-- What a fault of a state file says, of which this is told.
+abbrev pub StateFaultGives : HeldFile → Type 0 → Option (List ℕ) → Option (List ℕ) → FileFault → Type 0
+StateFaultGives held rose before rest (Refused line why) = (line ≡ 0) × IsRefusedState held why
+StateFaultGives held rose before rest Unstarted = HasBroken AtStart held rose × StateUnreadGives AtStart held before rest
+StateFaultGives held rose before rest Read = HasBroken Within held rose × StateUnreadGives Within held before rest
+StateFaultGives held rose before rest NoMemory = Unit {0}
 
 -- Without a state file only memory can be wanting.
-abbrev pub StartTroubleGives : Option (List ℕ) → (List ℕ → HeldFile) → Type 0 → Option (List ℕ) → Option (List ℕ) → StartTrouble → Type 0
-StartTroubleGives None file rose before rest trouble = trouble ≡ NoMemory
-StartTroubleGives (Some name) file rose before rest trouble = StateTroubleGives (file name) rose before rest trouble
+abbrev pub StartFaultGives : Option (List ℕ) → (List ℕ → HeldFile) → Type 0 → Option (List ℕ) → Option (List ℕ) → FileFault → Type 0
+StartFaultGives None file rose before rest fault = fault ≡ NoMemory
+StartFaultGives (Some name) file rose before rest fault = StateFaultGives (file name) rose before rest fault
 
 -- What is left of the inputs when the run has begun.
 abbrev pub IsLeft : Option (List ℕ) → (List ℕ → HeldFile) → Option (List ℕ) → Option (List ℕ) → Type 0
@@ -84,17 +90,21 @@ pub record IsResumed {F : Type 0} (command : Command) (state : List ℕ) (beginn
   pub reports : ReportsBy command beginning.session
 
 -- why there is none
-abbrev pub IsUnloaded : List ℕ → StartTrouble → Type 0
-IsUnloaded state (Refused why) = (why ≡ BadState) × (IsSpelling state → ⊥)
+abbrev pub IsUnloaded : List ℕ → FileFault → Type 0
+IsUnloaded state (Refused line why) = (line ≡ 0) × (why ≡ BadState) × (IsSpelling state → ⊥)
 IsUnloaded state Unstarted = ⊥
 IsUnloaded state Read = ⊥
 IsUnloaded state NoMemory = Unit {0}
 
-abbrev pub trouble_of_read : AllFault → StartTrouble
-trouble_of_read all.Read = Read
-trouble_of_read all.TooLong = Refused TooLong
-trouble_of_read all.NoMemory = NoMemory
+-- the fault of a state file that is refused as a whole
+abbrev pub refused_whole : Why → FileFault
+refused_whole why = Refused 0 why
 
-abbrev pub trouble_of_load : LoadFault → StartTrouble
-trouble_of_load load.BadState = Refused BadState
-trouble_of_load load.NoMemory = NoMemory
+abbrev pub fault_of_read : AllFault → FileFault
+fault_of_read all.Read = Read
+fault_of_read all.TooLong = refused_whole TooLong
+fault_of_read all.NoMemory = NoMemory
+
+abbrev pub fault_of_load : LoadFault → FileFault
+fault_of_load load.BadState = refused_whole BadState
+fault_of_load load.NoMemory = NoMemory

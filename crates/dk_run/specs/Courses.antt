@@ -6,7 +6,7 @@ use Rattle.dk_blocks.specs.History.{History, Taken, counts, effect_of, file_ende
 use Rattle.dk_blocks.specs.Reading.{after_last}
 use Rattle.dk_lines.specs.Left.{lined}
 use Rattle.dk_lines.specs.declared.lines.Limits.{Limits}
-use Rattle.dk_run.specs.Files.{File, FileFault}
+use Rattle.dk_driver.specs.Files.{FaultAt, File}
 
 -- How many bytes a line may have in front of its LF, and how many all files of a run together.
 abbrev pub line_limit : ℕ
@@ -62,12 +62,12 @@ course_of_file ignores room h file =
 
 -- ---- files
 -- the run ends with the fault of the file at this place, or goes on
-abbrev pub then_files : ℕ → Result History LineFault → (History → Course FileFault) → Course FileFault
+abbrev pub then_files : ℕ → Result History LineFault → (History → Course FaultAt) → Course FaultAt
 then_files place (Ok h) more = more h
 then_files place (Err fault) more = course_end (Err (record { file = place; line = fault.line; why = fault.why }))
 
 -- the course over these files, in front of which stand place others, where room bytes may still come
-abbrev pub course_of_files : Bool → ℕ → History → ℕ → List File → Course FileFault
+abbrev pub course_of_files : Bool → ℕ → History → ℕ → List File → Course FaultAt
 course_of_files ignores room h place [] = course_end (Ok h)
 course_of_files ignores room h place (file ∷ files) =
     behind_histories (course_of_file ignores room h file).after
@@ -75,13 +75,13 @@ course_of_files ignores room h place (file ∷ files) =
     (λ next. course_of_files ignores (room - length file.bytes) (file_ended next) (place + 1) files))
 
 -- the course of a run over all of its files, behind its start
-unfoldable pub course_of : Outset → Bool → List File → Course FileFault
+unfoldable pub course_of : Outset → Bool → List File → Course FaultAt
 course_of start ignores files = course_of_files ignores start.room start.history 0 files
 
-abbrev pub fault_in : Result History FileFault → Option FileFault
+abbrev pub fault_in : Result History FaultAt → Option FaultAt
 fault_in (Ok history) = None
 fault_in (Err fault) = Some fault
 
 -- the fault of the earliest moment
-abbrev pub first_fault : Outset → Bool → List File → Option FileFault
+abbrev pub first_fault : Outset → Bool → List File → Option FaultAt
 first_fault start ignores files = fault_in (course_of start ignores files).end

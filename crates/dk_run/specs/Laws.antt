@@ -3,8 +3,8 @@ use Rattle.std.specs.Prelude.{◌≡◌, ◌≤◌, ◌++◌, ℕ, Bool, List, O
 use Rattle.dk_blocks.specs.History.{History}
 use Rattle.dk_io.specs.Outside.{HeldFile, Holds}
 use Rattle.dk_core.specs.Resuming.{AreFew, IsStart, state_file}
+use Rattle.dk_driver.specs.Files.{File, ended_file}
 use Rattle.dk_run.specs.Courses.{Outset, course_of, total_limit}
-use Rattle.dk_run.specs.Files.{File, ended_file}
 use Rattle.dk_run.specs.Starts.{Begins, BeginsLike, IsState, resumed_start}
 
 -- A run that is cut behind any of its files, saved, and resumed with the other files, comes to what the whole run comes to.

@@ -11,24 +11,12 @@ use Rattle.dk_io.specs.declared.outside.Stream.{Stream}
 use Rattle.dk_io.specs.declared.outside.Stream.TheVariants.{Report, Messages, State}
 use Rattle.dk_words.specs.Texts.{usage_line}
 use Rattle.dk_words.specs.declared.command.Command.{Command}
+use Rattle.dk_driver.specs.Files.{FaultAt, File, file_name_at}
+use Rattle.dk_program.specs.Messages.{fault_line, unread_line}
+use Rattle.dk_program.specs.Outputs.{Output, only_on}
 use Rattle.dk_run.specs.Commands.{file_names}
 use Rattle.dk_run.specs.Courses.{Course, Outset, course_of}
-use Rattle.dk_run.specs.Files.{File, FileFault, file_name_at}
-use Rattle.dk_print.specs.Sections.{fault_line}
-use Rattle.dk_run.specs.Messages.{unread_line}
 use Rattle.dk_run.specs.Reports.{due_reports, last_report}
-
--- what a run writes to each of the three streams
-pub record Output : Type 0 where
-  pub report : List ℕ
-  pub messages : List ℕ
-  pub state : List ℕ
-
--- this text on this stream, and nothing on the others
-abbrev pub only_on : Stream → List ℕ → Output
-only_on Report text = record { report = text; messages = []; state = [] }
-only_on Messages text = record { report = []; messages = text; state = [] }
-only_on State text = record { report = []; messages = []; state = text }
 
 -- the first message, where a file is generated
 abbrev pub first_line : Command → List ℕ
@@ -39,7 +27,7 @@ abbrev pub saved_state : Command → History → List ℕ
 saved_state command h = if command.save then state_file h else []
 
 -- With a fault there is no last report and no state, and the messages end with the fault's line.
-abbrev pub output_at : Command → List History → Result History FileFault → Output
+abbrev pub output_at : Command → List History → Result History FaultAt → Output
 output_at command after (Ok h) = record {
   report = due_reports command after ++ last_report command (length after) h;
   messages = first_line command;
@@ -51,7 +39,7 @@ output_at command after (Err fault) = record {
   state = [];
 }
 
-abbrev pub output_along : Command → Course FileFault → Output
+abbrev pub output_along : Command → Course FaultAt → Output
 output_along command course = output_at command course.after course.end
 
 -- the output of a run over all of its files, the generated one among them, behind its start
@@ -70,18 +58,3 @@ unread_output start command delivered name = record {
 -- the output where the words are refused
 abbrev pub usage_output : Output
 usage_output = only_on Messages usage_line
-
--- each stream with its text at its end
-abbrev pub texts_followed_by : Texts → Output → Texts
-texts_followed_by old output = record {
-  report = append_known old.report output.report;
-  messages = append_known old.messages output.messages;
-  state = append_known old.state output.state;
-}
-
--- each text is a front of the other's, and the state is written behind the whole report
-pub record IsFront (front output : Output) : Type 0 where
-  pub report : StartsWith output.report front.report
-  pub messages : StartsWith output.messages front.messages
-  pub state : StartsWith output.state front.state
-  pub in_order : (front.report ≡ output.report) ⊎ (front.state ≡ [])

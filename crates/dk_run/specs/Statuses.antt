@@ -11,71 +11,18 @@ use Rattle.dk_words.specs.Texts.{help_text, version_text}
 use Rattle.dk_words.specs.declared.command.Command.{Command}
 use Rattle.dk_arguments.specs.declared.request.Request.{Request}
 use Rattle.dk_arguments.specs.declared.request.Request.TheVariants.{Run, Help, Version}
+use Rattle.dk_driver.specs.Files.{AreHeldFiles, FaultAt, File, ended_file, file_name_at}
+use Rattle.dk_program.specs.Messages.{fault_line, unread_line}
+use Rattle.dk_driver.specs.Reads.{AtStart, Break, HasBroken, IsDelivered, Within, held_file_at, rest_behind}
+use Rattle.dk_program.specs.Moments.{IsCalm, Outside}
+use Rattle.dk_program.specs.Outputs.{FollowedByFront, IsFront, Output, only_on, texts_followed_by}
 use Rattle.dk_run.specs.Commands.{file_names, generated_count, helds_of}
 use Rattle.dk_run.specs.Courses.{Outset, course_of, first_fault, total_limit}
 use Rattle.dk_run.specs.Starts.{Begins, BeginsLike, HasBegun, IsRefusedAs, rest_begun}
-use Rattle.dk_run.specs.Files.{File, FileFault, AreHeldFiles, cut_file, file_name_at, ended_file}
-use Rattle.dk_print.specs.Sections.{fault_line}
-use Rattle.dk_run.specs.Messages.{unread_line}
-use Rattle.dk_run.specs.Outputs.{IsFront, Output, first_line, only_on, output_of, texts_followed_by, unread_output, usage_output}
+use Rattle.dk_run.specs.Outputs.{first_line, output_of, unread_output, usage_output}
 use Rattle.dk_run.specs.Reports.{due_reports}
-use Rattle.dk_run.specs.declared.status.Status.{Status}
-use Rattle.dk_run.specs.declared.status.Status.TheVariants.{Done, Refused, Usage, Read, Write, NoMemory}
-
--- the number of a status, as the program ends with it
-abbrev pub exit_code : Status → ℕ
-exit_code Done = 0
-exit_code Refused = 1
-exit_code Usage = 2
-exit_code Read = 3
-exit_code Write = 4
-exit_code NoMemory = 5
-
--- What the inputs and the sinks of a run tell at one moment.
-pub record Outside : Type 0 where
-  pub file : List ℕ → HeldFile
-  pub rest : Option (List ℕ)
-  pub read_faults : ℕ
-  pub written : Texts
-  pub write_faults : ℕ
-
--- the moment at which they tell these
-abbrev pub outside : (List ℕ → HeldFile) → Option (List ℕ) → ℕ → Texts → ℕ → Outside
-outside file rest read_faults written write_faults = record {
-  file = file;
-  rest = rest;
-  read_faults = read_faults;
-  written = written;
-  write_faults = write_faults;
-}
-
--- ---- what was read
--- what is left of the inputs when this many named files were read to their ends
-abbrev pub rest_behind : ℕ → Option (List ℕ) → Option (List ℕ)
-rest_behind zero rest = rest
-rest_behind (suc n) rest = Some []
-
--- what is told of the file at a place
-abbrev pub held_file_at : List HeldFile → ℕ → HeldFile
-held_file_at helds place = unwrap_or (slice_get helds place) Untold
-
--- why a file was not read to its end: it could not be started, or it was, and then a read failed
-pub data Break : Type 0 where
-  AtStart : Break
-  Within : Break
-
--- This was delivered of a file that holds the bytes xs, of which a read failed: all in front of what is left. It counts as ended only where
--- nothing is left and the bytes end in a blank line without LF: then the failed read was that of the file's end, and this line has ended
--- the last block.
-abbrev pub IsDelivered : List ℕ → Option (List ℕ) → File → Type 0
-IsDelivered xs after file = (rest : List ℕ) × (after ≡ Some rest) × (xs ≡ file.bytes ++ rest)
-    × (file.is_ended ≡ true → (rest ≡ []) × (ends_in_blank_line xs ≡ true))
-
--- The cause of a break, where this is told of the file: a start fails where the file is absent or a fault of the inputs rose, and a read
--- only where one rose, of a file that is not absent.
-abbrev pub HasBroken : Break → HeldFile → Type 0 → Type 0
-HasBroken AtStart held rose = (held ≡ Absent) ⊎ rose
-HasBroken Within held rose = (held ≢ Absent) × rose
+use Rattle.dk_events.specs.declared.ended.Ended.{Ended}
+use Rattle.dk_events.specs.declared.ended.Ended.TheVariants.{Done, Refused, Usage, Read, Write, NoMemory}
 
 -- Behind this start, as far as the first n files are held, from the first on, they hold no fault.
 abbrev pub AreCleanBehind : Outset → Bool → List HeldFile → ℕ → Type 0
@@ -121,7 +68,7 @@ pub record IsStateRefused (command : Command) (before : Outside) (output : Outpu
 -- the run begins with the output is that of the run over these files.
 pub record IsRefused (command : Command) (before after : Outside) (output : Output) : Type 0 where
   pub begun : HasBegun command.resume before.file
-  pub fault : FileFault
+  pub fault : FaultAt
   pub named : fault.file < length (file_names command)
   pub none_absent : All (λ held. held ≢ Absent) (take (fault.file + 1) (helds_of command before.file))
   pub messages : output.messages ≡ first_line command ++ fault_line (file_name_at (file_names command) fault.file) fault.line fault.why
@@ -180,7 +127,7 @@ pub record IsUnread (command : Command) (before after : Outside) (output : Outpu
       UnreadGives by start command place (held_file_at (helds_of command before.file) place) before after output contents
 
 -- A run that is asked for so comes to this status, and has this output, unless a write fails or memory runs out before.
-abbrev pub ComesTo : Status → Option (Request Command) → Outside → Outside → Output → Type 0
+abbrev pub ComesTo : Ended → Option (Request Command) → Outside → Outside → Output → Type 0
 ComesTo Done (Some (Run command)) before after output = IsDone command before after output
 ComesTo Done (Some Help) before after output = output ≡ only_on stream.Report help_text
 ComesTo Done (Some Version) before after output = output ≡ only_on stream.Report version_text
@@ -190,12 +137,6 @@ ComesTo Usage None before after output = output ≡ usage_output
 ComesTo status request before after output = ⊥
 
 -- ---- runs that are cut short
--- Each stream has a front of its text at its end.
-pub record FollowedByFront (old new : Texts) (output : Output) : Type 0 where
-  pub front : Output
-  pub is_front : IsFront front output
-  pub written : new ≡ texts_followed_by old front
-
 -- While the files up to a place are read, behind the state file: the report got a front of the reports that are due, whatever files follow,
 -- and the messages a front of the first line.
 pub record IsCutWithin (command : Command) (before after : Outside) : Type 0 where
@@ -230,7 +171,7 @@ abbrev pub IsCutShort : Option (Request Command) → Outside → Outside → Typ
 IsCutShort request before after =
     (after.written ≡ before.written)
     ⊎ IsCutInRun request before after
-    ⊎ ((status : Status) × (output : Output) × ComesTo status request before after output
+    ⊎ ((status : Ended) × (output : Output) × ComesTo status request before after output
     × FollowedByFront before.written after.written output)
 
 -- ---- what each status says
@@ -238,19 +179,14 @@ IsCutShort request before after =
 abbrev pub OutputIsWritten : Outside → Outside → Output → Type 0
 OutputIsWritten before after output = (after.written ≡ texts_followed_by before.written output) × (after.write_faults ≡ before.write_faults)
 
-abbrev pub Says : Status → Option (Request Command) → Outside → Outside → Type 0
+abbrev pub Says : Ended → Option (Request Command) → Outside → Outside → Type 0
 Says Write request before after = Rose before.write_faults after.write_faults × IsCutShort request before after
 Says NoMemory request before after = (after.write_faults ≡ before.write_faults) × IsCutShort request before after
 Says status request before after = (output : Output) × ComesTo status request before after output × OutputIsWritten before after output
 
 -- ---- completeness
--- no fault of the outside rose
-pub record IsCalm (before after : Outside) : Type 0 where
-  pub read : Rose before.read_faults after.read_faults → ⊥
-  pub write : Rose before.write_faults after.write_faults → ⊥
-
 -- the run has this status and this output, or memory ran out
-abbrev pub GivesOutput : Status → Output → Status → Outside → Outside → Type 0
+abbrev pub GivesOutput : Ended → Output → Ended → Outside → Outside → Type 0
 GivesOutput status output result before after =
     ((result ≡ status) × (after.written ≡ texts_followed_by before.written output)) ⊎ (result ≡ NoMemory)
 
@@ -261,7 +197,7 @@ pub record HasMessagesOf (command : Command) (before : Outside) (start : Outset)
   pub whole : Begins command.resume before.file start → output ≡ output_of start command files
 
 -- the run has this status, and such an output over the files, or memory ran out
-abbrev pub CompletesAs : Status → Command → Outset → List File → Status → Outside → Outside → Type 0
+abbrev pub CompletesAs : Ended → Command → Outset → List File → Ended → Outside → Outside → Type 0
 CompletesAs status command start files result before after =
     ((result ≡ status)
     × ((output : Output) × HasMessagesOf command before start files output × (after.written ≡ texts_followed_by before.written output)))
@@ -269,24 +205,19 @@ CompletesAs status command start files result before after =
 
 -- Where no fault of the outside rises, a run over files that are held comes to its end. Files behind a faulty one need not be there,
 -- behind a state file that is refused, too.
-pub record IsComplete (command : Command) (before after : Outside) (result : Status) : Type 0 where
+pub record IsComplete (command : Command) (before after : Outside) (result : Ended) : Type 0 where
   pub done : (start : Outset) → BeginsLike command.resume before.file start → (contents : List (List ℕ))
       → AreHeldFiles (helds_of command before.file) contents
       → first_fault start command.ignore_missing_entry (map ended_file contents) ≡ None
       → CompletesAs Done command start (map ended_file contents) result before after
-  pub refused : (start : Outset) → BeginsLike command.resume before.file start → (n : ℕ) (contents : List (List ℕ)) (fault : FileFault)
+  pub refused : (start : Outset) → BeginsLike command.resume before.file start → (n : ℕ) (contents : List (List ℕ)) (fault : FaultAt)
       → AreHeldFiles (take n (helds_of command before.file)) contents
       → first_fault start command.ignore_missing_entry (map ended_file contents) ≡ Some fault
       → CompletesAs Refused command start (map ended_file contents) result before after
   pub state_refused : (name xs : List ℕ) (why : Why) → command.resume ≡ Some name → before.file name ≡ Holds xs → IsRefusedAs why xs
       → GivesOutput Refused (only_on stream.Messages (fault_line name 0 why)) result before after
 
--- what is asked for is a run
-abbrev pub IsARun : Option (Request Command) → Type 0
-IsARun (Some (Run command)) = Unit {0}
-IsARun request = ⊥
-
 -- The run is complete, where one is asked for.
-abbrev pub CompletesCalmly : Option (Request Command) → Outside → Outside → Status → Type 0
+abbrev pub CompletesCalmly : Option (Request Command) → Outside → Outside → Ended → Type 0
 CompletesCalmly (Some (Run command)) before after result = IsCalm before after → IsComplete command before after result
 CompletesCalmly request before after result = Unit {0}

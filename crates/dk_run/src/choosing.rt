@@ -1,8 +1,8 @@
 // What a command chooses.
 ghost use Rattle.std.specs.Prelude.{◌≡◌, ◌<◌, length};
+ghost use Rattle.dk_driver.specs.Files.{file_name_at};
 ghost use Rattle.dk_run.specs.Beginning.{state_name};
 ghost use Rattle.dk_run.specs.Commands.{file_names, generated_count, is_selected, report_options};
-ghost use Rattle.dk_run.specs.Files.{file_name_at};
 
 use dk_generate::generated_name;
 use dk_report::Options;

@@ -9,11 +9,8 @@ mod messages;
 mod reading;
 mod reporting;
 mod starting;
-mod status;
 mod top;
-mod words;
 
 pub use loaded::report_loaded;
-pub use status::Status;
+pub use dk_events::Ended as Status;
 pub use top::{run, run_command, tell_usage};
-pub use words::words_of;

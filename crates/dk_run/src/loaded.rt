@@ -8,9 +8,9 @@ ghost use Rattle.dk_run.specs.Loaded.{ReportsLoaded};
 
 use crate::choosing::{is_selected, options_of};
 use crate::reporting::{status_of, tell_last};
-use crate::status::Status;
 use dk_base::NoMemory;
 use dk_core::Session;
+use dk_events::Ended;
 use dk_io::Sinks;
 use dk_state::Loaded;
 use dk_words::Command;
@@ -23,7 +23,7 @@ fn report_selected<F: Fn(&[u8]) -> bool + Drop, S: Sinks>(
     select: F,
     loaded: Loaded,
     sinks: &mut S,
-) -> Status
+) -> Ended
     requires callable { F.IsAlwaysCallable select }
     requires selects { SelectsBy (F.post select) (selects_name command.now) }
     requires table { IsOwnTable loaded.points }
@@ -32,10 +32,10 @@ fn report_selected<F: Fn(&[u8]) -> bool + Drop, S: Sinks>(
 {
     match Session::of_loaded(alloc, select, options_of(command), loaded) {
         Ok(session) => match tell_last(alloc, command, &session, sinks) {
-            Ok(()) => Status::Done,
+            Ok(()) => Ended::Done,
             Err(halt) => status_of(halt),
         },
-        Err(NoMemory) => Status::NoMemory,
+        Err(NoMemory) => Ended::NoMemory,
     }
 }
 
@@ -46,7 +46,7 @@ pub fn report_loaded<S: Sinks>(
     command: &Command,
     loaded: Loaded,
     sinks: &mut S,
-) -> Status
+) -> Ended
     requires table { IsOwnTable loaded.points }
     requires engines { AreEnginesOf loaded.points loaded.engines × All (λ e. e.grammar ≡ loaded.grammar) loaded.engines }
     ensures { ReportsLoaded command.now loaded (S.written sinks.old) (S.written sinks.new) (S.faults sinks.old) (S.faults sinks.new) result }

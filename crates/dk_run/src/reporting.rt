@@ -13,9 +13,9 @@ ghost use Rattle.dk_run.specs.Reports.{is_due, whole_report};
 ghost use Rattle.dk_run.specs.Telling.{ReportsBy, StateTells, TellsOutcome, WritesText};
 
 use crate::messages::{after_blocks_line, end_line};
-use crate::status::Status;
 use dk_base::{PointId, Text};
 use dk_core::Session;
+use dk_events::Ended;
 use dk_io::{Failed, Sinks, Stream, write_all};
 use dk_words::Command;
 use std::alloc::Global;
@@ -28,12 +28,12 @@ pub(crate) enum Halt {
 }
 
 /// The status of a run that halts so.
-pub(crate) fn status_of(halt: Halt) -> Status
+pub(crate) fn status_of(halt: Halt) -> Ended
     ensures { result ≡ status_of halt }
 {
     match halt {
-        Halt::Write => Status::Write,
-        Halt::NoMemory => Status::NoMemory,
+        Halt::Write => Ended::Write,
+        Halt::NoMemory => Ended::NoMemory,
     }
 }
 

@@ -3,29 +3,18 @@ ghost use Rattle.std.specs.Prelude.{◌≡◌, ◌≤◌, List, ℕ, IfErr, IfOk
 ghost use Rattle.dk_io.specs.Outside.{HeldFile, Rose};
 ghost use Rattle.dk_core.specs.Selecting.{SelectsBy};
 ghost use Rattle.dk_core.specs.Standing.{select_of};
-ghost use Rattle.dk_run.specs.Beginning.{IsBegun, IsLeft, IsWhole, IsResumed, IsUnloaded, StartTroubleGives, StateTroubleGives, trouble_of_load, trouble_of_read};
+ghost use Rattle.dk_run.specs.Beginning.{IsBegun, IsLeft, IsWhole, IsResumed, IsUnloaded, StartFaultGives, StateFaultGives, fault_of_load, fault_of_read, refused_whole};
 ghost use Rattle.dk_run.specs.Commands.{is_selected};
 ghost use Rattle.dk_run.specs.Courses.{total_limit};
 
 use crate::choosing::options_of;
 use dk_base::{NoMemory, Text, Why};
 use dk_core::{LoadFault, Session};
+use dk_driver::FileFault;
 use dk_io::{AllFault, Failed, Inputs, read_all};
 use dk_lines::Limits;
 use dk_words::Command;
 use std::alloc::Global;
-
-/// Why a run does not begin.
-#[derive(Clone, Copy, Debug, PartialEq, Eq)]
-pub(crate) enum StartTrouble {
-    /// The state file is refused.
-    Refused { why: Why },
-    /// It could not be started.
-    Start,
-    /// It was started, and then a read failed.
-    Read,
-    NoMemory,
-}
 
 /// A session in front of the first file, and how many bytes the files may have together.
 #[derive(Drop)]
@@ -34,37 +23,44 @@ pub(crate) struct Beginning<F> {
     pub(crate) room: u64,
 }
 
-fn trouble_of_read(fault: AllFault) -> StartTrouble
-    ensures { result ≡ trouble_of_read fault }
+// The fault of a state file that is refused as a whole.
+fn refused_whole(why: Why) -> FileFault
+    ensures { result ≡ refused_whole why }
+{
+    FileFault::Refused { line: 0, why }
+}
+
+fn fault_of_read(fault: AllFault) -> FileFault
+    ensures { result ≡ fault_of_read fault }
 {
     match fault {
-        AllFault::Read => StartTrouble::Read,
-        AllFault::TooLong => StartTrouble::Refused { why: Why::TooLong },
-        AllFault::NoMemory => StartTrouble::NoMemory,
+        AllFault::Read => FileFault::Read,
+        AllFault::TooLong => refused_whole(Why::TooLong),
+        AllFault::NoMemory => FileFault::NoMemory,
     }
 }
 
-fn trouble_of_load(fault: LoadFault) -> StartTrouble
-    ensures { result ≡ trouble_of_load fault }
+fn fault_of_load(fault: LoadFault) -> FileFault
+    ensures { result ≡ fault_of_load fault }
 {
     match fault {
-        LoadFault::BadState => StartTrouble::Refused { why: Why::BadState },
-        LoadFault::NoMemory => StartTrouble::NoMemory,
+        LoadFault::BadState => refused_whole(Why::BadState),
+        LoadFault::NoMemory => FileFault::NoMemory,
     }
 }
 
 // Reads a state file whole.
-fn read_state<I: Inputs>(alloc: Global, name: &str, inputs: &mut I) -> Result<Text, StartTrouble>
+fn read_state<I: Inputs>(alloc: Global, name: &str, inputs: &mut I) -> Result<Text, FileFault>
     ensures whole { IfOk result (λ text. IsWhole (I.file inputs.old name.now) text (I.rest inputs.new)) }
-    ensures trouble { IfErr result (StateTroubleGives (I.file inputs.old name.now) (Rose (I.faults inputs.old) (I.faults inputs.new)) (I.rest inputs.old) (I.rest inputs.new)) }
+    ensures fault { IfErr result (StateFaultGives (I.file inputs.old name.now) (Rose (I.faults inputs.old) (I.faults inputs.new)) (I.rest inputs.old) (I.rest inputs.new)) }
     ensures files { I.file inputs.new ≡ I.file inputs.old }
     ensures later { I.faults inputs.old ≤ I.faults inputs.new }
 {
     match inputs.start(name) {
-        Err(Failed) => Err(StartTrouble::Start),
+        Err(Failed) => Err(FileFault::Start),
         Ok(()) => match read_all(alloc, inputs, Limits::STANDARD.total) {
             Ok(text) => Ok(text),
-            Err(fault) => Err(trouble_of_read(fault)),
+            Err(fault) => Err(fault_of_read(fault)),
         },
     }
 }
@@ -74,18 +70,18 @@ fn begin_new<F: Fn(&[u8]) -> bool + Drop>(
     alloc: Global,
     command: &Command,
     select: F,
-) -> Result<Beginning<F>, StartTrouble>
+) -> Result<Beginning<F>, FileFault>
     requires { command.now.resume ≡ None }
     ensures begun { IfOk result (λ b. (file : List ℕ → HeldFile) → IsBegun command.now file b) }
     ensures select { IfOk result (λ b. select_of b.session ≡ select) }
-    ensures trouble { IfErr result (λ t. t ≡ StartTrouble.NoMemory) }
+    ensures fault { IfErr result (λ f. f ≡ FileFault.NoMemory) }
 {
     match Session::new(alloc, select, options_of(command)) {
         Ok(session) => Ok(Beginning {
             session,
             room: Limits::STANDARD.total,
         }),
-        Err(NoMemory) => Err(StartTrouble::NoMemory),
+        Err(NoMemory) => Err(FileFault::NoMemory),
     }
 }
 
@@ -95,18 +91,18 @@ fn begin_resumed<F: Fn(&[u8]) -> bool + Drop>(
     command: &Command,
     select: F,
     state: &[u8],
-) -> Result<Beginning<F>, StartTrouble>
+) -> Result<Beginning<F>, FileFault>
     requires { length state.now ≤ total_limit }
     ensures begun { IfOk result (λ b. IsResumed command.now state.now b) }
     ensures select { IfOk result (λ b. select_of b.session ≡ select) }
-    ensures trouble { IfErr result (λ t. IsUnloaded state.now t) }
+    ensures fault { IfErr result (λ f. IsUnloaded state.now f) }
 {
     match Session::resume(alloc, select, options_of(command), state) {
         Ok(session) => Ok(Beginning {
             session,
             room: Limits::STANDARD.total - state.len() as u64,
         }),
-        Err(fault) => Err(trouble_of_load(fault)),
+        Err(fault) => Err(fault_of_load(fault)),
     }
 }
 
@@ -116,22 +112,22 @@ pub(crate) fn begin<F: Fn(&[u8]) -> bool + Drop, I: Inputs>(
     command: &Command,
     select: F,
     inputs: &mut I,
-) -> Result<Beginning<F>, StartTrouble>
+) -> Result<Beginning<F>, FileFault>
     requires callable { F.IsAlwaysCallable select }
     requires selects { SelectsBy (F.post select) (is_selected command.now) }
     ensures begun { IfOk result (λ b. IsBegun command.now (I.file inputs.old) b) }
     ensures left { OnOk result (IsLeft command.now.resume (I.file inputs.old) (I.rest inputs.old) (I.rest inputs.new)) }
     ensures callable { IfOk result (λ b. F.IsAlwaysCallable (select_of b.session)) }
     ensures selects { IfOk result (λ b. SelectsBy (F.post (select_of b.session)) (is_selected command.now)) }
-    ensures trouble { IfErr result (StartTroubleGives command.now.resume (I.file inputs.old) (Rose (I.faults inputs.old) (I.faults inputs.new)) (I.rest inputs.old) (I.rest inputs.new)) }
+    ensures fault { IfErr result (StartFaultGives command.now.resume (I.file inputs.old) (Rose (I.faults inputs.old) (I.faults inputs.new)) (I.rest inputs.old) (I.rest inputs.new)) }
     ensures files { I.file inputs.new ≡ I.file inputs.old }
     ensures later { I.faults inputs.old ≤ I.faults inputs.new }
 {
     match &command.resume {
         None => begin_new(alloc, command, select),
-        Some(name) => match read_state(alloc, name.as_str(), inputs) {
-            Ok(state) => begin_resumed(alloc, command, select, state.as_slice()),
-            Err(trouble) => Err(trouble),
-        },
+        Some(name) => {
+            let state = read_state(alloc, name.as_str(), inputs)?;
+            begin_resumed(alloc, command, select, state.as_slice())
+        }
     }
 }

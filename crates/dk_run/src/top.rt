@@ -8,72 +8,36 @@ ghost use Rattle.dk_core.specs.Standing.{select_of};
 ghost use Rattle.dk_words.specs.Requests.{request_of};
 ghost use Rattle.dk_words.specs.Texts.{usage_line as usage_text};
 ghost use Rattle.dk_arguments.specs.declared.request.Request.TheVariants as request;
+ghost use Rattle.dk_program.specs.Ending.{EndsWith};
+ghost use Rattle.dk_program.specs.Moments.{Outside, outside};
+ghost use Rattle.dk_program.specs.Statuses.{IsARun};
 ghost use Rattle.dk_run.specs.AllFiles.{AreCalmBut, IsCaused, IsTroubleOf, RunGives};
 ghost use Rattle.dk_run.specs.Commands.{file_names, helds_of, is_selected as selects_name};
 ghost use Rattle.dk_run.specs.Beginning.{HasCome, IsBegun};
-ghost use Rattle.dk_run.specs.Ending.{EndsBy, EndsUnbegun, EndsWith};
-ghost use Rattle.dk_print.specs.Sections.{fault_line as fault_text};
-ghost use Rattle.dk_run.specs.Messages.{unread_line as unread_text};
+ghost use Rattle.dk_run.specs.Ending.{EndsBy};
 ghost use Rattle.dk_run.specs.Outputs.{first_line};
-ghost use Rattle.dk_run.specs.Statuses.{CompletesCalmly, IsARun, Outside, Says, outside};
+ghost use Rattle.dk_run.specs.Statuses.{CompletesCalmly, Says};
 ghost use Rattle.dk_run.specs.Telling.{Added, ReportsBy, WritesText};
 
 use crate::choosing::{is_selected, name_at, state_name};
-use crate::messages::unread_line;
 use crate::reading::{FilesTrouble, read_files, read_generated};
 use crate::reporting::{Halt, status_of, tell_last, tell_state, write};
-use crate::starting::{Beginning, StartTrouble, begin};
-use crate::status::Status;
-use dk_arguments::{ArgumentsFault, Request};
-use dk_base::Why;
+use crate::starting::{Beginning, begin};
 use dk_core::Session;
+use dk_driver::FileFault;
+use dk_events::Ended;
 use dk_generate::generated_line;
-use dk_io::{Failed, Inputs, Sinks, Stream, write_all};
+use dk_io::{Inputs, Sinks, Stream};
 use dk_lines::{Limits, Lines};
-use dk_print::fault;
-use dk_words::{Command, help_text, read_words, usage_line, version_text};
+use dk_program::{asked_run, tell_file_fault};
+use dk_words::Command;
 use std::alloc::Global;
 
-// Writes a text and answers the status, or that the write failed.
-fn end_with<S: Sinks>(sinks: &mut S, stream: Stream, text: &[u8], status: Status) -> Status
-    ensures { EndsWith status stream text.now (S.written sinks.old) (S.written sinks.new) (S.faults sinks.old) (S.faults sinks.new) result }
+/// Tells that the arguments are refused.
+pub fn tell_usage<S: Sinks>(sinks: &mut S) -> Ended
+    ensures { EndsWith Ended.Usage stream.Messages usage_text (S.written sinks.old) (S.written sinks.new) (S.faults sinks.old) (S.faults sinks.new) result }
 {
-    match write_all(sinks, stream, text) {
-        Ok(()) => status,
-        Err(Failed) => Status::Write,
-    }
-}
-
-/// Tells that the words are refused.
-pub fn tell_usage<S: Sinks>(sinks: &mut S) -> Status
-    ensures { EndsWith Status.Usage stream.Messages usage_text (S.written sinks.old) (S.written sinks.new) (S.faults sinks.old) (S.faults sinks.new) result }
-{
-    end_with(
-        sinks,
-        Stream::Messages,
-        usage_line().as_bytes(),
-        Status::Usage,
-    )
-}
-
-// Tells that a file can't be read.
-fn tell_unread<S: Sinks>(alloc: Global, name: &str, sinks: &mut S) -> Status
-    ensures { EndsWith Status.Read stream.Messages (unread_text name.now) (S.written sinks.old) (S.written sinks.new) (S.faults sinks.old) (S.faults sinks.new) result }
-{
-    match unread_line(alloc, name) {
-        Ok(text) => end_with(sinks, Stream::Messages, text.as_bytes(), Status::Read),
-        Err(_) => Status::NoMemory,
-    }
-}
-
-// Tells that a line of a file is refused.
-fn tell_fault<S: Sinks>(alloc: Global, name: &str, line: u64, why: Why, sinks: &mut S) -> Status
-    ensures { EndsWith Status.Refused stream.Messages (fault_text name.now line why) (S.written sinks.old) (S.written sinks.new) (S.faults sinks.old) (S.faults sinks.new) result }
-{
-    match fault(alloc, name.as_bytes(), line, why) {
-        Ok(text) => end_with(sinks, Stream::Messages, text.as_slice(), Status::Refused),
-        Err(_) => Status::NoMemory,
-    }
+    dk_program::tell_usage::<Command, S>(sinks)
 }
 
 // Tells a trouble with the files.
@@ -82,39 +46,23 @@ fn tell_trouble<S: Sinks>(
     command: &Command,
     trouble: FilesTrouble,
     sinks: &mut S,
-) -> Status
+) -> Ended
     requires { IsTroubleOf (length (file_names command.now)) trouble }
     ensures { EndsBy command.now trouble (S.written sinks.old) (S.written sinks.new) (S.faults sinks.old) (S.faults sinks.new) result }
 {
     match trouble {
-        FilesTrouble::Refused { place, line, why } => tell_fault(
-            alloc,
-            name_at(command, place),
-            line,
-            why,
-            sinks,
-        ),
-        FilesTrouble::Start { place } => tell_unread(alloc, name_at(command, place), sinks),
-        FilesTrouble::Read { place } => tell_unread(alloc, name_at(command, place), sinks),
-        FilesTrouble::Write => Status::Write,
-        FilesTrouble::NoMemory => Status::NoMemory,
-    }
-}
-
-// Tells a trouble with the state file.
-fn tell_unbegun<S: Sinks>(
-    alloc: Global,
-    command: &Command,
-    trouble: StartTrouble,
-    sinks: &mut S,
-) -> Status
-    ensures { EndsUnbegun command.now trouble (S.written sinks.old) (S.written sinks.new) (S.faults sinks.old) (S.faults sinks.new) result }
-{
-    match trouble {
-        StartTrouble::Refused { why } => tell_fault(alloc, state_name(command), 0, why, sinks),
-        StartTrouble::Start => tell_unread(alloc, state_name(command), sinks),
-        StartTrouble::Read => tell_unread(alloc, state_name(command), sinks),
-        StartTrouble::NoMemory => Status::NoMemory,
+        FilesTrouble::Refused { place, line, why } => {
+            let fault = FileFault::Refused { line, why };
+            tell_file_fault(alloc, name_at(command, place), fault, sinks)
+        }
+        FilesTrouble::Start { place } => {
+            tell_file_fault(alloc, name_at(command, place), FileFault::Start, sinks)
+        }
+        FilesTrouble::Read { place } => {
+            tell_file_fault(alloc, name_at(command, place), FileFault::Read, sinks)
+        }
+        FilesTrouble::Write => Ended::Write,
+        FilesTrouble::NoMemory => Ended::NoMemory,
     }
 }
 
@@ -169,7 +117,7 @@ fn run_files<F: Fn(&[u8]) -> bool + Drop, I: Inputs, S: Sinks>(
     beginning: Beginning<F>,
     inputs: &mut I,
     sinks: &mut S,
-) -> Status
+) -> Ended
     requires callable { F.IsAlwaysCallable (select_of beginning.session) }
     requires selects { SelectsBy (F.post (select_of beginning.session)) (selects_name command.now) }
     requires begun { IsBegun command.now (I.file inputs.old) beginning }
@@ -183,7 +131,7 @@ fn run_files<F: Fn(&[u8]) -> bool + Drop, I: Inputs, S: Sinks>(
     match read_run(alloc, command, beginning, inputs, sinks) {
         Ok(session) => match tell_last(alloc, command, &session, sinks) {
             Ok(()) => match tell_state(alloc, command, &session, sinks) {
-                Ok(()) => Status::Done,
+                Ok(()) => Ended::Done,
                 Err(halt) => status_of(halt),
             },
             Err(halt) => status_of(halt),
@@ -199,7 +147,7 @@ fn run_begun<F: Fn(&[u8]) -> bool + Drop, I: Inputs, S: Sinks>(
     beginning: Beginning<F>,
     inputs: &mut I,
     sinks: &mut S,
-) -> Status
+) -> Ended
     requires callable { F.IsAlwaysCallable (select_of beginning.session) }
     requires selects { SelectsBy (F.post (select_of beginning.session)) (selects_name command.now) }
     requires begun { IsBegun command.now (I.file inputs.old) beginning }
@@ -221,7 +169,7 @@ fn do_command<I: Inputs, S: Sinks>(
     command: &Command,
     inputs: &mut I,
     sinks: &mut S,
-) -> Status
+) -> Ended
     ensures says { let before : Outside = outside (I.file inputs.old) (I.rest inputs.old) (I.faults inputs.old) (S.written sinks.old) (S.faults sinks.old) in
         let after : Outside = outside (I.file inputs.new) (I.rest inputs.new) (I.faults inputs.new) (S.written sinks.new) (S.faults sinks.new) in
         Says result (Some (request.Run command.now)) before after }
@@ -234,7 +182,7 @@ fn do_command<I: Inputs, S: Sinks>(
         inputs,
     ) {
         Ok(beginning) => run_begun(alloc, command, beginning, inputs, sinks),
-        Err(trouble) => tell_unbegun(alloc, command, trouble, sinks),
+        Err(fault) => tell_file_fault(alloc, state_name(command), fault, sinks),
     }
 }
 
@@ -244,7 +192,7 @@ pub fn run_command<I: Inputs, S: Sinks>(
     command: &Command,
     inputs: &mut I,
     sinks: &mut S,
-) -> Status
+) -> Ended
     // What the status says.
     ensures says { let before : Outside = outside (I.file inputs.old) (I.rest inputs.old) (I.faults inputs.old) (S.written sinks.old) (S.faults sinks.old) in
         let after : Outside = outside (I.file inputs.new) (I.rest inputs.new) (I.faults inputs.new) (S.written sinks.new) (S.faults sinks.new) in
@@ -265,7 +213,7 @@ pub fn run<I: Inputs, S: Sinks>(
     words: &[String],
     inputs: &mut I,
     sinks: &mut S,
-) -> Status
+) -> Ended
     // What the status says.
     ensures says { let before : Outside = outside (I.file inputs.old) (I.rest inputs.old) (I.faults inputs.old) (S.written sinks.old) (S.faults sinks.old) in
         let after : Outside = outside (I.file inputs.new) (I.rest inputs.new) (I.faults inputs.new) (S.written sinks.new) (S.faults sinks.new) in
@@ -278,16 +226,8 @@ pub fn run<I: Inputs, S: Sinks>(
         CompletesCalmly (request_of (map string_bytes words.now)) before after result }
     ensures files { I.file inputs.new ≡ I.file inputs.old }
 {
-    match read_words(alloc, words) {
-        Ok(Request::Run(command)) => run_command(alloc, &command, inputs, sinks),
-        Ok(Request::Help) => end_with(sinks, Stream::Report, help_text().as_bytes(), Status::Done),
-        Ok(Request::Version) => end_with(
-            sinks,
-            Stream::Report,
-            version_text().as_bytes(),
-            Status::Done,
-        ),
-        Err(ArgumentsFault::Refused) => tell_usage(sinks),
-        Err(ArgumentsFault::NoMemory) => Status::NoMemory,
+    match asked_run::<Command, S>(alloc, words, sinks) {
+        Ok(command) => run_command(alloc, &command, inputs, sinks),
+        Err(ended) => ended,
     }
 }

@@ -1,10 +1,8 @@
-use Rattle.std.proofs.Common.{subst, sym}
-use Rattle.dk_events.specs.declared.ended.Ended.{Ended}
+use Rattle.std.proofs.Common.{subst}
 use Rattle.dk_merging.specs.Loading.{text_of}
 use Rattle.dk_words.specs.declared.command.Command.{Command}
 use Rattle.dk_run.specs.Loaded.{ReportsLoaded}
 use Rattle.dk_merge.proofs.StateReports.{report_ends}
-use Rattle.dk_merge.specs.Running.{ReportEnds}
 use Rattle.dk_merge.proofs.running.report_states.Goals as goal
 
 pub report_loaded-requires-clause-table : goal.report_loaded-requires-clause-table
@@ -22,5 +20,4 @@ returns g c =
     let loaded = c.into_loaded.result in
     let state = text_of c.args.states in
     let told = subst (λ (command : Command). ReportsLoaded command loaded old new before after c.report_loaded.result) c.reporting-command.ensures c.report_loaded.ensures in
-    subst (λ (ended : Ended). ReportEnds c.args.least state old new before after ended) (sym c.ended_of.ensures)
-    (report_ends c.args.least state loaded c.into_loaded.ensures.held old new before after c.report_loaded.result told)
+    report_ends c.args.least state loaded c.into_loaded.ensures.held old new before after c.report_loaded.result told

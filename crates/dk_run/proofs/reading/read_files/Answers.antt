@@ -3,9 +3,9 @@ use Rattle.dk_io.specs.Outside.{HeldFile, Rose}
 use Rattle.dk_io.specs.declared.outside.Stream.TheVariants.{Report}
 use Rattle.dk_lines.specs.Reading.{room_of}
 use Rattle.dk_core.specs.Selecting.{SelectsBy}
+use Rattle.dk_driver.specs.Files.{file_name_at}
 use Rattle.dk_run.specs.AllFiles.{AreReadTo, FilesTroubleGives, HasBrokenAt, files_trouble}
 use Rattle.dk_run.specs.Commands.{file_names, generated_count, helds_of, is_selected}
-use Rattle.dk_run.specs.Files.{file_name_at}
 use Rattle.dk_run.specs.declared.reading.FilesTrouble.{FilesTrouble}
 use Rattle.dk_run.proofs.Filing.{alike_on, alike_same, reports_on}
 use Rattle.dk_run.proofs.Placing.{named_cause, named_on, named_trouble, names_length, nothing_told}

@@ -1,26 +1,30 @@
-use Rattle.std.proofs.Common.{rules, ◌≡◌, ◌∙◌, map, string_bytes, Some, None}
+use Rattle.std.proofs.Common.{map, string_bytes, Option, subst, sym}
+use Rattle.dk_arguments.specs.declared.request.Request.{Request}
+use Rattle.dk_program.specs.Statuses.{IsARun}
 use Rattle.dk_words.specs.Requests.{request_of}
-use Rattle.dk_arguments.specs.declared.request.Request.TheVariants.{Run, Help, Version}
-use Rattle.dk_run.proofs.Complete.{complete_says}
-use Rattle.dk_run.proofs.Saying.{help_says, usage_says, version_says}
+use Rattle.dk_words.specs.declared.command.Command.{Command}
+use Rattle.dk_run.proofs.Complete.{complete_says, without_run_completes}
+use Rattle.dk_run.proofs.Saying.{run_says, without_run_says}
 use Rattle.dk_run.proofs.top.run.Goals as goal
 
-pub returns-in-Ok-Run-clause-complete : goal.returns-in-Ok-Run-clause-complete
-returns-in-Ok-Run-clause-complete g c =
-    let is : request_of (map string_bytes c.args.words.now) ≡ Some (Run c.in-Ok-Run.command) = search rules in
-    complete_says _ c.in-Ok-Run.command _ _ c.run_command.result is c.run_command.ensures.says
+-- ---- a run
+pub returns-in-Ok-clause-says : goal.returns-in-Ok-clause-says
+unfolding request_of
+returns-in-Ok-clause-says g c = run_says _ c.in-Ok.command _ _ c.run_command.result c.in-Ok.ensures.asked (rw c.in-Ok.ensures.unwritten at c.run_command.ensures.says)
 
-pub returns-in-Ok-Help-clause-says : goal.returns-in-Ok-Help-clause-says
-returns-in-Ok-Help-clause-says g c =
-    let is : request_of (map string_bytes c.args.words.now) ≡ Some Help = search rules in
-    help_says _ _ _ _ c.end_with.result is (c.as_bytes.ensures.value ∙ c.help_text.ensures) c.end_with.ensures
+pub returns-in-Ok-clause-unread : goal.returns-in-Ok-clause-unread
+unfolding request_of
+returns-in-Ok-clause-unread g c none = absurd (none (subst (λ (r : Option (Request Command)). IsARun r) (sym c.in-Ok.ensures.asked) tt))
 
-pub returns-in-Ok-Version-clause-says : goal.returns-in-Ok-Version-clause-says
-returns-in-Ok-Version-clause-says g c =
-    let is : request_of (map string_bytes c.args.words.now) ≡ Some Version = search rules in
-    version_says _ _ _ _ c.end_with-in-Ok-Version.result is (c.as_bytes-in-Ok-Version.ensures.value ∙ c.version_text.ensures) c.end_with-in-Ok-Version.ensures
+pub returns-in-Ok-clause-complete : goal.returns-in-Ok-clause-complete
+unfolding request_of
+returns-in-Ok-clause-complete g c = complete_says _ c.in-Ok.command _ _ c.run_command.result c.in-Ok.ensures.asked (rw c.in-Ok.ensures.unwritten at c.run_command.ensures.says)
 
-pub returns-in-Err-Refused-clause-says : goal.returns-in-Err-Refused-clause-says
-returns-in-Err-Refused-clause-says g c =
-    let is : request_of (map string_bytes c.args.words.now) ≡ None = search rules in
-    usage_says _ _ _ c.tell_usage.result is c.tell_usage.ensures
+-- ---- none
+pub returns-in-Err-clause-says : goal.returns-in-Err-clause-says
+unfolding request_of
+returns-in-Err-clause-says g c = without_run_says _ _ _ c.in-Err.ended c.in-Err.ensures.ends
+
+pub returns-in-Err-clause-complete : goal.returns-in-Err-clause-complete
+unfolding request_of
+returns-in-Err-clause-complete g c = without_run_completes _ _ _ c.in-Err.ended (without_run_says _ _ _ c.in-Err.ended c.in-Err.ensures.ends)
