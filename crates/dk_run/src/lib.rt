@@ -11,6 +11,6 @@ mod reporting;
 mod starting;
 mod top;
 
-pub use loaded::report_loaded;
 pub use dk_events::Ended as Status;
+pub use loaded::report_loaded;
 pub use top::{run, run_command, tell_usage};
