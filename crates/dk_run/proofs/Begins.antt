@@ -51,9 +51,11 @@ unread_fault held mid rest before a b c result all.Read is starts later long del
     ((there_started held mid starts, rose_since a b c later (rose is)), λ xs holds. subst (λ (o : Option (List ℕ)). DeliversUpTo total_limit o rest) (told_started held mid xs starts holds) (delivers is))
 unread_fault held mid rest before a b c result all.TooLong is starts later long delivers rose = (
   refl,
-  there_started held mid starts,
-  inl refl,
-  λ xs holds. inl (refl, subst (λ (o : Option (List ℕ)). IfSome o (λ bytes. total_limit < length bytes)) (told_started held mid xs starts holds) (long is)),
+  (
+    there_started held mid starts,
+    inl refl,
+    λ xs holds. inl (refl, subst (λ (o : Option (List ℕ)). IfSome o (λ bytes. total_limit < length bytes)) (told_started held mid xs starts holds) (long is)),
+  ),
 )
 unread_fault held mid rest before a b c result all.NoMemory is starts later long delivers rose = tt
 
@@ -152,10 +154,12 @@ unloaded_gives : (held : HeldFile) (rose : Type 0) (state : List ℕ) (before re
     → StateFaultGives held rose before rest fault
 unloaded_gives held rose state before rest (b.Refused line why) whole bad = (
   bad.0,
-  whole.there,
-  inr bad.1.0,
-  λ xs holds. let same = (whole.all xs holds).0 in
-      inr (bad.1.0, subst (λ (l : List ℕ). length l ≤ total_limit) same whole.short, λ spelling. bad.1.1 (subst IsSpelling (sym same) spelling)),
+  (
+    whole.there,
+    inr bad.1,
+    λ xs holds. let same = (whole.all xs holds).0 in
+        inr (bad.1, subst (λ (l : List ℕ). length l ≤ total_limit) same whole.short, λ spelling. bad.2 (subst IsSpelling (sym same) spelling)),
+  ),
 )
 unloaded_gives held rose state before rest b.Start whole bad = absurd bad
 unloaded_gives held rose state before rest b.Read whole bad = absurd bad
