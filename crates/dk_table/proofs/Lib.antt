@@ -25,3 +25,17 @@ pub mod Fitting
 pub mod Begun
 pub mod Sampled
 pub mod Counted
+pub mod Chunked
+pub mod Gathering
+pub mod Streamed
+pub mod Sent
+pub mod Told
+pub mod Staged
+pub mod Parts
+pub mod Grown
+pub mod Progressed
+pub mod Onward
+pub mod Closing
+pub mod Chosen
+pub mod Agreed
+pub mod Opened
