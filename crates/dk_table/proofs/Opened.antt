@@ -1,15 +1,14 @@
 -- A trace that is begun behind the rows by which its kinds are found.
-use Rattle.std.proofs.Common.{◌≡◌, ◌∙◌, ◌∷◌, ◌++◌, [], ℕ, Bool, true, false, List, Option, Some, None, Result, Ok, Err, append-nil, refl, sym, ap, subst}
+use Rattle.std.proofs.Common.{◌≡◌, ◌∙◌, ◌++◌, ℕ, true, false, List, Option, None, Result, Err, refl, sym, ap, subst}
 use Rattle.dk_decl.specs.declared.decls.PointDecl.{PointDecl}
 use Rattle.dk_io.specs.Streams.{AddsFront, Texts, with_bytes}
 use Rattle.dk_io.specs.declared.outside.Stream.TheVariants.{Report}
 use Rattle.dk_io.proofs.Writing.{added_nil}
 use Rattle.dk_write.specs.Texts.{Begins, Declares, block_text, trace_text}
 use Rattle.dk_table.specs.Forms.{form_of, rows_text}
-use Rattle.dk_table.specs.Placed.{Placed}
 use Rattle.dk_table.specs.Stops.{Writes}
-use Rattle.dk_table.specs.Streams.{Step, Stream, first_refusal, nothing_but, rows_before, stream_by, told_steps, trace_before}
-use Rattle.dk_table.specs.Traces.{are_named, declaration_of, writes_of}
+use Rattle.dk_table.specs.Streams.{Step, Stream, first_refusal, rows_before, stream_by, told_steps}
+use Rattle.dk_table.specs.Traces.{are_named, declaration_of}
 use Rattle.dk_table.specs.declared.columns.ColumnKind.{ColumnKind}
 use Rattle.dk_table.specs.declared.faults.Refusal.{Refusal}
 use Rattle.dk_table.specs.declared.faults.TableWhy.TheVariants.{BadName}

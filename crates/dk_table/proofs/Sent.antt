@@ -1,5 +1,5 @@
 -- Texts that are written up to a refusal.
-use Rattle.std.proofs.Common.{◌≡◌, ◌+◌, ◌∙◌, ◌++◌, [], ℕ, List, Option, Some, None, Result, Ok, Err, append_assoc, append-nil, length, length-append, take, refl, sym, ap, subst, arith}
+use Rattle.std.proofs.Common.{◌≡◌, ◌+◌, ◌∙◌, ◌++◌, [], ℕ, List, Option, Some, Result, Ok, Err, append-nil, length, length-append, take, refl, sym, ap, subst, arith}
 use Rattle.std.proofs.Math.Seq.{take-append-add}
 use Rattle.std.proofs.lemmas.List.{take-append-le}
 use Rattle.dk_io.specs.Outside.{Rose}
@@ -7,13 +7,13 @@ use Rattle.dk_io.specs.Streams.{AddsFront, Texts, with_bytes}
 use Rattle.dk_io.specs.declared.outside.Stream.TheVariants.{Report}
 use Rattle.dk_io.proofs.Writing.{added_nil, added_twice}
 use Rattle.dk_table.specs.Stops.{Gathers, Writes, stop_of_halt}
-use Rattle.dk_table.specs.Writing.{HaltHasCause, IsTold, Tells}
+use Rattle.dk_table.specs.Writing.{HaltHasCause, IsTold}
 use Rattle.dk_table.specs.declared.faults.Refusal.{Refusal}
 use Rattle.dk_table.specs.declared.stops.Stop.{Stop}
 use Rattle.dk_table.specs.declared.stops.Stop.TheVariants.{NoMemory, Refused, Unread, Unstarted, Write}
 use Rattle.dk_table.specs.declared.writing.Halt.{Halt}
 use Rattle.dk_table.specs.declared.writing.Halt.TheVariants as halt
-use Rattle.dk_table.proofs.Pieces.{cut_here, cut_then, told_all, told_as, told_nothing, told_then}
+use Rattle.dk_table.proofs.Pieces.{cut_then, told_all, told_as, told_then}
 
 -- ---- fronts
 pub adds_none : (old : Texts) (due : List ℕ) → AddsFront old old Report due

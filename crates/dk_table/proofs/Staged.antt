@@ -1,10 +1,10 @@
 -- What is known behind a chunk.
-use Rattle.std.proofs.Common.{◌≡◌, ◌≤◌, ◌<◌, ◌+◌, ◌∙◌, ◌∷◌, ◌++◌, [], ℕ, zero, suc, Bool, true, false, List, Option, Some, None, Result, Ok, Err, append_assoc, append-nil, length, length-append, map, take, refl, sym, ap, subst, arith}
-use Rattle.std.specs.Prelude.{IfOk, ⊤, nat_lt, not, if◌then◌else◌}
+use Rattle.std.proofs.Common.{◌≡◌, ◌<◌, ◌+◌, ◌∙◌, ◌∷◌, ◌++◌, [], ℕ, zero, suc, Bool, true, false, List, Option, Some, None, Result, Ok, Err, append_assoc, append-nil, length, length-append, map, take, refl, sym, ap, subst, arith}
+use Rattle.std.specs.Prelude.{IfOk, ⊤, not, if◌then◌else◌}
 use Rattle.std.proofs.lemmas.Grind.{flat_map-append}
 use Rattle.csv.specs.Reading.{records}
 use Rattle.dk_decl.specs.declared.decls.PointDecl.{PointDecl}
-use Rattle.dk_io.specs.Streams.{AddsFront, Texts, with_bytes}
+use Rattle.dk_io.specs.Streams.{Texts, with_bytes}
 use Rattle.dk_io.specs.declared.outside.Stream.TheVariants.{Report}
 use Rattle.dk_io.proofs.Writing.{added_nil}
 use Rattle.dk_write.specs.Texts.{trace_text}

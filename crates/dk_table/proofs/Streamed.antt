@@ -1,16 +1,15 @@
 -- Rows in order, up to the first that is refused.
-use Rattle.std.proofs.Common.{◌≡◌, ◌≤◌, ◌<◌, ◌+◌, ◌∙◌, ◌&&◌, ◌∷◌, ◌++◌, [], ℕ, zero, suc, Bool, true, false, List, Option, Some, None, Result, Ok, Err, append_assoc, append-nil, length, length-append, map, min, take, refl, sym, ap, subst, arith, if◌then◌else◌}
-use Rattle.std.specs.Prelude.{nat_le, not}
+use Rattle.std.proofs.Common.{◌≡◌, ◌≤◌, ◌<◌, ◌∙◌, ◌∷◌, ◌++◌, [], ℕ, zero, suc, Bool, true, false, List, Option, Some, None, Result, Ok, Err, length, map, take, refl, sym, ap, arith, if◌then◌else◌}
 use Rattle.std.proofs.lemmas.Bool.{false≢true, le-leb, lt-leb}
 use Rattle.std.proofs.lemmas.Grind.{flat_map-append}
-use Rattle.std.proofs.lemmas.List.{length-take, map-append, take-append-le, take_all}
+use Rattle.std.proofs.lemmas.List.{length-take, map-append, take_all}
 use Rattle.dk_decl.specs.declared.decls.PointDecl.{PointDecl}
-use Rattle.dk_table.specs.Judging.{Judged, fresh, fresh_column, judging, judging_all, kind_by, with_row}
+use Rattle.dk_table.specs.Judging.{Judged, fresh, judging, judging_all, kind_by, with_row}
 use Rattle.dk_table.specs.Placed.{Placed}
 use Rattle.dk_table.specs.Stages.{is_done, judging_step, judging_steps}
-use Rattle.dk_table.specs.Streams.{Step, Stream, first_cells, first_refusal, nothing, nothing_but, row_steps, rows_before, rows_steps, stream_behind, stream_by, stream_known, stream_with, told_step, told_steps, trace_before}
-use Rattle.dk_table.specs.Tables.{◌>>=◌, names_by}
-use Rattle.dk_table.specs.Traces.{are_named, declaration_of, judged, kinds_of}
+use Rattle.dk_table.specs.Streams.{Step, first_cells, first_refusal, nothing, nothing_but, row_steps, rows_before, rows_steps, stream_behind, stream_by, stream_known, stream_with, told_step, told_steps, trace_before}
+use Rattle.dk_table.specs.Tables.{◌>>=◌}
+use Rattle.dk_table.specs.Traces.{are_named, declaration_of, kinds_of}
 use Rattle.dk_table.specs.declared.columns.ColumnKind.{ColumnKind}
 use Rattle.dk_table.specs.declared.faults.Refusal.{Refusal}
 use Rattle.dk_table.specs.declared.faults.TableWhy.TheVariants.{BadName}

@@ -1,25 +1,23 @@
 -- Rows that are told, one after another.
-use Rattle.std.proofs.Common.{◌≡◌, ◌+◌, ◌∙◌, ◌∷◌, ◌++◌, [], ℕ, Bool, true, false, List, Option, Some, None, Result, Ok, Err, append_assoc, append-nil, length, refl, sym, ap, subst, if◌then◌else◌}
+use Rattle.std.proofs.Common.{◌≡◌, ◌∙◌, ◌∷◌, ◌++◌, [], ℕ, Bool, true, false, List, Option, Some, None, Result, Ok, Err, append_assoc, append-nil, refl, sym, ap, subst, if◌then◌else◌}
 use Rattle.std.proofs.lemmas.Grind.{flat_map-append}
-use Rattle.dk_io.specs.Streams.{AddsFront, Texts, with_bytes}
+use Rattle.dk_io.specs.Streams.{AddsFront, Texts}
 use Rattle.dk_io.specs.declared.outside.Stream.TheVariants.{Report}
-use Rattle.dk_table.specs.Cursors.{Cursor, Moves}
 use Rattle.dk_table.specs.Forms.{row_text, rows_text}
 use Rattle.dk_table.specs.Placed.{Placed}
 use Rattle.dk_table.specs.Stages.{steps_by}
-use Rattle.dk_table.specs.Stops.{Gathers, Writes, stop_of_halt}
-use Rattle.dk_table.specs.Streams.{Step, first_refusal, row_steps, rows_before, rows_steps, told_steps}
+use Rattle.dk_table.specs.Stops.{Gathers, stop_of_halt}
+use Rattle.dk_table.specs.Streams.{Step, first_refusal, row_steps, rows_before, told_steps}
 use Rattle.dk_table.specs.Traces.{bad_cell, is_told}
-use Rattle.dk_table.specs.Writing.{HaltHasCause, IsTold, Tells}
+use Rattle.dk_table.specs.Writing.{HaltHasCause, IsTold}
 use Rattle.dk_table.specs.declared.columns.ColumnKind.{ColumnKind}
 use Rattle.dk_table.specs.declared.faults.Refusal.{Refusal}
 use Rattle.dk_table.specs.declared.stops.Stop.{Stop}
-use Rattle.dk_table.specs.declared.stops.Stop.TheVariants.{NoMemory, Refused, Unread, Unstarted, Write}
+use Rattle.dk_table.specs.declared.stops.Stop.TheVariants.{Refused}
 use Rattle.dk_table.specs.declared.writing.Form.{Form}
 use Rattle.dk_table.specs.declared.writing.Halt.{Halt}
-use Rattle.dk_table.proofs.Moving.{moved}
 use Rattle.dk_table.proofs.Pieces.{told_nothing}
-use Rattle.dk_table.proofs.Sent.{adds_none, gathers_halt, gathers_none}
+use Rattle.dk_table.proofs.Sent.{gathers_halt}
 use Rattle.dk_table.proofs.Streamed.{Apart, before_apart, refused_behind, refused_in_front, told_apart}
 
 -- what steps gather

@@ -1,5 +1,5 @@
 -- Tables whose rows are written as they come, where kinds are found by the rows in front.
-use Rattle.std.specs.Prelude.{◌≡◌, ◌&&◌, ◌||◌, ◌+◌, ◌==◌, ◌++◌, ◌∷◌, [], ℕ, zero, suc, Bool, true, false, not, List, Option, Some, None, Result, Ok, Err, flat_map, is_none, length, map, nat_le, take, if◌then◌else◌}
+use Rattle.std.specs.Prelude.{◌&&◌, ◌||◌, ◌+◌, ◌==◌, ◌++◌, ◌∷◌, [], ℕ, zero, suc, Bool, true, false, List, Option, Some, None, Result, Ok, Err, flat_map, is_none, length, map, nat_le, take, if◌then◌else◌}
 use Rattle.csv.specs.Reading.{records}
 use Rattle.dk_decl.specs.declared.decls.PointDecl.{PointDecl}
 use Rattle.dk_write.specs.Texts.{Write}

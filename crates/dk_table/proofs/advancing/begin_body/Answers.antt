@@ -1,4 +1,4 @@
-use Rattle.std.proofs.Common.{◌≡◌, ◌∙◌, ◌++◌, [], ap, Err, false, List, map, None, Ok, Option, refl, Result, Some, subst, sym, true, ℕ}
+use Rattle.std.proofs.Common.{◌≡◌, ◌∙◌, ◌++◌, ap, Err, false, List, map, None, Ok, subst, sym, true, ℕ}
 use Rattle.std.proofs.lemmas.Result.{err_from_is_err_and}
 use Rattle.dk_decl.specs.declared.decls.PointDecl.{PointDecl}
 use Rattle.dk_io.specs.Streams.{with_bytes}
@@ -9,7 +9,7 @@ use Rattle.dk_table.specs.Forms.{form_of, rows_text}
 use Rattle.dk_table.specs.Judging.{kind_by}
 use Rattle.dk_table.specs.Pieces.{held_rows}
 use Rattle.dk_table.specs.Stops.{Writes}
-use Rattle.dk_table.specs.Streams.{Step, Stream, first_refusal, rows_before, rows_steps, stream_by, told_steps}
+use Rattle.dk_table.specs.Streams.{Step, first_refusal, rows_before, rows_steps, stream_by, told_steps}
 use Rattle.dk_table.specs.Traces.{are_named, declaration_of}
 use Rattle.dk_table.specs.declared.columns.ColumnKind.{ColumnKind}
 use Rattle.dk_table.specs.declared.held.Chunk.{Chunk}

@@ -1,4 +1,4 @@
-use Rattle.std.proofs.Common.{◌≡◌, List, Ok, Err, ℕ}
+use Rattle.std.proofs.Common.{List, Ok, Err, ℕ}
 use Rattle.std.proofs.lemmas.Result.{err_from_is_err_and}
 use Rattle.dk_table.proofs.Opened.{stop_recast}
 use Rattle.dk_table.proofs.Staged.{body_goes, body_stays}

@@ -1,4 +1,4 @@
-use Rattle.std.proofs.Common.{◌≡◌, ◌∙◌, [], ap, Err, List, None, Ok, Option, refl, Some, sym, ℕ}
+use Rattle.std.proofs.Common.{◌≡◌, ◌∙◌, List, None, refl, Some, sym, ℕ}
 use Rattle.std.proofs.lemmas.Result.{err_from_is_err_and}
 use Rattle.dk_table.proofs.Staged.{goes_first, goes_none, goes_unnamed}
 use Rattle.dk_table.specs.Pieces.{chunk_rows}

@@ -1,7 +1,7 @@
-use Rattle.std.proofs.Common.{◌≡◌, ◌<◌, ◌+◌, ◌∙◌, ◌∷◌, ◌++◌, [], ap, arith, drop, length, List, None, Option, refl, sym, ℕ}
-use Rattle.std.proofs.lemmas.List.{drop_all, drop_more}
+use Rattle.std.proofs.Common.{◌≡◌, ◌<◌, ◌+◌, ◌∙◌, ◌∷◌, ◌++◌, [], ap, arith, drop, length, List, None, Option, sym, ℕ}
+use Rattle.std.proofs.lemmas.List.{drop_more}
 use Rattle.std.proofs.lemmas.Result.{err_from_is_err_and}
-use Rattle.dk_table.proofs.Pieces.{told_all, told_as}
+use Rattle.dk_table.proofs.Pieces.{told_as}
 use Rattle.dk_table.proofs.Sent.{written_next, written_stop}
 use Rattle.dk_table.proofs.Streamed.{steps_apart}
 use Rattle.dk_table.proofs.Told.{behind, none_ahead, parts_told, refused_ahead, still_refused}

@@ -1,12 +1,11 @@
-use Rattle.std.proofs.Common.{◌≡◌, ◌+◌, ◌∙◌, ◌++◌, [], ap, append-nil, arith, length, List, None, Option, refl, sym, true, ℕ}
+use Rattle.std.proofs.Common.{◌≡◌, ◌++◌, ap, arith, length, List, None, Option, true, ℕ}
 use Rattle.std.proofs.lemmas.Result.{err_from_is_err_and}
 use Rattle.dk_table.proofs.Moving.{moved}
-use Rattle.dk_table.proofs.Pieces.{cut_here, told_as, told_nothing}
+use Rattle.dk_table.proofs.Pieces.{cut_here, told_as}
 use Rattle.dk_table.proofs.Sent.{gathered_next, gathered_stop}
 use Rattle.dk_table.proofs.Told.{behind, none_ahead, parts_told, refused_ahead, still_refused}
 use Rattle.dk_table.specs.Cursors.{Moves}
 use Rattle.dk_table.specs.Forms.{rows_text}
-use Rattle.dk_table.specs.Placed.{Placed}
 use Rattle.dk_table.specs.Streams.{Step, first_refusal, row_steps, rows_before, rows_steps, told_steps}
 use Rattle.dk_table.specs.declared.faults.Refusal.{Refusal}
 use Rattle.dk_table.proofs.sending.tell_left.Goals as goal

@@ -1,8 +1,7 @@
-use Rattle.std.proofs.Common.{◌≡◌, ◌∙◌, ◌∷◌, ◌++◌, [], ap, List, Ok, Err, Result, Bool, true, subst, sym, ℕ}
+use Rattle.std.proofs.Common.{◌≡◌, ◌∙◌, ◌∷◌, [], ap, List, Ok, Bool, subst, sym, ℕ}
 use Rattle.dk_table.proofs.Told.{Gathered}
 use Rattle.dk_table.specs.Stages.{steps_by}
 use Rattle.dk_table.specs.Streams.{Step, row_steps, told_steps}
-use Rattle.dk_table.specs.declared.faults.Refusal.{Refusal}
 use Rattle.dk_table.proofs.sending.tell_next.Goals as goal
 
 pub returns-in-Ok-true : goal.returns-in-Ok-true
