@@ -192,7 +192,7 @@ begins_none Untold = tt
 begins_none Absent = refl
 begins_none (Holds bytes) = (strip_bom bytes, refl)
 
-marked : (text : List ℕ) → strip_bom (0xEF ∷ 0xBB ∷ 0xBF ∷ text) ≡ text
+pub marked : (text : List ℕ) → strip_bom (0xEF ∷ 0xBB ∷ 0xBF ∷ text) ≡ text
 unfolding strip_bom
 marked text = refl
 
