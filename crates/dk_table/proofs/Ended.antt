@@ -25,6 +25,7 @@ use Rattle.dk_table.specs.Statuses.{Completes, ComesTo, IsCutShort, IsRead, IsRe
 use Rattle.dk_table.specs.Stops.{Writes}
 use Rattle.dk_table.specs.Streams.{Stream, stream_at, stream_in}
 use Rattle.dk_table.specs.Tables.{config_by}
+use Rattle.dk_table.specs.declared.command.Command.{Command}
 use Rattle.dk_table.specs.declared.faults.Refusal.{Refusal}
 use Rattle.dk_table.specs.declared.stops.Stop.{Stop}
 use Rattle.dk_table.specs.declared.stops.Stop.TheVariants.{NoMemory, Refused, Unread, Unstarted, Write}
@@ -346,16 +347,16 @@ module _ (a : TableArguments) (types : ℕ) (asked : a.command.types ≡ Some ty
         gives_by (Err stop) (inr s) ends = ended_gives (Err stop) s ends
 
 -- a stop at a file is at one of these
-pub stops_of_file : (a : TableArguments) (types : ℕ) (point : List ℕ) (names : List (List ℕ)) (file : List ℕ → HeldFile) (rose : Type 0) (base new : Texts) (start after : ℕ)
-    (r : Result (Unit {0}) Stop) → StreamSays a.command point types names file rose base new start after r → IsOfFile (length names) r
-stops_of_file a types point names file rose base new start after (Ok u) s = tt
-stops_of_file a types point names file rose base new start after (Err (Refused r)) s = tt
-stops_of_file a types point names file rose base new start after (Err (Unstarted place)) (inl s) = s.named
-stops_of_file a types point names file rose base new start after (Err (Unstarted place)) (inr (contents, read, w)) = absurd w
-stops_of_file a types point names file rose base new start after (Err (Unread place)) (inl s) = s.named
-stops_of_file a types point names file rose base new start after (Err (Unread place)) (inr (contents, read, w)) = absurd w
-stops_of_file a types point names file rose base new start after (Err Write) s = tt
-stops_of_file a types point names file rose base new start after (Err NoMemory) s = tt
+pub stops_of_file : (c : Command) (types : ℕ) (point : List ℕ) (names : List (List ℕ)) (file : List ℕ → HeldFile) (rose : Type 0) (base new : Texts) (start after : ℕ)
+    (r : Result (Unit {0}) Stop) → StreamSays c point types names file rose base new start after r → IsOfFile (length names) r
+stops_of_file c types point names file rose base new start after (Ok u) s = tt
+stops_of_file c types point names file rose base new start after (Err (Refused r)) s = tt
+stops_of_file c types point names file rose base new start after (Err (Unstarted place)) (inl s) = s.named
+stops_of_file c types point names file rose base new start after (Err (Unstarted place)) (inr (contents, read, w)) = absurd w
+stops_of_file c types point names file rose base new start after (Err (Unread place)) (inl s) = s.named
+stops_of_file c types point names file rose base new start after (Err (Unread place)) (inr (contents, read, w)) = absurd w
+stops_of_file c types point names file rose base new start after (Err Write) s = tt
+stops_of_file c types point names file rose base new start after (Err NoMemory) s = tt
 
 -- with the point's name and the files' as the run has them
 pub stream_says : (a : TableArguments) (types : ℕ) (point : List ℕ) (names : List (List ℕ)) (before after : Outside) (mid : Texts) (faults : ℕ) (r : Result (Unit {0}) Stop) (result : Ended)

@@ -6,15 +6,15 @@ use Rattle.dk_table.specs.Statuses.{point_of}
 use Rattle.dk_table.proofs.run.run_stream.Goals as goal
 
 pub end_stream-requires : goal.end_stream-requires
-end_stream-requires g c = stops_of_file c.args.arguments.now _ _ c.as_slice.result.now _ _ _ _ _ _ c.tell_stream.result c.tell_stream.ensures.goes
+end_stream-requires g c = stops_of_file _ _ _ c.as_slice-names.result.now _ _ _ _ _ _ c.tell_stream-told.result c.tell_stream-told.ensures.goes
 
 pub returns : goal.returns
 returns g c =
     let a = c.args.arguments.now in
     let point : c.point_of.result.now ≡ point_of a =
-    c.point_of.ensures ∙ ap (unwrap_or a.command.point) (c.name_at.ensures ∙ ap (λ (l : List (List ℕ)). file_name_at l 0) c.as_slice.ensures) in
+    c.point_of.ensures ∙ ap (unwrap_or a.command.point) (c.name_at.ensures ∙ ap (λ (l : List (List ℕ)). file_name_at l 0) c.as_slice-names.ensures) in
     record {
-      says = stream_says a c.args.types _ _ _ _ _ _ c.tell_stream.result c.end_stream.result c.requires.asked c.requires.some point c.as_slice.ensures c.tell_stream.ensures.goes c.end_stream.ensures;
-      complete = stream_completes a c.args.types _ _ _ _ _ _ c.tell_stream.result c.end_stream.result c.requires.asked c.requires.some point c.as_slice.ensures c.tell_stream.ensures.goes c.end_stream.ensures;
+      says = stream_says a c.args.types _ _ _ _ _ _ c.tell_stream-told.result c.end_stream.result c.requires.asked c.requires.some point c.as_slice-names.ensures c.tell_stream-told.ensures.goes c.end_stream.ensures;
+      complete = stream_completes a c.args.types _ _ _ _ _ _ c.tell_stream-told.result c.end_stream.result c.requires.asked c.requires.some point c.as_slice-names.ensures c.tell_stream-told.ensures.goes c.end_stream.ensures;
       files = search rules;
     }
