@@ -369,7 +369,7 @@ trace_taken d kinds rows ws e = go (are_named d) refl (untold_row kinds rows) re
         → (if b then if_told (option_map bad_cell o) (writes_of d kinds rows) else refused 0 1 BadName) ≡ Ok ws → TraceTaken d kinds rows ws
     go false named o told same = absurd (cc same)
     go true named (Some row) told same = absurd (cc same)
-    go true named None told same = record { named = named; told = told; written = cc same }
+    go true named None told same = let both : Ok {E = Refusal} (writes_of d kinds rows) ≡ Ok ws = same in record { named = named; told = told; written = cc both }
 
 bare_empty : strip_bom [] ≡ []
 unfolding strip_bom

@@ -81,13 +81,16 @@ message_says status request before after report messages mid faults result comes
     (comes_says status request before after (told report messages) comes
     (e ∙ ap (λ (t : Texts). with_bytes t Messages messages) so_far ∙ told_behind before.written report messages, still ∙ calm))
 message_says status request before after report messages mid faults result comes so_far calm (inr (inl (is, rose, (n, short, e)))) =
-    subst (λ (s : Ended). Says s request before after) (sym is)
-    (subst (λ (k : ℕ). Rose k after.write_faults) calm rose,
-    message_cut status request before after report messages comes n short (e ∙ ap (λ (t : Texts). with_bytes t Messages (take n messages)) so_far))
+    subst (λ (s : Ended). Says s request before after) (sym is) (
+      subst (λ (k : ℕ). Rose k after.write_faults) calm rose,
+      message_cut status request before after report messages comes n short (e ∙ ap (λ (t : Texts). with_bytes t Messages (take n messages)) so_far),
+    )
 message_says status request before after report messages mid faults result comes so_far calm (inr (inr (is, e, still))) =
-    subst (λ (s : Ended). Says s request before after) (sym is)
-    (still ∙ calm, inr (report_cut status request before after report messages comes
-    (length report, omega arith, e ∙ so_far ∙ ap (with_bytes before.written Report) (sym (take_all (length report) report (omega arith))))))
+    subst (λ (s : Ended). Says s request before after) (sym is) (
+      still ∙ calm,
+      inr (report_cut status request before after report messages comes
+          (length report, omega arith, e ∙ so_far ∙ ap (with_bytes before.written Report) (sym (take_all (length report) report (omega arith))))),
+    )
 
 -- ---- a run of which rows are written as they come
 module _ (a : TableArguments) (types : ℕ) (asked : a.command.types ≡ Some types) (some : 0 < types) where

@@ -104,8 +104,7 @@ steps_behind c names n [] front bytes more rest ends begins =
     let last : List Step = end_steps n (length (rows_in c.separator n bytes)) (are_paired bytes) in
     let next : List Step = all_steps c names (n + 1) more in
     let a : List Step = rows_steps h names own in
-    let b : List Step = rows_steps h names others in
-    (
+    let b : List Step = rows_steps h names others in (
       b ++ (last ++ next),
       append_assoc (rows_steps h names (rows_in c.separator n bytes)) last next
           ∙ ap (λ (l : List Step). l ++ (last ++ next)) (ap (rows_steps h names) rows ∙ steps_apart h names own others)
@@ -117,8 +116,7 @@ steps_behind c names n (first ∷ contents) front bytes more rest ends begins =
     let same : n + 1 + length contents ≡ n + length (first ∷ contents) = omega arith in
     let own : List Step = file_steps c names n first in
     let others : List Step = all_steps c names (n + 1) contents in
-    let h : Bool = c.has_header in
-    (
+    let h : Bool = c.has_header in (
       steps,
       ap (λ (l : List Step). own ++ l) is
           ∙ sym (append_assoc own (reached_steps c names (n + 1) contents front) steps)
