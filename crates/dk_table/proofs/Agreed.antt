@@ -19,6 +19,12 @@ use Rattle.dk_table.proofs.Parts.{no_records}
 use Rattle.dk_table.proofs.Streamed.{before_none, by_named, by_unnamed, refused_behind, refused_early, refused_in_front, written_ended}
 use Rattle.dk_table.proofs.Taking.{all_told}
 
+abbrev ok_rows : List Placed → Result (List Placed) Refusal
+ok_rows rows = Ok rows
+
+abbrev ok_writes : List Write → Result (List Write) Refusal
+ok_writes ws = Ok ws
+
 -- ---- no refusal among several
 front_clean : (front rest : List Step) → first_refusal (front ++ rest) ≡ None → first_refusal front ≡ None
 front_clean front rest none = go (first_refusal front) refl
@@ -95,7 +101,7 @@ rows_clean true names file (r ∷ cells) some none =
     let even : uneven_row (length names) (row ∷ rest) ≡ None = none_found (length names) row rest (header_even names row head.0) more.0 in
     let left : rows_before (own ++ others) ≡ rest = before_none own others clean ∙ ap (λ (l : List Placed). l ++ rows_before others) head.1 ∙ more.1 in
     ap (λ (b : Bool). if true && not b then refused file 1 OtherHeader else if_even file (uneven_row (length names) (row ∷ rest)) (Ok rest)) head.0
-    ∙ ap (λ (o : Option ℕ). if_even file o (Ok rest)) even ∙ ap (λ (l : List Placed). Ok {E = Refusal} l) (sym left)
+    ∙ ap (λ (o : Option ℕ). if_even file o (Ok rest)) even ∙ ap ok_rows (sym left)
 rows_clean false names file (r ∷ cells) some none =
     let row : Placed = record { file = file; number = 1; cells = r } in
     let rest : List Placed = placed_from file 2 cells in
@@ -107,7 +113,7 @@ rows_clean false names file (r ∷ cells) some none =
     let even : uneven_row (length names) (row ∷ rest) ≡ None = none_found (length names) row rest head.0 more.0 in
     let left : rows_before (own ++ others) ≡ row ∷ rest =
     before_none own others clean ∙ ap (λ (l : List Placed). l ++ rows_before others) head.1 ∙ ap (λ (l : List Placed). row ∷ l) more.1 in
-    ap (λ (o : Option ℕ). if_even file o (Ok (row ∷ rest))) even ∙ ap (λ (l : List Placed). Ok {E = Refusal} l) (sym left)
+    ap (λ (o : Option ℕ). if_even file o (Ok (row ∷ rest))) even ∙ ap ok_rows (sym left)
 
 -- ---- a file
 -- a file that can end has rows, and its quotes go in pairs
@@ -139,7 +145,7 @@ module _ (c : Command) (names : List (List ℕ)) (file : ℕ) (bytes : List ℕ)
       let clean : first_refusal own ≡ None = front_clean own end none in
       ap (λ (b : Bool). if b then rows_of c.has_header names file rows else refused file (length rows) OpenQuote) file_ends.quoted
       ∙ rows_clean c.has_header names file (records (config_by c.separator) (strip_bom bytes)) file_ends.some clean
-      ∙ ap (λ (l : List Placed). Ok {E = Refusal} l)
+      ∙ ap ok_rows
       (sym (before_none own end clean ∙ ap (λ (l : List Placed). rows_before own ++ l) file_ends.none ∙ append-nil (rows_before own)))
 
 -- ---- all files
@@ -152,7 +158,7 @@ all_clean c names file (bytes ∷ more) none =
     let clean : first_refusal own ≡ None = front_clean own others none in
     ap (λ (r : Result (List Placed) Refusal). r >>= λ front. rows_of_all c names (file + 1) more >>= λ rest. Ok (front ++ rest)) (file_clean c names file bytes clean)
     ∙ ap (λ (r : Result (List Placed) Refusal). r >>= λ rest. Ok (rows_before own ++ rest)) (all_clean c names (file + 1) more (rest_clean own others none))
-    ∙ ap (λ (l : List Placed). Ok {E = Refusal} l) (sym (before_none own others clean))
+    ∙ ap ok_rows (sym (before_none own others clean))
 
 -- ---- cells
 record ToldClean (kinds : List ColumnKind) (steps : List Step) : Type 0 where
@@ -163,12 +169,12 @@ record ToldClean (kinds : List ColumnKind) (steps : List Step) : Type 0 where
 told_clean : (kinds : List ColumnKind) (steps : List Step) → first_refusal (told_steps kinds steps) ≡ None → ToldClean kinds steps
 told_clean kinds [] none = record { none = refl; same = refl; told = refl }
 told_clean kinds (Err refusal ∷ steps) none = absurd (cc none)
-told_clean kinds (Ok row ∷ steps) none = go (is_told kinds row) refl none
+told_clean kinds (Ok row ∷ steps) none = go (λ e. told_clean kinds steps e) (is_told kinds row) refl none
   where
-    go : (b : Bool) → is_told kinds row ≡ b → first_refusal ((if b then Ok row else Err (bad_cell row)) ∷ told_steps kinds steps) ≡ None → ToldClean kinds (Ok row ∷ steps)
-    go false is e = absurd (cc e)
-    go true is e =
-        let more : ToldClean kinds steps = told_clean kinds steps e in
+    go : (first_refusal (told_steps kinds steps) ≡ None → ToldClean kinds steps) → (b : Bool) → is_told kinds row ≡ b → first_refusal ((if b then Ok row else Err (bad_cell row)) ∷ told_steps kinds steps) ≡ None → ToldClean kinds (Ok row ∷ steps)
+    go again false is e = absurd (cc e)
+    go again true is e =
+        let more : ToldClean kinds steps = again e in
         record {
           none = more.none;
           same =
@@ -222,7 +228,7 @@ module _ (point : List ℕ) (names : List (List ℕ)) (types : ℕ) (steps : Lis
 
 names_clean : (header : Bool) (rows : List Placed) → 0 < length rows → names_of header rows ≡ Ok (names_by header (first_cells rows))
 names_clean header [] some = absurd (omega (arith, some))
-names_clean header (row ∷ rows) some = refl
+names_clean header (row ∷ _) some = refl
 
 -- Where nothing is refused, what is written as rows come is the trace of the tables.
 pub streams_are_traces : (c : Command) (point : List ℕ) (types : ℕ) (files : List (List ℕ)) → c.types ≡ Some types → (stream_at c point types files).refusal ≡ None
@@ -244,7 +250,7 @@ streams_are_traces c point types (bytes ∷ more) asked none =
     ∙ ap (λ (o : Option ℕ). trace_of_table point o names rows) asked
     ∙ ap (λ (ks : List ColumnKind). trace_by (declaration_of point names ks) ks rows) own_kinds
     ∙ all_told (declaration_of point names K) K rows clean.named clean.told.told
-    ∙ ap (λ (ws : List Write). Ok {E = Refusal} ws) (sym (ap (λ (s : Stream). s.written) is ∙ clean.written))
+    ∙ ap ok_writes (sym (ap (λ (s : Stream). s.written) is ∙ clean.written))
 
 -- ---- and the other way round: rows of which none is refused
 none_uneven : (columns : ℕ) (row : Placed) (rows : List Placed) → uneven_row columns (row ∷ rows) ≡ None → (is_uneven columns row ≡ false) × (uneven_row columns rows ≡ None)
@@ -328,26 +334,26 @@ file_taken c names file bytes all e = go (are_paired bytes) refl e
 all_taken : (c : Command) (names : List (List ℕ)) (file : ℕ) (files : List (List ℕ)) (all : List Placed) → rows_of_all c names file files ≡ Ok all
     → first_refusal (all_steps c names file files) ≡ None
 all_taken c names file [] all e = refl
-all_taken c names file (bytes ∷ more) all e = go (file_rows c names file bytes) refl (rows_of_all c names (file + 1) more) refl e
+all_taken c names file (bytes ∷ more) all e =
+    go (λ rest others. all_taken c names (file + 1) more rest others) (file_rows c names file bytes) refl (rows_of_all c names (file + 1) more) refl e
   where
-    go : (r : Result (List Placed) Refusal) → file_rows c names file bytes ≡ r → (s : Result (List Placed) Refusal) → rows_of_all c names (file + 1) more ≡ s
+    go : ((rest : List Placed) → rows_of_all c names (file + 1) more ≡ Ok rest → first_refusal (all_steps c names (file + 1) more) ≡ None) → (r : Result (List Placed) Refusal) → file_rows c names file bytes ≡ r → (s : Result (List Placed) Refusal) → rows_of_all c names (file + 1) more ≡ s
         → (r >>= λ front. s >>= λ rest. Ok (front ++ rest)) ≡ Ok all → first_refusal (file_steps c names file bytes ++ all_steps c names (file + 1) more) ≡ None
-    go (Err refusal) own s others same = absurd (cc same)
-    go (Ok front) own (Err refusal) others same = absurd (cc same)
-    go (Ok front) own (Ok rest) others same =
-        refused_behind (file_steps c names file bytes) (all_steps c names (file + 1) more) (file_taken c names file bytes front own)
-        ∙ all_taken c names (file + 1) more rest others
+    go again (Err refusal) first s others same = absurd (cc same)
+    go again (Ok front) first (Err refusal) others same = absurd (cc same)
+    go again (Ok front) first (Ok rest) others same =
+        refused_behind (file_steps c names file bytes) (all_steps c names (file + 1) more) (file_taken c names file bytes front first) ∙ again rest others
 
 -- cells
 told_taken : (kinds : List ColumnKind) (steps : List Step) → first_refusal steps ≡ None → untold_row kinds (rows_before steps) ≡ None → first_refusal (told_steps kinds steps) ≡ None
 told_taken kinds [] none told = refl
 told_taken kinds (Err refusal ∷ steps) none told = absurd (cc none)
-told_taken kinds (Ok row ∷ steps) none told = go (is_told kinds row) refl told
+told_taken kinds (Ok row ∷ steps) none told = go (λ e. told_taken kinds steps none e) (is_told kinds row) refl told
   where
-    go : (b : Bool) → is_told kinds row ≡ b → (if not b then Some row else find (λ (r : Placed). not (is_told kinds r)) (rows_before steps)) ≡ None
+    go : (untold_row kinds (rows_before steps) ≡ None → first_refusal (told_steps kinds steps) ≡ None) → (b : Bool) → is_told kinds row ≡ b → (if not b then Some row else find (λ (r : Placed). not (is_told kinds r)) (rows_before steps)) ≡ None
         → first_refusal ((if is_told kinds row then Ok row else Err (bad_cell row)) ∷ told_steps kinds steps) ≡ None
-    go false is e = absurd (cc e)
-    go true is e = ap (λ (b : Bool). first_refusal ((if b then Ok row else Err (bad_cell row)) ∷ told_steps kinds steps)) is ∙ told_taken kinds steps none e
+    go again false is e = absurd (cc e)
+    go again true is e = ap (λ (b : Bool). first_refusal ((if b then Ok row else Err (bad_cell row)) ∷ told_steps kinds steps)) is ∙ again e
 
 none_taken : (n : ℕ) (steps : List Step) → first_refusal steps ≡ None → first_refusal (take n steps) ≡ None
 none_taken zero steps none = refl
@@ -369,7 +375,7 @@ trace_taken d kinds rows ws e = go (are_named d) refl (untold_row kinds rows) re
         → (if b then if_told (option_map bad_cell o) (writes_of d kinds rows) else refused 0 1 BadName) ≡ Ok ws → TraceTaken d kinds rows ws
     go false named o told same = absurd (cc same)
     go true named (Some row) told same = absurd (cc same)
-    go true named None told same = let both : Ok {E = Refusal} (writes_of d kinds rows) ≡ Ok ws = same in record { named = named; told = told; written = cc both }
+    go true named None told same = let both : ok_writes (writes_of d kinds rows) ≡ Ok ws = same in record { named = named; told = told; written = cc both }
 
 bare_empty : strip_bom [] ≡ []
 unfolding strip_bom
@@ -409,7 +415,7 @@ module _ (c : Command) (point : List ℕ) (types : ℕ) (asked : c.types ≡ Som
     rows_found (Err refusal) is e = absurd (cc e)
     rows_found (Ok rows) is e =
         let clean : first_refusal the_steps ≡ None = all_taken c the_names 0 (bytes ∷ more) rows is in
-        let both : Ok {E = Refusal} rows ≡ Ok (rows_before the_steps) = sym is ∙ all_clean c the_names 0 (bytes ∷ more) clean in
+        let both : ok_rows rows ≡ Ok (rows_before the_steps) = sym is ∙ all_clean c the_names 0 (bytes ∷ more) clean in
         let same : rows ≡ rows_before the_steps = cc both in
         let own_kinds : kinds_of (take types (rows_before the_steps)) (length the_names) ≡ the_kinds = ap (λ (l : List Placed). kinds_of l (length the_names)) (sym (taken_clean types the_steps clean)) in
         stream_taken clean
