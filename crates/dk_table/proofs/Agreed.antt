@@ -1,16 +1,16 @@
 -- Where nothing is refused, rows that are written as they come make the trace that is written behind all of them.
-use Rattle.std.proofs.Common.{◌≡◌, ◌≤◌, ◌<◌, ◌+◌, ◌∙◌, ◌==◌, ◌&&◌, ◌∷◌, ◌++◌, [], ℕ, zero, suc, Bool, true, false, List, Option, Some, None, Result, Ok, Err, append-nil, length, map, not, option_map, take, eq-eqb, refl, sym, ap, subst, arith, if◌then◌else◌}
+use Rattle.std.proofs.Common.{◌≡◌, ◌<◌, ◌+◌, ◌∙◌, ◌==◌, ◌&&◌, ◌∷◌, ◌++◌, [], ℕ, zero, suc, Bool, true, false, List, Option, Some, None, Result, Ok, Err, append-nil, length, not, option_map, take, eq-eqb, refl, sym, ap, arith, if◌then◌else◌}
 use Rattle.std.specs.Prelude.{find}
 use Rattle.std.specs.List.{list_all, zip}
 use Rattle.std.specs.Str.{bytes_eq}
-use Rattle.std.proofs.lemmas.Bool.{and_parts, eqb-true, false≢true, ne_eqb, not-false}
+use Rattle.std.proofs.lemmas.Bool.{and_parts, eqb-true, ne_eqb}
 use Rattle.csv.specs.Reading.{records, strip_bom}
 use Rattle.dk_decl.specs.declared.decls.PointDecl.{PointDecl}
 use Rattle.dk_write.specs.Texts.{Write}
 use Rattle.dk_table.specs.Placed.{Placed}
-use Rattle.dk_table.specs.Streams.{Step, Stream, all_steps, end_steps, even_step, file_steps, first_cells, first_refusal, header_steps, names_in, nothing_but, row_steps, rows_before, rows_steps, stream_at, stream_by, stream_with, told_step, told_steps, trace_before}
-use Rattle.dk_table.specs.Tables.{◌>>=◌, are_paired, behind_header, config_by, file_rows, first_of, if_even, is_uneven, names_by, names_of, placed_from, refused, rows_in, rows_of, rows_of_all, same_cells, uneven_row}
-use Rattle.dk_table.specs.Traces.{are_named, bad_cell, declaration_of, if_told, is_told, judged, kinds_of, trace_at, trace_by, trace_of_table, untold_row, writes_of}
+use Rattle.dk_table.specs.Streams.{Step, Stream, all_steps, end_steps, even_step, file_steps, first_cells, first_refusal, header_steps, names_in, row_steps, rows_before, rows_steps, stream_at, stream_by, stream_with, told_steps, trace_before}
+use Rattle.dk_table.specs.Tables.{◌>>=◌, are_paired, config_by, file_rows, if_even, is_uneven, names_by, names_of, placed_from, refused, rows_in, rows_of, rows_of_all, same_cells, uneven_row}
+use Rattle.dk_table.specs.Traces.{are_named, bad_cell, declaration_of, if_told, is_told, kinds_of, trace_at, trace_by, trace_of_table, untold_row, writes_of}
 use Rattle.dk_table.specs.declared.columns.ColumnKind.{ColumnKind}
 use Rattle.dk_table.specs.declared.command.Command.{Command}
 use Rattle.dk_table.specs.declared.faults.Refusal.{Refusal}

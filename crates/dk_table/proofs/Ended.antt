@@ -1,5 +1,5 @@
 -- What each end of a run says in which rows are written as they come.
-use Rattle.std.proofs.Common.{◌≡◌, ◌≤◌, ◌<◌, ◌⊎◌, ◌∙◌, ◌++◌, [], inl, inr, ℕ, zero, suc, List, length, take, Option, Some, None, Result, Ok, Err, refl, sym, ap, subst, arith}
+use Rattle.std.proofs.Common.{◌≡◌, ◌≤◌, ◌<◌, ◌∙◌, [], inl, inr, ℕ, zero, suc, List, length, take, Option, Some, None, Result, Ok, Err, refl, sym, ap, subst, arith}
 use Rattle.std.proofs.lemmas.List.{take_all}
 use Rattle.dk_arguments.specs.declared.request.Request.{Request}
 use Rattle.dk_arguments.specs.declared.request.Request.TheVariants.{Run}
@@ -15,14 +15,13 @@ use Rattle.dk_program.proofs.Writing.{front_all, front_take, known_nothing}
 use Rattle.dk_program.specs.Ending.{EndsWith}
 use Rattle.dk_program.specs.Messages.{unread_line}
 use Rattle.dk_program.specs.Moments.{IsCalm, Outside}
-use Rattle.dk_program.specs.Outputs.{Output, only_on, texts_followed_by}
-use Rattle.dk_program.specs.Statuses.{GivesOutput, OutputIsWritten}
+use Rattle.dk_program.specs.Outputs.{texts_followed_by}
+use Rattle.dk_program.specs.Statuses.{GivesOutput}
 use Rattle.dk_write.specs.Texts.{trace_text}
 use Rattle.dk_table.specs.Contents.{AreReadAs, IsFrontBy, Reached, helds_of}
 use Rattle.dk_table.specs.Ends.{IsOfFile, StopEnds}
 use Rattle.dk_table.specs.Progress.{EndedSays, IsStopped, StopSays, StreamSays, reached_stream}
-use Rattle.dk_table.specs.Statuses.{Completes, ComesTo, IsCutShort, IsRead, IsRefusedWithin, IsUnread, Outcome, Says, outcome_behind, outcome_by, outcome_of, point_of, reached_by, refused_line, told, written_by, written_of}
-use Rattle.dk_table.specs.Stops.{Writes}
+use Rattle.dk_table.specs.Statuses.{Completes, ComesTo, IsCutShort, Outcome, Says, outcome_behind, outcome_by, outcome_of, point_of, reached_by, refused_line, told, written_by, written_of}
 use Rattle.dk_table.specs.Streams.{Stream, stream_at, stream_in}
 use Rattle.dk_table.specs.Tables.{config_by}
 use Rattle.dk_table.specs.declared.command.Command.{Command}
@@ -33,7 +32,7 @@ use Rattle.dk_table.specs.declared.words.TableArguments.{TableArguments}
 use Rattle.dk_table.proofs.Contents.{helds_length, not_absent, same_contents}
 use Rattle.dk_table.proofs.Parts.{none_ends}
 use Rattle.dk_table.proofs.Progressed.{begins_none}
-use Rattle.dk_table.proofs.Reached.{Completed, Extends, GoesOn, UpTo, Whole, reached_completed, up_to_goes, whole_goes}
+use Rattle.dk_table.proofs.Reached.{Completed, GoesOn, UpTo, Whole, reached_completed, up_to_goes, whole_goes}
 use Rattle.dk_table.proofs.Saying.{comes_says, no_start}
 use Rattle.dk_table.proofs.Sent.{adds_more}
 

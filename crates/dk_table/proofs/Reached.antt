@@ -1,6 +1,5 @@
 -- What was reached of the files, and what follows it.
-use Rattle.std.proofs.Common.{◌≡◌, ◌≢◌, ◌≤◌, ◌<◌, ◌⊎◌, ◌+◌, ◌∙◌, ◌∷◌, ◌++◌, [], inl, inr, ℕ, zero, suc, Bool, true, false, List, Option, Some, None, append_assoc, append-nil, length, take, refl, sym, ap, subst, arith}
-use Rattle.std.specs.Prelude.{⊤}
+use Rattle.std.proofs.Common.{◌≡◌, ◌<◌, ◌⊎◌, ◌+◌, ◌∙◌, ◌∷◌, ◌++◌, [], inl, inr, ℕ, Bool, true, false, List, Option, Some, None, append_assoc, append-nil, length, take, refl, sym, ap, arith}
 use Rattle.std.proofs.lemmas.List.{take_all}
 use Rattle.csv.specs.Reading.{strip_bom}
 use Rattle.dk_driver.specs.Reads.{held_file_at}
@@ -9,15 +8,13 @@ use Rattle.dk_write.specs.Texts.{trace_text}
 use Rattle.dk_table.specs.Chunks.{EndsRow}
 use Rattle.dk_table.specs.Contents.{AreReadAs, Begins, ReadAs, Reached}
 use Rattle.dk_table.specs.Placed.{Placed}
-use Rattle.dk_table.specs.Progress.{reached_stream}
 use Rattle.dk_table.specs.Stages.{rows_behind}
-use Rattle.dk_table.specs.Streams.{Step, Stream, all_steps, end_steps, file_steps, first_cells, first_refusal, first_rows, names_in, next_rows, nothing, rows_steps, stream_at, stream_in, stream_with, text_rows}
+use Rattle.dk_table.specs.Streams.{Step, Stream, all_steps, end_steps, file_steps, first_cells, first_refusal, names_in, nothing, rows_steps, stream_at, stream_in, stream_with, text_rows}
 use Rattle.dk_table.specs.Tables.{are_paired, config_by, names_by, rows_in}
 use Rattle.dk_table.specs.declared.command.Command.{Command}
 use Rattle.dk_table.specs.declared.faults.Refusal.{Refusal}
 use Rattle.dk_table.proofs.Grown.{refusal_stays, written_grows}
-use Rattle.dk_table.proofs.Parts.{none_ends}
-use Rattle.dk_table.proofs.Progressed.{begins_none, marked, none_rows, text_more}
+use Rattle.dk_table.proofs.Progressed.{marked, none_rows, text_more}
 use Rattle.dk_table.proofs.Streamed.{first_stays, steps_apart, written_nothing}
 
 -- ---- the files behind

@@ -1,4 +1,4 @@
-use Rattle.std.proofs.Common.{◌≡◌, ◌∙◌, ap, List, ℕ, rules, subst}
+use Rattle.std.proofs.Common.{◌≡◌, ◌∙◌, ap, List, ℕ, rules}
 use Rattle.std.specs.Prelude.{unwrap_or}
 use Rattle.dk_driver.specs.Files.{file_name_at}
 use Rattle.dk_table.proofs.Ended.{stops_of_file, stream_completes, stream_says}
