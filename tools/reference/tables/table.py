@@ -4,7 +4,8 @@ from __future__ import annotations
 
 from dataclasses import replace
 
-from writing import Case, failing_reads, failing_writes, unread, wanted, with_key
+from command import WRITE
+from writing import Case, cut_short, failing_reads, failing_writes, unread, wanted, with_key
 
 PIECE = 64
 USED = b"name,price,kept\nbolt,1.25,true\n\"nut, small\",0.50,false\n,-0.75,true\n"
@@ -170,12 +171,25 @@ def unread_behind(case: Case, name: str, number: int, front: Case) -> Case:
     return replace(failing, texts={**failing.texts, "report": front.texts["report"]})
 
 
+def one_byte_writes(case: Case, numbers: list[int]) -> list[Case]:
+    """The case, which writes a report and then a message, where a write moves one byte and that of each number fails, if it is made."""
+    report, found = len(case.texts["report"]), []
+    for number in numbers:
+        fails = number <= report + len(case.texts["messages"])
+        failing = with_key(case, f"write {number} {'fails' if fails else 'would fail'}", 1, "failing-writes", number)
+        of_report = cut_short(replace(failing, status=WRITE if fails else case.status), "report", min(number - 1, report))
+        found.append(cut_short(of_report, "messages", max(number - 1 - report, 0)))
+    return found
+
+
 def streams() -> list[Case]:
     """Rows that are written as they come, and what is refused among them."""
     numbers = run("four numbers", "--types 1 t.csv", t_csv=b"x\n1\n2\n3\n4\n")
     slow = run("kinds by three of four numbers", "--types 3 t.csv", t_csv=b"x\n1\n2\n3\n4\n")
     two = run("two files as they come", "--types 1 t.csv u.csv", t_csv=b"x\n1\n", u_csv=b"x\n2\n3\n")
     none = run("no file", "", t_csv=b"x\n1\n")
+    refused = run("a cell of another kind behind two numbers", "--types 1 t.csv", t_csv=b"x\n1\n2\na\n")
+    end = len(refused.texts["report"])
     return [
         run("a row among the first that is too short", "--types 2 t.csv", t_csv=b"x,y\n1,2\n3\n4,5\n"),
         run("a row behind them that is too short", "--types 1 t.csv", t_csv=b"x,y\n1,2\n3,4\n5\n6,7\n"),
@@ -198,6 +212,7 @@ def streams() -> list[Case]:
         unread_behind(two, "u.csv", 4, run("", "--types 1 t.csv", t_csv=b"x\n1\n")),
         unread_behind(two, "u.csv", 6, two),
         run("a file that isn't there behind the rows of one", "--types 1 t.csv u.csv", t_csv=b"x\n1\n"),
+        *one_byte_writes(refused, [1, end // 2, end, end + 1, end + 5, end + len(refused.texts["messages"]) + 1]),
     ]
 
 
