@@ -39,3 +39,5 @@ pub mod Closing
 pub mod Chosen
 pub mod Agreed
 pub mod Opened
+pub mod Reached
+pub mod Ended

@@ -1,6 +1,5 @@
 -- What each end of a run says.
-use Rattle.std.proofs.Common.{◌≡◌, ◌≤◌, ◌<◌, ◌∙◌, inl, inr, [], ℕ, zero, suc, List, length, take, Option, Some, None, Result, Ok, Err, refl, sym, ap, subst, arith}
-use Rattle.std.specs.Prelude.{⊤}
+use Rattle.std.proofs.Common.{◌≡◌, ◌≤◌, ◌<◌, ◌⊎◌, ◌∙◌, ◌∷◌, inl, inr, [], ℕ, zero, suc, List, length, take, Option, Some, None, Result, Ok, Err, refl, sym, ap, subst, arith}
 use Rattle.dk_arguments.specs.declared.request.Request.{Request}
 use Rattle.dk_arguments.specs.declared.request.Request.TheVariants.{Run, Help, Version}
 use Rattle.dk_driver.specs.Files.{AreHeldFiles, file_name_at}
@@ -26,11 +25,12 @@ use Rattle.dk_table.specs.Messages.{refusal_line}
 use Rattle.dk_write.specs.Texts.{Write as Block, trace_text}
 use Rattle.dk_table.proofs.Contents.{helds_length, not_absent, same_contents}
 use Rattle.dk_table.specs.Asked.{table_command}
-use Rattle.dk_table.specs.Contents.{AreReadAs, FaultSays, IsUnreadAt, Reached, helds_of}
+use Rattle.dk_table.specs.Contents.{AreReadAs, FaultSays, IsFrontBy, IsUnreadAt, Reached, helds_of}
+use Rattle.dk_table.specs.Ends.{Answer, IsHeld, answer_by, answer_of}
 use Rattle.dk_table.specs.Streams.{Stream as Written, nothing}
-use Rattle.dk_table.specs.Statuses.{Answer, Completes, ComesTo, IsCutShort, Outcome, Says, answer_by, answer_of, come_by, outcome_by, outcome_of, told}
+use Rattle.dk_table.specs.Statuses.{Completes, ComesTo, IsCutShort, Outcome, Says, judged_whole, outcome_by, outcome_of, point_of, reached_by, told, written_by}
 use Rattle.dk_table.specs.Tables.{config_by}
-use Rattle.dk_table.specs.Traces.{trace_of}
+use Rattle.dk_table.specs.Traces.{trace_at, trace_of}
 use Rattle.dk_table.proofs.Parts.{none_ends}
 use Rattle.dk_table.proofs.Progressed.{begins_none}
 use Rattle.dk_table.specs.declared.faults.Refusal.{Refusal}
@@ -41,8 +41,14 @@ only_front Report n text h = record { report = front_take n text h; messages = r
 only_front Messages n text h = record { report = refl; messages = front_take n text h; state = refl; in_order = inr refl }
 only_front State n text h = record { report = refl; messages = refl; state = front_take n text h; in_order = inl refl }
 
+-- the message stands behind the whole trace
+only_behind : (stream : Stream) (text front : List ℕ) → ((only_on stream front).report ≡ (only_on stream text).report) ⊎ ((only_on stream front).messages ≡ [])
+only_behind Report text front = inr refl
+only_behind Messages text front = inl refl
+only_behind State text front = inr refl
+
 -- a run that comes to its output, and wrote it, says so
-comes_says : (status : Ended) (request : Option (Request TableArguments)) (before after : Outside) (output : Output)
+pub comes_says : (status : Ended) (request : Option (Request TableArguments)) (before after : Outside) (output : Output)
     → ComesTo status request before after output → OutputIsWritten before after output → Says status request before after
 comes_says Done request before after output comes e = (output, comes, e)
 comes_says Refused request before after output comes e = (output, comes, e)
@@ -72,6 +78,7 @@ cut_short status request before after stream text comes (n, short, e) = record {
   output = only_on stream text;
   comes = comes;
   front = record { front = only_on stream (take n text); is_front = only_front stream n text short; written = e ∙ followed_only before.written stream (take n text) };
+  behind = only_behind stream text (take n text);
 }
 
 -- a run that ends with a text, or with a front of it
@@ -93,20 +100,18 @@ ends_says status request before after stream text result comes ended =
     cut_says status request before after stream text result comes (ends_cut status stream text before.written after.written before.write_faults after.write_faults result ended)
 
 -- ---- files that are held
--- all rows are judged before anything is written
-abbrev pub IsHeld : Option ℕ → Type 0
-IsHeld None = ⊤
-IsHeld (Some zero) = ⊤
-IsHeld (Some (suc n)) = ⊥
-
 abbrev outcome_as : Answer → Outcome
 outcome_as answer = record { status = answer.status; output = only_on answer.stream answer.text }
 
+result_outcome : (names : List (List ℕ)) (r : Result (List Block) Refusal) → outcome_by names (judged_whole r) ≡ outcome_as (answer_by names r)
+result_outcome names (Ok blocks) = refl
+result_outcome names (Err refusal) = refl
+
 held_outcome : (a : TableArguments) (contents : List (List ℕ)) → IsHeld a.command.types → outcome_of a contents ≡ outcome_as (answer_of a contents)
-unfolding outcome_of
-held_outcome a contents held = go a.command.types held
+unfolding outcome_of answer_of
+held_outcome a contents held = go a.command.types held ∙ result_outcome a.files (trace_at a.command (point_of a) contents)
   where
-    go : (types : Option ℕ) → IsHeld types → outcome_by types a contents ≡ outcome_as (answer_of a contents)
+    go : (types : Option ℕ) → IsHeld types → outcome_by a.files (written_by types a contents) ≡ outcome_by a.files (judged_whole (trace_at a.command (point_of a) contents))
     go None h = refl
     go (Some zero) h = refl
     go (Some (suc n)) h = absurd h
@@ -169,10 +174,10 @@ refusal_ends a contents name refusal old new before after result is e ended =
 
 -- ---- files that were not
 -- nothing is written of files that are held
-held_none : (a : TableArguments) (contents : List (List ℕ)) (front : List ℕ) → IsHeld a.command.types → come_by a.command.types a contents front ≡ nothing
+held_none : (a : TableArguments) (contents : List (List ℕ)) (front : List ℕ) → IsHeld a.command.types → reached_by a.command.types a contents front ≡ nothing
 held_none a contents front held = go a.command.types held
   where
-    go : (types : Option ℕ) → IsHeld types → come_by types a contents front ≡ nothing
+    go : (types : Option ℕ) → IsHeld types → reached_by types a contents front ≡ nothing
     go None h = refl
     go (Some zero) h = refl
     go (Some (suc n)) h = absurd h
@@ -195,20 +200,26 @@ unread_says a before after by place result held unread ended =
       contents = unread.front;
       front = [];
       read = subst (λ (n : ℕ). AreReadAs (take n helds) unread.front) (sym many) unread.front_read;
+      next = inl refl;
       begins = begins_none (held_file_at helds (length unread.front));
       whole = none_ends (config_by a.command.separator);
     } in
-    let none : come_by a.command.types a unread.front [] ≡ nothing = held_none a unread.front [] held in
+    let none : reached_by a.command.types a unread.front [] ≡ nothing = held_none a unread.front [] held in
     let line : List ℕ = unread_line (file_name_at a.files place) in
     ends_says Read (Some (Run a)) before after Messages line result (record {
       by = by;
-      place = place;
-      unread = unread;
       reached = reached;
-      here = many;
+      named = omega (arith, unread.named, many);
+      cause = subst (λ (n : ℕ). HasBroken by (held_file_at helds n) (Rose before.read_faults after.read_faults)) (sym many) unread.cause;
+      own = none_by by;
       none = ap (λ (s : Written). s.refusal) none;
-      output_is = ap (λ (s : Written). told (trace_text s.written) line) (sym none);
+      output_is = ap (λ (s : Written). told (trace_text s.written) line) (sym none)
+          ∙ ap (λ (n : ℕ). told (trace_text (reached_by a.command.types a unread.front []).written) (unread_line (file_name_at a.files n))) (sym many);
     }) ended
+  where
+    none_by : (b : Break) → IsFrontBy b []
+    none_by AtStart = refl
+    none_by Within = tt
 
 pub fault_says : (a : TableArguments) (before after : Outside) (fault : FilesFault) (result : Ended) → IsHeld a.command.types
     → FaultSays a.files before.file (Rose before.read_faults after.read_faults) fault
@@ -218,7 +229,7 @@ fault_says a before after (f.Start place) result held says ended = unread_says a
 fault_says a before after (f.Read place) result held says ended = unread_says a before after Within place result held says ended
 fault_says a before after f.NoMemory result held says (is, e, calm) = subst (λ (s : Ended). Says s (Some (Run a)) before after) (sym is) (calm, inl e)
 
-no_start : (helds : List HeldFile) (held : List (List ℕ)) (place : ℕ) (rose : Type 0) → place < length helds → AreHeldFiles helds held → (rose → ⊥)
+pub no_start : (helds : List HeldFile) (held : List (List ℕ)) (place : ℕ) (rose : Type 0) → place < length helds → AreHeldFiles helds held → (rose → ⊥)
     → HasBroken AtStart (held_file_at helds place) rose → ⊥
 no_start helds held place rose within are calm (inl absent) = not_absent helds held place within are absent
 no_start helds held place rose within are calm (inr rises) = calm rises

@@ -65,8 +65,9 @@ RowsAreSamples =
     × HasOnly h d (map (row_values kinds) t.rows))
 
 -- ---- rows that are written as they come
--- Where nothing is refused, what is written is the trace of the tables.
+-- Where nothing is refused, what is written is the trace of the tables; and nothing is, where there is one.
 abbrev pub StreamsAreTraces : Type 0
 StreamsAreTraces =
-    (c : Command) (point : List ℕ) (types : ℕ) (files : List (List ℕ)) → c.types ≡ Some types → (stream_at c point types files).refusal ≡ None
-    → trace_at c point files ≡ Ok (stream_at c point types files).written
+    (c : Command) (point : List ℕ) (types : ℕ) (files : List (List ℕ)) → c.types ≡ Some types
+    → ((stream_at c point types files).refusal ≡ None → trace_at c point files ≡ Ok (stream_at c point types files).written)
+    × ((ws : List Write) → trace_at c point files ≡ Ok ws → stream_at c point types files ≡ record { written = ws; refusal = None })

@@ -11,6 +11,7 @@ pub mod Columns
 pub mod Contents
 pub mod Cursors
 pub mod Cutting
+pub mod Ends
 pub mod Forms
 pub mod Judging
 pub mod Marks

@@ -11,7 +11,7 @@ pub fn rows_are_samples()
     ensures { RowsAreSamples }
 {}
 
-/// Rows that are written as they come make the same trace, where nothing is refused.
+/// Rows that are written as they come make the same trace, where nothing is refused; and nothing is, where all rows together have a trace.
 pub fn streams_are_traces()
     ensures { StreamsAreTraces }
 {}

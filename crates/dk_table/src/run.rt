@@ -1,12 +1,13 @@
 // A run: the files are read whole, and then the trace of their tables is written by pieces; or rows are written as they come.
-ghost use Rattle.std.specs.Prelude.{◌≡◌, IfOk, Some, string_bytes, unwrap_or};
+ghost use Rattle.std.specs.Prelude.{◌≡◌, ◌<◌, IfOk, Some, length, string_bytes, unwrap_or};
 ghost use Rattle.dk_arguments.specs.declared.request.Request.TheVariants as request;
 ghost use Rattle.dk_driver.specs.Files.{file_name_at};
 ghost use Rattle.dk_io.specs.declared.outside.Stream.TheVariants as stream;
 ghost use Rattle.dk_program.specs.Ending.{EndsWith};
 ghost use Rattle.dk_program.specs.Moments.{Outside, outside};
+ghost use Rattle.dk_table.specs.Ends.{Answer, IsHeld, IsOfFile, StopEnds, answer_of};
 ghost use Rattle.dk_table.specs.Messages.{refusal_line};
-ghost use Rattle.dk_table.specs.Statuses.{Answer, Completes, Says, answer_of};
+ghost use Rattle.dk_table.specs.Statuses.{Completes, Says};
 ghost use Rattle.dk_table.specs.Writing.{EndsCut};
 
 use crate::advancing::Task;
@@ -103,7 +104,10 @@ fn end_stream<S: Sinks>(
     names: &[Word],
     told: Result<(), Stop>,
     sinks: &mut S,
-) -> Ended {
+) -> Ended
+    requires { IsOfFile (length names.now) told }
+    ensures { StopEnds names.now told (S.written sinks.old) (S.written sinks.new) (S.faults sinks.old) (S.faults sinks.new) result }
+{
     match told {
         Ok(()) => Ended::Done,
         Err(Stop::Refused(refusal)) => tell_refused(alloc, names, refusal, sinks),
@@ -121,7 +125,17 @@ fn run_stream<I: Inputs, S: Sinks>(
     types: u64,
     inputs: &mut I,
     sinks: &mut S,
-) -> Ended {
+) -> Ended
+    requires asked { arguments.now.command.types ≡ Some types }
+    requires some { 0 < types }
+    ensures says { let before : Outside = outside (I.file inputs.old) (I.rest inputs.old) (I.faults inputs.old) (S.written sinks.old) (S.faults sinks.old) in
+        let after : Outside = outside (I.file inputs.new) (I.rest inputs.new) (I.faults inputs.new) (S.written sinks.new) (S.faults sinks.new) in
+        Says result (Some (request.Run arguments.now)) before after }
+    ensures complete { let before : Outside = outside (I.file inputs.old) (I.rest inputs.old) (I.faults inputs.old) (S.written sinks.old) (S.faults sinks.old) in
+        let after : Outside = outside (I.file inputs.new) (I.rest inputs.new) (I.faults inputs.new) (S.written sinks.new) (S.faults sinks.new) in
+        Completes (Some (request.Run arguments.now)) before after result }
+    ensures files { I.file inputs.new ≡ I.file inputs.old }
+{
     let names = arguments.files.as_slice();
     let command = &arguments.command;
     let task = Task {
@@ -139,7 +153,16 @@ fn run_held<I: Inputs, S: Sinks>(
     arguments: &TableArguments,
     inputs: &mut I,
     sinks: &mut S,
-) -> Ended {
+) -> Ended
+    requires { IsHeld arguments.now.command.types }
+    ensures says { let before : Outside = outside (I.file inputs.old) (I.rest inputs.old) (I.faults inputs.old) (S.written sinks.old) (S.faults sinks.old) in
+        let after : Outside = outside (I.file inputs.new) (I.rest inputs.new) (I.faults inputs.new) (S.written sinks.new) (S.faults sinks.new) in
+        Says result (Some (request.Run arguments.now)) before after }
+    ensures complete { let before : Outside = outside (I.file inputs.old) (I.rest inputs.old) (I.faults inputs.old) (S.written sinks.old) (S.faults sinks.old) in
+        let after : Outside = outside (I.file inputs.new) (I.rest inputs.new) (I.faults inputs.new) (S.written sinks.new) (S.faults sinks.new) in
+        Completes (Some (request.Run arguments.now)) before after result }
+    ensures files { I.file inputs.new ≡ I.file inputs.old }
+{
     let names = arguments.files.as_slice();
     match read_texts(alloc, names, inputs) {
         Ok(texts) => tell_texts(alloc, arguments, texts.as_slice(), sinks),
