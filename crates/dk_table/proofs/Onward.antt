@@ -30,6 +30,7 @@ use Rattle.dk_table.specs.declared.stages.Stage.{Stage}
 use Rattle.dk_table.specs.declared.stops.Stop.{Stop}
 use Rattle.dk_table.specs.declared.stops.Stop.TheVariants.{NoMemory, Refused, Unread}
 use Rattle.dk_table.specs.declared.streaming.Going.{Going}
+use Rattle.dk_table.proofs.Contents.{helds_length}
 use Rattle.dk_table.proofs.Gathering.{gathered_cut, gathered_more, gathered_since}
 use Rattle.dk_table.proofs.Parts.{both_end, none_ends, paired_append}
 use Rattle.dk_table.proofs.Progressed.{begins_none, begins_of, failed_rose, goes_last, none_rows, refused_last, stops, stops_last, stream_within, text_more, wants, whole_of, within_more}
@@ -117,10 +118,11 @@ module _ (c : Command) (point : List ℕ) (types : ℕ) (names : List (List ℕ)
   -- one that can't be
   unstarted : (rose : Type 0) → HasBroken AtStart (held_file_at (helds_of names file) place) rose → IsStopped c point types names file rose AtStart base old start before place
   unstarted rose cause = record {
-    reached = record { contents = contents; front = []; read = b.read; begins = begins_none (held_file_at (helds_of names file) (length contents)); whole = none_ends (config_by c.separator) };
+    reached = record { contents = contents; front = []; read = b.read; next = inl refl; begins = begins_none (held_file_at (helds_of names file) (length contents)); whole = none_ends (config_by c.separator) };
     here = sym b.many;
     named = within;
     cause = cause;
+    own = refl;
     none = ap (λ (s : Stream). s.refusal) (stream_within c point types contents b.whole []) ∙ none_here;
     written = written_here ∙ ap (λ (s : Stream). with_bytes base Report (trace_text s.written)) (sym (stream_within c point types contents b.whole []));
     calm = b.calm;
@@ -223,10 +225,18 @@ module _ (c : Command) (point : List ℕ) (types : ℕ) (names : List (List ℕ)
 
   pub unread_says : HasBroken Within held rose → IsStopped c point types names file rose Within base old start before place
   unread_says cause = record {
-    reached = record { contents = contents; front = g.gone; read = g.read; begins = begun; whole = g.within.whole };
+    reached = record {
+      contents = contents;
+      front = g.gone;
+      read = g.read;
+      next = inr (omega (arith, g.named, helds_length names file));
+      begins = begun;
+      whole = g.within.whole;
+    };
     here = sym g.many;
     named = omega (arith, g.many, g.named);
     cause = subst (λ (n : ℕ). HasBroken Within (held_file_at (helds_of names file) n) rose) g.many cause;
+    own = tt;
     none = ap (λ (s : Stream). s.refusal) (stream_within c point types contents g.complete g.gone) ∙ g.none;
     written = g.written ∙ ap (λ (s : Stream). with_bytes base Report (trace_text s.written)) (sym (stream_within c point types contents g.complete g.gone));
     calm = g.calm;

@@ -254,7 +254,14 @@ module _ (c : Command) (point : List ℕ) (types : ℕ) (names : List (List ℕ)
 
   -- what was reached within this file
   pub reach : (gone : List ℕ) → Begins held gone → EndsRow (config_by c.separator) gone → Reached c (helds_of names file)
-  reach gone begins ends = record { contents = contents; front = gone; read = read; begins = begins; whole = ends }
+  reach gone begins ends = record {
+    contents = contents;
+    front = gone;
+    read = read;
+    next = inr (omega (arith, named, helds_length names file));
+    begins = begins;
+    whole = ends;
+  }
 
   module _ (gone : List ℕ) (begins : Begins held gone) (ends : EndsRow (config_by c.separator) gone) where
     stream_reached : stream_in c point types contents (Some gone) ≡ rows_stream c point types (behind_all gone)
@@ -315,6 +322,7 @@ module _ (c : Command) (point : List ℕ) (types : ℕ) (names : List (List ℕ)
       contents = contents ++ bytes ∷ [];
       front = [];
       read = read_all;
+      next = inl refl;
       begins = begins_none (held_file_at (helds_of names file) (length (contents ++ bytes ∷ [])));
       whole = none_ends (config_by c.separator);
     }

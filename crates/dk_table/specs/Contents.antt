@@ -1,5 +1,5 @@
 -- What reading the files comes to.
-use Rattle.std.specs.Prelude.{◌≡◌, ◌<◌, ◌++◌, ⊤, ℕ, List, [], ◌∷◌, length, map, take}
+use Rattle.std.specs.Prelude.{◌≡◌, ◌<◌, ◌⊎◌, ◌++◌, ⊤, ℕ, List, [], ◌∷◌, length, map, take}
 use Rattle.csv.specs.Reading.{strip_bom}
 use Rattle.dk_driver.specs.Reads.{AtStart, Break, HasBroken, Within, held_file_at}
 use Rattle.dk_driver.specs.declared.fault.FilesFault.{FilesFault}
@@ -53,10 +53,16 @@ Begins Untold front = ⊤
 Begins Absent front = front ≡ []
 Begins (Holds bytes) front = (rest : List ℕ) × (strip_bom bytes ≡ front ++ rest)
 
--- Files that were read to their ends, and the front of the next, which is whole rows.
+-- Of a file that can't be started nothing was read.
+abbrev pub IsFrontBy : Break → List ℕ → Type 0
+IsFrontBy AtStart front = front ≡ []
+IsFrontBy Within front = ⊤
+
+-- Files that were read to their ends, and the front of the next, which is whole rows. Behind the last there is none.
 pub record Reached (c : Command) (helds : List HeldFile) : Type 0 where
   pub contents : List (List ℕ)
   pub front : List ℕ
   pub read : AreReadAs (take (length contents) helds) contents
+  pub next : (front ≡ []) ⊎ (length contents < length helds)
   pub begins : Begins (held_file_at helds (length contents)) front
   pub whole : EndsRow (config_by c.separator) front

@@ -6,7 +6,7 @@ use Rattle.dk_io.specs.Streams.{AddsFront, Texts, with_bytes}
 use Rattle.dk_io.specs.declared.outside.Stream.TheVariants.{Report}
 use Rattle.dk_write.specs.Texts.{trace_text}
 use Rattle.dk_table.specs.Chunks.{EndsRow}
-use Rattle.dk_table.specs.Contents.{AreReadAs, Reached, helds_of}
+use Rattle.dk_table.specs.Contents.{AreReadAs, IsFrontBy, Reached, helds_of}
 use Rattle.dk_table.specs.Pieces.{IsGathered}
 use Rattle.dk_table.specs.Placed.{Placed}
 use Rattle.dk_table.specs.Stages.{IsAt}
@@ -56,6 +56,7 @@ pub record IsStopped (c : Command) (point : List ℕ) (types : ℕ) (names : Lis
   pub here : place ≡ length reached.contents
   pub named : place < length names
   pub cause : HasBroken by (held_file_at (helds_of names file) place) rose
+  pub own : IsFrontBy by reached.front
   pub none : (reached_stream c point types reached).refusal ≡ None
   pub written : new ≡ with_bytes base Report (trace_text (reached_stream c point types reached).written)
   pub calm : after ≡ start
