@@ -12,7 +12,7 @@ pub returns-in-Start : goal.returns-in-Start
 returns-in-Start g c rows base start at so_far calm =
     let here : IsAt c.args.task.now.command.now c.args.task.now.point.now c.args.task.now.types stages.Start rows =
     subst (λ (s : Stage). IsAt c.args.task.now.command.now c.args.task.now.point.now c.args.task.now.types s rows) c.in-Start.is at in
-    none_came _ _ _ rows base _ start _ here.0 here.1 so_far calm
+    none_came c.args.task.now.command.now c.args.task.now.point.now c.args.task.now.types rows base _ start _ here.0 here.1 so_far calm
 
 pub returns-in_err-_body-in-Front : goal.returns-in_err-_body-in-Front
 returns-in_err-_body-in-Front g c rows base start at so_far calm =
@@ -29,8 +29,5 @@ returns-in-Front g c rows base start at so_far calm =
     subst (λ (s : Stage). IsAt c.args.task.now.command.now c.args.task.now.point.now c.args.task.now.types s rows) c.in-Front.is at in
     held_end _ c.args.task.now.point.now _ rows c.in-Front.front here (Unit {0}) (Ok tt) base _ _ start _ _ so_far calm c.in_ok-_body-in-Front.ensures.written
 
-pub returns-in-Body : goal.returns-in-Body
-returns-in-Body g c rows base start at so_far calm =
-    let here : IsBody c.args.task.now.command.now c.args.task.now.point.now c.args.task.now.types c.in-Body.field-0 rows =
-    subst (λ (s : Stage). IsAt c.args.task.now.command.now c.args.task.now.point.now c.args.task.now.types s rows) c.in-Body.is at in
-    body_ends _ _ _ rows c.in-Body.field-0 here base _ start _ so_far calm
+pub returns : goal.returns
+returns g c rows base start at so_far calm = ?
