@@ -30,4 +30,7 @@ returns-in-Front g c rows base start at so_far calm =
     held_end _ c.args.task.now.point.now _ rows c.in-Front.front here (Unit {0}) (Ok tt) base _ _ start _ _ so_far calm c.in_ok-_body-in-Front.ensures.written
 
 pub returns : goal.returns
-returns g c rows base start at so_far calm = ?
+returns g c rows base start at so_far calm =
+    let here : IsBody c.args.task.now.command.now c.args.task.now.point.now c.args.task.now.types c.in-Body.field-0 rows =
+    subst (λ (s : Stage). IsAt c.args.task.now.command.now c.args.task.now.point.now c.args.task.now.types s rows) c.in-Body.is at in
+    body_ends _ _ _ rows c.in-Body.field-0 here base _ start _ so_far calm
