@@ -27,8 +27,8 @@ returns-in-Ok g c names held rest contents base start since now h =
     let told = c.in_ok-place.ensures rows base start h.within.at h.written h.calm in
     goes_ended _ _ _ _ _ _ _ _ _ _ _ _ _ _ h c.requires c.in_ok-cut.cut c.in_ok-cut.ensures c.in_ok-place.place _ _ told.0 told.1 c.in-Ok.ensures
 
-pub returns-in-Err : goal.returns-in-Err
-returns-in-Err g c names held rest contents base start since now h =
+pub returns : goal.returns
+returns g c names held rest contents base start since now h =
     let separator = c.args.task.now.command.now.separator in
     let rows : List Placed = all_rows separator 0 contents ++ text_rows separator (length contents) h.gone in
     let told = c.in_ok-place.ensures rows base start h.within.at h.written h.calm in
