@@ -10,7 +10,8 @@ import re
 import sys
 from codecs import BOM_UTF8
 from dataclasses import dataclass
-from typing import Any, Tuple
+from itertools import chain, islice
+from typing import Any, Iterator, Tuple
 
 from command import Ended, Sinks, Usage, bytes_of_file, host_status, number_between, status_of_run, arguments_of_command
 
@@ -130,17 +131,20 @@ def is_told(name: str) -> bool:
     return bool(name) and "\n" not in name and name[0] != "\t" and name[-1] not in "\t\r"
 
 
-def trace(point: str, names: list[str], kinds: list[Kind], rows: list[PlacedRow]) -> str:
-    """The whole trace."""
-    variables = [variable(*it) for it in zip(names, kinds)]
+def declaration(point: str, variables: list[str], kinds: list[Kind]) -> str:
+    """What stands in front of the records."""
     lines = [HEADER, f"ppt {spelled(point)}\n"]
     for name, kind in zip(variables, kinds):
         lines.append(f"variable {spelled(name)}\nrep-type {REP[kind[0]]}\ncomparability -1[-1]\n")
-    for _, _, row in rows:
-        lines.append(f"\n{spelled(point)}\n")
-        for name, kind, cell in zip(variables, kinds, row):
-            lines.append(f"{spelled(name)}\n")
-            lines.append(f"{value_text(kind, cell)}\n1\n" if cell else "nonsensical\n2\n")
+    return "".join(lines) + "\n"
+
+
+def record(point: str, variables: list[str], kinds: list[Kind], row: list[str]) -> str:
+    """The record of a row."""
+    lines = [f"{spelled(point)}\n"]
+    for name, kind, cell in zip(variables, kinds, row):
+        lines.append(f"{spelled(name)}\n")
+        lines.append(f"{value_text(kind, cell)}\n1\n" if cell else "nonsensical\n2\n")
     return "".join(lines) + "\n"
 
 
@@ -167,21 +171,97 @@ def options_of(arguments: list[str]) -> Options:
     return Options(found.files, found.values.get("--point", found.files[0]), separator, types, "--no-header" not in found.flags)
 
 
-def run(arguments: list[str], sinks: Sinks, folder: str) -> None:
-    """Runs the program on the arguments."""
-    found = options_of(arguments)
-    files = [(name, bytes_of_file(folder, name)) for name in found.files]
-    names, rows = table_of(files, found.separator, found.has_header)
-    kinds = [kind_of([row[k] for _, _, row in rows[:found.types]]) for k in range(len(names))]
+@dataclass
+class Columns:
+    """The columns of a table, and how their records are written."""
+    point: str
+    variables: list[str]
+    kinds: list[Kind]
+
+    def declare(self, sinks: Sinks) -> None:
+        """Writes what stands in front of the records."""
+        sinks.report(declaration(self.point, self.variables, self.kinds).encode("latin-1"))
+
+    def demand(self, placed: PlacedRow) -> None:
+        """A row with a cell that is none of its column's kind is refused."""
+        name, number, row = placed
+        if any(cell and value_text(kind, cell) is None for kind, cell in zip(self.kinds, row)):
+            raise refused(name, number, 4)
+
+    def write(self, row: list[str], sinks: Sinks) -> None:
+        """Writes the record of a row."""
+        sinks.report(record(self.point, self.variables, self.kinds, row).encode("latin-1"))
+
+
+def columns_of(found: Options, names: list[str], rows: list[PlacedRow]) -> Columns:
+    """The columns with these names, by the rows by which kinds are found."""
+    kinds = [kind_of([row[k] for _, _, row in rows]) for k in range(len(names))]
     point = os.fsencode(found.point).decode("latin-1")
     variables = [variable(*it) for it in zip(names, kinds)]
     if not all(map(is_told, [point, *variables])) or len(set(variables)) < len(variables) \
             or spelled(point).startswith(OTHER_LINES) or "this_invocation_nonce" in variables:
         raise refused(found.files[0], 1, 2)
-    for name, number, row in rows:
-        if any(cell and value_text(kind, cell) is None for kind, cell in zip(kinds, row)):
-            raise refused(name, number, 4)
-    sinks.report(trace(point, names, kinds, rows).encode("latin-1"))
+    return Columns(point, variables, kinds)
+
+
+def write_whole(found: Options, sinks: Sinks, folder: str) -> None:
+    """All files are read, and all rows are judged, before anything is written."""
+    files = [(name, bytes_of_file(folder, name)) for name in found.files]
+    names, rows = table_of(files, found.separator, found.has_header)
+    columns = columns_of(found, names, rows)
+    columns.declare(sinks)
+    for _, _, row in rows:
+        columns.write(row, sinks)
+
+
+class Stream:
+    """Rows in order, each of which is judged when it is asked for."""
+
+    def __init__(self, found: Options, folder: str) -> None:
+        self.found = found
+        self.folder = folder
+        self.names: list[str] = []
+
+    def rows(self) -> Iterator[PlacedRow]:
+        """The rows of all files."""
+        for place, name in enumerate(self.found.files):
+            data = bytes_of_file(self.folder, name)
+            rows = rows_of(data, self.found.separator)
+            if not rows:
+                raise refused(name, 1, 1)
+            if place == 0:
+                self.names = rows[0] if self.found.has_header else [f"column{k + 1}" for k in range(len(rows[0]))]
+            for number, row in enumerate(rows, 1):
+                if number == 1 and self.found.has_header:
+                    if row != self.names:
+                        raise refused(name, 1, 5)
+                elif len(row) != len(self.names):
+                    raise refused(name, number, 3)
+                else:
+                    yield name, number, row
+            if data.count(b'"') % 2:
+                raise refused(name, len(rows), 6)
+
+
+def write_stream(found: Options, sinks: Sinks, folder: str) -> None:
+    """Rows are written as they come, behind those by which kinds are found."""
+    stream = Stream(found, folder)
+    rows = stream.rows()
+    front = list(islice(rows, found.types))
+    columns = columns_of(found, stream.names, front)
+    columns.declare(sinks)
+    for placed in chain(front, rows):
+        columns.demand(placed)
+        columns.write(placed[2], sinks)
+
+
+def run(arguments: list[str], sinks: Sinks, folder: str) -> None:
+    """Runs the program on the arguments."""
+    found = options_of(arguments)
+    if found.types is None:
+        write_whole(found, sinks, folder)
+    else:
+        write_stream(found, sinks, folder)
 
 
 def status_of(arguments: list[str], sinks: Sinks, folder: str) -> int:

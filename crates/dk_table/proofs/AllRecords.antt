@@ -133,7 +133,7 @@ few_next n f None h = omega arith
 few_next n f (Some p) h = let more = h p refl in omega (arith, more)
 
 -- there are at most as many records as bytes
-few_records : (cfg : Config) (n : ℕ) (s : State) (xs : List ℕ) → ends_at_end s ≡ false → length (records_from cfg n s xs) ≤ length xs
+pub few_records : (cfg : Config) (n : ℕ) (s : State) (xs : List ℕ) → ends_at_end s ≡ false → length (records_from cfg n s xs) ≤ length xs
 unfolding records_from
 few_records cfg zero s xs fine = omega arith
 few_records cfg (suc n) s xs fine =
@@ -141,7 +141,7 @@ few_records cfg (suc n) s xs fine =
     (λ p e. omega (arith, few_records cfg n p.1 p.2 (shrinks cfg s [] [] xs p e).fine, begun cfg s xs p fine e))
 
 -- ---- their places
-placed_length : (file n : ℕ) (rows : List (List (List ℕ))) → length (placed_from file n rows) ≡ length rows
+pub placed_length : (file n : ℕ) (rows : List (List (List ℕ))) → length (placed_from file n rows) ≡ length rows
 placed_length file n [] = refl
 placed_length file n (r ∷ rows) = ap suc (placed_length file (n + 1) rows)
 

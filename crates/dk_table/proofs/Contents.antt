@@ -19,7 +19,7 @@ helds_length [] file = refl
 helds_length (n ∷ ns) file = ap suc (helds_length ns file)
 
 -- one file more was read
-read_next : (helds : List HeldFile) (contents : List (List ℕ)) (place : ℕ) (bytes : List ℕ) → place < length helds → AreReadAs (take place helds) contents
+pub read_next : (helds : List HeldFile) (contents : List (List ℕ)) (place : ℕ) (bytes : List ℕ) → place < length helds → AreReadAs (take place helds) contents
     → ReadAs (held_file_at helds place) bytes → AreReadAs (take (suc place) helds) (contents ++ bytes ∷ [])
 read_next [] contents place bytes within read next = absurd (omega arith)
 read_next (h ∷ hs) [] zero bytes within read next = (next, read)

@@ -43,7 +43,7 @@ unquoted_behind (a ∷ b ∷ c ∷ more) h = go (is_bom a b c)
     go true = unquoted_drop 3 (a ∷ b ∷ c ∷ more) h
     go false = h
 
-equal : (a b : ℕ) → a ≡ b → (a == b) ≡ true
+pub equal : (a b : ℕ) → a ≡ b → (a == b) ≡ true
 equal a b e = grind (arith, nat_tests)
 
 -- what a push adds
@@ -59,7 +59,7 @@ or_right : (a b : Bool) → a ≡ false → (a || b) ≡ true → b ≡ true
 or_right true b h is = absurd (cc h)
 or_right false b h is = is
 
-no_quote : (c : ℕ) → c ≢ 34 → (c == 34) ≡ false
+pub no_quote : (c : ℕ) → c ≢ 34 → (c == 34) ≡ false
 no_quote c h = ne_eqb c 34 h
 
 -- ---- the states within a row
@@ -114,7 +114,7 @@ module _ (separator : ℕ) where
       sym (passed (get_or bytes k 0) (drop (k + 1) bytes) is) ∙ ap (next_record cfg st.StartRecord [] []) (sym (drop_more bytes k 0 lt))
 
   -- behind CR a row begins as anywhere
-  behind_cr : (c : ℕ) → step cfg st.AfterCr c ≡ step cfg st.StartRecord c
+  pub behind_cr : (c : ℕ) → step cfg st.AfterCr c ≡ step cfg st.StartRecord c
   behind_cr c = go (c == 10) (c == 13) refl refl
     where
       go : (x y : Bool) → (c == 10) ≡ x → (c == 13) ≡ y → step cfg st.AfterCr c ≡ step cfg st.StartRecord c

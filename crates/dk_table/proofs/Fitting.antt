@@ -60,3 +60,7 @@ told_fit d kinds (row ∷ rows) e =
     let found = none_found (λ r. not (is_told kinds r)) row rows e in
     let first : is_told kinds row ≡ true = not-false (is_told kinds row) found.0 in
     ap (λ (b : Bool). b && all_fit (form_of d kinds) rows) (headed d.vars kinds row.cells first) ∙ told_fit d kinds rows found.1
+
+-- one row whose cells are told fits
+pub row_fit : (d : PointDecl) (kinds : List ColumnKind) (form : Form) (row : Placed) → form ≡ form_of d kinds → is_told kinds row ≡ true → row_fits form row ≡ true
+row_fit d kinds form row is told = ap (λ (f : Form). row_fits f row) is ∙ headed d.vars kinds row.cells told

@@ -85,3 +85,13 @@ rows_apart form text all own rest is =
 
 pub none_apart : (form : Form) (text : List ℕ) (left : List Placed) → left ≡ [] → text ++ rows_text form left ≡ text
 none_apart form text left none = ap (λ (l : List Placed). text ++ rows_text form l) none ∙ append-nil text
+
+-- rows behind others
+pub text_more : (point : List ℕ) (names : List (List ℕ)) (kinds : List ColumnKind) (front rest : List Placed)
+    → trace_text (writes_of (declaration_of point names kinds) kinds (front ++ rest))
+    ≡ trace_text (writes_of (declaration_of point names kinds) kinds front) ++ rows_text (form_of (declaration_of point names kinds) kinds) rest
+text_more point names kinds front rest =
+    let form : Form = form_of (declaration_of point names kinds) kinds in
+    let text : List ℕ = block_text Begins ++ block_text (Declares (declaration_of point names kinds)) in
+    sym (trace_told point names kinds text (front ++ rest) refl) ∙ rows_apart form text (front ++ rest) front rest refl
+    ∙ ap (λ (l : List ℕ). l ++ rows_text form rest) (trace_told point names kinds text front refl)

@@ -1,39 +1,48 @@
 -- Going through the rows of a file.
 use Rattle.std.proofs.Common.{◌≡◌, ◌≤◌, ◌<◌, ◌+◌, ◌^◌, ◌∙◌, ◌==◌, ◌&&◌, ◌∷◌, ◌++◌, [], ℕ, Bool, true, false, List, Option, Some, None, drop, length, take, refl, sym, ap, subst, arith, if◌then◌else◌}
-use Rattle.std.specs.Prelude.{IfSome, not}
-use Rattle.std.specs.Borrow.{Bor}
+use Rattle.std.specs.Prelude.{not, option_map}
+use Rattle.std.specs.Io.KnownBytes.{prepend_known}
 use Rattle.csv.specs.Machine.{Read, ends_at_end, next_record}
-use Rattle.csv.specs.Reading.{Reached, ReadRecord, has_failed, is_bom, reader_config, reader_state, records_from, strip_bom, unread_of}
+use Rattle.csv.specs.Reading.{Reached, ReadRecord, has_failed, is_bom, reader_config, reader_state, records, records_from, strip_bom, unread_of}
 use Rattle.csv.specs.declared.parser.Config.{Config}
 use Rattle.csv.specs.declared.parser.State.{State}
 use Rattle.csv.specs.declared.parser.State.TheVariants as st
 use Rattle.csv.specs.declared.reader.Reader.{Reader}
 use Rattle.csv.proofs.ReadFacts.{rows-end, rows-more}
-use Rattle.dk_table.specs.Cursors.{Cursor, IsReading, Moves, bytes_left, rows_left, rows_of_bytes}
+use Rattle.dk_table.specs.Cursors.{Bytes, Cursor, IsReading, Moves, bytes_in, bytes_left, rows_left, rows_of_bytes}
 use Rattle.dk_table.specs.Placed.{Placed}
 use Rattle.dk_table.specs.Tables.{placed_from}
-use Rattle.dk_table.proofs.AllRecords.{begun, few_placed, records_end, records_more, shrinks}
-
--- what a slice has left
-abbrev pub rest : Bor (List ℕ) → Option (List ℕ)
-rest s = Some s.now
+use Rattle.dk_table.proofs.AllRecords.{few_records, placed_length, records_end, records_more, shrinks}
 
 -- ---- the bytes that are left are known
+in_chain : (bytes : Bytes) → (zs : List ℕ) × (bytes_in bytes ≡ Some zs)
+in_chain bytes = go bytes.is_first_done
+  where
+    go : (b : Bool) → (zs : List ℕ) × ((if b then Some bytes.b_done.now else Some (bytes.a_done.now ++ bytes.b_done.now)) ≡ Some zs)
+    go true = (bytes.b_done.now, refl)
+    go false = (bytes.a_done.now ++ bytes.b_done.now, refl)
+
 either_known : (b : Bool) (xs ys : List ℕ) → (zs : List ℕ) × ((if b then Some xs else Some ys) ≡ Some zs)
 either_known true xs ys = (xs, refl)
 either_known false xs ys = (ys, refl)
 
-known : (r : Reader (Bor (List ℕ))) → has_failed r ≡ false → (zs : List ℕ) × (bytes_left r ≡ Some zs)
+known : (r : Reader Bytes) → has_failed r ≡ false → (zs : List ℕ) × (bytes_left r ≡ Some zs)
 known r going =
-    let e = either_known (not r.bom_checked && (r.at == 0) && (r.filled == 0)) (strip_bom r.rdr.now) (drop r.at (take r.filled r.buffer) ++ r.rdr.now) in
-    (e.0, ap (λ (b : Bool). if b then None else unread_of rest r) going ∙ e.1)
+    let fresh : Bool = not r.bom_checked && (r.at == 0) && (r.filled == 0) in
+    let held : List ℕ = drop r.at (take r.filled r.buffer) in
+    let under = in_chain r.rdr in
+    let e = either_known fresh (strip_bom under.0) (held ++ under.0) in (
+      e.0,
+      ap (λ (b : Bool). if b then None else unread_of bytes_in r) going
+          ∙ ap (λ (o : Option (List ℕ)). if fresh then option_map strip_bom o else prepend_known held o) under.1 ∙ e.1,
+    )
 
 -- the row behind a row, with these cells
 abbrev pub next_row : Placed → List (List ℕ) → Placed
 next_row row cells = record { file = row.file; number = row.number + 1; cells = cells }
 
 -- ---- a read that found a record
-pub record IsFound (row : Placed) (a b : Reader (Bor (List ℕ))) (cells : List (List ℕ)) : Type 0 where
+pub record IsFound (row : Placed) (a b : Reader Bytes) (cells : List (List ℕ)) : Type 0 where
   pub bytes : List ℕ
   pub left : bytes_left a ≡ Some bytes
   pub behind : Read
@@ -43,11 +52,11 @@ pub record IsFound (row : Placed) (a b : Reader (Bor (List ℕ))) (cells : List 
   pub rest_is : bytes_left b ≡ Some behind.2
   pub config_is : reader_config b ≡ reader_config a
 
-found : (row : Placed) (a b : Reader (Bor (List ℕ))) (cells : List (List ℕ)) → has_failed a ≡ false → ReadRecord rest a b true cells → IsFound row a b cells
+found : (row : Placed) (a b : Reader Bytes) (cells : List (List ℕ)) → has_failed a ≡ false → ReadRecord bytes_in a b true cells → IsFound row a b cells
 unfolding Reached
 found row a b cells going r =
     let (y, e) = known a going in
-    let m = rows-more rest a b cells (reader_config a) (reader_state a) y y [] refl e (refl, refl) r in
+    let m = rows-more bytes_in a b cells (reader_config a) (reader_state a) y y [] refl e (refl, refl) r in
     let h = m.2 in
     record {
       bytes = y;
@@ -60,24 +69,9 @@ found row a b cells going r =
       config_is = r.2;
     }
 
-module _ (row : Placed) (a b : Reader (Bor (List ℕ))) (cells : List (List ℕ)) (reading : IsReading row a) (r : ReadRecord rest a b true cells) where
+module _ (row : Placed) (a b : Reader Bytes) (cells : List (List ℕ)) (reading : IsReading row a) (r : ReadRecord bytes_in a b true cells) where
   at : IsFound row a b cells
   at = found row a b cells reading.going r
-
-  fewer : length at.behind.2 < length at.bytes
-  fewer = begun (reader_config a) (reader_state a) at.bytes at.behind reading.between at.read
-
-  number_fits : row.number + length at.bytes < 2 ^ 64
-  number_fits = let P : Option (List ℕ) → Type 0 = λ o. IfSome o (λ bytes. row.number + length bytes < 2 ^ 64) in subst P at.left reading.numbered
-
-  pub next_fits : row.number + 1 < 2 ^ 64
-  next_fits = omega (arith, fewer, number_fits)
-
-  pub still_numbered : IfSome (bytes_left b) (λ bytes. row.number + 1 + length bytes < 2 ^ 64)
-  still_numbered =
-      let P : Option (List ℕ) → Type 0 = λ o. IfSome o (λ bytes. row.number + 1 + length bytes < 2 ^ 64) in
-      let fits : row.number + 1 + length at.behind.2 < 2 ^ 64 = omega (arith, fewer, number_fits) in
-      subst P (sym at.rest_is) fits
 
   pub still_between : ends_at_end (reader_state b) ≡ false
   still_between =
@@ -98,6 +92,12 @@ module _ (row : Placed) (a b : Reader (Bor (List ℕ))) (cells : List (List ℕ)
       ∙ ap (λ (c : List (List ℕ)). next_row row c ∷ behind) (sym at.cells_are)
       ∙ ap (λ (l : List Placed). next_row row cells ∷ l) ahead
 
+  pub still_numbered : row.number + 1 + length (rows_left (next_row row cells) b) < 2 ^ 64
+  still_numbered = omega (arith, ap length one_less, reading.numbered)
+
+  pub next_fits : row.number + 1 < 2 ^ 64
+  next_fits = omega (arith, still_numbered)
+
   pub moves : Moves (rows_left row a) (record { row = next_row row cells; left = rows_left (next_row row cells) b }) true
   moves =
       let after : Cursor = record { row = next_row row cells; left = rows_left (next_row row cells) b } in
@@ -105,10 +105,10 @@ module _ (row : Placed) (a b : Reader (Bor (List ℕ))) (cells : List (List ℕ)
       subst P (sym one_less) (refl, refl)
 
 -- ---- a read that found none
-pub none_left : (row : Placed) (a b : Reader (Bor (List ℕ))) (cells : List (List ℕ)) → IsReading row a → ReadRecord rest a b false cells → rows_left row a ≡ []
+pub none_left : (row : Placed) (a b : Reader Bytes) (cells : List (List ℕ)) → IsReading row a → ReadRecord bytes_in a b false cells → rows_left row a ≡ []
 none_left row a b cells reading r =
     let (y, e) = known a reading.going in
-    let none : next_record (reader_config a) (reader_state a) [] [] y ≡ None = rows-end rest a b cells (reader_config a) y refl e r in
+    let none : next_record (reader_config a) (reader_state a) [] [] y ≡ None = rows-end bytes_in a b cells (reader_config a) y refl e r in
     ap (rows_of_bytes row (reader_config a) (reader_state a)) e ∙ ap (placed_from row.file (row.number + 1)) (records_end (reader_config a) (length y + 1) (reader_state a) y none)
 
 -- ---- what a step says
@@ -137,21 +137,20 @@ strip_short (a ∷ b ∷ c ∷ more) = go (is_bom a b c)
     go true = omega arith
     go false = omega arith
 
-module _ (file : ℕ) (cells : List (List ℕ)) (r : Reader (Bor (List ℕ))) (bytes : List ℕ) (size : length bytes < 2 ^ 64)
-    (left : bytes_left r ≡ Some (strip_bom bytes)) (start : reader_state r ≡ st.StartRecord) where
-  abbrev at_start : Placed
-  at_start = record { file = file; number = 0; cells = cells }
+-- there are at most as many rows as bytes
+pub all_few : (cfg : Config) (bytes : List ℕ) → length (records cfg bytes) ≤ length bytes
+all_few cfg bytes = few_records cfg (length bytes + 1) st.StartRecord bytes refl
 
-  pub all_numbered : IfSome (bytes_left r) (λ xs. 0 + length xs < 2 ^ 64)
-  all_numbered =
-      let P : Option (List ℕ) → Type 0 = λ o. IfSome o (λ xs. 0 + length xs < 2 ^ 64) in
-      let fits : 0 + length (strip_bom bytes) < 2 ^ 64 = omega (arith, strip_short bytes, size) in
-      subst P (sym left) fits
+pub few_rows : (cfg : Config) (bytes : List ℕ) → length (records cfg (strip_bom bytes)) ≤ length bytes
+few_rows cfg bytes = omega (arith, all_few cfg (strip_bom bytes), strip_short bytes)
 
-  pub all_few : length (rows_left at_start r) < 2 ^ 64
-  all_few =
-      let xs : List ℕ = strip_bom bytes in
-      let is : length (rows_left at_start r) ≡ length (placed_from file 1 (records_from (reader_config r) (length xs + 1) st.StartRecord xs)) =
-      ap (λ (o : Option (List ℕ)). length (rows_of_bytes at_start (reader_config r) (reader_state r) o)) left
-      ∙ ap (λ (s : State). length (placed_from file 1 (records_from (reader_config r) (length xs + 1) s xs))) start in
-      omega (arith, is, few_placed (reader_config r) file 1 xs, strip_short bytes, size)
+module _ (row : Placed) (r : Reader Bytes) (cfg : Config) (bytes : List ℕ) (left : bytes_left r ≡ Some bytes) (start : reader_state r ≡ st.StartRecord)
+    (is : reader_config r ≡ cfg) where
+  pub all_left : rows_left row r ≡ placed_from row.file (row.number + 1) (records cfg bytes)
+  all_left =
+      ap (rows_of_bytes row (reader_config r) (reader_state r)) left
+      ∙ ap (λ (s : State). placed_from row.file (row.number + 1) (records_from (reader_config r) (length bytes + 1) s bytes)) start
+      ∙ ap (λ (c : Config). placed_from row.file (row.number + 1) (records c bytes)) is
+
+  pub all_numbered : row.number + length (records cfg bytes) < 2 ^ 64 → row.number + length (rows_left row r) < 2 ^ 64
+  all_numbered fits = omega (arith, ap length all_left, placed_length row.file (row.number + 1) (records cfg bytes), fits)

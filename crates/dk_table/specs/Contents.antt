@@ -1,9 +1,13 @@
--- What reading the files whole comes to.
-use Rattle.std.specs.Prelude.{◌≡◌, ◌<◌, ⊤, ℕ, List, [], ◌∷◌, length, map, take}
+-- What reading the files comes to.
+use Rattle.std.specs.Prelude.{◌≡◌, ◌<◌, ◌⊎◌, ◌++◌, ⊤, ℕ, List, [], ◌∷◌, length, map, take}
+use Rattle.csv.specs.Reading.{strip_bom}
 use Rattle.dk_driver.specs.Reads.{AtStart, Break, HasBroken, Within, held_file_at}
 use Rattle.dk_driver.specs.declared.fault.FilesFault.{FilesFault}
 use Rattle.dk_driver.specs.declared.fault.FilesFault.TheVariants.{Refused, Start, Read, NoMemory}
 use Rattle.dk_io.specs.Outside.{HeldFile, Untold, Absent, Holds}
+use Rattle.dk_table.specs.Chunks.{EndsRow}
+use Rattle.dk_table.specs.Tables.{config_by}
+use Rattle.dk_table.specs.declared.command.Command.{Command}
 
 -- what is told of files of these names
 abbrev pub helds_of : List (List ℕ) → (List ℕ → HeldFile) → List HeldFile
@@ -41,3 +45,24 @@ OwnFaultSays held rose place (Refused other line why) = ⊥
 OwnFaultSays held rose place (Start other) = (other ≡ place) × HasBroken AtStart held rose
 OwnFaultSays held rose place (Read other) = (other ≡ place) × HasBroken Within held rose
 OwnFaultSays held rose place NoMemory = ⊤
+
+-- ---- files that are read piece by piece
+-- The file of which this is told begins so, behind its byte order mark. Of one that is absent nothing was read.
+abbrev pub Begins : HeldFile → List ℕ → Type 0
+Begins Untold front = ⊤
+Begins Absent front = front ≡ []
+Begins (Holds bytes) front = (rest : List ℕ) × (strip_bom bytes ≡ front ++ rest)
+
+-- Of a file that can't be started nothing was read.
+abbrev pub IsFrontBy : Break → List ℕ → Type 0
+IsFrontBy AtStart front = front ≡ []
+IsFrontBy Within front = ⊤
+
+-- Files that were read to their ends, and the front of the next, which is whole rows. Behind the last there is none.
+pub record Reached (c : Command) (helds : List HeldFile) : Type 0 where
+  pub contents : List (List ℕ)
+  pub front : List ℕ
+  pub read : AreReadAs (take (length contents) helds) contents
+  pub next : (front ≡ []) ⊎ (length contents < length helds)
+  pub begins : Begins (held_file_at helds (length contents)) front
+  pub whole : EndsRow (config_by c.separator) front

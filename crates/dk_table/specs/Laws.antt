@@ -1,5 +1,5 @@
 -- What is written of a table is read as its declaration and its rows.
-use Rattle.std.specs.Prelude.{◌≡◌, ◌≤◌, ◌-◌, ◌++◌, ◌∷◌, [], ℕ, All, Bool, false, true, List, Ok, length, map, replicate, unwrap_or}
+use Rattle.std.specs.Prelude.{◌≡◌, ◌≤◌, ◌-◌, ◌++◌, ◌∷◌, [], ℕ, All, Bool, false, true, List, None, Ok, Some, length, map, replicate, unwrap_or}
 use Rattle.std.specs.List.{zip}
 use Rattle.dk_base.specs.declared.values.Value.{Value}
 use Rattle.dk_blocks.specs.Blocks.{groups_of}
@@ -13,8 +13,9 @@ use Rattle.dk_template.specs.declared.grammar.Grammar.{Grammar}
 use Rattle.dk_write.specs.Course.{done_all}
 use Rattle.dk_write.specs.Texts.{Write, trace_text}
 use Rattle.dk_table.specs.Placed.{Placed}
+use Rattle.dk_table.specs.Streams.{stream_at}
 use Rattle.dk_table.specs.Tables.{first_of, names_of, rows_in, rows_of_all}
-use Rattle.dk_table.specs.Traces.{declaration_of, judged, kinds_of, trace_of, value_at}
+use Rattle.dk_table.specs.Traces.{declaration_of, judged, kinds_of, trace_at, trace_of, value_at}
 use Rattle.dk_table.specs.declared.columns.ColumnKind.{ColumnKind}
 use Rattle.dk_table.specs.declared.command.Command.{Command}
 
@@ -62,3 +63,11 @@ RowsAreSamples =
     (h : History)
     × (after_all ignores (effect_of ignores (nothing_by grammar)) (groups_of (lined line room 0 true (trace_text ws))) ≡ Ok h)
     × HasOnly h d (map (row_values kinds) t.rows))
+
+-- ---- rows that are written as they come
+-- Where nothing is refused, what is written is the trace of the tables; and nothing is, where there is one.
+abbrev pub StreamsAreTraces : Type 0
+StreamsAreTraces =
+    (c : Command) (point : List ℕ) (types : ℕ) (files : List (List ℕ)) → c.types ≡ Some types
+    → ((stream_at c point types files).refusal ≡ None → trace_at c point files ≡ Ok (stream_at c point types files).written)
+    × ((ws : List Write) → trace_at c point files ≡ Ok ws → stream_at c point types files ≡ record { written = ws; refusal = None })

@@ -9,7 +9,7 @@ use std::marker::Model;
 /// The bytes of a file, in which a quote is looked for once. Contracts see the bytes.
 #[derive(Drop)]
 pub(crate) struct FileBytes {
-    bytes: Text,
+    bytes: Vec<u8>,
     is_unquoted: bool,
 }
 
@@ -19,14 +19,20 @@ impl Model for FileBytes {
 
     ghost Value = { List ℕ };
 
-    ghost view = { λ f. f.bytes };
+    ghost view = { λ f. f.bytes.items };
 
-    ghost invariant = { λ f. IsTrue f.is_unquoted → IsUnquoted f.bytes };
+    ghost invariant = { λ f. IsTrue f.is_unquoted → IsUnquoted f.bytes.items };
 }
 
 impl FileBytes {
     pub(crate) fn new(bytes: Text) -> FileBytes
         ensures { result ≡ bytes }
+    {
+        FileBytes::from_vec(bytes.into_vec())
+    }
+
+    pub(crate) fn from_vec(bytes: Vec<u8>) -> FileBytes
+        ensures { result ≡ bytes.items }
     {
         let is_unquoted = is_unquoted(bytes.as_slice());
         FileBytes { bytes, is_unquoted }

@@ -2,6 +2,7 @@
 ghost use Rattle.std.specs.Prelude.{◌≡◌, IfOk, OnOk, filter, is_some, map, true};
 ghost use Rattle.std.specs.List.{list_all};
 ghost use Rattle.dk_table.specs.Columns.{cell_value};
+ghost use Rattle.dk_table.specs.Stages.{is_done};
 ghost use Rattle.dk_table.specs.Judging.{fresh, judging, kind_by, with_cell, with_row};
 
 use crate::columns::{CANDIDATES, ColumnKind, writes};
@@ -119,6 +120,13 @@ impl Judge {
             columns: fresh,
             digits: Vec::new(alloc),
         })
+    }
+
+    /// Whether no row is still to be looked at.
+    pub(crate) fn is_done(&self) -> bool
+        ensures { result ≡ is_done self.now }
+    {
+        matches!(self.left, Some(0))
     }
 
     // Goes on with the cells of the next row.

@@ -4,11 +4,16 @@
 //! an empty cell is a missing value. `run_table` is the run behind the program.
 #![tactic(auto)]
 
+mod advancing;
 mod cells;
+mod checked;
+mod chunks;
 mod columns;
 mod command;
 mod faults;
 mod file_bytes;
+mod filling;
+mod held;
 mod judging;
 pub mod laws;
 mod lines;
@@ -17,6 +22,10 @@ mod reading;
 mod records;
 mod rows;
 mod run;
+mod sending;
+mod stages;
+mod stops;
+mod streaming;
 mod tables;
 mod texts;
 mod top;

@@ -1,5 +1,5 @@
 // The rows of bytes without quotes, which are lines, one after another.
-ghost use Rattle.std.specs.Prelude.{◌≡◌, ◌≤◌, ◌<◌, IfOk, IsTrue, Some, [], drop, false, get_or, length, map, ℕ};
+ghost use Rattle.std.specs.Prelude.{◌≡◌, ◌≤◌, ◌<◌, ◌+◌, ◌^◌, IfOk, IsTrue, Some, [], drop, false, get_or, length, map, ℕ};
 ghost use Rattle.csv.specs.Machine.{ends_with, next_record};
 ghost use Rattle.csv.specs.declared.parser.State.TheVariants as st;
 ghost use Rattle.csv.specs.declared.parser.Terminator.TheVariants as term;
@@ -22,7 +22,8 @@ pub(crate) fn is_unquoted(bytes: &[u8]) -> bool
     memchr(b'"', bytes).is_none()
 }
 
-fn ends_line(byte: u8) -> bool
+/// Whether the byte ends a line.
+pub(crate) fn ends_line(byte: u8) -> bool
     ensures { result ≡ ends_with term.CRLF byte }
 {
     byte == b'\r' || byte == b'\n'
@@ -96,19 +97,24 @@ impl<'a> Model for Lines<'a> {
 }
 
 impl<'a> Lines<'a> {
-    /// All rows of the bytes, which have no quote, of the file at a place, whose cells this byte separates, are left.
-    pub(crate) fn new(alloc: Global, separator: u8, file: usize, bytes: &'a [u8]) -> Lines<'a>
-        requires { IsUnquoted bytes.now }
-        ensures row { result.row ≡ line_row file 0 [] }
-        ensures left { result.left ≡ rows_of_bytes (line_row file 0 []) (config_by separator) st.StartRecord (Some bytes.entry.now) }
+    /// All rows of the bytes, which have no quote, of the file at a place, whose cells this byte separates, are left. So many rows of the file
+    /// stand in front of them.
+    pub(crate) fn new(
+        alloc: Global,
+        separator: u8,
+        file: usize,
+        front: u64,
+        bytes: &'a [u8],
+    ) -> Lines<'a>
+        requires unquoted { IsUnquoted bytes.now }
+        requires numbered { front + length bytes.now < 2 ^ 64 }
+        ensures row { result.row ≡ line_row file front [] }
+        ensures left { result.left ≡ rows_of_bytes (line_row file front []) (config_by separator) st.StartRecord (Some bytes.entry.now) }
     {
-        // There are no more rows than bytes, so the number of each has 64 bits.
-        let size = bytes.len();
-        prove!(size <= usize::MAX);
         Lines {
             separator,
             file,
-            number: 0,
+            number: front,
             cells: Vec::new(alloc),
             bytes,
             marks: Marks::new(separator, bytes),

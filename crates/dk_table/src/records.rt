@@ -1,14 +1,19 @@
 // The rows of a file as `csv` reads them, one after another.
-ghost use Rattle.std.specs.Prelude.{◌≡◌, ◌<◌, ◌^◌, IfOk, Ok, [], false, length, slice_get, true, unwrap_or};
+ghost use Rattle.std.specs.Prelude.{◌≡◌, ◌<◌, ◌+◌, ◌^◌, ◌++◌, IfOk, Ok, [], false, length, slice_get, true, unwrap_or};
+ghost use Rattle.csv.specs.Reading.{records, strip_bom};
 ghost use Rattle.csv.specs.Records.{fields_of};
-ghost use Rattle.dk_table.specs.Tables.{rows_in};
+ghost use Rattle.dk_table.specs.Tables.{config_by, placed_from, rows_in};
 ghost use Rattle.dk_table.specs.Placed.{cell_at};
 ghost use Rattle.dk_table.specs.Cursors.{IsReading, Moves, rows_left};
 
 use csv::{ByteRecord, Reader, ReaderBuilder};
 use dk_base::NoMemory;
 use std::alloc::Global;
+use std::io::{Chain, Read};
 use std::marker::Model;
+
+/// A reader of the bytes behind others.
+type Bytes<'a> = Chain<&'a [u8], &'a [u8]>;
 
 /// A row of a table and where it stands, which contracts see as its cells with its place.
 #[derive(Drop)]
@@ -50,7 +55,7 @@ impl Row {
     }
 
     // Reads the next record into the row, which is then the one behind it.
-    fn read(&mut self, reader: &mut Reader<&[u8]>) -> Result<bool, NoMemory>
+    fn read(&mut self, reader: &mut Reader<Bytes<'_>>) -> Result<bool, NoMemory>
         requires { IsReading self.old reader.old }
         ensures moves { result ≡ Ok true → Moves (rows_left self.old reader.old) (record { row = self.new; left = rows_left self.new reader.new }) true }
         ensures reads { result ≡ Ok true → IsReading self.new reader.new }
@@ -82,7 +87,7 @@ impl Row {
 /// error.
 #[derive(Drop)]
 pub(crate) struct Records<'a> {
-    reader: Reader<&'a [u8]>,
+    reader: Reader<Bytes<'a>>,
     row: Row,
     is_ended: bool,
 }
@@ -107,16 +112,47 @@ impl<'a> Records<'a> {
         // There are no more rows than bytes, so the number of each has 64 bits.
         let size = bytes.len();
         prove!(size <= usize::MAX);
+        Records::begun(alloc, separator, file, 0, b"", bytes)
+    }
+
+    /// All rows of bytes further on in the file, in front of which so many of its rows stand, are left.
+    pub(crate) fn behind(
+        alloc: Global,
+        separator: u8,
+        file: usize,
+        front: u64,
+        bytes: &'a [u8],
+    ) -> Records<'a>
+        requires { front + length bytes.now < 2 ^ 64 }
+        ensures left { result.left ≡ placed_from file (front + 1) (records (config_by separator) bytes.entry.now) }
+        ensures few { front + length result.left < 2 ^ 64 }
+    {
+        // Behind a line end, which is read past, no byte order mark is looked for.
+        Records::begun(alloc, separator, file, front, b"\n", bytes)
+    }
+
+    // All rows of the bytes and of those in front of them are left, where so many rows of the file stand in front of all of these.
+    fn begun(
+        alloc: Global,
+        separator: u8,
+        file: usize,
+        number: u64,
+        front: &'a [u8],
+        bytes: &'a [u8],
+    ) -> Records<'a>
+        requires { number + length (records (config_by separator) (strip_bom (front.now ++ bytes.now))) < 2 ^ 64 }
+        ensures { result.left ≡ placed_from file (number + 1) (records (config_by separator) (strip_bom (front.entry.now ++ bytes.entry.now))) }
+    {
         let reader = ReaderBuilder::new()
             .has_headers(false)
             .flexible(true)
             .delimiter(separator)
-            .from_reader(alloc, bytes);
+            .from_reader(alloc, front.chain(bytes));
         Records {
             reader,
             row: Row {
                 file,
-                number: 0,
+                number,
                 cells: ByteRecord::new(alloc),
             },
             is_ended: false,

@@ -1,9 +1,9 @@
 // The rows of a file, one after another.
-ghost use Rattle.std.specs.Prelude.{◌≡◌, ◌<◌, ◌^◌, IfOk, drop, length};
-ghost use Rattle.csv.specs.Reading.{strip_bom};
+ghost use Rattle.std.specs.Prelude.{◌≡◌, ◌<◌, ◌+◌, ◌^◌, IfOk, drop, length};
+ghost use Rattle.csv.specs.Reading.{records, strip_bom};
 ghost use Rattle.dk_table.specs.Cursors.{Moves};
 ghost use Rattle.dk_table.specs.Placed.{cell_at};
-ghost use Rattle.dk_table.specs.Tables.{body_in, rows_in};
+ghost use Rattle.dk_table.specs.Tables.{body_in, config_by, placed_from, rows_in};
 
 use crate::command::Command;
 use crate::file_bytes::FileBytes;
@@ -35,9 +35,9 @@ impl<'a> Model for Rows<'a> {
     ghost view = { λ r. cursor_of r.source };
 }
 
-// The bytes behind the byte order mark, where there is one.
+/// The bytes behind the byte order mark, where there is one.
 #[tactic(auto, unfolding(csv::specs::Reading::strip_bom))]
-fn behind_mark(bytes: &[u8]) -> &[u8]
+pub(crate) fn behind_mark(bytes: &[u8]) -> &[u8]
     ensures { result.now ≡ strip_bom bytes.now }
 {
     match bytes {
@@ -58,12 +58,40 @@ impl<'a> Rows<'a> {
         ensures few { IfOk result (λ rows. length rows.left < 2 ^ 64) }
     {
         if bytes.is_unquoted() {
-            let lines = Lines::new(alloc, separator, file, behind_mark(bytes.as_slice()));
+            // There are no more rows than bytes, so the number of each has 64 bits.
+            let marked = bytes.as_slice();
+            let size = marked.len();
+            prove!(size <= usize::MAX);
+            let lines = Lines::new(alloc, separator, file, 0, behind_mark(marked));
             return Ok(Rows {
                 source: Source::Lines(lines),
             });
         }
         Rows::by_records(alloc, separator, file, bytes.as_slice())
+    }
+
+    /// All rows of bytes further on in the file, in front of which so many of its rows stand, are left. No byte order mark is looked for.
+    pub(crate) fn behind(
+        alloc: Global,
+        separator: u8,
+        file: usize,
+        front: u64,
+        bytes: &'a FileBytes,
+    ) -> Result<Rows<'a>, NoMemory>
+        requires { front + length bytes.now < 2 ^ 64 }
+        ensures left { IfOk result (λ rows. rows.left ≡ placed_from file (front + 1) (records (config_by separator) bytes.entry.now)) }
+        ensures few { IfOk result (λ rows. front + length rows.left < 2 ^ 64) }
+    {
+        if bytes.is_unquoted() {
+            let lines = Lines::new(alloc, separator, file, front, bytes.as_slice());
+            return Ok(Rows {
+                source: Source::Lines(lines),
+            });
+        }
+        let records = Records::behind(alloc, separator, file, front, bytes.as_slice());
+        Ok(Rows {
+            source: Source::Records(Box::new(alloc, records)?),
+        })
     }
 
     /// The same, by a reader for which it doesn't matter whether there are quotes.

@@ -13,8 +13,8 @@ use dk_base::{List, NoMemory, Text, same_bytes};
 use itoa::Buffer;
 use std::alloc::Global;
 
-// Whether the row has these names as its cells.
-fn are_cells(names: &[Text], rows: &Rows<'_>) -> bool
+/// Whether the row has these names as its cells.
+pub(crate) fn are_cells(names: &[Text], rows: &Rows<'_>) -> bool
     ensures { result ≡ same_cells names.now rows.now.row.cells }
 {
     if names.len() != rows.len() {
@@ -72,8 +72,8 @@ fn take_table(
     take_rows(file, names.len(), rows, judge)
 }
 
-// Whether the quotes of a file go in pairs.
-fn are_paired(bytes: &FileBytes) -> bool
+/// Whether the quotes of a file go in pairs.
+pub(crate) fn are_paired(bytes: &FileBytes) -> bool
     ensures { result ≡ are_paired bytes.now }
 {
     if bytes.is_unquoted() {
@@ -169,8 +169,12 @@ fn made_names(alloc: Global, count: usize) -> Result<List<Text>, NoMemory>
     Ok(names)
 }
 
-// The names of the columns by the first row.
-fn names_by(alloc: Global, has_header: bool, rows: &Rows<'_>) -> Result<List<Text>, NoMemory>
+/// The names of the columns by the first row.
+pub(crate) fn names_by(
+    alloc: Global,
+    has_header: bool,
+    rows: &Rows<'_>,
+) -> Result<List<Text>, NoMemory>
     ensures { IfOk result (λ names. names ≡ names_by has_header rows.now.row.cells) }
 {
     if has_header {

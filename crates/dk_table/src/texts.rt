@@ -10,12 +10,13 @@ usage: dk_table [--point NAME] [--separator C] [--types ROWS] [--no-header]
 Reads tables with commas between their cells from the FILEs, and writes their
 trace: one point, with a variable for each column and a record for each row.
 
-  FILE             a table; all have the same header, and each is read whole
+  FILE             a table; all have the same header, and without --types each
+                   is read whole
   --point NAME     the point's name, default the name of the first FILE
   --separator C    what stands between cells, one byte, default a comma
   --types ROWS     find what columns have by the first ROWS rows: 1 to
-                   1099511627776, default all; a later cell of another kind is
-                   refused
+                   1099511627776, default all; the others are written as they
+                   come, up to a cell of another kind, which is refused
   --no-header      the first row of a FILE is a row as the others, and columns
                    are named column1 and so on
   -h, --help       print this text and read nothing

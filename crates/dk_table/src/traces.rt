@@ -94,7 +94,7 @@ fn vars_of(alloc: Global, names: &[Text], kinds: &[ColumnKind]) -> Result<List<V
     Ok(vars)
 }
 
-fn declaration_of(
+pub(crate) fn declaration_of(
     alloc: Global,
     point: &[u8],
     names: &[Text],
@@ -111,7 +111,7 @@ fn declaration_of(
 
 // Whether lines tell the names of the point and of the variables.
 #[tactic(auto, using(crate::proofs::Steps::shown_missing))]
-fn are_named(alloc: Global, decl: &PointDecl) -> Result<bool, NoMemory>
+pub(crate) fn are_named(alloc: Global, decl: &PointDecl) -> Result<bool, NoMemory>
     ensures { IfOk result (λ are. are ≡ are_named decl.now) }
 {
     let none = vec![in alloc; View::Missing; decl.vars.len()]?;
@@ -121,7 +121,11 @@ fn are_named(alloc: Global, decl: &PointDecl) -> Result<bool, NoMemory>
 }
 
 // Whether each cell writes a value of its column's kind. Digits of decimals are put into `digits`.
-fn is_told(kinds: &[ColumnKind], rows: &Rows<'_>, digits: &mut Vec<u8>) -> Result<bool, NoMemory>
+pub(crate) fn is_told(
+    kinds: &[ColumnKind],
+    rows: &Rows<'_>,
+    digits: &mut Vec<u8>,
+) -> Result<bool, NoMemory>
     ensures { IfOk result (λ is. is ≡ is_told kinds.now rows.now.row) }
 {
     for i in 0..kinds.len().min(rows.len()) {

@@ -45,7 +45,7 @@ impl From<NoMemory> for Halt {
 }
 
 impl Halt {
-    fn status(self) -> Ended
+    pub(crate) fn status(self) -> Ended
         ensures { result ≡ status_of self }
     {
         match self {
@@ -57,14 +57,14 @@ impl Halt {
 
 /// A column in a record: the line of its variable's name, and how its cells are read.
 #[derive(Drop)]
-struct Heading {
+pub(crate) struct Heading {
     line: Text,
     kind: ColumnKind,
 }
 
 /// What the records of a trace have in common: the line of the point's name, and the columns.
 #[derive(Drop)]
-struct Form {
+pub(crate) struct Form {
     point: Text,
     headings: List<Heading>,
 }
@@ -102,7 +102,11 @@ fn headings_of(
     Ok(headings)
 }
 
-fn form_of(alloc: Global, decl: &PointDecl, kinds: &[ColumnKind]) -> Result<Form, NoMemory>
+pub(crate) fn form_of(
+    alloc: Global,
+    decl: &PointDecl,
+    kinds: &[ColumnKind],
+) -> Result<Form, NoMemory>
     ensures { IfOk result (λ form. form ≡ form_of decl.now kinds.now) }
 {
     Ok(Form {
@@ -113,9 +117,21 @@ fn form_of(alloc: Global, decl: &PointDecl, kinds: &[ColumnKind]) -> Result<Form
 
 /// Rows that are not written yet, and what is used again for each cell.
 #[derive(Drop)]
-struct Gathered {
+pub(crate) struct Gathered {
     text: Vec<u8>,
-    digits: Vec<u8>,
+    pub(crate) digits: Vec<u8>,
+}
+
+impl Gathered {
+    /// No rows.
+    pub(crate) fn new(alloc: Global) -> Gathered
+        ensures { result.text.items ≡ [] }
+    {
+        Gathered {
+            text: Vec::new(alloc),
+            digits: Vec::new(alloc),
+        }
+    }
 }
 
 // The lines of a cell.
@@ -157,8 +173,8 @@ fn push_row(gathered: &mut Gathered, form: &Form, rows: &Rows<'_>) -> Result<(),
     Ok(())
 }
 
-// Writes what is gathered.
-fn write_gathered<S: Sinks>(gathered: &mut Gathered, sinks: &mut S) -> Result<(), Halt>
+/// Writes what is gathered.
+pub(crate) fn write_gathered<S: Sinks>(gathered: &mut Gathered, sinks: &mut S) -> Result<(), Halt>
     ensures told { Tells gathered.old.text.items gathered.new.text.items (S.written sinks.old) (S.written sinks.new) (S.faults sinks.old) (S.faults sinks.new) result }
     ensures none { OnOk result (gathered.new.text.items ≡ []) }
 {
@@ -171,8 +187,8 @@ fn write_gathered<S: Sinks>(gathered: &mut Gathered, sinks: &mut S) -> Result<()
     }
 }
 
-// Gathers the record of a row, and writes what is gathered where it is long.
-fn tell_row<S: Sinks>(
+/// Gathers the record of a row, and writes what is gathered where it is long.
+pub(crate) fn tell_row<S: Sinks>(
     gathered: &mut Gathered,
     form: &Form,
     rows: &Rows<'_>,
@@ -232,8 +248,8 @@ fn push_decl(alloc: Global, text: &mut Text, decl: &PointDecl) -> Result<(), NoM
     text.push(b'\n')
 }
 
-// The header lines and the declaration.
-fn begun(alloc: Global, decl: &PointDecl) -> Result<Gathered, NoMemory>
+/// The header lines and the declaration.
+pub(crate) fn begun(alloc: Global, decl: &PointDecl) -> Result<Gathered, NoMemory>
     ensures { IfOk result (λ gathered. gathered.text.items ≡ block_text Begins ++ block_text (Declares decl.now)) }
 {
     let mut text = Text::from_slice(alloc, header_text())?;

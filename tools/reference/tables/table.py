@@ -4,7 +4,8 @@ from __future__ import annotations
 
 from dataclasses import replace
 
-from writing import Case, failing_reads, failing_writes, wanted
+from command import WRITE
+from writing import Case, cut_short, failing_reads, failing_writes, unread, wanted, with_key
 
 PIECE = 64
 USED = b"name,price,kept\nbolt,1.25,true\n\"nut, small\",0.50,false\n,-0.75,true\n"
@@ -164,6 +165,57 @@ def bad_cells() -> list[Case]:
     ]
 
 
+def unread_behind(case: Case, name: str, number: int, front: Case) -> Case:
+    """The case where this call, on the file of this name, fails behind rows that are all that this run has."""
+    failing = unread(with_key(case, f"read {number} fails", 7, "failing-reads", number), name)
+    return replace(failing, texts={**failing.texts, "report": front.texts["report"]})
+
+
+def one_byte_writes(case: Case, numbers: list[int]) -> list[Case]:
+    """The case, which writes a report and then a message, where a write moves one byte and that of each number fails, if it is made."""
+    report, found = len(case.texts["report"]), []
+    for number in numbers:
+        fails = number <= report + len(case.texts["messages"])
+        failing = with_key(case, f"write {number} {'fails' if fails else 'would fail'}", 1, "failing-writes", number)
+        of_report = cut_short(replace(failing, status=WRITE if fails else case.status), "report", min(number - 1, report))
+        found.append(cut_short(of_report, "messages", max(number - 1 - report, 0)))
+    return found
+
+
+def streams() -> list[Case]:
+    """Rows that are written as they come, and what is refused among them."""
+    numbers = run("four numbers", "--types 1 t.csv", t_csv=b"x\n1\n2\n3\n4\n")
+    slow = run("kinds by three of four numbers", "--types 3 t.csv", t_csv=b"x\n1\n2\n3\n4\n")
+    two = run("two files as they come", "--types 1 t.csv u.csv", t_csv=b"x\n1\n", u_csv=b"x\n2\n3\n")
+    none = run("no file", "", t_csv=b"x\n1\n")
+    refused = run("a cell of another kind behind two numbers", "--types 1 t.csv", t_csv=b"x\n1\n2\na\n")
+    end = len(refused.texts["report"])
+    return [
+        run("a row among the first that is too short", "--types 2 t.csv", t_csv=b"x,y\n1,2\n3\n4,5\n"),
+        run("a row behind them that is too short", "--types 1 t.csv", t_csv=b"x,y\n1,2\n3,4\n5\n6,7\n"),
+        run("a row that is too long in front of a cell of another kind", "--types 1 t.csv", t_csv=b"x\n1\n2,3\na\n"),
+        run("an open quote behind its rows", "--types 1 t.csv", t_csv=b'x\n1\n2\n"3\n'),
+        run("an open quote, and fewer rows than are asked for", "--types 9 t.csv", t_csv=b'x\n1\n2\n"3\n'),
+        run("another header behind the rows of a file", "--types 1 t.csv u.csv", t_csv=b"x\n1\n2\n", u_csv=b"y\n3\n"),
+        run("another header, and fewer rows than are asked for", "--types 9 t.csv u.csv", t_csv=b"x\n1\n2\n", u_csv=b"y\n3\n"),
+        run("no row behind the rows of a file", "--types 1 t.csv u.csv", t_csv=b"x\n1\n2\n", u_csv=b""),
+        run("a row that is too short behind a name that is empty", "--types 1 t.csv", t_csv=b"x,\n1,2\n3\n"),
+        run("a row that is too short among the first, and a name that is empty", "--types 2 t.csv", t_csv=b"x,\n1,2\n3\n"),
+        run("cells of several lines", "--types 1 t.csv", t_csv=b'x,y\n1,"a\nb"\n2,"c\n""d"""\n'),
+        run("a byte order mark in front of each", "--types 1 t.csv u.csv", t_csv=b"\xef\xbb\xbfx\n1\n", u_csv=b"\xef\xbb\xbfx\n2\n"),
+        unread_behind(numbers, "t.csv", 1, none),
+        unread_behind(numbers, "t.csv", 2, none),
+        unread_behind(numbers, "t.csv", 3, run("", "--types 1 t.csv", t_csv=b"x\n1\n2\n")),
+        unread_behind(numbers, "t.csv", 4, numbers),
+        unread_behind(slow, "t.csv", 3, none),
+        unread_behind(slow, "t.csv", 4, slow),
+        unread_behind(two, "u.csv", 4, run("", "--types 1 t.csv", t_csv=b"x\n1\n")),
+        unread_behind(two, "u.csv", 6, two),
+        run("a file that isn't there behind the rows of one", "--types 1 t.csv u.csv", t_csv=b"x\n1\n"),
+        *one_byte_writes(refused, [1, end // 2, end, end + 1, end + 5, end + len(refused.texts["messages"]) + 1]),
+    ]
+
+
 def arguments() -> list[Case]:
     """Arguments that are refused."""
     files = {"t_csv": b"x\n1\n"}
@@ -199,6 +251,7 @@ TABLES = {
     "dk_table/rows.cases": ("Rows of tables.", rows),
     "dk_table/refusals.cases": ("Tables that are refused.", refusals),
     "dk_table/bad_cells.cases": ("Cells behind the first rows, by which kinds are found.", bad_cells),
+    "dk_table/streams.cases": ("Rows that are written as they come.", streams),
     "dk_table/words.cases": ("Words that are refused. A read would fail.", arguments),
     "dk_table/failing_reads.cases": ("Each read of a table that fails: one call starts a file, and the last one finds its end.", reads),
     "dk_table/failing_writes.cases": ("A write that fails leaves a front of the trace, or of the message.", writes),

@@ -4,7 +4,7 @@ use Rattle.dk_program.specs.Ending.{EndsBy}
 use Rattle.dk_table.proofs.Contents.{fault_placed}
 use Rattle.dk_table.proofs.Saying.{fault_completes, fault_says, read_completes, read_says}
 use Rattle.dk_table.specs.Contents.{AreReadAs, FaultSays, helds_of}
-use Rattle.dk_table.proofs.run.run_over.Goals as goal
+use Rattle.dk_table.proofs.run.run_held.Goals as goal
 
 pub tell_fault-requires : goal.tell_fault-requires
 tell_fault-requires g c = fault_placed c.as_slice-names.result.now _ _ c.in-Err.fault c.in-Err.ensures.fault
@@ -17,8 +17,8 @@ returns-in-Ok g c =
     subst (AreReadAs (helds_of a.files file)) (sym c.as_slice.ensures)
     (subst (λ (n : List (List ℕ)). AreReadAs (helds_of n file) c.in-Ok.texts) c.as_slice-names.ensures c.in-Ok.ensures.read) in
     record {
-      says = read_says a c.as_slice.result.now _ _ c.tell_texts.result read c.tell_texts.ensures;
-      complete = read_completes a c.as_slice.result.now _ _ c.tell_texts.result read c.tell_texts.ensures;
+      says = read_says a c.as_slice.result.now _ _ c.tell_texts.result c.requires read c.tell_texts.ensures;
+      complete = read_completes a c.as_slice.result.now _ _ c.tell_texts.result c.requires read c.tell_texts.ensures;
       files = search rules;
     }
 
@@ -33,7 +33,7 @@ returns-in-Err g c =
     subst (λ (n : List (List ℕ)). EndsBy n c.in-Err.fault (g.S.Sinks.written c.args.sinks.now) (g.S.Sinks.written c.tell_fault.new.sinks) (g.S.Sinks.faults c.args.sinks.now) (g.S.Sinks.faults c.tell_fault.new.sinks) c.tell_fault.result)
     c.as_slice-names.ensures c.tell_fault.ensures in
     record {
-      says = fault_says a _ _ c.in-Err.fault c.tell_fault.result says ends;
+      says = fault_says a _ _ c.in-Err.fault c.tell_fault.result c.requires says ends;
       complete = fault_completes a _ _ c.in-Err.fault c.tell_fault.result says ends;
       files = search rules;
     }

@@ -1,0 +1,38 @@
+// What is known of the columns while rows come.
+ghost use Rattle.std.specs.Prelude.{◌≡◌};
+ghost use Rattle.dk_table.specs.Forms.{form_of};
+
+use crate::columns::ColumnKind;
+use crate::held::Chunk;
+use crate::judging::Judge;
+use crate::traces::Plan;
+use crate::writing::Form;
+use dk_base::{List, Text};
+
+/// Rows by which kinds are found, which are held until there are enough.
+#[derive(Drop)]
+pub(crate) struct Front {
+    pub(crate) names: List<Text>,
+    pub(crate) judge: Judge,
+    pub(crate) held: List<Chunk>,
+}
+
+/// Rows that are written as they come.
+#[derive(Drop)]
+pub(crate) struct Body {
+    pub(crate) names: List<Text>,
+    pub(crate) plan: Plan,
+    pub(crate) form: Form,
+    ghost formed: { form ≡ form_of plan.decl plan.kinds },
+}
+
+/// What is known of the columns.
+#[derive(Drop)]
+pub(crate) enum Stage {
+    /// No row has come.
+    Start,
+    /// The names, and something of the kinds.
+    Front(Front),
+    /// The names and the kinds.
+    Body(Body),
+}
