@@ -1,19 +1,17 @@
 -- What a run begins with.
-use Rattle.std.proofs.Common.{◌≡◌, ◌≢◌, ◌≤◌, ◌<◌, ◌⊎◌, ◌-◌, inl, inr, ℕ, false, List, [], ◌∷◌, length, Option, Some, None, IfErr, IfSome, IsErrOf, Result, Ok, Err, refl, sym, ◌∙◌, ap, subst, arith}
+use Rattle.std.proofs.Common.{◌≡◌, ◌≢◌, ◌≤◌, ◌<◌, ◌-◌, inl, inr, ℕ, false, List, [], ◌∷◌, length, Option, Some, None, IfErr, IfSome, IsErrOf, Result, Ok, Err, refl, sym, ◌∙◌, ap, subst, arith}
 use Rattle.std.specs.Io.KnownBytes.{prepend_known}
 use Rattle.dk_io.specs.Outside.{HeldFile, Absent, DeliversUpTo, Holds, Rose, Starts}
 use Rattle.dk_io.specs.declared.whole.AllFault.{AllFault}
 use Rattle.dk_io.specs.declared.whole.AllFault.TheVariants as all
 use Rattle.dk_state.specs.Spelling.{IsSpelling}
 use Rattle.dk_blocks.specs.History.{History, no_history}
-use Rattle.dk_core.specs.Resuming.{HasTableOfState, IsStart, state_file}
+use Rattle.dk_core.specs.Resuming.{HasTableOfState, state_file}
 use Rattle.dk_core.specs.Standing.{SessionReadsFor, SessionStandsFor, blocks_of, over_of}
 use Rattle.dk_words.specs.declared.command.Command.{Command}
-use Rattle.dk_driver.specs.Reads.{AtStart, HasBroken, Within}
 use Rattle.dk_run.specs.Beginning.{IsBegun, IsLeft, IsResumed, IsUnloaded, IsWhole, StartFaultGives, StateFaultGives, fault_of_read}
 use Rattle.dk_run.specs.Courses.{Outset, first_start, total_limit}
-use Rattle.dk_run.specs.Starts.{Begins, BeginsLike, HasBegun, IsRefusedAs}
-use Rattle.dk_run.specs.Statuses.{StateUnreadGives}
+use Rattle.dk_run.specs.Starts.{Begins, BeginsLike, HasBegun}
 use Rattle.dk_run.specs.Telling.{ReportsBy}
 use Rattle.dk_run.specs.WholeFile.{GoesOnFrom}
 use Rattle.dk_run.specs.declared.starting.Beginning.{Beginning}

@@ -1,18 +1,16 @@
 -- Runs that end where another one can begin.
-use Rattle.std.proofs.Common.{◌≡◌, ◌∙◌, ◌+◌, ◌-◌, ◌<◌, ◌≤◌, ◌^◌, ◌++◌, ℕ, All, Bool, true, List, [], ◌∷◌, Option, Some, None, Result, Ok, Err, ap, arith, length, map, refl, subst, sym}
+use Rattle.std.proofs.Common.{◌≡◌, ◌+◌, ◌-◌, ◌<◌, ◌≤◌, ◌^◌, ℕ, Bool, true, List, [], ◌∷◌, Some, None, Result, Ok, Err, arith, length, map, refl, subst, sym}
 use Rattle.std.specs.Fmt.{digits}
-use Rattle.dk_base.specs.Reading.{Line, LineFault, Reads, ◌>>=◌}
+use Rattle.dk_base.specs.Reading.{LineFault, ◌>>=◌}
 use Rattle.dk_base.specs.declared.why.Why.TheVariants.{LongLine as WhyLong, TooLong as WhyMany}
-use Rattle.dk_lines.specs.Left.{End, Over, Broken, LongLine, TooLong, lined}
+use Rattle.dk_lines.specs.Left.{Over, Broken, LongLine, TooLong, lined}
 use Rattle.dk_core.proofs.Going.{IsGoing, block_going, ended_going, going_start, no_samples, start_going}
-use Rattle.dk_core.proofs.GivenVars.{IsLineSpelled}
 use Rattle.dk_core.proofs.SpelledLines.{AreSpelled, IsEnded, file_ends, file_spelled}
 use Rattle.dk_blocks.specs.Blocks.{Group, Groups, Last, groups_of}
 use Rattle.dk_blocks.specs.History.{History, Taken, effect_of, file_ended, no_history}
-use Rattle.dk_blocks.specs.Reading.{after_last}
-use Rattle.dk_core.specs.Resuming.{AreFew, IsStart, state_file}
-use Rattle.dk_driver.specs.Files.{FaultAt, File, ended_file}
-use Rattle.dk_run.specs.Courses.{Course, Outset, behind_histories, course_end, course_of, course_of_file, course_of_files, course_of_groups, goes_on, line_limit, then_files, total_limit}
+use Rattle.dk_core.specs.Resuming.{IsStart, state_file}
+use Rattle.dk_driver.specs.Files.{ended_file}
+use Rattle.dk_run.specs.Courses.{Outset, course_end, course_of, course_of_file, course_of_files, course_of_groups, goes_on, line_limit, then_files, total_limit}
 use Rattle.dk_run.specs.Laws.{RunsBeginAtStarts, RunsEndAtStarts}
 use Rattle.dk_state.specs.Saved.{saved_text}
 use Rattle.dk_state.specs.StateFile.{state_file_of}

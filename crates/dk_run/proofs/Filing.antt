@@ -1,5 +1,5 @@
 -- Reading a file block by block, with the reports that fall due.
-use Rattle.std.proofs.Common.{◌≡◌, ◌≤◌, ◌+◌, ◌-◌, ◌^◌, min, ℕ, List, [], ◌∷◌, ◌++◌, length, inl, inr, Bool, true, false, is_some, Option, Some, None, IfSome, IsErrOf, Result, Ok, Err, if◌then◌else◌, refl, sym, ◌∙◌, ap, subst, arith, append_assoc, length-append}
+use Rattle.std.proofs.Common.{◌≡◌, ◌+◌, ◌-◌, ◌^◌, min, ℕ, List, [], ◌∷◌, ◌++◌, length, inl, inr, Bool, true, false, is_some, Option, Some, None, IfSome, IsErrOf, Result, Ok, Err, if◌then◌else◌, refl, sym, ◌∙◌, ap, subst, arith, append_assoc, length-append}
 use Rattle.std.proofs.lemmas.Grind.{flat_map-append}
 use Rattle.std.proofs.lemmas.List.{append-nil}
 use Rattle.std.specs.Io.{StartsWith}
@@ -11,15 +11,13 @@ use Rattle.dk_base.specs.declared.faults.Fault.{Fault}
 use Rattle.dk_base.specs.declared.faults.Fault.TheVariants as f
 use Rattle.dk_io.proofs.Reading.{front_nil}
 use Rattle.dk_io.specs.Outside.{HeldFile, Holds, Rose, Starts}
-use Rattle.dk_io.specs.Streams.{Texts, with_bytes}
-use Rattle.dk_io.specs.declared.outside.Stream.TheVariants.{Report}
 use Rattle.dk_lines.proofs.Lined.{at_end}
 use Rattle.dk_lines.specs.Left.{Left, Over}
 use Rattle.dk_lines.specs.Reading.{Reading, room_of, left_of}
 use Rattle.dk_blocks.proofs.LastLines.{blank_ends}
 use Rattle.dk_blocks.specs.Blocks.{Groups, Last, groups_of}
-use Rattle.dk_blocks.specs.History.{Effect, History, Taken, effect_of, file_ended, no_block}
-use Rattle.dk_blocks.specs.Reading.{Stepped, after_next}
+use Rattle.dk_blocks.specs.History.{Effect, History, effect_of, file_ended}
+use Rattle.dk_blocks.specs.Reading.{after_next}
 use Rattle.dk_core.specs.Standing.{ReportsAlike, SessionReadsFor, SessionStandsFor, blocks_of, ignores_of, left_with_answer, over_of}
 use Rattle.dk_blocks.specs.Steps.{FaultAnswers, Steps, groups_left}
 use Rattle.dk_core.specs.Steps.{NextBlock, SessionCounts}

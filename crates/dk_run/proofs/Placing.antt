@@ -2,7 +2,6 @@
 use Rattle.std.proofs.Common.{◌≡◌, ◌≢◌, ◌≤◌, ◌<◌, ◌⊎◌, ◌+◌, ◌-◌, ◌^◌, min, ℕ, zero, suc, List, [], ◌∷◌, ◌++◌, map, length, inl, inr, Bool, if◌then◌else◌, Option, Some, None, Result, Ok, Err, refl, sym, ◌∙◌, ap, subst, arith}
 use Rattle.std.proofs.lemmas.List.{append-nil, length-map}
 use Rattle.std.specs.Option.{option_map_or}
-use Rattle.dk_base.specs.declared.why.Why.{Why}
 use Rattle.dk_generate.specs.Generated.{generated_text}
 use Rattle.dk_generate.specs.Texts.{generated_name}
 use Rattle.dk_graph.proofs.Places.{bytes_eq-same}

@@ -1,13 +1,12 @@
 -- A run that is cut behind a file, and goes on from there.
-use Rattle.std.proofs.Common.{◌≡◌, ◌⊎◌, inl, inr, ◌+◌, ◌-◌, ◌||◌, ℕ, List, [], ◌∷◌, ◌++◌, length, Bool, true, false, if◌then◌else◌, Option, Some, None, Result, Ok, Err, refl, sym, ◌∙◌, ap, subst}
+use Rattle.std.proofs.Common.{◌≡◌, ◌⊎◌, inl, inr, ◌+◌, ◌-◌, ◌||◌, ℕ, List, [], ◌∷◌, ◌++◌, length, Bool, true, false, if◌then◌else◌, Some, None, Result, Ok, Err, refl, sym, ◌∙◌, ap, subst}
 use Rattle.dk_base.specs.Reading.{Line, LineFault, Reads, ◌>>=◌}
 use Rattle.dk_base.specs.declared.why.Why.{Why}
 use Rattle.dk_lines.specs.Left.{End, Over, Broken, LongLine, TooLong, Ends, Left, Next, Piece, is_long, is_over, lined, lined_by, pieces, size_of, without_cr}
 use Rattle.dk_blocks.specs.Blocks.{Group, Groups, Last, groups_of, is_blank_line, onto_group, trimmed_line}
 use Rattle.dk_blocks.specs.History.{History, Taken, effect_of, file_ended}
-use Rattle.dk_blocks.specs.Reading.{after_last}
-use Rattle.dk_driver.specs.Files.{FaultAt, File}
-use Rattle.dk_run.specs.Courses.{Course, Outset, behind_histories, course_end, course_of, course_of_file, course_of_files, course_of_groups, goes_on, line_limit, then_files}
+use Rattle.dk_driver.specs.Files.{File}
+use Rattle.dk_run.specs.Courses.{Course, course_end, course_of, course_of_file, course_of_files, course_of_groups, goes_on, line_limit, then_files}
 use Rattle.dk_run.specs.Laws.{ResumedRunsGoOn}
 
 -- ---- lines that end with too many bytes

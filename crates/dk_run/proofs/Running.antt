@@ -1,37 +1,31 @@
 -- Reading file after file.
-use Rattle.std.proofs.Common.{◌≡◌, ◌≢◌, ◌≤◌, ◌<◌, ◌⊎◌, ◌+◌, ◌-◌, ◌^◌, min, ℕ, zero, suc, List, [], ◌∷◌, ◌++◌, map, take, length, get_or, inl, inr, Bool, true, false, Option, Some, None, Result, Ok, Err, refl, sym, ◌∙◌, ap, subst, arith, append_assoc, length-append}
+use Rattle.std.proofs.Common.{◌≡◌, ◌≢◌, ◌≤◌, ◌<◌, ◌+◌, ◌-◌, ℕ, zero, suc, List, [], ◌∷◌, ◌++◌, map, take, length, inl, inr, Bool, true, false, Option, Some, None, Ok, Err, refl, sym, ◌∙◌, ap, subst, arith, append_assoc, length-append}
 use Rattle.std.proofs.lemmas.Bool.{cases_lt}
-use Rattle.std.proofs.lemmas.List.{append-nil, length-take, take_all, take-take}
+use Rattle.std.proofs.lemmas.List.{append-nil}
 use Rattle.std.specs.Io.{StartsWith}
-use Rattle.std.specs.Option.{option_map_or}
 use Rattle.dk_base.specs.Reading.{LineFault}
 use Rattle.dk_base.specs.declared.why.Why.{Why}
-use Rattle.dk_generate.specs.Generated.{generated_text}
-use Rattle.dk_generate.specs.Texts.{generated_name}
-use Rattle.dk_io.specs.Outside.{HeldFile, Absent, Holds, Rose}
-use Rattle.dk_lines.proofs.Lined.{at_break}
-use Rattle.dk_lines.specs.Left.{Broken, Left, lined}
+use Rattle.dk_io.specs.Outside.{HeldFile, Absent, Holds}
+use Rattle.dk_lines.specs.Left.{lined}
 use Rattle.dk_lines.specs.Reading.{Reading, room_of}
-use Rattle.dk_blocks.specs.Blocks.{Last, groups_of}
-use Rattle.dk_blocks.specs.History.{History, effect_of, file_ended}
+use Rattle.dk_blocks.specs.Blocks.{groups_of}
+use Rattle.dk_blocks.specs.History.{History, file_ended}
 use Rattle.dk_core.specs.Standing.{SessionReadsFor, SessionStandsFor, blocks_of}
 use Rattle.dk_blocks.specs.Steps.{groups_left}
 use Rattle.dk_core.specs.declared.session.Session.{Session}
 use Rattle.dk_words.specs.declared.command.Command.{Command}
-use Rattle.dk_driver.specs.Files.{AreHeldFiles, FaultAt, File, ended_file, file_name_at}
-use Rattle.dk_driver.specs.Reads.{AtStart, Break, HasBroken, IsDelivered, Within, held_file_at, rest_behind}
-use Rattle.dk_run.specs.AllFiles.{AreReadTo, FilesTroubleGives, HasBrokenAt, IsRefusedAt, IsShortTo, IsUnreadAt, RunsOn, files_trouble}
-use Rattle.dk_run.specs.Commands.{file_names, generated_count, helds_of}
-use Rattle.dk_run.specs.Courses.{Course, Outset, behind_histories, course_end, course_of, course_of_file, course_of_files, fault_in, first_fault, goes_on, line_limit, then_files}
+use Rattle.dk_driver.specs.Files.{AreHeldFiles, FaultAt, File, ended_file}
+use Rattle.dk_driver.specs.Reads.{AtStart, Within, held_file_at, rest_behind}
+use Rattle.dk_run.specs.AllFiles.{AreReadTo, IsRefusedAt, IsShortTo, IsUnreadAt, RunsOn}
+use Rattle.dk_run.specs.Commands.{generated_count, helds_of}
+use Rattle.dk_run.specs.Courses.{Course, Outset, behind_histories, course_end, course_of, course_of_file, course_of_files, fault_in, first_fault, line_limit, then_files}
 use Rattle.dk_run.specs.Beginning.{BeginsFrom}
 use Rattle.dk_run.specs.Starts.{Begins, BeginsLike}
 use Rattle.dk_presence.specs.Patterns.{capped}
 use Rattle.dk_run.specs.Reports.{due_from, due_reports}
 use Rattle.dk_run.specs.Statuses.{AreCleanBehind}
-use Rattle.dk_run.specs.WholeFile.{ComesToEnd, FileTroubleGives, GoesOnFrom, HasFault, IsBroken, IsCalmUnless, IsShort, course_behind, fresh_reading}
-use Rattle.dk_run.specs.declared.reading.Trouble.{Trouble}
-use Rattle.dk_run.specs.declared.reading.Trouble.TheVariants as t
-use Rattle.dk_run.proofs.Courses.{no_lines, onto_more}
+use Rattle.dk_run.specs.WholeFile.{ComesToEnd, HasFault, IsBroken, IsShort, course_behind, fresh_reading}
+use Rattle.dk_run.proofs.Courses.{onto_more}
 use Rattle.dk_run.proofs.Filing.{due_append, due_none}
 use Rattle.dk_run.proofs.Starts.{starts_begin_alike}
 use Rattle.dk_run.proofs.Writing.{front_behind, front_more}

@@ -1,13 +1,13 @@
 -- What each end of a run says.
 use Rattle.std.proofs.Common.{◌≡◌, ◌≢◌, ◌≤◌, ◌<◌, ◌+◌, ◌-◌, inl, inr, ℕ, zero, suc, List, [], ◌∷◌, ◌++◌, map, take, length, get_or, Option, Some, None, Result, Ok, Err, All, refl, sym, ◌∙◌, ap, subst, arith}
-use Rattle.std.proofs.lemmas.List.{append-nil, length-take, take_all}
+use Rattle.std.proofs.lemmas.List.{length-take, take_all}
 use Rattle.std.specs.Io.{StartsWith}
 use Rattle.std.specs.Io.KnownBytes.{append_known}
 use Rattle.std.specs.Option.{option_map_or}
 use Rattle.std.specs.Prelude.{unwrap_or}
 use Rattle.dk_base.specs.declared.why.Why.{Why}
-use Rattle.dk_io.specs.Outside.{HeldFile, Absent, Holds, Rose}
-use Rattle.dk_io.specs.Streams.{AddsFront, Texts, with_bytes}
+use Rattle.dk_io.specs.Outside.{HeldFile, Absent, Rose}
+use Rattle.dk_io.specs.Streams.{Texts, with_bytes}
 use Rattle.dk_io.specs.declared.outside.Stream.{Stream}
 use Rattle.dk_io.specs.declared.outside.Stream.TheVariants.{Report, Messages, State}
 use Rattle.dk_lines.specs.Reading.{Reading, room_of}
@@ -19,26 +19,26 @@ use Rattle.dk_words.specs.Texts.{help_text, usage_line, version_text}
 use Rattle.dk_words.specs.declared.command.Command.{Command}
 use Rattle.dk_arguments.specs.declared.request.Request.{Request}
 use Rattle.dk_arguments.specs.declared.request.Request.TheVariants.{Run, Help, Version}
-use Rattle.dk_driver.specs.Files.{AreHeldFiles, FaultAt, File, ended_file, file_name_at}
+use Rattle.dk_driver.specs.Files.{AreHeldFiles, FaultAt, ended_file, file_name_at}
 use Rattle.dk_driver.specs.declared.fault.FileFault.{FileFault}
 use Rattle.dk_driver.specs.declared.fault.FileFault.TheVariants as one
 use Rattle.dk_driver.specs.Reads.{AtStart, Break, HasBroken, Within, held_file_at, rest_behind}
 use Rattle.dk_program.specs.Ending.{EndsByFault, EndsWith, EndsWithoutRun}
 use Rattle.dk_program.specs.Messages.{fault_line, unread_line}
 use Rattle.dk_program.specs.Moments.{Outside}
-use Rattle.dk_program.specs.Outputs.{FollowedByFront, IsFront, Output, only_on, texts_followed_by}
+use Rattle.dk_program.specs.Outputs.{IsFront, Output, only_on, texts_followed_by}
 use Rattle.dk_run.specs.AllFiles.{AreCalmUnless, AreReadTo, FilesGive, FilesTroubleGives, HasBrokenAt, IsRefusedAt, IsShortTo, IsTroubleOf, IsUnreadAt, RunGives}
 use Rattle.dk_run.specs.Commands.{file_names, generated_count, helds_of}
 use Rattle.dk_run.specs.declared.starting.Beginning.{Beginning}
 use Rattle.dk_run.specs.Beginning.{HasCome, IsLeft, IsRefusedState, StartFaultGives, state_name}
-use Rattle.dk_run.specs.Courses.{Course, Outset, course_of, fault_in}
+use Rattle.dk_run.specs.Courses.{Course, Outset, fault_in}
 use Rattle.dk_run.specs.Starts.{Begins, HasBegun}
 use Rattle.dk_run.specs.Ending.{EndsBy, status_of}
 use Rattle.dk_print.specs.Sections.{end_line}
-use Rattle.dk_run.specs.Outputs.{first_line, output_along, output_of, saved_state, unread_output, usage_output}
+use Rattle.dk_run.specs.Outputs.{first_line, output_along, output_of, saved_state, unread_output}
 use Rattle.dk_run.specs.Reports.{due_reports, whole_report}
-use Rattle.dk_run.specs.Statuses.{AreRead, ComesTo, IsCutShort, IsDone, IsRefused, IsStateRefused, IsStateUnread, IsUnread, OutputIsWritten, Says, StateUnreadGives}
-use Rattle.dk_run.specs.Telling.{Added, CutOff, CutsText, HaltHasCause, StateCut, StateTold, ToldWhole}
+use Rattle.dk_run.specs.Statuses.{AreRead, ComesTo, IsCutShort, IsRefused, IsStateRefused, IsStateUnread, IsUnread, OutputIsWritten, Says, StateUnreadGives}
+use Rattle.dk_run.specs.Telling.{CutOff, CutsText, HaltHasCause, StateCut, StateTold, ToldWhole}
 use Rattle.dk_run.specs.declared.reading.FilesTrouble.{FilesTrouble}
 use Rattle.dk_run.specs.declared.reading.FilesTrouble.TheVariants as t
 use Rattle.dk_run.specs.declared.reporting.Halt.{Halt}
@@ -48,7 +48,7 @@ use Rattle.dk_events.specs.declared.ended.Ended.TheVariants.{Done, Refused, Usag
 use Rattle.dk_run.proofs.Placing.{helds_length, names_length, rose_since}
 use Rattle.dk_run.proofs.Running.{alone}
 use Rattle.dk_run.proofs.Starts.{starts_begin_alike}
-use Rattle.dk_run.proofs.Writing.{added_more, added_nothing, front_all, front_behind, front_more, front_take, known_nothing}
+use Rattle.dk_run.proofs.Writing.{added_more, front_all, front_behind, front_more, front_take, known_nothing}
 
 -- ---- what was written
 -- the messages' first line, and a report

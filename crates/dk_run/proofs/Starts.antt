@@ -1,11 +1,9 @@
 -- What a run begins with, as far as reading goes.
-use Rattle.std.proofs.Common.{◌≡◌, ◌-◌, List, ℕ, length, Option, Some, None, ap, refl, subst, sym}
+use Rattle.std.proofs.Common.{◌-◌, length, Some, None, ap, refl, subst, sym}
 use Rattle.dk_core.proofs.Resuming.{spelling_has_history, start_has_table}
 use Rattle.dk_core.specs.Resuming.{HasTableOfState, state_file}
-use Rattle.dk_io.specs.Outside.{HeldFile, Holds}
 use Rattle.dk_run.specs.Courses.{Outset, total_limit}
 use Rattle.dk_run.specs.Laws.{StartsBeginAlike, EachStateHasAStart}
-use Rattle.dk_run.specs.Starts.{Begins, BeginsLike, IsState}
 
 pub starts_begin_alike : StartsBeginAlike
 starts_begin_alike None file start begins = begins

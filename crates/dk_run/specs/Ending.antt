@@ -1,8 +1,6 @@
 -- How a run ends: what it writes last, and its status.
-use Rattle.std.specs.Prelude.{◌≡◌, ◌⊎◌, ℕ, List}
-use Rattle.dk_io.specs.Outside.{Rose}
-use Rattle.dk_io.specs.Streams.{AddsFront, Texts, with_bytes}
-use Rattle.dk_io.specs.declared.outside.Stream.{Stream}
+use Rattle.std.specs.Prelude.{◌≡◌, ℕ}
+use Rattle.dk_io.specs.Streams.{Texts}
 use Rattle.dk_io.specs.declared.outside.Stream.TheVariants.{Messages}
 use Rattle.dk_words.specs.declared.command.Command.{Command}
 use Rattle.dk_driver.specs.Files.{file_name_at}

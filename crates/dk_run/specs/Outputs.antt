@@ -1,14 +1,10 @@
 -- The three texts of a run.
-use Rattle.std.specs.Prelude.{◌≡◌, ◌⊎◌, ℕ, List, [], ◌++◌, length, Result, Ok, Err, if◌then◌else◌}
-use Rattle.std.specs.Io.{StartsWith}
-use Rattle.std.specs.Io.KnownBytes.{append_known}
+use Rattle.std.specs.Prelude.{ℕ, List, [], ◌++◌, length, Result, Ok, Err, if◌then◌else◌}
 use Rattle.std.specs.Option.{option_map_or}
 use Rattle.dk_blocks.specs.History.{History}
 use Rattle.dk_core.specs.Resuming.{state_file}
 use Rattle.dk_generate.specs.Texts.{generated_line}
-use Rattle.dk_io.specs.Streams.{Texts}
-use Rattle.dk_io.specs.declared.outside.Stream.{Stream}
-use Rattle.dk_io.specs.declared.outside.Stream.TheVariants.{Report, Messages, State}
+use Rattle.dk_io.specs.declared.outside.Stream.TheVariants.{Messages}
 use Rattle.dk_words.specs.Texts.{usage_line}
 use Rattle.dk_words.specs.declared.command.Command.{Command}
 use Rattle.dk_driver.specs.Files.{FaultAt, File, file_name_at}

@@ -1,11 +1,9 @@
 -- What each status of a run says.
-use Rattle.std.specs.Prelude.{◌≡◌, ◌≢◌, ◌≤◌, ◌<◌, ◌⊎◌, ◌+◌, ◌-◌, ℕ, zero, suc, Bool, true, false, List, [], ◌∷◌, ◌++◌, map, take, length, All, Option, Some, None, slice_get, unwrap_or}
+use Rattle.std.specs.Prelude.{◌≡◌, ◌≢◌, ◌≤◌, ◌<◌, ◌⊎◌, ◌+◌, ◌-◌, ℕ, Bool, false, List, [], ◌∷◌, ◌++◌, map, take, length, All, Option, Some, None}
 use Rattle.std.specs.Io.{StartsWith}
 use Rattle.dk_base.specs.declared.why.Why.{Why}
 use Rattle.dk_base.specs.declared.why.Why.TheVariants.{BadState, TooLong}
-use Rattle.dk_blocks.specs.LastLines.{ends_in_blank_line}
-use Rattle.dk_io.specs.Outside.{DeliversUpTo, HeldFile, Absent, Holds, Untold, Rose}
-use Rattle.dk_io.specs.Streams.{Texts}
+use Rattle.dk_io.specs.Outside.{DeliversUpTo, HeldFile, Absent, Holds, Rose}
 use Rattle.dk_io.specs.declared.outside.Stream.TheVariants as stream
 use Rattle.dk_words.specs.Texts.{help_text, version_text}
 use Rattle.dk_words.specs.declared.command.Command.{Command}

@@ -2,7 +2,7 @@
 use Rattle.std.specs.Prelude.{◌≡◌, ◌⊎◌, ◌+◌, ◌-◌, ℕ, Bool, true, false, List, [], ◌++◌, length, Option, Some, Result, Ok, Err}
 use Rattle.std.specs.Io.{StartsWith}
 use Rattle.dk_base.specs.Reading.{LineFault}
-use Rattle.dk_io.specs.Outside.{HeldFile, Holds, Rose}
+use Rattle.dk_io.specs.Outside.{Rose}
 use Rattle.dk_lines.specs.Reading.{Reading, room_of}
 use Rattle.dk_blocks.specs.Blocks.{Groups}
 use Rattle.dk_blocks.specs.History.{History, effect_of, file_ended}

@@ -1,4 +1,4 @@
-use Rattle.std.proofs.Common.{map, string_bytes, Option, subst, sym}
+use Rattle.std.proofs.Common.{Option, subst, sym}
 use Rattle.dk_arguments.specs.declared.request.Request.{Request}
 use Rattle.dk_program.specs.Statuses.{IsARun}
 use Rattle.dk_words.specs.Requests.{request_of}
