@@ -17,4 +17,5 @@ pub mod Added
 pub mod Joining
 pub mod Climbing
 pub mod Walks
+pub mod Ranked
 mod Examples
