@@ -1,24 +1,22 @@
--- Ways with one more, and ways by the depth of their lower points.
-use Rattle.std.specs.Prelude.{◌≡◌, ◌<◌, ◌+◌, ◌==◌, ◌++◌, ℕ, zero, suc, Bool, true, false, All, List, [], ◌∷◌, flat_map, fold, length, map, refl, slice_index_or, slice_set, Option, Some, None, if◌then◌else◌}
+-- Ways with one more, and ways by the ranks of their lower points.
+use Rattle.std.specs.Prelude.{◌≡◌, ◌<◌, ◌≤◌, ◌+◌, ◌==◌, ◌++◌, ℕ, Bool, true, false, All, List, [], ◌∷◌, flat_map, fold, map, max, nat_lt, refl, slice_index, Option, Some, None, if◌then◌else◌}
 use Rattle.std.specs.Bool.{Decides}
 use Rattle.std.specs.Cmp.Lexicographic.{pointwise}
 use Rattle.std.proofs.Common.{◌∙◌, ap, arith, subst, sym}
 use Rattle.std.proofs.lemmas.Bool.{and_parts, eq-eqb, eqb-true}
-use Rattle.std.proofs.lemmas.List.{append-nil, append_assoc, length-set}
-use Rattle.std.proofs.lemmas.List.Elements.{All-cons, All-head, All-tail}
+use Rattle.std.proofs.lemmas.List.{append-nil, append_assoc}
+use Rattle.std.proofs.lemmas.List.Concat.{flat_map-append}
+use Rattle.std.proofs.lemmas.List.Elements.{All-append, All-cons, All-head, All-nil, All-tail}
 use Rattle.std.proofs.lemmas.Slice.Eq.{slice_eq-Decides}
 use Rattle.dk_base.specs.Shapes.{var}
 use Rattle.dk_base.specs.declared.kinds.VarId.{VarId}
 use Rattle.dk_graph.proofs.Places.{some-injective}
-use Rattle.dk_graph.specs.Graphs.{depth_of}
 use Rattle.dk_graph.specs.declared.nodes.Edge.{Edge}
-use Rattle.dk_points.specs.Links.{nodes}
-use Rattle.dk_points.specs.Table.{Point}
 use Rattle.dk_presence.specs.Patterns.{capped}
 use Rattle.dk_hierarchy.proofs.Telling.{Samples, repeated_capped, repeated_more, same_append, same_as, same_behind, same_inner, same_refl, same_trans}
-use Rattle.dk_hierarchy.specs.Descent.{with_way_at}
+use Rattle.dk_hierarchy.specs.Descent.{AreBelow, AreLevels, ways_in, with_way_at}
 use Rattle.dk_hierarchy.specs.Samples.{mapped_sample}
-use Rattle.dk_hierarchy.specs.Ways.{SamplesTellTheSame, repeated_samples, same_partner, same_way, samples_through, samples_through_all, way_below, with_paths, with_way}
+use Rattle.dk_hierarchy.specs.Ways.{SamplesTellTheSame, repeated_samples, same_partner, same_way, samples_through, samples_through_all, with_paths, with_way}
 use Rattle.dk_hierarchy.specs.declared.way.Way.{Way}
 
 -- ---- one way more
@@ -58,48 +56,67 @@ module _ (samples : ℕ → Samples) where
           (same_as (samples_through samples other ++ (samples_through_all samples ways ++ samples_through samples way)) ((samples_through samples other ++ samples_through_all samples ways) ++ samples_through samples way) (sym (append_assoc (samples_through samples other) (samples_through_all samples ways) (samples_through samples way))))
 
   -- ---- levels
-  -- a level with more
-  level_set : (levels : List (List Way)) (d : ℕ) (level : List Way) (more : Samples) → d < length levels → SamplesTellTheSame (samples_through_all samples level) (samples_through_all samples (slice_index_or levels d []) ++ more)
-      → SamplesTellTheSame (flat_map (samples_through_all samples) (slice_set levels d level)) (flat_map (samples_through_all samples) levels ++ more)
-  level_set [] d level more within same = absurd (omega (arith, within))
-  level_set (old ∷ levels) zero level more within same =
-      let rest = flat_map (samples_through_all samples) levels in
-      same_trans (samples_through_all samples level ++ rest) ((samples_through_all samples old ++ more) ++ rest) ((samples_through_all samples old ++ rest) ++ more)
-      (same_append (samples_through_all samples level) (samples_through_all samples old ++ more) rest rest same (same_refl rest))
-      (same_inner (samples_through_all samples old) more rest)
-  level_set (old ∷ levels) (suc d) level more within same =
-      let rest = flat_map (samples_through_all samples) levels in
-      let next = flat_map (samples_through_all samples) (slice_set levels d level) in
-      same_trans (samples_through_all samples old ++ next) (samples_through_all samples old ++ (rest ++ more)) ((samples_through_all samples old ++ rest) ++ more)
-      (same_behind (samples_through_all samples old) next (rest ++ more) (level_set levels d level more (omega (arith, within)) same))
-      (same_as (samples_through_all samples old ++ (rest ++ more)) ((samples_through_all samples old ++ rest) ++ more) (sym (append_assoc (samples_through_all samples old) rest more)))
+  -- what ways bring, that stand in two lists
+  pub through_append : (first second : List Way) → samples_through_all samples (first ++ second) ≡ samples_through_all samples first ++ samples_through_all samples second
+  through_append first second = flat_map-append (samples_through samples) first second
 
-  module _ (ps : List Point) where
-    pub way_at_added : (levels : List (List Way)) (way : Way) → depth_of (nodes ps) way.point.0 < length levels
-        → SamplesTellTheSame (flat_map (samples_through_all samples) (with_way_at ps levels way)) (flat_map (samples_through_all samples) levels ++ samples_through samples way)
-    way_at_added levels way within =
-        let d = depth_of (nodes ps) way.point.0 in
-        level_set levels d (with_way (slice_index_or levels d []) way) (samples_through samples way) within (way_added (slice_index_or levels d []) way)
+  pub way_at_added : (levels : List (ℕ × List Way)) (rank : ℕ) (way : Way)
+      → SamplesTellTheSame (samples_through_all samples (ways_in (with_way_at levels rank way))) (samples_through_all samples (ways_in levels) ++ samples_through samples way)
+  way_at_added [] rank way = same_as (samples_through samples way ++ []) (samples_through samples way) (append-nil (samples_through samples way))
+  way_at_added (level ∷ levels) rank way = go (nat_lt rank level.0) (rank == level.0) (way_at_added levels rank way)
+    where
+      one : Samples
+      one = samples_through samples way
 
-    -- the ways that go on from one, down each of some edges to points that the levels have
-    abbrev IsDeep : ℕ → Edge → Type 0
-    IsDeep n e = depth_of (nodes ps) e.child.0 < n
+      here : Samples
+      here = samples_through_all samples level.1
 
-    pub ways_below_added : (way : Way) (levels : List (List Way)) (es : List Edge) → All (IsDeep (length levels)) es
-        → SamplesTellTheSame (flat_map (samples_through_all samples) (fold (λ ls e. with_way_at ps ls (way_below ps way e)) levels es)) (flat_map (samples_through_all samples) levels ++ flat_map (λ e. samples_through samples (way_below ps way e)) es)
-    ways_below_added way levels [] all = same_as (flat_map (samples_through_all samples) levels) (flat_map (samples_through_all samples) levels ++ []) (sym (append-nil (flat_map (samples_through_all samples) levels)))
-    ways_below_added way levels (e ∷ es) all =
-        let one = way_below ps way e in
-        let next = with_way_at ps levels one in
-        let d = depth_of (nodes ps) one.point.0 in
-        let long : length next ≡ length levels = length-set levels d (with_way (slice_index_or levels d []) one) in
-        let before = flat_map (samples_through_all samples) levels in
-        let rest = flat_map (λ e. samples_through samples (way_below ps way e)) es in
-        same_trans (flat_map (samples_through_all samples) (fold (λ ls e. with_way_at ps ls (way_below ps way e)) next es)) (flat_map (samples_through_all samples) next ++ rest) (before ++ (samples_through samples one ++ rest))
-        (ways_below_added way next es (subst (λ n. All (IsDeep n) es) (sym long) (All-tail (IsDeep (length levels)) e es all)))
-        (same_trans (flat_map (samples_through_all samples) next ++ rest) ((before ++ samples_through samples one) ++ rest) (before ++ (samples_through samples one ++ rest))
-        (same_append (flat_map (samples_through_all samples) next) (before ++ samples_through samples one) rest rest (way_at_added levels one (All-head (IsDeep (length levels)) e es all)) (same_refl rest))
-        (same_as ((before ++ samples_through samples one) ++ rest) (before ++ (samples_through samples one ++ rest)) (append_assoc before (samples_through samples one) rest)))
+      rest : Samples
+      rest = samples_through_all samples (ways_in levels)
+
+      both : samples_through_all samples (level.1 ++ ways_in levels) ≡ here ++ rest
+      both = through_append level.1 (ways_in levels)
+
+      behind : (now : List Way) → samples_through_all samples (ways_in ((rank, now) ∷ levels)) ≡ samples_through_all samples now ++ rest
+      behind now = through_append now (ways_in levels)
+
+      go : (less same : Bool) → SamplesTellTheSame (samples_through_all samples (ways_in (with_way_at levels rank way))) (rest ++ one)
+          → SamplesTellTheSame
+          (samples_through_all samples (ways_in (if less then (rank, way ∷ []) ∷ level ∷ levels else if same then (rank, with_way level.1 way) ∷ levels else level ∷ with_way_at levels rank way)))
+          (samples_through_all samples (level.1 ++ ways_in levels) ++ one)
+      go true same others = same_swap one (samples_through_all samples (level.1 ++ ways_in levels))
+      go false true others =
+          same_trans (samples_through_all samples (with_way level.1 way ++ ways_in levels)) ((here ++ one) ++ rest) (samples_through_all samples (level.1 ++ ways_in levels) ++ one)
+          (same_trans (samples_through_all samples (with_way level.1 way ++ ways_in levels)) (samples_through_all samples (with_way level.1 way) ++ rest) ((here ++ one) ++ rest)
+          (same_as (samples_through_all samples (with_way level.1 way ++ ways_in levels)) (samples_through_all samples (with_way level.1 way) ++ rest) (behind (with_way level.1 way)))
+          (same_append (samples_through_all samples (with_way level.1 way)) (here ++ one) rest rest (way_added level.1 way) (same_refl rest)))
+          (same_trans ((here ++ one) ++ rest) ((here ++ rest) ++ one) (samples_through_all samples (level.1 ++ ways_in levels) ++ one)
+          (same_inner here one rest)
+          (same_as ((here ++ rest) ++ one) (samples_through_all samples (level.1 ++ ways_in levels) ++ one) (ap (λ xs. xs ++ one) (sym both))))
+      go false false others =
+          let next = samples_through_all samples (ways_in (with_way_at levels rank way)) in
+          same_trans (samples_through_all samples (level.1 ++ ways_in (with_way_at levels rank way))) (here ++ (rest ++ one)) (samples_through_all samples (level.1 ++ ways_in levels) ++ one)
+          (same_trans (samples_through_all samples (level.1 ++ ways_in (with_way_at levels rank way))) (here ++ next) (here ++ (rest ++ one))
+          (same_as (samples_through_all samples (level.1 ++ ways_in (with_way_at levels rank way))) (here ++ next) (through_append level.1 (ways_in (with_way_at levels rank way))))
+          (same_behind here next (rest ++ one) others))
+          (same_as (here ++ (rest ++ one)) (samples_through_all samples (level.1 ++ ways_in levels) ++ one) (sym (append_assoc here rest one) ∙ ap (λ xs. xs ++ one) (sym both)))
+
+  -- one way more for each of some edges, where each adds what it brings
+  pub each_added : {A : Type 0} (left : A → List Way) (add : A → Edge → A) (below : Edge → Way)
+      → ((a : A) (e : Edge) → SamplesTellTheSame (samples_through_all samples (left (add a e))) (samples_through_all samples (left a) ++ samples_through samples (below e)))
+      → (a : A) (es : List Edge)
+      → SamplesTellTheSame (samples_through_all samples (left (fold add a es))) (samples_through_all samples (left a) ++ flat_map (λ e. samples_through samples (below e)) es)
+  each_added left add below added a [] = same_as (samples_through_all samples (left a)) (samples_through_all samples (left a) ++ []) (sym (append-nil (samples_through_all samples (left a))))
+  each_added left add below added a (e ∷ es) =
+      let one = samples_through samples (below e) in
+      let next = samples_through_all samples (left (add a e)) in
+      let before = samples_through_all samples (left a) in
+      let rest = flat_map (λ e. samples_through samples (below e)) es in
+      same_trans (samples_through_all samples (left (fold add (add a e) es))) (next ++ rest) (before ++ (one ++ rest))
+      (each_added left add below added (add a e) es)
+      (same_trans (next ++ rest) ((before ++ one) ++ rest) (before ++ (one ++ rest))
+      (same_append next (before ++ one) rest rest (added a e) (same_refl rest))
+      (same_as ((before ++ one) ++ rest) (before ++ (one ++ rest)) (append_assoc before one rest)))
 
 -- ---- what holds of each way
 pub all_with_way : (P : Way → Type 0) → ((other : Way) (n : ℕ) → P other → P (with_paths other n)) → (ways : List Way) (way : Way) → All P ways → P way → All P (with_way ways way)
@@ -110,29 +127,92 @@ all_with_way P more (other ∷ ways) way all is = go (same_way other way) (all_w
     go true others = All-cons P (with_paths other way.paths) ways (more other way.paths (All-head P other ways all)) (All-tail P other ways all)
     go false others = All-cons P other (with_way ways way) (All-head P other ways all) others
 
--- ---- what holds of each item by its place
-abbrev pub ByPlace : {A : Type 0} → (ℕ → A → Type 0) → A → List A → Type 0
-ByPlace P d xs = (i : ℕ) → P i (slice_index_or xs i d)
+-- ---- what holds of the ways of levels
+all_front : {A : Type 0} (P : A → Type 0) (xs ys : List A) → All P (xs ++ ys) → All P xs
+all_front P [] ys all = All-nil P
+all_front P (x ∷ xs) ys all = All-cons P x xs (All-head P x (xs ++ ys) all) (all_front P xs ys (All-tail P x (xs ++ ys) all))
 
-pub at_set : {A : Type 0} (P : ℕ → A → Type 0) (d : A) (xs : List A) → ByPlace P d xs → (k : ℕ) (x : A) → P k x → ByPlace P d (slice_set xs k x)
-at_set P d [] each k x is i = each i
-at_set P d (y ∷ xs) each zero x is zero = is
-at_set P d (y ∷ xs) each zero x is (suc i) = each (suc i)
-at_set P d (y ∷ xs) each (suc k) x is zero = each zero
-at_set P d (y ∷ xs) each (suc k) x is (suc i) = at_set (λ n. P (suc n)) d xs (λ n. each (suc n)) k x is i
+all_back : {A : Type 0} (P : A → Type 0) (xs ys : List A) → All P (xs ++ ys) → All P ys
+all_back P [] ys all = all
+all_back P (x ∷ xs) ys all = all_back P xs ys (All-tail P x (xs ++ ys) all)
 
-pub at_push : {A : Type 0} (P : ℕ → A → Type 0) (d : A) → ((i : ℕ) → P i d) → (xs : List A) (x : A) → ByPlace P d xs → P (length xs) x → ByPlace P d (xs ++ x ∷ [])
-at_push P d none [] x each last zero = last
-at_push P d none [] x each last (suc i) = none (suc i)
-at_push P d none (y ∷ xs) x each last zero = each zero
-at_push P d none (y ∷ xs) x each last (suc i) = at_push (λ n. P (suc n)) d (λ n. none (suc n)) xs x (λ n. each (suc n)) last i
+pub all_parts : {A : Type 0} (P : A → Type 0) (xs ys : List A) → All P (xs ++ ys) → All P xs × All P ys
+all_parts P xs ys all = (all_front P xs ys all, all_back P xs ys all)
 
-pub before_push : {A : Type 0} (P : ℕ → A → Type 0) (d : A) → ((i : ℕ) → P i d) → (xs : List A) (x : A) → ByPlace P d (xs ++ x ∷ []) → ByPlace P d xs × P (length xs) x
-before_push P d none [] x each = (none, each zero)
-before_push P d none (y ∷ xs) x each =
-    let rest = before_push (λ n. P (suc n)) d (λ n. none (suc n)) xs x (λ n. each (suc n)) in
-    (first rest.0, rest.1)
+module _ (P : Way → Type 0) (more : (other : Way) (n : ℕ) → P other → P (with_paths other n)) where
+  pub all_with_way_at : (levels : List (ℕ × List Way)) (rank : ℕ) (way : Way) → All P (ways_in levels) → P way → All P (ways_in (with_way_at levels rank way))
+  all_with_way_at [] rank way all is = All-cons P way [] is (All-nil P)
+  all_with_way_at (level ∷ levels) rank way all is =
+      let parts = all_parts P level.1 (ways_in levels) all in
+      go (nat_lt rank level.0) (rank == level.0) parts.0 parts.1 (all_with_way_at levels rank way parts.1 is)
+    where
+      go : (less same : Bool) → All P level.1 → All P (ways_in levels) → All P (ways_in (with_way_at levels rank way))
+          → All P (ways_in (if less then (rank, way ∷ []) ∷ level ∷ levels else if same then (rank, with_way level.1 way) ∷ levels else level ∷ with_way_at levels rank way))
+      go true same here rest next = All-cons P way (level.1 ++ ways_in levels) is (All-append P level.1 (ways_in levels) here rest)
+      go false true here rest next = All-append P (with_way level.1 way) (ways_in levels) (all_with_way P more level.1 way here is) rest
+      go false false here rest next = All-append P level.1 (ways_in (with_way_at levels rank way)) here next
+
+-- what holds after one way more for each of some edges
+pub each_holds : {A : Type 0} (Q : A → Type 0) (R : Edge → Type 0) (add : A → Edge → A) → ((a : A) (e : Edge) → Q a → R e → Q (add a e))
+    → (a : A) (es : List Edge) → Q a → All R es → Q (fold add a es)
+each_holds Q R add next a [] holds all = holds
+each_holds Q R add next a (e ∷ es) holds all = each_holds Q R add next (add a e) es (next a e holds (All-head R e es all)) (All-tail R e es all)
+
+-- ---- ranks of levels
+-- the ways of a level lead to points of its rank
+abbrev pub IsLevel : List ℕ → ℕ × List Way → Type 0
+IsLevel ranks level = All (λ (way : Way). slice_index ranks way.point.0 ≡ level.0) level.1
+
+pub levels_with_way : (ranks : List ℕ) (levels : List (ℕ × List Way)) (rank : ℕ) (way : Way) → AreLevels ranks levels → slice_index ranks way.point.0 ≡ rank
+    → AreLevels ranks (with_way_at levels rank way)
+levels_with_way ranks [] rank way are is = All-cons (IsLevel ranks) (rank, way ∷ []) [] (All-cons (λ (w : Way). slice_index ranks w.point.0 ≡ rank) way [] is (All-nil (λ (w : Way). slice_index ranks w.point.0 ≡ rank))) are
+levels_with_way ranks (level ∷ levels) rank way are is =
+    go (nat_lt rank level.0) (rank == level.0) refl (levels_with_way ranks levels rank way (All-tail (IsLevel ranks) level levels are) is)
   where
-    first : ByPlace (λ n. P (suc n)) d xs → ByPlace P d (y ∷ xs)
-    first rest zero = each zero
-    first rest (suc i) = rest i
+    here : All (λ (w : Way). slice_index ranks w.point.0 ≡ level.0) level.1
+    here = All-head (IsLevel ranks) level levels are
+
+    rest : AreLevels ranks levels
+    rest = All-tail (IsLevel ranks) level levels are
+
+    more : (other : Way) (n : ℕ) → slice_index ranks other.point.0 ≡ rank → slice_index ranks (with_paths other n).point.0 ≡ rank
+    more other n at = at
+
+    go : (less same : Bool) → rank == level.0 ≡ same → AreLevels ranks (with_way_at levels rank way)
+        → AreLevels ranks (if less then (rank, way ∷ []) ∷ level ∷ levels else if same then (rank, with_way level.1 way) ∷ levels else level ∷ with_way_at levels rank way)
+    go true same eq next =
+        All-cons (IsLevel ranks) (rank, way ∷ []) (level ∷ levels)
+        (All-cons (λ (w : Way). slice_index ranks w.point.0 ≡ rank) way [] is (All-nil (λ (w : Way). slice_index ranks w.point.0 ≡ rank))) are
+    go false true eq next =
+        All-cons (IsLevel ranks) (rank, with_way level.1 way) levels
+        (all_with_way (λ (w : Way). slice_index ranks w.point.0 ≡ rank) more level.1 way
+        (subst (λ n. All (λ (w : Way). slice_index ranks w.point.0 ≡ n) level.1) (sym (eqb-true rank level.0 eq)) here) is)
+        rest
+    go false false eq next = All-cons (IsLevel ranks) level (with_way_at levels rank way) here next
+
+pub below_with_way : (bound : ℕ) (levels : List (ℕ × List Way)) (rank : ℕ) (way : Way) → AreBelow bound levels → rank < bound → AreBelow bound (with_way_at levels rank way)
+below_with_way bound [] rank way are is = All-cons (λ (l : ℕ × List Way). l.0 < bound) (rank, way ∷ []) [] is are
+below_with_way bound (level ∷ levels) rank way are is =
+    go (nat_lt rank level.0) (rank == level.0) (below_with_way bound levels rank way (All-tail (λ (l : ℕ × List Way). l.0 < bound) level levels are) is)
+  where
+    go : (less same : Bool) → AreBelow bound (with_way_at levels rank way)
+        → AreBelow bound (if less then (rank, way ∷ []) ∷ level ∷ levels else if same then (rank, with_way level.1 way) ∷ levels else level ∷ with_way_at levels rank way)
+    go true same next = All-cons (λ (l : ℕ × List Way). l.0 < bound) (rank, way ∷ []) (level ∷ levels) is are
+    go false true next = All-cons (λ (l : ℕ × List Way). l.0 < bound) (rank, with_way level.1 way) levels is (All-tail (λ (l : ℕ × List Way). l.0 < bound) level levels are)
+    go false false next = All-cons (λ (l : ℕ × List Way). l.0 < bound) level (with_way_at levels rank way) (All-head (λ (l : ℕ × List Way). l.0 < bound) level levels are) next
+
+-- a number above the ranks of all levels
+abbrev pub above_all : List (ℕ × List Way) → ℕ
+above_all [] = 0
+above_all (level ∷ levels) = max (level.0 + 1) (above_all levels)
+
+pub above_last : (levels : List (ℕ × List Way)) (level : ℕ × List Way) → level.0 < above_all (levels ++ level ∷ [])
+above_last [] level = omega arith
+above_last (other ∷ levels) level = let rest = above_last levels level in omega (arith, rest)
+
+pub above_below : (bound : ℕ) (levels : List (ℕ × List Way)) → AreBelow bound levels → above_all levels ≤ bound
+above_below bound [] are = omega arith
+above_below bound (level ∷ levels) are =
+    let rest = above_below bound levels (All-tail (λ (l : ℕ × List Way). l.0 < bound) level levels are) in
+    let first = All-head (λ (l : ℕ × List Way). l.0 < bound) level levels are in
+    omega (arith, rest, first)
