@@ -7,7 +7,7 @@ use Rattle.dk_graph.specs.Graphs.{ParentsAreDeeper, edges_into}
 use Rattle.dk_graph.specs.declared.nodes.Edge.{Edge}
 use Rattle.dk_points.specs.Links.{nodes}
 use Rattle.dk_points.specs.Table.{Point}
-use Rattle.dk_hierarchy.proofs.Levels.{all_parts, through_append}
+use Rattle.dk_hierarchy.proofs.MoreWays.{all_parts, through_append}
 use Rattle.dk_hierarchy.proofs.Onward.{all_mapped_own, brought_below, edge_partners, own_are_partners, partners_onward}
 use Rattle.dk_hierarchy.proofs.Samples.{all_variables}
 use Rattle.dk_hierarchy.proofs.Telling.{Samples, same_append, same_as, same_behind, same_inner, same_refl, same_swap, same_sym, same_trans}

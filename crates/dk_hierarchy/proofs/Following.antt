@@ -13,7 +13,7 @@ use Rattle.dk_points.proofs.Nodes.{length-nodes}
 use Rattle.dk_points.specs.Links.{nodes}
 use Rattle.dk_points.specs.Table.{Point}
 use Rattle.dk_hierarchy.proofs.Descending.{IsInto, below_is_way, more_paths, others_are, way_done, way_is}
-use Rattle.dk_hierarchy.proofs.Levels.{IsLevel, all_parts, all_with_way_at, below_with_way, each_added, each_holds, levels_with_way, through_append, way_at_added}
+use Rattle.dk_hierarchy.proofs.MoreWays.{IsLevel, all_parts, all_with_way_at, below_with_way, each_added, each_holds, levels_with_way, through_append, way_at_added}
 use Rattle.dk_hierarchy.proofs.Telling.{Samples, same_append, same_as, same_inner, same_refl, same_trans}
 use Rattle.dk_hierarchy.specs.Descent.{AreBelow, AreLevels, IsDescent, IsWayDown, ways_in, with_way_at, with_ways_below}
 use Rattle.dk_hierarchy.specs.Ways.{SamplesTellTheSame, samples_through, samples_through_all, way_below}

@@ -7,7 +7,7 @@ use Rattle.dk_graph.specs.Graphs.{edges_into}
 use Rattle.dk_points.specs.Links.{nodes}
 use Rattle.dk_hierarchy.proofs.Deeper.{deeper}
 use Rattle.dk_hierarchy.proofs.Descending.{IsInto, begun, below_is_way, more_paths, others_are, way_done, way_is}
-use Rattle.dk_hierarchy.proofs.Levels.{all_with_way, each_added, each_holds, way_added}
+use Rattle.dk_hierarchy.proofs.MoreWays.{all_with_way, each_added, each_holds, way_added}
 use Rattle.dk_hierarchy.proofs.Onward.{brought_below}
 use Rattle.dk_hierarchy.specs.Descent.{IsWayDown}
 use Rattle.dk_hierarchy.specs.Samples.{own_samples_of, samples_of}

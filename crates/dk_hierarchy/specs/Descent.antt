@@ -1,6 +1,9 @@
 -- Going down from a point: which ways are done, and which are still to be followed.
-use Rattle.std.specs.Prelude.{◌≡◌, ◌==◌, ◌<◌, ℕ, All, List, [], ◌∷◌, ◌++◌, flat_map, fold, if◌then◌else◌, length, map, nat_lt, slice_index, Option, Some}
+use Rattle.std.specs.Prelude.{◌≡◌, ◌==◌, ◌<◌, ℕ, All, List, [], ◌∷◌, ◌++◌, flat_map, fold, if◌then◌else◌, length, map, nat_lt, slice_index, unwrap_or, Option, Some}
+use Rattle.std.specs.BTreeMap.{is_at}
 use Rattle.std.specs.List.{range_with_len}
+use Rattle.std.specs.Map.{lookup}
+use Rattle.std.specs.Ordering.{nat_cmp}
 use Rattle.dk_base.specs.Shapes.{var}
 use Rattle.dk_base.specs.declared.kinds.VarId.{VarId}
 use Rattle.dk_graph.specs.Graphs.{edges_into}
@@ -33,6 +36,10 @@ AreLevels ranks levels = All (λ level. All (λ way. slice_index ranks way.point
 -- the ways of all levels
 abbrev pub ways_in : List (ℕ × List Way) → List Way
 ways_in levels = flat_map (λ level. level.1) levels
+
+-- the ways to points of a rank
+abbrev pub ways_at : List (ℕ × List Way) → ℕ → List Way
+ways_at levels rank = unwrap_or (lookup (is_at (nat_cmp rank)) levels) []
 
 -- all levels stand below a rank
 abbrev pub AreBelow : ℕ → List (ℕ × List Way) → Type 0

@@ -1,6 +1,9 @@
 // Ways by the ranks of the points that they lead to.
 ghost use Rattle.std.specs.Prelude.{◌≡◌, ◌∷◌, ◌++◌, [], IfOk, IfSome, IfNone, OnOk};
-ghost use Rattle.dk_hierarchy.specs.Descent.{AreBelow, first_way, with_way_at};
+ghost use Rattle.std.specs.BTreeMap.{is_at};
+ghost use Rattle.std.specs.Map.{remove_entry};
+ghost use Rattle.std.specs.Ordering.{nat_cmp};
+ghost use Rattle.dk_hierarchy.specs.Descent.{AreBelow, first_way, ways_at, with_way_at};
 ghost use Rattle.dk_hierarchy.specs.Ways.{same_way, with_way};
 
 use crate::Way;
@@ -40,12 +43,16 @@ pub(crate) struct Levels {
 }
 
 impl Model for Levels {
+    ghost use Rattle.std.specs.BTreeMap.{IsOrdered};
+    ghost use Rattle.std.specs.Ordering.{nat_cmp};
     ghost use Rattle.std.specs.Prelude.{List, ℕ};
     ghost use Rattle.dk_hierarchy.specs.declared.way.Way.{Way};
 
     ghost Value = { List (ℕ × List Way) };
 
     ghost view = { λ l. l.kept.entries };
+
+    ghost invariant = { λ l. IsOrdered nat_cmp l.kept };
 }
 
 impl Levels {
@@ -59,14 +66,22 @@ impl Levels {
         }
     }
 
+    // Takes the ways to points of a rank out.
+    fn take(&mut self, rank: u32) -> List<Way>
+        ensures ways { result ≡ ways_at self.old rank }
+        ensures others { self.new ≡ remove_entry (is_at (nat_cmp rank)) self.old }
+    {
+        match self.kept.remove(rank) {
+            Some(level) => level,
+            None => List::new(self.alloc),
+        }
+    }
+
     /// A way more, at the rank of its lower point. After an error the levels may be any.
     pub(crate) fn add(&mut self, rank: u32, way: Way) -> Result<(), NoMemory>
         ensures { OnOk result (self.new ≡ with_way_at self.old rank way) }
     {
-        let level = match self.kept.remove(rank) {
-            Some(level) => level,
-            None => List::new(self.alloc),
-        };
+        let level = self.take(rank);
         match self.kept.insert(rank, with_way(level, way)?) {
             Ok(_) => Ok(()),
             Err(_) => Err(NoMemory),
