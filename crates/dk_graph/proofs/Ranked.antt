@@ -8,7 +8,7 @@ use Rattle.dk_graph.specs.Paths.{HasPathBack, IsPath}
 use Rattle.dk_graph.specs.Raising.{IsReached, IsRisen, IsRising, Rises}
 use Rattle.dk_graph.specs.declared.nodes.Edge.{Edge}
 use Rattle.dk_graph.specs.declared.nodes.Node.{Node}
-use Rattle.dk_graph.proofs.Depths.{below-true, cycle}
+use Rattle.dk_graph.proofs.LongPaths.{below-true, cycle}
 use Rattle.dk_graph.proofs.Heights.{Climbs, depths-exact, height-suc}
 use Rattle.dk_graph.proofs.Links.{edge-below}
 use Rattle.dk_graph.proofs.Members.{contained-has}

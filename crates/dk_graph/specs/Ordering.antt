@@ -4,8 +4,11 @@ use Rattle.std.specs.List.{enumerate_from}
 use Rattle.dk_graph.specs.declared.depths.Ranked.{Ranked}
 
 -- the points with their ranks
+abbrev pub ranked_point : ℕ × ℕ → Ranked
+ranked_point p = record { place = p.0; rank = p.1 }
+
 abbrev pub ranked : List ℕ → List Ranked
-ranked ranks = map (λ p. record { place = p.0; rank = p.1 }) (enumerate_from 0 ranks)
+ranked ranks = map ranked_point (enumerate_from 0 ranks)
 
 -- the places of n points, in some order
 pub record ArePlaces (n : ℕ) (places : List ℕ) : Type 0 where

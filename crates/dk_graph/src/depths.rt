@@ -73,8 +73,9 @@ pub fn depth_by_paths(nodes: &Edges, ranks: &[u32], p: PointId) -> u32
     requires point { p.0 < length nodes.now }
     ensures { result ≡ depth_of nodes.now p.0 }
 {
+    let row = nodes.edges_into(p);
     let mut depth = 0;
-    for edge in nodes.edges_into(p) {
+    for edge in row {
         depth = depth.max(depth_by_paths(nodes, ranks, edge.child) + 1);
     }
     depth

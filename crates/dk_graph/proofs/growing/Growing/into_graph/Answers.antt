@@ -3,7 +3,7 @@ use Rattle.dk_graph.specs.Graphs.{edges, has_cycle}
 use Rattle.dk_graph.specs.Kept.{HasRanks}
 use Rattle.dk_graph.specs.Raising.{Rises, HasLongPath, first_rank}
 use Rattle.dk_graph.specs.declared.nodes.Node.{Node}
-use Rattle.dk_graph.proofs.Depths.{cycle}
+use Rattle.dk_graph.proofs.LongPaths.{cycle}
 use Rattle.dk_graph.proofs.Places.{whole}
 use Rattle.dk_graph.proofs.Ranked.{are-ranks, no-cycle}
 use Rattle.dk_graph.proofs.growing.Growing.into_graph.Goals as goal
