@@ -4,12 +4,9 @@ use Rattle.std.specs.List.{enumerate_from}
 use Rattle.std.specs.List.Sorted.{IsPermutation}
 use Rattle.std.proofs.lemmas.List.Elements.{All-cons, All-nil, All-weaker}
 use Rattle.std.proofs.lemmas.List.Sorted.{All-permutation, Contains-permutation, IsPermutation-map}
-use Rattle.dk_graph.specs.Ordering.{ArePlaces, ranked, ranked_point}
+use Rattle.dk_graph.specs.Ordering.{ArePlaces, places_of, ranked, ranked_point}
 use Rattle.dk_graph.specs.declared.depths.Ranked.{Ranked}
 use Rattle.dk_graph.proofs.Steps.{eq_or_not}
-
-abbrev pub places_of : List Ranked → List ℕ
-places_of points = map (λ r. r.place) points
 
 -- the places of points from one on
 abbrev places_from : ℕ → List ℕ → List ℕ

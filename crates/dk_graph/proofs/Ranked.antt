@@ -1,5 +1,6 @@
 -- Ranks climb along paths, so there is no cycle; and the depths of a graph without one.
-use Rattle.std.proofs.Common.{◌≡◌, ◌∙◌, ℕ, zero, suc, ◌+◌, ◌-◌, ◌<◌, ◌≤◌, ◌==◌, inr, Bool, true, false, cond, nat_lt, nat_le, max, List, [], ◌∷◌, ◌++◌, length, filter, replicate, slice_get, slice_index, Contains, Some, All, if◌then◌else◌, true≢false, refl, ap, subst, sym, length-append, arith}
+use Rattle.std.proofs.Common.{◌≡◌, ◌∙◌, ℕ, zero, suc, ◌+◌, ◌-◌, ◌<◌, ◌≤◌, ◌==◌, inr, Bool, true, false, cond, nat_lt, nat_le, max, List, [], ◌∷◌, ◌++◌, length, drop, filter, get_or, replicate, slice_get, slice_index, Contains, Some, All, if◌then◌else◌, true≢false, refl, ap, subst, sym, length-append, arith}
+use Rattle.std.proofs.lemmas.List.{at_drop_more}
 use Rattle.std.proofs.lemmas.List.Elements.{All-contains}
 use Rattle.dk_graph.specs.Graphs.{edges, edges_into, depth_of, has_cycle, height, highest, AreDepths, AreRanks, ParentsAreDeeper}
 use Rattle.dk_graph.specs.Kept.{HasRanks}
@@ -9,9 +10,10 @@ use Rattle.dk_graph.specs.Raising.{IsReached, IsRisen, IsRising, Rises}
 use Rattle.dk_graph.specs.declared.nodes.Edge.{Edge}
 use Rattle.dk_graph.specs.declared.nodes.Node.{Node}
 use Rattle.dk_graph.proofs.LongPaths.{below-true, cycle}
-use Rattle.dk_graph.proofs.Heights.{Climbs, depths-exact, height-suc}
+use Rattle.dk_graph.proofs.Heights.{Climbs, depths-exact, eqb_same, eqb_true, height-suc}
 use Rattle.dk_graph.proofs.Links.{edge-below}
-use Rattle.dk_graph.proofs.Members.{contained-has}
+use Rattle.dk_graph.proofs.Members.{contained-has, has-filter}
+use Rattle.dk_graph.proofs.Places.{slice_get-at}
 use Rattle.dk_graph.proofs.Walks.{cycle-law, longest, path-append, path-of-height}
 
 pub are-ranks : (ns : List Node) (rs : List ℕ) → HasRanks ns rs → AreRanks ns rs
@@ -62,19 +64,40 @@ depth-highest ns free q below =
 -- the edges into a point are enough for that
 highest-filter : (h : ℕ → ℕ) (q : ℕ) (es : List Edge) → highest h q (filter (λ e. e.parent.0 == q) es) ≡ highest h q es
 highest-filter h q [] = refl
-highest-filter h q (e ∷ es) = by (e.parent.0 == q) refl
+highest-filter h q (e ∷ es) = by (e.parent.0 == q) refl (highest-filter h q es)
   where
-    by : (b : Bool) → e.parent.0 == q ≡ b
-        → highest h q (cond b (e ∷ filter (λ e. e.parent.0 == q) es) (filter (λ e. e.parent.0 == q) es))
-        ≡ (if b then max (h e.child.0 + 1) (highest h q es) else highest h q es)
-    by true is =
-        ap (λ (b : Bool). if b then max (h e.child.0 + 1) (highest h q (filter (λ e. e.parent.0 == q) es)) else highest h q (filter (λ e. e.parent.0 == q) es)) is
-        ∙ ap (max (h e.child.0 + 1)) (highest-filter h q es)
-    by false is = highest-filter h q es
+    abbrev rest : List Edge
+    rest = filter (λ e. e.parent.0 == q) es
+
+    by : (b : Bool) → e.parent.0 == q ≡ b → highest h q rest ≡ highest h q es
+        → highest h q (cond b (e ∷ rest) rest) ≡ (if b then max (h e.child.0 + 1) (highest h q es) else highest h q es)
+    by true is same =
+        ap (λ (b : Bool). if b then max (h e.child.0 + 1) (highest h q rest) else highest h q rest) is
+        ∙ ap (max (h e.child.0 + 1)) same
+    by false is same = same
 
 pub depth-into : (ns : List Node) → has_cycle ns ≡ false → (q : ℕ) → q < length ns → highest (depth_of ns) q (edges_into ns q) ≡ depth_of ns q
 unfolding edges_into
 depth-into ns free q below = highest-filter (depth_of ns) q (edges ns) ∙ depth-highest ns free q below
+
+-- an edge into a point, by its place
+pub into-at : (ns : List Node) (q i : ℕ) (d : Edge) → i < length (edges_into ns q)
+    → Contains (edges ns) (get_or (edges_into ns q) i d) × ((get_or (edges_into ns q) i d).parent.0 ≡ q)
+unfolding edges_into
+into-at ns q i d within =
+    let e : Edge = get_or (edges_into ns q) i d in
+    let found = has-filter (λ f. f.parent.0 == q) (edges ns) e (i, slice_get-at (edges_into ns q) i d within) in
+    (contained-has (edges ns) found.0.0 e found.0.1, eqb_true e.parent.0 q found.1)
+
+-- one edge further down a row of such
+pub highest-step : (h : ℕ → ℕ) (q : ℕ) (row : List Edge) (i : ℕ) (d : Edge) → i < length row → (get_or row i d).parent.0 ≡ q
+    → highest h q (drop i row) ≡ max (h (get_or row i d).child.0 + 1) (highest h q (drop (i + 1) row))
+highest-step h q row i d within same =
+    at_drop_more (highest h q) row i d within
+    ∙ ap (λ (b : Bool). if b then max (h (get_or row i d).child.0 + 1) (highest h q (drop (i + 1) row)) else highest h q (drop (i + 1) row)) (ap (λ p. p == q) same ∙ eqb_same q)
+
+pub nought-max : (n : ℕ) → max 0 n ≡ n
+nought-max n = omega arith
 
 -- no depth comes to the number of points
 pub depth-low : (ns : List Node) → has_cycle ns ≡ false → (q : ℕ) → q < length ns → depth_of ns q < length ns
@@ -98,18 +121,18 @@ nought zero q = refl
 nought (suc n) zero = refl
 nought (suc n) (suc q) = nought n q
 
+pub length-noughts : (n : ℕ) → length {A = ℕ} (replicate n 0) ≡ n
+length-noughts zero = refl
+length-noughts (suc n) = ap suc (length-noughts n)
+
 pub rising-noughts : (ns : List Node) (queue : List ℕ) → ArePlaces (length ns) queue
     → IsRising 0 (length ns) (edges ns) (record { ranks = replicate (length ns) 0; queue = queue })
 rising-noughts ns queue places = record {
   settled = λ e there. inr (places.each e.child.0 (edge-below ns e there).0);
   reached = λ q. let none = nought (length ns) q in omega (arith, none);
-  low = λ q within. let none = nought (length ns) q in omega (arith, none, within, length-replicate (length ns));
-  waiting = λ q there. let below = All-contains (λ p. p < length ns) queue q places.below there in omega (arith, below, length-replicate (length ns));
+  low = λ q within. let none = nought (length ns) q in omega (arith, none, within, length-noughts (length ns));
+  waiting = λ q there. let below = All-contains (λ p. p < length ns) queue q places.below there in omega (arith, below, length-noughts (length ns));
 }
-  where
-    length-replicate : (n : ℕ) → length (replicate n 0) ≡ n
-    length-replicate zero = refl
-    length-replicate (suc n) = ap suc (length-replicate n)
 
 climbs-all : (d : ℕ → ℕ) (es : List Edge) → ((k : ℕ) (e : Edge) → slice_get es k ≡ Some e → d e.child.0 < d e.parent.0) → Climbs d es
 climbs-all d [] h = tt

@@ -10,6 +10,9 @@ ranked_point p = record { place = p.0; rank = p.1 }
 abbrev pub ranked : List ℕ → List Ranked
 ranked ranks = map ranked_point (enumerate_from 0 ranks)
 
+abbrev pub places_of : List Ranked → List ℕ
+places_of points = map (λ r. r.place) points
+
 -- the places of n points, in some order
 pub record ArePlaces (n : ℕ) (places : List ℕ) : Type 0 where
   pub below : All (λ q. q < n) places

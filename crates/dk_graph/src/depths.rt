@@ -1,7 +1,7 @@
 // Depths, from ranks.
 ghost use Rattle.std.specs.Prelude.{◌≡◌, ◌<◌, ◌≤◌, IfOk, length, replicate};
 ghost use Rattle.dk_graph.specs.Graphs.{AreDepths, AreRanks, depth_of};
-ghost use Rattle.dk_graph.specs.Ordering.{ArePlaces, ranked};
+ghost use Rattle.dk_graph.specs.Ordering.{ArePlaces, places_of, ranked};
 
 use crate::edges::Edges;
 use crate::raising::raise_all;
@@ -31,6 +31,17 @@ fn with_ranks(alloc: Global, ranks: &[u32]) -> Result<Vec<Ranked>, NoMemory>
     Ok(all)
 }
 
+// The places of these points.
+fn places_of(alloc: Global, points: &[Ranked]) -> Result<VecDeque<u32>, NoMemory>
+    ensures { IfOk result (λ queue. queue.items ≡ places_of points.now) }
+{
+    let mut queue = VecDeque::new(alloc);
+    for point in points {
+        queue.push_back(point.place)?;
+    }
+    Ok(queue)
+}
+
 // The places of all points, each behind those of its children.
 fn by_rank(alloc: Global, ranks: &[u32]) -> Result<VecDeque<u32>, NoMemory>
     requires { length ranks.now ≤ 65535 }
@@ -38,11 +49,7 @@ fn by_rank(alloc: Global, ranks: &[u32]) -> Result<VecDeque<u32>, NoMemory>
 {
     let mut order = with_ranks(alloc, ranks)?;
     order.sort_by_key(|point| point.rank)?;
-    let mut queue = VecDeque::new(alloc);
-    for point in order.iter() {
-        queue.push_back(point.place)?;
-    }
-    Ok(queue)
+    places_of(alloc, order.as_slice())
 }
 
 // A nought for each point.
@@ -73,6 +80,7 @@ pub fn depth_by_paths(nodes: &Edges, ranks: &[u32], p: PointId) -> u32
     requires point { p.0 < length nodes.now }
     ensures { result ≡ depth_of nodes.now p.0 }
 {
+    let _count = nodes.len();
     let row = nodes.edges_into(p);
     let mut depth = 0;
     for edge in row {

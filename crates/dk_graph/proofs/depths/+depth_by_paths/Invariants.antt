@@ -6,4 +6,4 @@ abbrev pub decreases-depth_by_paths : goal.decreases-depth_by_paths
 decreases-depth_by_paths l = slice_index l.ranks.now l.p.0
 
 abbrev pub invariant-loop-edge : goal.invariant-loop-edge
-invariant-loop-edge l = max l.depth (highest (depth_of l.nodes) l.p.0 (drop l.edge-index l.row)) ≡ depth_of l.nodes l.p.0
+invariant-loop-edge l = max l.depth (highest (depth_of l.nodes) l.fn.p.0 (drop l.edge-index l.row)) ≡ depth_of l.nodes l.fn.p.0
