@@ -66,7 +66,7 @@ highest-filter : (h : ℕ → ℕ) (q : ℕ) (es : List Edge) → highest h q (f
 highest-filter h q [] = refl
 highest-filter h q (e ∷ es) = by (e.parent.0 == q) refl (highest-filter h q es)
   where
-    abbrev rest : List Edge
+    rest : List Edge
     rest = filter (λ e. e.parent.0 == q) es
 
     by : (b : Bool) → e.parent.0 == q ≡ b → highest h q rest ≡ highest h q es

@@ -30,7 +30,7 @@ pub descents_go_on : DescentsGoOn
 descents_go_on ps free p ways before after way into is =
     way_done ps p ways before after way is (deeper (nodes ps) free) (fold (λ left e. with_way left (way_below ps way e)) (before ++ after) (edges_into (nodes ps) way.point.0))
     (each_holds (All (IsWayDown ps p)) (IsInto ps p way.point.0) (λ left e. with_way left (way_below ps way e))
-    (λ left e all in. all_with_way (IsWayDown ps p) (more_paths ps p) left (way_below ps way e) all (below_is_way ps p way (way_is ps p ways before after way is) e in))
+    (λ left e all into. all_with_way (IsWayDown ps p) (more_paths ps p) left (way_below ps way e) all (below_is_way ps p way (way_is ps p ways before after way is) e into))
     (before ++ after) (edges_into (nodes ps) way.point.0) (others_are ps p ways before after way is) into)
     (λ samples. each_added samples (λ left. left) (λ left e. with_way left (way_below ps way e)) (way_below ps way)
     (λ left e. way_added samples left (way_below ps way e)) (before ++ after) (edges_into (nodes ps) way.point.0))
