@@ -41,13 +41,13 @@ record IsLed (s t a x b : ℤ) : Type 0 where
   near_last : nat_le (unsigned_abs b) (2 ^ 30) ≡ true
   moved : ((x -ℤ a ≡ s) × (b -ℤ a ≡ t)) ⊎ ((x -ℤ a ≡ pos 0) × (b -ℤ a ≡ pos 0))
 
-same_products : (m n i j e f g h : ℤ) → m ≡ e → n ≡ f → i ≡ g → j ≡ h → e *ℤ h ≡ f *ℤ g → m *ℤ j ≡ n *ℤ i
+pub same_products : (m n i j e f g h : ℤ) → m ≡ e → n ≡ f → i ≡ g → j ≡ h → e *ℤ h ≡ f *ℤ g → m *ℤ j ≡ n *ℤ i
 same_products m n i j e f g h em en ei ej same = ap (λ k. k *ℤ j) em ∙ (ap (λ k. e *ℤ k) ej ∙ (same ∙ (sym (ap (λ k. f *ℤ k) ei) ∙ sym (ap (λ k. k *ℤ i) en))))
 
-by_none : (s t : ℤ) → s *ℤ pos 0 ≡ t *ℤ pos 0
+pub by_none : (s t : ℤ) → s *ℤ pos 0 ≡ t *ℤ pos 0
 by_none s t = same_rep (rep-mul (rep s) (rep (pos 0))) (rep-mul (rep t) (rep (pos 0))) (omega arith)
 
-none_by : (s t : ℤ) → pos 0 *ℤ t ≡ pos 0 *ℤ s
+pub none_by : (s t : ℤ) → pos 0 *ℤ t ≡ pos 0 *ℤ s
 none_by s t = same_rep (rep-mul (rep (pos 0)) (rep t)) (rep-mul (rep (pos 0)) (rep s)) (omega arith)
 
 alike : (s t m n i j : ℤ) → ((m ≡ s) × (n ≡ t)) ⊎ ((m ≡ pos 0) × (n ≡ pos 0)) → ((i ≡ s) × (j ≡ t)) ⊎ ((i ≡ pos 0) × (j ≡ pos 0)) → m *ℤ j ≡ n *ℤ i
@@ -69,13 +69,13 @@ no_later a b rest le more = elim (cases_Bool (int_eq a b)) as (λ _. (if int_eq 
       | inr ge ↦ let same : a ≡ b = grind (arith, ints) in absurd (false≢true (sym n ∙ (Decides-int_eq a b).1 same))
     ]
 
-before_each : (p q : ℤ × ℤ × ℤ) → int_le p.0 q.0 ≡ true → int_le p.1 q.1 ≡ true → int_le p.2 q.2 ≡ true → is_before p q ≡ true
+pub before_each : (p q : ℤ × ℤ × ℤ) → int_le p.0 q.0 ≡ true → int_le p.1 q.1 ≡ true → int_le p.2 q.2 ≡ true → is_before p q ≡ true
 before_each p q x y z = no_later p.0 q.0 (if int_eq p.1 q.1 then int_le p.2 q.2 else int_lt p.1 q.1) x (no_later p.1 q.1 (int_le p.2 q.2) y z)
 
-through : (a x b : ℤ) → int_le a x ≡ true → int_le x b ≡ true → int_le a b ≡ true
+pub through : (a x b : ℤ) → int_le a x ≡ true → int_le x b ≡ true → int_le a b ≡ true
 through a x b ax xb = grind (arith, ints)
 
-near_point : (p : ℤ × ℤ × ℤ) → nat_le (unsigned_abs p.0) (2 ^ 30) ≡ true → nat_le (unsigned_abs p.1) (2 ^ 30) ≡ true → nat_le (unsigned_abs p.2) (2 ^ 30) ≡ true → in_space p ≡ true
+pub near_point : (p : ℤ × ℤ × ℤ) → nat_le (unsigned_abs p.0) (2 ^ 30) ≡ true → nat_le (unsigned_abs p.1) (2 ^ 30) ≡ true → nat_le (unsigned_abs p.2) (2 ^ 30) ≡ true → in_space p ≡ true
 near_point p x y z = and_from (nat_le (unsigned_abs p.0) (2 ^ 30)) _ x (and_from (nat_le (unsigned_abs p.1) (2 ^ 30)) _ y z)
 
 -- a point of such coordinates lies within
@@ -101,10 +101,10 @@ module _ (s t : ℤ) (p v q : ℤ × ℤ × ℤ) (x : IsLed s t p.0 v.0 q.0) (y 
       within_stretch p q v led_span (near_point v x.near y.near z.near) (before_each p v x.low y.low z.low) (before_each v q x.high y.high z.high) aligned
 
 -- ---- samples
-same_difference : (a b c d : ℤ) → a ≡ c → b ≡ d → a -ℤ b ≡ c -ℤ d
+pub same_difference : (a b c d : ℤ) → a ≡ c → b ≡ d → a -ℤ b ≡ c -ℤ d
 same_difference a b c d ac bd = ap (λ i. i -ℤ b) ac ∙ ap (λ i. c -ℤ i) bd
 
-no_difference : (a : ℤ) → a -ℤ a ≡ pos 0
+pub no_difference : (a : ℤ) → a -ℤ a ≡ pos 0
 no_difference a = same_rep (rep-sub (rep a) (rep a)) (rep (pos 0)) (omega arith)
 
 module _ (ranges : List Range) (sample : List Value) (within : are_within sample ranges ≡ true) where

@@ -59,6 +59,7 @@ pub mod Freeing
 pub mod Numbering
 pub mod Fitting
 pub mod Swept
+pub mod Tracks
 pub mod Opened
 pub mod Ordered
 pub mod Saving

@@ -24,3 +24,4 @@ pub mod Bitmaps
 pub mod Memory
 pub mod Bounding
 pub mod Idle
+pub mod Led

@@ -18,6 +18,7 @@ use crate::after::After;
 use crate::changes::{Change, Found, changes, few_changes, lose_some, lost_places, some_may_begin};
 use crate::changing::apply_changes;
 use crate::counting::are_many;
+use crate::driving::Passed;
 use crate::merging::merge_slots;
 use crate::suited::Suited;
 use crate::sweeps::Sweep;
@@ -98,7 +99,7 @@ impl Engine {
 
     // What the sample makes of the slots, if that is little: it changes few, no premise is lost by them, and without a new pattern none
     // lets the least or the greatest element begin to be known. With a new pattern it is asked which slots close.
-    fn few_changes(&self, sample: &[View<'_>]) -> Result<Option<Changes>, NoMemory>
+    fn few_changes(&self, sample: &[View<'_>], skips: &[usize]) -> Result<Option<Changes>, NoMemory>
         requires { IsSample self.now.infos (values_of sample.now) }
         ensures changes { IfOk result (λ o. IfSome o (λ c. AreFound (outcome c.asked (read_after self.now.kept (values_of sample.now)) (values_of sample.now)) self.now.kept.slots c.all)) }
         ensures unasked { IfOk result (λ o. IfSome o (λ c. c.asked ≡ false → IsShut (values_of sample.now) self.now.kept c.all.changes)) }
@@ -108,7 +109,6 @@ impl Engine {
         let new = !self.kept.held.has_sample(leaders, sample)?;
         let after = After::of(self.alloc, self, sample);
         let slots = self.kept.slots.as_slice();
-        let skips = self.skips(sample);
         match few_changes(self.alloc, &after, new, skips, slots)? {
             Some(all) => {
                 if lose_some(slots, all.changes.as_slice()) {
@@ -124,7 +124,12 @@ impl Engine {
     }
 
     // Makes the changes of the slots, where the sample splits no class and ends no constant.
-    fn change(&mut self, sample: &[View<'_>], changes: Changes) -> Result<(), NoMemory>
+    fn change(
+        &mut self,
+        sample: &[View<'_>],
+        changes: Changes,
+        passed: Passed,
+    ) -> Result<(), NoMemory>
         requires sampled { IsSample self.old.infos (values_of sample.now) }
         requires turned { IsTurned self.old.kept (values_of sample.now) (unchanged_now self.old.kept) }
         requires changes { AreFound (outcome changes.asked (read_after self.old.kept (values_of sample.now)) (values_of sample.now)) self.old.kept.slots changes.all }
@@ -140,6 +145,7 @@ impl Engine {
             return Err(lack);
         }
         self.kept.samples = self.kept.samples.saturating_add(1);
+        self.kept.slots.lead(&all, passed);
         apply_changes(&mut self.kept.slots, all);
         self.kept.slots.note_skips(self.alloc);
         Ok(())
@@ -270,9 +276,10 @@ impl Engine {
         ensures stands { IfOk result (λ _. (samples : List (List SampleValue)) → AreSamples self.old.infos samples → IsKeptOf self.old.grammar self.old.infos samples self.old.kept → IsKeptOf self.old.grammar self.old.infos (samples ++ values_of sample.now ∷ []) self.new.kept) }
     {
         if self.is_settled(sample) {
-            let few = self.few_changes(sample)?;
+            let passed = self.kept.slots.pass(sample);
+            let few = self.few_changes(sample, passed.skips.as_slice())?;
             if let Some(changes) = few {
-                return self.change(sample, changes);
+                return self.change(sample, changes, passed);
             }
         }
         let now = self.turn(sample)?;

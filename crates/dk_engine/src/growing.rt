@@ -76,7 +76,17 @@ fn are_parallel(a: i64, b: i64, c: i64, d: i64, e: i64, f: i64) -> bool
 
 // Whether a point and the ends of a stretch lie on one line.
 #[inline(always)]
-fn is_on_line(x1: i64, y1: i64, z1: i64, x2: i64, y2: i64, z2: i64, x: i64, y: i64, z: i64) -> bool
+pub(crate) fn is_on_line(
+    x1: i64,
+    y1: i64,
+    z1: i64,
+    x2: i64,
+    y2: i64,
+    z2: i64,
+    x: i64,
+    y: i64,
+    z: i64,
+) -> bool
     requires stretch { IsSpan ((x1, y1, z1), (x2, y2, z2)) }
     requires point { IsPoint (x, y, z) }
     ensures { result ≡ are_aligned (x1, y1, z1) (x, y, z) (x2, y2, z2) }

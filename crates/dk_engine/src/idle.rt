@@ -10,6 +10,7 @@ ghost use Rattle.dk_engine.specs.Idle.{AreNotes, AreSkips, IsIdle, are_fixed, ar
 
 use crate::Slot;
 use crate::chain::{Chain, are_rising};
+use crate::driving::Led;
 use crate::ends::ends_of;
 use crate::facts::{
     Compared, Range, Ranges, are_known_near, are_so, are_within, compared_by, is_above, is_below,
@@ -48,6 +49,7 @@ pub(crate) struct Notes {
     pub(crate) watch: Watch,
     pub(crate) skips: Vec<usize>,
     pub(crate) ends: Vec<usize>,
+    pub(crate) led: Led,
 }
 
 // Whether a plane is that of the points whose first two coordinates are one.
@@ -627,20 +629,21 @@ fn skips_of(
     alloc: Global,
     watch: &Watch,
     places: Places,
+    led: &Led,
     slots: &[Slot],
 ) -> Result<Vec<usize>, NoMemory>
     ensures { IfOk result (λ skips. AreSkips watch.now slots.now skips.items) }
 {
     let mut places = places;
+    let mut left = led.growths.len();
     let mut skips = none_passed(alloc, slots.len())?;
     for behind in 0..slots.len() {
-        note_idle(
-            watch,
-            &mut places,
-            skips.as_mut_slice(),
-            slots,
-            slots.len() - 1 - behind,
-        );
+        let place = slots.len() - 1 - behind;
+        if led.leads(&mut left, place) {
+            note(skips.as_mut_slice(), place);
+        } else {
+            note_idle(watch, &mut places, skips.as_mut_slice(), slots, place);
+        }
     }
     Ok(skips)
 }
@@ -665,6 +668,7 @@ impl Notes {
             watch: Watch::none(alloc),
             skips: Vec::new(alloc),
             ends: Vec::new(alloc),
+            led: Led::none(alloc),
         }
     }
 
@@ -685,9 +689,22 @@ impl Notes {
             rising: chain.vars,
             compared,
         };
-        let skips = skips_of(alloc, &watch, places, slots)?;
+        let base = moves.base();
+        let led = Led::of(
+            alloc,
+            base,
+            watch.ranges.as_slice(),
+            places.ranges.as_slice(),
+            slots,
+        )?;
+        let skips = skips_of(alloc, &watch, places, &led, slots)?;
         let ends = ends_of(alloc, slots)?;
-        Ok(Notes { watch, skips, ends })
+        Ok(Notes {
+            watch,
+            skips,
+            ends,
+            led,
+        })
     }
 }
 

@@ -10,6 +10,7 @@ mod conditions;
 mod constant;
 mod counting;
 mod counts;
+mod driving;
 mod ends;
 mod engine;
 mod facts;

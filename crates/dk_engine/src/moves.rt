@@ -2,6 +2,8 @@
 // noted. Nothing is said of it here: whatever is noted is right, and this decides what is worth it.
 use crate::Slot;
 use crate::changes::Change;
+use crate::driving::{is_of_two, track_of};
+use crate::growing::Growth;
 use dk_base::{NoMemory, VarId};
 use std::alloc::Global;
 
@@ -17,6 +19,8 @@ pub(crate) struct Moves {
     samples: u64,
     due: u64,
     moved: Vec<bool>,
+    base: Option<usize>,
+    strays: bool,
 }
 
 /// The variable of whose number a slot says a bound.
@@ -52,6 +56,8 @@ impl Moves {
             samples: 0,
             due: BOUNDS,
             moved: Vec::new(alloc),
+            base: None,
+            strays: false,
         }
     }
 
@@ -62,6 +68,7 @@ impl Moves {
             return false;
         }
         self.due = self.due.saturating_mul(2);
+        self.strays = false;
         self.forget();
         true
     }
@@ -69,6 +76,51 @@ impl Moves {
     /// No bound has moved.
     pub(crate) fn forget(&mut self) {
         self.moved.clear();
+    }
+
+    /// The place of a stretch that grew lately, by whose track others are led, as long as no sample strayed from one.
+    pub(crate) fn base(&self) -> Option<usize> {
+        if self.strays { None } else { self.base }
+    }
+
+    /// Places are others now.
+    pub(crate) fn forget_places(&mut self) {
+        self.base = None;
+    }
+
+    /// A sample strayed from the track.
+    pub(crate) fn stray(&mut self) {
+        self.strays = true;
+        self.base = None;
+    }
+
+    // Whether there is such a place, and a stretch of a track at it.
+    fn has_base(&self, slots: &[Slot]) -> bool {
+        match self.base {
+            Some(place) => match slots.get(place) {
+                Some(slot) => track_of(slot).is_some(),
+                None => false,
+            },
+            None => false,
+        }
+    }
+
+    /// The slots at these places grow.
+    pub(crate) fn note_growths(&mut self, slots: &[Slot], growths: &[Growth]) {
+        if self.strays || growths.is_empty() || self.has_base(slots) {
+            return;
+        }
+        if let Some(first) = growths.first() {
+            self.base = Some(first.place);
+        }
+        for growth in growths {
+            if let Some(slot) = slots.get(growth.place) {
+                if is_of_two(slot) {
+                    self.base = Some(growth.place);
+                    return;
+                }
+            }
+        }
     }
 
     /// Whether anything is noted yet.

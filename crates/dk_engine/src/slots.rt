@@ -10,12 +10,14 @@ ghost use Rattle.dk_engine.specs.declared.slot.Slot.{Slot as KeptSlot};
 use crate::Slot;
 use crate::changes::{Change, Found};
 use crate::changing::is_broken;
+use crate::driving::{Led, Passed};
 use crate::growing::{Growth, grow};
 use crate::idle::{Notes, is_passed, meets, notes_of};
 use crate::moves::Moves;
 use dk_base::{NoMemory, View};
 use std::alloc::Global;
 use std::marker::Model;
+use std::mem::replace;
 
 /// Slots, which contracts see as a list. Beside them may be noted which of them a search for changed slots passes over, and which bounds
 /// moved.
@@ -122,6 +124,7 @@ fn note_moves(moves: &mut Moves, slots: &[Slot], found: &Found) {
     if moves.note_changes(slots, found.changes.as_slice()).is_err() {
         moves.forget();
     }
+    moves.note_growths(slots, found.growths.as_slice());
 }
 
 impl Slots {
@@ -157,10 +160,35 @@ impl Slots {
     pub(crate) fn skips(&self, sample: &[View<'_>]) -> &[usize]
         ensures { PassesStill (values_of sample.now) self.now result.now }
     {
-        if meets(&self.notes.watch, sample) {
+        if self.notes.led.is_none() && meets(&self.notes.watch, sample) {
             self.notes.skips.as_slice()
         } else {
             &[]
+        }
+    }
+
+    // What a search for those that a sample changes passes over, if all facts are true of the sample, and it goes on along the track.
+    pub(crate) fn pass(&mut self, sample: &[View<'_>]) -> Passed {
+        let alloc = *self.all.allocator();
+        if !meets(&self.notes.watch, sample) {
+            return Passed::none(alloc);
+        }
+        if !self.notes.led.follows(self.all.as_slice(), sample) {
+            self.notes = Notes::none(alloc);
+            self.moves.stray();
+            return Passed::none(alloc);
+        }
+        Passed {
+            skips: replace(&mut self.notes.skips, Vec::new(alloc)),
+            led: replace(&mut self.notes.led, Led::none(alloc)),
+        }
+    }
+
+    // Notes it again.
+    pub(crate) fn give_back(&mut self, passed: Passed) {
+        if !passed.skips.is_empty() {
+            self.notes.skips = passed.skips;
+            self.notes.led = passed.led;
         }
     }
 
@@ -200,11 +228,22 @@ impl Slots {
         change_slots(slots, changes.into_vec());
     }
 
+    // Lets what is led grow, and notes again what is passed over, unless one of those is found to change.
+    pub(crate) fn lead(&mut self, found: &Found, passed: Passed) {
+        grow_slots(self.all.as_mut_slice(), passed.led.growths.as_slice());
+        if some_found_passed(passed.skips.as_slice(), found) {
+            self.notes = Notes::none(*self.all.allocator());
+            return;
+        }
+        self.give_back(passed);
+    }
+
     // Drops those that are Broken.
     pub(crate) fn drop_broken(&mut self)
         ensures { self.new ≡ filter (λ s. not (is_broken s.state)) self.old }
     {
         self.notes = Notes::none(*self.all.allocator());
+        self.moves.forget_places();
         self.all.retain(|slot| !is_broken(&slot.state));
     }
 

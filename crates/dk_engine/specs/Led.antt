@@ -1,0 +1,76 @@
+-- Stretches of a line that are led by a track: two variables whose points have risen along a line, beside variables that stand still.
+use Rattle.std.specs.Prelude.{◌≡◌, ◌&&◌, ◌||◌, ◌==◌, ◌<◌, ◌×◌, ℤ, Bool, true, false, All, List, [], ◌∷◌, int_le, length}
+use Rattle.std.specs.List.{list_any}
+use Rattle.std.specs.Ordering.{int_eq}
+use Rattle.dk_base.specs.declared.kinds.VarId.{VarId}
+use Rattle.dk_base.specs.declared.values.Value.{Value}
+use Rattle.dk_base.specs.declared.values.Value.TheVariants as value
+use Rattle.dk_forms.specs.Plane.{are_aligned}
+use Rattle.dk_forms.specs.declared.states.State.{State}
+use Rattle.dk_forms.specs.declared.states.State.TheVariants.{Span}
+use Rattle.dk_samples.specs.Samples.{value_in}
+use Rattle.dk_engine.specs.Idle.{is_near_number}
+use Rattle.dk_engine.specs.Narrow.{grown_state, with_state}
+use Rattle.dk_engine.specs.Parts.{slot_in}
+use Rattle.dk_engine.specs.declared.driving.Still.{Still}
+use Rattle.dk_engine.specs.declared.driving.Track.{Track}
+use Rattle.dk_engine.specs.declared.growing.Growth.{Growth}
+use Rattle.dk_engine.specs.declared.slot.Slot.{Slot}
+
+-- one of those that stand still is this variable with this number
+abbrev pub stands : List Still → VarId → ℤ → Bool
+stands stills v a = list_any (λ (s : Still). s.var.0 == v.0 && int_eq s.number a) stills
+
+-- a coordinate of a stretch, from a to b, is the number of one of the track's variables from its first to its last point, or that of a
+-- variable that stands still
+abbrev pub is_led_by : Track → List Still → VarId → ℤ → ℤ → Bool
+is_led_by t stills v a b =
+    (v.0 == t.u.0 && (int_eq a t.x1 && int_eq b t.x2)) || ((v.0 == t.v.0 && (int_eq a t.y1 && int_eq b t.y2)) || (int_eq a b && stands stills v a))
+
+-- each of three coordinates is
+abbrev pub is_led_over : Track → List Still → VarId → VarId → VarId → State → Bool
+is_led_over t stills u v w (Span x1 y1 z1 x2 y2 z2) = is_led_by t stills u x1 x2 && (is_led_by t stills v y1 y2 && is_led_by t stills w z1 z2)
+is_led_over t stills u v w _ = false
+
+-- the slot is a stretch that is led by the track
+pub record IsLed (t : Track) (stills : List Still) (slot : Slot) : Type 0 where
+  pub row : slot.row.0 ≡ 67
+  pub u : VarId
+  pub v : VarId
+  pub w : VarId
+  pub over : slot.leaders ≡ u ∷ v ∷ w ∷ []
+  pub led : is_led_over t stills u v w slot.state ≡ true
+
+-- the track with another last point
+abbrev pub moved_to : Track → ℤ → ℤ → Track
+moved_to t x y = record { u = t.u; v = t.v; x1 = t.x1; y1 = t.y1; x2 = x; y2 = y }
+
+-- all that stand still have their numbers in the sample, and the point of the track's variables goes on along the track
+pub record GoesOn (t : Track) (stills : List Still) (sample : List Value) (x y : ℤ) : Type 0 where
+  pub still : All (λ (s : Still). (value_in sample s.var ≡ value.Int s.number) × (is_near_number s.number ≡ true)) stills
+  pub at_u : value_in sample t.u ≡ value.Int x
+  pub at_v : value_in sample t.v ≡ value.Int y
+  pub rises_u : int_le t.x1 t.x2 ≡ true
+  pub rises_v : int_le t.y1 t.y2 ≡ true
+  pub goes_u : int_le t.x2 x ≡ true
+  pub goes_v : int_le t.y2 y ≡ true
+  pub near_x1 : is_near_number t.x1 ≡ true
+  pub near_y1 : is_near_number t.y1 ≡ true
+  pub near_x2 : is_near_number t.x2 ≡ true
+  pub near_y2 : is_near_number t.y2 ≡ true
+  pub near_x : is_near_number x ≡ true
+  pub near_y : is_near_number y ≡ true
+  pub aligned : are_aligned (t.x1, t.y1, t.y1) (x, y, y) (t.x2, t.y2, t.y2) ≡ true
+
+-- ---- slots
+-- the slot with a growth
+abbrev pub grown : Slot → Growth → Slot
+grown slot g = with_state slot (grown_state slot g)
+
+-- the slots at these places are led
+abbrev pub AreLed : Track → List Still → List Slot → List Growth → Type 0
+AreLed t stills slots growths = All (λ (g : Growth). IsLed t stills (slot_in slots g.place)) growths
+
+-- they will be, once they have grown
+abbrev pub GetLed : Track → List Still → List Slot → List Growth → Type 0
+GetLed t stills slots growths = All (λ (g : Growth). (g.place < length slots) × IsLed t stills (grown (slot_in slots g.place) g)) growths
